@@ -1,0 +1,65 @@
+-- What a medium shows, and what its calls do to it.
+use Rattle.std.specs.Prelude.{◌≡◌, ◌≤◌, ℕ, ◌+◌, List, length, All, Contains, slice_range}
+use Rattle.std.specs.List.{concat}
+use Rattle.sector.specs.declared.Extent.{Extent}
+use Rattle.sector.specs.Extents.{IsIn}
+use Rattle.sector.specs.Splice.{splice}
+
+pub record MediumView : Type 0 where
+  -- the bytes of one sector
+  pub sector_size : ℕ
+  -- each sector's bytes, in order
+  pub sectors : List (List ℕ)
+  -- the numbers of the sectors that can't be read or written
+  pub bad : List ℕ
+  -- the extents whose writing was reserved
+  pub reserved : List Extent
+  -- the calls that failed
+  pub failures : ℕ
+
+-- a list of this length
+abbrev pub HasLength : ℕ → List ℕ → Type 0
+HasLength size bytes = length bytes ≡ size
+
+-- each sector is as long as a sector has to be
+abbrev pub IsWhole : MediumView → Type 0
+IsWhole view = All (HasLength view.sector_size) view.sectors
+
+-- the extent lies within the medium
+abbrev pub IsWithin : MediumView → Extent → Type 0
+IsWithin view extent = extent.first + extent.count ≤ length view.sectors
+
+-- a sector of the extent is bad
+abbrev pub HasBad : MediumView → Extent → Type 0
+HasBad view extent = (sector : ℕ) × Contains view.bad sector × IsIn sector extent
+
+-- each sector of the extent is one of a reserved extent
+abbrev pub IsReserved : MediumView → Extent → Type 0
+IsReserved view extent =
+    (sector : ℕ) → IsIn sector extent → (reserved : Extent) × Contains view.reserved reserved × IsIn sector reserved
+
+-- the bytes of an extent's sectors, one sector after the other
+abbrev pub bytes_at : MediumView → Extent → List ℕ
+bytes_at view extent = concat (slice_range view.sectors extent.first (extent.first + extent.count))
+
+-- nothing but what is reserved may differ, and what was reserved still is
+pub record Reserves (old new : MediumView) : Type 0 where
+  pub lasts : (extent : Extent) → IsReserved old extent → IsReserved new extent
+  pub after : new ≡ record old { reserved = new.reserved }
+
+-- the bytes of the extent's sectors are read, and nothing changes
+pub record Reads (old : MediumView) (extent : Extent) (bytes : List ℕ) (new : MediumView) : Type 0 where
+  pub bytes_are : bytes ≡ bytes_at old extent
+  pub after : new ≡ old
+
+-- the bytes, cut into whole sectors, replace the extent's sectors
+pub record Writes (old : MediumView) (extent : Extent) (bytes : List ℕ) (new : MediumView) : Type 0 where
+  pub moved : List (List ℕ)
+  pub bytes_are : concat moved ≡ bytes
+  pub covers : length moved ≡ extent.count
+  pub whole : All (HasLength old.sector_size) moved
+  pub after : new ≡ record old { sectors = splice old.sectors extent.first moved }
+
+-- a call failed: it is counted, and nothing else changes
+abbrev pub failed : MediumView → MediumView
+failed view = record view { failures = view.failures + 1 }

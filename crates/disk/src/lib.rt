@@ -1,0 +1,66 @@
+//! A medium: the sectors of a disk, read and written by extents.
+//!
+//! Promises to the crate above, by the contract of [`Medium`]: it is seen as a list of sectors, each of `sector_size`
+//! bytes; a read gives the bytes that stand in its extent, a write replaces the sectors of its extent alone, and a call
+//! whose extent holds a bad sector fails whole, changes nothing and is counted. No other call fails.
+//!
+//! Doesn't promise that anything stands after the process ends.
+#![tactic(auto)]
+
+use sector::Extent;
+
+/// The memory for a reservation was refused.
+#[derive(Debug, Clone, Copy, PartialEq, Eq)]
+pub struct NoMemory;
+
+/// The extent of the call holds a sector that can't be read or written.
+#[derive(Debug, Clone, Copy, PartialEq, Eq)]
+pub struct BadSector;
+
+/// The sectors of a disk.
+pub trait Medium: Drop {
+    ghost use Rattle.std.specs.Prelude.{◌≡◌, ◌<◌, ◌^◌, ◌*◌, ◌↔◌, ℕ, length, IsErr, OnOk, OnErr};
+    ghost use Rattle.disk.specs.Medium.{MediumView, IsWhole, IsWithin, IsReserved, HasBad, Reserves, Reads, Writes, failed};
+
+    ghost seen: { Self → MediumView };
+
+    /// The bytes of one sector.
+    fn sector_size(&self) -> u32
+        ensures { result ≡ (seen self.now).sector_size };
+
+    /// The number of sectors.
+    fn sectors(&self) -> u64
+        ensures { result ≡ length (seen self.now).sectors };
+
+    /// The number of calls that failed.
+    fn failures(&self) -> u128
+        ensures { result ≡ (seen self.now).failures };
+
+    /// Makes room for writes of an extent, for good. A reservation that was refused may have made room for a part.
+    fn reserve(&mut self, extent: Extent) -> Result<(), NoMemory>
+        requires { IsWithin (seen self.old) extent }
+        ensures reserved { OnOk result (IsReserved (seen self.new) extent) }
+        ensures reserves { Reserves (seen self.old) (seen self.new) };
+
+    /// Reads the bytes of an extent. Where it holds a bad sector, the buffer stays as it was.
+    fn read(&mut self, extent: Extent, buffer: &mut [u8]) -> Result<(), BadSector>
+        requires within { IsWithin (seen self.old) extent }
+        requires long { length buffer.old ≡ extent.count * (seen self.old).sector_size }
+        requires countable { (seen self.old).failures < 2 ^ 120 }
+        ensures refused { IsErr result ↔ HasBad (seen self.old) extent }
+        ensures reads { OnOk result (Reads (seen self.old) extent buffer.new (seen self.new)) }
+        ensures buffer { OnErr result (buffer.new ≡ buffer.old) }
+        ensures fails { OnErr result (seen self.new ≡ failed (seen self.old)) };
+
+    /// Writes the bytes of an extent.
+    fn write(&mut self, extent: Extent, bytes: &[u8]) -> Result<(), BadSector>
+        requires within { IsWithin (seen self.old) extent }
+        requires reserved { IsReserved (seen self.old) extent }
+        requires long { length bytes.now ≡ extent.count * (seen self.old).sector_size }
+        requires countable { (seen self.old).failures < 2 ^ 120 }
+        ensures refused { IsErr result ↔ HasBad (seen self.old) extent }
+        ensures writes { OnOk result (Writes (seen self.old) extent bytes.now (seen self.new)) }
+        ensures fails { OnErr result (seen self.new ≡ failed (seen self.old)) };
+
+    ghost whole: { (medium : Self) → IsWhole (seen medium) };
+}

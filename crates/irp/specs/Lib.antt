@@ -1,2 +1,0 @@
-pub mod Climb
-pub mod Packet

@@ -1,0 +1,13 @@
+-- An extent as a set of sectors.
+use Rattle.std.specs.Prelude.{◌≡◌, ℕ, ◌+◌, ◌*◌, ◌%◌, ◌≤◌, ◌<◌}
+use Rattle.sector.specs.declared.Extent.{Extent}
+
+-- the sector of this number is one of the extent's
+abbrev pub IsIn : ℕ → Extent → Type 0
+IsIn sector extent = (extent.first ≤ sector) × (sector < extent.first + extent.count)
+
+-- these bytes begin at a sector, are whole sectors, and lie in a disk of so many
+pub record AreWholeSectors (offset length sector_size sectors : ℕ) : Type 0 where
+  pub begins : offset % sector_size ≡ 0
+  pub ends : length % sector_size ≡ 0
+  pub within : offset + length ≤ sectors * sector_size
