@@ -6,7 +6,7 @@ use Rattle.cdb.specs.Meaning.{Means}
 use Rattle.srb.specs.declared.Srb.{Srb}
 use Rattle.srb.specs.declared.SrbFunction.TheVariants.{ExecuteScsi}
 use Rattle.srb.specs.Fate.{Fate}
-use Rattle.srb.specs.Adapter.{AdapterView, TagInUse}
+use Rattle.srb.specs.Adapter.{AdapterView, TagInUse, IsInOrder}
 use Rattle.irp.specs.declared.StackLocation.{StackLocation}
 use Rattle.irp.specs.declared.Irp.{Irp}
 use Rattle.irp.specs.Climb.{above as locations_above}
@@ -134,13 +134,13 @@ abbrev pub label_places : Seen → ℕ
 label_places v = length v.adapter.labels + (v.rules.depth - length v.state.pieces)
 
 pub record IsOrderly (v : Seen) : Type 0 where
+  pub adapter : IsInOrder v.adapter
   pub read : IsRead v
   pub distinct : AreDistinct v.state
   pub places : HavePlaces v.state
   pub packets : IsPermutation (map packet_number v.packets) (map request_number v.state.requests)
   pub sending : IsSending v.rules v.state
   pub labels : label_places v ≤ 64
-  pub depth : v.rules.depth ≤ 32
   pub uncounted : v.rules.open_requests ≡ None
   pub none_owed : IsNone v.state.owed
   pub not_removed : IsFalse v.state.removed
