@@ -11,7 +11,7 @@ use Rattle.irp.specs.declared.StackLocation.{StackLocation}
 use Rattle.irp.specs.declared.Irp.{Irp}
 use Rattle.irp.specs.Climb.{above as locations_above}
 use Rattle.irp.specs.declared.Payload.{Payload}
-use Rattle.irp.specs.declared.Payload.TheVariants.{Buffer, Srb as Packed}
+use Rattle.irp.specs.declared.Payload.TheVariants.{Buffer, Srb as Packed, Sent as AtAdapter}
 use Rattle.device.specs.declared.Kind.{Kind}
 use Rattle.device.specs.declared.Kind.TheVariants.{Read, Write, Flush}
 use Rattle.device.specs.declared.Request.{Request}
@@ -73,12 +73,15 @@ pub record AsksFor (rules : Rules) (r : Request) (srb : Srb) : Type 0 where
 abbrev pub Carries : Bool → Rules → Request → Payload → Type 0
 Carries true rules r (Packed srb) = AsksFor rules r srb
 Carries true rules r (Buffer bytes) = ⊥
+Carries true rules r AtAdapter = ⊥
 Carries false rules r (Packed srb) = ⊥
 Carries false rules r (Buffer bytes) = length bytes ≡ transfer_length rules r
+Carries false rules r AtAdapter = ⊥
 
 abbrev pub payload_bytes : Payload → List ℕ
 payload_bytes (Packed srb) = srb.data
 payload_bytes (Buffer bytes) = bytes
+payload_bytes AtAdapter = []
 
 -- the bytes that a request brings along: those of a write
 abbrev pub sent_bytes : Kind → Payload → List ℕ

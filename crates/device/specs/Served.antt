@@ -1,7 +1,7 @@
 -- What each call does to what a layer shows.
 use Rattle.std.specs.Prelude.{◌≡◌, ◌<◌, ◌≤◌, ◌⊎◌, ℕ, ◌+◌, Bool, true, false, List, [], ◌∷◌, Option, Some, None, map, filter, length, IsTrue, IsFalse, All, Contains, IsPermutation, if◌then◌else◌}
 use Rattle.ntstatus.specs.declared.NtStatus.{NtStatus}
-use Rattle.ntstatus.specs.declared.NtStatus.TheVariants.{Success}
+use Rattle.ntstatus.specs.declared.NtStatus.TheVariants.{Success, DeviceBusy}
 use Rattle.srb.specs.declared.Class.{Class}
 use Rattle.srb.specs.declared.DeviceLabel.{DeviceLabel}
 use Rattle.srb.specs.declared.DeviceLabel.TheVariants.{Start, Act, Fault, Return}
@@ -158,8 +158,8 @@ pub record HandsUp (takes_srb : Bool) (old : Seen) (request : Request) (climb : 
   pub is_in : IsPermutation old.packets (packet ∷ others)
   pub answers : Answers old.rules old.state packet.number status bytes answered
   pub is_request : answers.request.request ≡ as_client old.rules request (sent_bytes request.kind payload)
-  -- the packet carries its request still, and where a read succeeds, its bytes
-  pub carries : Carries takes_srb old.rules request payload
+  -- a packet that came back busy can be sent again as it is, and a read that succeeded holds its bytes
+  pub carries : status ≡ DeviceBusy → Carries takes_srb old.rules request payload
   pub brings : request.kind ≡ Read → status ≡ Success → payload_bytes payload ≡ bytes
   pub climbs : Climbs packet.above packet.number answers.request.cancelled status (information answers.request.request status) payload climb
   pub only_starts : All IsStart starts

@@ -25,6 +25,8 @@ pub enum Payload {
     Buffer(Bytes),
     /// The SCSI request block of a piece.
     Srb(Srb),
+    /// Nothing, while the SRB is at the adapter.
+    Sent,
 }
 
 /// How a packet ended (WDK: IO_STATUS_BLOCK).
