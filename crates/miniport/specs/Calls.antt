@@ -1,13 +1,10 @@
 -- What each call of an adapter does to what the adapter shows.
-use Rattle.std.specs.Prelude.{◌≡◌, ◌≢◌, ◌⊎◌, ℕ, Bool, true, false, List, [], ◌∷◌, ◌++◌, map, filter, length, IsPermutation}
+use Rattle.std.specs.Prelude.{◌≡◌, ◌≢◌, ◌⊎◌, ℕ, Bool, true, false, List, [], ◌∷◌, ◌++◌, map, filter, IsPermutation}
 use Rattle.std.specs.List.Sorted.{IsStrictlyIncreasing}
 use Rattle.std.specs.List.{concat}
 use Rattle.sector.specs.declared.Extent.{Extent}
-use Rattle.cdb.specs.declared.Cdb.TheVariants.{Write10}
-use Rattle.cdb.specs.Meaning.{Means}
 use Rattle.srb.specs.declared.Srb.{Srb}
 use Rattle.srb.specs.declared.Completion.{Completion}
-use Rattle.srb.specs.declared.Class.TheVariants.{Good}
 use Rattle.srb.specs.declared.DeviceLabel.{DeviceLabel}
 use Rattle.srb.specs.declared.DeviceLabel.TheVariants.{Fault}
 use Rattle.srb.specs.Fate.{Fate, Fresh, Acted, Faulted, class_of}
@@ -29,25 +26,12 @@ pub record ActsNot (old : AdapterView) (tag : ℕ) (new : AdapterView) : Type 0 
   pub none_fresh : (use' : TagInUse) (others : List TagInUse) → IsOn old tag use' others → use'.fate ≢ Fresh
   pub same : new ≡ old
 
--- what an SRB brings back
-pub record ComesBack (use' : TagInUse) (srb : Srb) (completion : Completion) : Type 0 where
-  pub function : srb.function ≡ use'.srb.function
-  pub flags : srb.flags ≡ use'.srb.flags
-  pub block : srb.block ≡ use'.srb.block
-  pub as_long : length srb.data ≡ length use'.srb.data
-  -- the bytes of a write
-  pub sent : (lba count : ℕ) (fua : Bool) → Means use'.srb.block (Write10 lba count fua) → srb.data ≡ use'.srb.data
-  -- the sectors of a good read
-  pub read : (moved : List (List ℕ)) → use'.fate ≡ Acted moved → class_of completion ≡ Good → srb.data ≡ concat moved
-  -- the second buffer, unless it went out with the label of the act
-  pub for_label : ((moved : List (List ℕ)) × (use'.fate ≡ Acted moved)) ⊎ (length srb.for_label ≡ length use'.srb.for_label)
-  pub sense : srb.sense ≡ completion.sense
-
--- the tag's piece comes back with its SRB
+-- the tag's piece comes back with its SRB, whose data are what it moved if it acted
 pub record Finishes (old : AdapterView) (tag : ℕ) (srb : Srb) (completion : Completion) (new : AdapterView) : Type 0 where
   pub piece : ℕ
   pub returns : ReturnsOn old tag piece (class_of completion) new
-  pub comes_back : ComesBack returns.use' srb completion
+  pub comes_back : srb ≡ record returns.use'.srb { sense = completion.sense }
+  pub holds_moved : (moved : List (List ℕ)) → returns.use'.fate ≡ Acted moved → srb.data ≡ concat moved
 
 pub record FinishesNot (old : AdapterView) (tag : ℕ) (new : AdapterView) : Type 0 where
   pub is_free : IsFree old tag
