@@ -1,5 +1,5 @@
 -- What an adapter shows, and how that moves by the labels that it records.
-use Rattle.std.specs.Prelude.{◌≡◌, ◌≢◌, ◌<◌, ◌≤◌, ◌^◌, ◌⊎◌, ℕ, ◌+◌, ◌*◌, Bool, true, false, IsTrue, IsFalse, List, [], ◌∷◌, ◌++◌, Option, Some, None, map, length, All, AllPairs, Contains, IsPermutation, ⊤, bit_and}
+use Rattle.std.specs.Prelude.{◌≡◌, ◌≢◌, ◌<◌, ◌≤◌, ◌^◌, ◌⊎◌, ℕ, ◌+◌, ◌*◌, Bool, true, false, IsTrue, IsFalse, List, [], ◌∷◌, ◌++◌, map, length, All, AllPairs, Contains, IsPermutation, bit_and}
 use Rattle.std.specs.List.{concat}
 use Rattle.sector.specs.declared.Extent.{Extent}
 use Rattle.sector.specs.Extents.{IsIn}
@@ -19,7 +19,7 @@ use Rattle.srb.specs.Performing.{Performs, IsSector}
 pub record TagInUse : Type 0 where
   pub tag : ℕ
   pub piece : ℕ
-  -- as it was handed in
+  -- as it would come back now, but for its sense
   pub srb : Srb
   pub fate : Fate
   -- the failures counted when the piece was accepted
@@ -79,8 +79,16 @@ pub record IsOn (view : AdapterView) (tag : ℕ) (use' : TagInUse) (others : Lis
   pub in_use : IsPermutation view.tags (use' ∷ others)
   pub has_tag : use'.tag ≡ tag
 
-abbrev pub with_fate : Fate → TagInUse → TagInUse
-with_fate fate use' = record use' { fate = fate }
+-- its piece never acts
+abbrev pub faulted : TagInUse → TagInUse
+faulted use' = record use' { fate = Faulted }
+
+-- its piece acted: the SRB's data are what it moved; of the second buffer, in which they go out, this is left
+abbrev pub acted : List (List ℕ) → List ℕ → TagInUse → TagInUse
+acted moved left use' = record use' {
+  fate = Acted moved;
+  srb = record use'.srb { «data» = concat moved; for_label = left };
+}
 
 -- RESERVATIONS
 
@@ -132,6 +140,7 @@ pub record ActsOn (old : AdapterView) (tag piece : ℕ) (bytes : List ℕ) (new 
   pub command : Cdb
   pub moved : List (List ℕ)
   pub sectors : List (List ℕ)
+  pub left : List ℕ
   pub tags : List TagInUse
   pub is_on : IsOn old tag use' others
   pub is_piece : use'.piece ≡ piece
@@ -139,7 +148,7 @@ pub record ActsOn (old : AdapterView) (tag piece : ℕ) (bytes : List ℕ) (new 
   pub means : Means use'.srb.block command
   pub performs : Performs old.sector_size old.sectors use'.srb.data command moved sectors
   pub hands_over : bytes ≡ concat moved
-  pub in_use : IsPermutation tags (with_fate (Acted moved) use' ∷ others)
+  pub in_use : IsPermutation tags (acted moved left use' ∷ others)
   pub after : new ≡ record old { sectors = sectors; tags = tags; labels = old.labels ++ Act piece bytes ∷ [] }
 
 -- the tag's piece, which had done nothing yet, never will; a failure at least is counted
@@ -152,7 +161,7 @@ pub record FaultsOn (old : AdapterView) (tag piece : ℕ) (new : AdapterView) : 
   pub is_piece : use'.piece ≡ piece
   pub is_fresh : use'.fate ≡ Fresh
   pub counted : old.failures < failures
-  pub in_use : IsPermutation tags (with_fate Faulted use' ∷ others)
+  pub in_use : IsPermutation tags (faulted use' ∷ others)
   pub after : new ≡ record old { tags = tags; failures = failures; labels = old.labels ++ Fault piece ∷ [] }
 
 -- the low six bits of BUS_RESET

@@ -1,0 +1,14 @@
+//! The adapter: a disk that takes SRBs on tags, carries their commands out and hands them back.
+//!
+//! Promises to the crate above, by the contract of [`Adapter`]: what an adapter shows moves by the labels that it
+//! records and by nothing else. A piece that was accepted acts once, by the meaning of its command block, or faults and
+//! changes no sector; it comes back good only after an act, busy only where it did nothing, and bad only where failures
+//! were counted.
+//!
+//! Doesn't promise that a piece ever acts, nor that what was written lasts.
+#![tactic(auto)]
+
+mod adapter;
+
+pub use adapter::Adapter;
+pub use disk::NoMemory;
