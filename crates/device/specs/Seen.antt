@@ -116,11 +116,11 @@ abbrev pub use_on_tag : TagInUse → OnTag
 use_on_tag in_use = record { number = in_use.piece; tag = in_use.tag; fate = in_use.fate }
 
 -- the arrays are the adapter's sectors by the partitions, and the pieces out are those of its tags
-pub record IsRead (v : Seen) : Type 0 where
-  pub same_size : v.rules.sector_size ≡ v.adapter.sector_size
-  pub same_depth : v.rules.depth ≡ v.adapter.depth
-  pub arrays : v.state.arrays ≡ map (sectors_in v.adapter.sectors) v.rules.partitions
-  pub pieces : IsPermutation (map piece_on_tag v.state.pieces) (map use_on_tag v.adapter.tags)
+pub record IsRead (rules : Rules) (s : State) (adapter : AdapterView) : Type 0 where
+  pub same_size : rules.sector_size ≡ adapter.sector_size
+  pub same_depth : rules.depth ≡ adapter.depth
+  pub arrays : s.arrays ≡ map (sectors_in adapter.sectors) rules.partitions
+  pub pieces : IsPermutation (map piece_on_tag s.pieces) (map use_on_tag adapter.tags)
 
 abbrev pub WaitsForTag : Rules → State → OpenRequest → Type 0
 WaitsForTag rules s o = IsFalse o.cancelled → IsHeldBack rules s o
@@ -138,7 +138,7 @@ label_places v = length v.adapter.labels + (v.rules.depth - length v.state.piece
 
 pub record IsOrderly (v : Seen) : Type 0 where
   pub adapter : IsInOrder v.adapter
-  pub read : IsRead v
+  pub read : IsRead v.rules v.state v.adapter
   pub distinct : AreDistinct v.state
   pub places : HavePlaces v.state
   pub packets : IsPermutation (map packet_number v.packets) (map request_number v.state.requests)
