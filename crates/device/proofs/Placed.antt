@@ -21,7 +21,7 @@ use Rattle.device.specs.declared.ClientRequest.{ClientRequest}
 use Rattle.device.specs.declared.Label.{Label}
 use Rattle.device.specs.declared.Label.TheVariants.{Call, Device, Answer, Cancel, Pause, Resume, Remove, Removed}
 use Rattle.device.specs.Rules.{Rules, place_count}
-use Rattle.device.specs.State.{Mark, Untouched, Out, Done, Failed, Back, OpenRequest, Owed, Piece, State, IsSame}
+use Rattle.device.specs.State.{Mark, Untouched, Out, Done, Failed, Back, OpenRequest, Owed, Piece, State, IsSame, opening}
 use Rattle.device.specs.Calling.{Opens, Admits, refusal, new_request}
 use Rattle.device.specs.Sending.{Starts, Acts, Faults, Returns, Leaves, IsUnsent, is_unsent, sent, given_back, new_piece, with_fate}
 use Rattle.device.specs.Answering.{Answers, HasEnded}
@@ -151,6 +151,9 @@ placed_with xs ys p owned h = record { owned = owned h.owned; some = h.some; fil
 
 all_placed_with : (xs ys : List OpenRequest) (ps : List Piece) → ((p : Piece) → Any (IsOwner p) xs → Any (IsOwner p) ys) → All (IsPlaced xs) ps → All (IsPlaced ys) ps
 all_placed_with xs ys ps owned h = All-weaker (IsPlaced xs) (IsPlaced ys) (λ p. placed_with xs ys p (owned p)) ps h
+
+pub ArePlaced-opening : (arrays : List (List (List ℕ))) → ArePlaced (opening arrays)
+ArePlaced-opening arrays = record { pieces = All-nil (IsPlaced []); places = All-nil (IsCovered []) }
 
 pub ArePlaced-same : (s t : State) → IsSame s t → ArePlaced t → ArePlaced s
 ArePlaced-same s t h k = record {

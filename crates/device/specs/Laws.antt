@@ -3,9 +3,9 @@ use Rattle.std.specs.Prelude.{◌≢◌, ℕ, List, ◌∷◌, ◌++◌, All}
 use Rattle.ntstatus.specs.declared.NtStatus.{NtStatus}
 use Rattle.device.specs.declared.ClientRequest.{ClientRequest}
 use Rattle.device.specs.declared.Label.{Label}
-use Rattle.device.specs.declared.Label.TheVariants.{Call, Answer}
+use Rattle.device.specs.declared.Label.TheVariants.{Call, Device, Answer, Removed}
 use Rattle.device.specs.Rules.{Rules}
-use Rattle.device.specs.State.{State}
+use Rattle.device.specs.State.{State, opening}
 use Rattle.device.specs.Step.{Run}
 
 abbrev pub IsNoCallOf : ℕ → Label → Type 0
@@ -25,3 +25,13 @@ CallsOnce rules s = (before : List Label) (r : ℕ) (q : ClientRequest) (after :
 abbrev pub AnswersOnce : Rules → State → Type 0
 AnswersOnce rules s = (before : List Label) (r : ℕ) (status : NtStatus) (bytes : List ℕ) (after : List Label) (s' : State)
     → Run rules s (before ++ Answer r status bytes ∷ after) s' → All (IsNoAnswerOf r) after
+
+-- no start, act, fault or return
+abbrev pub IsNotOfDevice : Label → Type 0
+IsNotOfDevice (Device label) = ⊥
+IsNotOfDevice _ = Unit {0}
+
+-- after removed the device is left alone
+abbrev pub IsQuietAfterRemoved : Rules → List (List (List ℕ)) → Type 0
+IsQuietAfterRemoved rules arrays = (before after : List Label) (s' : State)
+    → Run rules (opening arrays) (before ++ Removed ∷ after) s' → All IsNotOfDevice after
