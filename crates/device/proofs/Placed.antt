@@ -343,7 +343,7 @@ module _ (s : State) (k : ArePlaced s) where
 
 -- THE STEPS
 
-leaves : (p : Piece) (class : Class) (marks : List Mark) → HasFilled p.places.count p.fate → Leaves p class marks → (length marks ≡ p.places.count) × All (λ m. is_out m ≡ false) marks
+pub leaves : (p : Piece) (class : Class) (marks : List Mark) → HasFilled p.places.count p.fate → Leaves p class marks → (length marks ≡ p.places.count) × All (λ m. is_out m ≡ false) marks
 leaves p Good marks filled h =
     let filled' : length h.0 ≡ p.places.count = subst (λ fate. HasFilled p.places.count fate) h.1 filled in
     (rw h.2 (length-map h.0 Done ∙ filled'), rw h.2 (All-map (λ m. is_out m ≡ false) Done h.0 (λ j d low. refl)))
