@@ -1,0 +1,100 @@
+-- What the port keeps.
+use Rattle.std.specs.Prelude.{◌≡◌, ◌<◌, ◌≤◌, ℕ, ◌+◌, ◌-◌, Bool, true, List, [], ◌∷◌, length, Option, Some, IsTrue, IsFalse, All}
+use Rattle.std.specs.List.{concat}
+use Rattle.srb.specs.declared.Srb.{Srb}
+use Rattle.srb.specs.declared.Class.TheVariants.{Good, Busy, Bad}
+use Rattle.srb.specs.Fate.{Fate, Fresh, Acted, Faulted, class_of}
+use Rattle.srb.specs.Adapter.{AdapterView, TagInUse, IsInOrder, IsReserved}
+use Rattle.irp.specs.declared.Payload.{Payload}
+use Rattle.irp.specs.declared.Payload.TheVariants.{Srb as Packed}
+use Rattle.device.specs.declared.Kind.TheVariants.{Write}
+use Rattle.device.specs.declared.Request.{Request}
+use Rattle.device.specs.Rules.{Rules}
+use Rattle.device.specs.Numbers.{AreDistinct}
+use Rattle.device.specs.Seen.{AsksFor, Carries, IsBounded, IsOrderly, payload_bytes}
+use Rattle.port.specs.declared.queues.Sizes.{Sizes}
+use Rattle.port.specs.declared.queues.Held.{Held}
+use Rattle.port.specs.declared.queues.Ended.{Ended}
+use Rattle.port.specs.declared.queues.Outcome.{Outcome}
+use Rattle.port.specs.declared.queues.Outcome.TheVariants.{Returned, Flushed, Gone}
+use Rattle.port.specs.Books.{Books}
+use Rattle.port.specs.Turns.{held_on}
+use Rattle.port.specs.Shown.{rules_of, state_of, seen_of, places_of, sectors_moved, most}
+
+-- the sizes are the adapter's
+pub record AreSizes (sizes : Sizes) (v : AdapterView) : Type 0 where
+  pub sector_size : sizes.sector_size ≡ v.sector_size
+  pub sectors : sizes.sectors ≡ length v.sectors
+  pub max_transfer : sizes.max_transfer ≡ v.max_transfer
+  pub depth : sizes.depth ≡ v.depth
+
+-- a request for which all places are made
+pub record IsRoom (rules : Rules) (v : AdapterView) (r : Request) : Type 0 where
+  pub bounded : IsBounded rules r
+  pub reserved : r.kind ≡ Write → IsReserved v r.extent
+
+pub record IsWaiting (rules : Rules) (v : AdapterView) (held : Held) : Type 0 where
+  pub room : IsRoom rules v held.request
+  pub carries : Carries true rules held.request held.irp.payload
+  pub not_cancelled : IsFalse held.irp.cancelled
+
+-- each was submitted before those behind it
+abbrev pub IsBefore : Held → Held → Type 0
+IsBefore held other = held.irp.number < other.irp.number
+
+abbrev pub AreInTurn : List Held → Type 0
+AreInTurn [] = Unit {0}
+AreInTurn (held ∷ rest) = All (IsBefore held) rest × AreInTurn rest
+
+-- the SRB asks for the request as long as it did nothing; then its data are what it moved
+abbrev pub IsDoing : Rules → Request → Fate → Srb → Type 0
+IsDoing rules r Fresh srb = AsksFor rules r srb
+IsDoing rules r (Acted moved) srb = (srb.data ≡ concat moved) × (sectors_moved rules r (Packed srb) ≡ moved)
+IsDoing rules r Faulted srb = Unit {0}
+
+pub record IsAtWork (rules : Rules) (started : List (Option Held)) (use' : TagInUse) : Type 0 where
+  pub held : Held
+  pub on_tag : held_on started use'.tag ≡ Some held
+  pub bounded : IsBounded rules held.request
+  pub doing : IsDoing rules held.request use'.fate use'.srb
+
+-- why a packet ended
+abbrev pub HasOutcome : Rules → Bool → Ended → Outcome → Type 0
+HasOutcome rules removing d (Returned Good) = concat (sectors_moved rules d.request d.irp.payload) ≡ payload_bytes d.irp.payload
+HasOutcome rules removing d (Returned Busy) = Carries true rules d.request d.irp.payload
+HasOutcome rules removing d (Returned (Bad completion)) = class_of completion ≡ Bad completion
+HasOutcome rules removing d Flushed = IsTrue d.irp.cancelled
+HasOutcome rules removing d Gone = IsTrue removing
+
+pub record HasEnded (rules : Rules) (removing : Bool) (d : Ended) : Type 0 where
+  pub bounded : IsBounded rules d.request
+  pub why : HasOutcome rules removing d d.outcome
+
+-- what holds at every moment, the moments between two starts among them
+pub record IsKept (b : Books) (v : AdapterView) (rooms : List Request) : Type 0 where
+  pub adapter : IsInOrder v
+  pub sizes : AreSizes b.sizes v
+  pub started : length b.started ≡ b.sizes.depth
+  pub waiting : All (IsWaiting (rules_of b.sizes) v) b.waiting
+  pub in_turn : AreInTurn b.waiting
+  pub at_work : All (IsAtWork (rules_of b.sizes) b.started) v.tags
+  pub ended : All (HasEnded (rules_of b.sizes) b.removing) b.done
+  pub rooms_out : All (IsRoom (rules_of b.sizes) v) rooms
+  pub removing : IsTrue b.removing → b.waiting ≡ []
+  pub distinct : AreDistinct (state_of b v)
+  -- each packet has a place, and each room that is out
+  pub places : length rooms + (length b.waiting + (length v.tags + length b.done)) ≡ b.places
+  pub submitted : b.submitted ≤ most
+  pub accepted : v.accepted + length b.waiting ≤ b.submitted + 2
+  pub numbered : b.next_piece + length b.waiting ≤ b.submitted + 1
+  pub labels : length v.labels + (v.depth - length v.tags) ≤ 64
+
+-- with a tag free nothing waits
+abbrev pub IsBusy : Books → AdapterView → Type 0
+IsBusy b v = length v.tags < v.depth → b.waiting ≡ []
+
+-- what holds between calls
+pub record IsInHand (b : Books) (v : AdapterView) (rooms : List Request) : Type 0 where
+  pub kept : IsKept b v rooms
+  pub busy : IsBusy b v
+  pub orderly : IsOrderly (seen_of b v)

@@ -1,0 +1,18 @@
+-- The order of a list of rooms says nothing.
+use Rattle.std.proofs.Common.{◌≡◌, ℕ, ◌+◌, List, length, arith}
+use Rattle.std.specs.List.Sorted.{IsPermutation}
+use Rattle.std.proofs.lemmas.List.Sorted.{length_permutation, All-permutation}
+use Rattle.srb.specs.Adapter.{AdapterView}
+use Rattle.device.specs.declared.Request.{Request}
+use Rattle.port.specs.Books.{Books}
+use Rattle.port.specs.Shown.{rules_of}
+use Rattle.port.specs.Kept.{IsKept, IsInHand, IsRoom}
+
+kept_any_order : (b : Books) (v : AdapterView) (some others : List Request) → IsPermutation some others → IsKept b v some → IsKept b v others
+kept_any_order b v some others same h = record h {
+  rooms_out = All-permutation (IsRoom (rules_of b.sizes) v) _ _ same h.rooms_out;
+  places = let a = length_permutation _ _ same in let c = h.places in omega arith;
+}
+
+pub any_order_lem : (b : Books) (v : AdapterView) (some others : List Request) → IsPermutation some others → IsInHand b v some → IsInHand b v others
+any_order_lem b v some others same h = record { kept = kept_any_order b v some others same h.kept; busy = h.busy; orderly = h.orderly }

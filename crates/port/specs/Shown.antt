@@ -1,0 +1,181 @@
+-- What the port shows: the sector machine, as its queues and the adapter below say.
+use Rattle.std.specs.Prelude.{◌≡◌, ℕ, ◌+◌, ◌*◌, ◌^◌, Bool, true, false, zero, suc, List, [], ◌∷◌, ◌++◌, map, take, drop, replicate, length, Option, Some, None}
+use Rattle.ntstatus.specs.declared.NtStatus.{NtStatus}
+use Rattle.ntstatus.specs.declared.NtStatus.TheVariants.{Success, DeviceBusy}
+use Rattle.ntstatus.specs.Table.{status_of}
+use Rattle.sector.specs.declared.Extent.{Extent}
+use Rattle.srb.specs.declared.Class.{Class}
+use Rattle.srb.specs.declared.Class.TheVariants.{Good, Busy, Bad}
+use Rattle.srb.specs.declared.status.SrbStatus.TheVariants.{RequestFlushed, NoDevice}
+use Rattle.srb.specs.Status.{code_of}
+use Rattle.srb.specs.Adapter.{AdapterView, TagInUse}
+use Rattle.irp.specs.declared.Payload.{Payload}
+use Rattle.irp.specs.declared.Payload.TheVariants.{Srb as Packed}
+use Rattle.device.specs.declared.Kind.TheVariants.{Flush}
+use Rattle.device.specs.declared.Request.{Request}
+use Rattle.device.specs.Rules.{Rules, place_count, as_client}
+use Rattle.device.specs.State.{Mark, Untouched, Out, Done, Failed, Back, OpenRequest, Piece, State}
+use Rattle.device.specs.Sending.{status_of_completion}
+use Rattle.device.specs.Seen.{Packet, Seen, payload_bytes, sent_bytes, sectors_in}
+use Rattle.port.specs.declared.queues.Sizes.{Sizes}
+use Rattle.port.specs.declared.queues.Held.{Held}
+use Rattle.port.specs.declared.queues.Ended.{Ended}
+use Rattle.port.specs.declared.queues.Outcome.{Outcome}
+use Rattle.port.specs.declared.queues.Outcome.TheVariants.{Returned, Flushed, Gone}
+use Rattle.port.specs.Books.{Entry, Books, entry_of, ended_entry}
+use Rattle.port.specs.Turns.{held_on}
+
+-- one volume, the whole disk; each request goes as one piece, once, and its first busy return ends it
+abbrev pub rules_of : Sizes → Rules
+rules_of sizes = record {
+  sector_size = sizes.sector_size;
+  partitions = record { first = 0; count = sizes.sectors } ∷ [];
+  longest = sizes.max_transfer;
+  max_transfer = sizes.max_transfer;
+  depth = sizes.depth;
+  open_requests = None;
+  window = None;
+  one_piece = true;
+  busy_limit = 1;
+}
+
+-- the places of a request
+abbrev pub places_of : Rules → Request → ℕ
+places_of rules r = place_count rules (as_client rules r [])
+
+-- as many parts of one length
+pub cut : ℕ → ℕ → List ℕ → List (List ℕ)
+cut zero size bytes = []
+cut (suc count) size bytes = take size bytes ∷ cut count size (drop size bytes)
+
+-- the sectors that an SRB's data are
+abbrev pub sectors_moved : Rules → Request → Payload → List (List ℕ)
+sectors_moved rules r payload = cut (places_of rules r) rules.sector_size (payload_bytes payload)
+
+abbrev pub all_places : Rules → Request → Mark → List Mark
+all_places rules r mark = replicate (places_of rules r) mark
+
+-- the marks of a packet that ended
+abbrev pub marks_left : Rules → Request → Payload → Outcome → List Mark
+marks_left rules r payload (Returned Good) = map Done (sectors_moved rules r payload)
+marks_left rules r payload (Returned Busy) = all_places rules r Back
+marks_left rules r payload (Returned (Bad completion)) = all_places rules r (Failed (status_of_completion completion))
+marks_left rules r payload Flushed = all_places rules r Untouched
+marks_left rules r payload Gone = all_places rules r Untouched
+
+abbrev pub busy_left : Outcome → ℕ
+busy_left (Returned Good) = 0
+busy_left (Returned Busy) = 1
+busy_left (Returned (Bad completion)) = 0
+busy_left Flushed = 0
+busy_left Gone = 0
+
+-- how a packet ended: as its piece came back, or as the port itself ended it, by the status of its SRB
+abbrev pub status_left : Outcome → NtStatus
+status_left (Returned Good) = Success
+status_left (Returned Busy) = DeviceBusy
+status_left (Returned (Bad completion)) = status_of_completion completion
+status_left Flushed = status_of (code_of RequestFlushed) 0 None
+status_left Gone = status_of (code_of NoDevice) 0 None
+
+-- OPEN REQUESTS AND PIECES
+
+abbrev pub open_as : Rules → Entry → Payload → ℕ → List Mark → OpenRequest
+open_as rules e payload busy marks = record {
+  number = e.number;
+  request = as_client rules e.request (sent_bytes e.request.kind payload);
+  cancelled = e.cancelled;
+  late = false;
+  busy_returns = busy;
+  marks = marks;
+}
+
+abbrev pub waiting_open : Rules → Held → OpenRequest
+waiting_open rules held = open_as rules (entry_of held) held.irp.payload 0 (all_places rules held.request Untouched)
+
+abbrev pub done_open : Rules → Ended → OpenRequest
+done_open rules d = open_as rules (ended_entry d) d.irp.payload (busy_left d.outcome) (marks_left rules d.request d.irp.payload d.outcome)
+
+-- stands for the packet of a tag that has none, which is never shown
+abbrev pub nobody : Entry
+nobody = record {
+  number = 0;
+  above = [];
+  cancelled = false;
+  request = record { volume = 0; kind = Flush; extent = record { first = 0; count = 0 }; through = false };
+}
+
+abbrev pub entry_or_nobody : Option Held → Entry
+entry_or_nobody None = nobody
+entry_or_nobody (Some held) = entry_of held
+
+abbrev pub entry_on : List (Option Held) → ℕ → Entry
+entry_on started tag = entry_or_nobody (held_on started tag)
+
+-- what a packet at the adapter is, beside what the adapter shows of it
+abbrev pub out_open : Rules → Entry → TagInUse → OpenRequest
+out_open rules e use' = open_as rules e (Packed use'.srb) 0 (all_places rules e.request Out)
+
+abbrev pub out_piece : Rules → Entry → TagInUse → Piece
+out_piece rules e use' = record {
+  number = use'.piece;
+  tag = use'.tag;
+  owner = e.number;
+  places = record { first = 0; count = places_of rules e.request };
+  fate = use'.fate;
+}
+
+abbrev pub packet : Entry → Packet
+packet e = record { number = e.number; above = e.above }
+
+abbrev pub open_on : Rules → List (Option Held) → TagInUse → OpenRequest
+open_on rules started use' = out_open rules (entry_on started use'.tag) use'
+
+abbrev pub piece_on : Rules → List (Option Held) → TagInUse → Piece
+piece_on rules started use' = out_piece rules (entry_on started use'.tag) use'
+
+abbrev pub packet_on : List (Option Held) → TagInUse → Packet
+packet_on started use' = packet (entry_on started use'.tag)
+
+abbrev pub waiting_packet : Held → Packet
+waiting_packet held = packet (entry_of held)
+
+abbrev pub done_packet : Ended → Packet
+done_packet d = packet (ended_entry d)
+
+-- WHAT IS SHOWN
+
+abbrev pub requests_of : Books → AdapterView → List OpenRequest
+requests_of b v =
+    map (waiting_open (rules_of b.sizes)) b.waiting
+    ++ (map (open_on (rules_of b.sizes) b.started) v.tags ++ map (done_open (rules_of b.sizes)) b.done)
+
+abbrev pub packets_of : Books → AdapterView → List Packet
+packets_of b v = map waiting_packet b.waiting ++ (map (packet_on b.started) v.tags ++ map done_packet b.done)
+
+abbrev pub state_of : Books → AdapterView → State
+state_of b v = record {
+  arrays = map (sectors_in v.sectors) (rules_of b.sizes).partitions;
+  next_request = b.last_request + 1;
+  next_piece = b.next_piece;
+  requests = requests_of b v;
+  pieces = map (piece_on (rules_of b.sizes) b.started) v.tags;
+  owed = None;
+  paused = false;
+  removing = b.removing;
+  removed = false;
+}
+
+-- requests that may be submitted in all
+abbrev pub most : ℕ
+most = 2 ^ 96
+
+abbrev pub seen_of : Books → AdapterView → Seen
+seen_of b v = record {
+  rules = rules_of b.sizes;
+  state = state_of b v;
+  packets = packets_of b v;
+  submitted = b.submitted;
+  most = most;
+  adapter = v;
+}

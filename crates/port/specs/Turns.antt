@@ -1,0 +1,157 @@
+-- What each turn of the queues does to them.
+use Rattle.std.specs.Prelude.{◌≡◌, ℕ, ◌+◌, ◌==◌, ◌&&◌, Bool, true, false, not, List, [], ◌∷◌, ◌++◌, map, Option, Some, None, IsTrue, IsFalse, All, length, slice_set, slice_index_or}
+use Rattle.srb.specs.declared.Srb.{Srb}
+use Rattle.srb.specs.declared.Class.{Class}
+use Rattle.irp.specs.declared.Irp.{Irp}
+use Rattle.irp.specs.declared.Payload.{Payload}
+use Rattle.irp.specs.declared.Payload.TheVariants.{Srb as Packed}
+use Rattle.device.specs.declared.Request.{Request}
+use Rattle.port.specs.declared.queues.Sizes.{Sizes}
+use Rattle.port.specs.declared.queues.Held.{Held}
+use Rattle.port.specs.declared.queues.Ended.{Ended}
+use Rattle.port.specs.declared.queues.Outcome.{Outcome}
+use Rattle.port.specs.declared.queues.Outcome.TheVariants.{Returned, Flushed, Gone}
+use Rattle.port.specs.Books.{Entry, Books, entry_of, ended_entry}
+
+-- nothing is in, and nothing ever was
+pub record IsEmpty (sizes : Sizes) (b : Books) : Type 0 where
+  pub sizes_are : b.sizes ≡ sizes
+  pub waiting : b.waiting ≡ []
+  pub started : length b.started ≡ sizes.depth
+  pub done : b.done ≡ []
+  pub last_request : b.last_request ≡ 0
+  pub next_piece : b.next_piece ≡ 1
+  pub submitted : b.submitted ≡ 0
+  pub removing : b.removing ≡ false
+  pub places : b.places ≡ 0
+
+abbrev pub held_with : Irp → Request → Held
+held_with irp request = record { irp = irp; request = request }
+
+-- the packet waits, behind all others
+abbrev pub Queued : Books → Irp → Request → Books → Type 0
+Queued old irp request new = new ≡ record old {
+  waiting = old.waiting ++ held_with irp request ∷ [];
+  last_request = irp.number;
+  submitted = old.submitted + 1;
+}
+
+-- the packet carries an SRB
+abbrev pub IsPacked : Held → Type 0
+IsPacked held = (srb : Srb) × (held.irp.payload ≡ Packed srb)
+
+-- the packet on a tag, where one is there
+abbrev pub held_on : List (Option Held) → ℕ → Option Held
+held_on started tag = slice_index_or started tag None
+
+-- the packet that waited longest goes to the tag, and leaves its SRB to the adapter
+pub record Starts (old : Books) (tag piece : ℕ) (srb : Srb) (new : Books) : Type 0 where
+  pub front : Held
+  pub rest : List Held
+  pub sent : Held
+  pub is_front : old.waiting ≡ front ∷ rest
+  pub is_srb : front.irp.payload ≡ Packed srb
+  pub is_piece : piece ≡ old.next_piece
+  pub same_entry : entry_of sent ≡ entry_of front
+  pub after : new ≡ record old { waiting = rest; started = slice_set old.started tag (Some sent); next_piece = old.next_piece + 1 }
+
+pub record StartsNot (old new : Books) : Type 0 where
+  pub none_waits : old.waiting ≡ []
+  pub same : new ≡ old
+
+-- a packet that ended as this one was, carrying that
+pub record EndsAs (held : Held) (payload : Payload) (outcome : Outcome) (ended : Ended) : Type 0 where
+  pub same_entry : ended_entry ended ≡ entry_of held
+  pub carries : ended.irp.payload ≡ payload
+  pub ends : ended.outcome ≡ outcome
+
+-- the packet on the tag came back with its SRB
+pub record Ends (old : Books) (tag : ℕ) (srb : Srb) (class : Class) (new : Books) : Type 0 where
+  pub held : Held
+  pub ended : Ended
+  pub on_tag : held_on old.started tag ≡ Some held
+  pub ends_as : EndsAs held (Packed srb) (Returned class) ended
+  pub after : new ≡ record old { started = slice_set old.started tag None; done = old.done ++ ended ∷ [] }
+
+-- the packet that ended first of those that stand there leaves
+pub record Leaves (old : Books) (ended : Ended) (new : Books) : Type 0 where
+  pub rest : List Ended
+  pub is_front : old.done ≡ ended ∷ rest
+  pub after : new ≡ record old { done = rest }
+
+pub record LeavesNot (old new : Books) : Type 0 where
+  pub none_ended : old.done ≡ []
+  pub same : new ≡ old
+
+-- what waits is gone, and nothing will start
+abbrev pub gone : Held → Ended
+gone held = record { irp = held.irp; request = held.request; outcome = Gone }
+
+abbrev pub drained : Books → Books
+drained old = record old { waiting = []; done = old.done ++ map gone old.waiting; removing = true }
+
+-- the number is the packet's, which is not cancelled yet
+abbrev pub is_cancellable : ℕ → Entry → Bool
+is_cancellable number e = (e.number == number) && not e.cancelled
+
+abbrev pub CannotCancel : ℕ → Entry → Type 0
+CannotCancel number e = IsFalse (is_cancellable number e)
+
+abbrev pub cancelled : Entry → Entry
+cancelled e = record e { cancelled = true }
+
+abbrev pub CannotCancelHeld : ℕ → Held → Type 0
+CannotCancelHeld number held = CannotCancel number (entry_of held)
+
+abbrev pub CannotCancelEnded : ℕ → Ended → Type 0
+CannotCancelEnded number ended = CannotCancel number (ended_entry ended)
+
+-- the packet of this number that waits is flushed; those before and behind it stay
+pub record Flushes (old : Books) (number : ℕ) (new : Books) : Type 0 where
+  pub before : List Held
+  pub held : Held
+  pub behind : List Held
+  pub flushed : Ended
+  pub waits : old.waiting ≡ before ++ held ∷ behind
+  pub can : IsTrue (is_cancellable number (entry_of held))
+  pub same_entry : ended_entry flushed ≡ cancelled (entry_of held)
+  pub carries : flushed.irp.payload ≡ held.irp.payload
+  pub ends : flushed.outcome ≡ Flushed
+  pub after : new ≡ record old { waiting = before ++ behind; done = old.done ++ flushed ∷ [] }
+
+pub record FlushesNot (old : Books) (number : ℕ) (new : Books) : Type 0 where
+  pub none : All (CannotCancelHeld number) old.waiting
+  pub same : new ≡ old
+
+-- the packet on this tag is cancelled, and goes on
+pub record CancelsOn (old : Books) (tag number : ℕ) (new : Books) : Type 0 where
+  pub held : Held
+  pub marked : Held
+  pub on_tag : held_on old.started tag ≡ Some held
+  pub can : IsTrue (is_cancellable number (entry_of held))
+  pub same_entry : entry_of marked ≡ cancelled (entry_of held)
+  pub after : new ≡ record old { started = slice_set old.started tag (Some marked) }
+
+abbrev pub CannotCancelOn : List (Option Held) → ℕ → ℕ → Type 0
+CannotCancelOn started number tag = (held : Held) → held_on started tag ≡ Some held → CannotCancelHeld number held
+
+pub record CancelsNotOn (old : Books) (tag number : ℕ) (new : Books) : Type 0 where
+  pub cannot : CannotCancelOn old.started number tag
+  pub same : new ≡ old
+
+-- a packet that has ended is cancelled, and ends as it did
+pub record CancelsEnded (old : Books) (number : ℕ) (new : Books) : Type 0 where
+  pub before : List Ended
+  pub ended : Ended
+  pub behind : List Ended
+  pub marked : Ended
+  pub is_done : old.done ≡ before ++ ended ∷ behind
+  pub can : IsTrue (is_cancellable number (ended_entry ended))
+  pub same_entry : ended_entry marked ≡ cancelled (ended_entry ended)
+  pub carries : marked.irp.payload ≡ ended.irp.payload
+  pub ends : marked.outcome ≡ ended.outcome
+  pub after : new ≡ record old { done = (before ++ behind) ++ marked ∷ [] }
+
+pub record CancelsNoEnded (old : Books) (number : ℕ) (new : Books) : Type 0 where
+  pub none : All (CannotCancelEnded number) old.done
+  pub same : new ≡ old

@@ -1,0 +1,171 @@
+// The port as a layer of the stack.
+ghost use Rattle.std.specs.Prelude.{◌≡◌, ◌≢◌, ◌<◌, ◌≤◌, ◌*◌, ◌+◌, ◌^◌, ℕ, Bool, true, List, [], ◌∷◌, length};
+ghost use Rattle.device.specs.declared.Request.{Request};
+ghost use Rattle.port.specs.Books.{books_of};
+ghost use Rattle.device.specs.Rules.{as_client};
+ghost use Rattle.device.specs.Served.{information as information_of};
+ghost use Rattle.port.specs.Shown.{seen_of, rules_of};
+ghost use Rattle.port.specs.Kept.{IsInHand, IsKept};
+ghost use Rattle.port.specs.Releases.{Releases, AreLowerInUse};
+ghost use Rattle.port.specs.Order.{any_order_lem};
+
+use crate::queues::{Ended, Sizes};
+use crate::{Port, PortRoom};
+use device::{Device, Kind, Request};
+use irp::{Climb, Irp, complete};
+use miniport::Adapter;
+use ntstatus::NtStatus;
+use srb::DeviceLabel;
+use std::alloc::AllocError;
+
+/// Requests that may be submitted in all.
+const MOST: u128 = 1 << 96;
+
+impl<A: Adapter> Port<A> {
+    /// Starts the packet that waited longest on this tag, where one waits and the tag is free.
+    fn start_one(&mut self, tag: u8)
+        requires kept { (rooms : List Request) × IsKept (books_of self.old.queues) (A.view self.old.adapter) rooms }
+        requires tag { tag < (A.view self.old.adapter).depth }
+        requires lower { AreLowerInUse (books_of self.old.queues) (A.view self.old.adapter) tag }
+        ensures rooms { (rooms : List Request) → IsKept (books_of self.old.queues) (A.view self.old.adapter) rooms → IsKept (books_of self.new.queues) (A.view self.new.adapter) rooms }
+        ensures releases { Releases (books_of self.old.queues) (A.view self.old.adapter) (books_of self.new.queues) (A.view self.new.adapter) }
+        ensures lower { AreLowerInUse (books_of self.new.queues) (A.view self.new.adapter) (tag + 1) }
+    {
+        if self.adapter.in_use(tag) {
+            return;
+        }
+        if let Some((piece, srb)) = self.queues.start(tag) {
+            self.adapter.accept(tag, piece, srb);
+        }
+    }
+
+    /// Starts what waits as long as a tag is free, on the lowest free tag each.
+    fn start_waiting(&mut self)
+        requires { (rooms : List Request) × IsKept (books_of self.old.queues) (A.view self.old.adapter) rooms }
+        ensures rooms { (rooms : List Request) → IsKept (books_of self.old.queues) (A.view self.old.adapter) rooms → IsInHand (books_of self.new.queues) (A.view self.new.adapter) rooms }
+        ensures releases { Releases (books_of self.old.queues) (A.view self.old.adapter) (books_of self.new.queues) (A.view self.new.adapter) }
+    {
+        for tag in 0..self.queues.sizes.depth {
+            self.start_one(tag);
+        }
+    }
+
+    /// Cancels the packet of this number that is at the adapter, where it is not cancelled yet.
+    fn cancel_started(&mut self, number: u128) -> bool {
+        for tag in 0..self.queues.sizes.depth {
+            if self.adapter.in_use(tag) && self.queues.cancel_on(tag, number) {
+                return true;
+            }
+        }
+        false
+    }
+}
+
+/// The bytes that a request has moved: all where it succeeds (WDK: IO_STATUS_BLOCK, Information).
+fn information(request: &Request, sizes: &Sizes, status: NtStatus) -> u64
+    requires { request.now.extent.count * sizes.now.sector_size < 2 ^ 64 }
+    ensures { result ≡ information_of (as_client (rules_of sizes.now) request.now []) status }
+{
+    match (status, request.kind) {
+        (NtStatus::Success, Kind::Read | Kind::Write) => request.extent.count * sizes.sector_size as u64,
+        _ => 0,
+    }
+}
+
+impl<A: Adapter> Device for Port<A> {
+    type Room = PortRoom;
+
+    const TAKES_SRB: bool = true;
+
+    ghost TAKES_SRB = { true };
+
+    const STACK_SIZE: usize = 1;
+
+    ghost STACK_SIZE = { 1 };
+
+    ghost seen = { λ port. seen_of (books_of port.queues) (A.view port.adapter) };
+
+    ghost request_of = { λ room. room.request };
+
+    ghost rooms_out = { λ port rooms. IsInHand (books_of port.queues) (A.view port.adapter) rooms };
+
+    fn volumes(&self) -> u8 {
+        1
+    }
+
+    fn sectors(&self, volume: u8) -> u64 {
+        if volume == 0 { self.queues.sizes.sectors } else { 0 }
+    }
+
+    fn longest(&self) -> u64 {
+        self.queues.sizes.max_transfer as u64
+    }
+
+    fn most(&self) -> u128 {
+        MOST
+    }
+
+    fn reserve(&mut self, request: &Request) -> Result<PortRoom, AllocError> {
+        if request.kind == Kind::Write && self.adapter.reserve(request.extent).is_err() {
+            return Err(AllocError);
+        }
+        self.queues.add_place()?;
+        Ok(PortRoom { request: *request })
+    }
+
+    fn submit(&mut self, irp: Irp, room: PortRoom) {
+        self.queues.push(irp, room.request);
+        self.start_waiting();
+    }
+
+    fn free(&mut self, room: PortRoom) {
+        let PortRoom { request: _ } = room;
+        self.queues.remove_place();
+    }
+
+    fn act(&mut self, tag: u8) -> bool {
+        self.adapter.act(tag)
+    }
+
+    fn finish(&mut self, tag: u8) -> bool {
+        let Some((srb, completion)) = self.adapter.finish(tag) else {
+            return false;
+        };
+        self.queues.end(tag, srb, completion.class());
+        self.start_waiting();
+        true
+    }
+
+    fn reset(&mut self) {
+        self.adapter.reset();
+    }
+
+    fn cancel(&mut self, number: u128) {
+        let _cancelled = self.queues.flush(number)
+            || self.cancel_started(number)
+            || self.queues.cancel_done(number);
+    }
+
+    fn drain(&mut self) {
+        self.queues.drain();
+    }
+
+    fn take_done(&mut self) -> Option<(Climb, PortRoom)> {
+        let Ended {
+            irp,
+            request,
+            outcome,
+        } = self.queues.take_done()?;
+        let status = outcome.status();
+        let information = information(&request, &self.queues.sizes, status);
+        Some((complete(irp, status, information), PortRoom { request }))
+    }
+
+    fn take_label(&mut self) -> Option<DeviceLabel> {
+        self.adapter.take_label()
+    }
+
+    ghost any_order = { λ port some others same out. any_order_lem _ _ some others same out };
+
+    ghost in_order = { λ port rooms out. out.orderly };
+}

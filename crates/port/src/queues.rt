@@ -1,0 +1,66 @@
+// The port's packets, by where they are: those that wait, those at the adapter by tags, and those that ended.
+ghost use Rattle.std.specs.Prelude.{◌≤◌};
+ghost use Rattle.std.specs.VecDeque.{deque_capacity};
+
+use device::Request;
+use irp::Irp;
+use srb::Class;
+use std::collections::VecDeque;
+
+/// The sizes of the adapter's disk.
+#[derive(Debug, Clone, Copy, PartialEq, Eq)]
+pub struct Sizes {
+    /// Bytes of a sector.
+    pub sector_size: u32,
+    /// Sectors of the disk.
+    pub sectors: u64,
+    /// Sectors of the longest transfer.
+    pub max_transfer: u32,
+    /// Tags.
+    pub depth: u8,
+}
+
+/// How a packet ended.
+#[derive(Debug, Clone, Copy, PartialEq, Eq)]
+pub enum Outcome {
+    /// Its piece came back.
+    Returned(Class),
+    /// It was cancelled while it waited (WDK: SRB_STATUS_REQUEST_FLUSHED).
+    Flushed,
+    /// It waited when the device was removed (WDK: SRB_STATUS_NO_DEVICE).
+    Gone,
+}
+
+/// A packet that waits or is at the adapter, with what it asks for.
+#[derive(Debug, Drop)]
+pub struct Held {
+    pub irp: Irp,
+    pub request: Request,
+}
+
+/// A packet that ended and was not taken yet.
+#[derive(Debug, Drop)]
+pub struct Ended {
+    pub irp: Irp,
+    pub request: Request,
+    pub outcome: Outcome,
+}
+
+/// The packets, each in one queue, and the places for them, of which none is made but by `add_place`.
+#[derive(Drop)]
+pub struct Queues {
+    pub sizes: Sizes,
+    /// First in, first out.
+    pub waiting: VecDeque<Held>,
+    pub started: Vec<Option<Held>>,
+    pub done: VecDeque<Ended>,
+    /// The last number submitted; 0 before the first.
+    pub last_request: u128,
+    pub next_piece: u128,
+    pub submitted: u128,
+    pub removing: bool,
+    /// For the packets here and those that have a room.
+    pub places: usize,
+    ghost waiting_places: { places ≤ deque_capacity waiting },
+    ghost done_places: { places ≤ deque_capacity done },
+}

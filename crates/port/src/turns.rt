@@ -1,0 +1,221 @@
+// What the queues do.
+ghost use Rattle.std.specs.Prelude.{◌≡◌, ◌<◌, ◌≤◌, ◌+◌, ◌^◌, ◌-◌, [], All, Option, Some, None, IfOk, IsSome, OnOk, OnErr, IsTrue, MatchBool, MatchOption, length, slice_index_or};
+ghost use Rattle.irp.specs.declared.Payload.TheVariants.{Srb as Packed};
+ghost use Rattle.device.specs.declared.Request.{Request};
+ghost use Rattle.port.specs.Books.{books_of, entry, entry_of};
+ghost use Rattle.port.specs.Turns.{IsEmpty, IsPacked, Queued, cancelled, is_cancellable as can_cancel, held_on, Starts, StartsNot, Ends, Leaves, LeavesNot, drained, Flushes, FlushesNot, CancelsOn, CancelsNotOn, CancelsEnded, CancelsNoEnded};
+ghost use Rattle.port.specs.Shown.{status_left};
+
+use crate::queues::{Ended, Held, Outcome, Queues, Sizes};
+use device::Request;
+use irp::{Irp, Payload};
+use ntstatus::NtStatus;
+use srb::{Class, Srb, SrbStatus};
+use std::alloc::{AllocError, Global};
+use std::collections::VecDeque;
+use std::mem;
+
+impl Outcome {
+    pub fn status(self) -> NtStatus
+        ensures { result ≡ status_left self }
+    {
+        match self {
+            Outcome::Returned(Class::Good) => NtStatus::Success,
+            Outcome::Returned(Class::Busy) => NtStatus::DeviceBusy,
+            Outcome::Returned(Class::Bad(completion)) => completion.status(),
+            Outcome::Flushed => NtStatus::from_device(SrbStatus::RequestFlushed.code(), 0, None),
+            Outcome::Gone => NtStatus::from_device(SrbStatus::NoDevice.code(), 0, None),
+        }
+    }
+}
+
+/// Takes the SRB out of a packet that carries one.
+fn take_srb(held: &mut Held) -> Srb
+    requires { IsPacked held.old }
+    ensures srb { held.old.irp.payload ≡ Packed result }
+    ensures same_entry { entry_of held.new ≡ entry_of held.old }
+{
+    match mem::replace(&mut held.irp.payload, Payload::Sent) {
+        Payload::Srb(srb) => srb,
+        Payload::Buffer(_) | Payload::Sent => unreachable!(),
+    }
+}
+
+/// Cancels the packet, whatever becomes of it.
+fn mark_cancelled(irp: &mut Irp)
+    ensures entry { (request : Request) → entry irp.new request ≡ cancelled (entry irp.old request) }
+    ensures payload { irp.new.payload ≡ irp.old.payload }
+{
+    irp.cancelled = true;
+}
+
+/// Whether the packet has this number and is not cancelled yet.
+fn is_cancellable(irp: &Irp, number: u128) -> bool
+    ensures { (request : Request) → result ≡ can_cancel number (entry irp.now request) }
+{
+    irp.number == number && !irp.cancelled
+}
+
+impl Queues {
+    /// Empty queues with places for no packet. Pieces and requests are numbered from 1.
+    pub fn new(alloc: Global, sizes: Sizes) -> Result<Queues, AllocError>
+        ensures { IfOk result (λ queues. IsEmpty sizes (books_of queues)) }
+    {
+        let mut started = Vec::with_capacity(alloc, sizes.depth as usize)?;
+        for _ in 0..sizes.depth {
+            started.push(None)?;
+        }
+        Ok(Queues {
+            sizes,
+            waiting: VecDeque::new(alloc),
+            started,
+            done: VecDeque::new(alloc),
+            last_request: 0,
+            next_piece: 1,
+            submitted: 0,
+            removing: false,
+            places: 0,
+        })
+    }
+
+    /// Makes a place for one more packet.
+    pub fn add_place(&mut self) -> Result<(), AllocError>
+        ensures added { OnOk result (books_of self.new ≡ record (books_of self.old) { places = (books_of self.old).places + 1 }) }
+        ensures refused { OnErr result (books_of self.new ≡ books_of self.old) }
+    {
+        let Some(places) = self.places.checked_add(1) else {
+            return Err(AllocError);
+        };
+        self.waiting.reserve(places.saturating_sub(self.waiting.len()))?;
+        self.done.reserve(places.saturating_sub(self.done.len()))?;
+        self.places = places;
+        Ok(())
+    }
+
+    /// Gives a place up.
+    pub fn remove_place(&mut self)
+        requires { 0 < (books_of self.old).places }
+        ensures { books_of self.new ≡ record (books_of self.old) { places = (books_of self.old).places - 1 } }
+    {
+        self.places -= 1;
+    }
+
+    /// The packet waits behind all others.
+    pub fn push(&mut self, irp: Irp, request: Request)
+        requires place { length (books_of self.old).waiting < (books_of self.old).places }
+        requires few { (books_of self.old).submitted < 2 ^ 127 }
+        ensures { Queued (books_of self.old) irp request (books_of self.new) }
+    {
+        self.last_request = irp.number;
+        self.submitted += 1;
+        self.waiting.push_back_reserved(Held { irp, request });
+    }
+
+    /// The packet that waited longest goes to this tag; its piece's number, and its SRB for the adapter.
+    pub fn start(&mut self, tag: u8) -> Option<(u128, Srb)>
+        requires packed { All IsPacked (books_of self.old).waiting }
+        requires tag { tag < length (books_of self.old).started }
+        requires few { (books_of self.old).next_piece < 2 ^ 127 }
+        ensures { MatchOption result (StartsNot (books_of self.old) (books_of self.new)) (λ start. Starts (books_of self.old) tag start.0 start.1 (books_of self.new)) }
+    {
+        let mut held = self.waiting.pop_front()?;
+        let srb = take_srb(&mut held);
+        self.started[tag as usize] = Some(held);
+        let piece = self.next_piece;
+        self.next_piece += 1;
+        Some((piece, srb))
+    }
+
+    /// The packet on this tag ends as its piece came back.
+    pub fn end(&mut self, tag: u8, srb: Srb, class: Class)
+        requires on_tag { IsSome (held_on (books_of self.old).started tag) }
+        requires place { length (books_of self.old).done < (books_of self.old).places }
+        ensures { Ends (books_of self.old) tag srb class (books_of self.new) }
+    {
+        let Some(Held { mut irp, request }) = self.started[tag as usize].take() else {
+            unreachable!()
+        };
+        irp.payload = Payload::Srb(srb);
+        let outcome = Outcome::Returned(class);
+        self.done.push_back_reserved(Ended {
+            irp,
+            request,
+            outcome,
+        });
+    }
+
+    /// The packet that ended first of those that were not taken.
+    pub fn take_done(&mut self) -> Option<Ended>
+        ensures { MatchOption result (LeavesNot (books_of self.old) (books_of self.new)) (λ ended. Leaves (books_of self.old) ended (books_of self.new)) }
+    {
+        self.done.pop_front()
+    }
+
+    /// Removal: what waits is gone.
+    pub fn drain(&mut self)
+        requires { length (books_of self.old).waiting + length (books_of self.old).done ≤ (books_of self.old).places }
+        ensures { books_of self.new ≡ drained (books_of self.old) }
+    {
+        while let Some(Held { irp, request }) = self.waiting.pop_front() {
+            let outcome = Outcome::Gone;
+            self.done.push_back_reserved(Ended {
+                irp,
+                request,
+                outcome,
+            });
+        }
+        self.removing = true;
+    }
+
+    /// The packet of this number is flushed, where it waits and is not cancelled yet.
+    pub fn flush(&mut self, number: u128) -> bool
+        requires { length (books_of self.old).done < (books_of self.old).places }
+        ensures { MatchBool result (Flushes (books_of self.old) number (books_of self.new)) (FlushesNot (books_of self.old) number (books_of self.new)) }
+    {
+        let Some(index) = self.waiting.iter().position(|held| is_cancellable(&held.irp, number)) else {
+            return false;
+        };
+        let Some(Held { mut irp, request }) = self.waiting.remove(index) else {
+            unreachable!()
+        };
+        mark_cancelled(&mut irp);
+        let outcome = Outcome::Flushed;
+        self.done.push_back_reserved(Ended {
+            irp,
+            request,
+            outcome,
+        });
+        true
+    }
+
+    /// The packet on this tag is cancelled, where it has this number and is not cancelled yet.
+    pub fn cancel_on(&mut self, tag: u8, number: u128) -> bool
+        requires { tag < length (books_of self.old).started }
+        ensures { MatchBool result (CancelsOn (books_of self.old) tag number (books_of self.new)) (CancelsNotOn (books_of self.old) tag number (books_of self.new)) }
+    {
+        let Some(held) = &mut self.started[tag as usize] else {
+            return false;
+        };
+        if !is_cancellable(&held.irp, number) {
+            return false;
+        }
+        mark_cancelled(&mut held.irp);
+        true
+    }
+
+    /// The packet of this number is cancelled, where it has ended and is not cancelled yet.
+    pub fn cancel_done(&mut self, number: u128) -> bool
+        requires { length (books_of self.old).done ≤ (books_of self.old).places }
+        ensures { MatchBool result (CancelsEnded (books_of self.old) number (books_of self.new)) (CancelsNoEnded (books_of self.old) number (books_of self.new)) }
+    {
+        let Some(index) = self.done.iter().position(|ended| is_cancellable(&ended.irp, number)) else {
+            return false;
+        };
+        let Some(mut ended) = self.done.remove(index) else {
+            unreachable!()
+        };
+        mark_cancelled(&mut ended.irp);
+        self.done.push_back_reserved(ended);
+        true
+    }
+}
