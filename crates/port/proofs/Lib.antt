@@ -1,0 +1,4 @@
+pub mod Lists
+pub mod Tags
+pub mod Labels
+pub mod Sizing

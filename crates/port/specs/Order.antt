@@ -9,9 +9,22 @@ use Rattle.port.specs.Shown.{rules_of}
 use Rattle.port.specs.Kept.{IsKept, IsInHand, IsRoom}
 
 kept_any_order : (b : Books) (v : AdapterView) (some others : List Request) → IsPermutation some others → IsKept b v some → IsKept b v others
-kept_any_order b v some others same h = record h {
+kept_any_order b v some others same h = record {
+  adapter = h.adapter;
+  sizes = h.sizes;
+  started = h.started;
+  waiting = h.waiting;
+  in_turn = h.in_turn;
+  at_work = h.at_work;
+  ended = h.ended;
   rooms_out = All-permutation (IsRoom (rules_of b.sizes) v) _ _ same h.rooms_out;
+  removing = h.removing;
+  distinct = h.distinct;
   places = let a = length_permutation _ _ same in let c = h.places in omega arith;
+  submitted = h.submitted;
+  accepted = h.accepted;
+  numbered = h.numbered;
+  labels = h.labels;
 }
 
 pub any_order_lem : (b : Books) (v : AdapterView) (some others : List Request) → IsPermutation some others → IsInHand b v some → IsInHand b v others

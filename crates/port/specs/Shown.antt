@@ -44,7 +44,7 @@ abbrev pub places_of : Rules → Request → ℕ
 places_of rules r = place_count rules (as_client rules r [])
 
 -- as many parts of one length
-pub cut : ℕ → ℕ → List ℕ → List (List ℕ)
+abbrev pub cut : ℕ → ℕ → List ℕ → List (List ℕ)
 cut zero size bytes = []
 cut (suc count) size bytes = take size bytes ∷ cut count size (drop size bytes)
 
