@@ -5,3 +5,5 @@ pub mod Sizing
 pub mod Opening
 pub mod Starting
 pub mod Orderly
+pub mod Submitting
+pub mod Rooms

@@ -127,3 +127,9 @@ carries_bytes sizes r (Packed srb) b c = carries_kind r.kind (Packed srb) _ (λ 
     carries_kind Flush payload n h = refl
 carries_bytes sizes r (Buffer bytes) b c = absurd c
 carries_bytes sizes r AtAdapter b c = absurd c
+
+-- it lies in the disk
+pub inside_disk : (sizes : Sizes) (r : Request) → IsBounded (rules_of sizes) r → r.extent.first + r.extent.count ≤ sizes.sectors
+inside_disk sizes r b =
+    let v = volume_zero sizes r b in
+    subst (λ (n : ℕ). r.extent.first + r.extent.count ≤ sectors_of (rules_of sizes) (Some n)) v b.inside

@@ -2,7 +2,7 @@
 use Rattle.std.proofs.Common.{◌≡◌, ◌≢◌, ◌<◌, ◌≤◌, ◌⊎◌, inl, inr, ℕ, zero, suc, ◌+◌, Bool, true, false, not, List, [], ◌∷◌, ◌++◌, Option, Some, None, refl, sym, subst, ap, ◌∙◌, arith, add-one, map, length, get_or, set, replicate}
 use Rattle.std.proofs.lemmas.Bool.{cases_lt}
 use Rattle.port.specs.Turns as Turn
-use Rattle.std.specs.Prelude.{All, Any, IsTrue, IsFalse, IsPermutation, slice_set}
+use Rattle.std.specs.Prelude.{All, Any, IsTrue, IsFalse, IsPermutation, slice_set, slice_index}
 use Rattle.std.proofs.lemmas.List.{length-replicate, length-set, get_or-set_same, get_or-set_other, length-append, map-append}
 use Rattle.std.proofs.lemmas.List.Elements.{All-nil, All-cons, All-append, All-map, All-weaker, All-head, All-tail}
 use Rattle.std.proofs.lemmas.List.Sorted.{IsPermutation-refl, IsPermutation-sym, IsPermutation-trans, IsPermutation-map, IsPermutation-append_left, IsPermutation-append_right, IsPermutation-middle, All-permutation, length_permutation}
@@ -118,11 +118,15 @@ write_is_one block command first count through lba blocks fua is m w =
     let m' : Means block (Write10 first count through) = subst (Means block) is m in
     (sym m'.1.address ∙ w.1.address, sym m'.1.blocks ∙ w.1.blocks)
 
+other_code : (code : ℕ) → code ≡ 42 → (code ≡ 40) ⊎ (code ≡ 53) → ⊥
+other_code code h (inl k) = absurd (omega arith)
+other_code code h (inr k) = absurd (omega arith)
+
 no_write : (rules : Rules) (q : ClientRequest) (places : Extent) (kind : Kind) (block : List ℕ) (lba blocks : ℕ) (fua : Bool)
     → Means block (command_for rules q places kind) → Means block (Write10 lba blocks fua) → kind ≡ Write
-no_write rules q places Read block lba blocks fua m w = let e : 40 ≡ 42 = sym m.0.operation ∙ w.0.operation in absurd (omega arith)
+no_write rules q places Read block lba blocks fua m w = absurd (other_code (slice_index block 0) w.0.operation (inl m.0.operation))
 no_write rules q places Write block lba blocks fua m w = refl
-no_write rules q places Flush block lba blocks fua m w = let e : 53 ≡ 42 = sym m.0.operation ∙ w.0.operation in absurd (omega arith)
+no_write rules q places Flush block lba blocks fua m w = absurd (other_code (slice_index block 0) w.0.operation (inr m.0.operation))
 
 pub is_writable : (sizes : Sizes) (v : AdapterView) (r : Request) (srb : Srb) → 0 < sizes.sector_size → IsRoom (rules_of sizes) v r → AsksFor (rules_of sizes) r srb → IsWritable v srb
 is_writable sizes v r srb some room asks lba count fua w inside =

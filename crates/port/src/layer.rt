@@ -1,5 +1,8 @@
 // The port as a layer of the stack.
-ghost use Rattle.std.specs.Prelude.{◌≡◌, ◌≢◌, ◌<◌, ◌≤◌, ◌*◌, ◌+◌, ◌^◌, ℕ, Bool, true, List, [], ◌∷◌, length};
+ghost use Rattle.std.specs.Prelude.{◌≡◌, ◌≢◌, ◌<◌, ◌≤◌, ◌*◌, ◌+◌, ◌^◌, ℕ, Bool, true, List, [], ◌∷◌, length, OnOk};
+ghost use Rattle.srb.specs.Adapter.{IsInOrder, IsReserved};
+ghost use Rattle.miniport.specs.Calls.{Reserves};
+ghost use Rattle.device.specs.declared.Kind.TheVariants.{Write};
 ghost use Rattle.device.specs.declared.Request.{Request};
 ghost use Rattle.port.specs.Books.{books_of};
 ghost use Rattle.device.specs.Rules.{as_client};
@@ -48,6 +51,24 @@ impl<A: Adapter> Port<A> {
         for tag in 0..self.queues.sizes.depth {
             self.start_one(tag);
         }
+    }
+
+    /// Has the adapter make room for a write; other requests need none.
+    fn reserve_extent(&mut self, request: &Request) -> Result<(), AllocError>
+        requires inside { request.now.extent.first + request.now.extent.count ≤ length (A.view self.old.adapter).sectors }
+        requires order { IsInOrder (A.view self.old.adapter) }
+        ensures queues { books_of self.new.queues ≡ books_of self.old.queues }
+        ensures reserved { OnOk result (request.now.kind ≡ Write → IsReserved (A.view self.new.adapter) request.now.extent) }
+        ensures reserves { Reserves (A.view self.old.adapter) (A.view self.new.adapter) }
+        ensures order { IsInOrder (A.view self.new.adapter) }
+    {
+        if request.kind != Kind::Write {
+            return Ok(());
+        }
+        let Ok(()) = self.adapter.reserve(request.extent) else {
+            return Err(AllocError);
+        };
+        Ok(())
     }
 
     /// Cancels the packet of this number that is at the adapter, where it is not cancelled yet.
@@ -106,9 +127,7 @@ impl<A: Adapter> Device for Port<A> {
     }
 
     fn reserve(&mut self, request: &Request) -> Result<PortRoom, AllocError> {
-        if request.kind == Kind::Write && self.adapter.reserve(request.extent).is_err() {
-            return Err(AllocError);
-        }
+        self.reserve_extent(request)?;
         self.queues.add_place()?;
         Ok(PortRoom { request: *request })
     }

@@ -1,0 +1,103 @@
+-- Places made, and given back.
+use Rattle.std.proofs.Common.{◌≡◌, ◌<◌, ◌≤◌, ◌⊎◌, inl, ℕ, ◌+◌, ◌-◌, List, [], ◌∷◌, refl, sym, subst, ap, ◌∙◌, arith, map, length}
+use Rattle.std.specs.Prelude.{All, IsTrue}
+use Rattle.std.proofs.lemmas.List.Elements.{All-cons, All-tail, All-weaker}
+use Rattle.std.proofs.lemmas.List.Sorted.{IsPermutation-refl}
+use Rattle.sector.specs.declared.Extent.{Extent}
+use Rattle.srb.specs.Adapter.{AdapterView, IsInOrder, IsReserved, MovesByAll}
+use Rattle.miniport.specs.Calls.{Reserves as AdapterReserves}
+use Rattle.device.specs.declared.Kind.TheVariants.{Write}
+use Rattle.device.specs.declared.Request.{Request}
+use Rattle.device.specs.Rules.{Rules}
+use Rattle.device.specs.Seen.{Seen, IsBounded}
+use Rattle.device.specs.Served.{Reserves}
+use Rattle.port.specs.Books.{Books}
+use Rattle.port.specs.Shown.{rules_of, seen_of}
+use Rattle.port.specs.Kept.{IsKept, IsBusy, IsInHand, IsRoom, IsWaiting}
+use Rattle.port.proofs.Starting.{room_moves, waiting_moves}
+use Rattle.port.proofs.Orderly.{in_hand}
+
+abbrev with_places : Books → ℕ → Books
+with_places b places = record b { places = places }
+
+abbrev with_reserved : AdapterView → List Extent → AdapterView
+with_reserved v reserved = record v { reserved = reserved }
+
+-- another number of places for other rooms
+kept_places : (b : Books) (v : AdapterView) (places : ℕ) (rooms others : List Request) → length others + b.places ≡ length rooms + places
+    → All (IsRoom (rules_of b.sizes) v) others → IsKept b v rooms → IsKept (with_places b places) v others
+kept_places b v places rooms others counts are k = record {
+  adapter = k.adapter;
+  sizes = k.sizes;
+  started = k.started;
+  waiting = k.waiting;
+  in_turn = k.in_turn;
+  at_work = k.at_work;
+  ended = k.ended;
+  rooms_out = are;
+  removing = k.removing;
+  distinct = k.distinct;
+  places = let c = k.places in omega arith;
+  submitted = k.submitted;
+  accepted = k.accepted;
+  numbered = k.numbered;
+  labels = k.labels;
+}
+
+kept_reserved : (b : Books) (v : AdapterView) (reserved : List Extent) (rooms : List Request) → IsInOrder (with_reserved v reserved) → ((extent : Extent) → IsReserved v extent → IsReserved (with_reserved v reserved) extent)
+    → IsKept b v rooms → IsKept b (with_reserved v reserved) rooms
+kept_reserved b v reserved rooms order lasts k =
+    let rules : Rules = rules_of b.sizes in
+    record {
+      adapter = order;
+      sizes = record { sector_size = k.sizes.sector_size; sectors = k.sizes.sectors; max_transfer = k.sizes.max_transfer; depth = k.sizes.depth };
+      started = k.started;
+      waiting = All-weaker (IsWaiting rules v) (IsWaiting rules (with_reserved v reserved)) (waiting_moves rules v (with_reserved v reserved) lasts) b.waiting k.waiting;
+      in_turn = k.in_turn;
+      at_work = k.at_work;
+      ended = k.ended;
+      rooms_out = All-weaker (IsRoom rules v) (IsRoom rules (with_reserved v reserved)) (room_moves rules v (with_reserved v reserved) lasts) rooms k.rooms_out;
+      removing = k.removing;
+      distinct = k.distinct;
+      places = k.places;
+      submitted = k.submitted;
+      accepted = k.accepted;
+      numbered = k.numbered;
+      labels = k.labels;
+    }
+
+-- what the adapter reserves beside stays
+pub hand_reserved : (b : Books) (v v' : AdapterView) (rooms : List Request) → AdapterReserves v v' → IsInOrder v' → IsInHand b v rooms → IsInHand b v' rooms
+hand_reserved b v v' rooms h order k =
+    subst (λ x. IsInHand b x rooms) (sym h.after) (in_hand b (with_reserved v h.reserved) rooms
+      (kept_reserved b v h.reserved rooms (subst IsInOrder h.after order) (λ extent r. subst (λ x. IsReserved x extent) h.after (h.lasts extent r)) k.kept) k.busy)
+
+-- one place more, for a request that is bounded and reserved
+pub hand_added : (b b' : Books) (v : AdapterView) (r : Request) (rooms : List Request) → b' ≡ record b { places = b.places + 1 } → IsRoom (rules_of b.sizes) v r → IsInHand b v rooms → IsInHand b' v (r ∷ rooms)
+hand_added b b' v r rooms e room k =
+    subst (λ x. IsInHand x v (r ∷ rooms)) (sym e) (in_hand (with_places b (b.places + 1)) v (r ∷ rooms)
+      (kept_places b v (b.places + 1) rooms (r ∷ rooms) (omega arith) (All-cons (IsRoom (rules_of b.sizes) v) r rooms room k.kept.rooms_out) k.kept) k.busy)
+
+pub hand_freed : (b b' : Books) (v : AdapterView) (r : Request) (rooms : List Request) → b' ≡ record b { places = b.places - 1 } → IsInHand b v (r ∷ rooms) → IsInHand b' v rooms
+hand_freed b b' v r rooms e k =
+    subst (λ x. IsInHand x v rooms) (sym e) (in_hand (with_places b (b.places - 1)) v rooms
+      (kept_places b v (b.places - 1) (r ∷ rooms) rooms (let c = k.kept.places in omega arith) (All-tail (IsRoom (rules_of b.sizes) v) r rooms k.kept.rooms_out) k.kept) k.busy)
+
+pub hand_same : (b b' : Books) (v : AdapterView) (rooms : List Request) → b' ≡ b → IsInHand b v rooms → IsInHand b' v rooms
+hand_same b b' v rooms e k = subst (λ x. IsInHand x v rooms) (sym e) k
+
+-- what a reservation shows
+pub seen_reserved : (b b' : Books) (v v' : AdapterView) (places : ℕ) → AdapterReserves v v' → b' ≡ record b { places = places } → Reserves (seen_of b v) (seen_of b' v')
+seen_reserved b b' v v' places h e =
+    subst (λ x. Reserves (seen_of b v) (seen_of x v')) (sym e) (subst (λ x. Reserves (seen_of b v) (seen_of (with_places b places) x)) (sym h.after) (record {
+      same = refl;
+      adapter = record {
+        tags = v.tags;
+        failures = v.failures;
+        reserved = h.reserved;
+        in_use = inl (IsPermutation-refl _);
+        counted = omega arith;
+        after = refl;
+        lasts = λ extent r. subst (λ x. IsReserved x extent) h.after (h.lasts extent r);
+      };
+    }))

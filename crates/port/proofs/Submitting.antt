@@ -1,0 +1,142 @@
+-- A packet is taken in.
+use Rattle.std.proofs.Common.{◌≡◌, ◌≢◌, ◌<◌, ◌≤◌, ℕ, ◌+◌, Bool, true, false, List, [], ◌∷◌, ◌++◌, None, refl, sym, subst, ap, ◌∙◌, arith, map, length, length-append}
+use Rattle.std.specs.Prelude.{All, IsTrue, IsFalse, IsPermutation}
+use Rattle.std.proofs.lemmas.List.{map-append, append_assoc}
+use Rattle.std.proofs.lemmas.List.Elements.{All-nil, All-cons, All-append, All-push, All-head, All-tail, All-weaker}
+use Rattle.std.proofs.lemmas.List.Sorted.{IsPermutation-refl, IsPermutation-trans, IsPermutation-middle}
+use Rattle.srb.specs.declared.DeviceLabel.{DeviceLabel}
+use Rattle.srb.specs.Adapter.{AdapterView}
+use Rattle.irp.specs.declared.Irp.{Irp}
+use Rattle.irp.specs.declared.Payload.{Payload}
+use Rattle.device.specs.declared.Request.{Request}
+use Rattle.device.specs.Rules.{Rules, as_client}
+use Rattle.device.specs.State.{OpenRequest, State, IsSame}
+use Rattle.device.specs.Calling.{Opens, new_request}
+use Rattle.device.specs.Numbers.{IsGiven}
+use Rattle.device.specs.Seen.{Packet, Carries, sent_bytes, packet_of}
+use Rattle.device.specs.Served.{Submits}
+use Rattle.device.proofs.Numbers.{AreDistinct-Admits}
+use Rattle.port.specs.declared.queues.Held.{Held}
+use Rattle.port.specs.Books.{Books}
+use Rattle.port.specs.Turns.{held_with, Queued}
+use Rattle.port.specs.Shown.{rules_of, most, waiting_open, open_on, done_open, waiting_packet, packet_on, done_packet, state_of, seen_of, packets_of, requests_of}
+use Rattle.port.specs.Kept.{IsKept, IsRoom, IsWaiting, IsBefore, AreInTurn}
+use Rattle.port.specs.Releases.{Releases}
+use Rattle.port.proofs.Sizing.{not_refused, carries_bytes}
+use Rattle.port.proofs.Starting.{kept_sector_some}
+use Rattle.port.proofs.Opening.{true_false}
+
+abbrev pub books_queued : Books → Irp → Request → Books
+books_queued b irp r = record b { waiting = b.waiting ++ held_with irp r ∷ []; last_request = irp.number; submitted = b.submitted + 1 }
+
+abbrev pub numbered_below : ℕ → Held → Type 0
+numbered_below n held = held.irp.number < n
+
+-- the last comes after all before it
+turn_push : (waiting : List Held) (held : Held) → All (numbered_below held.irp.number) waiting → AreInTurn waiting → AreInTurn (waiting ++ held ∷ [])
+turn_push [] held below h = (All-nil (IsBefore held), tt)
+turn_push (x ∷ xs) held below h =
+    (All-push (IsBefore x) xs held h.0 (All-head (numbered_below held.irp.number) x xs below), turn_push xs held (All-tail (numbered_below held.irp.number) x xs below) h.1)
+
+-- those that wait have numbers that were given
+waiting_given : (rules : Rules) (next : ℕ) (waiting : List Held) (rest : List OpenRequest) → All (IsGiven next) (map (waiting_open rules) waiting ++ rest) → All (numbered_below next) waiting
+waiting_given rules next [] rest h = All-nil (numbered_below next)
+waiting_given rules next (x ∷ xs) rest h =
+    All-cons (numbered_below next) x xs (All-head (IsGiven next) _ _ h) (waiting_given rules next xs rest (All-tail (IsGiven next) _ _ h))
+
+behind_all : {X : Type 0} (before : List X) (x : X) (rest : List X) → IsPermutation ((before ++ x ∷ []) ++ rest) (x ∷ (before ++ rest))
+behind_all before x rest = rw append_assoc (IsPermutation-middle before x rest)
+
+pub record MayQueue (b : Books) (irp : Irp) (r : Request) : Type 0 where
+  pub stays : IsFalse b.removing
+  pub number : b.last_request + 1 ≤ irp.number
+  pub few : b.submitted < most
+  pub not_cancelled : IsFalse irp.cancelled
+  pub carries : Carries true (rules_of b.sizes) r irp.payload
+
+opens_queued : (b : Books) (v : AdapterView) (irp : Irp) (r : Request) (rooms : List Request) → IsKept b v (r ∷ rooms) → MayQueue b irp r
+    → Opens (rules_of b.sizes) (state_of b v) irp.number (as_client (rules_of b.sizes) r (sent_bytes r.kind irp.payload)) (state_of (books_queued b irp r) v)
+opens_queued b v irp r rooms k m =
+    let rules : Rules = rules_of b.sizes in
+    let room : IsRoom rules v r = All-head (IsRoom rules v) r rooms k.rooms_out in
+    let some : 0 < b.sizes.sector_size = kept_sector_some b v (r ∷ rooms) k in
+    record {
+      new_number = m.number;
+      not_refused = not_refused b.sizes r (sent_bytes r.kind irp.payload) (state_of b v) some room.bounded m.stays;
+      carries = carries_bytes b.sizes r irp.payload room.bounded m.carries;
+      after = record {
+        arrays = refl;
+        next_request = refl;
+        next_piece = refl;
+        requests = requests_after rules;
+        pieces = IsPermutation-refl _;
+        owed = refl;
+        paused = refl;
+        removing = refl;
+        removed = refl;
+      };
+    }
+  where
+    requests_after : (rules : Rules) → IsPermutation (map (waiting_open rules) (b.waiting ++ held_with irp r ∷ []) ++ (map (open_on rules b.started) v.tags ++ map (done_open rules) b.done))
+        (new_request rules (state_of b v) irp.number (as_client rules r (sent_bytes r.kind irp.payload)) ∷ (map (waiting_open rules) b.waiting ++ (map (open_on rules b.started) v.tags ++ map (done_open rules) b.done)))
+    requests_after rules =
+        let e : waiting_open rules (held_with irp r) ≡ new_request rules (state_of b v) irp.number (as_client rules r (sent_bytes r.kind irp.payload)) =
+            ap (λ (flag : Bool). record (new_request rules (state_of b v) irp.number (as_client rules r (sent_bytes r.kind irp.payload))) { cancelled = flag }) m.not_cancelled in
+        let p : IsPermutation ((map (waiting_open rules) b.waiting ++ waiting_open rules (held_with irp r) ∷ []) ++ (map (open_on rules b.started) v.tags ++ map (done_open rules) b.done)) (waiting_open rules (held_with irp r) ∷ (map (waiting_open rules) b.waiting ++ (map (open_on rules b.started) v.tags ++ map (done_open rules) b.done))) = behind_all (map (waiting_open rules) b.waiting) (waiting_open rules (held_with irp r)) (map (open_on rules b.started) v.tags ++ map (done_open rules) b.done) in
+        subst (λ ws. IsPermutation (ws ++ (map (open_on rules b.started) v.tags ++ map (done_open rules) b.done)) (new_request rules (state_of b v) irp.number (as_client rules r (sent_bytes r.kind irp.payload)) ∷ (map (waiting_open rules) b.waiting ++ (map (open_on rules b.started) v.tags ++ map (done_open rules) b.done)))) (sym (map-append (waiting_open rules) b.waiting (held_with irp r ∷ [])))
+          (subst (λ (x : OpenRequest). IsPermutation ((map (waiting_open rules) b.waiting ++ waiting_open rules (held_with irp r) ∷ []) ++ (map (open_on rules b.started) v.tags ++ map (done_open rules) b.done)) (x ∷ (map (waiting_open rules) b.waiting ++ (map (open_on rules b.started) v.tags ++ map (done_open rules) b.done)))) e p)
+
+kept_queued : (b : Books) (v : AdapterView) (irp : Irp) (r : Request) (rooms : List Request) → IsKept b v (r ∷ rooms) → MayQueue b irp r → IsKept (books_queued b irp r) v rooms
+kept_queued b v irp r rooms k m =
+    let rules : Rules = rules_of b.sizes in
+    let room : IsRoom rules v r = All-head (IsRoom rules v) r rooms k.rooms_out in
+    let below : All (numbered_below irp.number) b.waiting =
+        All-weaker (numbered_below (b.last_request + 1)) (numbered_below irp.number) (λ h low. omega (arith, m.number)) b.waiting (waiting_given rules (b.last_request + 1) b.waiting _ k.distinct.given) in
+    let l = length-append b.waiting (held_with irp r ∷ []) in
+    record {
+      adapter = k.adapter;
+      sizes = k.sizes;
+      started = k.started;
+      waiting = All-push (IsWaiting rules v) b.waiting (held_with irp r) k.waiting (record { room = room; carries = m.carries; not_cancelled = m.not_cancelled });
+      in_turn = turn_push b.waiting (held_with irp r) below k.in_turn;
+      at_work = k.at_work;
+      ended = k.ended;
+      rooms_out = All-tail (IsRoom rules v) r rooms k.rooms_out;
+      removing = λ removes. true_false b.removing removes m.stays;
+      distinct = AreDistinct-Admits rules (state_of b v) irp.number (as_client rules r (sent_bytes r.kind irp.payload)) None (state_of (books_queued b irp r) v) m.number k.distinct (opens_queued b v irp r rooms k m);
+      places = let c = k.places in omega arith;
+      submitted = let c = m.few in omega arith;
+      accepted = let c = k.accepted in omega arith;
+      numbered = let c = k.numbered in omega arith;
+      labels = k.labels;
+    }
+
+submits_queued : (b : Books) (v : AdapterView) (irp : Irp) (r : Request) (rooms : List Request) (b' : Books) (v' : AdapterView) → IsKept b v (r ∷ rooms) → MayQueue b irp r
+    → Releases (books_queued b irp r) v b' v' → Submits (seen_of b v) (packet_of irp) r irp.payload (seen_of b' v')
+submits_queued b v irp r rooms b' v' k m h = record {
+  opened = state_of (books_queued b irp r) v;
+  starts = h.starts;
+  opens = opens_queued b v irp r rooms k m;
+  only_starts = h.only_starts;
+  moves = record {
+    same_rules = h.moves.same_rules;
+    same_packets = IsPermutation-trans _ _ _ h.moves.same_packets packets;
+    same_submitted = h.moves.same_submitted;
+    same_most = h.moves.same_most;
+    run = h.moves.run;
+    adapter = h.moves.adapter;
+  };
+}
+  where
+    packets : IsPermutation (packets_of (books_queued b irp r) v) (packet_of irp ∷ packets_of b v)
+    packets =
+        subst (λ (ws : List Packet). IsPermutation (ws ++ (map (packet_on b.started) v.tags ++ map done_packet b.done)) (packet_of irp ∷ packets_of b v)) (sym (map-append waiting_packet b.waiting (held_with irp r ∷ [])))
+          (behind_all (map waiting_packet b.waiting) (packet_of irp) (map (packet_on b.started) v.tags ++ map done_packet b.done))
+
+-- as the queues say it
+pub queued_kept : (b : Books) (v : AdapterView) (irp : Irp) (r : Request) (b' : Books) → Queued b irp r b' → MayQueue b irp r → (rooms : List Request) → IsKept b v (r ∷ rooms) → IsKept b' v rooms
+queued_kept b v irp r b' q m rooms k = subst (λ x. IsKept x v rooms) (sym q) (kept_queued b v irp r rooms k m)
+
+pub queued_submits : (b : Books) (v : AdapterView) (irp : Irp) (r : Request) (rooms : List Request) (b' c : Books) (v' : AdapterView) → Queued b irp r b' → MayQueue b irp r → IsKept b v (r ∷ rooms)
+    → Releases b' v c v' → Submits (seen_of b v) (packet_of irp) r irp.payload (seen_of c v')
+queued_submits b v irp r rooms b' c v' q m k h = submits_queued b v irp r rooms c v' k m (subst (λ x. Releases x v c v') q h)

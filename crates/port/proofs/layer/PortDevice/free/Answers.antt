@@ -1,0 +1,5 @@
+use Rattle.port.proofs.Rooms.{hand_freed}
+use Rattle.port.proofs.layer.PortDevice.free.Goals as goal
+
+pub returns-clause-rooms : goal.returns-clause-rooms
+returns-clause-rooms g c = λ rooms k. hand_freed _ _ _ _ rooms c.remove_place.ensures k
