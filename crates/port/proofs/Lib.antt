@@ -7,3 +7,4 @@ pub mod Starting
 pub mod Orderly
 pub mod Submitting
 pub mod Rooms
+pub mod Returning

@@ -3,6 +3,7 @@ use Rattle.std.proofs.Common.{◌≡◌, ◌<◌, ◌≤◌, ◌⊎◌, inl, ℕ
 use Rattle.std.specs.Prelude.{All, IsTrue}
 use Rattle.std.proofs.lemmas.List.Elements.{All-cons, All-tail, All-weaker}
 use Rattle.std.proofs.lemmas.List.Sorted.{IsPermutation-refl}
+use Rattle.std.specs.Prelude.{Result, Ok, Err, OnErr}
 use Rattle.sector.specs.declared.Extent.{Extent}
 use Rattle.srb.specs.Adapter.{AdapterView, IsInOrder, IsReserved, MovesByAll}
 use Rattle.miniport.specs.Calls.{Reserves as AdapterReserves}
@@ -101,3 +102,20 @@ seen_reserved b b' v v' places h e =
         lasts = λ extent r. subst (λ x. IsReserved x extent) h.after (h.lasts extent r);
       };
     }))
+
+pub on_err : {T E P : Type 0} (r : Result T E) → P → OnErr r P
+on_err (Ok x) p = tt
+on_err (Err x) p = p
+
+-- an adapter that reserved nothing
+pub reserves_none : (v : AdapterView) → AdapterReserves v v
+reserves_none v = record { reserved = v.reserved; after = refl; lasts = λ extent h. h }
+
+pub hand_after : (b b' : Books) (v v' : AdapterView) (rooms : List Request) → b' ≡ b → AdapterReserves v v' → IsInOrder v' → IsInHand b v rooms → IsInHand b' v' rooms
+hand_after b b' v v' rooms e h order k = hand_same b b' v' rooms e (hand_reserved b v v' rooms h order k)
+
+pub hand_made : (b c d : Books) (v v' : AdapterView) (r : Request) (rooms : List Request) → c ≡ b → d ≡ record c { places = c.places + 1 } → AdapterReserves v v' → IsInOrder v'
+    → IsBounded (rules_of b.sizes) r → (r.kind ≡ Write → IsReserved v' r.extent) → IsInHand b v rooms → IsInHand d v' (r ∷ rooms)
+hand_made b c d v v' r rooms e f h order bounded reserved k =
+    let room : IsRoom (rules_of c.sizes) v' r = record { bounded = subst (λ (x : Books). IsBounded (rules_of x.sizes) r) (sym e) bounded; reserved = reserved } in
+    hand_added c d v' r rooms f room (hand_after b c v v' rooms e h order k)

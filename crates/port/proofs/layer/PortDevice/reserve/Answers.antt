@@ -1,26 +1,13 @@
-use Rattle.std.proofs.Common.{rules, ◌≡◌, ◌≢◌, ◌<◌, ◌≤◌, ◌*◌, ◌+◌, ◌^◌, ℕ, Bool, true, List, [], ◌∷◌, length, OnOk, ◌-◌, ◌/◌, ◌%◌, false, nat_eq, nat_lt, ◌++◌, slice_index_or, slice_set, bit_and, bit_or, Fits, w8, w32, w64, Bor, MutBor}
-use Rattle.srb.specs.Adapter.{IsInOrder, IsReserved}
-use Rattle.miniport.specs.Calls.{Reserves}
-use Rattle.device.specs.declared.Kind.TheVariants.{Write}
-use Rattle.device.specs.declared.Request.{Request}
+use Rattle.std.proofs.Common.{◌∙◌}
 use Rattle.port.specs.Books.{books_of}
-use Rattle.device.specs.Rules.{as_client}
-use Rattle.device.specs.Served.{information as information_of}
-use Rattle.port.specs.Shown.{seen_of, rules_of}
-use Rattle.port.specs.Kept.{IsInHand, IsKept}
-use Rattle.port.specs.Releases.{Releases, AreLowerInUse}
-use Rattle.port.specs.Order.{any_order_lem}
+use Rattle.port.proofs.Rooms.{on_err, hand_after, hand_made}
 use Rattle.port.proofs.layer.PortDevice.reserve.Goals as goal
 
--- src/layer.rt:130:9
-pub returns-in_err-reserve_extent-clause-refused :
-    goal.returns-in_err-reserve_extent-clause-refused
-returns-in_err-reserve_extent-clause-refused g c = ?
+pub returns-in_err-reserve_extent-clause-refused : goal.returns-in_err-reserve_extent-clause-refused
+returns-in_err-reserve_extent-clause-refused g c = on_err c.from_residual.result (λ rooms k. hand_after _ _ _ _ rooms c.reserve_extent.ensures.queues c.reserve_extent.ensures.reserves c.reserve_extent.ensures.order k)
 
--- src/layer.rt:131:9
 pub returns-in_err-add_place-clause-refused : goal.returns-in_err-add_place-clause-refused
-returns-in_err-add_place-clause-refused g c = ?
+returns-in_err-add_place-clause-refused g c = on_err c.from_residual-in_err-add_place.result (λ rooms k. hand_after _ _ _ _ rooms (c.in_err-add_place.ensures.refused ∙ c.reserve_extent.ensures.queues) c.reserve_extent.ensures.reserves c.reserve_extent.ensures.order k)
 
--- src/layer.rt:129:5
 pub returns-clause-rooms : goal.returns-clause-rooms
-returns-clause-rooms g c = ?
+returns-clause-rooms g c = λ rooms k. hand_made (books_of c.args.self.now.queues) (books_of c.reserve_extent.new.self.queues) _ _ _ _ rooms c.reserve_extent.ensures.queues c.in_ok-add_place.ensures.added c.reserve_extent.ensures.reserves c.reserve_extent.ensures.order c.requires.bounded c.in_ok-reserve_extent.ensures.reserved k

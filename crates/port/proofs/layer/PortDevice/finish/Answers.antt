@@ -1,0 +1,2 @@
+use Rattle.port.proofs.Returning.{length_marks}
+use Rattle.port.proofs.layer.PortDevice.finish.Goals as goal
