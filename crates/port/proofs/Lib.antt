@@ -8,3 +8,4 @@ pub mod Orderly
 pub mod Submitting
 pub mod Rooms
 pub mod Returning
+pub mod Handing

@@ -20,7 +20,7 @@ use Rattle.port.specs.declared.queues.Ended.{Ended}
 use Rattle.port.specs.declared.queues.Outcome.{Outcome}
 use Rattle.port.specs.declared.queues.Outcome.TheVariants.{Returned, Flushed, Gone}
 use Rattle.port.specs.Books.{Books}
-use Rattle.port.specs.Shown.{entry_on, rules_of, places_of, sectors_moved, marks_left, busy_left, waiting_open, open_on, piece_on, done_open, waiting_packet, packet_on, done_packet, state_of, seen_of, requests_of, packets_of}
+use Rattle.port.specs.Shown.{entry_on, rules_of, places_of, sectors_moved, marks_left, busy_left, waiting_open, open_on, piece_on, done_open, packet, of_waiting, of_tag, of_done, state_of, seen_of, requests_of, packets_of}
 use Rattle.port.specs.Kept.{IsKept, IsBusy, IsInHand, IsWaiting, IsAtWork, HasEnded, HasOutcome}
 use Rattle.port.specs.Releases.{AreLowerInUse}
 use Rattle.port.proofs.Lists.{length-cut}
@@ -59,16 +59,16 @@ have_places b v rooms k =
 numbers_are : (b : Books) (v : AdapterView) → map packet_number (packets_of b v) ≡ map request_number (requests_of b v)
 numbers_are b v =
     let rules : Rules = rules_of b.sizes in
-    let w : map packet_number (map waiting_packet b.waiting) ≡ map request_number (map (waiting_open rules) b.waiting) =
-        maps_are waiting_packet packet_number (λ (h : Held). h.irp.number) (λ h. refl) b.waiting ∙ sym (maps_are (waiting_open rules) request_number (λ (h : Held). h.irp.number) (λ h. refl) b.waiting) in
-    let d : map packet_number (map done_packet b.done) ≡ map request_number (map (done_open rules) b.done) =
-        maps_are done_packet packet_number (λ (h : Ended). h.irp.number) (λ h. refl) b.done ∙ sym (maps_are (done_open rules) request_number (λ (h : Ended). h.irp.number) (λ h. refl) b.done) in
-    let t : map packet_number (map (packet_on b.started) v.tags) ≡ map request_number (map (open_on rules b.started) v.tags) =
-        maps_are (packet_on b.started) packet_number (λ (u : TagInUse). (packet_on b.started u).number) (λ u. refl) v.tags ∙ sym (maps_are (open_on rules b.started) request_number (λ (u : TagInUse). (packet_on b.started u).number) (λ u. refl) v.tags) in
-    map-append packet_number (map waiting_packet b.waiting) _
-    ∙ ap (λ ns. map packet_number (map waiting_packet b.waiting) ++ ns) (map-append packet_number (map (packet_on b.started) v.tags) (map done_packet b.done))
-    ∙ ap (λ ns. ns ++ (map packet_number (map (packet_on b.started) v.tags) ++ map packet_number (map done_packet b.done))) w
-    ∙ ap (λ ns. map request_number (map (waiting_open rules) b.waiting) ++ (ns ++ map packet_number (map done_packet b.done))) t
+    let w : map packet_number (map (of_waiting packet) b.waiting) ≡ map request_number (map (waiting_open rules) b.waiting) =
+        maps_are (of_waiting packet) packet_number (λ (h : Held). h.irp.number) (λ h. refl) b.waiting ∙ sym (maps_are (waiting_open rules) request_number (λ (h : Held). h.irp.number) (λ h. refl) b.waiting) in
+    let d : map packet_number (map (of_done packet) b.done) ≡ map request_number (map (done_open rules) b.done) =
+        maps_are (of_done packet) packet_number (λ (h : Ended). h.irp.number) (λ h. refl) b.done ∙ sym (maps_are (done_open rules) request_number (λ (h : Ended). h.irp.number) (λ h. refl) b.done) in
+    let t : map packet_number (map (of_tag packet b.started) v.tags) ≡ map request_number (map (open_on rules b.started) v.tags) =
+        maps_are (of_tag packet b.started) packet_number (λ (u : TagInUse). (of_tag packet b.started u).number) (λ u. refl) v.tags ∙ sym (maps_are (open_on rules b.started) request_number (λ (u : TagInUse). (of_tag packet b.started u).number) (λ u. refl) v.tags) in
+    map-append packet_number (map (of_waiting packet) b.waiting) _
+    ∙ ap (λ ns. map packet_number (map (of_waiting packet) b.waiting) ++ ns) (map-append packet_number (map (of_tag packet b.started) v.tags) (map (of_done packet) b.done))
+    ∙ ap (λ ns. ns ++ (map packet_number (map (of_tag packet b.started) v.tags) ++ map packet_number (map (of_done packet) b.done))) w
+    ∙ ap (λ ns. map request_number (map (waiting_open rules) b.waiting) ++ (ns ++ map packet_number (map (of_done packet) b.done))) t
     ∙ ap (λ ns. map request_number (map (waiting_open rules) b.waiting) ++ (map request_number (map (open_on rules b.started) v.tags) ++ ns)) d
     ∙ ap (λ ns. map request_number (map (waiting_open rules) b.waiting) ++ ns) (sym (map-append request_number (map (open_on rules b.started) v.tags) (map (done_open rules) b.done)))
     ∙ sym (map-append request_number (map (waiting_open rules) b.waiting) _)

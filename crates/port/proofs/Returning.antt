@@ -4,7 +4,7 @@ use Rattle.std.specs.Prelude.{All, Contains, IsTrue, IsFalse, IsPermutation, sli
 use Rattle.std.specs.List.{concat}
 use Rattle.ntstatus.specs.declared.Sense.{Sense}
 use Rattle.std.proofs.lemmas.List.{length-replicate, length-set, length-append, length-map, map-append, get_or-set_other}
-use Rattle.std.proofs.lemmas.List.Elements.{All-nil, All-cons, All-append, All-push, All-weaker, All-head, All-tail}
+use Rattle.std.proofs.lemmas.List.Elements.{All-map, All-nil, All-cons, All-append, All-push, All-weaker, All-head, All-tail}
 use Rattle.std.proofs.lemmas.List.Sorted.{IsPermutation-refl, IsPermutation-sym, IsPermutation-trans, IsPermutation-map, IsPermutation-append_left, IsPermutation-append_right, IsPermutation-middle, All-permutation, Contains-permutation, length_permutation}
 use Rattle.sector.specs.Splice.{splice}
 use Rattle.srb.specs.declared.Srb.{Srb}
@@ -18,11 +18,13 @@ use Rattle.srb.specs.Adapter.{AdapterView, TagInUse, IsInOrder, IsFree, IsOn, Ha
 use Rattle.miniport.specs.Calls.{Finishes as AdapterFinishes, FinishesNot as AdapterFinishesNot}
 use Rattle.irp.specs.declared.Payload.{Payload}
 use Rattle.irp.specs.declared.Payload.TheVariants.{Srb as Packed}
+use Rattle.device.specs.declared.Kind.{Kind}
+use Rattle.device.specs.declared.Kind.TheVariants.{Read, Write, Flush}
 use Rattle.device.specs.declared.Request.{Request}
-use Rattle.device.specs.Rules.{Rules}
+use Rattle.device.specs.Rules.{Rules, as_client}
 use Rattle.device.specs.State.{Mark, Done, Out, OpenRequest, Piece, State, IsSame}
 use Rattle.device.specs.Sending.{Leaves, Returns, given_back, one_if_busy, HasOtherTag}
-use Rattle.device.specs.Seen.{AsksFor, Carries, IsBounded, Packet, payload_bytes, label_places}
+use Rattle.device.specs.Seen.{AsksFor, Carries, IsBounded, Packet, payload_bytes, sent_bytes, label_places}
 use Rattle.device.specs.Served.{Finishes, FinishesNot, IsStart, Moves}
 use Rattle.device.proofs.Same.{IsSame-refl}
 use Rattle.device.proofs.Numbers.{AreDistinct-DeviceStep}
@@ -32,8 +34,8 @@ use Rattle.port.specs.declared.queues.Outcome.{Outcome}
 use Rattle.port.specs.declared.queues.Outcome.TheVariants.{Returned, Flushed, Gone}
 use Rattle.port.specs.Books.{Entry, Books, entry_of, ended_entry}
 use Rattle.port.specs.Turns.{held_on, EndsAs, Ends}
-use Rattle.port.specs.Shown.{rules_of, places_of, sectors_moved, marks_left, busy_left, open_as, waiting_open, done_open, out_open, out_piece, open_on, piece_on, entry_on, entry_or_nobody, packet as packet_as, waiting_packet, packet_on, done_packet, state_of, seen_of, requests_of, packets_of}
-use Rattle.port.specs.Kept.{IsKept, IsInHand, IsRoom, IsWaiting, IsAtWork, IsDoing, HasEnded, HasOutcome}
+use Rattle.port.specs.Shown.{rules_of, places_of, sectors_moved, marks_left, busy_left, open_as, waiting_open, done_open, out_open, out_piece, open_on, piece_on, entry_on, entry_or_nobody, packet as packet_as, of_packets, of_waiting, of_tag, of_done, state_of, seen_of, requests_of, packets_of}
+use Rattle.port.specs.Kept.{asked, IsKept, IsInHand, IsRoom, IsWaiting, IsAtWork, IsDoing, HasEnded, HasOutcome}
 use Rattle.port.specs.Releases.{Releases}
 use Rattle.port.proofs.Lists.{splice_whole, second_front, last_front, length-cut}
 use Rattle.port.proofs.Tags.{others_same, others_apart}
@@ -94,6 +96,11 @@ pub done_is : (rules : Rules) (d : Ended) (e : Entry) (payload : Payload) (outco
 done_is rules d e payload outcome same carries ends =
     ap (λ (x : Entry). done_as rules x d.irp.payload d.outcome) same ∙ ap (λ (p : Payload). done_as rules e p d.outcome) carries ∙ ap (λ (o : Outcome). done_as rules e payload o) ends
 
+same_sent : (kind : Kind) (srb : Srb) (sense : Option Sense) → sent_bytes kind (Packed (with_sense srb sense)) ≡ sent_bytes kind (Packed srb)
+same_sent Read srb sense = refl
+same_sent Write srb sense = refl
+same_sent Flush srb sense = refl
+
 busy_is : (class : Class) → busy_left (Returned class) ≡ 0 + one_if_busy class
 busy_is Good = refl
 busy_is Busy = refl
@@ -152,7 +159,8 @@ module _ (b : Books) (v : AdapterView) (tag : ℕ) (use' : TagInUse) (others tag
       let is : done_open rules ended ≡ x =
           done_is rules ended e (Packed (with_sense use'.srb sense)) (Returned class) h.ends_as.same_entry h.ends_as.carries h.ends_as.ends
           ∙ ap (λ (n : ℕ). open_as rules e (Packed (with_sense use'.srb sense)) n marks) (busy_is class)
-          ∙ ap (λ (ms : List Mark). open_as rules e (Packed (with_sense use'.srb sense)) (0 + one_if_busy class) ms) (sym whole) in
+          ∙ ap (λ (ms : List Mark). open_as rules e (Packed (with_sense use'.srb sense)) (0 + one_if_busy class) ms) (sym whole)
+          ∙ ap (λ (bytes : List ℕ). record x { request = as_client rules held.request bytes }) (same_sent held.request.kind use'.srb sense) in
       record {
         piece = out_piece rules e use';
         other_pieces = map (piece_on rules b.started) others;
@@ -186,18 +194,19 @@ module _ (b : Books) (v : AdapterView) (tag : ℕ) (use' : TagInUse) (others tag
           rw more (IsPermutation-trans _ _ _ (IsPermutation-append_right (map (waiting_open rules) b.waiting) _ _ (IsPermutation-append_left (map (done_open rules) b.done ++ done_open rules ended ∷ []) _ _ (tags_left (out_open rules) b.started tag None tags' others apart h.left)))
             (last_front (map (waiting_open rules) b.waiting) (map (open_on rules b.started) others) (map (done_open rules) b.done) (done_open rules ended)))
 
-  packets_returned : (rooms : List Request) → IsKept b v rooms → Back b v tag use' others tags' class sense held ended
-      → IsPermutation (packets_of (books_returned b tag ended) (view_returned v tags' use'.piece class)) (packets_of b v)
-  packets_returned rooms k h =
+  packets_returned : {Y : Type 0} (f : Entry → Y) (rooms : List Request) → IsKept b v rooms → Back b v tag use' others tags' class sense held ended
+      → IsPermutation (of_packets f (books_returned b tag ended) (view_returned v tags' use'.piece class)) (of_packets f b v)
+  packets_returned {Y} f rooms k h =
       let on : held_on b.started use'.tag ≡ Some held = subst (λ t. held_on b.started t ≡ Some held) (sym h.on.has_tag) h.held_is in
       let apart : All (HasNotTag tag) others = others_apart v tag use' others k.adapter h.on in
-      let more : map done_packet (b.done ++ ended ∷ []) ≡ map done_packet b.done ++ done_packet ended ∷ [] = map-append done_packet b.done (ended ∷ []) in
-      let first : IsPermutation (map waiting_packet b.waiting ++ (map (packet_on (slice_set b.started tag None)) tags' ++ (map done_packet b.done ++ done_packet ended ∷ []))) (packet_as (ended_entry ended) ∷ (map waiting_packet b.waiting ++ (map (packet_on b.started) others ++ map done_packet b.done))) =
-          IsPermutation-trans _ _ _ (IsPermutation-append_right (map waiting_packet b.waiting) _ _ (IsPermutation-append_left (map done_packet b.done ++ done_packet ended ∷ []) _ _ (tags_left (λ e u. packet_as e) b.started tag None tags' others apart h.left)))
-            (last_front (map waiting_packet b.waiting) (map (packet_on b.started) others) (map done_packet b.done) (done_packet ended)) in
-      let second : IsPermutation (packets_of b v) (packet_as (entry_of held) ∷ (map waiting_packet b.waiting ++ (map (packet_on b.started) others ++ map done_packet b.done))) =
-          second_front (map waiting_packet b.waiting) (map (packet_on b.started) v.tags) (map (packet_on b.started) others) (map done_packet b.done) (packet_as (entry_of held)) (tags_on (λ e u. packet_as e) b.started v.tags use' others held h.on.in_use on) in
-      rw more (IsPermutation-trans _ _ _ (subst (λ (e : Entry). IsPermutation (map waiting_packet b.waiting ++ (map (packet_on (slice_set b.started tag None)) tags' ++ (map done_packet b.done ++ done_packet ended ∷ []))) (packet_as e ∷ (map waiting_packet b.waiting ++ (map (packet_on b.started) others ++ map done_packet b.done)))) h.ends_as.same_entry first) (IsPermutation-sym _ _ second))
+      let more : map (of_done f) (b.done ++ ended ∷ []) ≡ map (of_done f) b.done ++ of_done f ended ∷ [] = map-append (of_done f) b.done (ended ∷ []) in
+      let shown : List Y = map (of_waiting f) b.waiting ++ (map (of_tag f (slice_set b.started tag None)) tags' ++ (map (of_done f) b.done ++ of_done f ended ∷ [])) in
+      let first : IsPermutation shown (f (ended_entry ended) ∷ (map (of_waiting f) b.waiting ++ (map (of_tag f b.started) others ++ map (of_done f) b.done))) =
+          IsPermutation-trans _ _ _ (IsPermutation-append_right (map (of_waiting f) b.waiting) _ _ (IsPermutation-append_left (map (of_done f) b.done ++ of_done f ended ∷ []) _ _ (tags_left (λ e u. f e) b.started tag None tags' others apart h.left)))
+            (last_front (map (of_waiting f) b.waiting) (map (of_tag f b.started) others) (map (of_done f) b.done) (of_done f ended)) in
+      let second : IsPermutation (of_packets f b v) (f (entry_of held) ∷ (map (of_waiting f) b.waiting ++ (map (of_tag f b.started) others ++ map (of_done f) b.done))) =
+          second_front (map (of_waiting f) b.waiting) (map (of_tag f b.started) v.tags) (map (of_tag f b.started) others) (map (of_done f) b.done) (f (entry_of held)) (tags_on (λ e u. f e) b.started v.tags use' others held h.on.in_use on) in
+      rw more (IsPermutation-trans _ _ _ (subst (λ (e : Entry). IsPermutation shown (f e ∷ (map (of_waiting f) b.waiting ++ (map (of_tag f b.started) others ++ map (of_done f) b.done)))) h.ends_as.same_entry first) (IsPermutation-sym _ _ second))
 
   kept_returned : (rooms : List Request) → IsKept b v rooms → Back b v tag use' others tags' class sense held ended → length v.labels + (v.depth - length v.tags) + 2 ≤ 64 → IsInOrder (view_returned v tags' use'.piece class)
       → IsKept (books_returned b tag ended) (view_returned v tags' use'.piece class) rooms
@@ -221,6 +230,8 @@ module _ (b : Books) (v : AdapterView) (tag : ℕ) (use' : TagInUse) (others tag
           bounded = subst (λ (e : Entry). IsBounded rules e.request) (sym h.ends_as.same_entry) work.0;
           why = outcome_is rules b.removing v held use' sense class ended h.may work.1 h.ends_as;
         });
+        reserved = All-permutation (IsRoom rules v') _ _ (IsPermutation-sym _ _ (packets_returned asked rooms k h))
+          (All-weaker (IsRoom rules v) (IsRoom rules v') (room_moves rules v v' (λ extent r. r)) (of_packets asked b v) k.reserved);
         rooms_out = All-weaker (IsRoom rules v) (IsRoom rules v') (room_moves rules v v' (λ extent r. r)) rooms k.rooms_out;
         removing = k.removing;
         distinct = AreDistinct-DeviceStep rules (state_of b v) (Return use'.piece class) _ k.distinct (machine_returns rooms k h);
@@ -235,7 +246,7 @@ module _ (b : Books) (v : AdapterView) (tag : ℕ) (use' : TagInUse) (others tag
       → Moves (seen_of b v) (Return use'.piece class ∷ []) (seen_of (books_returned b tag ended) (view_returned v tags' use'.piece class))
   return_moves rooms k h = record {
     same_rules = refl;
-    same_packets = packets_returned rooms k h;
+    same_packets = packets_returned packet_as rooms k h;
     same_submitted = refl;
     same_most = refl;
     run = (state_of (books_returned b tag ended) (view_returned v tags' use'.piece class), inl (refl, machine_returns rooms k h), IsSame-refl _);
@@ -258,3 +269,46 @@ module _ (b : Books) (v : AdapterView) (tag : ℕ) (use' : TagInUse) (others tag
         only_starts = r.only_starts;
         moves = moves_then _ _ _ (Return use'.piece class ∷ []) r.starts (return_moves rooms k h) r.moves;
       }
+
+-- ALL OF IT
+
+pub record Finished (b : Books) (v : AdapterView) (tag : ℕ) (b' : Books) (v' : AdapterView) : Type 0 where
+  pub kept : (rooms : List Request) → IsKept b v rooms → IsKept b' v' rooms
+  pub finishes : (c : Books) (w : AdapterView) → Releases b' v' c w → Finishes (seen_of b v) tag (seen_of c w)
+
+pub finished : (b b' : Books) (v v' : AdapterView) (rooms : List Request) (tag : ℕ) (srb : Srb) (completion : Completion) (class : Class)
+    → IsKept b v rooms → label_places (seen_of b v) + 2 ≤ 64 → class ≡ class_of completion → AdapterFinishes v tag srb completion v' → Ends b tag srb class b' → IsInOrder v' → Finished b v tag b' v'
+finished b b' v v' rooms tag srb completion class k space class_is f e order =
+    let r = f.returns in
+    let u : TagInUse = r.use' in
+    let v'' : AdapterView = view_returned v r.tags u.piece class in
+    let v_is : v' ≡ v'' = r.after ∙ ap (λ (n : ℕ). view_returned v r.tags n (class_of completion)) (sym r.is_piece) ∙ ap (λ (x : Class). view_returned v r.tags u.piece x) (sym class_is) in
+    let back : Back b v tag u r.others r.tags class completion.sense e.held e.ended = record {
+      on = r.is_on;
+      may = subst (λ x. MayReturn v u x) (sym class_is) r.may;
+      left = r.in_use;
+      held_is = e.on_tag;
+      ends_as = subst (λ (s : Srb). EndsAs e.held (Packed s) (Returned class) e.ended) f.comes_back e.ends_as;
+    } in
+    let l = length-map v.tags (piece_on (rules_of b.sizes) b.started) in
+    let d = k.sizes.depth in
+    let room : length v.labels + (v.depth - length v.tags) + 2 ≤ 64 = omega arith in
+    subst (λ (x : Books). Finished b v tag x v') (sym e.after) (subst (λ (x : AdapterView). Finished b v tag (books_returned b tag e.ended) x) (sym v_is) (record {
+      kept = λ rs h. kept_returned b v tag u r.others r.tags class completion.sense e.held e.ended rs h back room (subst IsInOrder v_is order);
+      finishes = λ c w releases. finishes_returned b v tag u r.others r.tags class completion.sense e.held e.ended rooms c w k back releases;
+    }))
+
+pub finishes_not : (b : Books) (v v' : AdapterView) (tag : ℕ) → AdapterFinishesNot v tag v' → FinishesNot (seen_of b v) tag (seen_of b v')
+finishes_not b v v' tag h = record {
+  free = All-map (HasOtherTag tag) (piece_on (rules_of b.sizes) b.started) v.tags h.is_free;
+  same = ap (λ (x : AdapterView). seen_of b x) h.same;
+}
+
+pub can_end : (b : Books) (v v' : AdapterView) (rooms : List Request) (tag : ℕ) (srb : Srb) (completion : Completion) → IsKept b v rooms → AdapterFinishes v tag srb completion v'
+    → IsSome (held_on b.started tag) × (length b.done < b.places)
+can_end b v v' rooms tag srb completion k f =
+    let on = f.returns.is_on in
+    let w = on_tag_some (rules_of b.sizes) b.started v.tags f.returns.use' f.returns.others tag k.at_work on.in_use on.has_tag in
+    let t = length_permutation _ _ on.in_use in
+    let c = k.places in
+    (subst IsSome (sym w.1) refl, omega arith)

@@ -13,8 +13,8 @@ use Rattle.device.specs.Rules.{Rules}
 use Rattle.device.specs.Seen.{Seen, IsBounded}
 use Rattle.device.specs.Served.{Reserves}
 use Rattle.port.specs.Books.{Books}
-use Rattle.port.specs.Shown.{rules_of, seen_of}
-use Rattle.port.specs.Kept.{IsKept, IsBusy, IsInHand, IsRoom, IsWaiting}
+use Rattle.port.specs.Shown.{rules_of, seen_of, of_packets}
+use Rattle.port.specs.Kept.{asked, IsKept, IsBusy, IsInHand, IsRoom, IsWaiting}
 use Rattle.port.proofs.Starting.{room_moves, waiting_moves}
 use Rattle.port.proofs.Orderly.{in_hand}
 
@@ -35,6 +35,7 @@ kept_places b v places rooms others counts are k = record {
   in_turn = k.in_turn;
   at_work = k.at_work;
   ended = k.ended;
+  reserved = k.reserved;
   rooms_out = are;
   removing = k.removing;
   distinct = k.distinct;
@@ -57,6 +58,7 @@ kept_reserved b v reserved rooms order lasts k =
       in_turn = k.in_turn;
       at_work = k.at_work;
       ended = k.ended;
+      reserved = All-weaker (IsRoom rules v) (IsRoom rules (with_reserved v reserved)) (room_moves rules v (with_reserved v reserved) lasts) (of_packets asked b v) k.reserved;
       rooms_out = All-weaker (IsRoom rules v) (IsRoom rules (with_reserved v reserved)) (room_moves rules v (with_reserved v reserved) lasts) rooms k.rooms_out;
       removing = k.removing;
       distinct = k.distinct;

@@ -36,8 +36,8 @@ use Rattle.port.specs.declared.queues.Outcome.TheVariants.{Flushed, Gone}
 use Rattle.port.specs.Books.{Entry, Books, entry_of}
 use Rattle.port.specs.Turns.{held_on, IsPacked}
 use Rattle.port.specs.declared.queues.Sizes.{Sizes}
-use Rattle.port.specs.Shown.{rules_of, places_of, open_as, waiting_open, done_open, out_open, out_piece, open_on, piece_on, entry_on, state_of, requests_of, packets_of, waiting_packet, packet_on, done_packet, packet as packet_as}
-use Rattle.port.specs.Kept.{IsKept, IsRoom, IsWaiting, HasEnded, HasOutcome, IsAtWork, IsBefore, AreInTurn}
+use Rattle.port.specs.Shown.{rules_of, places_of, open_as, waiting_open, done_open, out_open, out_piece, open_on, piece_on, entry_on, state_of, requests_of, packets_of, of_packets, of_waiting, of_tag, of_done, packet as packet_as}
+use Rattle.port.specs.Kept.{asked, IsKept, IsRoom, IsWaiting, HasEnded, HasOutcome, IsAtWork, IsBefore, AreInTurn}
 use Rattle.port.specs.Releases.{Releases, AreLowerInUse}
 use Rattle.port.proofs.Lists.{splice_whole, second_front}
 use Rattle.port.proofs.Tags.{others_same, free_leaves}
@@ -220,6 +220,15 @@ work_beside rules started tag x u differs h = record {
   doing = h.doing;
 }
 
+packets_started : {Y : Type 0} (f : Entry → Y) (b : Books) (v : AdapterView) (front : Held) (rest : List Held) (tag : ℕ) (srb : Srb) (packet : Held) (tags' : List TagInUse)
+    → b.waiting ≡ front ∷ rest → entry_of packet ≡ entry_of front → tag < length b.started → IsFree v tag
+    → IsPermutation tags' (in_use_from v tag b.next_piece srb ∷ v.tags)
+    → IsPermutation (of_packets f (books_started b rest tag packet) (view_started v tags' tag b.next_piece srb)) (of_packets f b v)
+packets_started f b v front rest tag srb packet tags' is same inside free p =
+    subst (λ (hs : List Held). IsPermutation (of_packets f (books_started b rest tag packet) (view_started v tags' tag b.next_piece srb)) (map (of_waiting f) hs ++ (map (of_tag f b.started) v.tags ++ map (of_done f) b.done))) (sym is)
+      (subst (λ (e : Entry). IsPermutation (of_packets f (books_started b rest tag packet) (view_started v tags' tag b.next_piece srb)) (f e ∷ (map (of_waiting f) rest ++ (map (of_tag f b.started) v.tags ++ map (of_done f) b.done)))) same
+        (second_front (map (of_waiting f) rest) (map (of_tag f (slice_set b.started tag (Some packet))) tags') (map (of_tag f b.started) v.tags) (map (of_done f) b.done) (f (entry_of packet)) (tags_started (λ e u. f e) b.started tag packet (in_use_from v tag b.next_piece srb) v.tags tags' inside refl free p)))
+
 pub kept_started : (b : Books) (v : AdapterView) (rooms : List Request) (front : Held) (rest : List Held) (tag : ℕ) (srb : Srb) (packet : Held) (tags' : List TagInUse)
     → IsKept b v rooms → b.waiting ≡ front ∷ rest → front.irp.payload ≡ Packed srb → entry_of packet ≡ entry_of front
     → tag < v.depth → IsFree v tag → IsPermutation tags' (in_use_from v tag b.next_piece srb ∷ v.tags)
@@ -253,6 +262,8 @@ kept_started b v rooms front rest tag srb packet tags' k is packs same low free 
           })
           (λ i d below. work_beside rules b.started tag (Some packet) _ (free i d below) (k.at_work i d below)));
       ended = k.ended;
+      reserved = All-permutation (IsRoom rules v') _ _ (IsPermutation-sym _ _ (packets_started asked b v front rest tag srb packet tags' is same inside free p))
+        (All-weaker (IsRoom rules v) (IsRoom rules v') (room_moves rules v v' (λ extent h. h)) (of_packets asked b v) k.reserved);
       rooms_out = All-weaker (IsRoom rules v) (IsRoom rules v') (room_moves rules v v' (λ extent h. h)) rooms k.rooms_out;
       removing = λ r. absurd (cc (k.removing r, is));
       distinct = AreDistinct-DeviceStep rules (state_of b v) (Start b.next_piece tag srb.block) _ k.distinct starts;
@@ -274,7 +285,7 @@ start_moves b v front rest tag srb packet tags' is same inside low free p starts
   only_starts = All-cons IsStart _ [] tt (All-nil IsStart);
   moves = record {
     same_rules = refl;
-    same_packets = packets;
+    same_packets = packets_started packet_as b v front rest tag srb packet tags' is same inside free p;
     same_submitted = refl;
     same_most = refl;
     run = (state_of (books_started b rest tag packet) (view_started v tags' tag b.next_piece srb), inl (refl, starts), IsSame-refl _);
@@ -282,12 +293,6 @@ start_moves b v front rest tag srb packet tags' is same inside low free p starts
       (refl, record { srb = srb; has_block = refl; accepts = record { tags = tags'; is_free = free; below = low; in_use = p; after = refl } });
   };
 }
-  where
-    packets : IsPermutation (packets_of (books_started b rest tag packet) (view_started v tags' tag b.next_piece srb)) (packets_of b v)
-    packets =
-        subst (λ (hs : List Held). IsPermutation (packets_of (books_started b rest tag packet) (view_started v tags' tag b.next_piece srb)) (map waiting_packet hs ++ (map (packet_on b.started) v.tags ++ map done_packet b.done))) (sym is)
-          (subst (λ (e : Entry). IsPermutation (packets_of (books_started b rest tag packet) (view_started v tags' tag b.next_piece srb)) (packet_as e ∷ (map waiting_packet rest ++ (map (packet_on b.started) v.tags ++ map done_packet b.done)))) same
-            (second_front (map waiting_packet rest) _ _ (map done_packet b.done) _ (tags_started (λ e u. packet_as e) b.started tag packet (in_use_from v tag b.next_piece srb) v.tags tags' inside refl free p)))
 
 -- ALL OF ONE START
 

@@ -3,7 +3,7 @@ use Rattle.std.proofs.Common.{◌≡◌, ◌≢◌, ◌<◌, ◌≤◌, ℕ, ◌
 use Rattle.std.specs.Prelude.{All, IsTrue, IsFalse, IsPermutation}
 use Rattle.std.proofs.lemmas.List.{map-append, append_assoc}
 use Rattle.std.proofs.lemmas.List.Elements.{All-nil, All-cons, All-append, All-push, All-head, All-tail, All-weaker}
-use Rattle.std.proofs.lemmas.List.Sorted.{IsPermutation-refl, IsPermutation-trans, IsPermutation-middle}
+use Rattle.std.proofs.lemmas.List.Sorted.{IsPermutation-refl, IsPermutation-sym, IsPermutation-trans, IsPermutation-middle, All-permutation}
 use Rattle.srb.specs.declared.DeviceLabel.{DeviceLabel}
 use Rattle.srb.specs.Adapter.{AdapterView}
 use Rattle.irp.specs.declared.Irp.{Irp}
@@ -17,10 +17,10 @@ use Rattle.device.specs.Seen.{Packet, Carries, sent_bytes, packet_of}
 use Rattle.device.specs.Served.{Submits}
 use Rattle.device.proofs.Numbers.{AreDistinct-Admits}
 use Rattle.port.specs.declared.queues.Held.{Held}
-use Rattle.port.specs.Books.{Books}
+use Rattle.port.specs.Books.{Entry, Books, entry}
 use Rattle.port.specs.Turns.{held_with, Queued}
-use Rattle.port.specs.Shown.{rules_of, most, waiting_open, open_on, done_open, waiting_packet, packet_on, done_packet, state_of, seen_of, packets_of, requests_of}
-use Rattle.port.specs.Kept.{IsKept, IsRoom, IsWaiting, IsBefore, AreInTurn}
+use Rattle.port.specs.Shown.{rules_of, most, waiting_open, open_on, done_open, packet as packet_as, of_packets, of_waiting, of_tag, of_done, state_of, seen_of, packets_of, requests_of}
+use Rattle.port.specs.Kept.{asked, IsKept, IsRoom, IsWaiting, IsBefore, AreInTurn}
 use Rattle.port.specs.Releases.{Releases}
 use Rattle.port.proofs.Sizing.{not_refused, carries_bytes}
 use Rattle.port.proofs.Starting.{kept_sector_some}
@@ -86,6 +86,11 @@ opens_queued b v irp r rooms k m =
         subst (λ ws. IsPermutation (ws ++ (map (open_on rules b.started) v.tags ++ map (done_open rules) b.done)) (new_request rules (state_of b v) irp.number (as_client rules r (sent_bytes r.kind irp.payload)) ∷ (map (waiting_open rules) b.waiting ++ (map (open_on rules b.started) v.tags ++ map (done_open rules) b.done)))) (sym (map-append (waiting_open rules) b.waiting (held_with irp r ∷ [])))
           (subst (λ (x : OpenRequest). IsPermutation ((map (waiting_open rules) b.waiting ++ waiting_open rules (held_with irp r) ∷ []) ++ (map (open_on rules b.started) v.tags ++ map (done_open rules) b.done)) (x ∷ (map (waiting_open rules) b.waiting ++ (map (open_on rules b.started) v.tags ++ map (done_open rules) b.done)))) e p)
 
+packets_queued : {Y : Type 0} (f : Entry → Y) (b : Books) (v : AdapterView) (irp : Irp) (r : Request) → IsPermutation (of_packets f (books_queued b irp r) v) (f (entry irp r) ∷ of_packets f b v)
+packets_queued {Y} f b v irp r =
+    subst (λ (ws : List Y). IsPermutation (ws ++ (map (of_tag f b.started) v.tags ++ map (of_done f) b.done)) (f (entry irp r) ∷ of_packets f b v)) (sym (map-append (of_waiting f) b.waiting (held_with irp r ∷ [])))
+      (behind_all (map (of_waiting f) b.waiting) (f (entry irp r)) (map (of_tag f b.started) v.tags ++ map (of_done f) b.done))
+
 kept_queued : (b : Books) (v : AdapterView) (irp : Irp) (r : Request) (rooms : List Request) → IsKept b v (r ∷ rooms) → MayQueue b irp r → IsKept (books_queued b irp r) v rooms
 kept_queued b v irp r rooms k m =
     let rules : Rules = rules_of b.sizes in
@@ -101,6 +106,7 @@ kept_queued b v irp r rooms k m =
       in_turn = turn_push b.waiting (held_with irp r) below k.in_turn;
       at_work = k.at_work;
       ended = k.ended;
+      reserved = All-permutation (IsRoom rules v) _ _ (IsPermutation-sym _ _ (packets_queued asked b v irp r)) (All-cons (IsRoom rules v) r (of_packets asked b v) room k.reserved);
       rooms_out = All-tail (IsRoom rules v) r rooms k.rooms_out;
       removing = λ removes. true_false b.removing removes m.stays;
       distinct = AreDistinct-Admits rules (state_of b v) irp.number (as_client rules r (sent_bytes r.kind irp.payload)) None (state_of (books_queued b irp r) v) m.number k.distinct (opens_queued b v irp r rooms k m);
@@ -120,18 +126,13 @@ submits_queued b v irp r rooms b' v' k m h = record {
   only_starts = h.only_starts;
   moves = record {
     same_rules = h.moves.same_rules;
-    same_packets = IsPermutation-trans _ _ _ h.moves.same_packets packets;
+    same_packets = IsPermutation-trans _ _ _ h.moves.same_packets (packets_queued packet_as b v irp r);
     same_submitted = h.moves.same_submitted;
     same_most = h.moves.same_most;
     run = h.moves.run;
     adapter = h.moves.adapter;
   };
 }
-  where
-    packets : IsPermutation (packets_of (books_queued b irp r) v) (packet_of irp ∷ packets_of b v)
-    packets =
-        subst (λ (ws : List Packet). IsPermutation (ws ++ (map (packet_on b.started) v.tags ++ map done_packet b.done)) (packet_of irp ∷ packets_of b v)) (sym (map-append waiting_packet b.waiting (held_with irp r ∷ [])))
-          (behind_all (map waiting_packet b.waiting) (packet_of irp) (map (packet_on b.started) v.tags ++ map done_packet b.done))
 
 -- as the queues say it
 pub queued_kept : (b : Books) (v : AdapterView) (irp : Irp) (r : Request) (b' : Books) → Queued b irp r b' → MayQueue b irp r → (rooms : List Request) → IsKept b v (r ∷ rooms) → IsKept b' v rooms

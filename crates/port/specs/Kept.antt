@@ -17,9 +17,9 @@ use Rattle.port.specs.declared.queues.Held.{Held}
 use Rattle.port.specs.declared.queues.Ended.{Ended}
 use Rattle.port.specs.declared.queues.Outcome.{Outcome}
 use Rattle.port.specs.declared.queues.Outcome.TheVariants.{Returned, Flushed, Gone}
-use Rattle.port.specs.Books.{Books}
+use Rattle.port.specs.Books.{Entry, Books}
 use Rattle.port.specs.Turns.{held_on}
-use Rattle.port.specs.Shown.{rules_of, state_of, seen_of, places_of, sectors_moved, most}
+use Rattle.port.specs.Shown.{rules_of, of_packets, state_of, seen_of, places_of, sectors_moved, most}
 
 -- the sizes are the adapter's
 pub record AreSizes (sizes : Sizes) (v : AdapterView) : Type 0 where
@@ -70,6 +70,10 @@ pub record HasEnded (rules : Rules) (removing : Bool) (d : Ended) : Type 0 where
   pub bounded : IsBounded rules d.request
   pub why : HasOutcome rules removing d d.outcome
 
+-- what a packet asks for
+abbrev pub asked : Entry → Request
+asked e = e.request
+
 -- what holds at every moment, the moments between two starts among them
 pub record IsKept (b : Books) (v : AdapterView) (rooms : List Request) : Type 0 where
   pub adapter : IsInOrder v
@@ -79,6 +83,7 @@ pub record IsKept (b : Books) (v : AdapterView) (rooms : List Request) : Type 0 
   pub in_turn : AreInTurn b.waiting
   pub at_work : All (IsAtWork (rules_of b.sizes) b.started) v.tags
   pub ended : All (HasEnded (rules_of b.sizes) b.removing) b.done
+  pub reserved : All (IsRoom (rules_of b.sizes) v) (of_packets asked b v)
   pub rooms_out : All (IsRoom (rules_of b.sizes) v) rooms
   pub removing : IsTrue b.removing → b.waiting ≡ []
   pub distinct : AreDistinct (state_of b v)

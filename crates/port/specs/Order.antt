@@ -17,6 +17,7 @@ kept_any_order b v some others same h = record {
   in_turn = h.in_turn;
   at_work = h.at_work;
   ended = h.ended;
+  reserved = h.reserved;
   rooms_out = All-permutation (IsRoom (rules_of b.sizes) v) _ _ same h.rooms_out;
   removing = h.removing;
   distinct = h.distinct;

@@ -134,14 +134,14 @@ open_on rules started use' = out_open rules (entry_on started use'.tag) use'
 abbrev pub piece_on : Rules → List (Option Held) → TagInUse → Piece
 piece_on rules started use' = out_piece rules (entry_on started use'.tag) use'
 
-abbrev pub packet_on : List (Option Held) → TagInUse → Packet
-packet_on started use' = packet (entry_on started use'.tag)
+abbrev pub of_waiting : {Y : Type 0} → (Entry → Y) → Held → Y
+of_waiting f held = f (entry_of held)
 
-abbrev pub waiting_packet : Held → Packet
-waiting_packet held = packet (entry_of held)
+abbrev pub of_tag : {Y : Type 0} → (Entry → Y) → List (Option Held) → TagInUse → Y
+of_tag f started use' = f (entry_on started use'.tag)
 
-abbrev pub done_packet : Ended → Packet
-done_packet d = packet (ended_entry d)
+abbrev pub of_done : {Y : Type 0} → (Entry → Y) → Ended → Y
+of_done f d = f (ended_entry d)
 
 -- WHAT IS SHOWN
 
@@ -150,8 +150,12 @@ requests_of b v =
     map (waiting_open (rules_of b.sizes)) b.waiting
     ++ (map (open_on (rules_of b.sizes) b.started) v.tags ++ map (done_open (rules_of b.sizes)) b.done)
 
+-- something of each packet
+abbrev pub of_packets : {Y : Type 0} → (Entry → Y) → Books → AdapterView → List Y
+of_packets {Y} f b v = map (of_waiting f) b.waiting ++ (map (of_tag f b.started) v.tags ++ map (of_done f) b.done)
+
 abbrev pub packets_of : Books → AdapterView → List Packet
-packets_of b v = map waiting_packet b.waiting ++ (map (packet_on b.started) v.tags ++ map done_packet b.done)
+packets_of b v = of_packets packet b v
 
 abbrev pub state_of : Books → AdapterView → State
 state_of b v = record {
