@@ -1,12 +1,12 @@
 -- A packet that has ended is handed up; where there is none, the port is settled.
-use Rattle.std.proofs.Common.{◌≡◌, ◌≢◌, ◌<◌, ◌≤◌, ◌⊎◌, inl, inr, ℕ, zero, suc, ◌+◌, Bool, true, false, List, [], ◌∷◌, ◌++◌, Option, Some, None, refl, sym, subst, ap, ◌∙◌, arith, map, length, get_or, replicate}
-use Rattle.std.specs.Prelude.{◌↔◌, All, IsTrue, IsFalse, IsPermutation}
+use Rattle.std.proofs.Common.{◌≡◌, ◌≢◌, ◌<◌, ◌≤◌, ◌⊎◌, inl, inr, ℕ, zero, suc, ◌+◌, ◌*◌, ◌^◌, Bool, true, false, List, [], ◌∷◌, ◌++◌, Option, Some, None, refl, sym, subst, ap, ◌∙◌, arith, map, length, get_or, replicate}
+use Rattle.std.specs.Prelude.{◌↔◌, if◌then◌else◌, All, IsTrue, IsFalse, IsPermutation}
 use Rattle.std.specs.List.{list_all, concat}
 use Rattle.std.proofs.lemmas.List.{length-replicate, length-map, nil_from_length}
 use Rattle.std.proofs.lemmas.List.Elements.{All-nil, All-cons, All-map, All-weaker, All-replicate, All-head, All-tail}
 use Rattle.std.proofs.lemmas.List.Sorted.{IsPermutation-refl, IsPermutation-sym, IsPermutation-trans, IsPermutation-append_right, IsPermutation-middle, All-permutation}
 use Rattle.ntstatus.specs.declared.NtStatus.{NtStatus}
-use Rattle.ntstatus.specs.declared.NtStatus.TheVariants.{Success, DeviceBusy, Cancelled, NoSuchDevice}
+use Rattle.ntstatus.specs.declared.NtStatus.TheVariants.{Success, DeviceBusy, Cancelled, NoSuchDevice, DeletePending}
 use Rattle.srb.specs.declared.Class.TheVariants.{Good, Busy, Bad}
 use Rattle.srb.specs.Adapter.{AdapterView, TagInUse}
 use Rattle.irp.specs.declared.Climb.{Climb}
@@ -23,6 +23,8 @@ use Rattle.device.specs.Settled.{Settled, IsHeld, WaitsIfCancelled, Waits, IsAll
 use Rattle.device.specs.Seen.{Carries, payload_bytes}
 use Rattle.device.specs.Served.{HandsUp, HandsUpNone, IsUnfinished, IsStart, information}
 use Rattle.device.proofs.Same.{IsSame-refl}
+use Rattle.device.specs.declared.Label.TheVariants.{Answer}
+use Rattle.device.proofs.Numbers.{AreDistinct-Step}
 use Rattle.device.proofs.Earned.{bad_status}
 use Rattle.port.specs.declared.queues.Held.{Held}
 use Rattle.port.specs.declared.queues.Ended.{Ended}
@@ -34,7 +36,7 @@ use Rattle.port.specs.Shown.{rules_of, places_of, sectors_moved, marks_left, bus
 use Rattle.port.specs.Kept.{asked, IsKept, IsInHand, IsBusy, IsRoom, IsWaiting, HasOutcome, HasEnded as HasEndedBy, IsAtWork as IsOnTag}
 use Rattle.port.proofs.Lists.{all_done, bytes_done}
 use Rattle.port.proofs.Labels.{unseen_none}
-use Rattle.port.proofs.Sizing.{places_some}
+use Rattle.port.proofs.Sizing.{places_some, bytes_short}
 use Rattle.port.proofs.Opening.{untouched_all, started_by, out_by, true_false}
 use Rattle.port.proofs.Starting.{kept_sector_some}
 use Rattle.port.proofs.Orderly.{all_three, in_hand}
@@ -129,3 +131,167 @@ hands_up_none b b' v rooms k h = record {
   settled = settled b v rooms k h.none_ended;
   same = ap (λ (x : Books). seen_of x v) h.same;
 }
+
+-- WHAT HAS ENDED
+
+-- what is promised of a packet as it is handed up, in its outcome's terms
+record IsHanded (rules : Rules) (s : State) (o : OpenRequest) (r : Request) (payload : Payload) (status : NtStatus) : Type 0 where
+  ended : All (HasEnded rules s o) o.marks
+  success : (status ≡ Success) ↔ IsTrue (list_all is_done o.marks)
+  cause : HasCause rules s o o.marks status
+  carries : status ≡ DeviceBusy → Carries true rules r payload
+  brings : r.kind ≡ Read → status ≡ Success → payload_bytes payload ≡ answer_bytes r.kind o.marks
+
+cause_done : (rules : Rules) (s : State) (o : OpenRequest) (sectors : List (List ℕ)) (status : NtStatus) → HasCause rules s o (map Done sectors) status
+cause_done rules s o [] status = tt
+cause_done rules s o (x ∷ xs) status = cause_done rules s o xs status
+
+cause_first : (rules : Rules) (s : State) (o : OpenRequest) (mark : Mark) (n : ℕ) (status : NtStatus) → is_done mark ≡ false → Cause rules s o mark status → HasCause rules s o (replicate n mark) status
+cause_first rules s o mark zero status waits h = tt
+cause_first rules s o Untouched (suc n) status waits h = h
+cause_first rules s o Out (suc n) status waits h = h
+cause_first rules s o (Failed failure) (suc n) status waits h = h
+cause_first rules s o Back (suc n) status waits h = h
+cause_first rules s o (Done sector) (suc n) status waits h = absurd (cc (waits))
+
+none_done : (mark : Mark) (n : ℕ) → 0 < n → is_done mark ≡ false → list_all is_done (replicate n mark) ≡ false
+none_done mark zero some waits = absurd (omega arith)
+none_done mark (suc n) some waits = rw waits refl
+
+-- a packet of which no place is done
+handed_alike : (rules : Rules) (s : State) (o : OpenRequest) (r : Request) (payload : Payload) (status : NtStatus) (mark : Mark) → o.marks ≡ replicate (places_of rules r) mark → 0 < places_of rules r
+    → is_done mark ≡ false → Cause rules s o mark status → status ≢ Success → (status ≡ DeviceBusy → Carries true rules r payload) → IsHanded rules s o r payload status
+handed_alike rules s o r payload status mark are some waits cause fails carries = record {
+  ended = subst (All (HasEnded rules s o)) (sym are) (All-replicate (HasEnded rules s o) (places_of rules r) mark (inr (status, cause)));
+  success = (λ e. absurd (fails e), λ all. true_false (list_all is_done o.marks) all (subst (λ ms. list_all is_done ms ≡ false) (sym are) (none_done mark (places_of rules r) some waits)));
+  cause = subst (λ ms. HasCause rules s o ms status) (sym are) (cause_first rules s o mark (places_of rules r) status waits cause);
+  carries = carries;
+  brings = λ _ e. absurd (fails e);
+}
+
+handed : (rules : Rules) (s : State) (o : OpenRequest) (d : Ended) (outcome : Outcome) → rules.busy_limit ≤ 1 → 0 < places_of rules d.request → o.late ≡ false → o.cancelled ≡ d.irp.cancelled
+    → o.marks ≡ marks_left rules d.request d.irp.payload outcome → o.busy_returns ≡ busy_left outcome → HasOutcome rules s.removing d outcome → IsHanded rules s o d.request d.irp.payload (status_left outcome)
+handed rules s o d (Returned Good) limit some timely same are busy why = record {
+  ended = subst (All (HasEnded rules s o)) (sym are) (All-map (HasEnded rules s o) Done (sectors_moved rules d.request d.irp.payload) (λ k x low. inl refl));
+  success = (λ _. subst (λ ms. list_all is_done ms ≡ true) (sym are) (all_done (sectors_moved rules d.request d.irp.payload)), λ _. refl);
+  cause = subst (λ ms. HasCause rules s o ms Success) (sym are) (cause_done rules s o (sectors_moved rules d.request d.irp.payload) Success);
+  carries = λ e. absurd (cc (e));
+  brings = λ is _. sym (rw (is, are, all_done, bytes_done) why);
+}
+handed rules s o d (Returned Busy) limit some timely same are busy why =
+    handed_alike rules s o d.request d.irp.payload DeviceBusy Back are some refl (inr (omega arith, refl)) (λ e. absurd (cc (e))) (λ _. why)
+handed rules s o d (Returned (Bad completion)) limit some timely same are busy why =
+    let b = bad_status completion why in
+    handed_alike rules s o d.request d.irp.payload (status_of_completion completion) (Failed (status_of_completion completion)) are some refl refl b.0 (λ e. absurd (b.1 e))
+handed rules s o d Flushed limit some timely same are busy why =
+    handed_alike rules s o d.request d.irp.payload Cancelled Untouched are some refl (inl (same ∙ why, refl)) (λ e. absurd (cc (e))) (λ e. absurd (cc (e)))
+handed rules s o d Gone limit some timely same are busy why =
+    handed_alike rules s o d.request d.irp.payload NoSuchDevice Untouched are some refl (inr (why, late_is o.late timely)) (λ e. absurd (cc (e))) (λ e. absurd (cc (e)))
+  where
+    late_is : (late : Bool) → late ≡ false → NoSuchDevice ≡ (if late then DeletePending else NoSuchDevice)
+    late_is true e = absurd (cc (e))
+    late_is false e = refl
+
+-- from the third part of three
+third_front : {X : Type 0} (first second third : List X) (x : X) → IsPermutation (first ++ (second ++ x ∷ third)) (x ∷ (first ++ (second ++ third)))
+third_front first second third x = IsPermutation-trans _ _ _ (IsPermutation-append_right first _ _ (IsPermutation-middle second x third)) (IsPermutation-middle first x (second ++ third))
+
+abbrev books_left : Books → List Ended → Books
+books_left b rest = record b { done = rest }
+
+open_left : (b : Books) (v : AdapterView) (d : Ended) (rest : List Ended) → b.done ≡ d ∷ rest → IsPermutation (requests_of b v) (done_open (rules_of b.sizes) d ∷ requests_of (books_left b rest) v)
+open_left b v d rest is =
+    let rules : Rules = rules_of b.sizes in
+    subst (λ (ds : List Ended). IsPermutation (map (waiting_open rules) b.waiting ++ (map (open_on rules b.started) v.tags ++ map (done_open rules) ds)) (done_open rules d ∷ requests_of (books_left b rest) v)) (sym is)
+      (third_front (map (waiting_open rules) b.waiting) (map (open_on rules b.started) v.tags) (map (done_open rules) rest) (done_open rules d))
+
+packets_left : {Y : Type 0} (f : Entry → Y) (b : Books) (v : AdapterView) (d : Ended) (rest : List Ended) → b.done ≡ d ∷ rest → IsPermutation (of_packets f b v) (f (ended_entry d) ∷ of_packets f (books_left b rest) v)
+packets_left f b v d rest is =
+    subst (λ (ds : List Ended). IsPermutation (map (of_waiting f) b.waiting ++ (map (of_tag f b.started) v.tags ++ map (of_done f) ds)) (f (ended_entry d) ∷ of_packets f (books_left b rest) v)) (sym is)
+      (third_front (map (of_waiting f) b.waiting) (map (of_tag f b.started) v.tags) (map (of_done f) rest) (f (ended_entry d)))
+
+answers_left : (b : Books) (v : AdapterView) (rooms : List Request) (d : Ended) (rest : List Ended) → IsKept b v rooms → b.done ≡ d ∷ rest
+    → IsHanded (rules_of b.sizes) (state_of b v) (done_open (rules_of b.sizes) d) d.request d.irp.payload (status_left d.outcome)
+    → Answers (rules_of b.sizes) (state_of b v) d.irp.number (status_left d.outcome) (answer_bytes d.request.kind (marks_left (rules_of b.sizes) d.request d.irp.payload d.outcome)) (state_of (books_left b rest) v)
+answers_left b v rooms d rest k is h = record {
+  request = done_open (rules_of b.sizes) d;
+  others = requests_of (books_left b rest) v;
+  is_open = open_left b v d rest is;
+  is_number = refl;
+  ended = h.ended;
+  success = h.success;
+  cause = h.cause;
+  hands_back = refl;
+  after = IsSame-refl _;
+}
+
+is_handed : (b : Books) (v : AdapterView) (rooms : List Request) (d : Ended) (rest : List Ended) → IsKept b v rooms → b.done ≡ d ∷ rest
+    → IsHanded (rules_of b.sizes) (state_of b v) (done_open (rules_of b.sizes) d) d.request d.irp.payload (status_left d.outcome)
+is_handed b v rooms d rest k is =
+    let rules : Rules = rules_of b.sizes in
+    let e : HasEndedBy rules b.removing d = All-head (HasEndedBy rules b.removing) d rest (subst (All (HasEndedBy rules b.removing)) is k.ended) in
+    handed rules (state_of b v) (done_open rules d) d d.outcome (omega arith) (places_some b.sizes d.request (kept_sector_some b v rooms k) e.bounded) refl refl refl refl e.why
+
+kept_left : (b : Books) (v : AdapterView) (rooms : List Request) (d : Ended) (rest : List Ended) → IsKept b v rooms → b.done ≡ d ∷ rest → IsKept (books_left b rest) v (d.request ∷ rooms)
+kept_left b v rooms d rest k is =
+    let rules : Rules = rules_of b.sizes in
+    let all : All (IsRoom rules v) (d.request ∷ of_packets asked (books_left b rest) v) = All-permutation (IsRoom rules v) _ _ (packets_left asked b v d rest is) k.reserved in
+    let l = ap (λ (ds : List Ended). length ds) is in
+    record {
+      adapter = k.adapter;
+      sizes = k.sizes;
+      started = k.started;
+      waiting = k.waiting;
+      in_turn = k.in_turn;
+      at_work = k.at_work;
+      ended = All-tail (HasEndedBy rules b.removing) d rest (subst (All (HasEndedBy rules b.removing)) is k.ended);
+      reserved = All-tail (IsRoom rules v) d.request _ all;
+      rooms_out = All-cons (IsRoom rules v) d.request rooms (All-head (IsRoom rules v) d.request _ all) k.rooms_out;
+      removing = k.removing;
+      distinct = AreDistinct-Step rules (state_of b v) (Answer d.irp.number (status_left d.outcome) (answer_bytes d.request.kind (marks_left rules d.request d.irp.payload d.outcome))) _ k.distinct (inl (refl, answers_left b v rooms d rest k is (is_handed b v rooms d rest k is)));
+      places = let c = k.places in omega arith;
+      submitted = k.submitted;
+      accepted = k.accepted;
+      numbered = k.numbered;
+      labels = k.labels;
+    }
+
+pub hand_left : (b b' : Books) (v : AdapterView) (d : Ended) → Leaves b d b' → (rooms : List Request) → IsInHand b v rooms → IsInHand b' v (d.request ∷ rooms)
+hand_left b b' v d h rooms k = subst (λ x. IsInHand x v (d.request ∷ rooms)) (sym h.after) (in_hand (books_left b h.rest) v (d.request ∷ rooms) (kept_left b v rooms d h.rest k.kept h.is_front) k.busy)
+
+-- the status and the information are as they were computed
+pub hands_up : (b b' : Books) (v : AdapterView) (rooms : List Request) (d : Ended) (status : NtStatus) (bytes_moved : ℕ) (climb : Climb) → IsInHand b v rooms → Leaves b d b'
+    → status ≡ status_left d.outcome → bytes_moved ≡ information (as_client (rules_of b'.sizes) d.request []) status
+    → Climbs (entry d.irp d.request).above d.irp.number d.irp.cancelled status bytes_moved d.irp.payload climb → HandsUp true (seen_of b v) d.request climb (seen_of b' v)
+unfolding answers_left
+hands_up b b' v rooms d status bytes_moved climb k h status_is moved_is climbs =
+    let rules : Rules = rules_of b.sizes in
+    let x = is_handed b v rooms d h.rest k.kept h.is_front in
+    subst (λ (y : Books). HandsUp true (seen_of b v) d.request climb (seen_of y v)) (sym h.after) (record {
+      packet = packet_as (ended_entry d);
+      others = of_packets packet_as (books_left b h.rest) v;
+      payload = d.irp.payload;
+      status = status_left d.outcome;
+      bytes = answer_bytes d.request.kind (marks_left rules d.request d.irp.payload d.outcome);
+      answered = state_of (books_left b h.rest) v;
+      starts = [];
+      is_in = packets_left packet_as b v d h.rest h.is_front;
+      answers = answers_left b v rooms d h.rest k.kept h.is_front x;
+      is_request = refl;
+      carries = x.carries;
+      brings = x.brings;
+      climbs = subst (λ (st : NtStatus). Climbs (entry d.irp d.request).above d.irp.number d.irp.cancelled st (information (as_client rules d.request []) st) d.irp.payload climb) status_is
+          (subst (λ (n : ℕ). Climbs (entry d.irp d.request).above d.irp.number d.irp.cancelled status n d.irp.payload climb) (subst (λ (y : Books). bytes_moved ≡ information (as_client (rules_of y.sizes) d.request []) status) h.after moved_is) climbs);
+      only_starts = All-nil IsStart;
+      moves = record { same_rules = refl; same_packets = IsPermutation-refl _; same_submitted = refl; same_most = refl; run = IsSame-refl _; adapter = unseen_none v };
+    })
+
+pub moved_few : (b b' : Books) (v : AdapterView) (rooms : List Request) (d : Ended) → IsInHand b v rooms → Leaves b d b' → d.request.extent.count * b'.sizes.sector_size < 2 ^ 64
+moved_few b b' v rooms d k h =
+    let rules : Rules = rules_of b.sizes in
+    let e : HasEndedBy rules b.removing d = All-head (HasEndedBy rules b.removing) d h.rest (subst (All (HasEndedBy rules b.removing)) h.is_front k.kept.ended) in
+    let m = k.kept.adapter.max_transfer.1 in
+    let m' = k.kept.sizes.max_transfer in
+    let s' = k.kept.sizes.sector_size in
+    let small : v.sector_size ≤ 4096 = elim k.kept.adapter.sector_size [ inl e ↦ omega arith | inr e ↦ omega arith ] in
+    subst (λ (x : Books). d.request.extent.count * x.sizes.sector_size < 2 ^ 64) (sym h.after) (bytes_short b.sizes d.request (omega arith) (omega arith) e.bounded)

@@ -9,3 +9,4 @@ pub mod Submitting
 pub mod Rooms
 pub mod Returning
 pub mod Handing
+pub mod Acting

@@ -170,11 +170,14 @@ impl<A: Adapter> Device for Port<A> {
     }
 
     fn take_done(&mut self) -> Option<(Climb, PortRoom)> {
-        let Ended {
+        let Some(Ended {
             irp,
             request,
             outcome,
-        } = self.queues.take_done()?;
+        }) = self.queues.take_done()
+        else {
+            return None;
+        };
         let status = outcome.status();
         let information = information(&request, &self.queues.sizes, status);
         Some((complete(irp, status, information), PortRoom { request }))

@@ -1,0 +1,199 @@
+-- A piece is carried out, or faults.
+use Rattle.std.proofs.Common.{◌≡◌, ◌≢◌, ◌<◌, ◌≤◌, ◌⊎◌, inl, inr, ℕ, zero, suc, ◌+◌, ◌-◌, ◌*◌, ◌/◌, Bool, true, false, List, [], ◌∷◌, ◌++◌, Option, Some, None, refl, sym, subst, ap, ◌∙◌, arith, map, length, take, drop, get_or, set, replicate}
+use Rattle.std.specs.Prelude.{All, Contains, IsTrue, IsFalse, IsPermutation, slice_get, slice_set, slice_index, if◌then◌else◌}
+use Rattle.std.specs.List.{concat, slice_range}
+use Rattle.std.proofs.lemmas.List.{length-append, length-map, take_all, length-take, length-drop}
+use Rattle.std.proofs.lemmas.List.Elements.{All-nil, All-cons, All-weaker, All-head, All-tail, All-take, All-drop}
+use Rattle.std.proofs.lemmas.List.Sorted.{IsPermutation-refl, IsPermutation-sym, IsPermutation-trans, IsPermutation-append_left, IsPermutation-append_right, All-permutation, Contains-permutation, length_permutation}
+use Rattle.sector.specs.declared.Extent.{Extent}
+use Rattle.sector.specs.Splice.{splice}
+use Rattle.cdb.specs.declared.Cdb.{Cdb}
+use Rattle.cdb.specs.declared.Cdb.TheVariants.{Read10, Write10, Sync10, ReadCapacity10}
+use Rattle.cdb.specs.Meaning.{Means}
+use Rattle.srb.specs.declared.Srb.{Srb}
+use Rattle.srb.specs.declared.DeviceLabel.{DeviceLabel}
+use Rattle.srb.specs.declared.DeviceLabel.TheVariants.{Act, Fault}
+use Rattle.srb.specs.Fate.{Fate, Fresh, Acted, Faulted}
+use Rattle.srb.specs.Performing.{Performs, IsSector}
+use Rattle.srb.specs.Adapter.{AdapterView, TagInUse, IsInOrder, IsOn, HasNotTag, ActsOn as AdapterActsOn, FaultsOn as AdapterFaultsOn, IsReserved, acted, faulted}
+use Rattle.miniport.specs.Calls.{Acts as AdapterActs, ActsNot as AdapterActsNot}
+use Rattle.irp.specs.declared.Payload.{Payload}
+use Rattle.irp.specs.declared.Payload.TheVariants.{Srb as Packed}
+use Rattle.device.specs.declared.Kind.{Kind}
+use Rattle.device.specs.declared.Kind.TheVariants.{Read, Write, Flush}
+use Rattle.device.specs.declared.ClientRequest.{ClientRequest}
+use Rattle.device.specs.declared.Request.{Request}
+use Rattle.device.specs.Rules.{Rules, as_client, home, is_transfer}
+use Rattle.device.specs.State.{OpenRequest, Piece, State, IsSame}
+use Rattle.device.specs.Sending.{Acts, Faults, IsFreshPiece, with_fate, Moves as MovesSectors, command_for}
+use Rattle.device.specs.Seen.{AsksFor, IsBounded, whole_command, sent_bytes, sectors_in, label_places}
+use Rattle.device.specs.Served.{ActsOn, ActsNot, IsFreshOn, Moves}
+use Rattle.device.proofs.Same.{IsSame-refl}
+use Rattle.device.proofs.Splicing.{length-splice}
+use Rattle.device.proofs.Numbers.{AreDistinct-DeviceStep}
+use Rattle.port.specs.declared.queues.Sizes.{Sizes}
+use Rattle.port.specs.declared.queues.Held.{Held}
+use Rattle.port.specs.Books.{Entry, Books, entry_of}
+use Rattle.port.specs.Turns.{held_on}
+use Rattle.port.specs.Shown.{rules_of, places_of, sectors_moved, cut, waiting_open, done_open, out_open, out_piece, open_on, piece_on, entry_on, packet as packet_as, of_packets, of_waiting, of_tag, of_done, state_of, seen_of, requests_of}
+use Rattle.port.specs.Kept.{asked, IsKept, IsInHand, IsBusy, IsRoom, IsWaiting, IsAtWork, IsDoing}
+use Rattle.port.proofs.Lists.{cut-concat, second_front}
+use Rattle.port.proofs.Labels.{moves_one}
+use Rattle.port.proofs.Sizing.{volume_zero, sectors_are, places_transfer, places_flush, inside_disk}
+use Rattle.port.proofs.Starting.{room_moves, waiting_moves, kept_sector_some}
+use Rattle.port.proofs.Returning.{tags_on, on_tag_work, on_tag_some}
+use Rattle.port.proofs.Orderly.{in_hand}
+
+-- the view with other tags, other sectors, failures and one label more
+abbrev pub view_acted : AdapterView → List (List ℕ) → List TagInUse → ℕ → DeviceLabel → AdapterView
+view_acted v sectors tags failures label = record v { sectors = sectors; tags = tags; failures = failures; labels = v.labels ++ label ∷ [] }
+
+-- the one array is the disk
+pub whole_disk : (sectors : List (List ℕ)) (count : ℕ) → count ≡ length sectors → slice_range sectors 0 (0 + count) ≡ sectors
+whole_disk sectors count e = take_all (0 + count - 0) sectors (omega arith)
+
+-- WHICH COMMAND IS CARRIED OUT
+
+clash : (code a b : ℕ) → code ≡ a → code ≡ b → (a < b) ⊎ (b < a) → ⊥
+clash code a b h k (inl low) = absurd (omega arith)
+clash code a b h k (inr low) = absurd (omega arith)
+
+as_read : (block : List ℕ) (size : ℕ) (sectors : List (List ℕ)) (bytes : List ℕ) (command : Cdb) (moved after : List (List ℕ)) (first count : ℕ) (through : Bool)
+    → Means block (Read10 first count through) → Means block command → Performs size sectors bytes command moved after → Performs size sectors bytes (Read10 first count through) moved after
+as_read block size sectors bytes (Read10 lba blocks fua) moved after first count through m w p =
+    subst (λ x. Performs size sectors bytes (Read10 x count through) moved after) (sym w.1.address ∙ m.1.address) (subst (λ x. Performs size sectors bytes (Read10 lba x through) moved after) (sym w.1.blocks ∙ m.1.blocks) p)
+as_read block size sectors bytes (Write10 lba blocks fua) moved after first count through m w p = absurd (clash (slice_index block 0) 40 42 m.0.operation w.0.operation (inl (omega arith)))
+as_read block size sectors bytes (Sync10 lba blocks) moved after first count through m w p = absurd (clash (slice_index block 0) 40 53 m.0.operation w.0.operation (inl (omega arith)))
+as_read block size sectors bytes ReadCapacity10 moved after first count through m w p = absurd (clash (slice_index block 0) 40 37 m.0.operation w.operation (inr (omega arith)))
+
+as_write : (block : List ℕ) (size : ℕ) (sectors : List (List ℕ)) (bytes : List ℕ) (command : Cdb) (moved after : List (List ℕ)) (first count : ℕ) (through : Bool)
+    → Means block (Write10 first count through) → Means block command → Performs size sectors bytes command moved after → Performs size sectors bytes (Write10 first count through) moved after
+as_write block size sectors bytes (Write10 lba blocks fua) moved after first count through m w p =
+    subst (λ x. Performs size sectors bytes (Write10 x count through) moved after) (sym w.1.address ∙ m.1.address) (subst (λ x. Performs size sectors bytes (Write10 lba x through) moved after) (sym w.1.blocks ∙ m.1.blocks) p)
+as_write block size sectors bytes (Read10 lba blocks fua) moved after first count through m w p = absurd (clash (slice_index block 0) 42 40 m.0.operation w.0.operation (inr (omega arith)))
+as_write block size sectors bytes (Sync10 lba blocks) moved after first count through m w p = absurd (clash (slice_index block 0) 42 53 m.0.operation w.0.operation (inl (omega arith)))
+as_write block size sectors bytes ReadCapacity10 moved after first count through m w p = absurd (clash (slice_index block 0) 42 37 m.0.operation w.operation (inr (omega arith)))
+
+as_flush : (block : List ℕ) (size : ℕ) (sectors : List (List ℕ)) (bytes : List ℕ) (command : Cdb) (moved after : List (List ℕ)) (first count : ℕ)
+    → Means block (Sync10 first count) → Means block command → Performs size sectors bytes command moved after → Performs size sectors bytes (Sync10 first count) moved after
+as_flush block size sectors bytes (Sync10 lba blocks) moved after first count m w p = p
+as_flush block size sectors bytes (Read10 lba blocks fua) moved after first count m w p = absurd (clash (slice_index block 0) 53 40 m.0.operation w.0.operation (inr (omega arith)))
+as_flush block size sectors bytes (Write10 lba blocks fua) moved after first count m w p = absurd (clash (slice_index block 0) 53 42 m.0.operation w.0.operation (inr (omega arith)))
+as_flush block size sectors bytes ReadCapacity10 moved after first count m w p = absurd (clash (slice_index block 0) 53 37 m.0.operation w.operation (inr (omega arith)))
+
+-- WHAT IT MOVES
+
+abbrev the_arrays : Rules → List (List ℕ) → List (List (List ℕ))
+the_arrays rules sectors = map (sectors_in sectors) rules.partitions
+
+abbrev with_moved : Srb → List (List ℕ) → List ℕ → Srb
+with_moved srb moved left = record srb { «data» = concat moved; for_label = left }
+
+-- a piece of all places of a request, carried out
+record IsCarried (rules : Rules) (s : State) (r : Request) (kind : Kind) (srb : Srb) (sectors moved after : List (List ℕ)) (left : List ℕ) : Type 0 where
+  moves : MovesSectors rules s (as_client rules r (sent_bytes kind (Packed srb))) (record { first = 0; count = places_of rules r }) kind moved (the_arrays rules after)
+  covers : length moved ≡ places_of rules r
+  parts : cut (places_of rules r) rules.sector_size (concat moved) ≡ moved
+  sent : sent_bytes kind (Packed (with_moved srb moved left)) ≡ sent_bytes kind (Packed srb)
+  long : length after ≡ length sectors
+
+module _ (sizes : Sizes) (s : State) (r : Request) (srb : Srb) (sectors moved after : List (List ℕ)) (left : List ℕ) (command : Cdb)
+    (some : 0 < sizes.sector_size) (bounded : IsBounded (rules_of sizes) r) (count_is : sizes.sectors ≡ length sectors) (sized : All (IsSector sizes.sector_size) sectors)
+    (arrays_are : s.arrays ≡ the_arrays (rules_of sizes) sectors) where
+  array_is : get_or s.arrays r.volume [] ≡ sectors
+  array_is =
+      ap (λ arrays. get_or arrays r.volume []) arrays_are
+      ∙ ap (λ n. get_or (the_arrays (rules_of sizes) sectors) n []) (volume_zero sizes r bounded)
+      ∙ whole_disk sectors sizes.sectors count_is
+
+  first_is : r.extent.first * sizes.sector_size / sizes.sector_size ≡ r.extent.first
+  first_is = sectors_are r.extent.first sizes.sector_size some
+
+  home_is : home (rules_of sizes) (Some r.volume) (r.extent.first * sizes.sector_size / sizes.sector_size + 0) ≡ r.extent.first * sizes.sector_size / sizes.sector_size + 0
+  home_is =
+      let z : 0 + (r.extent.first * sizes.sector_size / sizes.sector_size + 0) ≡ r.extent.first * sizes.sector_size / sizes.sector_size + 0 = omega arith in
+      ap (λ n. home (rules_of sizes) (Some n) (r.extent.first * sizes.sector_size / sizes.sector_size + 0)) (volume_zero sizes r bounded) ∙ z
+
+  carried_read : r.kind ≡ Read → AsksFor (rules_of sizes) r srb → Means srb.block command → Performs sizes.sector_size sectors srb.data command moved after
+      → IsCarried (rules_of sizes) s r Read srb sectors moved after left
+  carried_read is asks means performs =
+      let rules : Rules = rules_of sizes in
+      let n : ℕ = places_of rules r in
+      let x : ℕ = r.extent.first * sizes.sector_size / sizes.sector_size + 0 in
+      let m : Means srb.block (Read10 (home rules (Some r.volume) x) n r.through) = subst (λ k. Means srb.block (command_for rules (as_client rules r []) (record { first = 0; count = n }) k)) is asks.asks in
+      let p : Performs sizes.sector_size sectors srb.data (Read10 (home rules (Some r.volume) x) n r.through) moved after = as_read srb.block _ sectors srb.data command moved after _ n r.through m means performs in
+      let p' : Performs sizes.sector_size sectors srb.data (Read10 x n r.through) moved after = subst (λ y. Performs sizes.sector_size sectors srb.data (Read10 y n r.through) moved after) home_is p in
+      let within : All (IsSector sizes.sector_size) moved = subst (All (IsSector sizes.sector_size)) (sym p'.1) (All-take (IsSector sizes.sector_size) _ _ (All-drop (IsSector sizes.sector_size) x sectors sized)) in
+      let fits = p'.0 in
+      let long : length moved ≡ n = ap (λ xs. length xs) p'.1 ∙ simp (length-take, length-drop) (omega arith) in
+      record {
+        moves = (subst (λ array. moved ≡ slice_range array x (x + n)) (sym array_is) p'.1, ap (λ xs. the_arrays rules xs) p'.2 ∙ sym arrays_are);
+        covers = long;
+        parts = subst (λ k. cut k sizes.sector_size (concat moved) ≡ moved) long (cut-concat sizes.sector_size moved within);
+        sent = refl;
+        long = ap (λ xs. length xs) p'.2;
+      }
+
+  carried_write : r.kind ≡ Write → AsksFor (rules_of sizes) r srb → Means srb.block command → Performs sizes.sector_size sectors srb.data command moved after
+      → IsCarried (rules_of sizes) s r Write srb sectors moved after left
+  carried_write is asks means performs =
+      let rules : Rules = rules_of sizes in
+      let n : ℕ = places_of rules r in
+      let x : ℕ = r.extent.first * sizes.sector_size / sizes.sector_size + 0 in
+      let m : Means srb.block (Write10 (home rules (Some r.volume) x) n r.through) = subst (λ k. Means srb.block (command_for rules (as_client rules r []) (record { first = 0; count = n }) k)) is asks.asks in
+      let p : Performs sizes.sector_size sectors srb.data (Write10 (home rules (Some r.volume) x) n r.through) moved after = as_write srb.block _ sectors srb.data command moved after _ n r.through m means performs in
+      let p' : Performs sizes.sector_size sectors srb.data (Write10 x n r.through) moved after = subst (λ y. Performs sizes.sector_size sectors srb.data (Write10 y n r.through) moved after) home_is p in
+      let fits = p'.0 in
+      let covers = p'.2 in
+      let long : length after ≡ length sectors = ap (λ xs. length xs) p'.4 ∙ length-splice sectors x moved (omega arith) in
+      let bytes_long : length srb.data ≡ n * sizes.sector_size = asks.data_length ∙ transfer ∙ ap (λ k. k * sizes.sector_size) (sym (places_transfer sizes r some (ap is_transfer is))) in
+      let all_bytes : slice_range srb.data (0 * sizes.sector_size) ((0 + n) * sizes.sector_size) ≡ srb.data = whole_bytes srb.data n sizes.sector_size bytes_long in
+      record {
+        moves = (p'.1 ∙ sym all_bytes, p'.3, written_is x p'.4 long);
+        covers = covers;
+        parts = subst (λ k. cut k sizes.sector_size (concat moved) ≡ moved) covers (cut-concat sizes.sector_size moved p'.3);
+        sent = p'.1;
+        long = long;
+      }
+    where
+      transfer : (if is_transfer r.kind then r.extent.count * sizes.sector_size else 0) ≡ r.extent.count * sizes.sector_size
+      transfer = rw is refl
+      whole_bytes : (bytes : List ℕ) (n size : ℕ) → length bytes ≡ n * size → slice_range bytes (0 * size) ((0 + n) * size) ≡ bytes
+      whole_bytes bytes n size e =
+          let a : 0 * size ≡ 0 = omega arith in
+          let c : (0 + n) * size ≡ 0 + length bytes = ap (λ k. k * size) (zero_plus n) ∙ sym e ∙ sym (zero_plus (length bytes)) in
+          rw (a, c) (whole_bytes' bytes)
+        where
+          zero_plus : (k : ℕ) → 0 + k ≡ k
+          zero_plus k = omega arith
+          whole_bytes' : (bytes : List ℕ) → slice_range bytes 0 (0 + length bytes) ≡ bytes
+          whole_bytes' bytes = take_all (0 + length bytes - 0) bytes (omega arith)
+      written_is : (x : ℕ) → after ≡ splice sectors x moved → length after ≡ length sectors → the_arrays (rules_of sizes) after ≡ slice_set s.arrays r.volume (splice (get_or s.arrays r.volume []) x moved)
+      written_is x after_is long =
+          let e : slice_range after 0 (0 + sizes.sectors) ≡ splice sectors x moved = whole_disk after sizes.sectors (count_is ∙ sym long) ∙ after_is in
+          ap (λ array. array ∷ []) e
+          ∙ ap (λ array. slice_set (the_arrays (rules_of sizes) sectors) 0 (splice array x moved)) (sym array_is)
+          ∙ ap (λ k. slice_set (the_arrays (rules_of sizes) sectors) k (splice (get_or s.arrays r.volume []) x moved)) (sym (volume_zero sizes r bounded))
+          ∙ ap (λ arrays. slice_set arrays r.volume (splice (get_or s.arrays r.volume []) x moved)) (sym arrays_are)
+
+  carried_flush : r.kind ≡ Flush → AsksFor (rules_of sizes) r srb → Means srb.block command → Performs sizes.sector_size sectors srb.data command moved after
+      → IsCarried (rules_of sizes) s r Flush srb sectors moved after left
+  carried_flush is asks means performs =
+      let rules : Rules = rules_of sizes in
+      let m : Means srb.block (Sync10 0 0) = subst (λ k. Means srb.block (command_for rules (as_client rules r []) (record { first = 0; count = places_of rules r }) k)) is asks.asks in
+      let p : Performs sizes.sector_size sectors srb.data (Sync10 0 0) moved after = as_flush srb.block _ sectors srb.data command moved after 0 0 m means performs in
+      let one : places_of rules r ≡ 1 = places_flush sizes r (ap is_transfer is) in
+      let none : take sizes.sector_size [] ≡ [] = take_all sizes.sector_size [] (omega arith) in
+      record {
+        moves = (p.0, ap (λ xs. the_arrays rules xs) p.1 ∙ sym arrays_are);
+        covers = ap (λ xs. length xs) p.0 ∙ sym one;
+        parts = rw (one, p.0) (ap (λ part. part ∷ []) none);
+        sent = refl;
+        long = ap (λ xs. length xs) p.1;
+      }
+
+  carried : (kind : Kind) → r.kind ≡ kind → AsksFor (rules_of sizes) r srb → Means srb.block command → Performs sizes.sector_size sectors srb.data command moved after
+      → IsCarried (rules_of sizes) s r kind srb sectors moved after left
+  carried Read is asks means performs = carried_read is asks means performs
+  carried Write is asks means performs = carried_write is asks means performs
+  carried Flush is asks means performs = carried_flush is asks means performs
