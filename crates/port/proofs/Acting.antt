@@ -83,19 +83,19 @@ as_flush block size sectors bytes ReadCapacity10 moved after first count m w p =
 
 -- WHAT IT MOVES
 
-abbrev the_arrays : Rules → List (List ℕ) → List (List (List ℕ))
+abbrev pub the_arrays : Rules → List (List ℕ) → List (List (List ℕ))
 the_arrays rules sectors = map (sectors_in sectors) rules.partitions
 
-abbrev with_moved : Srb → List (List ℕ) → List ℕ → Srb
+abbrev pub with_moved : Srb → List (List ℕ) → List ℕ → Srb
 with_moved srb moved left = record srb { «data» = concat moved; for_label = left }
 
 -- a piece of all places of a request, carried out
-record IsCarried (rules : Rules) (s : State) (r : Request) (kind : Kind) (srb : Srb) (sectors moved after : List (List ℕ)) (left : List ℕ) : Type 0 where
-  moves : MovesSectors rules s (as_client rules r (sent_bytes kind (Packed srb))) (record { first = 0; count = places_of rules r }) kind moved (the_arrays rules after)
-  covers : length moved ≡ places_of rules r
-  parts : cut (places_of rules r) rules.sector_size (concat moved) ≡ moved
-  sent : sent_bytes kind (Packed (with_moved srb moved left)) ≡ sent_bytes kind (Packed srb)
-  long : length after ≡ length sectors
+pub record IsCarried (rules : Rules) (s : State) (r : Request) (kind : Kind) (srb : Srb) (sectors moved after : List (List ℕ)) (left : List ℕ) : Type 0 where
+  pub moves : MovesSectors rules s (as_client rules r (sent_bytes kind (Packed srb))) (record { first = 0; count = places_of rules r }) kind moved (the_arrays rules after)
+  pub covers : length moved ≡ places_of rules r
+  pub parts : cut (places_of rules r) rules.sector_size (concat moved) ≡ moved
+  pub sent : sent_bytes kind (Packed (with_moved srb moved left)) ≡ sent_bytes kind (Packed srb)
+  pub long : length after ≡ length sectors
 
 module _ (sizes : Sizes) (s : State) (r : Request) (srb : Srb) (sectors moved after : List (List ℕ)) (left : List ℕ) (command : Cdb)
     (some : 0 < sizes.sector_size) (bounded : IsBounded (rules_of sizes) r) (count_is : sizes.sectors ≡ length sectors) (sized : All (IsSector sizes.sector_size) sectors)
@@ -192,7 +192,7 @@ module _ (sizes : Sizes) (s : State) (r : Request) (srb : Srb) (sectors moved af
         long = ap (λ xs. length xs) p.1;
       }
 
-  carried : (kind : Kind) → r.kind ≡ kind → AsksFor (rules_of sizes) r srb → Means srb.block command → Performs sizes.sector_size sectors srb.data command moved after
+  pub carried : (kind : Kind) → r.kind ≡ kind → AsksFor (rules_of sizes) r srb → Means srb.block command → Performs sizes.sector_size sectors srb.data command moved after
       → IsCarried (rules_of sizes) s r kind srb sectors moved after left
   carried Read is asks means performs = carried_read is asks means performs
   carried Write is asks means performs = carried_write is asks means performs

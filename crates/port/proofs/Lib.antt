@@ -10,3 +10,4 @@ pub mod Rooms
 pub mod Returning
 pub mod Handing
 pub mod Acting
+pub mod Turning
