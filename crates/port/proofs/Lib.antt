@@ -11,3 +11,4 @@ pub mod Returning
 pub mod Handing
 pub mod Acting
 pub mod Turning
+pub mod Resetting

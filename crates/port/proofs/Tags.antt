@@ -63,6 +63,13 @@ below_fit n xs apart below =
     inside : (q : ℕ) → is_member eqb xs q ≡ true → is_member eqb (range_with_len 0 n) q ≡ true
     inside q h = (is_member-Decides Decides-eqb (range_with_len 0 n) q).1 (there q ((is_member-Decides Decides-eqb xs q).0 h))
 
+-- no more are in use than there are
+pub tags_fit : (view : AdapterView) → IsInOrder view → length view.tags ≤ view.depth
+tags_fit view order =
+    let n : length (map tag_of view.tags) ≡ length view.tags = length-map view.tags tag_of in
+    let few : length (map tag_of view.tags) ≤ view.depth = below_fit view.depth (map tag_of view.tags) (tags_distinct view.tags order.tags_differ) (All-map (λ x. x < view.depth) tag_of view.tags order.tags_below) in
+    omega arith
+
 -- a free tag leaves one more than those in use
 pub free_leaves : (view : AdapterView) (tag : ℕ) → IsInOrder view → IsFree view tag → tag < view.depth → length view.tags < view.depth
 free_leaves view tag order free low =

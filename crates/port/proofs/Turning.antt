@@ -1,10 +1,10 @@
 -- The piece of a tag acts or faults, and stays on its tag.
-use Rattle.std.proofs.Common.{◌≡◌, ◌≢◌, ◌<◌, ◌≤◌, ◌⊎◌, inl, inr, ℕ, ◌+◌, ◌-◌, Bool, true, false, List, [], ◌∷◌, ◌++◌, Option, Some, None, refl, sym, subst, ap, ◌∙◌, arith, map, length, get_or}
-use Rattle.std.specs.Prelude.{All, Contains, IsTrue, IsFalse, IsPermutation}
+use Rattle.std.proofs.Common.{◌≡◌, ◌≢◌, ◌<◌, ◌≤◌, ◌⊎◌, inl, inr, ℕ, zero, suc, ◌+◌, ◌-◌, Bool, true, false, List, [], ◌∷◌, ◌++◌, Option, Some, None, refl, sym, subst, ap, ◌∙◌, arith, map, length, get_or}
+use Rattle.std.specs.Prelude.{All, Contains, IsTrue, IsFalse, IsPermutation, MatchBool}
 use Rattle.std.specs.List.{concat}
 use Rattle.std.proofs.lemmas.List.{length-append, length-map}
 use Rattle.std.proofs.lemmas.List.Elements.{All-nil, All-cons, All-weaker, All-head, All-tail, All-contains}
-use Rattle.std.proofs.lemmas.List.Sorted.{IsPermutation-refl, IsPermutation-sym, IsPermutation-trans, IsPermutation-append_left, IsPermutation-append_right, All-permutation, Contains-permutation, length_permutation}
+use Rattle.std.proofs.lemmas.List.Sorted.{IsPermutation-refl, IsPermutation-sym, IsPermutation-trans, IsPermutation-cons, IsPermutation-middle, IsPermutation-append_left, IsPermutation-append_right, All-permutation, Contains-permutation, length_permutation}
 use Rattle.sector.specs.declared.Extent.{Extent}
 use Rattle.srb.specs.declared.Srb.{Srb}
 use Rattle.srb.specs.declared.DeviceLabel.{DeviceLabel}
@@ -268,3 +268,30 @@ turned b v v' rooms tag k space a order = by_label a.one_of
     by_label : ((bytes : List ℕ) × AdapterActsOn v tag a.piece bytes v') ⊎ AdapterFaultsOn v tag a.piece v' → IsTurned b v tag v'
     by_label (inl (bytes, h)) = acted_all b v v' rooms tag a.piece bytes k (label_space b v rooms k space) h order
     by_label (inr h) = faulted_all b v v' rooms tag a.piece k (label_space b v rooms k space) h order
+
+-- WHERE NO PIECE CAN ACT
+
+-- with some others it is a list in another order
+abbrev pub IsPermutationOf : {X : Type 0} → List X → X → Type 0
+IsPermutationOf {X} xs x = (others : List X) × IsPermutation xs (x ∷ others)
+
+pub from_map : {X Y : Type 0} (f : X → Y) (xs : List X) (y : Y) → Contains (map f xs) y → (x : X) × IsPermutationOf xs x × (f x ≡ y)
+from_map f [] y (k, low, is) = absurd (omega arith)
+from_map f (x ∷ xs) y (zero, low, is) = (x, (xs, IsPermutation-refl _), is)
+from_map f (x ∷ xs) y (suc k, low, is) =
+    let h = from_map f xs y (k, omega arith, is) in
+    (h.0, (x ∷ h.1.0, IsPermutation-trans _ _ _ (IsPermutation-cons x _ _ h.1.1) (IsPermutation-middle (x ∷ []) h.0 h.1.0)), h.2)
+
+turned_not : (b : Books) (v v' : AdapterView) (tag : ℕ) → AdapterActsNot v tag v' → ActsNot (seen_of b v) tag (seen_of b v')
+turned_not b v v' tag h = record {
+  none = λ piece fresh.
+    let u = from_map (piece_on (rules_of b.sizes) b.started) v.tags piece fresh.is_out in
+    h.none_fresh u.0 u.1.0 (record { in_use = u.1.1; has_tag = ap (λ (p : Piece). p.tag) u.2 ∙ fresh.is_tag }) (ap (λ (p : Piece). p.fate) u.2 ∙ fresh.is_fresh);
+  same = ap (λ (x : AdapterView). seen_of b x) h.same;
+}
+
+pub turned_either : (b : Books) (v v' : AdapterView) (rooms : List Request) (tag : ℕ) (result : Bool) → IsInHand b v rooms → label_places (seen_of b v) + 1 ≤ 64
+    → MatchBool result (AdapterActs v tag v') (AdapterActsNot v tag v') → IsInOrder v'
+    → ((rooms : List Request) → IsInHand b v rooms → IsInHand b v' rooms) × MatchBool result (ActsOn (seen_of b v) tag (seen_of b v')) (ActsNot (seen_of b v) tag (seen_of b v'))
+turned_either b v v' rooms tag true k space h order = let t = turned b v v' rooms tag k.kept space h order in (t.rooms, t.acts)
+turned_either b v v' rooms tag false k space h order = (λ rs i. subst (λ x. IsInHand b x rs) (sym h.same) i, turned_not b v v' tag h)
