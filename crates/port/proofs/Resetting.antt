@@ -9,7 +9,7 @@ use Rattle.srb.specs.declared.DeviceLabel.{DeviceLabel}
 use Rattle.srb.specs.declared.DeviceLabel.TheVariants.{Fault}
 use Rattle.srb.specs.Fate.{Fate, Fresh, Acted, Faulted}
 use Rattle.srb.specs.Adapter.{AdapterView, TagInUse, IsInOrder, IsReserved, MovesByAll}
-use Rattle.miniport.specs.Calls.{Resets as AdapterResets, HasNoLabel, LeavesFirst, after_reset, fate_after_reset, is_fresh as is_fresh_use, fault_of as use_fault}
+use Rattle.miniport.specs.Calls.{Resets as AdapterResets, HasNoLabel, LeavesFirst, after_reset, fate_after_reset, has_done_nothing, is_fresh as is_fresh_use, fault_of as use_fault}
 use Rattle.device.specs.declared.Request.{Request}
 use Rattle.device.specs.Rules.{Rules}
 use Rattle.device.specs.State.{OpenRequest, Piece, State, IsSame}
@@ -71,39 +71,42 @@ is_other use' = not (is_fresh_use use')
 
 fresh_fates : (tags : List TagInUse) → All (λ u. u.fate ≡ Fresh) (filter is_fresh_use tags)
 fresh_fates [] = All-nil (λ u. u.fate ≡ Fresh)
-fresh_fates (u ∷ us) = by_fate u.fate refl
+fresh_fates (u ∷ us) = by_fate (fresh_fates us) u.fate refl
   where
-    by_fate : (fate : Fate) → u.fate ≡ fate → All (λ x. x.fate ≡ Fresh) (filter is_fresh_use (u ∷ us))
-    by_fate Fresh is = rw is (All-cons (λ x. x.fate ≡ Fresh) u _ is (fresh_fates us))
-    by_fate (Acted moved) is = rw is (fresh_fates us)
-    by_fate Faulted is = rw is (fresh_fates us)
+    by_fate : All (λ x. x.fate ≡ Fresh) (filter is_fresh_use us) → (fate : Fate) → u.fate ≡ fate → All (λ x. x.fate ≡ Fresh) (filter is_fresh_use (u ∷ us))
+    by_fate h Fresh is = let e : has_done_nothing u.fate ≡ true = ap has_done_nothing is in rw e (All-cons (λ x. x.fate ≡ Fresh) u (filter is_fresh_use us) is h)
+    by_fate h (Acted moved) is = rw is h
+    by_fate h Faulted is = rw is h
 
 filter_pieces : (rules : Rules) (started : List (Option Held)) (tags : List TagInUse) → map (piece_on rules started) (filter is_fresh_use tags) ≡ filter is_fresh_piece (map (piece_on rules started) tags)
 filter_pieces rules started [] = refl
-filter_pieces rules started (u ∷ us) = by_fate u.fate refl
+filter_pieces rules started (u ∷ us) = by_fate (filter_pieces rules started us) u.fate refl
   where
-    by_fate : (fate : Fate) → u.fate ≡ fate → map (piece_on rules started) (filter is_fresh_use (u ∷ us)) ≡ filter is_fresh_piece (map (piece_on rules started) (u ∷ us))
-    by_fate Fresh is = rw is (ap (λ ps. piece_on rules started u ∷ ps) (filter_pieces rules started us))
-    by_fate (Acted moved) is = rw is (filter_pieces rules started us)
-    by_fate Faulted is = rw is (filter_pieces rules started us)
+    by_fate : map (piece_on rules started) (filter is_fresh_use us) ≡ filter is_fresh_piece (map (piece_on rules started) us) → (fate : Fate) → u.fate ≡ fate → map (piece_on rules started) (filter is_fresh_use (u ∷ us)) ≡ filter is_fresh_piece (map (piece_on rules started) (u ∷ us))
+    by_fate h Fresh is =
+        let e : has_done_nothing u.fate ≡ true = ap has_done_nothing is in
+        rw e (ap (λ ps. piece_on rules started u ∷ ps) h)
+    by_fate h (Acted moved) is = rw is h
+    by_fate h Faulted is = rw is h
 
 -- what had done nothing has faulted, and all else is as it was
 reset_pieces : (rules : Rules) (started : List (Option Held)) (tags : List TagInUse)
     → IsPermutation (map (piece_on rules started) (map after_reset tags)) (map faulted_piece (map (piece_on rules started) (filter is_fresh_use tags)) ++ map (piece_on rules started) (filter is_other tags))
 reset_pieces rules started [] = IsPermutation-refl _
-reset_pieces rules started (u ∷ us) = by_fate u.fate refl
+reset_pieces rules started (u ∷ us) = by_fate (reset_pieces rules started us) u.fate refl
   where
-    by_fate : (fate : Fate) → u.fate ≡ fate
+    by_fate : IsPermutation (map (piece_on rules started) (map after_reset us)) (map faulted_piece (map (piece_on rules started) (filter is_fresh_use us)) ++ map (piece_on rules started) (filter is_other us))
+        → (fate : Fate) → u.fate ≡ fate
         → IsPermutation (map (piece_on rules started) (map after_reset (u ∷ us))) (map faulted_piece (map (piece_on rules started) (filter is_fresh_use (u ∷ us))) ++ map (piece_on rules started) (filter is_other (u ∷ us)))
-    by_fate Fresh is = rw is (IsPermutation-cons _ _ _ (reset_pieces rules started us))
-    by_fate (Acted moved) is = rw is (IsPermutation-trans _ _ _ (IsPermutation-cons _ _ _ (reset_pieces rules started us)) (IsPermutation-sym _ _ (IsPermutation-middle (map faulted_piece (map (piece_on rules started) (filter is_fresh_use us))) _ (map (piece_on rules started) (filter is_other us)))))
-    by_fate Faulted is = rw is (IsPermutation-trans _ _ _ (IsPermutation-cons _ _ _ (reset_pieces rules started us)) (IsPermutation-sym _ _ (IsPermutation-middle (map faulted_piece (map (piece_on rules started) (filter is_fresh_use us))) _ (map (piece_on rules started) (filter is_other us)))))
+    by_fate h Fresh is = rw is (IsPermutation-cons _ _ _ h)
+    by_fate h (Acted moved) is = rw is (IsPermutation-trans _ _ _ (IsPermutation-cons _ _ _ h) (IsPermutation-sym _ _ (IsPermutation-middle (map faulted_piece (map (piece_on rules started) (filter is_fresh_use us))) _ (map (piece_on rules started) (filter is_other us)))))
+    by_fate h Faulted is = rw is (IsPermutation-trans _ _ _ (IsPermutation-cons _ _ _ h) (IsPermutation-sym _ _ (IsPermutation-middle (map faulted_piece (map (piece_on rules started) (filter is_fresh_use us))) _ (map (piece_on rules started) (filter is_other us)))))
 
 rising_pieces : (rules : Rules) (started : List (Option Held)) (tags : List TagInUse) → AllPairs (λ x y. x < y) (map tag_of tags) → HaveRisingTags (map (piece_on rules started) tags)
 rising_pieces rules started [] h = tt
 rising_pieces rules started (u ∷ us) h =
-    (All-map (IsBelow u.tag) (piece_on rules started) us (λ k d low. rw (← get_or-map tag_of us k d u.tag low) (h 0 (k + 1) u.tag (omega arith) (let l = length-map us tag_of in omega arith))),
-     rising_pieces rules started us (λ i j d before low. h (i + 1) (j + 1) d (omega arith) (omega arith)))
+    (All-map (IsBelow u.tag) (piece_on rules started) us (λ k d low. rw (← get_or-map tag_of us k d u.tag low) (h 0 (suc k) u.tag (omega arith) (let l = length-map us tag_of in omega arith))),
+     rising_pieces rules started us (λ i j d before low. h (suc i) (suc j) d (omega arith) (omega arith)))
 
 work_reset : (rules : Rules) (started : List (Option Held)) (u : TagInUse) → IsAtWork rules started u → IsAtWork rules started (after_reset u)
 work_reset rules started u w = record { held = w.held; on_tag = w.on_tag; bounded = w.bounded; doing = by_fate u.fate w.doing }

@@ -100,6 +100,12 @@ CannotCancel number e = IsFalse (is_cancellable number e)
 abbrev pub cancelled : Entry → Entry
 cancelled e = record e { cancelled = true }
 
+abbrev pub can_cancel_held : ℕ → Held → Bool
+can_cancel_held number held = is_cancellable number (entry_of held)
+
+abbrev pub can_cancel_ended : ℕ → Ended → Bool
+can_cancel_ended number ended = is_cancellable number (ended_entry ended)
+
 abbrev pub CannotCancelHeld : ℕ → Held → Type 0
 CannotCancelHeld number held = CannotCancel number (entry_of held)
 
@@ -121,6 +127,19 @@ pub record Flushes (old : Books) (number : ℕ) (new : Books) : Type 0 where
 
 pub record FlushesNot (old : Books) (number : ℕ) (new : Books) : Type 0 where
   pub none : All (CannotCancelHeld number) old.waiting
+  pub same : new ≡ old
+
+-- the packet in a place is cancelled
+pub record CancelsIn (old : Option Held) (number : ℕ) (new : Option Held) : Type 0 where
+  pub held : Held
+  pub marked : Held
+  pub is_there : old ≡ Some held
+  pub can : IsTrue (is_cancellable number (entry_of held))
+  pub same_entry : entry_of marked ≡ cancelled (entry_of held)
+  pub after : new ≡ Some marked
+
+pub record CancelsNotIn (old : Option Held) (number : ℕ) (new : Option Held) : Type 0 where
+  pub cannot : (held : Held) → old ≡ Some held → CannotCancelHeld number held
   pub same : new ≡ old
 
 -- the packet on this tag is cancelled, and goes on

@@ -1,9 +1,9 @@
 // What the queues do.
-ghost use Rattle.std.specs.Prelude.{◌≡◌, ◌<◌, ◌≤◌, ◌+◌, ◌^◌, ◌-◌, [], All, Option, Some, None, IfOk, IsSome, OnOk, OnErr, IsTrue, MatchBool, MatchOption, length, slice_index_or};
+ghost use Rattle.std.specs.Prelude.{◌≡◌, ◌<◌, ◌≤◌, ◌+◌, ◌^◌, ◌-◌, [], All, Option, Some, None, IfOk, IsSome, OnOk, OnErr, IsTrue, MatchBool, MatchOption, length, position};
 ghost use Rattle.irp.specs.declared.Payload.TheVariants.{Srb as Packed};
 ghost use Rattle.device.specs.declared.Request.{Request};
 ghost use Rattle.port.specs.Books.{books_of, entry, entry_of};
-ghost use Rattle.port.specs.Turns.{IsEmpty, IsPacked, Queued, cancelled, is_cancellable as can_cancel, held_on, Starts, StartsNot, Ends, Leaves, LeavesNot, drained, Flushes, FlushesNot, CancelsOn, CancelsNotOn, CancelsEnded, CancelsNoEnded};
+ghost use Rattle.port.specs.Turns.{IsEmpty, IsPacked, Queued, cancelled, is_cancellable as can_cancel, can_cancel_held, can_cancel_ended, held_on, Starts, StartsNot, Ends, Leaves, LeavesNot, drained, Flushes, FlushesNot, CancelsIn, CancelsNotIn, CancelsOn, CancelsNotOn, CancelsEnded, CancelsNoEnded};
 ghost use Rattle.port.specs.Shown.{status_left};
 
 use crate::queues::{Ended, Held, Outcome, Queues, Sizes};
@@ -54,6 +54,20 @@ fn is_cancellable(irp: &Irp, number: u128) -> bool
     ensures { (request : Request) → result ≡ can_cancel number (entry irp.now request) }
 {
     irp.number == number && !irp.cancelled
+}
+
+/// Cancels the packet in a place, where it has this number and is not cancelled yet.
+fn cancel_in(place: &mut Option<Held>, number: u128) -> bool
+    ensures { MatchBool result (CancelsIn place.old number place.new) (CancelsNotIn place.old number place.new) }
+{
+    let Some(held) = place else {
+        return false;
+    };
+    if !is_cancellable(&held.irp, number) {
+        return false;
+    }
+    mark_cancelled(&mut held.irp);
+    true
 }
 
 impl Queues {
@@ -167,12 +181,26 @@ impl Queues {
         self.removing = true;
     }
 
+    /// Where the packet of this number waits that is not cancelled yet, counted from the front.
+    fn find_waiting(&self, number: u128) -> Option<usize>
+        ensures { result ≡ position (can_cancel_held number) self.now.waiting.items }
+    {
+        self.waiting.iter().position(|held| is_cancellable(&held.irp, number))
+    }
+
+    /// Where the packet of this number stands that has ended and is not cancelled yet.
+    fn find_done(&self, number: u128) -> Option<usize>
+        ensures { result ≡ position (can_cancel_ended number) self.now.done.items }
+    {
+        self.done.iter().position(|ended| is_cancellable(&ended.irp, number))
+    }
+
     /// The packet of this number is flushed, where it waits and is not cancelled yet.
     pub fn flush(&mut self, number: u128) -> bool
         requires { length (books_of self.old).done < (books_of self.old).places }
         ensures { MatchBool result (Flushes (books_of self.old) number (books_of self.new)) (FlushesNot (books_of self.old) number (books_of self.new)) }
     {
-        let Some(index) = self.waiting.iter().position(|held| is_cancellable(&held.irp, number)) else {
+        let Some(index) = self.find_waiting(number) else {
             return false;
         };
         let Some(Held { mut irp, request }) = self.waiting.remove(index) else {
@@ -193,14 +221,7 @@ impl Queues {
         requires { tag < length (books_of self.old).started }
         ensures { MatchBool result (CancelsOn (books_of self.old) tag number (books_of self.new)) (CancelsNotOn (books_of self.old) tag number (books_of self.new)) }
     {
-        let Some(held) = &mut self.started[tag as usize] else {
-            return false;
-        };
-        if !is_cancellable(&held.irp, number) {
-            return false;
-        }
-        mark_cancelled(&mut held.irp);
-        true
+        cancel_in(&mut self.started[tag as usize], number)
     }
 
     /// The packet of this number is cancelled, where it has ended and is not cancelled yet.
@@ -208,7 +229,7 @@ impl Queues {
         requires { length (books_of self.old).done ≤ (books_of self.old).places }
         ensures { MatchBool result (CancelsEnded (books_of self.old) number (books_of self.new)) (CancelsNoEnded (books_of self.old) number (books_of self.new)) }
     {
-        let Some(index) = self.done.iter().position(|ended| is_cancellable(&ended.irp, number)) else {
+        let Some(index) = self.find_done(number) else {
             return false;
         };
         let Some(mut ended) = self.done.remove(index) else {
