@@ -12,3 +12,4 @@ pub mod Handing
 pub mod Acting
 pub mod Turning
 pub mod Resetting
+pub mod Cancelling

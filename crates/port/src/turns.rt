@@ -1,9 +1,9 @@
 // What the queues do.
-ghost use Rattle.std.specs.Prelude.{◌≡◌, ◌<◌, ◌≤◌, ◌+◌, ◌^◌, ◌-◌, [], All, Option, Some, None, IfOk, IsSome, OnOk, OnErr, IsTrue, MatchBool, MatchOption, length, position};
+ghost use Rattle.std.specs.Prelude.{◌≡◌, ◌==◌, ◌&&◌, not, ◌<◌, ◌≤◌, ◌+◌, ◌^◌, ◌-◌, [], All, Option, Some, None, IfOk, IsSome, OnOk, OnErr, IsTrue, MatchBool, MatchOption, length, position};
 ghost use Rattle.irp.specs.declared.Payload.TheVariants.{Srb as Packed};
 ghost use Rattle.device.specs.declared.Request.{Request};
 ghost use Rattle.port.specs.Books.{books_of, entry, entry_of};
-ghost use Rattle.port.specs.Turns.{IsEmpty, IsPacked, Queued, cancelled, is_cancellable as can_cancel, can_cancel_held, can_cancel_ended, held_on, Starts, StartsNot, Ends, Leaves, LeavesNot, drained, Flushes, FlushesNot, CancelsIn, CancelsNotIn, CancelsOn, CancelsNotOn, CancelsEnded, CancelsNoEnded};
+ghost use Rattle.port.specs.Turns.{IsEmpty, IsPacked, Queued, cancelled, can_cancel_held, can_cancel_ended, held_on, Starts, StartsNot, Ends, Leaves, LeavesNot, drained, Flushes, FlushesNot, CancelsIn, CancelsNotIn, CancelsOn, CancelsNotOn, CancelsEnded, CancelsNoEnded};
 ghost use Rattle.port.specs.Shown.{status_left};
 
 use crate::queues::{Ended, Held, Outcome, Queues, Sizes};
@@ -51,7 +51,7 @@ fn mark_cancelled(irp: &mut Irp)
 
 /// Whether the packet has this number and is not cancelled yet.
 fn is_cancellable(irp: &Irp, number: u128) -> bool
-    ensures { (request : Request) → result ≡ can_cancel number (entry irp.now request) }
+    ensures { result ≡ ((irp.now.number == number) && not irp.now.cancelled) }
 {
     irp.number == number && !irp.cancelled
 }

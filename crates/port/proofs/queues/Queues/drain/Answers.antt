@@ -1,29 +1,40 @@
-use Rattle.std.proofs.Common.{rules, ◌≡◌, ◌<◌, ◌≤◌, ◌+◌, ◌^◌, ◌-◌, [], All, Option, Some, None, IfOk, IsSome, OnOk, OnErr, IsTrue, MatchBool, MatchOption, length, slice_index_or, ℕ, ◌*◌, ◌/◌, ◌%◌, Bool, true, false, nat_eq, nat_lt, List, ◌∷◌, ◌++◌, slice_set, bit_and, bit_or, Fits, w8, w32, w64, Bor, MutBor}
-use Rattle.irp.specs.declared.Payload.TheVariants.{Srb as Packed}
-use Rattle.device.specs.declared.Request.{Request}
-use Rattle.port.specs.Books.{books_of, entry, entry_of}
-use Rattle.port.specs.Turns.{IsEmpty, IsPacked, Queued, cancelled}
-use Rattle.port.specs.Turns.{is_cancellable as can_cancel}
-use Rattle.port.specs.Turns.{held_on, Starts, StartsNot, Ends, Leaves, LeavesNot, drained, Flushes, FlushesNot, CancelsIn, CancelsNotIn, CancelsOn, CancelsNotOn, CancelsEnded, CancelsNoEnded}
-use Rattle.port.specs.Shown.{status_left}
+use Rattle.std.proofs.Common.{◌≡◌, ◌++◌, [], ◌∷◌, List, ap, sym, subst, refl, ◌∙◌, arith, length, map, length-append, append_assoc}
+use Rattle.std.proofs.lemmas.List.{append-nil, map-append}
+use Rattle.port.specs.declared.queues.Held.{Held}
+use Rattle.port.specs.declared.queues.Ended.{Ended}
+use Rattle.port.specs.Books.{Books, books_of}
+use Rattle.port.specs.Turns.{gone}
+use Rattle.port.proofs.Cancelling.{drained_by}
 use Rattle.port.proofs.queues.Queues.drain.Goals as goal
 
--- src/turns.rt:173:9
 pub loop-irp-init : goal.loop-irp-init
-loop-irp-init c = ?
+loop-irp-init c = record { before = []; waited = refl; went = sym (append-nil _); others = refl; few = c.requires }
 
--- src/turns.rt:175:13
 pub push_back_reserved-requires : goal.push_back_reserved-requires
-push_back_reserved-requires c = ?
+push_back_reserved-requires c =
+    let l = ap (λ (hs : List Held). length hs) c.in-Some.ensures.items in
+    let few = c.loop-irp.invariant.few in
+    omega (arith, c.loop-irp.self.done.ok, c.loop-irp.self.done_places)
 
--- src/turns.rt:173:9
 pub loop-irp-smaller : goal.loop-irp-smaller
-loop-irp-smaller c = ?
+loop-irp-smaller c = let l = ap (λ (hs : List Held). length hs) c.in-Some.ensures.items in omega arith
 
--- src/turns.rt:173:9
 pub loop-irp-preserved : goal.loop-irp-preserved
-loop-irp-preserved c = ?
+loop-irp-preserved c =
+    let h = c.in-Some.field-0 in
+    let i = c.loop-irp.invariant in
+    let l = ap (λ (hs : List Held). length hs) c.in-Some.ensures.items in
+    let m = ap (λ (ds : List Ended). length ds) c.push_back_reserved.ensures.items in
+    record {
+      before = i.before ++ h ∷ [];
+      waited = i.waited ∙ ap (λ (hs : List Held). i.before ++ hs) c.in-Some.ensures.items ∙ sym (append_assoc i.before (h ∷ []) _);
+      went = c.push_back_reserved.ensures.items ∙ ap (λ (ds : List Ended). ds ++ gone h ∷ []) i.went ∙ append_assoc _ (map gone i.before) (gone h ∷ []) ∙ ap (λ (ds : List Ended). c.args.self.now.done.items ++ ds) (sym (map-append gone i.before (h ∷ [])));
+      others = ap (λ (x : Books). record x { waiting = c.pop_front.new.self.items; done = c.push_back_reserved.new.self.items }) i.others;
+      few = omega (arith, i.few, length-append c.loop-irp.self.done.items (gone h ∷ []));
+    }
 
--- src/turns.rt:169:5
 pub returns : goal.returns
-returns c = ?
+returns c =
+    let k = c.in_default.ensures.cases in
+    drained_by (books_of c.args.self.now) (books_of c.loop-irp.self) c.loop-irp.invariant.before c.pop_front.new.self.items c.loop-irp.invariant.waited c.loop-irp.invariant.went c.loop-irp.invariant.others
+      (omega (arith, c.loop-irp.self.waiting.ok)) (omega (arith, c.pop_front.new.self.ok))

@@ -1,15 +1,17 @@
-use Rattle.std.proofs.Common.{◌≡◌, ◌<◌, ◌≤◌, ◌+◌, ◌^◌, ◌-◌, [], All, Option, Some, None, IfOk, IsSome, OnOk, OnErr, IsTrue, MatchBool, MatchOption, length, slice_index_or, ℕ, ◌*◌}
-use Rattle.irp.specs.declared.Payload.TheVariants.{Srb as Packed}
-use Rattle.device.specs.declared.Request.{Request}
-use Rattle.port.specs.Books.{books_of, entry, entry_of}
-use Rattle.port.specs.Turns.{IsEmpty, IsPacked, Queued, cancelled}
-use Rattle.port.specs.Turns.{is_cancellable as can_cancel}
-use Rattle.port.specs.Turns.{held_on, Starts, StartsNot, Ends, Leaves, LeavesNot, drained, Flushes, FlushesNot, CancelsIn, CancelsNotIn, CancelsOn, CancelsNotOn, CancelsEnded, CancelsNoEnded}
-use Rattle.port.specs.Shown.{status_left}
+use Rattle.std.proofs.Common.{◌≡◌, ◌≤◌, ◌+◌, ℕ, List, ◌++◌, map, length}
+use Rattle.port.specs.declared.queues.Held.{Held}
+use Rattle.port.specs.Books.{books_of}
+use Rattle.port.specs.Turns.{gone}
 use Rattle.port.proofs.queues.Queues.drain.Given as goal
 
 abbrev pub invariant-loop-irp : goal.invariant-loop-irp
-invariant-loop-irp l = ?
+invariant-loop-irp l = record {
+  before : List Held;
+  waited : l.initial.self.waiting.items ≡ before ++ l.self.waiting.items;
+  went : l.self.done.items ≡ l.initial.self.done.items ++ map gone before;
+  others : books_of l.self ≡ record (books_of l.initial.self) { waiting = l.self.waiting.items; done = l.self.done.items };
+  few : length l.self.waiting.items + length l.self.done.items ≤ l.self.places;
+}
 
 abbrev pub decreases-loop-irp : goal.decreases-loop-irp
-decreases-loop-irp l = ?
+decreases-loop-irp l = length l.self.waiting.items
