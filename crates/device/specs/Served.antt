@@ -1,5 +1,5 @@
 -- What each call does to what a layer shows.
-use Rattle.std.specs.Prelude.{◌≡◌, ◌<◌, ◌≤◌, ◌⊎◌, ℕ, ◌+◌, Bool, true, false, List, [], ◌∷◌, Option, Some, None, map, filter, length, IsTrue, IsFalse, All, Contains, IsPermutation, if◌then◌else◌}
+use Rattle.std.specs.Prelude.{◌≡◌, ◌<◌, ◌≤◌, ◌⊎◌, ℕ, ◌+◌, ◌*◌, Bool, true, false, List, [], ◌∷◌, Option, Some, None, map, filter, length, IsTrue, IsFalse, All, Contains, IsPermutation, if◌then◌else◌}
 use Rattle.ntstatus.specs.declared.NtStatus.{NtStatus}
 use Rattle.ntstatus.specs.declared.NtStatus.TheVariants.{Success, DeviceBusy}
 use Rattle.srb.specs.declared.Class.{Class}
@@ -161,6 +161,8 @@ pub record HandsUp (takes_srb : Bool) (old : Seen) (request : Request) (climb : 
   -- a packet that came back busy can be sent again as it is, and a read that succeeded holds its bytes
   pub carries : status ≡ DeviceBusy → Carries takes_srb old.rules request payload
   pub brings : request.kind ≡ Read → status ≡ Success → payload_bytes payload ≡ bytes
+  -- as many as it asked for
+  pub filled : request.kind ≡ Read → status ≡ Success → length bytes ≡ request.extent.count * old.rules.sector_size
   pub climbs : Climbs packet.above packet.number answers.request.cancelled status (information answers.request.request status) payload climb
   pub only_starts : All IsStart starts
   pub moves : Moves (record old { state = answered; packets = others }) starts new

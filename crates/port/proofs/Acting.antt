@@ -26,7 +26,7 @@ use Rattle.device.specs.declared.Request.{Request}
 use Rattle.device.specs.Rules.{Rules, as_client, home, is_transfer}
 use Rattle.device.specs.State.{OpenRequest, Piece, State, IsSame}
 use Rattle.device.specs.Sending.{Acts, Faults, IsFreshPiece, with_fate, Moves as MovesSectors, command_for}
-use Rattle.device.specs.Seen.{AsksFor, IsBounded, whole_command, sent_bytes, sectors_in, label_places}
+use Rattle.device.specs.Seen.{AsksFor, IsBounded, whole_command, sent_bytes, sectors_in, label_places, transfer_length}
 use Rattle.device.specs.Served.{ActsOn, ActsNot, IsFreshOn, Moves}
 use Rattle.device.proofs.Same.{IsSame-refl}
 use Rattle.device.proofs.Splicing.{length-splice}
@@ -89,6 +89,14 @@ the_arrays rules sectors = map (sectors_in sectors) rules.partitions
 abbrev pub with_moved : Srb → List (List ℕ) → List ℕ → Srb
 with_moved srb moved left = record srb { «data» = concat moved; for_label = left }
 
+-- sectors of one size after each other
+concat_sized : (size : ℕ) (xs : List (List ℕ)) → All (IsSector size) xs → length (concat xs) ≡ length xs * size
+concat_sized size [] sized = let z : 0 ≡ 0 * size = omega arith in z
+concat_sized size (x ∷ xs) sized =
+    let one : length x ≡ size = All-head (IsSector size) x xs sized in
+    let rest : length (concat xs) ≡ length xs * size = concat_sized size xs (All-tail (IsSector size) x xs sized) in
+    length-append x (concat xs) ∙ omega (arith, one, rest)
+
 -- a piece of all places of a request, carried out
 pub record IsCarried (rules : Rules) (s : State) (r : Request) (kind : Kind) (srb : Srb) (sectors moved after : List (List ℕ)) (left : List ℕ) : Type 0 where
   pub moves : MovesSectors rules s (as_client rules r (sent_bytes kind (Packed srb))) (record { first = 0; count = places_of rules r }) kind moved (the_arrays rules after)
@@ -96,6 +104,7 @@ pub record IsCarried (rules : Rules) (s : State) (r : Request) (kind : Kind) (sr
   pub parts : cut (places_of rules r) rules.sector_size (concat moved) ≡ moved
   pub sent : sent_bytes kind (Packed (with_moved srb moved left)) ≡ sent_bytes kind (Packed srb)
   pub long : length after ≡ length sectors
+  pub filled : r.kind ≡ Read → length (concat moved) ≡ transfer_length rules r
 
 module _ (sizes : Sizes) (s : State) (r : Request) (srb : Srb) (sectors moved after : List (List ℕ)) (left : List ℕ) (command : Cdb)
     (some : 0 < sizes.sector_size) (bounded : IsBounded (rules_of sizes) r) (count_is : sizes.sectors ≡ length sectors) (sized : All (IsSector sizes.sector_size) sectors)
@@ -132,6 +141,11 @@ module _ (sizes : Sizes) (s : State) (r : Request) (srb : Srb) (sectors moved af
         parts = subst (λ k. cut k sizes.sector_size (concat moved) ≡ moved) long (cut-concat sizes.sector_size moved within);
         sent = refl;
         long = ap (λ xs. length xs) p'.2;
+        filled = λ _.
+          let sized' : length (concat moved) ≡ length moved * sizes.sector_size = concat_sized sizes.sector_size moved within in
+          let whole : transfer_length rules r ≡ r.extent.count * sizes.sector_size = rw is refl in
+          let places : n ≡ r.extent.count = places_transfer sizes r some (ap is_transfer is) in
+          sized' ∙ ap (λ k. k * sizes.sector_size) (long ∙ places) ∙ sym whole;
       }
 
   carried_write : r.kind ≡ Write → AsksFor (rules_of sizes) r srb → Means srb.block command → Performs sizes.sector_size sectors srb.data command moved after
@@ -154,6 +168,7 @@ module _ (sizes : Sizes) (s : State) (r : Request) (srb : Srb) (sectors moved af
         parts = subst (λ k. cut k sizes.sector_size (concat moved) ≡ moved) covers (cut-concat sizes.sector_size moved p'.3);
         sent = p'.1;
         long = long;
+        filled = λ e. absurd (cc (e, is));
       }
     where
       transfer : (if is_transfer r.kind then r.extent.count * sizes.sector_size else 0) ≡ r.extent.count * sizes.sector_size
@@ -190,6 +205,7 @@ module _ (sizes : Sizes) (s : State) (r : Request) (srb : Srb) (sectors moved af
         parts = rw (one, p.0) (ap (λ part. part ∷ []) none);
         sent = refl;
         long = ap (λ xs. length xs) p.1;
+        filled = λ e. absurd (cc (e, is));
       }
 
   pub carried : (kind : Kind) → r.kind ≡ kind → AsksFor (rules_of sizes) r srb → Means srb.block command → Performs sizes.sector_size sectors srb.data command moved after

@@ -20,7 +20,7 @@ use Rattle.device.specs.State.{Mark, Untouched, Out, Done, Failed, Back, OpenReq
 use Rattle.device.specs.Sending.{is_started, status_of_completion}
 use Rattle.device.specs.Answering.{HasEnded, HasCause, Cause, Answers, is_done, answer_bytes}
 use Rattle.device.specs.Settled.{Settled, IsHeld, WaitsIfCancelled, Waits, IsAllSent, IsHeldBack, HasMore, IsAtWork, has_out}
-use Rattle.device.specs.Seen.{Carries, payload_bytes}
+use Rattle.device.specs.Seen.{Carries, payload_bytes, transfer_length}
 use Rattle.device.specs.Served.{HandsUp, HandsUpNone, IsUnfinished, IsStart, information}
 use Rattle.device.proofs.Same.{IsSame-refl}
 use Rattle.device.specs.declared.Label.TheVariants.{Answer}
@@ -141,6 +141,7 @@ record IsHanded (rules : Rules) (s : State) (o : OpenRequest) (r : Request) (pay
   cause : HasCause rules s o o.marks status
   carries : status ≡ DeviceBusy → Carries true rules r payload
   brings : r.kind ≡ Read → status ≡ Success → payload_bytes payload ≡ answer_bytes r.kind o.marks
+  filled : r.kind ≡ Read → status ≡ Success → length (payload_bytes payload) ≡ transfer_length rules r
 
 cause_done : (rules : Rules) (s : State) (o : OpenRequest) (sectors : List (List ℕ)) (status : NtStatus) → HasCause rules s o (map Done sectors) status
 cause_done rules s o [] status = tt
@@ -167,6 +168,7 @@ handed_alike rules s o r payload status mark are some waits cause fails carries 
   cause = subst (λ ms. HasCause rules s o ms status) (sym are) (cause_first rules s o mark (places_of rules r) status waits cause);
   carries = carries;
   brings = λ _ e. absurd (fails e);
+  filled = λ _ e. absurd (fails e);
 }
 
 handed : (rules : Rules) (s : State) (o : OpenRequest) (d : Ended) (outcome : Outcome) → rules.busy_limit ≤ 1 → 0 < places_of rules d.request → o.late ≡ false → o.cancelled ≡ d.irp.cancelled
@@ -176,7 +178,8 @@ handed rules s o d (Returned Good) limit some timely same are busy why = record 
   success = (λ _. subst (λ ms. list_all is_done ms ≡ true) (sym are) (all_done (sectors_moved rules d.request d.irp.payload)), λ _. refl);
   cause = subst (λ ms. HasCause rules s o ms Success) (sym are) (cause_done rules s o (sectors_moved rules d.request d.irp.payload) Success);
   carries = λ e. absurd (cc (e));
-  brings = λ is _. sym (rw (is, are, all_done, bytes_done) why);
+  brings = λ is _. sym (rw (is, are, all_done, bytes_done) why.0);
+  filled = λ is _. why.1 is;
 }
 handed rules s o d (Returned Busy) limit some timely same are busy why =
     handed_alike rules s o d.request d.irp.payload DeviceBusy Back are some refl (inr (omega arith, refl)) (λ e. absurd (cc (e))) (λ _. why)
@@ -280,6 +283,10 @@ hands_up b b' v rooms d status bytes_moved climb k h status_is moved_is climbs =
       is_request = refl;
       carries = x.carries;
       brings = x.brings;
+      filled = λ is succeeds.
+        let long : length (payload_bytes d.irp.payload) ≡ transfer_length rules d.request = x.filled is succeeds in
+        let whole : transfer_length rules d.request ≡ d.request.extent.count * rules.sector_size = rw is refl in
+        ap (λ (bytes : List ℕ). length bytes) (sym (x.brings is succeeds)) ∙ long ∙ whole;
       climbs = subst (λ (st : NtStatus). Climbs (entry d.irp d.request).above d.irp.number d.irp.cancelled st (information (as_client rules d.request []) st) d.irp.payload climb) status_is
           (subst (λ (n : ℕ). Climbs (entry d.irp d.request).above d.irp.number d.irp.cancelled status n d.irp.payload climb) (subst (λ (y : Books). bytes_moved ≡ information (as_client (rules_of y.sizes) d.request []) status) h.after moved_is) climbs);
       only_starts = All-nil IsStart;

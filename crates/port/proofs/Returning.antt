@@ -24,7 +24,7 @@ use Rattle.device.specs.declared.Request.{Request}
 use Rattle.device.specs.Rules.{Rules, as_client}
 use Rattle.device.specs.State.{Mark, Done, Out, OpenRequest, Piece, State, IsSame}
 use Rattle.device.specs.Sending.{Leaves, Returns, given_back, one_if_busy, HasOtherTag}
-use Rattle.device.specs.Seen.{AsksFor, Carries, IsBounded, Packet, payload_bytes, sent_bytes, label_places}
+use Rattle.device.specs.Seen.{AsksFor, Carries, IsBounded, Packet, payload_bytes, sent_bytes, label_places, transfer_length}
 use Rattle.device.specs.Served.{Finishes, FinishesNot, IsStart, Moves}
 use Rattle.device.proofs.Same.{IsSame-refl}
 use Rattle.device.proofs.Numbers.{AreDistinct-DeviceStep}
@@ -128,8 +128,9 @@ outcome_is rules removing v held use' sense class ended may doing h =
     by_class Good may =
         let moved : List (List ℕ) = may.0.0 in
         let d : IsDoing rules held.request (Acted moved) use'.srb = subst (λ f. IsDoing rules held.request f use'.srb) may.0.1 doing in
-        let P : Request → Payload → Type 0 = λ r p. concat (sectors_moved rules r p) ≡ payload_bytes p in
-        subst (λ p. P ended.request p) (sym h.carries) (subst (λ r. P r (Packed (with_sense use'.srb sense))) (sym request_is) (ap concat d.1 ∙ sym d.0))
+        let P : Request → Payload → Type 0 =
+          λ r p. (concat (sectors_moved rules r p) ≡ payload_bytes p) × (r.kind ≡ Read → length (payload_bytes p) ≡ transfer_length rules r) in
+        subst (λ p. P ended.request p) (sym h.carries) (subst (λ r. P r (Packed (with_sense use'.srb sense))) (sym request_is) (ap concat d.1 ∙ sym d.0, d.2))
     by_class Busy may =
         let d : AsksFor rules held.request use'.srb = subst (λ f. IsDoing rules held.request f use'.srb) may.0 doing in
         subst (λ p. Carries true rules ended.request p) (sym h.carries) (subst (λ r. Carries true rules r (Packed (with_sense use'.srb sense))) (sym request_is)

@@ -150,7 +150,7 @@ acted_all b v v' rooms tag piece bytes k space a order =
       same_tag = refl;
       held_is = w.1;
       same_open = ap (λ (bytes : List ℕ). record (out_open rules e a.use') { request = as_client rules held.request bytes }) c.sent;
-      doing = (refl, c.parts);
+      doing = (refl, c.parts, c.filled);
       long = c.long;
     } in
     let step : Acts rules (state_of b v) piece bytes (state_of b x) = record {

@@ -7,11 +7,11 @@ use Rattle.srb.specs.Fate.{Fate, Fresh, Acted, Faulted, class_of}
 use Rattle.srb.specs.Adapter.{AdapterView, TagInUse, IsInOrder, IsReserved}
 use Rattle.irp.specs.declared.Payload.{Payload}
 use Rattle.irp.specs.declared.Payload.TheVariants.{Srb as Packed}
-use Rattle.device.specs.declared.Kind.TheVariants.{Write}
+use Rattle.device.specs.declared.Kind.TheVariants.{Read, Write}
 use Rattle.device.specs.declared.Request.{Request}
 use Rattle.device.specs.Rules.{Rules}
 use Rattle.device.specs.Numbers.{AreDistinct}
-use Rattle.device.specs.Seen.{AsksFor, Carries, IsBounded, IsOrderly, payload_bytes}
+use Rattle.device.specs.Seen.{AsksFor, Carries, IsBounded, IsOrderly, payload_bytes, transfer_length}
 use Rattle.port.specs.declared.queues.Sizes.{Sizes}
 use Rattle.port.specs.declared.queues.Held.{Held}
 use Rattle.port.specs.declared.queues.Ended.{Ended}
@@ -49,7 +49,8 @@ AreInTurn (held ∷ rest) = All (IsBefore held) rest × AreInTurn rest
 -- the SRB asks for the request as long as it did nothing; then its data are what it moved
 abbrev pub IsDoing : Rules → Request → Fate → Srb → Type 0
 IsDoing rules r Fresh srb = AsksFor rules r srb
-IsDoing rules r (Acted moved) srb = (srb.data ≡ concat moved) × (sectors_moved rules r (Packed srb) ≡ moved)
+IsDoing rules r (Acted moved) srb =
+    (srb.data ≡ concat moved) × (sectors_moved rules r (Packed srb) ≡ moved) × (r.kind ≡ Read → length srb.data ≡ transfer_length rules r)
 IsDoing rules r Faulted srb = Unit {0}
 
 pub record IsAtWork (rules : Rules) (started : List (Option Held)) (use' : TagInUse) : Type 0 where
@@ -60,7 +61,9 @@ pub record IsAtWork (rules : Rules) (started : List (Option Held)) (use' : TagIn
 
 -- why a packet ended
 abbrev pub HasOutcome : Rules → Bool → Ended → Outcome → Type 0
-HasOutcome rules removing d (Returned Good) = concat (sectors_moved rules d.request d.irp.payload) ≡ payload_bytes d.irp.payload
+HasOutcome rules removing d (Returned Good) =
+    (concat (sectors_moved rules d.request d.irp.payload) ≡ payload_bytes d.irp.payload)
+    × (d.request.kind ≡ Read → length (payload_bytes d.irp.payload) ≡ transfer_length rules d.request)
 HasOutcome rules removing d (Returned Busy) = Carries true rules d.request d.irp.payload
 HasOutcome rules removing d (Returned (Bad completion)) = class_of completion ≡ Bad completion
 HasOutcome rules removing d Flushed = IsTrue d.irp.cancelled
