@@ -13,3 +13,4 @@ pub mod Acting
 pub mod Turning
 pub mod Resetting
 pub mod Cancelling
+pub mod Draining
