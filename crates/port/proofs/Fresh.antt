@@ -40,7 +40,10 @@ view_fresh v = record v { tags = []; labels = [] }
 fresh_is : (v : AdapterView) → IsFresh v → v ≡ view_fresh v
 fresh_is v h = ap (λ (x : List TagInUse). record v { tags = x }) h.tags ∙ ap (λ (x : List DeviceLabel). record v { tags = []; labels = x }) h.labels
 
-abbrev sizes_over : AdapterView → Sizes
+abbrev pub sizes_by : ℕ → ℕ → ℕ → ℕ → Sizes
+sizes_by sector_size sectors max_transfer depth = record { sector_size = sector_size; sectors = sectors; max_transfer = max_transfer; depth = depth }
+
+abbrev pub sizes_over : AdapterView → Sizes
 sizes_over v = record { sector_size = v.sector_size; sectors = length v.sectors; max_transfer = v.max_transfer; depth = v.depth }
 
 hand_empty : (b : Books) (v : AdapterView) → v.accepted ≤ 2 → length b.started ≡ v.depth → IsInOrder (view_fresh v) → IsInHand (books_empty b (sizes_over v)) (view_fresh v) []
@@ -78,3 +81,9 @@ opens_seen b v sizes e h f =
     let h' : IsEmpty (sizes_over v) b = subst (λ (x : Sizes). IsEmpty x b) e h in
     let v_is : v ≡ view_fresh v = fresh_is v f in
     ap (λ (x : Books). seen_of x v) (empty_is b (sizes_over v) h') ∙ ap (λ (x : AdapterView). seen_of (books_empty b (sizes_over v)) x) v_is ∙ ap (λ (x : AdapterView). opening_seen x) (sym v_is)
+
+pub sizes_are : (v : AdapterView) (sector_size sectors max_transfer depth : ℕ) → sector_size ≡ v.sector_size → sectors ≡ length v.sectors → max_transfer ≡ v.max_transfer → depth ≡ v.depth
+    → sizes_by sector_size sectors max_transfer depth ≡ sizes_over v
+sizes_are v sector_size sectors max_transfer depth a c d e =
+    ap (λ (n : ℕ). sizes_by n sectors max_transfer depth) a ∙ ap (λ (n : ℕ). sizes_by v.sector_size n max_transfer depth) c
+    ∙ ap (λ (n : ℕ). sizes_by v.sector_size (length v.sectors) n depth) d ∙ ap (λ (n : ℕ). sizes_by v.sector_size (length v.sectors) v.max_transfer n) e
