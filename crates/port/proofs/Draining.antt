@@ -112,7 +112,7 @@ drains_all b b' v e = subst (λ x. DrainsAll (seen_of b v) (seen_of x v)) (sym e
 
 -- WHO CAN BE CANCELLED
 
-can_facts : (number : ℕ) (e : Entry) → is_cancellable number e ≡ true → (e.number ≡ number) × (e.cancelled ≡ false)
+pub can_facts : (number : ℕ) (e : Entry) → is_cancellable number e ≡ true → (e.number ≡ number) × (e.cancelled ≡ false)
 can_facts number e h = both (e.number == number) e.cancelled refl refl h
   where
     both : (same was : Bool) → (e.number == number) ≡ same → e.cancelled ≡ was → (same && not was) ≡ true → (e.number ≡ number) × (e.cancelled ≡ false)
@@ -120,7 +120,7 @@ can_facts number e h = both (e.number == number) e.cancelled refl refl h
     both true true a b h = absurd (cc (h))
     both false was a b h = absurd (cc (h))
 
-cannot_facts : (number : ℕ) (e : Entry) → is_cancellable number e ≡ false → e.number ≡ number → e.cancelled ≡ false → ⊥
+pub cannot_facts : (number : ℕ) (e : Entry) → is_cancellable number e ≡ false → e.number ≡ number → e.cancelled ≡ false → ⊥
 cannot_facts number e h same timely = both (e.number == number) e.cancelled refl refl h
   where
     both : (equal was : Bool) → (e.number == number) ≡ equal → e.cancelled ≡ was → (equal && not was) ≡ false → ⊥

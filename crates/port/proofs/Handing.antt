@@ -196,7 +196,7 @@ handed rules s o d Gone limit some timely same are busy why =
     late_is false e = refl
 
 -- from the third part of three
-third_front : {X : Type 0} (first second third : List X) (x : X) → IsPermutation (first ++ (second ++ x ∷ third)) (x ∷ (first ++ (second ++ third)))
+pub third_front : {X : Type 0} (first second third : List X) (x : X) → IsPermutation (first ++ (second ++ x ∷ third)) (x ∷ (first ++ (second ++ third)))
 third_front first second third x = IsPermutation-trans _ _ _ (IsPermutation-append_right first _ _ (IsPermutation-middle second x third)) (IsPermutation-middle first x (second ++ third))
 
 abbrev books_left : Books → List Ended → Books

@@ -12,5 +12,7 @@ pub mod Handing
 pub mod Acting
 pub mod Turning
 pub mod Resetting
-pub mod Cancelling
+pub mod Searching
 pub mod Draining
+pub mod Marking
+pub mod Fresh

@@ -5,3 +5,4 @@ pub mod Kept
 pub mod Order
 pub mod Opening
 pub mod Releases
+pub mod Cancelling

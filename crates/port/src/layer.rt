@@ -1,5 +1,5 @@
 // The port as a layer of the stack.
-ghost use Rattle.std.specs.Prelude.{◌≡◌, ◌≢◌, ◌<◌, ◌≤◌, ◌*◌, ◌+◌, ◌^◌, ℕ, Bool, true, List, [], ◌∷◌, length, OnOk};
+ghost use Rattle.std.specs.Prelude.{◌≡◌, ◌≢◌, ◌<◌, ◌≤◌, ◌*◌, ◌+◌, ◌^◌, ℕ, Bool, true, List, [], ◌∷◌, length, OnOk, MatchBool};
 ghost use Rattle.srb.specs.Adapter.{IsInOrder, IsReserved};
 ghost use Rattle.miniport.specs.Calls.{Reserves};
 ghost use Rattle.device.specs.declared.Kind.TheVariants.{Write};
@@ -7,6 +7,7 @@ ghost use Rattle.device.specs.declared.Request.{Request};
 ghost use Rattle.port.specs.Books.{books_of};
 ghost use Rattle.device.specs.Rules.{as_client};
 ghost use Rattle.device.specs.Served.{information as information_of};
+ghost use Rattle.port.specs.Cancelling.{CancelsAt, CancelsNotAt, CancelsNoStarted};
 ghost use Rattle.port.specs.Shown.{seen_of, rules_of};
 ghost use Rattle.port.specs.Kept.{IsInHand, IsKept};
 ghost use Rattle.port.specs.Releases.{Releases, AreLowerInUse};
@@ -71,10 +72,23 @@ impl<A: Adapter> Port<A> {
         Ok(())
     }
 
+    /// Cancels the packet on this tag, where the tag is in use and the packet has this number and is not cancelled yet.
+    fn cancel_at(&mut self, tag: u8, number: u128) -> bool
+        requires { tag < length (books_of self.old.queues).started }
+        ensures adapter { A.view self.new.adapter ≡ A.view self.old.adapter }
+        ensures cancels { MatchBool result (CancelsAt (books_of self.old.queues) (A.view self.old.adapter) tag number (books_of self.new.queues)) (CancelsNotAt (books_of self.old.queues) (A.view self.old.adapter) tag number (books_of self.new.queues)) }
+    {
+        self.adapter.in_use(tag) && self.queues.cancel_on(tag, number)
+    }
+
     /// Cancels the packet of this number that is at the adapter, where it is not cancelled yet.
-    fn cancel_started(&mut self, number: u128) -> bool {
+    fn cancel_started(&mut self, number: u128) -> bool
+        requires { (rooms : List Request) × IsInHand (books_of self.old.queues) (A.view self.old.adapter) rooms }
+        ensures adapter { A.view self.new.adapter ≡ A.view self.old.adapter }
+        ensures cancels { MatchBool result ((tag : ℕ) × CancelsAt (books_of self.old.queues) (A.view self.old.adapter) tag number (books_of self.new.queues)) (CancelsNoStarted (books_of self.old.queues) (A.view self.old.adapter) number (books_of self.new.queues)) }
+    {
         for tag in 0..self.queues.sizes.depth {
-            if self.adapter.in_use(tag) && self.queues.cancel_on(tag, number) {
+            if self.cancel_at(tag, number) {
                 return true;
             }
         }
@@ -160,9 +174,13 @@ impl<A: Adapter> Device for Port<A> {
     }
 
     fn cancel(&mut self, number: u128) {
-        let _cancelled = self.queues.flush(number)
-            || self.cancel_started(number)
-            || self.queues.cancel_done(number);
+        if self.queues.flush(number) {
+            return;
+        }
+        if self.cancel_started(number) {
+            return;
+        }
+        self.queues.cancel_done(number);
     }
 
     fn drain(&mut self) {

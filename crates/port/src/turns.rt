@@ -197,7 +197,7 @@ impl Queues {
 
     /// The packet of this number is flushed, where it waits and is not cancelled yet.
     pub fn flush(&mut self, number: u128) -> bool
-        requires { length (books_of self.old).done < (books_of self.old).places }
+        requires { length (books_of self.old).waiting + length (books_of self.old).done ≤ (books_of self.old).places }
         ensures { MatchBool result (Flushes (books_of self.old) number (books_of self.new)) (FlushesNot (books_of self.old) number (books_of self.new)) }
     {
         let Some(index) = self.find_waiting(number) else {

@@ -4,7 +4,7 @@ use Rattle.port.specs.declared.queues.Held.{Held}
 use Rattle.port.specs.declared.queues.Ended.{Ended}
 use Rattle.port.specs.Books.{Books, books_of}
 use Rattle.port.specs.Turns.{gone}
-use Rattle.port.proofs.Cancelling.{drained_by}
+use Rattle.port.proofs.Searching.{drained_by}
 use Rattle.port.proofs.queues.Queues.drain.Goals as goal
 
 pub loop-irp-init : goal.loop-irp-init

@@ -85,3 +85,6 @@ cancels_ended b b' number index ended marked done' done'' found is left entry ca
 
 pub cancels_no_ended : (b : Books) (number : ℕ) → None ≡ position (can_cancel_ended number) b.done → CancelsNoEnded b number b
 cancels_no_ended b number h = record { none = none_found (can_cancel_ended number) b.done (sym h); same = refl }
+
+pub found_inside : (waiting : List Held) (number index : ℕ) (d : Held) → Some index ≡ position (can_cancel_held number) waiting → index < length waiting
+found_inside waiting number index d found = (position-Some (can_cancel_held number) waiting index d (sym found)).0

@@ -1,0 +1,89 @@
+-- A port of which nothing was asked yet.
+use Rattle.std.proofs.Common.{◌≡◌, ◌<◌, ◌≤◌, ℕ, ◌+◌, ◌-◌, Bool, true, false, List, [], ◌∷◌, refl, sym, subst, ap, ◌∙◌, arith, length, map}
+use Rattle.std.specs.Prelude.{All}
+use Rattle.std.proofs.lemmas.List.Elements.{All-nil}
+use Rattle.srb.specs.declared.DeviceLabel.{DeviceLabel}
+use Rattle.srb.specs.Adapter.{AdapterView, TagInUse, IsInOrder}
+use Rattle.port.specs.declared.queues.Held.{Held}
+use Rattle.port.specs.declared.queues.Ended.{Ended}
+use Rattle.device.specs.declared.Request.{Request}
+use Rattle.device.specs.Rules.{Rules}
+use Rattle.device.specs.State.{State, opening}
+use Rattle.device.specs.Seen.{sectors_in}
+use Rattle.device.proofs.Numbers.{AreDistinct-opening}
+use Rattle.port.specs.declared.queues.Sizes.{Sizes}
+use Rattle.port.specs.Books.{Books}
+use Rattle.port.specs.Turns.{IsEmpty}
+use Rattle.port.specs.Shown.{rules_of, state_of, seen_of, of_packets}
+use Rattle.port.specs.Kept.{asked, IsKept, IsInHand, IsRoom, IsWaiting, IsAtWork, HasEnded, AreInTurn}
+use Rattle.port.specs.Opening.{IsFresh, rules_over, opening_seen}
+use Rattle.port.proofs.Orderly.{in_hand}
+
+-- the books of empty queues over this adapter
+abbrev books_empty : Books → Sizes → Books
+books_empty b sizes = record b { sizes = sizes; waiting = []; done = []; last_request = 0; next_piece = 1; submitted = 0; removing = false; places = 0 }
+
+empty_is : (b : Books) (sizes : Sizes) → IsEmpty sizes b → b ≡ books_empty b sizes
+empty_is b sizes h =
+    ap (λ (x : Sizes). record b { sizes = x }) h.sizes_are
+    ∙ ap (λ (x : List Held). record b { sizes = sizes; waiting = x }) h.waiting
+    ∙ ap (λ (x : List Ended). record b { sizes = sizes; waiting = []; done = x }) h.done
+    ∙ ap (λ (x : ℕ). record b { sizes = sizes; waiting = []; done = []; last_request = x }) h.last_request
+    ∙ ap (λ (x : ℕ). record b { sizes = sizes; waiting = []; done = []; last_request = 0; next_piece = x }) h.next_piece
+    ∙ ap (λ (x : ℕ). record b { sizes = sizes; waiting = []; done = []; last_request = 0; next_piece = 1; submitted = x }) h.submitted
+    ∙ ap (λ (x : Bool). record b { sizes = sizes; waiting = []; done = []; last_request = 0; next_piece = 1; submitted = 0; removing = x }) h.removing
+    ∙ ap (λ (x : ℕ). record b { sizes = sizes; waiting = []; done = []; last_request = 0; next_piece = 1; submitted = 0; removing = false; places = x }) h.places
+
+abbrev view_fresh : AdapterView → AdapterView
+view_fresh v = record v { tags = []; labels = [] }
+
+fresh_is : (v : AdapterView) → IsFresh v → v ≡ view_fresh v
+fresh_is v h = ap (λ (x : List TagInUse). record v { tags = x }) h.tags ∙ ap (λ (x : List DeviceLabel). record v { tags = []; labels = x }) h.labels
+
+abbrev pub sizes_by : ℕ → ℕ → ℕ → ℕ → Sizes
+sizes_by sector_size sectors max_transfer depth = record { sector_size = sector_size; sectors = sectors; max_transfer = max_transfer; depth = depth }
+
+abbrev pub sizes_over : AdapterView → Sizes
+sizes_over v = record { sector_size = v.sector_size; sectors = length v.sectors; max_transfer = v.max_transfer; depth = v.depth }
+
+hand_empty : (b : Books) (v : AdapterView) → v.accepted ≤ 2 → length b.started ≡ v.depth → IsInOrder (view_fresh v) → IsInHand (books_empty b (sizes_over v)) (view_fresh v) []
+hand_empty b v few long order =
+    let rules : Rules = rules_of (sizes_over v) in
+    let depth = order.depth.1 in
+    in_hand (books_empty b (sizes_over v)) (view_fresh v) [] (record {
+      adapter = order;
+      sizes = record { sector_size = refl; sectors = refl; max_transfer = refl; depth = refl };
+      started = long;
+      waiting = All-nil (IsWaiting rules (view_fresh v));
+      in_turn = tt;
+      at_work = All-nil (IsAtWork rules b.started);
+      ended = All-nil (HasEnded rules false);
+      reserved = All-nil (IsRoom rules (view_fresh v));
+      rooms_out = All-nil (IsRoom rules (view_fresh v));
+      removing = λ _. refl;
+      distinct = AreDistinct-opening (map (sectors_in v.sectors) rules.partitions);
+      places = refl;
+      submitted = omega arith;
+      accepted = omega arith;
+      numbered = omega arith;
+      labels = omega arith;
+    }) (λ _. refl)
+
+pub opens_in_hand : (b : Books) (v : AdapterView) (sizes : Sizes) → sizes ≡ sizes_over v → IsEmpty sizes b → IsFresh v → IsInOrder v → IsInHand b v []
+opens_in_hand b v sizes e h f order =
+    let h' : IsEmpty (sizes_over v) b = subst (λ (x : Sizes). IsEmpty x b) e h in
+    let v_is : v ≡ view_fresh v = fresh_is v f in
+    subst (λ x. IsInHand x v []) (sym (empty_is b (sizes_over v) h'))
+      (subst (λ x. IsInHand (books_empty b (sizes_over v)) x []) (sym v_is) (hand_empty b v f.accepted (h'.started) (subst IsInOrder v_is order)))
+
+pub opens_seen : (b : Books) (v : AdapterView) (sizes : Sizes) → sizes ≡ sizes_over v → IsEmpty sizes b → IsFresh v → seen_of b v ≡ opening_seen v
+opens_seen b v sizes e h f =
+    let h' : IsEmpty (sizes_over v) b = subst (λ (x : Sizes). IsEmpty x b) e h in
+    let v_is : v ≡ view_fresh v = fresh_is v f in
+    ap (λ (x : Books). seen_of x v) (empty_is b (sizes_over v) h') ∙ ap (λ (x : AdapterView). seen_of (books_empty b (sizes_over v)) x) v_is ∙ ap (λ (x : AdapterView). opening_seen x) (sym v_is)
+
+pub sizes_are : (v : AdapterView) (sector_size sectors max_transfer depth : ℕ) → sector_size ≡ v.sector_size → sectors ≡ length v.sectors → max_transfer ≡ v.max_transfer → depth ≡ v.depth
+    → sizes_by sector_size sectors max_transfer depth ≡ sizes_over v
+sizes_are v sector_size sectors max_transfer depth a c d e =
+    ap (λ (n : ℕ). sizes_by n sectors max_transfer depth) a ∙ ap (λ (n : ℕ). sizes_by v.sector_size n max_transfer depth) c
+    ∙ ap (λ (n : ℕ). sizes_by v.sector_size (length v.sectors) n depth) d ∙ ap (λ (n : ℕ). sizes_by v.sector_size (length v.sectors) v.max_transfer n) e

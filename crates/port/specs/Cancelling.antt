@@ -1,0 +1,23 @@
+-- How the port cancels a packet that is at the adapter.
+use Rattle.std.specs.Prelude.{◌≡◌, ℕ, All, Any}
+use Rattle.srb.specs.Adapter.{AdapterView, TagInUse, HasTag}
+use Rattle.port.specs.Books.{Books}
+use Rattle.port.specs.Turns.{CancelsOn, CannotCancelOn}
+
+-- the tag is in use, and its packet is cancelled
+pub record CancelsAt (old : Books) (v : AdapterView) (tag number : ℕ) (new : Books) : Type 0 where
+  pub in_use : Any (HasTag tag) v.tags
+  pub cancels : CancelsOn old tag number new
+
+-- the tag is free, or its packet cannot be cancelled
+pub record CancelsNotAt (old : Books) (v : AdapterView) (tag number : ℕ) (new : Books) : Type 0 where
+  pub cannot : Any (HasTag tag) v.tags → CannotCancelOn old.started number tag
+  pub same : new ≡ old
+
+abbrev pub CannotCancelUse : Books → ℕ → TagInUse → Type 0
+CannotCancelUse b number use' = CannotCancelOn b.started number use'.tag
+
+-- none of the packets at the adapter can be cancelled
+pub record CancelsNoStarted (old : Books) (v : AdapterView) (number : ℕ) (new : Books) : Type 0 where
+  pub none : All (CannotCancelUse old number) v.tags
+  pub same : new ≡ old
