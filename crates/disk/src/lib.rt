@@ -7,11 +7,24 @@
 //! Doesn't promise that anything stands after the process ends.
 #![tactic(auto)]
 
+mod bad_list;
+mod vec_disk;
+
+use std::alloc::AllocError;
+
 use sector::Extent;
+
+pub use vec_disk::VecDisk;
 
 /// The memory for a reservation was refused.
 #[derive(Debug, Clone, Copy, PartialEq, Eq)]
 pub struct NoMemory;
+
+impl From<AllocError> for NoMemory {
+    fn from(_: AllocError) -> NoMemory {
+        NoMemory
+    }
+}
 
 /// The extent of the call holds a sector that can't be read or written.
 #[derive(Debug, Clone, Copy, PartialEq, Eq)]
