@@ -1,0 +1,149 @@
+-- What a layer shows of itself.
+use Rattle.std.specs.Prelude.{◌≡◌, ◌<◌, ◌≤◌, ℕ, ◌+◌, ◌-◌, ◌*◌, Bool, true, false, List, [], ◌∷◌, Option, Some, None, map, length, slice_range, IsNone, IsTrue, IsFalse, All, IsPermutation, if◌then◌else◌}
+use Rattle.sector.specs.declared.Extent.{Extent}
+use Rattle.cdb.specs.declared.Cdb.{Cdb}
+use Rattle.cdb.specs.Meaning.{Means}
+use Rattle.srb.specs.declared.Srb.{Srb}
+use Rattle.srb.specs.declared.SrbFunction.TheVariants.{ExecuteScsi}
+use Rattle.srb.specs.Fate.{Fate}
+use Rattle.srb.specs.Adapter.{AdapterView, TagInUse, IsInOrder}
+use Rattle.irp.specs.declared.StackLocation.{StackLocation}
+use Rattle.irp.specs.declared.Irp.{Irp}
+use Rattle.irp.specs.Climb.{above as locations_above}
+use Rattle.irp.specs.declared.Payload.{Payload}
+use Rattle.irp.specs.declared.Payload.TheVariants.{Buffer, Srb as Packed, Sent as AtAdapter}
+use Rattle.device.specs.declared.Kind.{Kind}
+use Rattle.device.specs.declared.Kind.TheVariants.{Read, Write, Flush}
+use Rattle.device.specs.declared.Request.{Request}
+use Rattle.device.specs.declared.ClientRequest.{ClientRequest}
+use Rattle.device.specs.Rules.{Rules, is_transfer, sectors_of, as_client}
+use Rattle.device.specs.State.{OpenRequest, Piece, State}
+use Rattle.device.specs.Sending.{command_for}
+use Rattle.device.specs.Settled.{IsAllSent, IsHeldBack, IsWithin, started_count}
+use Rattle.device.specs.Numbers.{AreDistinct, HavePlaces, request_number}
+use Rattle.device.specs.Solo.{all_places}
+
+-- a packet that the layer has: its number, and the stack locations above the layer's own, the topmost driver's first
+pub record Packet : Type 0 where
+  pub number : ℕ
+  pub above : List StackLocation
+
+abbrev pub packet_number : Packet → ℕ
+packet_number packet = packet.number
+
+abbrev pub packet_of : Irp → Packet
+packet_of irp = record { number = irp.number; above = locations_above irp }
+
+pub record Seen : Type 0 where
+  pub rules : Rules
+  pub state : State
+  -- submitted and not yet taken, in any order
+  pub packets : List Packet
+  -- how many requests were submitted so far, and how many may be
+  pub submitted : ℕ
+  pub most : ℕ
+  -- the adapter below, with the labels that it recorded and that nobody took yet
+  pub adapter : AdapterView
+
+-- A REQUEST AND ITS PACKET
+
+-- bytes of the data of a request
+abbrev pub transfer_length : Rules → Request → ℕ
+transfer_length rules r = if is_transfer r.kind then r.extent.count * rules.sector_size else 0
+
+-- the command that asks for all of a request
+abbrev pub whole_command : Rules → Request → Cdb
+whole_command rules r = command_for rules (as_client rules r []) (all_places rules (as_client rules r [])) r.kind
+
+-- the flags of an SRB that say which way its data go
+abbrev pub direction : Kind → ℕ
+direction Read = 0x40
+direction Write = 0x80
+direction Flush = 0
+
+-- an SRB that asks for all of a request, with buffers of its length
+pub record AsksFor (rules : Rules) (r : Request) (srb : Srb) : Type 0 where
+  pub function : srb.function ≡ ExecuteScsi
+  pub flags : srb.flags.0 ≡ direction r.kind
+  pub asks : Means srb.block (whole_command rules r)
+  pub data_length : length srb.data ≡ transfer_length rules r
+  pub label_length : length srb.for_label ≡ transfer_length rules r
+
+-- what a packet carries for its request: an SRB where the layer takes one, else a buffer of its length
+abbrev pub Carries : Bool → Rules → Request → Payload → Type 0
+Carries true rules r (Packed srb) = AsksFor rules r srb
+Carries true rules r (Buffer bytes) = ⊥
+Carries true rules r AtAdapter = ⊥
+Carries false rules r (Packed srb) = ⊥
+Carries false rules r (Buffer bytes) = length bytes ≡ transfer_length rules r
+Carries false rules r AtAdapter = ⊥
+
+abbrev pub payload_bytes : Payload → List ℕ
+payload_bytes (Packed srb) = srb.data
+payload_bytes (Buffer bytes) = bytes
+payload_bytes AtAdapter = []
+
+-- the bytes that a request brings along: those of a write
+abbrev pub sent_bytes : Kind → Payload → List ℕ
+sent_bytes Write payload = payload_bytes payload
+sent_bytes Read payload = []
+sent_bytes Flush payload = []
+
+-- a request that a layer takes: of some sectors of a volume, no more than its longest; a flush has none
+pub record IsBounded (rules : Rules) (r : Request) : Type 0 where
+  pub known : r.volume < length rules.partitions
+  pub some : IsTrue (is_transfer r.kind) → 0 < r.extent.count
+  pub none : IsFalse (is_transfer r.kind) → r.extent.count ≡ 0
+  pub inside : r.extent.first + r.extent.count ≤ sectors_of rules (Some r.volume)
+  pub short : r.extent.count ≤ rules.longest
+
+-- WHAT HOLDS OF A LAYER IN ORDER, BETWEEN ITS CALLS
+
+-- the sectors of a partition
+abbrev pub sectors_in : List (List ℕ) → Extent → List (List ℕ)
+sectors_in sectors extent = slice_range sectors extent.first (extent.first + extent.count)
+
+-- what the adapter knows of a piece
+pub record OnTag : Type 0 where
+  pub number : ℕ
+  pub tag : ℕ
+  pub fate : Fate
+
+abbrev pub piece_on_tag : Piece → OnTag
+piece_on_tag piece = record { number = piece.number; tag = piece.tag; fate = piece.fate }
+
+abbrev pub use_on_tag : TagInUse → OnTag
+use_on_tag in_use = record { number = in_use.piece; tag = in_use.tag; fate = in_use.fate }
+
+-- the arrays are the adapter's sectors by the partitions, and the pieces out are those of its tags
+pub record IsRead (rules : Rules) (s : State) (adapter : AdapterView) : Type 0 where
+  pub same_size : rules.sector_size ≡ adapter.sector_size
+  pub same_depth : rules.depth ≡ adapter.depth
+  pub arrays : s.arrays ≡ map (sectors_in adapter.sectors) rules.partitions
+  pub pieces : IsPermutation (map piece_on_tag s.pieces) (map use_on_tag adapter.tags)
+
+abbrev pub WaitsForTag : Rules → State → OpenRequest → Type 0
+WaitsForTag rules s o = IsFalse o.cancelled → IsHeldBack rules s o
+
+-- the settled facts that a layer owes after each call, whoever takes what has ended: with a tag free nothing waits that
+-- may go; all others hold once nothing that has ended waits to be taken
+pub record IsSending (rules : Rules) (s : State) : Type 0 where
+  pub sent : length s.pieces < rules.depth → IsFalse s.removing → All (IsAllSent rules) s.requests
+  pub released : length s.pieces < rules.depth → IsFalse s.removing → All (WaitsForTag rules s) s.requests
+  pub within_window : IsWithin rules.window (started_count s)
+
+-- places for labels that the adapter may need at once: those recorded, and one for each free tag
+abbrev pub label_places : Seen → ℕ
+label_places v = length v.adapter.labels + (v.rules.depth - length v.state.pieces)
+
+pub record IsOrderly (v : Seen) : Type 0 where
+  pub adapter : IsInOrder v.adapter
+  pub read : IsRead v.rules v.state v.adapter
+  pub distinct : AreDistinct v.state
+  pub places : HavePlaces v.state
+  pub packets : IsPermutation (map packet_number v.packets) (map request_number v.state.requests)
+  pub sending : IsSending v.rules v.state
+  pub labels : label_places v ≤ 64
+  pub uncounted : v.rules.open_requests ≡ None
+  pub none_owed : IsNone v.state.owed
+  pub not_removed : IsFalse v.state.removed
