@@ -9,6 +9,7 @@
 #![tactic(auto)]
 
 mod adapter;
+mod completion;
 
 pub use adapter::Adapter;
 pub use disk::NoMemory;
