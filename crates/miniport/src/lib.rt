@@ -9,6 +9,7 @@
 #![tactic(auto)]
 
 mod adapter;
+mod check;
 mod completion;
 
 pub use adapter::Adapter;
