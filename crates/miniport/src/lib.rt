@@ -9,6 +9,7 @@
 #![tactic(auto)]
 
 mod adapter;
+mod carrying;
 mod check;
 mod completion;
 
