@@ -12,6 +12,8 @@ mod adapter;
 mod carrying;
 mod check;
 mod completion;
+mod on_tag;
+mod table;
 
 pub use adapter::Adapter;
 pub use disk::NoMemory;
