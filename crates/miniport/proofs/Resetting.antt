@@ -35,7 +35,7 @@ failure_of : (slot : Option OnTag) → failures_of_reset slot ≤ 1
 failure_of None = omega arith
 failure_of (Some on) = one_or_none on.was_reset
 
-few_labels : (slots : List (Option OnTag)) → length (flat_map labels_of_reset slots) ≤ length slots
+pub few_labels : (slots : List (Option OnTag)) → length (flat_map labels_of_reset slots) ≤ length slots
 few_labels slots = rw (length-flat_map labels_of_reset slots)
     (omega (arith, sum_by-le (λ (slot : Option OnTag). length (labels_of_reset slot)) 1 slots (λ k d below. label_of _)))
 

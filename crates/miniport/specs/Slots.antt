@@ -80,17 +80,17 @@ with_new tag piece srb table = record table {
   labels = table.labels ++ Start piece tag srb.block ∷ [];
 }
 
--- the piece acted, and its SRB is this now
-abbrev pub with_moved : ℕ → OnTag → Srb → List ℕ → Table → Table
-with_moved tag on srb bytes table = record table {
-  slots = slice_set table.slots tag (Some (record on { srb = srb; progress = Moved }));
+-- the piece acted, and is this now
+abbrev pub with_moved : ℕ → OnTag → List ℕ → Table → Table
+with_moved tag on bytes table = record table {
+  slots = slice_set table.slots tag (Some on);
   labels = table.labels ++ Act on.piece bytes ∷ [];
 }
 
--- the piece failed
-abbrev pub with_failed : ℕ → OnTag → Srb → Completion → Table → Table
-with_failed tag on srb completion table = record table {
-  slots = slice_set table.slots tag (Some (record on { srb = srb; progress = Failed completion }));
+-- the piece failed, and is this now
+abbrev pub with_failed : ℕ → OnTag → Table → Table
+with_failed tag on table = record table {
+  slots = slice_set table.slots tag (Some on);
   failures = table.failures + 1;
   labels = table.labels ++ Fault on.piece ∷ [];
 }

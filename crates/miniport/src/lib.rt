@@ -12,8 +12,10 @@ mod adapter;
 mod carrying;
 mod check;
 mod completion;
+mod memory;
 mod on_tag;
 mod table;
 
 pub use adapter::Adapter;
 pub use disk::NoMemory;
+pub use memory::MemAdapter;

@@ -113,36 +113,28 @@ impl TagTable {
         }
     }
 
-    /// Puts a piece back on its tag: it was carried out, and its SRB is this now.
-    pub fn put_moved(&mut self, tag: u8, on_tag: OnTag, srb: Srb, bytes: Bytes)
+    /// Puts a piece back on its tag, which was carried out: these bytes were read or written.
+    pub fn put_moved(&mut self, tag: u8, on_tag: OnTag, bytes: Bytes)
         requires below { tag < length self.old.slots }
         requires place { length self.old.labels < 64 }
-        ensures { self.new ≡ with_moved tag on_tag srb bytes self.old }
+        ensures { self.new ≡ with_moved tag on_tag bytes self.old }
     {
         let piece = on_tag.piece;
-        self.put(tag, on_tag, srb, Progress::Moved);
+        self.place(tag, on_tag);
         self.labels.push_back_reserved(DeviceLabel::Act { piece, bytes });
     }
 
-    /// Puts a piece back on its tag: it failed with a completion, and its SRB is this now.
-    pub fn put_failed(&mut self, tag: u8, on_tag: OnTag, srb: Srb, completion: Completion)
+    /// Puts a piece back on its tag, which failed.
+    pub fn put_failed(&mut self, tag: u8, on_tag: OnTag)
         requires below { tag < length self.old.slots }
         requires place { length self.old.labels < 64 }
         requires countable { self.old.failures < 2 ^ 127 }
-        ensures { self.new ≡ with_failed tag on_tag srb completion self.old }
+        ensures { self.new ≡ with_failed tag on_tag self.old }
     {
         let piece = on_tag.piece;
-        self.put(tag, on_tag, srb, Progress::Failed(completion));
+        self.place(tag, on_tag);
         self.failures += 1;
         self.labels.push_back_reserved(DeviceLabel::Fault { piece });
-    }
-
-    fn put(&mut self, tag: u8, on_tag: OnTag, srb: Srb, progress: Progress)
-        requires { tag < length self.old.slots }
-        ensures { self.new ≡ with_slot tag (Some (record on_tag { srb = srb; progress = progress })) self.old }
-    {
-        let OnTag { piece, srb: _, progress: _, failures_before, was_reset } = on_tag;
-        self.place(tag, OnTag { piece, srb, progress, failures_before, was_reset });
     }
 
     fn place(&mut self, tag: u8, on_tag: OnTag)
