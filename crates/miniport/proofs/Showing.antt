@@ -1,7 +1,7 @@
 -- What the adapter in memory shows after a call is what the call promises.
-use Rattle.std.proofs.Common.{◌≡◌, ◌<◌, ◌≤◌, ◌⊎◌, inl, inr, ℕ, zero, suc, ◌+◌, ◌==◌, Bool, true, false, not, List, [], ◌∷◌, ◌++◌, length, map, filter, slice_set, get_or, sum_by, All, Option, Some, None, Result, Ok, Err, IsPermutation, IsFalse, IsTrue, refl, sym, ap, ◌∙◌, subst, arith, length-set, set-set, if◌then◌else◌}
+use Rattle.std.proofs.Common.{◌≡◌, ◌<◌, ◌≤◌, ◌⊎◌, inl, inr, ℕ, zero, suc, ◌+◌, ◌==◌, Bool, true, false, not, List, [], ◌∷◌, ◌++◌, length, map, filter, slice_set, get_or, sum_by, All, Option, Some, None, Result, Ok, Err, IsPermutation, IsFalse, IsTrue, refl, sym, ap, ◌∙◌, subst, arith, length-set, set-set, replicate, if◌then◌else◌}
 use Rattle.std.specs.Prelude.{count_by}
-use Rattle.std.proofs.lemmas.List.{set-get_or, length-map, map-set, get_or-map}
+use Rattle.std.proofs.lemmas.List.{set-get_or, length-map, length-replicate, map-set, get_or-map}
 use Rattle.std.proofs.lemmas.List.Sums.{sum_by-cons}
 use Rattle.std.proofs.lemmas.List.Sorted.{IsPermutation-refl}
 use Rattle.std.specs.List.{concat, flat_map}
@@ -26,7 +26,7 @@ use Rattle.miniport.specs.Carrying.{emptied, disk_of}
 use Rattle.miniport.specs.Faults.{Disk, fault_of, Decodes, success, busy, bus_reset}
 use Rattle.miniport.specs.Moving.{moved_by}
 use Rattle.miniport.specs.Slots.{Table, piece_at, in_use_of, fate_of, tags_of, new_piece, with_new, with_moved, with_failed, with_returned, completion_of, completion_by, slot_completion}
-use Rattle.miniport.specs.Memory.{MemView, shown_of, view_of, Dues, EndsBy, ActsByTable, IsPieceRight}
+use Rattle.miniport.specs.Memory.{MemView, shown_of, view_of, new_view, Dues, EndsBy, ActsByTable, IsPieceRight}
 use Rattle.miniport.proofs.TagsInUse.{taken_first, filled}
 use Rattle.miniport.proofs.Keeping.{moved_piece, failed_piece}
 
@@ -210,3 +210,22 @@ finishes_due m longest p t tag on = due_set m longest p (with_returned tag on t)
 pub is_due : (slots : List (Option OnTag)) (tag : ℕ) (on : OnTag) → tag < length slots → piece_at slots tag ≡ Some on
     → get_or (map slot_completion slots) tag None ≡ Some (completion_of on)
 is_due slots tag on below there = get_or-map slot_completion slots tag None None below ∙ ap slot_completion there
+
+-- AT FIRST
+
+no_tags : (size k n : ℕ) → tags_of size k (replicate n None) ≡ []
+no_tags size k zero = refl
+no_tags size k (suc n) = no_tags size (suc k) n
+
+none_due : (n : ℕ) → map slot_completion (replicate n None) ≡ replicate n None
+none_due zero = refl
+none_due (suc n) = ap (λ (l : List (Option Completion)). None ∷ l) (none_due n)
+
+abbrev pub new_table : ℕ → Table
+new_table n = record { slots = replicate n None; accepted = 0; failures = 0; labels = [] }
+
+pub shown_new : (m : MediumView) (longest n : ℕ) (p : Bool) → view_of m longest p (new_table n) ≡ new_view m longest n p
+shown_new m longest n p =
+    ap (λ (d : ℕ). record (view_of m longest p (new_table n)) { shown = record (shown_of m longest (new_table n)) { depth = d } }) (length-replicate n None)
+    ∙ ap (λ (u : List TagInUse). record (view_of m longest p (new_table n)) { shown = record (shown_of m longest (new_table n)) { depth = n; tags = u } }) (no_tags m.sector_size 0 n)
+    ∙ ap (λ (d : List (Option Completion)). record (new_view m longest n p) { due = d }) (none_due n)

@@ -11,11 +11,13 @@ use Rattle.srb.specs.Adapter.{TagInUse, AdapterView, IsOn, ActsOn, FaultsOn}
 use Rattle.disk.specs.Medium.{MediumView}
 use Rattle.miniport.specs.declared.on_tag.OnTag.{OnTag}
 use Rattle.miniport.specs.declared.on_tag.Progress.{Progress}
-use Rattle.miniport.specs.declared.on_tag.Progress.TheVariants.{Untouched, Moved, Failed}
-use Rattle.miniport.specs.Carrying.{IsReady}
+use Rattle.miniport.specs.declared.on_tag.Progress.TheVariants.{Untouched, Moved as Done, Failed as Refused}
+use Rattle.miniport.specs.declared.carrying.Outcome.{Outcome}
+use Rattle.miniport.specs.declared.carrying.Outcome.TheVariants.{Moved, Failed}
+use Rattle.miniport.specs.Carrying.{IsReady, CarriesOut, FailsBy}
 use Rattle.miniport.specs.Faults.{Disk, Decodes, fault_of, success, bus_reset}
 use Rattle.miniport.specs.Moving.{moved_by}
-use Rattle.miniport.specs.Slots.{Table, piece_at, tags_of, slot_completion}
+use Rattle.miniport.specs.Slots.{Table, HasNoneUntouched, piece_at, tags_of, slot_completion, with_slot, with_moved, with_failed}
 
 pub record MemView : Type 0 where
   -- as any adapter
@@ -112,12 +114,36 @@ pub record ResetsAll (old new : MemView) : Type 0 where
   pub counted : new.shown.failures ≡ old.shown.failures + count_by is_unmet old.shown.tags
   pub due : new ≡ record old { shown = new.shown; due = map due_after_reset old.due }
 
+-- ACT
+
+-- a piece was taken off its tag, and is put back as its command ended
+abbrev pub PutsBack : MediumView → Bool → Table → ℕ → OnTag → Outcome → MediumView → Table → Type 0
+PutsBack medium write_protected table tag on (Moved srb bytes) medium' table' =
+    CarriesOut medium write_protected on.srb srb bytes medium'
+    × (table' ≡ with_moved tag (record on { srb = srb; progress = Done }) bytes table)
+PutsBack medium write_protected table tag on (Failed srb completion) medium' table' =
+    FailsBy medium write_protected on.srb srb completion medium'
+    × (table' ≡ with_failed tag (record on { srb = srb; progress = Refused completion }) table)
+
+-- the tag's piece, if it had done nothing yet, is carried out or failed
+pub record ActsIn (medium : MediumView) (write_protected : Bool) (table : Table) (tag : ℕ) (medium' : MediumView) (table' : Table) : Type 0 where
+  pub on : OnTag
+  pub outcome : Outcome
+  pub there : piece_at table.slots tag ≡ Some on
+  pub untouched : on.progress ≡ Untouched
+  pub puts_back : PutsBack medium write_protected (with_slot tag None table) tag on outcome medium' table'
+
+pub record ActsNotIn (medium : MediumView) (table : Table) (tag : ℕ) (medium' : MediumView) (table' : Table) : Type 0 where
+  pub none : HasNoneUntouched table.slots tag
+  pub same_medium : medium' ≡ medium
+  pub same_table : table' ≡ table
+
 -- WHAT IT KEEPS
 
 abbrev pub left_by : Progress → ℕ
 left_by Untouched = 2
-left_by Moved = 1
-left_by (Failed completion) = 1
+left_by Done = 1
+left_by (Refused completion) = 1
 
 -- how many failures a piece may still count
 abbrev pub failures_left : Option OnTag → ℕ
@@ -127,9 +153,9 @@ failures_left (Some on) = if on.was_reset then 0 else left_by on.progress
 pub record IsPieceRight (medium : MediumView) (failures : ℕ) (on : OnTag) : Type 0 where
   pub ready : IsReady medium on.srb
   pub buffers : on.progress ≡ Untouched → length on.srb.for_label ≡ length on.srb.data
-  pub moved : on.progress ≡ Moved → concat (moved_by medium.sector_size on.srb.block on.srb.data) ≡ on.srb.data
+  pub moved : on.progress ≡ Done → concat (moved_by medium.sector_size on.srb.block on.srb.data) ≡ on.srb.data
   pub counted : on.failures_before ≤ failures
-  pub failed : (completion : Completion) → on.progress ≡ Failed completion → (class_of completion ≡ Bad completion) × (on.failures_before < failures)
+  pub failed : (completion : Completion) → on.progress ≡ Refused completion → (class_of completion ≡ Bad completion) × (on.failures_before < failures)
   pub met : on.was_reset ≡ true → (on.failures_before < failures) × (on.progress ≡ Untouched → ⊥)
 
 abbrev pub ArePiecesRight : MediumView → ℕ → List (Option OnTag) → Type 0

@@ -1,8 +1,13 @@
 //! The adapter in memory.
 
-ghost use Rattle.std.specs.Prelude.{◌≡◌, ◌⊎◌, ◌≤◌, ◌<◌, ◌^◌, IfOk, length};
-ghost use Rattle.miniport.specs.Memory.{MemView, view_of, new_view, IsKept};
+ghost use Rattle.std.specs.Prelude.{◌≡◌, ◌⊎◌, ◌≤◌, ◌<◌, ◌^◌, ℕ, IfOk, length, MatchBool};
+ghost use Rattle.miniport.specs.declared.carrying.Outcome.{Outcome};
+ghost use Rattle.miniport.specs.declared.on_tag.Progress.TheVariants.{Untouched};
+ghost use Rattle.miniport.specs.Carrying.{IsReady};
+ghost use Rattle.miniport.specs.Memory.{MemView, view_of, new_view, IsKept, PutsBack, ActsIn, ActsNotIn};
 
+use crate::carrying::{Outcome, carry_out};
+use crate::on_tag::{OnTag, Progress};
 use crate::table::TagTable;
 use disk::{Medium, NoMemory};
 use std::alloc::Global;
@@ -48,4 +53,42 @@ impl<M: Medium> MemAdapter<M> {
             write_protected,
         })
     }
+}
+
+/// Carries the command of a piece out, and puts it back on its tag.
+fn carry_on<M: Medium>(medium: &mut M, write_protected: bool, table: &mut TagTable, tag: u8, on_tag: OnTag)
+    requires ready { IsReady (M.seen medium.old) on_tag.srb }
+    requires buffers { length on_tag.srb.for_label ≡ length on_tag.srb.data }
+    requires countable { (M.seen medium.old).failures < 2 ^ 120 }
+    requires some { 1 ≤ length (M.seen medium.old).sectors }
+    requires few { length (M.seen medium.old).sectors < 2 ^ 32 }
+    requires below { tag < length table.old.slots }
+    requires place { length table.old.labels < 64 }
+    requires counted { table.old.failures < 2 ^ 127 }
+    ensures { (outcome : Outcome) × PutsBack (M.seen medium.old) write_protected table.old tag on_tag outcome (M.seen medium.new) table.new }
+{
+    let OnTag { piece, srb, progress: _, failures_before, was_reset } = on_tag;
+    match carry_out(medium, write_protected, srb) {
+        Outcome::Moved { srb, bytes } => {
+            let on_tag = OnTag { piece, srb, progress: Progress::Moved, failures_before, was_reset };
+            table.put_moved(tag, on_tag, bytes);
+        }
+        Outcome::Failed { srb, completion } => {
+            let on_tag = OnTag { piece, srb, progress: Progress::Failed(completion), failures_before, was_reset };
+            table.put_failed(tag, on_tag);
+        }
+    }
+}
+
+/// Carries the command of a tag's piece out, if it has done nothing yet.
+fn act_on<M: Medium>(medium: &mut M, write_protected: bool, table: &mut TagTable, tag: u8) -> bool
+    requires kept { (longest : ℕ) × IsKept (M.seen medium.old) longest table.old }
+    requires place { length table.old.labels < 64 }
+    ensures { MatchBool result (ActsIn (M.seen medium.old) write_protected table.old tag (M.seen medium.new) table.new) (ActsNotIn (M.seen medium.old) table.old tag (M.seen medium.new) table.new) }
+{
+    let Some(on_tag) = table.take_untouched(tag) else {
+        return false;
+    };
+    carry_on(medium, write_protected, table, tag, on_tag);
+    true
 }
