@@ -7,6 +7,7 @@ use Rattle.cdb.specs.declared.Cdb.{Cdb}
 use Rattle.cdb.specs.declared.Cdb.TheVariants.{Read10, Write10, Sync10, ReadCapacity10}
 use Rattle.srb.specs.declared.Srb.{Srb}
 use Rattle.srb.specs.declared.Completion.{Completion}
+use Rattle.srb.specs.declared.DeviceLabel.{DeviceLabel}
 use Rattle.srb.specs.declared.Class.TheVariants.{Bad}
 use Rattle.srb.specs.Fate.{class_of}
 use Rattle.srb.specs.Adapter.{AdapterView, IsInOrder, IsFree}
@@ -97,7 +98,7 @@ at_most_one false (Failed c) touched = omega arith
 length-splice : (xs : List (List ℕ)) (first : ℕ) (more : List (List ℕ)) → first + length more ≤ length xs → length (splice xs first more) ≡ length xs
 length-splice xs first more fits = simp (length-append, length-take, length-drop) (omega arith)
 
-as_many : (size : ℕ) (sectors : List (List ℕ)) (bytes : List ℕ) (command : Cdb) (moved after : List (List ℕ))
+pub as_many : (size : ℕ) (sectors : List (List ℕ)) (bytes : List ℕ) (command : Cdb) (moved after : List (List ℕ))
     → Performs size sectors bytes command moved after → length after ≡ length sectors
 as_many size sectors bytes (Read10 lba count fua) moved after h = ap length h.2
 as_many size sectors bytes (Write10 lba count fua) moved after (within, same, covers, whole, is) =
@@ -227,4 +228,20 @@ reset_kept m longest t kept places = record {
   failures = omega (arith, left_after_reset t.slots, kept.failures);
   medium_failures = omega (arith, kept.medium_failures);
   labels = omega (arith, length-append t.labels (flat_map labels_of_reset t.slots), few_labels t.slots, places);
+}
+
+-- FEWER LABELS
+
+pub is_short : (m : MediumView) (longest : ℕ) (t : Table) (labels : List DeviceLabel) → length labels ≤ length t.labels → IsKept m longest t
+    → IsKept m longest (record t { labels = labels })
+is_short m longest t labels fewer kept = record {
+  sector_size = kept.sector_size;
+  sectors = kept.sectors;
+  max_transfer = kept.max_transfer;
+  depth = kept.depth;
+  pieces = kept.pieces;
+  accepted = kept.accepted;
+  failures = kept.failures;
+  medium_failures = kept.medium_failures;
+  labels = omega (arith, kept.labels);
 }

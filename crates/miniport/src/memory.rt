@@ -6,10 +6,13 @@ ghost use Rattle.miniport.specs.declared.on_tag.Progress.TheVariants.{Untouched}
 ghost use Rattle.miniport.specs.Carrying.{IsReady};
 ghost use Rattle.miniport.specs.Memory.{MemView, view_of, new_view, IsKept, PutsBack, ActsIn, ActsNotIn};
 
+use crate::adapter::Adapter;
 use crate::carrying::{Outcome, carry_out};
 use crate::on_tag::{OnTag, Progress};
 use crate::table::TagTable;
 use disk::{Medium, NoMemory};
+use sector::Extent;
+use srb::{Completion, DeviceLabel, Srb};
 use std::alloc::Global;
 use std::marker::Model;
 
@@ -52,6 +55,100 @@ impl<M: Medium> MemAdapter<M> {
             max_transfer,
             write_protected,
         })
+    }
+}
+
+impl<M: Medium> Adapter for MemAdapter<M> {
+    ghost use Rattle.std.specs.Prelude.{◌+◌, Some, None, IfSome, get_or, Any, OnOk, MatchOption};
+    ghost use Rattle.srb.specs.Adapter.{HasTag, IsFree, IsInOrder, IsReserved, IsWritable, Accepts};
+    ghost use Rattle.miniport.specs.Calls.{Reserves, Acts, ActsNot, Finishes, FinishesNot, Resets, LeavesFirst, HasNoLabel};
+    ghost use Rattle.miniport.specs.Faults.{busy};
+    ghost use Rattle.miniport.specs.Memory.{Dues, SameDues, ActsByTable, ResetsAll};
+
+    ghost view = { λ a. a.shown };
+
+    fn sector_size(&self) -> u32 {
+        self.medium.sector_size()
+    }
+
+    fn sectors(&self) -> u64 {
+        self.medium.sectors()
+    }
+
+    fn max_transfer(&self) -> u32 {
+        self.max_transfer
+    }
+
+    fn depth(&self) -> u8 {
+        self.table.depth()
+    }
+
+    fn failures(&self) -> u128 {
+        self.table.failures()
+    }
+
+    fn reserve(&mut self, extent: Extent) -> Result<(), NoMemory>
+        requires { extent.first + extent.count ≤ length self.old.shown.sectors }
+        ensures reserved { OnOk result (IsReserved self.new.shown extent) }
+        ensures reserves { Reserves self.old.shown self.new.shown }
+        ensures order { IsInOrder self.new.shown }
+        ensures due { SameDues self.old self.new }
+    {
+        self.medium.reserve(extent)
+    }
+
+    fn in_use(&self, tag: u8) -> bool {
+        self.table.is_in_use(tag)
+    }
+
+    fn accept(&mut self, tag: u8, piece: u128, srb: Srb)
+        requires below { tag < self.old.shown.depth }
+        requires free { IsFree self.old.shown tag }
+        requires writable { IsWritable self.old.shown srb }
+        requires buffers { length srb.for_label ≡ length srb.data }
+        requires few { self.old.shown.accepted < 2 ^ 100 }
+        requires place { length self.old.shown.labels < 64 }
+        ensures accepts { Accepts self.old.shown tag piece srb self.new.shown }
+        ensures order { IsInOrder self.new.shown }
+        ensures due { Dues tag (Some busy) self.old self.new }
+    {
+        self.table.accept(tag, piece, srb);
+    }
+
+    fn act(&mut self, tag: u8) -> bool
+        requires { length self.old.shown.labels < 64 }
+        ensures acts { MatchBool result (Acts self.old.shown tag self.new.shown) (ActsNot self.old.shown tag self.new.shown) }
+        ensures order { IsInOrder self.new.shown }
+        ensures by_table { MatchBool result (ActsByTable self.old tag self.new) (self.new ≡ self.old) }
+    {
+        act_on(&mut self.medium, self.write_protected, &mut self.table, tag)
+    }
+
+    fn finish(&mut self, tag: u8) -> Option<(Srb, Completion)>
+        requires { length self.old.shown.labels < 64 }
+        ensures finishes { MatchOption result (FinishesNot self.old.shown tag self.new.shown) (λ back. Finishes self.old.shown tag back.0 back.1 self.new.shown) }
+        ensures order { IsInOrder self.new.shown }
+        ensures completion { IfSome result (λ back. get_or self.old.due tag None ≡ Some back.1) }
+        ensures due { MatchOption result (self.new ≡ self.old) (λ back. Dues tag None self.old self.new) }
+    {
+        self.table.finish(tag)
+    }
+
+    fn reset(&mut self)
+        requires { length self.old.shown.labels + self.old.shown.depth ≤ 64 }
+        ensures resets { Resets self.old.shown self.new.shown }
+        ensures order { IsInOrder self.new.shown }
+        ensures due { ResetsAll self.old self.new }
+    {
+        self.table.reset();
+    }
+
+    fn take_label(&mut self) -> Option<DeviceLabel>
+        ensures takes { MatchOption result (HasNoLabel self.old.shown self.new.shown) (λ label. LeavesFirst self.old.shown label self.new.shown) }
+        ensures order { IsInOrder self.new.shown }
+        ensures due { SameDues self.old self.new }
+    {
+        self.table.take_label()
     }
 }
 
