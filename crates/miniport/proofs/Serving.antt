@@ -1,12 +1,12 @@
 -- What each call of the adapter in memory leaves, from what it shows before.
-use Rattle.std.proofs.Common.{◌≡◌, ◌<◌, ◌≤◌, ◌^◌, ◌⊎◌, ℕ, ◌+◌, Bool, true, false, List, [], ◌∷◌, length, map, get_or, All, Option, Some, None, MatchBool, MatchOption, is_some, refl, sym, ap, ◌∙◌, subst, arith}
+use Rattle.std.proofs.Common.{◌≡◌, ◌<◌, ◌≤◌, ◌^◌, ◌⊎◌, ℕ, ◌+◌, Bool, true, false, List, [], ◌∷◌, length, map, get_or, All, Option, Some, None, MatchBool, MatchOption, IfSome, is_some, refl, sym, ap, ◌∙◌, subst, arith}
 use Rattle.std.specs.Prelude.{Any}
 use Rattle.srb.specs.declared.Srb.{Srb}
 use Rattle.srb.specs.declared.Completion.{Completion}
 use Rattle.srb.specs.declared.DeviceLabel.{DeviceLabel}
 use Rattle.srb.specs.Adapter.{AdapterView, IsInOrder, IsFree, HasTag, HasNotTag, IsWritable, IsReserved, Accepts}
 use Rattle.sector.specs.declared.Extent.{Extent}
-use Rattle.disk.specs.Medium.{MediumView, IsWhole, Reserves as MediumReserves}
+use Rattle.disk.specs.Medium.{MediumView, IsWhole, Reserves as MediumReserves, IsReserved as MediumReserved}
 use Rattle.miniport.specs.declared.on_tag.OnTag.{OnTag}
 use Rattle.miniport.specs.declared.on_tag.Progress.TheVariants.{Untouched}
 use Rattle.miniport.specs.Calls.{Reserves, Acts, ActsNot, Finishes, FinishesNot, Resets, LeavesFirst, HasNoLabel}
@@ -106,9 +106,138 @@ after_act m longest p t v tag b m' t' e whole kept =
 
 -- FINISH
 
-pub record AfterFinish (v : MemView) (tag : ℕ) (back : Srb × Completion) (m : MediumView) (longest : ℕ) (p : Bool) (t : Table) : Type 0 where
+-- what the table says of a piece that comes back, or of none
+abbrev pub Takes : Table → ℕ → Option (Srb × Completion) → Table → Type 0
+Takes t tag r t' = MatchOption r ((piece_at t.slots tag ≡ None) × (t' ≡ t)) (λ (back : Srb × Completion). ComesBack t tag back.0 back.1 t')
+
+abbrev pub ShowsFinish : AdapterView → ℕ → Option (Srb × Completion) → AdapterView → Type 0
+ShowsFinish old tag r new = MatchOption r (FinishesNot old tag new) (λ (back : Srb × Completion). Finishes old tag back.0 back.1 new)
+
+abbrev pub IsDue : MemView → ℕ → Option (Srb × Completion) → Type 0
+IsDue v tag r = IfSome r (λ (back : Srb × Completion). get_or v.due tag None ≡ Some back.1)
+
+abbrev pub DuesAfter : ℕ → Option (Srb × Completion) → MemView → MemView → Type 0
+DuesAfter tag r old new = MatchOption r (new ≡ old) (λ (back : Srb × Completion). Dues tag None old new)
+
+pub record AfterFinish (v : MemView) (tag : ℕ) (r : Option (Srb × Completion)) (m : MediumView) (longest : ℕ) (p : Bool) (t : Table) : Type 0 where
   pub kept : IsKept m longest t
   pub order : IsInOrder (shown_of m longest t)
-  pub finishes : Finishes v.shown tag back.0 back.1 (shown_of m longest t)
-  pub completion : get_or v.due tag None ≡ Some back.1
-  pub due : Dues tag None v (view_of m longest p t)
+  pub finishes : ShowsFinish v.shown tag r (shown_of m longest t)
+  pub completion : IsDue v tag r
+  pub due : DuesAfter tag r v (view_of m longest p t)
+
+same_srb : (srb on_srb : Srb) (c d : Completion) → c ≡ d → srb ≡ record on_srb { sense = c.sense } → srb ≡ record on_srb { sense = d.sense }
+same_srb srb on_srb c d e f = f ∙ ap (λ (x : Completion). record on_srb { sense = x.sense }) e
+
+finish_along : (old new : AdapterView) (tag : ℕ) (srb srb' : Srb) (c c' : Completion) → srb ≡ srb' → c ≡ c' → Finishes old tag srb' c' new → Finishes old tag srb c new
+finish_along old new tag srb srb' c c' e f h =
+    subst (λ (x : Srb). Finishes old tag x c new) (sym e) (subst (λ (x : Completion). Finishes old tag srb' x new) (sym f) h)
+
+came_back : (m : MediumView) (longest : ℕ) (p : Bool) (t : Table) (tag : ℕ) (srb : Srb) (c : Completion) (on : OnTag) → IsWhole m → IsKept m longest t
+    → length t.labels < 64 → piece_at t.slots tag ≡ Some on → c ≡ completion_of on → srb ≡ record on.srb { sense = c.sense }
+    → AfterFinish (view_of m longest p t) tag (Some (srb, c)) m longest p (with_returned tag on t)
+came_back m longest p t tag srb c on whole kept place there e f =
+    let below : tag < length t.slots = is_below t.slots tag on there in
+    let keeps : IsKept m longest (with_returned tag on t) = finish_kept m longest t tag on kept below place in
+    record {
+      kept = keeps;
+      order = in_order m longest (with_returned tag on t) whole keeps;
+      finishes = finish_along (shown_of m longest t) (shown_of m longest (with_returned tag on t)) tag srb _ c _ (same_srb srb on.srb c (completion_of on) e f) e
+          (finishes m longest t tag on (kept.pieces tag on there) there);
+      completion = is_due t.slots tag on below there ∙ ap (λ (x : Completion). Some x) (sym e);
+      due = finishes_due m longest p t tag on;
+    }
+
+none_came : (m : MediumView) (longest : ℕ) (p : Bool) (t : Table) (tag : ℕ) → IsWhole m → IsKept m longest t → piece_at t.slots tag ≡ None
+    → AfterFinish (view_of m longest p t) tag None m longest p t
+none_came m longest p t tag whole kept none = record {
+  kept = kept;
+  order = in_order m longest t whole kept;
+  finishes = record { is_free = is_free m.sector_size t.slots tag none; same = refl };
+  completion = tt;
+  due = refl;
+}
+
+finished : (m : MediumView) (longest : ℕ) (p : Bool) (t t' : Table) (tag : ℕ) (r : Option (Srb × Completion)) → IsWhole m → IsKept m longest t → length t.labels < 64
+    → Takes t tag r t' → AfterFinish (view_of m longest p t) tag r m longest p t'
+finished m longest p t t' tag None whole kept place (none, same) =
+    subst (λ (s : Table). AfterFinish (view_of m longest p t) tag None m longest p s) (sym same) (none_came m longest p t tag whole kept none)
+finished m longest p t t' tag (Some back) whole kept place h =
+    subst (λ (s : Table). AfterFinish (view_of m longest p t) tag (Some back) m longest p s) (sym h.after)
+      (came_back m longest p t tag back.0 back.1 h.on whole kept place h.was_there h.completion_is h.comes_back)
+
+pub after_finish : (m : MediumView) (longest : ℕ) (p : Bool) (t t' : Table) (v : MemView) (tag : ℕ) (r : Option (Srb × Completion)) → view_of m longest p t ≡ v
+    → IsWhole m → IsKept m longest t → length v.shown.labels < 64 → Takes t tag r t' → AfterFinish v tag r m longest p t'
+after_finish m longest p t t' v tag r e whole kept =
+    subst (λ (u : MemView). length u.shown.labels < 64 → Takes t tag r t' → AfterFinish u tag r m longest p t') e
+      (λ place takes. finished m longest p t t' tag r whole kept place takes)
+
+-- RESET
+
+reset_whole : (m : MediumView) (longest : ℕ) (p : Bool) (t : Table) → IsWhole m → IsKept m longest t → length t.labels + length t.slots ≤ 64
+    → After m longest p (with_reset t) (Resets (shown_of m longest t)) (ResetsAll (view_of m longest p t))
+reset_whole m longest p t whole kept places =
+    let keeps : IsKept m longest (with_reset t) = reset_kept m longest t kept places in
+    record {
+      kept = keeps;
+      order = in_order m longest (with_reset t) whole keeps;
+      shown = resets m longest t (λ tag on there met. ((kept.pieces tag on there).met met).1);
+      due = resets_all m longest p t;
+    }
+
+pub after_reset : (m : MediumView) (longest : ℕ) (p : Bool) (t t' : Table) (v : MemView) → view_of m longest p t ≡ v → t' ≡ with_reset t
+    → IsWhole m → IsKept m longest t → length v.shown.labels + v.shown.depth ≤ 64 → After m longest p t' (Resets v.shown) (ResetsAll v)
+after_reset m longest p t t' v e f whole kept =
+    subst (λ (u : MemView). length u.shown.labels + u.shown.depth ≤ 64 → After m longest p t' (Resets u.shown) (ResetsAll u)) e
+      (λ places. subst (λ (s : Table). After m longest p s (Resets (shown_of m longest t)) (ResetsAll (view_of m longest p t))) (sym f)
+        (reset_whole m longest p t whole kept places))
+
+-- RESERVE
+
+more_reserved : (m : MediumView) (longest : ℕ) (t : Table) (reserved : List Extent)
+    → ((extent : Extent) → MediumReserved m extent → MediumReserved (record m { reserved = reserved }) extent) → IsKept m longest t
+    → IsKept (record m { reserved = reserved }) longest t
+more_reserved m longest t reserved lasts kept =
+    let m' = record m { reserved = reserved } in
+    record {
+      sector_size = kept.sector_size;
+      sectors = kept.sectors;
+      max_transfer = kept.max_transfer;
+      depth = kept.depth;
+      pieces = pieces_along m m' t.failures t.failures t.slots
+          (other_medium m m' t.failures refl (λ srb ready lba count fua means within. lasts _ (ready lba count fua means within))) kept.pieces;
+      accepted = kept.accepted;
+      failures = kept.failures;
+      medium_failures = kept.medium_failures;
+      labels = kept.labels;
+    }
+
+reserved_along : (m : MediumView) (longest : ℕ) (p : Bool) (t : Table) (reserved : List Extent)
+    → ((extent : Extent) → MediumReserved m extent → MediumReserved (record m { reserved = reserved }) extent) → IsWhole m → IsKept m longest t
+    → After (record m { reserved = reserved }) longest p t (Reserves (shown_of m longest t)) (SameDues (view_of m longest p t))
+reserved_along m longest p t reserved lasts whole kept =
+    let keeps : IsKept (record m { reserved = reserved }) longest t = more_reserved m longest t reserved lasts kept in
+    record {
+      kept = keeps;
+      order = in_order (record m { reserved = reserved }) longest t whole keeps;
+      shown = record { reserved = reserved; after = refl; lasts = lasts };
+      due = refl;
+    }
+
+pub after_reserve : (m m' : MediumView) (longest : ℕ) (p : Bool) (t : Table) (v : MemView) → view_of m longest p t ≡ v → MediumReserves m m'
+    → IsWhole m → IsKept m longest t → After m' longest p t (Reserves v.shown) (SameDues v)
+after_reserve m m' longest p t v e reserves whole kept =
+    let lasts : (extent : Extent) → MediumReserved m extent → MediumReserved (record m { reserved = m'.reserved }) extent = reserves.lasts in
+    subst (λ (u : MemView). After m' longest p t (Reserves u.shown) (SameDues u)) e
+      (subst (λ (n : MediumView). After n longest p t (Reserves (shown_of m longest t)) (SameDues (view_of m longest p t))) (sym reserves.after)
+        (reserved_along m longest p t m'.reserved lasts whole kept))
+
+-- TAKE A LABEL
+
+abbrev pub TakesLabel : Table → Option DeviceLabel → Table → Type 0
+TakesLabel t r t' = MatchOption r ((t.labels ≡ []) × (t' ≡ t)) (λ (label : DeviceLabel). (rest : List DeviceLabel) × (t.labels ≡ label ∷ rest) × (t' ≡ record t { labels = rest }))
+
+pub label_taken : (m : MediumView) (longest : ℕ) (t t' : Table) (r : Option DeviceLabel) → TakesLabel t r t' → IsKept m longest t → IsKept m longest t'
+label_taken m longest t t' None (none, same) kept = subst (λ (s : Table). IsKept m longest s) (sym same) kept
+label_taken m longest t t' (Some label) (rest, first, after) kept =
+    subst (λ (s : Table). IsKept m longest s) (sym after) (is_short m longest t rest (omega (arith, ap length first)) kept)
