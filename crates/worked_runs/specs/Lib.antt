@@ -1,0 +1,3 @@
+pub mod Small
+pub mod Served
+pub mod Failed
