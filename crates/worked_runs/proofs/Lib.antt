@@ -1,2 +1,3 @@
 pub mod Steps
 pub mod Serving
+pub mod Failing

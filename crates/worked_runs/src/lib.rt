@@ -1,6 +1,7 @@
 //! Worked runs of the sector machine.
 #![tactic(auto)]
 
+ghost use Rattle.worked_runs.specs.Failed.{IsCutShort, StaysBusy, IsResetBeforeAct, IsResetAfterAct, AnswersLowestFailure};
 ghost use Rattle.worked_runs.specs.Served.{WritesThenReads, JoinsInOrder, Flushes, WritesThrough, SendsAgain, SucceedsThoughCancelled};
 
 /// A sector is written, and read back.
@@ -32,4 +33,29 @@ pub fn send_again()
 #[tactic(auto, using(crate::proofs::Serving::succeeds_though_cancelled))]
 pub fn succeed_though_cancelled()
     ensures { SucceedsThoughCancelled }
+{}
+
+/// A cancel cuts a write short: what was not sent is never sent, and what was sent is written.
+#[tactic(auto, using(crate::proofs::Failing::is_cut_short))]
+pub fn cut_short()
+    ensures { IsCutShort }
+{}
+
+/// A piece that comes back busy too often ends its request.
+#[tactic(auto, using(crate::proofs::Failing::stays_busy))]
+pub fn stay_busy()
+    ensures { StaysBusy }
+{}
+
+/// After a reset the answer does not tell whether the piece had acted.
+#[tactic(auto, using(crate::proofs::Failing::is_reset_before_act, crate::proofs::Failing::is_reset_after_act))]
+pub fn meet_a_reset()
+    ensures before_the_act { IsResetBeforeAct }
+    ensures after_the_act { IsResetAfterAct }
+{}
+
+/// The lowest place that failed gives the status.
+#[tactic(auto, using(crate::proofs::Failing::answers_lowest_failure))]
+pub fn answer_the_lowest_failure()
+    ensures { AnswersLowestFailure }
 {}
