@@ -1,3 +1,5 @@
 pub mod Small
 pub mod Served
 pub mod Failed
+pub mod Held
+pub mod Refused

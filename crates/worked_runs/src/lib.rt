@@ -2,6 +2,8 @@
 #![tactic(auto)]
 
 ghost use Rattle.worked_runs.specs.Failed.{IsCutShort, StaysBusy, IsResetBeforeAct, IsResetAfterAct, AnswersLowestFailure};
+ghost use Rattle.worked_runs.specs.Held.{HoldsThenResumes, RemovesAll};
+ghost use Rattle.worked_runs.specs.Refused.{RefusesClosedHandle, RefusesRemoved, RefusesOutOfBounds, RefusesTooLong, ReadsNothing, RefusesOneMore};
 ghost use Rattle.worked_runs.specs.Served.{WritesThenReads, JoinsInOrder, Flushes, WritesThrough, SendsAgain, SucceedsThoughCancelled};
 
 /// A sector is written, and read back.
@@ -58,4 +60,27 @@ pub fn meet_a_reset()
 #[tactic(auto, using(crate::proofs::Failing::answers_lowest_failure))]
 pub fn answer_the_lowest_failure()
     ensures { AnswersLowestFailure }
+{}
+
+/// A pause holds what comes, and its end lets it go.
+#[tactic(auto, using(crate::proofs::Holding::holds_then_resumes))]
+pub fn hold_then_resume()
+    ensures { HoldsThenResumes }
+{}
+
+/// A removal waits for the pieces out, and answers all requests.
+#[tactic(auto, using(crate::proofs::Holding::removes_all))]
+pub fn remove_all()
+    ensures { RemovesAll }
+{}
+
+/// A call is answered at once for each of these causes, and the first that fits gives the status.
+#[tactic(auto, using(crate::proofs::Refusing::refuses_closed_handle, crate::proofs::Refusing::refuses_removed, crate::proofs::Refusing::refuses_out_of_bounds, crate::proofs::Refusing::refuses_too_long, crate::proofs::Refusing::reads_nothing, crate::proofs::Refusing::refuses_one_more))]
+pub fn refuse_for_each_cause()
+    ensures closed_handle { RefusesClosedHandle }
+    ensures removed { RefusesRemoved }
+    ensures out_of_bounds { RefusesOutOfBounds }
+    ensures too_long { RefusesTooLong }
+    ensures of_length_0 { ReadsNothing }
+    ensures too_many_open { RefusesOneMore }
 {}
