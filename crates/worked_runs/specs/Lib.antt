@@ -3,3 +3,4 @@ pub mod Served
 pub mod Failed
 pub mod Held
 pub mod Refused
+pub mod Impossible

@@ -1,6 +1,8 @@
 //! Worked runs of the sector machine.
 #![tactic(auto)]
 
+pub mod impossible;
+
 ghost use Rattle.worked_runs.specs.Failed.{IsCutShort, StaysBusy, IsResetBeforeAct, IsResetAfterAct, AnswersLowestFailure};
 ghost use Rattle.worked_runs.specs.Held.{HoldsThenResumes, RemovesAll};
 ghost use Rattle.worked_runs.specs.Refused.{RefusesClosedHandle, RefusesRemoved, RefusesOutOfBounds, RefusesTooLong, ReadsNothing, RefusesOneMore};
