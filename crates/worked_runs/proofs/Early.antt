@@ -18,13 +18,27 @@ reaches_one_failed =
     let r : Mark → Mark → OpenRequest = λ a b. opened 1 (read 0 6) (a ∷ b ∷ Untouched ∷ []) in
     let p : Fate → Piece = λ fate. piece_of 1 0 1 0 fate in
     let k : Piece = piece_of 2 1 1 1 Fresh in
-    let is_out : IsPermutation (k ∷ p Fresh ∷ []) (p Fresh ∷ k ∷ []) = swapped k (p Fresh) [] in
-    (_, called small _ (read 0 6) refl refl refl, (
-    _, started small _ (r Untouched Untouched) [] (one_place 0) 0 (read_block 2 1) refl tag_0 (IsPermutation-refl _) (search rules) (search rules) (search rules), (
-    _, started small _ (r Out Untouched) [] (one_place 1) 1 (read_block 3 1) refl (tag_1 (p Fresh) refl) (IsPermutation-refl _) (search rules) (search rules) (search rules), (
-    _, faulted small _ (p Fresh) (k ∷ []) refl (record { is_out = is_out; is_number = refl; is_fresh = refl }), (
-    _, returned small _ (p Faulted) (k ∷ []) (r Out Out) [] (Bad (error_of_key 3)) (Failed DeviceDataError ∷ []) refl (IsPermutation-refl _) (IsPermutation-refl _) refl (search rules),
-    IsSame-refl _)))))
+    let is_out : IsPermutation (k ∷ p Fresh ∷ []) (p Fresh ∷ k ∷ []) = swapped k (p Fresh) [] in (
+      _,
+      called small _ (read 0 6) refl refl refl,
+      (
+        _,
+        started small _ (r Untouched Untouched) [] (one_place 0) 0 (read_block 2 1) refl tag_0 (IsPermutation-refl _) (search rules) (search rules) (search rules),
+        (
+          _,
+          started small _ (r Out Untouched) [] (one_place 1) 1 (read_block 3 1) refl (tag_1 (p Fresh) refl) (IsPermutation-refl _) (search rules) (search rules) (search rules),
+          (
+            _,
+            faulted small _ (p Fresh) (k ∷ []) refl (record { is_out = is_out; is_number = refl; is_fresh = refl }),
+            (
+              _,
+              returned small _ (p Faulted) (k ∷ []) (r Out Out) [] (Bad (error_of_key 3)) (Failed DeviceDataError ∷ []) refl (IsPermutation-refl _) (IsPermutation-refl _) refl (search rules),
+              IsSame-refl _,
+            ),
+          ),
+        ),
+      ),
+    )
 
 pub answers_not_one_failed : NeverAnswers small one_failed 1
 answers_not_one_failed status bytes =
@@ -35,10 +49,15 @@ pub reaches_one_waits : ReachesOneWaits
 reaches_one_waits =
     let r : Mark → OpenRequest = λ b. opened 1 (read 0 6) (Failed DeviceDataError ∷ b ∷ Untouched ∷ []) in
     let k : Fate → Piece = λ fate. piece_of 2 1 1 1 fate in
-    let sector = full_of 0 ∷ [] in
-    (_, acted small _ (k Fresh) [] (r Out) sector zeros (full_of 0) refl (search rules) (search rules) refl refl (search rules) refl, (
-    _, returned small _ (k (Acted sector)) [] (r Out) [] Good (Done (full_of 0) ∷ []) refl (IsPermutation-refl _) (IsPermutation-refl _) refl (search rules),
-    IsSame-refl _))
+    let sector = full_of 0 ∷ [] in (
+      _,
+      acted small _ (k Fresh) [] (r Out) sector zeros (full_of 0) refl (search rules) (search rules) refl refl (search rules) refl,
+      (
+        _,
+        returned small _ (k (Acted sector)) [] (r Out) [] Good (Done (full_of 0) ∷ []) refl (IsPermutation-refl _) (IsPermutation-refl _) refl (search rules),
+        IsSame-refl _,
+      ),
+    )
 
 pub answers_not_one_waits : NeverAnswers small one_waits 1
 answers_not_one_waits status bytes =
@@ -47,11 +66,19 @@ answers_not_one_waits status bytes =
 
 pub reaches_cancelled_out : ReachesCancelledOut
 reaches_cancelled_out =
-    let w : Mark → OpenRequest = λ mark. opened 1 (write 0 2 (full_of 165)) (mark ∷ []) in
-    (_, called small _ (write 0 2 (full_of 165)) refl refl refl, (
-    _, started small _ (w Untouched) [] (one_place 0) 0 (write_block 2 1) refl tag_0 (IsPermutation-refl _) (search rules) (search rules) (search rules), (
-    _, cancelled small _ (w Out) [] refl (IsPermutation-refl _) refl,
-    IsSame-refl _)))
+    let w : Mark → OpenRequest = λ mark. opened 1 (write 0 2 (full_of 165)) (mark ∷ []) in (
+      _,
+      called small _ (write 0 2 (full_of 165)) refl refl refl,
+      (
+        _,
+        started small _ (w Untouched) [] (one_place 0) 0 (write_block 2 1) refl tag_0 (IsPermutation-refl _) (search rules) (search rules) (search rules),
+        (
+          _,
+          cancelled small _ (w Out) [] refl (IsPermutation-refl _) refl,
+          IsSame-refl _,
+        ),
+      ),
+    )
 
 pub answers_not_cancelled_out : NeverAnswers small cancelled_out 1
 answers_not_cancelled_out status bytes =
@@ -79,15 +106,35 @@ reaches_both_failed =
     let p : Fate → Piece = λ fate. piece_of 1 0 1 0 fate in
     let k : Fate → Piece = λ fate. piece_of 2 1 1 1 fate in
     let a = Failed DeviceDataError in
-    let b = Failed DeviceNotReady in
-    (_, called small _ (read 0 4) refl refl refl, (
-    _, started small _ (r Untouched Untouched) [] (one_place 0) 0 (read_block 2 1) refl tag_0 (IsPermutation-refl _) (search rules) (search rules) (search rules), (
-    _, started small _ (r Out Untouched) [] (one_place 1) 1 (read_block 3 1) refl (tag_1 (p Fresh) refl) (IsPermutation-refl _) (search rules) (search rules) (search rules), (
-    _, faulted small _ (k Fresh) (p Fresh ∷ []) refl (search rules), (
-    _, returned small _ (k Faulted) (p Fresh ∷ []) (r Out Out) [] (Bad (error_of_key 2)) (b ∷ []) refl (IsPermutation-refl _) (IsPermutation-refl _) refl (search rules), (
-    _, faulted small _ (p Fresh) [] refl (search rules), (
-    _, returned small _ (p Faulted) [] (r Out b) [] (Bad (error_of_key 3)) (a ∷ []) refl (IsPermutation-refl _) (IsPermutation-refl _) refl (search rules),
-    IsSame-refl _)))))))
+    let b = Failed DeviceNotReady in (
+      _,
+      called small _ (read 0 4) refl refl refl,
+      (
+        _,
+        started small _ (r Untouched Untouched) [] (one_place 0) 0 (read_block 2 1) refl tag_0 (IsPermutation-refl _) (search rules) (search rules) (search rules),
+        (
+          _,
+          started small _ (r Out Untouched) [] (one_place 1) 1 (read_block 3 1) refl (tag_1 (p Fresh) refl) (IsPermutation-refl _) (search rules) (search rules) (search rules),
+          (
+            _,
+            faulted small _ (k Fresh) (p Fresh ∷ []) refl (search rules),
+            (
+              _,
+              returned small _ (k Faulted) (p Fresh ∷ []) (r Out Out) [] (Bad (error_of_key 2)) (b ∷ []) refl (IsPermutation-refl _) (IsPermutation-refl _) refl (search rules),
+              (
+                _,
+                faulted small _ (p Fresh) [] refl (search rules),
+                (
+                  _,
+                  returned small _ (p Faulted) [] (r Out b) [] (Bad (error_of_key 3)) (a ∷ []) refl (IsPermutation-refl _) (IsPermutation-refl _) refl (search rules),
+                  IsSame-refl _,
+                ),
+              ),
+            ),
+          ),
+        ),
+      ),
+    )
 
 pub answers_not_as_higher : NeverAnswersAs small both_failed 1 DeviceNotReady
 answers_not_as_higher bytes = never_answered small both_failed 1 DeviceNotReady bytes refl ((λ number ended success cause hands. cc (cause)), tt)

@@ -17,53 +17,124 @@ is_cut_short =
     let p : Fate → Piece = λ fate. piece_of 1 0 1 0 fate in
     let k : Fate → Piece = λ fate. piece_of 2 1 1 1 fate in
     let sector = full_of 165 ∷ [] in
-    let d = Done (full_of 165) in
-    (_, called small _ (write 0 6 (full_of 165 ++ full_of 165 ++ full_of 165)) refl refl refl, (
-    _, started small _ (w false Untouched Untouched) [] (one_place 0) 0 (write_block 2 1) refl tag_0 (IsPermutation-refl _) (search rules) (search rules) (search rules), (
-    _, started small _ (w false Out Untouched) [] (one_place 1) 1 (write_block 3 1) refl (tag_1 (p Fresh) refl) (IsPermutation-refl _) (search rules) (search rules) (search rules), (
-    _, cancelled small _ (w false Out Out) [] refl (IsPermutation-refl _) refl, (
-    _, acted small _ (p Fresh) (k Fresh ∷ []) (w true Out Out) sector (sectors 165 0 0) (full_of 165)
-      refl (record { is_out = swapped (k Fresh) (p Fresh) []; is_number = refl; is_fresh = refl }) (search rules) refl refl (search rules) refl, (
-    _, returned small _ (p (Acted sector)) (k Fresh ∷ []) (w true Out Out) [] Good (d ∷ []) refl (IsPermutation-refl _) (IsPermutation-refl _) refl (search rules), (
-    _, acted small _ (k Fresh) [] (w true d Out) sector (sectors 165 165 0) (full_of 165) refl (search rules) (search rules) refl refl (search rules) refl, (
-    _, returned small _ (k (Acted sector)) [] (w true d Out) [] Good (d ∷ []) refl (IsPermutation-refl _) (IsPermutation-refl _) refl (search rules), (
-    _, answered small _ (w true d d) [] Cancelled [] refl (IsPermutation-refl _) (inl refl, (inl refl, (inr (Cancelled, inl (refl, refl)), tt))) (search rules) (inl (refl, refl)) refl,
-    IsSame-refl _)))))))))
+    let d = Done (full_of 165) in (
+      _,
+      called small _ (write 0 6 (full_of 165 ++ full_of 165 ++ full_of 165)) refl refl refl,
+      (
+        _,
+        started small _ (w false Untouched Untouched) [] (one_place 0) 0 (write_block 2 1) refl tag_0 (IsPermutation-refl _) (search rules) (search rules) (search rules),
+        (
+          _,
+          started small _ (w false Out Untouched) [] (one_place 1) 1 (write_block 3 1) refl (tag_1 (p Fresh) refl) (IsPermutation-refl _) (search rules) (search rules) (search rules),
+          (
+            _,
+            cancelled small _ (w false Out Out) [] refl (IsPermutation-refl _) refl,
+            (
+              _,
+              acted small _ (p Fresh) (k Fresh ∷ []) (w true Out Out) sector (sectors 165 0 0) (full_of 165)
+                  refl (record { is_out = swapped (k Fresh) (p Fresh) []; is_number = refl; is_fresh = refl }) (search rules) refl refl (search rules) refl,
+              (
+                _,
+                returned small _ (p (Acted sector)) (k Fresh ∷ []) (w true Out Out) [] Good (d ∷ []) refl (IsPermutation-refl _) (IsPermutation-refl _) refl (search rules),
+                (
+                  _,
+                  acted small _ (k Fresh) [] (w true d Out) sector (sectors 165 165 0) (full_of 165) refl (search rules) (search rules) refl refl (search rules) refl,
+                  (
+                    _,
+                    returned small _ (k (Acted sector)) [] (w true d Out) [] Good (d ∷ []) refl (IsPermutation-refl _) (IsPermutation-refl _) refl (search rules),
+                    (
+                      _,
+                      answered small _ (w true d d) [] Cancelled [] refl (IsPermutation-refl _) (inl refl, (inl refl, (inr (Cancelled, inl (refl, refl)), tt))) (search rules) (inl (refl, refl)) refl,
+                      IsSame-refl _,
+                    ),
+                  ),
+                ),
+              ),
+            ),
+          ),
+        ),
+      ),
+    )
 
 pub stays_busy : StaysBusy
 stays_busy =
     let w : ℕ → Mark → OpenRequest = λ times mark. record (opened 1 (write 0 2 (full_of 165)) (mark ∷ [])) { busy_returns = times } in
-    let p : ℕ → Piece = λ number. piece_of number 0 1 0 Fresh in
-    (_, called small _ (write 0 2 (full_of 165)) refl refl refl, (
-    _, started small _ (w 0 Untouched) [] (one_place 0) 0 (write_block 2 1) refl tag_0 (IsPermutation-refl _) (search rules) (search rules) (search rules), (
-    _, returned small _ (p 1) [] (w 0 Out) [] Busy (Back ∷ []) refl (IsPermutation-refl _) (IsPermutation-refl _) refl (search rules), (
-    _, started small _ (w 1 Back) [] (one_place 0) 0 (write_block 2 1) refl tag_0 (IsPermutation-refl _) (search rules) (search rules) (search rules), (
-    _, returned small _ (p 2) [] (w 1 Out) [] Busy (Back ∷ []) refl (IsPermutation-refl _) (IsPermutation-refl _) refl (search rules), (
-    _, answered small _ (w 2 Back) [] DeviceBusy [] refl (IsPermutation-refl _) (inr (DeviceBusy, inr (search rules, refl)), tt) (search rules) (search rules) refl,
-    IsSame-refl _))))))
+    let p : ℕ → Piece = λ number. piece_of number 0 1 0 Fresh in (
+      _,
+      called small _ (write 0 2 (full_of 165)) refl refl refl,
+      (
+        _,
+        started small _ (w 0 Untouched) [] (one_place 0) 0 (write_block 2 1) refl tag_0 (IsPermutation-refl _) (search rules) (search rules) (search rules),
+        (
+          _,
+          returned small _ (p 1) [] (w 0 Out) [] Busy (Back ∷ []) refl (IsPermutation-refl _) (IsPermutation-refl _) refl (search rules),
+          (
+            _,
+            started small _ (w 1 Back) [] (one_place 0) 0 (write_block 2 1) refl tag_0 (IsPermutation-refl _) (search rules) (search rules) (search rules),
+            (
+              _,
+              returned small _ (p 2) [] (w 1 Out) [] Busy (Back ∷ []) refl (IsPermutation-refl _) (IsPermutation-refl _) refl (search rules),
+              (
+                _,
+                answered small _ (w 2 Back) [] DeviceBusy [] refl (IsPermutation-refl _) (inr (DeviceBusy, inr (search rules, refl)), tt) (search rules) (search rules) refl,
+                IsSame-refl _,
+              ),
+            ),
+          ),
+        ),
+      ),
+    )
 
 pub is_reset_before_act : IsResetBeforeAct
 is_reset_before_act =
     let w : Mark → OpenRequest = λ mark. opened 1 (write 0 2 (full_of 165)) (mark ∷ []) in
-    let p : Fate → Piece = λ fate. piece_of 1 0 1 0 fate in
-    (_, called small _ (write 0 2 (full_of 165)) refl refl refl, (
-    _, started small _ (w Untouched) [] (one_place 0) 0 (write_block 2 1) refl tag_0 (IsPermutation-refl _) (search rules) (search rules) (search rules), (
-    _, faulted small _ (p Fresh) [] refl (search rules), (
-    _, returned small _ (p Faulted) [] (w Out) [] (Bad bus_reset) (Failed IoDeviceError ∷ []) refl (IsPermutation-refl _) (IsPermutation-refl _) refl (search rules), (
-    _, answered small _ (w (Failed IoDeviceError)) [] IoDeviceError [] refl (IsPermutation-refl _) (inr (IoDeviceError, refl), tt) (search rules) refl refl,
-    IsSame-refl _)))))
+    let p : Fate → Piece = λ fate. piece_of 1 0 1 0 fate in (
+      _,
+      called small _ (write 0 2 (full_of 165)) refl refl refl,
+      (
+        _,
+        started small _ (w Untouched) [] (one_place 0) 0 (write_block 2 1) refl tag_0 (IsPermutation-refl _) (search rules) (search rules) (search rules),
+        (
+          _,
+          faulted small _ (p Fresh) [] refl (search rules),
+          (
+            _,
+            returned small _ (p Faulted) [] (w Out) [] (Bad bus_reset) (Failed IoDeviceError ∷ []) refl (IsPermutation-refl _) (IsPermutation-refl _) refl (search rules),
+            (
+              _,
+              answered small _ (w (Failed IoDeviceError)) [] IoDeviceError [] refl (IsPermutation-refl _) (inr (IoDeviceError, refl), tt) (search rules) refl refl,
+              IsSame-refl _,
+            ),
+          ),
+        ),
+      ),
+    )
 
 pub is_reset_after_act : IsResetAfterAct
 is_reset_after_act =
     let w : Mark → OpenRequest = λ mark. opened 1 (write 0 2 (full_of 165)) (mark ∷ []) in
     let p : Fate → Piece = λ fate. piece_of 1 0 1 0 fate in
-    let sector = full_of 165 ∷ [] in
-    (_, called small _ (write 0 2 (full_of 165)) refl refl refl, (
-    _, started small _ (w Untouched) [] (one_place 0) 0 (write_block 2 1) refl tag_0 (IsPermutation-refl _) (search rules) (search rules) (search rules), (
-    _, acted small _ (p Fresh) [] (w Out) sector (sectors 165 0 0) (full_of 165) refl (search rules) (search rules) refl refl (search rules) refl, (
-    _, returned small _ (p (Acted sector)) [] (w Out) [] (Bad bus_reset) (Failed IoDeviceError ∷ []) refl (IsPermutation-refl _) (IsPermutation-refl _) refl (search rules), (
-    _, answered small _ (w (Failed IoDeviceError)) [] IoDeviceError [] refl (IsPermutation-refl _) (inr (IoDeviceError, refl), tt) (search rules) refl refl,
-    IsSame-refl _)))))
+    let sector = full_of 165 ∷ [] in (
+      _,
+      called small _ (write 0 2 (full_of 165)) refl refl refl,
+      (
+        _,
+        started small _ (w Untouched) [] (one_place 0) 0 (write_block 2 1) refl tag_0 (IsPermutation-refl _) (search rules) (search rules) (search rules),
+        (
+          _,
+          acted small _ (p Fresh) [] (w Out) sector (sectors 165 0 0) (full_of 165) refl (search rules) (search rules) refl refl (search rules) refl,
+          (
+            _,
+            returned small _ (p (Acted sector)) [] (w Out) [] (Bad bus_reset) (Failed IoDeviceError ∷ []) refl (IsPermutation-refl _) (IsPermutation-refl _) refl (search rules),
+            (
+              _,
+              answered small _ (w (Failed IoDeviceError)) [] IoDeviceError [] refl (IsPermutation-refl _) (inr (IoDeviceError, refl), tt) (search rules) refl refl,
+              IsSame-refl _,
+            ),
+          ),
+        ),
+      ),
+    )
 
 pub answers_lowest_failure : AnswersLowestFailure
 answers_lowest_failure =
@@ -71,13 +142,36 @@ answers_lowest_failure =
     let p : Fate → Piece = λ fate. piece_of 1 0 1 0 fate in
     let k : Fate → Piece = λ fate. piece_of 2 1 1 1 fate in
     let a = Failed DeviceDataError in
-    let b = Failed DeviceNotReady in
-    (_, called small _ (read 0 4) refl refl refl, (
-    _, started small _ (r Untouched Untouched) [] (one_place 0) 0 (read_block 2 1) refl tag_0 (IsPermutation-refl _) (search rules) (search rules) (search rules), (
-    _, started small _ (r Out Untouched) [] (one_place 1) 1 (read_block 3 1) refl (tag_1 (p Fresh) refl) (IsPermutation-refl _) (search rules) (search rules) (search rules), (
-    _, faulted small _ (k Fresh) (p Fresh ∷ []) refl (search rules), (
-    _, returned small _ (k Faulted) (p Fresh ∷ []) (r Out Out) [] (Bad (error_of_key 2)) (b ∷ []) refl (IsPermutation-refl _) (IsPermutation-refl _) refl (search rules), (
-    _, faulted small _ (p Fresh) [] refl (search rules), (
-    _, returned small _ (p Faulted) [] (r Out b) [] (Bad (error_of_key 3)) (a ∷ []) refl (IsPermutation-refl _) (IsPermutation-refl _) refl (search rules), (
-    _, answered small _ (r a b) [] DeviceDataError [] refl (IsPermutation-refl _) (inr (DeviceDataError, refl), (inr (DeviceNotReady, refl), tt)) (search rules) refl refl,
-    IsSame-refl _))))))))
+    let b = Failed DeviceNotReady in (
+      _,
+      called small _ (read 0 4) refl refl refl,
+      (
+        _,
+        started small _ (r Untouched Untouched) [] (one_place 0) 0 (read_block 2 1) refl tag_0 (IsPermutation-refl _) (search rules) (search rules) (search rules),
+        (
+          _,
+          started small _ (r Out Untouched) [] (one_place 1) 1 (read_block 3 1) refl (tag_1 (p Fresh) refl) (IsPermutation-refl _) (search rules) (search rules) (search rules),
+          (
+            _,
+            faulted small _ (k Fresh) (p Fresh ∷ []) refl (search rules),
+            (
+              _,
+              returned small _ (k Faulted) (p Fresh ∷ []) (r Out Out) [] (Bad (error_of_key 2)) (b ∷ []) refl (IsPermutation-refl _) (IsPermutation-refl _) refl (search rules),
+              (
+                _,
+                faulted small _ (p Fresh) [] refl (search rules),
+                (
+                  _,
+                  returned small _ (p Faulted) [] (r Out b) [] (Bad (error_of_key 3)) (a ∷ []) refl (IsPermutation-refl _) (IsPermutation-refl _) refl (search rules),
+                  (
+                    _,
+                    answered small _ (r a b) [] DeviceDataError [] refl (IsPermutation-refl _) (inr (DeviceDataError, refl), (inr (DeviceNotReady, refl), tt)) (search rules) refl refl,
+                    IsSame-refl _,
+                  ),
+                ),
+              ),
+            ),
+          ),
+        ),
+      ),
+    )

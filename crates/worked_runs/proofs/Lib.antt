@@ -5,4 +5,6 @@ pub mod Holding
 pub mod Refusing
 pub mod Refuting
 pub mod Early
+pub mod TooEarly
 pub mod Starting
+pub mod Losing

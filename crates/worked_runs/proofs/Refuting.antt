@@ -1,5 +1,5 @@
 -- What a step asks of the request that it names, for each open request.
-use Rattle.std.proofs.Common.{◌≡◌, ◌<◌, ◌+◌, ◌-◌, ◌⊎◌, ℕ, List, [], ◌∷◌, true, refl, ap, subst, inl, inr, zero, suc, take, drop, arith}
+use Rattle.std.proofs.Common.{◌≡◌, ◌<◌, ◌+◌, ◌-◌, ℕ, List, ◌∷◌, true, ap, subst, inl, inr, zero, suc, take, drop, arith}
 use Rattle.std.specs.Prelude.{All, IsPermutation, IsNone, IsFalse, is_some, IsTrue, ◌↔◌}
 use Rattle.std.specs.List.{AllByRecursion, list_all}
 use Rattle.std.proofs.lemmas.List.Sorted.{All-permutation}
@@ -56,9 +56,9 @@ untouched_ends_not rules s o timely stays (inr (status, inr (h, k))) = cc (h, st
 pub first_waits : (rules : Rules) (o : OpenRequest) (places : Extent) (mark : Mark) (more : List Mark) → o.marks ≡ mark ∷ more → places.first ≡ 0 → IsSendable rules o places → IsUnsent mark
 first_waits rules o places mark more is from h =
     let there : All IsUnsent (take (places.first + places.count - places.first) (drop places.first (mark ∷ more))) =
-      subst (λ marks. All IsUnsent (take (places.first + places.count - places.first) (drop places.first marks))) is h.waiting in
+    subst (λ marks. All IsUnsent (take (places.first + places.count - places.first) (drop places.first marks))) is h.waiting in
     let here : All IsUnsent (take (0 + places.count - 0) (drop 0 (mark ∷ more))) =
-      subst (λ first. All IsUnsent (take (first + places.count - first) (drop first (mark ∷ more)))) from there in
+    subst (λ first. All IsUnsent (take (first + places.count - first) (drop first (mark ∷ more)))) from there in
     of_front (0 + places.count - 0) (omega (arith, h.some)) here
   where
     of_front : (n : ℕ) → 0 < n → All IsUnsent (take n (mark ∷ more)) → IsUnsent mark

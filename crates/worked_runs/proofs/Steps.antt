@@ -1,6 +1,6 @@
 -- One step for each label, from what allows it; the state after is told.
-use Rattle.std.proofs.Common.{◌≡◌, ◌<◌, ◌+◌, ℕ, true, false, List, [], ◌∷◌, Option, Some, None, refl, sym, subst, inl, inr, length, map, arith, rules, lit<}
-use Rattle.std.specs.Prelude.{All, IsPermutation, IsNone, IsTrue, IsFalse, Contains, ◌↔◌}
+use Rattle.std.proofs.Common.{◌≡◌, ◌<◌, ◌+◌, ℕ, true, false, List, [], ◌∷◌, Some, None, refl, sym, subst, inl, inr, length, map, arith, rules, lit<}
+use Rattle.std.specs.Prelude.{IsPermutation, IsNone, IsTrue, IsFalse, Contains, ◌↔◌}
 use Rattle.std.specs.List.{AllByRecursion, list_all, concat}
 use Rattle.std.proofs.lemmas.List.Elements.{All-cons, All-nil, All-from_recursion}
 use Rattle.ntstatus.specs.declared.NtStatus.{NtStatus}
@@ -32,7 +32,7 @@ pub started : (rules : Rules) (s : State) (owner : OpenRequest) (others : List O
     → IsNone s.owed → IsLowestFreeTag rules.depth s.pieces tag → IsPermutation s.requests (owner ∷ others) → MayStart s owner → IsSendable rules owner places
     → Means block (command_for rules owner.request places owner.request.kind)
     → Step rules s (Device (Start s.next_piece tag block))
-        (record s { next_piece = s.next_piece + 1; requests = sent places owner ∷ others; pieces = new_piece s tag owner places ∷ s.pieces })
+    (record s { next_piece = s.next_piece + 1; requests = sent places owner ∷ others; pieces = new_piece s tag owner places ∷ s.pieces })
 started rules s owner others places tag block free on_tag is_open may_start sendable asks = inl (
   free,
   record {

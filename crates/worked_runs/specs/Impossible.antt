@@ -1,18 +1,19 @@
 -- What a wrong body would do, and no state follows by it.
 use Rattle.std.specs.Prelude.{◌<◌, ◌+◌, ℕ, Bool, true, List, [], ◌∷◌, ◌++◌, Some}
 use Rattle.ntstatus.specs.declared.NtStatus.{NtStatus}
-use Rattle.ntstatus.specs.declared.NtStatus.TheVariants.{Success, DeviceDataError, DeviceNotReady}
+use Rattle.ntstatus.specs.declared.NtStatus.TheVariants.{Success, Cancelled, DeviceDataError, DeviceNotReady}
 use Rattle.cdb.specs.declared.Cdb.TheVariants.{Write10}
 use Rattle.cdb.specs.Meaning.{Means}
 use Rattle.srb.specs.Fate.{Fresh}
 use Rattle.srb.specs.declared.DeviceLabel.TheVariants.{Start, Act, Fault, Return}
 use Rattle.srb.specs.declared.Class.TheVariants.{Good, Bad}
 use Rattle.device.specs.declared.Label.{Label}
-use Rattle.device.specs.declared.Label.TheVariants.{Call, Device, Answer, Cancel, Pause, Remove, Removed}
+use Rattle.device.specs.declared.Label.TheVariants.{Call, Device, Answer, Cancel, Pause, Remove}
 use Rattle.device.specs.Rules.{Rules}
 use Rattle.device.specs.State.{State, Untouched, Out, Done, Failed, opening}
 use Rattle.device.specs.Step.{Step, Run}
 use Rattle.worked_runs.specs.Small.{small, zeros, full_of, sectors, idle, read, write, read_block, write_block, error_of_key, opened, piece_of}
+use Rattle.worked_runs.specs.Served.{pairs}
 
 -- no state follows by this label
 abbrev pub Never : Rules → State → Label → Type 0
@@ -30,16 +31,21 @@ NeverAnswersAs rules s request status = (bytes : List ℕ) → Never rules s (An
 abbrev pub NeverStarts : Rules → State → Type 0
 NeverStarts rules s = (piece tag : ℕ) (block : List ℕ) → Never rules s (Device (Start piece tag block))
 
--- no piece starts that writes from this sector of the disk on
-abbrev pub NeverWritesFrom : Rules → State → ℕ → Type 0
-NeverWritesFrom rules s lba = (piece tag count : ℕ) (fua : Bool) (block : List ℕ) → Means block (Write10 lba count fua) → Never rules s (Device (Start piece tag block))
+-- no piece starts whose write begins at this sector of the disk
+abbrev pub NeverWritesAt : Rules → State → ℕ → Type 0
+NeverWritesAt rules s lba = (piece tag count : ℕ) (fua : Bool) (block : List ℕ) → Means block (Write10 lba count fua) → Never rules s (Device (Start piece tag block))
 
--- no piece starts that writes this sector of the disk, or one above
-abbrev pub NeverWritesUpTo : Rules → State → ℕ → Type 0
-NeverWritesUpTo rules s end =
+-- no piece starts whose write goes past the sectors below this one
+abbrev pub NeverWritesBeyond : Rules → State → ℕ → Type 0
+NeverWritesBeyond rules s end =
     (piece tag lba count : ℕ) (fua : Bool) (block : List ℕ) → Means block (Write10 lba count fua) → end < lba + count → Never rules s (Device (Start piece tag block))
 
 -- ANSWERS TOO EARLY
+
+-- a write whose piece is out, whatever it writes and whatever its command
+abbrev pub NeverAnswersBeforeReturn : Type 0
+NeverAnswersBeforeReturn = (bytes block : List ℕ) (status : NtStatus) (handed : List ℕ) (s' : State)
+    → Run small (opening zeros) (Call 1 (write 0 2 bytes) ∷ Device (Start 1 0 block) ∷ Answer 1 status handed ∷ []) s' → ⊥
 
 -- of three pieces the first came back bad, the second is out and the third waits
 abbrev pub one_failed : State
@@ -153,3 +159,67 @@ removing_out = record (idle zeros 2 2) { requests = opened 1 (read 0 2) (Out ∷
 
 abbrev pub ReachesRemovingOut : Type 0
 ReachesRemovingOut = Run small (opening zeros) (Call 1 (read 0 2) ∷ Device (Start 1 0 (read_block 2 1)) ∷ Pause ∷ Remove ∷ []) removing_out
+
+-- a cancel found two of three pieces out; one has come back since
+abbrev pub cut : State
+cut = record (idle (sectors 165 0 0) 2 3) {
+  requests = record (opened 1 (write 0 6 (full_of 165 ++ full_of 165 ++ full_of 165)) (Done (full_of 165) ∷ Out ∷ Untouched ∷ [])) { cancelled = true } ∷ [];
+  pieces = piece_of 2 1 1 1 Fresh ∷ [];
+}
+
+abbrev pub ReachesCut : Type 0
+ReachesCut = Run small (opening zeros) (
+    Call 1 (write 0 6 (full_of 165 ++ full_of 165 ++ full_of 165)) ∷ Device (Start 1 0 (write_block 2 1)) ∷ Device (Start 2 1 (write_block 3 1)) ∷ Cancel 1
+    ∷ Device (Act 1 (full_of 165)) ∷ Device (Return 1 Good)
+    ∷ []) cut
+
+-- LOSES, REPEATS OR MIXES UP
+
+-- a read that waits is cancelled, and answered for it
+abbrev pub AnswersOnce : Type 0
+AnswersOnce = Run small (opening zeros) (Call 1 (read 0 2) ∷ Cancel 1 ∷ Answer 1 Cancelled [] ∷ []) (idle zeros 2 1)
+
+-- a call that nothing refuses has no answer yet
+abbrev pub NeverRefusesWithoutCause : Type 0
+NeverRefusesWithoutCause = (status : NtStatus) (bytes : List ℕ) (s' : State) → Run small (opening zeros) (Call 1 (read 0 2) ∷ Answer 1 status bytes ∷ []) s' → ⊥
+
+-- a read of three sectors of which the last, a piece of its own, was not sent
+abbrev pub last_unsent : State
+last_unsent = record (idle (sectors 17 34 51) 2 2) { requests = opened 1 (read 0 6) (Done (full_of 17) ∷ Done (full_of 34) ∷ Untouched ∷ []) ∷ [] }
+
+abbrev pub ReachesLastUnsent : Type 0
+ReachesLastUnsent = Run pairs (opening (sectors 17 34 51)) (
+    Call 1 (read 0 6) ∷ Device (Start 1 0 (read_block 2 2)) ∷ Device (Act 1 (full_of 17 ++ full_of 34)) ∷ Device (Return 1 Good)
+    ∷ []) last_unsent
+
+-- both sectors of a read have come back, the higher one first
+abbrev pub both_back : State
+both_back = record (idle (sectors 17 34 51) 2 3) { requests = opened 1 (read 0 4) (Done (full_of 17) ∷ Done (full_of 34) ∷ []) ∷ [] }
+
+abbrev pub ReachesBothBack : Type 0
+ReachesBothBack = Run small (opening (sectors 17 34 51)) (
+    Call 1 (read 0 4) ∷ Device (Start 1 0 (read_block 2 1)) ∷ Device (Start 2 1 (read_block 3 1))
+    ∷ Device (Act 2 (full_of 34)) ∷ Device (Return 2 Good) ∷ Device (Act 1 (full_of 17)) ∷ Device (Return 1 Good)
+    ∷ []) both_back
+
+-- of two equal reads the first has been carried out
+abbrev pub one_of_two : State
+one_of_two = record (idle (sectors 17 34 51) 3 2) { requests = opened 1 (read 0 2) (Done (full_of 17) ∷ []) ∷ opened 2 (read 0 2) (Untouched ∷ []) ∷ [] }
+
+abbrev pub ReachesOneOfTwo : Type 0
+ReachesOneOfTwo = Run small (opening (sectors 17 34 51)) (
+    Call 1 (read 0 2) ∷ Device (Start 1 0 (read_block 2 1)) ∷ Call 2 (read 0 2) ∷ Device (Act 1 (full_of 17)) ∷ Device (Return 1 Good)
+    ∷ []) one_of_two
+
+-- a read waits behind another for the one place below the hold, and then alone
+abbrev pub waits_behind : State
+waits_behind = record (idle zeros 3 2) { requests = opened 2 (read 2 2) (Untouched ∷ []) ∷ opened 1 (read 0 2) (Out ∷ []) ∷ []; pieces = piece_of 1 0 1 0 Fresh ∷ [] }
+
+abbrev pub ReachesWaitsBehind : Type 0
+ReachesWaitsBehind = Run one_below (opening zeros) (Call 1 (read 0 2) ∷ Device (Start 1 0 (read_block 2 1)) ∷ Call 2 (read 2 2) ∷ []) waits_behind
+
+abbrev pub left_behind : State
+left_behind = record (idle zeros 3 2) { requests = opened 2 (read 2 2) (Untouched ∷ []) ∷ [] }
+
+abbrev pub ReachesLeftBehind : Type 0
+ReachesLeftBehind = Run one_below waits_behind (Device (Act 1 (full_of 0)) ∷ Device (Return 1 Good) ∷ Answer 1 Success (full_of 0) ∷ []) left_behind
