@@ -1,10 +1,10 @@
 -- No place fails with the status of a good or a busy return.
-use Rattle.std.proofs.Common.{◌≡◌, ◌≢◌, ◌<◌, inl, inr, ℕ, ◌+◌, ◌==◌, ◌&&◌, Bool, true, false, List, [], ◌∷◌, ◌++◌, Option, Some, None, refl, sym, ◌∙◌, ap, subst, arith, map, length, take, drop, replicate, bit_and}
+use Rattle.std.proofs.Common.{◌≡◌, ◌≢◌, inl, inr, ℕ, ◌+◌, ◌==◌, ◌&&◌, Bool, true, false, List, [], ◌∷◌, Option, Some, None, refl, arith, map, length, bit_and}
 use Rattle.std.specs.Prelude.{IsPermutation, All, if◌then◌else◌}
 use Rattle.std.proofs.lemmas.List.Sorted.{IsPermutation-sym, All-permutation}
 use Rattle.std.proofs.lemmas.List.Elements.{All-nil, All-cons, All-head, All-tail, All-weaker, All-map, All-append, All-take, All-drop, All-replicate}
 use Rattle.ntstatus.specs.declared.NtStatus.{NtStatus}
-use Rattle.ntstatus.specs.declared.NtStatus.TheVariants.{Success, Cancelled, DeviceBusy, InvalidDeviceRequest, NoSuchDevice, IoDeviceError, DeviceNotReady, DeviceDataError, NonexistentSector, MediaWriteProtected}
+use Rattle.ntstatus.specs.declared.NtStatus.TheVariants.{Success, DeviceBusy, InvalidDeviceRequest, NonexistentSector}
 use Rattle.ntstatus.specs.declared.Sense.{Sense}
 use Rattle.ntstatus.specs.Table.{status_of, status_of_sense, used_sense}
 use Rattle.sector.specs.Splice.{splice}
