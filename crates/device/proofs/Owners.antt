@@ -1,18 +1,17 @@
 -- What a piece out says of its owner, and a place that is out of its piece.
-use Rattle.std.proofs.Common.{◌≡◌, ◌<◌, ◌≤◌, inl, inr, ℕ, zero, suc, ◌==◌, ◌+◌, Bool, true, false, cond, List, [], ◌∷◌, refl, sym, ◌∙◌, ap, arith, length, get_or, eqb-true}
-use Rattle.std.specs.Prelude.{IsPermutation, All, Any, Contains, IsTrue, IsFalse, count_by}
+use Rattle.std.proofs.Common.{◌≡◌, ◌<◌, ◌≤◌, inl, inr, ℕ, suc, ◌==◌, ◌+◌, Bool, true, false, cond, List, [], ◌∷◌, refl, sym, ◌∙◌, ap, arith, length, eqb-true}
+use Rattle.std.specs.Prelude.{IsPermutation, Any, Contains, IsTrue, IsFalse, count_by}
 use Rattle.std.specs.List.{remove}
 use Rattle.std.proofs.lemmas.Bool.{and_parts, cases_Bool}
 use Rattle.std.proofs.lemmas.List.{get_or_default}
-use Rattle.std.proofs.lemmas.Bool.Decides.{nat_tests}
-use Rattle.std.proofs.lemmas.List.Folds.{Any-from_list_any, list_any_at, list_any_none}
+use Rattle.std.proofs.lemmas.List.Folds.{Any-from_list_any, list_any_at}
 use Rattle.std.proofs.lemmas.List.Sums.{sum_by-cons}
 use Rattle.std.proofs.lemmas.List.Sorted.{IsPermutation-sym, IsPermutation-remove, Contains-permutation}
 use Rattle.std.proofs.lemmas.List.Elements.{All-contains}
 use Rattle.device.specs.State.{Untouched, Out, OpenRequest, Piece, State}
 use Rattle.device.specs.Settled.{is_out, has_out}
 use Rattle.device.specs.Pieces.{covers, mark_at, IsCovered, IsOwner, IsPlaced, ArePlaced}
-use Rattle.device.proofs.Placed.{IsCovered-permutation, is_out_there, is_inside, covers_inside, first_alone, within}
+use Rattle.device.proofs.Placed.{IsCovered-permutation, is_out_there, is_inside, covers_inside, first_alone}
 
 -- the piece is of this request, whose places there are out
 pub record Owns (o : OpenRequest) (p : Piece) : Type 0 where

@@ -65,7 +65,7 @@ drained_order window true below below' held timely above within full p = IsPermu
 drained_order window false below below' held timely above within full p =
     rw (held_back-framed window below held timely above within (full refl)) (IsPermutation-append_left (map late held) _ _ p)
 
-same_below : (paused : Bool) (window : Option ℕ) (requests : List OpenRequest) → window ≡ None → (if paused then requests else held_back window requests) ≡ requests
+pub same_below : (paused : Bool) (window : Option ℕ) (requests : List OpenRequest) → window ≡ None → (if paused then requests else held_back window requests) ≡ requests
 same_below true window requests none = refl
 same_below false window requests none = rw none
 
