@@ -1,0 +1,4 @@
+pub mod Splicing
+pub mod Acted
+pub mod Bounds
+pub mod SoloRead
