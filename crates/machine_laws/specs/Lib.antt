@@ -1,1 +1,4 @@
+pub mod Sectors
+pub mod Along
 pub mod Reached
+pub mod SoloLaws
