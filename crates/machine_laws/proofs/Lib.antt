@@ -9,3 +9,4 @@ pub mod Alone
 pub mod Marks
 pub mod SoloRead
 pub mod SoloWrite
+pub mod Writes

@@ -3,6 +3,7 @@ use Rattle.std.proofs.Common.{◌≡◌, ◌<◌, ◌≤◌, ◌⊎◌, inl, inr
 use Rattle.std.specs.Prelude.{slice_get}
 use Rattle.std.proofs.lemmas.Bool.{cases_lt, cases_eq}
 use Rattle.std.proofs.lemmas.List.{get_or-set_same, get_or_append_left, get_or-append_right, get_or_past, length-take-le}
+use Rattle.std.proofs.lemmas.List.Elements.{All-contains}
 use Rattle.std.proofs.lemmas.List.Sorted.{IsPermutation-sym, Contains-permutation}
 use Rattle.std.proofs.lemmas.Option.{slice_get-get_or}
 use Rattle.sector.specs.Splice.{splice}
@@ -12,7 +13,7 @@ use Rattle.device.specs.declared.Kind.TheVariants.{Read, Write, Flush}
 use Rattle.device.specs.declared.ClientRequest.{ClientRequest}
 use Rattle.device.specs.declared.Label.{Label}
 use Rattle.device.specs.declared.Label.TheVariants.{Call, Device, Answer, Cancel, Pause, Resume, Remove, Removed}
-use Rattle.device.specs.Rules.{Rules, first_sector}
+use Rattle.device.specs.Rules.{Rules, first_sector, place_count, sectors_of}
 use Rattle.device.specs.State.{OpenRequest, Piece, State}
 use Rattle.device.specs.Sending.{Acts, Moves, partition_number, array_of}
 use Rattle.ntstatus.specs.declared.NtStatus.{NtStatus}
@@ -22,7 +23,7 @@ use Rattle.machine_laws.specs.Sectors.{array_at, sector_at, sector_of, bytes_for
 use Rattle.machine_laws.proofs.Splicing.{length-splice}
 use Rattle.machine_laws.proofs.Chunks.{chunk, concat_chunk, range_chunk}
 use Rattle.machine_laws.proofs.Acted.{Moves-range}
-use Rattle.machine_laws.proofs.Serving.{act_fits}
+use Rattle.machine_laws.proofs.Serving.{IsSized, act_inside, act_fits}
 use Rattle.machine_laws.proofs.Sound.{Anything, nothing, IsSound}
 
 -- LISTS
@@ -193,20 +194,30 @@ pub step_sector : (rules : Rules) (s : State) (label : Label) (s' : State) → I
 step_sector rules s label s' sound moved p i = by_arrays moved
   where
     by_hit : (n : ℕ) (bytes : List ℕ) → label ≡ Device (Act n bytes) → (a : Acts rules s n bytes s') → Hits rules a.owner a.piece a.arrays' p i → (r : ℕ) × WritesSector rules r p i s label s'
-    by_hit n bytes e a hit = (
-      a.owner.number,
-      record {
-        act = is_act rules s label s' n bytes e a;
-        is_request = refl;
-        is_write = hit.is_write;
-        on_partition = hit.on_partition;
-        place = hit.place;
-        is_sector = hit.is_sector;
-        from = hit.from;
-        below = hit.below;
-        stands = ap (λ arrays. slice_get (array_at arrays p) i) a.after.arrays ∙ hit.stands;
-      },
-    )
+    by_hit n bytes e a hit =
+        let sized : IsSized rules a.owner = All-contains (IsSized rules) s.requests a.owner sound.1.sized a.is_open in
+        let inside : hit.place < place_count rules a.owner.request = lower hit.below (act_inside rules 0 nothing Anything s n bytes s' sound.1 a) in
+        let under : i < sectors_of rules (Some (partition_number a.owner.request)) = reach _ _ _ _ hit.is_sector inside (sized.inside hit.is_write) in
+        let w : WritesSector rules a.owner.number p i s label s' = record {
+          act = is_act rules s label s' n bytes e a;
+          is_request = refl;
+          is_write = hit.is_write;
+          on_partition = hit.on_partition;
+          place = hit.place;
+          is_sector = hit.is_sector;
+          from = hit.from;
+          below = hit.below;
+          in_request = inside;
+          in_partition = subst (λ m. i < sectors_of rules (Some m)) hit.on_partition under;
+          stands = ap (λ arrays. slice_get (array_at arrays p) i) a.after.arrays ∙ hit.stands;
+        } in
+        (a.owner.number, w)
+      where
+        lower : {x y z : ℕ} → x < y → y ≤ z → x < z
+        lower a b = omega arith
+
+        reach : (first place count sectors : ℕ) → first + place ≡ i → place < count → first + count ≤ sectors → i < sectors
+        reach first place count sectors e a b = omega arith
 
     by_arrays : Moved rules s label s' → (sector_at s' p i ≡ sector_at s p i) ⊎ ((r : ℕ) × WritesSector rules r p i s label s')
     by_arrays (inl same) = inl (ap (λ arrays. slice_get (array_at arrays p) i) same)

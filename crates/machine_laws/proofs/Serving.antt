@@ -48,9 +48,10 @@ abbrev pub Fills : ℕ → Fate → Type 0
 Fills count (Acted sectors) = length sectors ≡ count
 Fills count _ = Unit {0}
 
-pub record IsSized (rules : Rules) (arrays : List (List (List ℕ))) (o : OpenRequest) : Type 0 where
+-- a request with a mark for each place, in its partition
+pub record IsSized (rules : Rules) (o : OpenRequest) : Type 0 where
   pub places : length o.marks ≡ place_count rules o.request
-  pub inside : o.request.kind ≡ Write → past rules o.request ≤ length (array_at arrays (partition_number o.request))
+  pub inside : o.request.kind ≡ Write → past rules o.request ≤ sectors_of rules (Some (partition_number o.request))
 
 pub record Mine (q : ClientRequest) (Right : ℕ → List ℕ → Type 0) (o : OpenRequest) : Type 0 where
   pub request : o.request ≡ q
@@ -71,7 +72,7 @@ pub record PieceFits (rules : Rules) (number : ℕ) (Right : ℕ → List ℕ �
 pub record Serves (rules : Rules) (number : ℕ) (q : ClientRequest) (Right : List (List (List ℕ)) → ℕ → List ℕ → Type 0) (s : State) : Type 0 where
   pub given : number < s.next_request
   pub whole : AreWhole rules s.arrays
-  pub sized : All (IsSized rules s.arrays) s.requests
+  pub sized : All (IsSized rules) s.requests
   pub mine : All (IsMine number q (Right s.arrays)) s.requests
   pub pieces : All (PieceFits rules number (Right s.arrays) s.next_request s.requests) s.pieces
 
@@ -145,13 +146,13 @@ module _ (rules : Rules) (number : ℕ) (q : ClientRequest) (Right : List (List 
       record {
         given = rw h.next_request k.given;
         whole = rw h.arrays k.whole;
-        sized = rw h.arrays (All-permutation (IsSized rules t.arrays) _ _ (IsPermutation-sym _ _ h.requests) k.sized);
+        sized = All-permutation (IsSized rules) _ _ (IsPermutation-sym _ _ h.requests) k.sized;
         mine = rw h.arrays (All-permutation (IsMine number q (Right t.arrays)) _ _ (IsPermutation-sym _ _ h.requests) k.mine);
         pieces = rw (h.arrays, h.next_request) fit;
       }
 
   -- other requests in place of the open ones
-  with_requests : (s : State) (os : List OpenRequest) → Serves rules number q Right s → All (IsSized rules s.arrays) os → All (IsMine number q (Right s.arrays)) os
+  with_requests : (s : State) (os : List OpenRequest) → Serves rules number q Right s → All (IsSized rules) os → All (IsMine number q (Right s.arrays)) os
       → ((p : Piece) → All (HoldsPlaces rules p) s.requests → All (HoldsPlaces rules p) os) → Serves rules number q Right (record s { requests = os })
   with_requests s os k sized mine holds = record {
     given = k.given;
@@ -167,11 +168,11 @@ module _ (rules : Rules) (number : ℕ) (q : ClientRequest) (Right : List (List 
       → o'.number ≡ o.number → o'.request ≡ o.request → length o'.marks ≡ length o.marks → (o.number ≡ number → AllAt (IsRightMark (Right s.arrays)) o'.marks)
       → Serves rules number q Right (record s { requests = o' ∷ others })
   changed s o o' others p k same_number same_request same_length right =
-      let sized : All (IsSized rules s.arrays) (o ∷ others) = All-permutation (IsSized rules s.arrays) _ _ p k.sized in
-      let first : IsSized rules s.arrays o = All-head (IsSized rules s.arrays) o others sized in
+      let sized : All (IsSized rules) (o ∷ others) = All-permutation (IsSized rules) _ _ p k.sized in
+      let first : IsSized rules o = All-head (IsSized rules) o others sized in
       let mine : All (IsMine number q (Right s.arrays)) (o ∷ others) = All-permutation (IsMine number q (Right s.arrays)) _ _ p k.mine in
       with_requests s (o' ∷ others) k
-      (All-cons (IsSized rules s.arrays) o' others (record { places = same_length ∙ first.places ∙ ap (λ r. place_count rules r) (sym same_request); inside = rw same_request first.inside }) (All-tail (IsSized rules s.arrays) o others sized))
+      (All-cons (IsSized rules) o' others (record { places = same_length ∙ first.places ∙ ap (λ r. place_count rules r) (sym same_request); inside = rw same_request first.inside }) (All-tail (IsSized rules) o others sized))
       (All-cons (IsMine number q (Right s.arrays)) o' others
       (λ e. record { request = same_request ∙ (All-head (IsMine number q (Right s.arrays)) o others mine (sym same_number ∙ e)).request; right = right (sym same_number ∙ e) })
       (All-tail (IsMine number q (Right s.arrays)) o others mine))
@@ -183,7 +184,7 @@ module _ (rules : Rules) (number : ℕ) (q : ClientRequest) (Right : List (List 
       → Serves rules number q Right s → Serves rules number q Right (record s { requests = map f s.requests })
   each s f same_number same_request same_marks k =
       with_requests s (map f s.requests) k
-      (All-map (IsSized rules s.arrays) f s.requests (All-weaker (IsSized rules s.arrays) (λ o. IsSized rules s.arrays (f o))
+      (All-map (IsSized rules) f s.requests (All-weaker (IsSized rules) (λ o. IsSized rules (f o))
       (λ o h. record { places = rw (same_marks o, same_request o) h.places; inside = rw (same_request o) h.inside }) s.requests k.sized))
       (All-map (IsMine number q (Right s.arrays)) f s.requests (All-weaker (IsMine number q (Right s.arrays)) (λ o. IsMine number q (Right s.arrays) (f o))
       (λ o h e. record { request = same_request o ∙ (h (sym (same_number o) ∙ e)).request; right = rw (same_marks o) (h (sym (same_number o) ∙ e)).right }) s.requests k.mine))
@@ -204,7 +205,7 @@ module _ (rules : Rules) (number : ℕ) (q : ClientRequest) (Right : List (List 
   with_arrays s arrays k same_length keeps = record {
     given = k.given;
     whole = λ p. rw (same_length p) (k.whole p);
-    sized = All-weaker (IsSized rules s.arrays) (IsSized rules arrays) (λ o h. record { places = h.places; inside = λ e. rw (same_length (partition_number o.request)) (h.inside e) }) s.requests k.sized;
+    sized = k.sized;
     mine = All-weaker (IsMine number q (Right s.arrays)) (IsMine number q (Right arrays))
         (λ o h e. record { request = (h e).request; right = λ j d within. right_mark (Right s.arrays) (Right arrays) keeps j _ ((h e).right j d within) }) s.requests k.mine;
     pieces = All-weaker (PieceFits rules number (Right s.arrays) s.next_request s.requests) (PieceFits rules number (Right arrays) s.next_request s.requests)
@@ -223,8 +224,8 @@ module _ (rules : Rules) (number : ℕ) (q : ClientRequest) (Right : List (List 
       with_pieces s (with_fate fate p ∷ others) k
       (All-cons (PieceFits rules number (Right s.arrays) s.next_request s.requests) (with_fate fate p) others (record { given = f.given; fills = fills; inside = f.inside; right = right }) (All-tail (PieceFits rules number (Right s.arrays) s.next_request s.requests) p others all))
 
-  pub sized_first : (s : State) (o : OpenRequest) (others : List OpenRequest) → IsPermutation s.requests (o ∷ others) → Serves rules number q Right s → IsSized rules s.arrays o
-  sized_first s o others perm k = All-head (IsSized rules s.arrays) o others (All-permutation (IsSized rules s.arrays) _ _ perm k.sized)
+  pub sized_first : (s : State) (o : OpenRequest) (others : List OpenRequest) → IsPermutation s.requests (o ∷ others) → Serves rules number q Right s → IsSized rules o
+  sized_first s o others perm k = All-head (IsSized rules) o others (All-permutation (IsSized rules) _ _ perm k.sized)
 
   pub mine_first : (s : State) (o : OpenRequest) (others : List OpenRequest) → IsPermutation s.requests (o ∷ others) → Serves rules number q Right s → IsMine number q (Right s.arrays) o
   mine_first s o others perm k = All-head (IsMine number q (Right s.arrays)) o others (All-permutation (IsMine number q (Right s.arrays)) _ _ perm k.mine)
@@ -268,12 +269,12 @@ module _ (rules : Rules) (number : ℕ) (q : ClientRequest) (Right : List (List 
   pub act_fits : (s : State) (n : ℕ) (bytes : List ℕ) (s' : State) → Serves rules number q Right s → (h : Acts rules s n bytes s') → h.owner.request.kind ≡ Write
       → first_sector rules h.owner.request + h.piece.places.first + length h.sectors ≤ length (array_of s h.owner.request)
   act_fits s n bytes s' k h w =
-      let sized : IsSized rules s.arrays h.owner = All-contains (IsSized rules s.arrays) s.requests h.owner k.sized h.is_open in
-      within (sized.inside w) (act_inside s n bytes s' k h)
+      let sized : IsSized rules h.owner = All-contains (IsSized rules) s.requests h.owner k.sized h.is_open in
+      within (sized.inside w) (act_inside s n bytes s' k h) (k.whole (partition_number h.owner.request))
     where
-      within : past rules h.owner.request ≤ length (array_of s h.owner.request) → h.piece.places.first + h.piece.places.count ≤ place_count rules h.owner.request
-          → first_sector rules h.owner.request + h.piece.places.first + length h.sectors ≤ length (array_of s h.owner.request)
-      within a b = rw h.covers (omega arith)
+      within : {sectors length' : ℕ} → past rules h.owner.request ≤ sectors → h.piece.places.first + h.piece.places.count ≤ place_count rules h.owner.request → sectors ≤ length'
+          → first_sector rules h.owner.request + h.piece.places.first + length h.sectors ≤ length'
+      within a b c = rw h.covers (omega arith)
 
   Serves-Acts : (s : State) (n : ℕ) (bytes : List ℕ) (s' : State) → Serves rules number q Right s → (h : Acts rules s n bytes s') → ActsRightly rules number Right s n bytes s' h → Serves rules number q Right s'
   Serves-Acts s n bytes s' k h rightly =
@@ -311,11 +312,11 @@ module _ (rules : Rules) (number : ℕ) (q : ClientRequest) (Right : List (List 
       let o : OpenRequest = new_request rules s n r in
       let above : number < n = trans_lt k.given h.new_number in
       let later : s.next_request ≤ n + 1 = later_of h.new_number in
-      let sized : IsSized rules s.arrays o = record { places = length-replicate (place_count rules r) Untouched; inside = λ w. inside_of w } in
+      let sized : IsSized rules o = record { places = length-replicate (place_count rules r) Untouched; inside = λ w. in_bounds rules s r w h.not_refused } in
       Serves-same s' _ h.after (record {
         given = omega arith;
         whole = k.whole;
-        sized = All-cons (IsSized rules s.arrays) o s.requests sized k.sized;
+        sized = All-cons (IsSized rules) o s.requests sized k.sized;
         mine = All-cons (IsMine number q (Right s.arrays)) o s.requests (λ e. absurd (never_equal above e)) k.mine;
         pieces = All-weaker (PieceFits rules number (Right s.arrays) s.next_request s.requests) (PieceFits rules number (Right s.arrays) (n + 1) (o ∷ s.requests)) (λ p f. grown p f) s.pieces k.pieces;
       })
@@ -343,12 +344,6 @@ module _ (rules : Rules) (number : ℕ) (q : ClientRequest) (Right : List (List 
           apart : p.owner < s.next_request → s.next_request ≤ n → n ≡ p.owner → ⊥
           apart a b e = absurd (omega arith)
 
-      inside_of : r.kind ≡ Write → past rules r ≤ length (array_at s.arrays (partition_number r))
-      inside_of w = let b : past rules r ≤ sectors_of rules (Some (partition_number r)) = in_bounds rules s r w h.not_refused in le_le b (k.whole (partition_number r))
-        where
-          le_le : {a b c : ℕ} → a ≤ b → b ≤ c → a ≤ c
-          le_le x y = omega arith
-
   Serves-Admits : (s : State) (n : ℕ) (r : ClientRequest) (answer : Option NtStatus) (s' : State) → s.next_request ≤ n → Serves rules number q Right s → Admits rules s n r answer s' → Serves rules number q Right s'
   Serves-Admits s n r None s' above k h = Serves-Opens s n r s' k h
   Serves-Admits s n r (Some status) s' above k h = Serves-same s' _ h.after (record {
@@ -372,7 +367,7 @@ module _ (rules : Rules) (number : ℕ) (q : ClientRequest) (Right : List (List 
   Serves-FreeStep s (Device label) s' d acts k h = Serves-DeviceStep s label s' d acts k h
   Serves-FreeStep s (Answer n status bytes) s' d acts k h =
       Serves-same s' _ h.after (with_requests s h.others k
-      (All-tail (IsSized rules s.arrays) h.request h.others (All-permutation (IsSized rules s.arrays) _ _ h.is_open k.sized))
+      (All-tail (IsSized rules) h.request h.others (All-permutation (IsSized rules) _ _ h.is_open k.sized))
       (All-tail (IsMine number q (Right s.arrays)) h.request h.others (All-permutation (IsMine number q (Right s.arrays)) _ _ h.is_open k.mine))
       (λ p holds. All-tail (HoldsPlaces rules p) h.request h.others (All-permutation (HoldsPlaces rules p) _ _ h.is_open holds)))
   Serves-FreeStep s (Cancel n) s' d acts k h =

@@ -68,7 +68,7 @@ solo_writes rules before sound number q bytes after is_write served =
     (called_serves rules before number q (IsWritten rules q) served.called sound served.opens) served.run served.solo in
     let h : Answers rules served.ended number Success bytes after = served.answers in
     let mine : Mine q (IsWritten rules q served.ended.arrays) h.request = mine_first rules number q (IsWritten rules q) served.ended h.request h.others h.is_open k h.is_number in
-    let sized : IsSized rules served.ended.arrays h.request = sized_first rules number q (IsWritten rules q) served.ended h.request h.others h.is_open k in
+    let sized : IsSized rules h.request = sized_first rules number q (IsWritten rules q) served.ended h.request h.others h.is_open k in
     let done : list_all is_done h.request.marks ≡ true = h.success.0 refl in
     let count : length h.request.marks ≡ place_count rules q = sized.places ∙ ap (λ r. place_count rules r) mine.request in
     let long : length q.bytes ≡ place_count rules q * rules.sector_size = write_length rules before q is_write served.opens.not_refused served.opens.carries in

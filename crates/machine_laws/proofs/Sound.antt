@@ -55,7 +55,7 @@ IsSound-opening rules arrays whole = (
   record {
     given = lit< tt;
     whole = whole;
-    sized = All-nil (IsSized rules arrays);
+    sized = All-nil (IsSized rules);
     mine = All-nil (IsMine 0 nothing (Anything arrays));
     pieces = All-nil (PieceFits rules 0 (Anything arrays) 1 []);
   },

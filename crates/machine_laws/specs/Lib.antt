@@ -2,3 +2,4 @@ pub mod Sectors
 pub mod Along
 pub mod Reached
 pub mod SoloLaws
+pub mod WriteLaws

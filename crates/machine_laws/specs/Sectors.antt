@@ -5,7 +5,7 @@ use Rattle.device.specs.declared.Kind.TheVariants.{Write}
 use Rattle.device.specs.declared.ClientRequest.{ClientRequest}
 use Rattle.device.specs.declared.Label.{Label}
 use Rattle.device.specs.declared.Label.TheVariants.{Device}
-use Rattle.device.specs.Rules.{Rules, first_sector}
+use Rattle.device.specs.Rules.{Rules, first_sector, place_count, sectors_of}
 use Rattle.device.specs.State.{OpenRequest, Piece, State}
 use Rattle.device.specs.Sending.{partition_number}
 
@@ -53,4 +53,6 @@ pub record WritesSector (rules : Rules) (r p i : ℕ) (s : State) (label : Label
   pub is_sector : sector_of rules act.owner.request place ≡ i
   pub from : act.piece.places.first ≤ place
   pub below : place < act.piece.places.first + act.piece.places.count
+  pub in_request : place < place_count rules act.owner.request
+  pub in_partition : i < sectors_of rules (Some p)
   pub stands : sector_at s' p i ≡ Some (bytes_for rules act.owner.request place)
