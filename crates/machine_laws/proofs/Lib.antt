@@ -10,3 +10,6 @@ pub mod Marks
 pub mod SoloRead
 pub mod SoloWrite
 pub mod Writes
+pub mod Matching
+pub mod Ending
+pub mod Going

@@ -1,8 +1,8 @@
 -- What a step does to one sector of the arrays.
-use Rattle.std.proofs.Common.{◌≡◌, ◌<◌, ◌≤◌, ◌⊎◌, inl, inr, ℕ, zero, suc, ◌+◌, ◌-◌, ◌*◌, List, [], ◌∷◌, ◌++◌, Option, Some, None, refl, sym, ◌∙◌, ap, subst, arith, length, take, drop, get_or}
+use Rattle.std.proofs.Common.{◌≡◌, ◌<◌, ◌≤◌, ◌⊎◌, inl, inr, ℕ, ◌+◌, ◌-◌, ◌*◌, List, [], ◌∷◌, Option, Some, None, refl, sym, ◌∙◌, ap, subst, arith, length, take, drop}
 use Rattle.std.specs.Prelude.{slice_get}
 use Rattle.std.proofs.lemmas.Bool.{cases_lt, cases_eq}
-use Rattle.std.proofs.lemmas.List.{get_or-set_same, get_or_append_left, get_or-append_right, get_or_past, length-take-le}
+use Rattle.std.proofs.lemmas.List.{get_or-set_same, get_or_past}
 use Rattle.std.proofs.lemmas.List.Elements.{All-contains}
 use Rattle.std.proofs.lemmas.List.Sorted.{IsPermutation-sym, Contains-permutation}
 use Rattle.std.proofs.lemmas.Option.{slice_get-get_or}
@@ -20,32 +20,11 @@ use Rattle.ntstatus.specs.declared.NtStatus.{NtStatus}
 use Rattle.device.specs.Calling.{refusal, Admits}
 use Rattle.device.specs.Step.{FreeStep, OwingStep, Step}
 use Rattle.machine_laws.specs.Sectors.{array_at, sector_at, sector_of, bytes_for, IsAct, WritesSector}
-use Rattle.machine_laws.proofs.Splicing.{length-splice}
+use Rattle.machine_laws.proofs.Splicing.{first_of, splice_inside}
 use Rattle.machine_laws.proofs.Chunks.{chunk, concat_chunk, range_chunk}
 use Rattle.machine_laws.proofs.Acted.{Moves-range}
 use Rattle.machine_laws.proofs.Serving.{IsSized, act_inside, act_fits}
 use Rattle.machine_laws.proofs.Sound.{Anything, nothing, IsSound}
-
--- LISTS
-
-first_of : {X : Type 0} (xs : List X) (i : ℕ) → slice_get (take 1 (drop i xs)) 0 ≡ slice_get xs i
-first_of [] zero = refl
-first_of [] (suc i) = refl
-first_of (x ∷ xs) zero = refl
-first_of (x ∷ xs) (suc i) = first_of xs i
-
--- what is put in place stands there
-splice_inside : {X : Type 0} (xs : List X) (first : ℕ) (more : List X) (k : ℕ) → first + length more ≤ length xs → k < length more → slice_get (splice xs first more) (first + k) ≡ slice_get more k
-splice_inside {X} [] first more k fits low = absurd (omega arith)
-splice_inside {X} (x ∷ xs) first more k fits low =
-    let front : length (take first (x ∷ xs)) ≡ first = length-take-le first (x ∷ xs) (omega arith) in
-    let within : first + k < length (splice (x ∷ xs) first more) = rw (length-splice (x ∷ xs) first more fits) (omega arith) in
-    let rest : first + k - first ≡ k = omega arith in
-    slice_get-get_or (splice (x ∷ xs) first more) (first + k) x within
-    ∙ ap Some (get_or-append_right (take first (x ∷ xs)) (more ++ drop (first + length more) (x ∷ xs)) first (first + k) x front (omega arith)
-    ∙ ap (λ m. get_or (more ++ drop (first + length more) (x ∷ xs)) m x) rest
-    ∙ get_or_append_left more (drop (first + length more) (x ∷ xs)) x k low)
-    ∙ sym (slice_get-get_or more k x low)
 
 pub bytes_are : (rules : Rules) (q : ClientRequest) (place : ℕ) → bytes_for rules q place ≡ chunk rules.sector_size place q.bytes
 bytes_are rules q place = let n : (place + 1) * rules.sector_size - place * rules.sector_size ≡ rules.sector_size = omega arith in ap (λ m. take m (drop (place * rules.sector_size) q.bytes)) n

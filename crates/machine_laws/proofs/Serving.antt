@@ -107,7 +107,7 @@ replicated right first count m marks e all j x within =
     rw same (all (first + j))
 
 -- a piece that comes back leaves right marks
-leaves_right : (right : ℕ → List ℕ → Type 0) (number : ℕ) (p : Piece) (class : Class) (marks : List Mark) → Fills p.places.count p.fate → (p.owner ≡ number → IsRightFate right p.places.first p.fate) → Leaves p class marks
+pub leaves_right : (right : ℕ → List ℕ → Type 0) (number : ℕ) (p : Piece) (class : Class) (marks : List Mark) → Fills p.places.count p.fate → (p.owner ≡ number → IsRightFate right p.places.first p.fate) → Leaves p class marks
     → (length marks ≡ p.places.count) × (p.owner ≡ number → (j : ℕ) (x : Mark) → j < length marks → IsRightMark right (p.places.first + j) (get_or marks j x))
 leaves_right right number p Good marks fills is_right h =
     let fills' : length h.0 ≡ p.places.count = subst (λ fate. Fills p.places.count fate) h.1 fills in
@@ -362,7 +362,7 @@ module _ (rules : Rules) (number : ℕ) (q : ClientRequest) (Right : List (List 
   Serves-paused s None k = with_requests s s.requests k k.sized k.mine (λ p h. h)
   Serves-paused s (Some window) k = each s (beyond window s.requests) (λ o. refl) (λ o. refl) (λ o. refl) k
 
-  Serves-FreeStep : (s : State) (label : Label) (s' : State) → AreDistinct s → AllActRightly rules number Right s s' → Serves rules number q Right s → FreeStep rules s label s' → Serves rules number q Right s'
+  pub Serves-FreeStep : (s : State) (label : Label) (s' : State) → AreDistinct s → AllActRightly rules number Right s s' → Serves rules number q Right s → FreeStep rules s label s' → Serves rules number q Right s'
   Serves-FreeStep s (Call n r) s' d acts k h = Serves-Admits s n r (refusal rules s r) s' (rw h.next_number (omega arith)) k h.admits
   Serves-FreeStep s (Device label) s' d acts k h = Serves-DeviceStep s label s' d acts k h
   Serves-FreeStep s (Answer n status bytes) s' d acts k h =

@@ -3,3 +3,4 @@ pub mod Along
 pub mod Reached
 pub mod SoloLaws
 pub mod WriteLaws
+pub mod EndLaws

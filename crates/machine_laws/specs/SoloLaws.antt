@@ -1,15 +1,16 @@
 -- The laws of a request that no other write meets, at each moment that a run reaches.
-use Rattle.std.specs.Prelude.{◌≡◌, ◌<◌, ◌⊎◌, ℕ, List, Some}
+use Rattle.std.specs.Prelude.{◌≡◌, ◌<◌, ◌⊎◌, ℕ, List, Some, None}
 use Rattle.ntstatus.specs.declared.NtStatus.{NtStatus}
 use Rattle.device.specs.declared.Kind.TheVariants.{Write}
 use Rattle.device.specs.declared.ClientRequest.{ClientRequest}
 use Rattle.device.specs.declared.Label.{Label}
+use Rattle.device.specs.declared.Label.TheVariants.{Call, Answer}
 use Rattle.device.specs.Rules.{Rules, place_count}
 use Rattle.device.specs.State.{State}
-use Rattle.device.specs.Calling.{Opens}
+use Rattle.device.specs.Calling.{refusal, Opens}
 use Rattle.device.specs.Sending.{partition_number}
 use Rattle.device.specs.Answering.{Answers}
-use Rattle.device.specs.Step.{Run}
+use Rattle.device.specs.Step.{Step, Run}
 use Rattle.device.specs.Solo.{IsSolo, SoloReads, SoloWrites}
 use Rattle.machine_laws.specs.Sectors.{sector_at, sector_of, bytes_for, WritesSector}
 use Rattle.machine_laws.specs.Along.{Sometime}
@@ -32,6 +33,12 @@ pub record IsAnswered (rules : Rules) (number : ℕ) (q : ClientRequest) (status
   pub run : Run rules called labels ended
   pub solo : IsSolo rules number q called labels ended run
   pub answers : Answers rules ended number status bytes after
+
+-- a call that is not refused opens its request, and an answer of that number after it is the open request's
+abbrev pub LabelsAreOfOne : Type 0
+LabelsAreOfOne = (rules : Rules) (number : ℕ) (q : ClientRequest) (status : NtStatus) (bytes : List ℕ) (before called : State) (labels : List Label) (ended after : State)
+    → refusal rules before q ≡ None → Step rules before (Call number q) called → Run rules called labels ended → Step rules ended (Answer number status bytes) after
+    → Opens rules before number q called × Answers rules ended number status bytes after
 
 -- each place of a solo write, also of one that failed, is as it was before its call,
 -- or a piece of the write acted on it before its answer, and the write's bytes stand there
