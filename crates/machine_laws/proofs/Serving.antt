@@ -40,10 +40,12 @@ abbrev pub IsRightMark : (ℕ → List ℕ → Type 0) → ℕ → Mark → Type
 IsRightMark Right k (Done sector) = Right k sector
 IsRightMark Right k _ = Unit {0}
 
+-- and so has each place on which a piece acted, counted from the piece's first
 abbrev pub IsRightFate : (ℕ → List ℕ → Type 0) → ℕ → Fate → Type 0
 IsRightFate Right first (Acted sectors) = (k : ℕ) (d : List ℕ) → k < length sectors → Right (first + k) (get_or sectors k d)
 IsRightFate Right first _ = Unit {0}
 
+-- an act hands over a sector for each place
 abbrev pub Fills : ℕ → Fate → Type 0
 Fills count (Acted sectors) = length sectors ≡ count
 Fills count _ = Unit {0}
@@ -53,6 +55,7 @@ pub record IsSized (rules : Rules) (o : OpenRequest) : Type 0 where
   pub places : length o.marks ≡ place_count rules o.request
   pub inside : o.request.kind ≡ Write → past rules o.request ≤ sectors_of rules (Some (partition_number o.request))
 
+-- the request that is served
 pub record Mine (q : ClientRequest) (Right : ℕ → List ℕ → Type 0) (o : OpenRequest) : Type 0 where
   pub request : o.request ≡ q
   pub right : AllAt (IsRightMark Right) o.marks
@@ -60,15 +63,18 @@ pub record Mine (q : ClientRequest) (Right : ℕ → List ℕ → Type 0) (o : O
 abbrev pub IsMine : ℕ → ClientRequest → (ℕ → List ℕ → Type 0) → OpenRequest → Type 0
 IsMine number q Right o = o.number ≡ number → Mine q Right o
 
+-- a piece lies in its owner
 abbrev pub HoldsPlaces : Rules → Piece → OpenRequest → Type 0
 HoldsPlaces rules p o = o.number ≡ p.owner → p.places.first + p.places.count ≤ place_count rules o.request
 
+-- what holds of a piece out
 pub record PieceFits (rules : Rules) (number : ℕ) (Right : ℕ → List ℕ → Type 0) (next : ℕ) (requests : List OpenRequest) (p : Piece) : Type 0 where
   pub given : p.owner < next
   pub fills : Fills p.places.count p.fate
   pub inside : All (HoldsPlaces rules p) requests
   pub right : p.owner ≡ number → IsRightFate Right p.places.first p.fate
 
+-- request q of that number is served rightly, and the machine is in order
 pub record Serves (rules : Rules) (number : ℕ) (q : ClientRequest) (Right : List (List (List ℕ)) → ℕ → List ℕ → Type 0) (s : State) : Type 0 where
   pub given : number < s.next_request
   pub whole : AreWhole rules s.arrays
