@@ -77,3 +77,6 @@ pub trait Medium: Drop {
 
     ghost whole: { (medium : Self) → IsWhole (seen medium) };
 }
+
+#[cfg(test)]
+mod tests;

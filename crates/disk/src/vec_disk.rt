@@ -1,6 +1,6 @@
 //! A medium in memory.
 
-ghost use Rattle.std.specs.Prelude.{◌≡◌, ℕ, ◌*◌, ◌<◌, ◌≤◌, ◌+◌, ◌^◌, ◌↔◌, length, IfOk, Contains};
+ghost use Rattle.std.specs.Prelude.{◌≡◌, ℕ, ◌*◌, ◌<◌, ◌≤◌, ◌+◌, ◌^◌, ◌↔◌, length, IfOk, IsErr, OnOk, OnErr, Contains};
 
 use std::alloc::Global;
 
@@ -21,7 +21,7 @@ pub struct VecDisk {
 }
 
 impl VecDisk {
-    ghost use Rattle.disk.specs.Medium.{IsBlank, IsWithin, IsReserved};
+    ghost use Rattle.disk.specs.Medium.{IsBlank, IsWithin, IsReserved, HasBad, failed};
     ghost use Rattle.disk.specs.VecDisk.{shown};
 
     /// A disk of so many sectors, each of `sector_size` bytes, in which the sectors of the list are bad.
@@ -43,6 +43,20 @@ impl VecDisk {
             bad: BadList::new(bad),
             failures: 0,
         })
+    }
+
+    /// Counts a failure where a sector of the extent is bad.
+    fn check(&mut self, extent: Extent) -> Result<(), BadSector>
+        requires { self.old.failures < 2 ^ 120 }
+        ensures refused { IsErr result ↔ HasBad (shown self.old) extent }
+        ensures passes { OnOk result (self.new ≡ self.old) }
+        ensures fails { OnErr result (shown self.new ≡ failed (shown self.old)) }
+    {
+        if self.bad.meets(extent) {
+            self.failures += 1;
+            return Err(BadSector);
+        }
+        Ok(())
     }
 
     /// The places of the first byte of an extent and of the byte after its last.
@@ -83,20 +97,14 @@ impl Medium for VecDisk {
     }
 
     fn read(&mut self, extent: Extent, buffer: &mut [u8]) -> Result<(), BadSector> {
-        if self.bad.meets(extent) {
-            self.failures += 1;
-            return Err(BadSector);
-        }
+        self.check(extent)?;
         let (start, end) = self.places(extent);
         buffer.copy_from_slice(&self.bytes[start..end]);
         Ok(())
     }
 
     fn write(&mut self, extent: Extent, bytes: &[u8]) -> Result<(), BadSector> {
-        if self.bad.meets(extent) {
-            self.failures += 1;
-            return Err(BadSector);
-        }
+        self.check(extent)?;
         let (start, end) = self.places(extent);
         self.bytes[start..end].copy_from_slice(bytes);
         Ok(())
