@@ -4,21 +4,12 @@ use Rattle.std.proofs.lemmas.List.{take-append-le, drop-append-le, take_at, drop
 use Rattle.std.proofs.lemmas.Grind.{common_steps}
 use Rattle.std.specs.List.{concat}
 use Rattle.std.specs.Simd.{first_chunks}
-use Rattle.sector.specs.declared.Extent.{Extent}
 use Rattle.sector.specs.Splice.{splice}
-use Rattle.disk.specs.declared.vec_disk.VecDisk.{VecDisk}
-use Rattle.disk.specs.Medium.{IsWithin}
-use Rattle.disk.specs.VecDisk.{shown}
 use borrow.Rule.Slice.PartMut.{put_mid}
 
 pub length-first_chunks : (size count : ℕ) (bytes : List ℕ) → length (first_chunks size count bytes) ≡ count
 length-first_chunks size zero bytes = refl
 length-first_chunks size (suc n) bytes = ap (λ (k : ℕ). suc k) (length-first_chunks size n (drop size bytes))
-
--- an extent within what is shown lies within the disk that passed
-pub within_sectors : (old new : VecDisk) (extent : Extent) → new ≡ old → IsWithin (shown old) extent → extent.first + extent.count ≤ new.sectors
-within_sectors old new extent same within =
-    omega (arith, within, ap (λ (disk : VecDisk). disk.sectors) same, length-first_chunks old.sector_size old.sectors old.bytes.items)
 
 -- the cut of two parts, the first of whole sectors
 first_chunks-append : (size first count : ℕ) (xs ys : List ℕ) → length xs ≡ first * size

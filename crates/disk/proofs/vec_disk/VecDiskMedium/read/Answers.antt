@@ -1,5 +1,6 @@
 use Rattle.std.proofs.Common.{arith, ap, refl, ◌∙◌, ◌+◌, ◌≤◌, slice_range}
-use Rattle.disk.proofs.Cutting.{within_sectors, bytes_of_sectors}
+use Rattle.disk.proofs.Cutting.{bytes_of_sectors}
+use Rattle.disk.proofs.Shown.{within_sectors}
 use Rattle.disk.proofs.vec_disk.VecDiskMedium.read.Goals as goal
 
 pub places-start-requires : goal.places-start-requires

@@ -2,7 +2,8 @@ use Rattle.std.proofs.Common.{◌≡◌, ◌*◌, ap, length}
 use Rattle.std.specs.Simd.{first_chunks}
 use Rattle.disk.specs.Chunks.{All-first_chunks}
 use Rattle.disk.specs.VecDisk.{shown}
-use Rattle.disk.proofs.Cutting.{within_sectors, length-first_chunks, concat-first_chunks, sectors_written}
+use Rattle.disk.proofs.Cutting.{length-first_chunks, concat-first_chunks, sectors_written}
+use Rattle.disk.proofs.Shown.{within_sectors}
 use Rattle.disk.proofs.vec_disk.VecDiskMedium.write.Goals as goal
 
 pub places-start-requires : goal.places-start-requires
