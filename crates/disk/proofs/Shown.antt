@@ -1,5 +1,5 @@
 -- What a disk in memory shows is as large as the disk.
-use Rattle.std.proofs.Common.{◌≡◌, ℕ, ◌+◌, ◌≤◌, arith, ap}
+use Rattle.std.proofs.Common.{◌≡◌, ◌+◌, ◌≤◌, arith, ap}
 use Rattle.sector.specs.declared.Extent.{Extent}
 use Rattle.disk.specs.declared.vec_disk.VecDisk.{VecDisk}
 use Rattle.disk.specs.Medium.{IsWithin}

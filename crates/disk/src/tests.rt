@@ -1,13 +1,11 @@
 ghost use Rattle.std.specs.Prelude.{◌≡◌, ◌*◌, ◌<◌, ◌^◌, length, OnOk};
 ghost use Rattle.disk.specs.Medium.{IsWithin, IsReserved};
 
+use crate::{BadSector, Medium, NoMemory, VecDisk};
+use sector::Extent;
 use std::alloc::Global;
 use std::process::Abort;
 use std::test::Fail;
-
-use sector::Extent;
-
-use crate::{BadSector, Medium, NoMemory, VecDisk};
 
 // What was written is read.
 fn write_then_read<M: Medium>(
@@ -28,7 +26,13 @@ fn write_then_read<M: Medium>(
 }
 
 // Fills an extent with a byte and reads it back, or sees both calls fail and be counted.
-fn fills<M: Medium>(rt: &impl Abort, alloc: Global, medium: &mut M, extent: Extent, byte: u8) -> Result<bool, Fail> {
+fn fills<M: Medium>(
+    rt: &impl Abort,
+    alloc: Global,
+    medium: &mut M,
+    extent: Extent,
+    byte: u8,
+) -> Result<bool, Fail> {
     assert!(rt; extent.is_within(medium.sectors()));
     assert!(rt; extent.count <= 16 && medium.sector_size() <= 4096 && medium.failures() < 1000);
     let length = extent.count as usize * medium.sector_size() as usize;
@@ -37,7 +41,11 @@ fn fills<M: Medium>(rt: &impl Abort, alloc: Global, medium: &mut M, extent: Exte
     let bytes = vec![in alloc; byte; length]?;
     let mut buffer = vec![in alloc; 0; length]?;
     let done = write_then_read(medium, extent, &bytes, &mut buffer).is_ok();
-    assert_eq!(rt; buffer.iter().all(|b| *b == byte), done || length == 0, "{extent:?}");
+    assert_eq!(rt;
+        buffer.iter().all(|b| *b == byte),
+        done || length == 0,
+        "{extent:?}"
+    );
     let count = if done { 0 } else { 1 };
     assert_eq!(rt; medium.failures(), before + count, "{extent:?}");
     Ok(done)
@@ -66,7 +74,11 @@ fn bad_sectors_fail_whole(rt: HostRuntime) -> Result<(), Fail> {
             (0, 16, false),
         ] {
             let extent = Extent { first, count };
-            assert_eq!(rt; fills(&rt, alloc, &mut disk, extent, 0xa5)?, want, "{extent:?} at {size}");
+            assert_eq!(rt;
+                fills(&rt, alloc, &mut disk, extent, 0xa5)?,
+                want,
+                "{extent:?} at {size}"
+            );
         }
     }
     Ok(())
@@ -75,7 +87,9 @@ fn bad_sectors_fail_whole(rt: HostRuntime) -> Result<(), Fail> {
 #[test]
 fn starts_blank_or_refuses(rt: HostRuntime) -> Result<(), Fail> {
     let alloc = rt.alloc();
-    let mut disk = VecDisk::new(alloc, 512, 2, vec![in alloc; 1]?).ok().ok_or("no memory")?;
+    let mut disk = VecDisk::new(alloc, 512, 2, vec![in alloc; 1]?)
+        .ok()
+        .ok_or("no memory")?;
     let mut buffer = [0xff; 512];
     let first = Extent { first: 0, count: 1 };
     assert_eq!(rt; disk.read(first, &mut buffer), Ok(()));

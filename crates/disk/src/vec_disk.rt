@@ -2,12 +2,10 @@
 
 ghost use Rattle.std.specs.Prelude.{◌≡◌, ℕ, ◌*◌, ◌<◌, ◌≤◌, ◌+◌, ◌^◌, ◌↔◌, length, IfOk, IsErr, OnOk, OnErr, Contains};
 
-use std::alloc::Global;
-
-use sector::Extent;
-
 use crate::bad_list::BadList;
 use crate::{BadSector, Medium, NoMemory};
+use sector::Extent;
+use std::alloc::Global;
 
 /// A disk in one block of memory, zeros at first; all of it is reserved from the start.
 #[derive(Debug, Drop)]
@@ -29,7 +27,12 @@ impl VecDisk {
     /// # Errors
     ///
     /// [`NoMemory`] where the memory for the sectors was refused.
-    pub fn new(alloc: Global, sector_size: u32, sectors: u64, bad: Vec<u64>) -> Result<VecDisk, NoMemory>
+    pub fn new(
+        alloc: Global,
+        sector_size: u32,
+        sectors: u64,
+        bad: Vec<u64>,
+    ) -> Result<VecDisk, NoMemory>
         requires { sectors * sector_size < 2 ^ 64 }
         ensures blank { IfOk result (λ disk. IsBlank (shown disk) sector_size sectors) }
         ensures bad { IfOk result (λ disk. (sector : ℕ) → Contains (shown disk).bad sector ↔ Contains bad.items sector) }

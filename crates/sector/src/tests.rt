@@ -49,11 +49,21 @@ fn counts_bytes_in_sectors(rt: HostRuntime) {
         (4096, 4096, 4096, 1024, Some(extent(1, 1))),
         (far, 512, 512, 1 << 55, Some(extent((1 << 55) - 1, 1))),
         (far, 1024, 512, 1 << 55, None),
-        (far, far, 512, u64::MAX, Some(extent((1 << 55) - 1, (1 << 55) - 1))),
+        (
+            far,
+            far,
+            512,
+            u64::MAX,
+            Some(extent((1 << 55) - 1, (1 << 55) - 1)),
+        ),
     ] {
         assert!(rt; size > 0);
         let got = bytes_to_sectors(offset, length, size, sectors);
-        assert_eq!(rt; got, want.ok_or(InvalidParameter), "{length} bytes from {offset}");
+        assert_eq!(rt;
+            got,
+            want.ok_or(InvalidParameter),
+            "{length} bytes from {offset}"
+        );
     }
 }
 

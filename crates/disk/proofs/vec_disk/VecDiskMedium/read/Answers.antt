@@ -1,4 +1,4 @@
-use Rattle.std.proofs.Common.{arith, ap, refl, ◌∙◌, ◌+◌, ◌≤◌, slice_range}
+use Rattle.std.proofs.Common.{ap, refl, ◌∙◌, slice_range}
 use Rattle.disk.proofs.Cutting.{bytes_of_sectors}
 use Rattle.disk.proofs.Shown.{within_sectors}
 use Rattle.disk.proofs.vec_disk.VecDiskMedium.read.Goals as goal
@@ -13,8 +13,8 @@ returns-clause-reads c =
     let same = c.in_ok-check.ensures.passes in
     rw (← same) record {
       bytes_are = c.copy_from_slice.ensures.after
-        ∙ (ap (λ l. slice_range l place.result.0 place.result.1) c.deref.ensures.value
-        ∙ bytes_of_sectors disk.sector_size disk.sectors c.args.extent.first c.args.extent.count place.result.0 place.result.1
-            disk.bytes.items disk.filled (within_sectors _ _ c.args.extent same c.requires.within) place.ensures.start place.ensures.end);
+          ∙ (ap (λ l. slice_range l place.result.0 place.result.1) c.deref.ensures.value
+          ∙ bytes_of_sectors disk.sector_size disk.sectors c.args.extent.first c.args.extent.count place.result.0 place.result.1
+          disk.bytes.items disk.filled (within_sectors _ _ c.args.extent same c.requires.within) place.ensures.start place.ensures.end);
       after = refl;
     }

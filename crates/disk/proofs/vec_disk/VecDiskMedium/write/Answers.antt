@@ -24,7 +24,7 @@ returns-clause-writes c =
       covers = length-first_chunks size count bytes;
       whole = All-first_chunks size count bytes long;
       after = ap (λ sectors. record (shown disk) { sectors = sectors })
-        (sectors_written size disk.sectors c.args.extent.first count place.result.0 place.result.1 disk.bytes.len
+          (sectors_written size disk.sectors c.args.extent.first count place.result.0 place.result.1 disk.bytes.len
           disk.bytes.items c.deref_mut.result.now bytes c.copy_from_slice.new.self disk.filled
           (within_sectors _ _ c.args.extent same c.requires.within)
           place.ensures.start place.ensures.end long c.deref_mut.ensures.value c.deref_mut.ensures.len c.copy_from_slice.ensures.after);
