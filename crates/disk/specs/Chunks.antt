@@ -1,4 +1,4 @@
--- Bytes cut into sectors are whole sectors.
+-- Bytes cut into sectors are whole sectors. A law of `Medium` cites this, and such a lemma has to stand in specs/.
 use Rattle.std.specs.Prelude.{◌≡◌, ℕ, zero, suc, ◌*◌, List, length, drop, All}
 use Rattle.std.specs.Simd.{first_chunks}
 use Rattle.std.proofs.Common.{arith, length-drop}

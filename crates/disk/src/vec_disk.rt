@@ -1,6 +1,6 @@
 //! A medium in memory.
 
-ghost use Rattle.std.specs.Prelude.{◌≡◌, ℕ, ◌*◌, ◌<◌, ◌≤◌, ◌+◌, ◌^◌, ◌↔◌, length, IfOk, IsErr, OnOk, OnErr, Contains};
+ghost use Rattle.std.specs.Prelude.{◌≡◌, ℕ, ◌*◌, ◌<◌, ◌≤◌, ◌+◌, ◌^◌, ◌↔◌, length, IfOk, IsOk, IsErr, OnOk, OnErr, Contains};
 
 use crate::bad_list::BadList;
 use crate::{BadSector, Medium, NoMemory};
@@ -78,6 +78,7 @@ impl VecDisk {
 }
 
 impl Medium for VecDisk {
+    ghost use Rattle.disk.specs.Medium.{IsWithin, IsReserved, Reserves};
     ghost use Rattle.disk.specs.VecDisk.{shown};
     ghost use Rattle.disk.specs.Chunks.{All-first_chunks};
 
@@ -95,7 +96,14 @@ impl Medium for VecDisk {
         self.failures
     }
 
-    fn reserve(&mut self, _extent: Extent) -> Result<(), NoMemory> {
+    /// Takes no memory, since the block holds all sectors.
+    fn reserve(&mut self, _extent: Extent) -> Result<(), NoMemory>
+        requires { IsWithin (shown self.old) _extent }
+        ensures reserved { OnOk result (IsReserved (shown self.new) _extent) }
+        ensures reserves { Reserves (shown self.old) (shown self.new) }
+        ensures takes_none { IsOk result }
+    {
+        // The block was taken whole.
         Ok(())
     }
 
