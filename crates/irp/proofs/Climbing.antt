@@ -27,6 +27,10 @@ last_is xs x e =
     let same : suc (length xs - 1) ≡ length xs = omega arith in
     sym (take-length xs) ∙ ap (λ n. take n xs) (sym same) ∙ whole ∙ ap (λ y. take (length xs - 1) xs ++ y ∷ []) (get_or_from_slice_get xs (length xs - 1) x x e)
 
+-- a list's last element, read through a slice that is the same list
+pub last_of : (now items : List StackLocation) (copied read found : Option StackLocation) → now ≡ items → read ≡ slice_get now (length now - 1) → copied ≡ read → copied ≡ found → slice_get items (length items - 1) ≡ found
+last_of now items copied read found same value copy is = sym (ap (λ (xs : List StackLocation). slice_get xs (length xs - 1)) same) ∙ sym value ∙ sym copy ∙ is
+
 -- one more location is passed over
 pub passed_one : (success cancelled : Bool) (from here rest : List StackLocation) (own : StackLocation) → HasPassed success cancelled from here → here ≡ rest ++ own ∷ [] → asks success cancelled own ≡ false → HasPassed success cancelled from rest
 passed_one success cancelled from here rest own p e n = record {

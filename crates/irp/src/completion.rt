@@ -1,5 +1,5 @@
 ghost use Rattle.std.specs.Prelude.{◌≡◌};
-ghost use Rattle.irp.specs.Climb.{Climbs, above, succeeds};
+ghost use Rattle.irp.specs.Climb.{Climbs, above};
 
 use crate::{Climb, Done, IoStatus, Irp};
 use ntstatus::NtStatus;
@@ -35,7 +35,7 @@ fn climb(irp: Irp) -> Climb
     ensures { Climbs irp.locations.items irp.number irp.cancelled irp.io_status.status irp.io_status.information irp.payload result }
 {
     let mut irp = irp;
-    let success = is_success(irp.io_status.status);
+    let success = irp.io_status.status.is_success();
     while let Some(location) = irp.locations.last().copied() {
         if location.asks(success, irp.cancelled) {
             return Climb::Routine {
@@ -51,11 +51,4 @@ fn climb(irp: Irp) -> Climb
         information: irp.io_status.information,
         payload: irp.payload,
     })
-}
-
-/// Whether the status is a success by its severity.
-fn is_success(status: NtStatus) -> bool
-    ensures { result ≡ succeeds status }
-{
-    matches!(status, NtStatus::Success | NtStatus::Pending)
 }
