@@ -1,5 +1,5 @@
 -- Completion runs upward: which location's routine is called, and what of the packet reaches it.
-use Rattle.std.specs.Prelude.{◌≡◌, ◌==◌, ◌&&◌, ◌||◌, ◌-◌, ◌^◌, nat_lt, ℕ, Bool, true, false, not, List, [], ◌∷◌, ◌++◌, All, take, length, bit_and}
+use Rattle.std.specs.Prelude.{⊤, ◌≡◌, ◌==◌, ◌&&◌, ◌||◌, ◌-◌, ◌^◌, nat_lt, ℕ, Bool, true, false, not, List, [], ◌∷◌, ◌++◌, All, take, length, bit_and}
 use Rattle.ntstatus.specs.declared.NtStatus.{NtStatus}
 use Rattle.ntstatus.specs.Codes.{value_of}
 use Rattle.irp.specs.declared.Climb.{Climb}
@@ -58,3 +58,8 @@ pub record Finishes (above : List StackLocation) (number : ℕ) (cancelled : Boo
 abbrev pub Climbs : (above : List StackLocation) (number : ℕ) (cancelled : Bool) (status : NtStatus) (information : ℕ) (payload : Payload) (climb : Climb) → Type 0
 Climbs above number cancelled status information payload (Routine driver irp) = CallsRoutine above number cancelled status information payload driver irp
 Climbs above number cancelled status information payload (Finished done) = Finishes above number cancelled status information payload done
+
+-- a completion neither sets nor takes the packet's cancel routine
+abbrev pub KeepsCancelRoutine : Irp → Climb → Type 0
+KeepsCancelRoutine irp (Routine driver left) = left.cancel_routine ≡ irp.cancel_routine
+KeepsCancelRoutine irp (Finished done) = ⊤

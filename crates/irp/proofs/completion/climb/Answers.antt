@@ -6,8 +6,8 @@ use Rattle.irp.specs.Climb.{asks, succeeds}
 use Rattle.irp.proofs.Climbing.{calls, comes_past, all_passed, last_of}
 use Rattle.irp.proofs.completion.climb.Goals as goal
 
-pub returns-then-asks : goal.returns-then-asks
-returns-then-asks c =
+pub returns-then-asks-clause-climbs : goal.returns-then-asks-clause-climbs
+returns-then-asks-clause-climbs c =
     let asked : asks (succeeds c.args.irp.io_status.status) c.args.irp.cancelled c.in-Some.location ≡ true = cc (ltb_from_iff c.is_success-success.ensures) in
     let last : slice_get c.loop-location.irp.locations.items (length c.loop-location.irp.locations.items - 1) ≡ Some c.in-Some.location = last_of _ _ _ _ _ c.deref.ensures.0 c.last.ensures.value c.copied.ensures c.in-Some.is in
     calls c.args.irp c.loop-location.irp c.in-Some.location c.loop-location.invariant last asked
@@ -18,8 +18,8 @@ loop-location-preserved c =
     let last : slice_get c.loop-location.irp.locations.items (length c.loop-location.irp.locations.items - 1) ≡ Some c.in-Some.location = last_of _ _ _ _ _ c.deref.ensures.0 c.last.ensures.value c.copied.ensures c.in-Some.is in
     comes_past c.args.irp c.loop-location.irp _ c.in-Some.location c.loop-location.invariant last asked_not c.pop.ensures.rest (record { number = refl; payload = refl; cancelled = refl; io_status = refl; cancel_routine = refl })
 
-pub returns : goal.returns
-returns c =
+pub returns-clause-climbs : goal.returns-clause-climbs
+returns-clause-climbs c =
     let none : slice_get c.loop-location.irp.locations.items (length c.loop-location.irp.locations.items - 1) ≡ None = last_of _ _ _ _ _ c.deref.ensures.0 c.last.ensures.value c.copied.ensures c.in_default.is in
     record {
       passed_over = all_passed c.args.irp c.loop-location.irp c.loop-location.invariant none;
