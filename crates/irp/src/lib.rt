@@ -9,6 +9,7 @@
 
 mod completion;
 mod flags;
+mod functions;
 mod location;
 mod packet;
 
