@@ -1,2 +1,3 @@
 pub mod Climbing
+pub mod Returning
 pub mod Routines

@@ -24,9 +24,7 @@ pub fn complete(irp: Irp, status: NtStatus, information: u64) -> Climb
 
 /// The packet climbs on from the driver whose location is its last, with the status that it has.
 pub fn resume(irp: Irp) -> Climb
-    ensures climbs {
-        Climbs (above irp) irp.number irp.cancelled irp.io_status.status irp.io_status.information irp.payload result
-    }
+    ensures climbs { Climbs (above irp) irp.number irp.cancelled irp.io_status.status irp.io_status.information irp.payload result }
     ensures cancel_routine { KeepsCancelRoutine irp result }
 {
     let mut irp = irp;
@@ -36,9 +34,7 @@ pub fn resume(irp: Irp) -> Climb
 
 /// The packet goes to its last location that asks, and those below that one are taken off.
 fn climb(irp: Irp) -> Climb
-    ensures climbs {
-        Climbs irp.locations.items irp.number irp.cancelled irp.io_status.status irp.io_status.information irp.payload result
-    }
+    ensures climbs { Climbs irp.locations.items irp.number irp.cancelled irp.io_status.status irp.io_status.information irp.payload result }
     ensures cancel_routine { KeepsCancelRoutine irp result }
 {
     let mut irp = irp;

@@ -129,3 +129,6 @@ pub enum Climb {
     /// Out of the stack.
     Finished(Done),
 }
+
+#[cfg(test)]
+mod tests;

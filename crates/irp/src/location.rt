@@ -28,7 +28,12 @@ impl StackLocation {
     }
 
     /// The location with the flags of a completion routine, and no others.
-    pub(crate) fn with_routine(self, on_success: bool, on_error: bool, on_cancel: bool) -> StackLocation
+    pub(crate) fn with_routine(
+        self,
+        on_success: bool,
+        on_error: bool,
+        on_cancel: bool,
+    ) -> StackLocation
         ensures { result ≡ with_routine on_success on_error on_cancel self }
     {
         let mut control = Control(0);

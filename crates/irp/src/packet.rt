@@ -48,10 +48,8 @@ impl Irp {
     pub fn copy_to_next(&mut self, driver: Driver)
         requires own { 0 < array_vec_len self.old.locations }
         requires place { array_vec_len self.old.locations < 4 }
-        ensures locations {
-            (higher : List StackLocation) (own : StackLocation)
-            → HasOwn self.old higher own → HasOwn self.new (higher ++ own ∷ []) (handed_to driver own)
-        }
+        ensures locations { (higher : List StackLocation) (own : StackLocation)
+            → HasOwn self.old higher own → HasOwn self.new (higher ++ own ∷ []) (handed_to driver own) }
         ensures length { array_vec_len self.new.locations ≡ array_vec_len self.old.locations + 1 }
         ensures kept { KeepsAllButLocations self.old self.new }
     {
@@ -63,10 +61,8 @@ impl Irp {
     /// has no completion routine (WDK: IoSkipCurrentIrpStackLocation).
     pub fn skip(&mut self, driver: Driver)
         requires { 0 < array_vec_len self.old.locations }
-        ensures locations {
-            (higher : List StackLocation) (own : StackLocation)
-            → HasOwn self.old higher own → HasOwn self.new higher (handed_to driver own)
-        }
+        ensures locations { (higher : List StackLocation) (own : StackLocation)
+            → HasOwn self.old higher own → HasOwn self.new higher (handed_to driver own) }
         ensures length { array_vec_len self.new.locations ≡ array_vec_len self.old.locations }
         ensures kept { KeepsAllButLocations self.old self.new }
     {
@@ -79,15 +75,11 @@ impl Irp {
     /// are cleared (WDK: IoSetCompletionRoutine).
     pub fn set_completion(&mut self, on_success: bool, on_error: bool, on_cancel: bool)
         requires { 0 < array_vec_len self.old.locations }
-        ensures locations {
-            (higher : List StackLocation) (own : StackLocation)
-            → HasOwn self.old higher own → HasOwn self.new higher (with_routine on_success on_error on_cancel own)
-        }
-        ensures asks {
-            (success cancelled : Bool) (higher : List StackLocation) (own : StackLocation)
+        ensures locations { (higher : List StackLocation) (own : StackLocation)
+            → HasOwn self.old higher own → HasOwn self.new higher (with_routine on_success on_error on_cancel own) }
+        ensures asks { (success cancelled : Bool) (higher : List StackLocation) (own : StackLocation)
             → HasOwn self.new higher own
-            → asks success cancelled own ≡ ((success && on_success) || (not success && on_error) || (cancelled && on_cancel))
-        }
+            → asks success cancelled own ≡ ((success && on_success) || (not success && on_error) || (cancelled && on_cancel)) }
         ensures length { array_vec_len self.new.locations ≡ array_vec_len self.old.locations }
         ensures kept { KeepsAllButLocations self.old self.new }
     {

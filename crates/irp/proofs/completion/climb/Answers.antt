@@ -1,7 +1,6 @@
-use Rattle.std.proofs.Common.{◌≡◌, ap, refl, sym, ◌∙◌, length, ◌-◌, true, false, List, Some, None}
+use Rattle.std.proofs.Common.{◌≡◌, ap, refl, length, ◌-◌, true, false, Some, None}
 use Rattle.std.specs.Prelude.{slice_get}
 use Rattle.std.proofs.lemmas.Bool.{ltb_from_iff}
-use Rattle.irp.specs.declared.StackLocation.{StackLocation}
 use Rattle.irp.specs.Climb.{asks, succeeds}
 use Rattle.irp.proofs.Climbing.{calls, comes_past, all_passed, last_of}
 use Rattle.irp.proofs.completion.climb.Goals as goal
