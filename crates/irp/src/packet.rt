@@ -124,14 +124,14 @@ impl Irp {
     }
 
     /// Changes the current driver's own location.
-    fn put_own(&mut self, location: StackLocation)
-        requires own { 0 < array_vec_len self.old.locations }
+    fn put_own(&mut self, own: StackLocation)
+        requires some { 0 < array_vec_len self.old.locations }
         requires fits { array_vec_len self.old.locations ≤ 4 }
-        ensures locations { HasOwn self.new (above self.old) location }
+        ensures locations { HasOwn self.new (above self.old) own }
         ensures length { array_vec_len self.new.locations ≡ array_vec_len self.old.locations }
         ensures kept { KeepsAllButLocations self.old self.new }
     {
         self.locations.pop();
-        self.locations.push(location);
+        self.locations.push(own);
     }
 }

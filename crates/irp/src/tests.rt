@@ -81,6 +81,7 @@ fn bytes_of(rt: &impl Abort, payload: Payload) -> Bytes {
 fn packets_climb_to_the_routines_that_ask(rt: HostRuntime) -> Result<(), Fail> {
     use Driver::{Class, Filter, Partition};
     let all: [Driver; 3] = [Class, Filter, Partition];
+    // Partition, filter and class; whether the packet is cancelled; its status; whose routines are called.
     let rows = [
         (
             ON_BOTH,
