@@ -80,16 +80,20 @@ all_passed start irp climbing none =
     let e : start.locations.items ≡ climbing.passed.nearer = climbing.passed.from_is ∙ ap (λ xs. xs ++ climbing.passed.nearer) (none_left irp.locations.items none) in
     subst (All (AsksNot (succeeds start.io_status.status) start.cancelled)) (sym e) climbing.passed.passed_over
 
+-- two steps that each leave all but the locations
+pub kept_both : (first second third : Irp) → KeepsAllButLocations first second → KeepsAllButLocations second third → KeepsAllButLocations first third
+kept_both first second third before after = record {
+  number = after.number ∙ before.number;
+  payload = after.payload ∙ before.payload;
+  cancelled = after.cancelled ∙ before.cancelled;
+  io_status = after.io_status ∙ before.io_status;
+  cancel_routine = after.cancel_routine ∙ before.cancel_routine;
+}
+
 -- its last location does not ask, and is taken off
 pub comes_past : (start irp rest : Irp) (own : StackLocation) → IsClimbing start irp → slice_get irp.locations.items (length irp.locations.items - 1) ≡ Some own → asks (succeeds start.io_status.status) start.cancelled own ≡ false → rest.locations.items ≡ take (length irp.locations.items - 1) irp.locations.items → KeepsAllButLocations irp rest → IsClimbing start rest
 comes_past start irp rest own climbing last asked_not taken kept = record {
   passed = passed_one _ _ start.locations.items irp.locations.items rest.locations.items own climbing.passed
       (last_is irp.locations.items own last ∙ ap (λ xs. xs ++ own ∷ []) (sym taken)) asked_not;
-  kept = record {
-    number = kept.number ∙ climbing.kept.number;
-    payload = kept.payload ∙ climbing.kept.payload;
-    cancelled = kept.cancelled ∙ climbing.kept.cancelled;
-    io_status = kept.io_status ∙ climbing.kept.io_status;
-    cancel_routine = kept.cancel_routine ∙ climbing.kept.cancel_routine;
-  };
+  kept = kept_both start irp rest climbing.kept kept;
 }

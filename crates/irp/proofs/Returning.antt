@@ -13,7 +13,7 @@ use Rattle.irp.specs.declared.Irp.{Irp}
 use Rattle.irp.specs.declared.Payload.{Payload}
 use Rattle.irp.specs.declared.StackLocation.{StackLocation}
 use Rattle.irp.specs.Climb.{above, asks, AsksNot, succeeds, Climbs, Finishes}
-use Rattle.irp.specs.Packet.{HasOwn, with_routine}
+use Rattle.irp.specs.Packet.{HasOwn, KeepsAllButLocations, with_routine}
 use Rattle.irp.proofs.Climbing.{last_is}
 use Rattle.irp.proofs.Routines.{asks_routine}
 
@@ -54,6 +54,15 @@ cut_of P front last first second e all = elim (push_cases second) [
 -- the locations above a packet's own
 pub above_is : (irp : Irp) (higher : List StackLocation) (own : StackLocation) → HasOwn irp higher own → above irp ≡ higher
 above_is irp higher own has = ap (λ (xs : List StackLocation). take (length xs - 1) xs) has ∙ grind (arith, common_steps)
+
+-- a climb that is told of another packet, with other locations alone
+pub climbs_as : (start irp : Irp) (higher : List StackLocation) (status : NtStatus) (information : ℕ) (climb : Climb) → KeepsAllButLocations start irp → above irp ≡ higher → Climbs (above irp) irp.number irp.cancelled status information irp.payload climb → Climbs higher start.number start.cancelled status information start.payload climb
+climbs_as start irp higher status information climb kept same h =
+    let at_number : Climbs higher start.number irp.cancelled status information irp.payload climb =
+    subst (λ (n : ℕ). Climbs higher n irp.cancelled status information irp.payload climb) kept.number
+    (subst (λ (ls : List StackLocation). Climbs ls irp.number irp.cancelled status information irp.payload climb) same h) in
+    subst (λ (p : Payload). Climbs higher start.number start.cancelled status information p climb) kept.payload
+    (subst (λ (b : Bool). Climbs higher start.number b status information irp.payload climb) kept.cancelled at_number)
 
 -- with no location above, the packet is finished
 pub finished_at_top : (number : ℕ) (cancelled : Bool) (status : NtStatus) (information : ℕ) (payload : Payload) (climb : Climb) → Climbs [] number cancelled status information payload climb → IsFinished [] number cancelled status information payload climb
