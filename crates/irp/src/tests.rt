@@ -73,7 +73,7 @@ fn done_of(rt: &impl Abort, climb: Climb) -> Done {
 fn bytes_of(rt: &impl Abort, payload: Payload) -> Bytes {
     match payload {
         Payload::Buffer(bytes) => bytes,
-        Payload::Srb(_srb) => panic!(rt; "the payload is another"),
+        other => panic!(rt; "the payload is another: {other:?}"),
     }
 }
 
