@@ -1,5 +1,5 @@
 -- A block means one command or has one fault, and never both.
-use Rattle.std.proofs.Common.{◌≡◌, ◌⊎◌, ◌↔◌, ◌<◌, ◌≤◌, ℕ, Bool, true, false, IsTrue, List, length, slice_index, ap, subst, refl, sym, ◌∙◌, inl, inr, arith, rules, Result, Ok, Err, MatchResult}
+use Rattle.std.proofs.Common.{◌≡◌, ◌↔◌, ◌≤◌, ℕ, Bool, true, false, IsTrue, List, length, slice_index, ap, subst, refl, sym, inl, inr, arith, Result, Ok, Err, MatchResult}
 use Rattle.cdb.specs.declared.Cdb.{Cdb}
 use Rattle.cdb.specs.declared.Cdb.TheVariants.{Read10, Write10, Sync10, ReadCapacity10}
 use Rattle.cdb.specs.declared.CdbFault.{CdbFault}

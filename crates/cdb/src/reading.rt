@@ -8,10 +8,11 @@ ghost use Rattle.cdb.specs.declared.Cdb.{Cdb};
 ghost use Rattle.cdb.specs.declared.CdbFault.{CdbFault};
 ghost use Rattle.cdb.specs.declared.CdbFault.TheVariants.{InvalidField};
 
-use crate::{Cdb, CdbFault};
+use crate::{Cdb, CdbFault, FUA};
 use byteorder::{BigEndian, ByteOrder};
 
-/// The command that a block asks for.
+/// The command that a block asks for, or the first fault of the block: no bytes, an unknown
+/// operation code, too few bytes, a field that isn't supported. Bytes after the tenth are ignored.
 #[tactic(auto, using(crate::proofs::Once::ok_exactly, crate::proofs::Once::fault_exactly))]
 pub fn decode(block: &[u8]) -> Result<Cdb, CdbFault>
     ensures ok { (c : Cdb) → (result ≡ Ok c) ↔ Means block.now c }
@@ -51,7 +52,8 @@ fn count(block: &[u8]) -> u16
     BigEndian::read_u16(&block[7..])
 }
 
-/// The bit FUA of a transfer that asks for no protection.
+/// The bit for forced access of a transfer, which must ask for no protection information: bits 7 to
+/// 5 of byte 1 (RDPROTECT, WRPROTECT) are 0.
 fn fua(block: &[u8]) -> Result<bool, CdbFault>
     requires { 10 ≤ length block.now }
     ensures { MatchResult result (HasAccess block.now) (λ f. (f ≡ InvalidField) × (0 < protect block.now)) }
@@ -59,5 +61,5 @@ fn fua(block: &[u8]) -> Result<bool, CdbFault>
     if block[1] >> 5 != 0 {
         return Err(CdbFault::InvalidField);
     }
-    Ok(block[1] & 8 != 0)
+    Ok(block[1] & FUA != 0)
 }

@@ -1,7 +1,6 @@
 -- Bytes cut into sectors: a part of the sectors is the cut of that part of the bytes.
-use Rattle.std.proofs.Common.{◌≡◌, ℕ, zero, suc, ◌+◌, ◌-◌, ◌*◌, ◌≤◌, List, [], ◌∷◌, ◌++◌, length, take, drop, slice_range, replicate, arith, refl, sym, ap, ◌∙◌, zero-add, suc-add, mul-le-mul_right, length-append, length-drop, length-take}
-use Rattle.std.proofs.lemmas.List.{take-append-le, drop-append-le, take_at, drop_at, take-append-drop, append-nil, take_all, length-take-le, append_assoc, nil_from_length, take-replicate, drop-replicate}
-use Rattle.std.proofs.lemmas.Grind.{common_steps}
+use Rattle.std.proofs.Common.{◌≡◌, ℕ, zero, suc, ◌+◌, ◌-◌, ◌*◌, ◌≤◌, List, ◌∷◌, ◌++◌, length, take, drop, slice_range, replicate, arith, refl, sym, ap, ◌∙◌, zero-add, suc-add, mul-le-mul_right, length-append, length-drop}
+use Rattle.std.proofs.lemmas.List.{take-append-le, drop-append-le, take_at, drop_at, take-append-drop, length-take-le, append_assoc, nil_from_length, take-replicate, drop-replicate}
 use Rattle.std.specs.List.{concat}
 use Rattle.std.specs.Simd.{first_chunks}
 use Rattle.sector.specs.Splice.{splice}
@@ -20,7 +19,7 @@ first_chunks-append size (suc n) count xs ys e =
     let rest : length (drop size xs) ≡ n * size = omega (arith, length-drop size xs) in
     let head : take size (xs ++ ys) ≡ take size xs = take-append-le size xs ys long in
     let tail : first_chunks size (n + count) (drop size (xs ++ ys)) ≡ first_chunks size n (drop size xs) ++ first_chunks size count ys =
-        ap (λ (l : List ℕ). first_chunks size (n + count) l) (drop-append-le size xs ys long) ∙ first_chunks-append size n count (drop size xs) ys rest in
+    ap (λ (l : List ℕ). first_chunks size (n + count) l) (drop-append-le size xs ys long) ∙ first_chunks-append size n count (drop size xs) ys rest in
     rw suc-add (let k : take size (xs ++ ys) ∷ first_chunks size (n + count) (drop size (xs ++ ys)) ≡ (take size xs ∷ first_chunks size n (drop size xs)) ++ first_chunks size count ys = cc in k)
 
 pub concat-first_chunks : (size count : ℕ) (bytes : List ℕ) → length bytes ≡ count * size → concat (first_chunks size count bytes) ≡ bytes
@@ -84,7 +83,7 @@ middle_bytes : (size count i c : ℕ) (bytes p q : List ℕ) → Parted size cou
 middle_bytes size count i c bytes p q w =
     sym (ap (λ (l : List (List ℕ)). concat (slice_range l i (i + c))) (cut_of size count i c bytes p q w)
     ∙ (ap concat (middle (first_chunks size i p) (first_chunks size c q) (first_chunks size w.left w.rest) i c
-        (length-first_chunks size i p) (length-first_chunks size c q))
+    (length-first_chunks size i p) (length-first_chunks size c q))
     ∙ concat-first_chunks size c q w.inside))
 
 pub bytes_of_sectors : (size count i c a e : ℕ) (bytes : List ℕ) → length bytes ≡ count * size → i + c ≤ count
@@ -101,7 +100,7 @@ replaced size count i c bytes p q moved w whole =
     ∙ cut_in_three size i c w.left p moved w.rest w.before whole)
     ∙ sym (ap (λ (l : List (List ℕ)). splice l i (first_chunks size c moved)) (cut_of size count i c bytes p q w)
     ∙ in_the_middle (first_chunks size i p) (first_chunks size c q) (first_chunks size w.left w.rest) (first_chunks size c moved) i
-        (length-first_chunks size i p) (length-first_chunks size c q ∙ sym (length-first_chunks size c moved)))
+    (length-first_chunks size i p) (length-first_chunks size c q ∙ sym (length-first_chunks size c moved)))
 
 pub sectors_of_bytes : (size count i c a k : ℕ) (bytes moved : List ℕ) → length bytes ≡ count * size → i + c ≤ count
     → a ≡ i * size → k ≡ c * size → length moved ≡ c * size
@@ -123,7 +122,7 @@ length-put_mid a k bytes moved within whole =
 pub sectors_written : (size count i c a e n : ℕ) (items lent bytes moved : List ℕ) → length items ≡ count * size → i + c ≤ count
     → a ≡ i * size → e ≡ (i + c) * size → length bytes ≡ c * size → lent ≡ items → length lent ≡ n → moved ≡ bytes
     → first_chunks size count (take n (put_mid a (e - a) lent moved ++ drop (length (put_mid a (e - a) lent moved)) items))
-      ≡ splice (first_chunks size count items) i (first_chunks size c bytes)
+    ≡ splice (first_chunks size count items) i (first_chunks size c bytes)
 sectors_written size count i c a e n items lent bytes moved long within start end whole is counted holds =
     let k : ℕ = e - a in
     let all : (i + c) * size ≤ count * size = mul-le-mul_right size within in
@@ -146,5 +145,5 @@ first_chunks-zeros size (suc n) =
     let left : suc n * size - size ≡ n * size = omega arith in
     let head : take size (zeros (suc n * size)) ≡ zeros size = take-replicate size (suc n * size) 0 (omega arith) in
     let tail : first_chunks size n (drop size (zeros (suc n * size))) ≡ replicate n (zeros size) =
-      ap (λ (l : List ℕ). first_chunks size n l) (drop-replicate size (suc n * size) 0 ∙ ap (λ (k : ℕ). zeros k) left) ∙ first_chunks-zeros size n in
+    ap (λ (l : List ℕ). first_chunks size n l) (drop-replicate size (suc n * size) 0 ∙ ap (λ (k : ℕ). zeros k) left) ∙ first_chunks-zeros size n in
     cc

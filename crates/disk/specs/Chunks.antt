@@ -1,7 +1,7 @@
--- Bytes cut into sectors are whole sectors.
-use Rattle.std.specs.Prelude.{◌≡◌, ℕ, zero, suc, ◌*◌, ◌≤◌, List, length, drop, All}
+-- Bytes cut into sectors are whole sectors. A law of `Medium` cites this, and such a lemma has to stand in specs/.
+use Rattle.std.specs.Prelude.{◌≡◌, ℕ, zero, suc, ◌*◌, List, length, drop, All}
 use Rattle.std.specs.Simd.{first_chunks}
-use Rattle.std.proofs.Common.{arith, length-drop, length-take}
+use Rattle.std.proofs.Common.{arith, length-drop}
 use Rattle.std.proofs.lemmas.List.{length-take-le}
 use Rattle.std.proofs.lemmas.List.Elements.{All-nil, All-cons}
 use Rattle.disk.specs.Medium.{HasLength}

@@ -1,6 +1,6 @@
 //! The sectors that can't be read or written, looked up by halves.
 
-ghost use Rattle.std.specs.Prelude.{◌≡◌, ℕ, ◌↔◌, IsTrue, Contains};
+ghost use Rattle.std.specs.Prelude.{◌≡◌, ℕ, ◌<◌, ◌≤◌, ◌↔◌, IsTrue, Contains, length, slice_index};
 ghost use Rattle.std.specs.List.Sorted.{IsStrictlyIncreasing};
 ghost use Rattle.sector.specs.Extents.{IsIn};
 
@@ -28,7 +28,16 @@ impl BadList {
         ensures { IsTrue result ↔ ((sector : ℕ) × Contains self.now.sectors.items sector × IsIn sector extent) }
     {
         let bad = self.sectors.as_slice();
-        let next = bad.partition_point(|sector| *sector < extent.first);
+        let next = first_from(bad, extent.first);
         next < bad.len() && bad[next] - extent.first < extent.count
     }
+}
+
+/// The place of the first of some rising numbers that isn't below a sector.
+fn first_from(numbers: &[u64], sector: u64) -> usize
+    requires { IsStrictlyIncreasing numbers.now }
+    ensures below { (k : ℕ) → k < result → slice_index numbers.now k < sector }
+    ensures from { (k : ℕ) → result ≤ k → k < length numbers.now → sector ≤ slice_index numbers.now k }
+{
+    numbers.partition_point(|number| *number < sector)
 }

@@ -1,13 +1,11 @@
 //! A medium in memory.
 
-ghost use Rattle.std.specs.Prelude.{◌≡◌, ℕ, ◌*◌, ◌<◌, ◌≤◌, ◌+◌, ◌^◌, ◌↔◌, length, IfOk, Contains};
-
-use std::alloc::Global;
-
-use sector::Extent;
+ghost use Rattle.std.specs.Prelude.{◌≡◌, ℕ, ◌*◌, ◌<◌, ◌≤◌, ◌+◌, ◌^◌, ◌↔◌, length, IfOk, IsOk, IsErr, OnOk, OnErr, Contains};
 
 use crate::bad_list::BadList;
 use crate::{BadSector, Medium, NoMemory};
+use sector::Extent;
+use std::alloc::Global;
 
 /// A disk in one block of memory, zeros at first; all of it is reserved from the start.
 #[derive(Debug, Drop)]
@@ -21,7 +19,7 @@ pub struct VecDisk {
 }
 
 impl VecDisk {
-    ghost use Rattle.disk.specs.Medium.{IsBlank, IsWithin, IsReserved};
+    ghost use Rattle.disk.specs.Medium.{IsBlank, IsWithin, IsReserved, HasBad, failed};
     ghost use Rattle.disk.specs.VecDisk.{shown};
 
     /// A disk of so many sectors, each of `sector_size` bytes, in which the sectors of the list are bad.
@@ -29,7 +27,12 @@ impl VecDisk {
     /// # Errors
     ///
     /// [`NoMemory`] where the memory for the sectors was refused.
-    pub fn new(alloc: Global, sector_size: u32, sectors: u64, bad: Vec<u64>) -> Result<VecDisk, NoMemory>
+    pub fn new(
+        alloc: Global,
+        sector_size: u32,
+        sectors: u64,
+        bad: Vec<u64>,
+    ) -> Result<VecDisk, NoMemory>
         requires { sectors * sector_size < 2 ^ 64 }
         ensures blank { IfOk result (λ disk. IsBlank (shown disk) sector_size sectors) }
         ensures bad { IfOk result (λ disk. (sector : ℕ) → Contains (shown disk).bad sector ↔ Contains bad.items sector) }
@@ -43,6 +46,20 @@ impl VecDisk {
             bad: BadList::new(bad),
             failures: 0,
         })
+    }
+
+    /// Counts a failure where a sector of the extent is bad.
+    fn check(&mut self, extent: Extent) -> Result<(), BadSector>
+        requires { self.old.failures < 2 ^ 120 }
+        ensures refused { IsErr result ↔ HasBad (shown self.old) extent }
+        ensures passes { OnOk result (self.new ≡ self.old) }
+        ensures fails { OnErr result (shown self.new ≡ failed (shown self.old)) }
+    {
+        if self.bad.meets(extent) {
+            self.failures += 1;
+            return Err(BadSector);
+        }
+        Ok(())
     }
 
     /// The places of the first byte of an extent and of the byte after its last.
@@ -61,6 +78,7 @@ impl VecDisk {
 }
 
 impl Medium for VecDisk {
+    ghost use Rattle.disk.specs.Medium.{IsWithin, IsReserved, Reserves};
     ghost use Rattle.disk.specs.VecDisk.{shown};
     ghost use Rattle.disk.specs.Chunks.{All-first_chunks};
 
@@ -78,25 +96,26 @@ impl Medium for VecDisk {
         self.failures
     }
 
-    fn reserve(&mut self, _extent: Extent) -> Result<(), NoMemory> {
+    /// Takes no memory, since the block holds all sectors.
+    fn reserve(&mut self, _extent: Extent) -> Result<(), NoMemory>
+        requires { IsWithin (shown self.old) _extent }
+        ensures reserved { OnOk result (IsReserved (shown self.new) _extent) }
+        ensures reserves { Reserves (shown self.old) (shown self.new) }
+        ensures takes_none { IsOk result }
+    {
+        // The block was taken whole.
         Ok(())
     }
 
     fn read(&mut self, extent: Extent, buffer: &mut [u8]) -> Result<(), BadSector> {
-        if self.bad.meets(extent) {
-            self.failures += 1;
-            return Err(BadSector);
-        }
+        self.check(extent)?;
         let (start, end) = self.places(extent);
         buffer.copy_from_slice(&self.bytes[start..end]);
         Ok(())
     }
 
     fn write(&mut self, extent: Extent, bytes: &[u8]) -> Result<(), BadSector> {
-        if self.bad.meets(extent) {
-            self.failures += 1;
-            return Err(BadSector);
-        }
+        self.check(extent)?;
         let (start, end) = self.places(extent);
         self.bytes[start..end].copy_from_slice(bytes);
         Ok(())

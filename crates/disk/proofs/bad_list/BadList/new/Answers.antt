@@ -12,6 +12,7 @@ invariant_of-result c = record {
 pub returns : goal.returns
 returns c = λ sector.
     let is = dedup_is _ _ _ c.dedup.ensures.filtered in
-    let moved = c.sort_unstable.ensures.permutation in
-    (λ h. Contains-permutation _ _ sector (IsPermutation-sym _ _ moved) (Contains-from_dedup _ _ sector (rw is at h)),
-     λ h. rw is (Contains-dedup_nat _ sector (Contains-permutation _ _ sector moved h)))
+    let moved = c.sort_unstable.ensures.permutation in (
+      λ h. Contains-permutation _ _ sector (IsPermutation-sym _ _ moved) (Contains-from_dedup _ _ sector (rw is at h)),
+      λ h. rw is (Contains-dedup_nat _ sector (Contains-permutation _ _ sector moved h)),
+    )

@@ -1,4 +1,4 @@
-use Rattle.std.proofs.Common.{arith, refl, sym, ap, ◌∙◌, lit<}
+use Rattle.std.proofs.Common.{arith, refl, ap, ◌∙◌, lit<}
 use Rattle.disk.proofs.Cutting.{length-first_chunks, first_chunks-zeros}
 use Rattle.std.specs.Simd.{first_chunks}
 use Rattle.disk.proofs.vec_disk.VecDisk.new.Goals as goal
@@ -12,6 +12,7 @@ returns-clause-blank c = record {
 
 pub returns-clause-reserved : goal.returns-clause-reserved
 returns-clause-reserved c = λ extent within sector h. (
-    record { first = 0; count = c.args.sectors },
-    (0, lit< tt, refl),
-    (omega arith, omega (arith, within, h.1, length-first_chunks c.args.sector_size c.args.sectors c.in_ok-vec.field-0.items)))
+  record { first = 0; count = c.args.sectors },
+  (0, lit< tt, refl),
+  (omega arith, omega (arith, within, h.1, length-first_chunks c.args.sector_size c.args.sectors c.in_ok-vec.field-0.items)),
+)
