@@ -16,6 +16,9 @@ mod memory;
 mod on_tag;
 mod table;
 
+#[cfg(test)]
+mod tests;
+
 pub use adapter::Adapter;
 pub use disk::NoMemory;
 pub use memory::MemAdapter;
