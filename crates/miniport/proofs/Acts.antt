@@ -1,5 +1,5 @@
 -- An act on the parts of the adapter in memory is an act of the adapter.
-use Rattle.std.proofs.Common.{◌≡◌, ◌≢◌, ◌<◌, ◌≤◌, ◌⊎◌, inl, inr, ℕ, zero, suc, ◌+◌, Bool, true, false, List, [], ◌∷◌, length, slice_set, All, Option, Some, None, Ok, IsPermutation, refl, sym, ap, ◌∙◌, subst, arith, add-zero, zero-add, set-set}
+use Rattle.std.proofs.Common.{◌≡◌, ◌≢◌, ◌<◌, inl, inr, ℕ, suc, ◌+◌, Bool, List, [], ◌∷◌, length, All, Option, Some, None, refl, sym, ap, ◌∙◌, subst, arith, add-zero, zero-add, set-set}
 use Rattle.std.specs.Prelude.{Contains}
 use Rattle.std.specs.List.{concat}
 use Rattle.std.proofs.lemmas.List.{get_or_past}
@@ -8,8 +8,8 @@ use Rattle.std.proofs.lemmas.List.Sorted.{IsPermutation-sym, Contains-permutatio
 use Rattle.std.proofs.lemmas.Bool.{cases_lt}
 use Rattle.srb.specs.declared.Srb.{Srb}
 use Rattle.srb.specs.declared.Completion.{Completion}
-use Rattle.srb.specs.Fate.{Fresh, Acted, Faulted}
-use Rattle.srb.specs.Adapter.{TagInUse, AdapterView, IsOn}
+use Rattle.srb.specs.Fate.{Fresh}
+use Rattle.srb.specs.Adapter.{TagInUse, IsOn}
 use Rattle.disk.specs.Medium.{MediumView}
 use Rattle.miniport.specs.declared.on_tag.OnTag.{OnTag}
 use Rattle.miniport.specs.declared.on_tag.Progress.{Progress}
@@ -17,10 +17,10 @@ use Rattle.miniport.specs.declared.on_tag.Progress.TheVariants.{Untouched, Moved
 use Rattle.miniport.specs.declared.carrying.Outcome.{Outcome}
 use Rattle.miniport.specs.declared.carrying.Outcome.TheVariants.{Moved, Failed}
 use Rattle.miniport.specs.Calls.{Acts, ActsNot}
-use Rattle.miniport.specs.Carrying.{disk_of, emptied, CarriesOut, FailsBy}
+use Rattle.miniport.specs.Carrying.{disk_of, emptied}
 use Rattle.miniport.specs.Moving.{moved_by}
 use Rattle.miniport.specs.Slots.{Table, HasNoneUntouched, piece_at, in_use_of, fate_of, tags_of, with_slot, with_moved, with_failed}
-use Rattle.miniport.specs.Memory.{IsKept, IsPieceRight, shown_of, view_of, ActsByTable, PutsBack, ActsIn, ActsNotIn}
+use Rattle.miniport.specs.Memory.{IsKept, shown_of, view_of, ActsByTable, PutsBack, ActsIn, ActsNotIn}
 use Rattle.miniport.proofs.Bad.{fault_is_bad}
 use Rattle.miniport.proofs.Keeping.{moved_piece, failed_piece, as_many, move_kept, fail_kept}
 use Rattle.miniport.proofs.Showing.{acts, faults, acts_by_table, faults_by_table}
@@ -29,8 +29,8 @@ use Rattle.miniport.proofs.Showing.{acts, faults, acts_by_table, faults_by_table
 pub is_below : (slots : List (Option OnTag)) (tag : ℕ) (on : OnTag) → piece_at slots tag ≡ Some on → tag < length slots
 is_below slots tag on there =
     elim (cases_lt tag (length slots)) [
-      inl below ↦ below
-    | inr past ↦ let none : piece_at slots tag ≡ None = get_or_past slots tag None past in absurd cc
+      | inl below ↦ below
+      | inr past ↦ let none : piece_at slots tag ≡ None = get_or_past slots tag None past in absurd cc
     ]
 
 -- the table after an act, in one set of the slot
@@ -69,23 +69,23 @@ put_back m longest p t tag on (Moved srb bytes) m' t' kept place there untouched
     let long : length carries.sectors ≡ length m.sectors = as_many m.sector_size m.sectors on.srb.data carries.command carries.moved carries.sectors carries.performs in
     let act = acts m longest t tag on carries.command bytes carries.moved carries.sectors below there untouched carries.means carries.performs carries.bytes_are carries.moved_is in
     leaves_along m longest p t tag (record m { sectors = carries.sectors }) m' (with_moved tag (moved_piece on bytes) bytes t) t' carries.after
-      (table_moved t t' tag on srb bytes carries.comes_back e)
-      (record {
-        kept = move_kept m longest t tag on bytes carries.sectors kept below there untouched long
-            (whole_bytes m.sector_size on.srb.block bytes carries.moved carries.bytes_are carries.moved_is) place;
-        acts = record { piece = on.piece; one_of = inl (bytes, act) };
-        by_table = acts_by_table m longest p t tag on carries.command bytes carries.sectors (kept.pieces tag on there) there untouched carries.means carries.no_fault act;
-      })
+    (table_moved t t' tag on srb bytes carries.comes_back e)
+    (record {
+      kept = move_kept m longest t tag on bytes carries.sectors kept below there untouched long
+          (whole_bytes m.sector_size on.srb.block bytes carries.moved carries.bytes_are carries.moved_is) place;
+      acts = record { piece = on.piece; one_of = inl (bytes, act) };
+      by_table = acts_by_table m longest p t tag on carries.command bytes carries.sectors (kept.pieces tag on there) there untouched carries.means carries.no_fault act;
+    })
 put_back m longest p t tag on (Failed srb completion) m' t' kept place there untouched (fails, e) =
     let below : tag < length t.slots = is_below t.slots tag on there in
     let fault = faults m longest t tag on completion fails.failures below there untouched in
     leaves_along m longest p t tag (record m { failures = fails.failures }) m' (with_failed tag (failed_piece on completion) t) t' fails.after
-      (table_failed t t' tag on srb completion fails.same e)
-      (record {
-        kept = fail_kept m longest t tag on completion fails.failures kept below there untouched (fault_is_bad (disk_of m p) on.srb fails.decoded completion fails.fault) fails.counted place;
-        acts = record { piece = on.piece; one_of = inr fault };
-        by_table = faults_by_table m longest p t tag on completion fails.failures fails.decoded (kept.pieces tag on there) there untouched fails.decodes fails.fault fault;
-      })
+    (table_failed t t' tag on srb completion fails.same e)
+    (record {
+      kept = fail_kept m longest t tag on completion fails.failures kept below there untouched (fault_is_bad (disk_of m p) on.srb fails.decoded completion fails.fault) fails.counted place;
+      acts = record { piece = on.piece; one_of = inr fault };
+      by_table = faults_by_table m longest p t tag on completion fails.failures fails.decoded (kept.pieces tag on there) there untouched fails.decodes fails.fault fault;
+    })
 
 pub act_leaves : (m : MediumView) (longest : ℕ) (p : Bool) (t : Table) (tag : ℕ) (m' : MediumView) (t' : Table)
     → IsKept m longest t → length t.labels < 64 → ActsIn m p t tag m' t' → Leaves m longest p t tag m' t'

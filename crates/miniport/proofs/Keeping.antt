@@ -1,6 +1,6 @@
 -- What the adapter in memory keeps, call by call: it stays in order as any adapter is.
-use Rattle.std.proofs.Common.{◌≡◌, ◌<◌, ◌≤◌, ◌^◌, ◌⊎◌, inl, inr, ℕ, ◌+◌, ◌*◌, Bool, true, false, List, [], ◌∷◌, ◌++◌, length, map, take, drop, slice_set, All, sum_by, Option, Some, None, Result, Ok, Err, IsPermutation, refl, sym, ap, ◌∙◌, subst, arith, length-append, length-take, length-drop, length-set, set-set, if◌then◌else◌}
-use Rattle.std.proofs.lemmas.List.{set-get_or, length-map}
+use Rattle.std.proofs.Common.{◌≡◌, ◌<◌, ◌≤◌, ◌^◌, ℕ, ◌+◌, Bool, true, false, List, [], ◌∷◌, ◌++◌, length, slice_set, sum_by, Option, Some, None, refl, ap, ◌∙◌, subst, arith, length-append, length-take, length-drop, length-set, if◌then◌else◌}
+use Rattle.std.proofs.lemmas.List.{length-map}
 use Rattle.std.specs.List.{concat, flat_map}
 use Rattle.sector.specs.Splice.{splice}
 use Rattle.cdb.specs.declared.Cdb.{Cdb}
@@ -10,15 +10,15 @@ use Rattle.srb.specs.declared.Completion.{Completion}
 use Rattle.srb.specs.declared.DeviceLabel.{DeviceLabel}
 use Rattle.srb.specs.declared.Class.TheVariants.{Bad}
 use Rattle.srb.specs.Fate.{class_of}
-use Rattle.srb.specs.Adapter.{AdapterView, IsInOrder, IsFree}
+use Rattle.srb.specs.Adapter.{IsInOrder, IsFree}
 use Rattle.srb.specs.Performing.{Performs}
 use Rattle.disk.specs.Medium.{MediumView, IsWhole}
 use Rattle.miniport.specs.declared.on_tag.OnTag.{OnTag}
 use Rattle.miniport.specs.declared.on_tag.Progress.{Progress}
 use Rattle.miniport.specs.declared.on_tag.Progress.TheVariants.{Untouched, Moved, Failed}
-use Rattle.miniport.specs.Carrying.{IsReady, emptied, CarriesOut, FailsBy}
+use Rattle.miniport.specs.Carrying.{IsReady, emptied}
 use Rattle.miniport.specs.Moving.{moved_by}
-use Rattle.miniport.specs.Slots.{Table, piece_at, in_use_of, tags_of, new_piece, with_new, with_slot, with_moved, with_failed, with_returned, with_reset, slot_after_reset, failures_of_reset, labels_of_reset}
+use Rattle.miniport.specs.Slots.{Table, piece_at, new_piece, with_new, with_moved, with_failed, with_returned, with_reset, slot_after_reset, labels_of_reset}
 use Rattle.miniport.specs.Memory.{IsKept, IsPieceRight, ArePiecesRight, failures_left, left_by, shown_of}
 use Rattle.miniport.proofs.TagsInUse.{tags_below, tags_differ, is_used}
 use Rattle.miniport.proofs.Pieces.{pieces_set, pieces_emptied, pieces_along, more_failures, other_medium, pieces_reset, left_after_set, left_after_reset}
@@ -49,7 +49,7 @@ none_at size slots tag (Some on) e h = absurd (h on refl)
 pub empty_slot : (m : MediumView) (longest : ℕ) (t : Table) (tag : ℕ) → IsFree (shown_of m longest t) tag → piece_at t.slots tag ≡ None
 empty_slot m longest t tag free = none_at m.sector_size t.slots tag (piece_at t.slots tag) refl
     (λ on e. let used = is_used m.sector_size t.slots tag on e in
-        let there = free used.0 used.1 used.2 in there (ap (λ u. u.tag) used.3 ∙ used.4))
+    let there = free used.0 used.1 used.2 in there (ap (λ u. u.tag) used.3 ∙ used.4))
 
 -- ACCEPT
 
@@ -68,7 +68,7 @@ pub accept_kept : (m : MediumView) (longest : ℕ) (t : Table) (tag piece : ℕ)
     → IsKept m longest (with_new tag piece srb t)
 accept_kept m longest t tag piece srb kept below none ready buffers few place =
     let left : sum_by failures_left (slice_set t.slots tag (Some (new_piece t.failures piece srb))) + failures_left (piece_at t.slots tag) ≡ sum_by failures_left t.slots + 2 =
-        left_after_set t.slots tag (Some (new_piece t.failures piece srb)) below in
+    left_after_set t.slots tag (Some (new_piece t.failures piece srb)) below in
     record {
       sector_size = kept.sector_size;
       sectors = kept.sectors;
@@ -146,9 +146,9 @@ pub move_kept : (m : MediumView) (longest : ℕ) (t : Table) (tag : ℕ) (on : O
 move_kept m longest t tag on bytes sectors kept below there untouched long whole place =
     let m' = record m { sectors = sectors } in
     let left : sum_by failures_left (slice_set t.slots tag (Some (moved_piece on bytes))) + 1 ≤ sum_by failures_left t.slots =
-        put_back m t tag on (moved_piece on bytes) kept.pieces below there untouched (λ e. absurd cc) refl in
+    put_back m t tag on (moved_piece on bytes) kept.pieces below there untouched (λ e. absurd cc) refl in
     let others : ArePiecesRight m' t.failures t.slots =
-        pieces_along m m' t.failures t.failures t.slots (other_medium m m' t.failures refl (same_size_ready m sectors long)) kept.pieces in
+    pieces_along m m' t.failures t.failures t.slots (other_medium m m' t.failures refl (same_size_ready m sectors long)) kept.pieces in
     record {
       sector_size = kept.sector_size;
       sectors = rw long kept.sectors;
@@ -179,10 +179,10 @@ pub fail_kept : (m : MediumView) (longest : ℕ) (t : Table) (tag : ℕ) (on : O
 fail_kept m longest t tag on completion k kept below there untouched bad counted place =
     let m' = record m { failures = k } in
     let left : sum_by failures_left (slice_set t.slots tag (Some (failed_piece on completion))) + 1 ≤ sum_by failures_left t.slots =
-        put_back m t tag on (failed_piece on completion) kept.pieces below there untouched (λ e. absurd cc) refl in
+    put_back m t tag on (failed_piece on completion) kept.pieces below there untouched (λ e. absurd cc) refl in
     let others : ArePiecesRight m' (t.failures + 1) t.slots =
-        pieces_along m m' t.failures (t.failures + 1) t.slots
-            (λ p right. more_failures m' t.failures (t.failures + 1) (omega arith) p (other_medium m m' t.failures refl (λ srb ready. ready) p right)) kept.pieces in
+    pieces_along m m' t.failures (t.failures + 1) t.slots
+    (λ p right. more_failures m' t.failures (t.failures + 1) (omega arith) p (other_medium m m' t.failures refl (λ srb ready. ready) p right)) kept.pieces in
     record {
       sector_size = kept.sector_size;
       sectors = kept.sectors;
@@ -202,7 +202,7 @@ pub finish_kept : (m : MediumView) (longest : ℕ) (t : Table) (tag : ℕ) (on :
     → IsKept m longest (with_returned tag on t)
 finish_kept m longest t tag on kept below place =
     let left : sum_by failures_left (slice_set t.slots tag None) + failures_left (piece_at t.slots tag) ≡ sum_by failures_left t.slots + 0 =
-        left_after_set t.slots tag None below in
+    left_after_set t.slots tag None below in
     record {
       sector_size = kept.sector_size;
       sectors = kept.sectors;

@@ -1,10 +1,9 @@
 -- What is right of each piece on a tag stays right.
-use Rattle.std.proofs.Common.{◌≡◌, ◌≢◌, ◌<◌, ◌≤◌, ◌^◌, ◌⊎◌, inl, inr, ℕ, zero, suc, ◌+◌, ◌*◌, ◌==◌, Bool, true, false, List, [], ◌∷◌, ◌++◌, length, map, slice_set, get_or, replicate, sum_by, Option, Some, None, refl, sym, ap, ◌∙◌, subst, arith, if◌then◌else◌}
-use Rattle.std.proofs.lemmas.List.{get_or-set_same, get_or-set_other, get_or-map, get_or-replicate, get_or_past, set_past, length-map}
+use Rattle.std.proofs.Common.{◌≡◌, ◌<◌, ◌≤◌, ◌⊎◌, inl, inr, ℕ, zero, suc, ◌+◌, Bool, true, false, List, [], ◌∷◌, length, map, slice_set, sum_by, Option, Some, None, refl, sym, ap, ◌∙◌, subst, arith, if◌then◌else◌}
+use Rattle.std.proofs.lemmas.List.{get_or-set_same, get_or-set_other, get_or-map, get_or_past, set_past, length-map}
 use Rattle.std.proofs.lemmas.List.Sums.{sum_by-set, sum_by-cons, get_or-le-sum_by}
 use Rattle.std.proofs.lemmas.Bool.Decides.{eqb_tells}
 use Rattle.std.proofs.lemmas.Bool.{cases_lt}
-use Rattle.std.specs.List.{concat}
 use Rattle.srb.specs.declared.Srb.{Srb}
 use Rattle.srb.specs.declared.Completion.{Completion}
 use Rattle.srb.specs.declared.Class.TheVariants.{Bad}
@@ -15,7 +14,6 @@ use Rattle.miniport.specs.declared.on_tag.Progress.{Progress}
 use Rattle.miniport.specs.declared.on_tag.Progress.TheVariants.{Untouched, Moved, Failed}
 use Rattle.miniport.specs.Faults.{bus_reset}
 use Rattle.miniport.specs.Carrying.{IsReady}
-use Rattle.miniport.specs.Moving.{moved_by}
 use Rattle.miniport.specs.Slots.{piece_at, slot_after_reset, progress_after_reset, failures_of_reset}
 use Rattle.miniport.specs.Memory.{IsPieceRight, ArePiecesRight, failures_left, left_by}
 
@@ -24,27 +22,27 @@ pub pieces_set : (m : MediumView) (f : ℕ) (slots : List (Option OnTag)) (i : �
     → ArePiecesRight m f (slice_set slots i (Some on))
 pieces_set m f slots i on all right j p e =
     elim (eqb_tells j i) [
-      inl same ↦ elim (cases_lt i (length slots)) [
-          inr past ↦ all j p (sym (ap (λ (l : List (Option OnTag)). piece_at l j) (set_past slots i (Some on) past)) ∙ e)
+      | inl same ↦ elim (cases_lt i (length slots)) [
+        | inr past ↦ all j p (sym (ap (λ (l : List (Option OnTag)). piece_at l j) (set_past slots i (Some on) past)) ∙ e)
         | inl below ↦
             let here : piece_at (slice_set slots i (Some on)) j ≡ Some on = ap (λ (k : ℕ). piece_at (slice_set slots i (Some on)) k) same.1 ∙ get_or-set_same slots i (Some on) None below in
             let k : on ≡ p = cc in
             subst (λ (x : OnTag). IsPieceRight m f x) k right
-        ]
-    | inr differ ↦ all j p (sym (get_or-set_other slots i j (Some on) None differ.1) ∙ e)
+      ]
+      | inr differ ↦ all j p (sym (get_or-set_other slots i j (Some on) None differ.1) ∙ e)
     ]
 
 -- a slot that is emptied
 pub pieces_emptied : (m : MediumView) (f : ℕ) (slots : List (Option OnTag)) (i : ℕ) → ArePiecesRight m f slots → ArePiecesRight m f (slice_set slots i None)
 pieces_emptied m f slots i all j p e =
     elim (eqb_tells j i) [
-      inl same ↦ elim (cases_lt i (length slots)) [
-          inr past ↦ all j p (sym (ap (λ (l : List (Option OnTag)). piece_at l j) (set_past slots i None past)) ∙ e)
+      | inl same ↦ elim (cases_lt i (length slots)) [
+        | inr past ↦ all j p (sym (ap (λ (l : List (Option OnTag)). piece_at l j) (set_past slots i None past)) ∙ e)
         | inl below ↦
             let here : piece_at (slice_set slots i None) j ≡ None = ap (λ (k : ℕ). piece_at (slice_set slots i None) k) same.1 ∙ get_or-set_same slots i None None below in
             absurd cc
-        ]
-    | inr differ ↦ all j p (sym (get_or-set_other slots i j None None differ.1) ∙ e)
+      ]
+      | inr differ ↦ all j p (sym (get_or-set_other slots i j None None differ.1) ∙ e)
     ]
 
 -- of another medium, or with more failures
@@ -124,15 +122,15 @@ pub pieces_reset : (m : MediumView) (f : ℕ) (slots : List (Option OnTag)) → 
     → ArePiecesRight m (f + sum_by failures_of_reset slots) (map slot_after_reset slots)
 pieces_reset m f slots all i after e =
     elim (cases_lt i (length slots)) [
-      inr past ↦
-        let none : piece_at (map slot_after_reset slots) i ≡ None = get_or_past (map slot_after_reset slots) i None (omega (arith, length-map slots slot_after_reset)) in
-        absurd cc
-    | inl below ↦
-        let at : piece_at (map slot_after_reset slots) i ≡ slot_after_reset (piece_at slots i) = get_or-map slot_after_reset slots i None None below in
-        let was = met_piece (piece_at slots i) after (sym at ∙ e) in
-        let few : failures_of_reset (Some was.0) ≤ sum_by failures_of_reset slots =
-            subst (λ (slot : Option OnTag). failures_of_reset slot ≤ sum_by failures_of_reset slots) was.1 (get_or-le-sum_by failures_of_reset slots i None below) in
-        rw was.2 (reset_piece_right m f (f + sum_by failures_of_reset slots) was.0 (omega arith) (rose_or_met f _ was.0 few) (all i was.0 was.1))
+      | inr past ↦
+          let none : piece_at (map slot_after_reset slots) i ≡ None = get_or_past (map slot_after_reset slots) i None (omega (arith, length-map slots slot_after_reset)) in
+          absurd cc
+      | inl below ↦
+          let at : piece_at (map slot_after_reset slots) i ≡ slot_after_reset (piece_at slots i) = get_or-map slot_after_reset slots i None None below in
+          let was = met_piece (piece_at slots i) after (sym at ∙ e) in
+          let few : failures_of_reset (Some was.0) ≤ sum_by failures_of_reset slots =
+          subst (λ (slot : Option OnTag). failures_of_reset slot ≤ sum_by failures_of_reset slots) was.1 (get_or-le-sum_by failures_of_reset slots i None below) in
+          rw was.2 (reset_piece_right m f (f + sum_by failures_of_reset slots) was.0 (omega arith) (rose_or_met f _ was.0 few) (all i was.0 was.1))
     ]
 
 -- FAILURES
@@ -155,5 +153,11 @@ left_of_slot (Some on) = zero_or_one on.was_reset on.progress
 -- a reset counts no more than what was left
 pub left_after_reset : (slots : List (Option OnTag)) → sum_by failures_of_reset slots + sum_by failures_left (map slot_after_reset slots) ≤ sum_by failures_left slots
 left_after_reset [] = omega arith
-left_after_reset (slot ∷ slots) = omega (arith, sum_by-cons failures_of_reset slot slots, sum_by-cons failures_left slot slots,
-    sum_by-cons failures_left (slot_after_reset slot) (map slot_after_reset slots), left_of_slot slot, left_after_reset slots)
+left_after_reset (slot ∷ slots) = omega (
+  arith,
+  sum_by-cons failures_of_reset slot slots,
+  sum_by-cons failures_left slot slots,
+  sum_by-cons failures_left (slot_after_reset slot) (map slot_after_reset slots),
+  left_of_slot slot,
+  left_after_reset slots,
+)

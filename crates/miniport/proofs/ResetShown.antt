@@ -1,5 +1,5 @@
 -- A reset is shown as the faults of the pieces that had done nothing, and the mark on all.
-use Rattle.std.proofs.Common.{◌≡◌, ◌<◌, ◌≤◌, ◌⊎◌, inl, inr, ℕ, zero, suc, ◌+◌, Bool, true, false, not, List, [], ◌∷◌, ◌++◌, length, map, filter, sum_by, All, Option, Some, None, IsPermutation, refl, sym, ap, ◌∙◌, subst, arith, append_assoc, cond, if◌then◌else◌}
+use Rattle.std.proofs.Common.{◌≡◌, ◌≤◌, inl, inr, ℕ, suc, ◌+◌, Bool, true, false, not, List, [], ◌∷◌, ◌++◌, length, map, filter, sum_by, All, Option, Some, None, IsPermutation, refl, sym, ap, ◌∙◌, subst, arith, append_assoc, cond, if◌then◌else◌}
 use Rattle.std.specs.Prelude.{count_by}
 use Rattle.std.specs.List.{flat_map}
 use Rattle.std.proofs.lemmas.List.{append-nil, map-append, length-map}
@@ -8,16 +8,15 @@ use Rattle.std.proofs.lemmas.List.Elements.{All-head, All-tail, All-nil, All-con
 use Rattle.std.proofs.lemmas.List.Sorted.{IsPermutation-refl, IsPermutation-sym, IsPermutation-trans, IsPermutation-map, IsPermutation-middle, IsPermutation-filter_both}
 use Rattle.srb.specs.declared.Srb.{Srb}
 use Rattle.srb.specs.declared.Completion.{Completion}
-use Rattle.srb.specs.declared.Class.TheVariants.{Bad}
 use Rattle.srb.specs.declared.DeviceLabel.{DeviceLabel}
 use Rattle.srb.specs.declared.DeviceLabel.TheVariants.{Fault}
-use Rattle.srb.specs.Fate.{Fate, Fresh, Acted, Faulted, class_of}
+use Rattle.srb.specs.Fate.{Fate, Fresh, Acted, Faulted}
 use Rattle.srb.specs.Adapter.{TagInUse, AdapterView, faulted, met_by_reset, MovesUnseen, MovesByAll, FaultsOn, IsReserved}
 use Rattle.disk.specs.Medium.{MediumView}
 use Rattle.miniport.specs.declared.on_tag.OnTag.{OnTag}
 use Rattle.miniport.specs.declared.on_tag.Progress.{Progress}
 use Rattle.miniport.specs.declared.on_tag.Progress.TheVariants.{Untouched, Moved, Failed}
-use Rattle.miniport.specs.Calls.{Resets, after_reset, fate_after_reset, has_done_nothing, is_fresh, fault_of, tag_of}
+use Rattle.miniport.specs.Calls.{Resets, after_reset, fate_after_reset, has_done_nothing, is_fresh, fault_of}
 use Rattle.miniport.specs.Slots.{Table, piece_at, in_use_of, fate_of, tags_of, labels_by, slot_completion, slot_after_reset, progress_after_reset, failures_of_reset, labels_of_reset, with_reset}
 use Rattle.miniport.specs.Memory.{shown_of, view_of, is_unmet, due_after_reset, ResetsAll}
 use Rattle.miniport.specs.Faults.{bus_reset}
@@ -66,14 +65,18 @@ faults_move (f ∷ fs) others old new tags failures labels all before after coun
       counted = omega arith;
       in_use = IsPermutation-refl mid.tags;
       after = refl;
-    } in
-    (old, mid, nothing_moves old, (f.tag, fault),
+    } in (
+      old,
+      mid,
+      nothing_moves old,
+      (f.tag, fault),
       faults_move fs (faulted f ∷ others) mid new tags failures labels (All-tail IsFreshUse f fs all)
-        (IsPermutation-sym _ _ (IsPermutation-middle fs (faulted f) others))
-        (IsPermutation-trans _ _ _ after (IsPermutation-map met_by_reset _ _ (IsPermutation-sym _ _ (IsPermutation-middle (map faulted fs) (faulted f) others))))
-        (omega (arith, counted))
-        (are ∙ sym (append_assoc old.labels (Fault f.piece ∷ []) (map fault_of fs)))
-        e)
+          (IsPermutation-sym _ _ (IsPermutation-middle fs (faulted f) others))
+          (IsPermutation-trans _ _ _ after (IsPermutation-map met_by_reset _ _ (IsPermutation-sym _ _ (IsPermutation-middle (map faulted fs) (faulted f) others))))
+          (omega (arith, counted))
+          (are ∙ sym (append_assoc old.labels (Fault f.piece ∷ []) (map fault_of fs)))
+          e,
+    )
 
 -- THE TAGS
 
@@ -87,7 +90,7 @@ tags_met size k [] = refl
 tags_met size k (None ∷ slots) = tags_met size (suc k) slots
 tags_met size k (Some on ∷ slots) =
     let first : in_use_of size k (record on { progress = progress_after_reset on.progress; was_reset = true }) ≡ after_reset (in_use_of size k on) =
-        ap (λ (f : Fate). record (in_use_of size k on) { fate = f; was_reset = true }) (fate_met size on.srb on.progress) in
+    ap (λ (f : Fate). record (in_use_of size k on) { fate = f; was_reset = true }) (fate_met size on.srb on.progress) in
     let rest : tags_of size (suc k) (map slot_after_reset slots) ≡ map after_reset (tags_of size (suc k) slots) = tags_met size (suc k) slots in
     cc
 
@@ -142,12 +145,12 @@ tags_after xs =
     let fresh = filter is_fresh xs in
     let settled = filter is_settled xs in
     let moved : IsPermutation (map after_reset xs) (map after_reset (fresh ++ settled)) =
-        IsPermutation-map after_reset _ _ (IsPermutation-filter_both is_fresh is_settled (λ x. refl) xs) in
+    IsPermutation-map after_reset _ _ (IsPermutation-filter_both is_fresh is_settled (λ x. refl) xs) in
     let e : map after_reset (fresh ++ settled) ≡ map met_by_reset (map faulted fresh ++ settled) =
-        map-append after_reset fresh settled
-        ∙ ap (λ (l : List TagInUse). l ++ map after_reset settled) (all_faulted fresh (fresh_pass xs))
-        ∙ ap (λ (l : List TagInUse). map met_by_reset (map faulted fresh) ++ l) (all_marked settled (settled_pass xs))
-        ∙ sym (map-append met_by_reset (map faulted fresh) settled) in
+    map-append after_reset fresh settled
+    ∙ ap (λ (l : List TagInUse). l ++ map after_reset settled) (all_faulted fresh (fresh_pass xs))
+    ∙ ap (λ (l : List TagInUse). map met_by_reset (map faulted fresh) ++ l) (all_marked settled (settled_pass xs))
+    ∙ sym (map-append met_by_reset (map faulted fresh) settled) in
     subst (λ (l : List TagInUse). IsPermutation (map after_reset xs) l) e moved
 
 -- THE LABELS AND THE COUNT
@@ -177,8 +180,14 @@ unmet_one false = omega arith
 counted_shown : (size k : ℕ) (slots : List (Option OnTag)) → sum_by failures_of_reset slots ≡ count_by is_unmet (tags_of size k slots)
 counted_shown size k [] = refl
 counted_shown size k (None ∷ slots) = omega (arith, sum_by-cons failures_of_reset None slots, counted_shown size (suc k) slots)
-counted_shown size k (Some on ∷ slots) = omega (arith, sum_by-cons failures_of_reset (Some on) slots, counted_shown size (suc k) slots,
-    sum_by-cons (λ (u : TagInUse). cond (is_unmet u) 1 0) (in_use_of size k on) (tags_of size (suc k) slots), one_unmet on.was_reset, unmet_one on.was_reset)
+counted_shown size k (Some on ∷ slots) = omega (
+  arith,
+  sum_by-cons failures_of_reset (Some on) slots,
+  counted_shown size (suc k) slots,
+  sum_by-cons (λ (u : TagInUse). cond (is_unmet u) 1 0) (in_use_of size k on) (tags_of size (suc k) slots),
+  one_unmet on.was_reset,
+  unmet_one on.was_reset,
+)
 
 first_few : (size : ℕ) (on : OnTag) (u : TagInUse) (xs : List TagInUse) (q : Progress) (b : Bool) → (b ≡ true → q ≡ Untouched → ⊥)
     → length (cond (has_done_nothing (fate_of size on.srb q)) (u ∷ xs) xs) ≤ (if b then 0 else 1) + length xs
@@ -193,8 +202,12 @@ fresh_few size k [] unmet = omega arith
 fresh_few size k (None ∷ slots) unmet =
     omega (arith, sum_by-cons failures_of_reset None slots, fresh_few size (suc k) slots (λ tag on there. unmet (suc tag) on there))
 fresh_few size k (Some on ∷ slots) unmet =
-    omega (arith, sum_by-cons failures_of_reset (Some on) slots, fresh_few size (suc k) slots (λ tag p there. unmet (suc tag) p there),
-        first_few size on (in_use_of size k on) (filter is_fresh (tags_of size (suc k) slots)) on.progress on.was_reset (unmet 0 on refl))
+    omega (
+      arith,
+      sum_by-cons failures_of_reset (Some on) slots,
+      fresh_few size (suc k) slots (λ tag p there. unmet (suc tag) p there),
+      first_few size on (in_use_of size k on) (filter is_fresh (tags_of size (suc k) slots)) on.progress on.was_reset (unmet 0 on refl),
+    )
 
 due_met : (slots : List (Option OnTag)) → map slot_completion (map slot_after_reset slots) ≡ map due_after_reset (map slot_completion slots)
 due_met [] = refl
@@ -214,9 +227,9 @@ resets m longest t unmet =
     let labels : new.labels ≡ t.labels ++ map fault_of fresh = ap (λ (l : List DeviceLabel). t.labels ++ l) (labels_shown m.sector_size 0 t.slots) in
     let same : new.tags ≡ map after_reset old.tags = tags_met m.sector_size 0 t.slots in
     let marked : IsPermutation new.tags (map met_by_reset (map faulted fresh ++ filter is_settled old.tags)) =
-        subst (λ (l : List TagInUse). IsPermutation l (map met_by_reset (map faulted fresh ++ filter is_settled old.tags))) (sym same) (tags_after old.tags) in
+    subst (λ (l : List TagInUse). IsPermutation l (map met_by_reset (map faulted fresh ++ filter is_settled old.tags))) (sym same) (tags_after old.tags) in
     let depth : new ≡ record old { tags = new.tags; failures = failures; labels = new.labels } =
-        ap (λ (d : ℕ). record new { depth = d }) (length-map t.slots slot_after_reset) in
+    ap (λ (d : ℕ). record new { depth = d }) (length-map t.slots slot_after_reset) in
     record {
       fresh = fresh;
       tags = new.tags;

@@ -1,5 +1,5 @@
 -- A reset goes through the slots one after the other.
-use Rattle.std.proofs.Common.{◌≡◌, ◌<◌, ◌≤◌, ℕ, suc, ◌+◌, ◌*◌, Bool, true, false, List, [], ◌∷◌, ◌++◌, length, map, take, drop, slice_set, get_or, sum_by, Option, Some, None, All, refl, sym, ap, ◌∙◌, arith, add-one, append_assoc, add_assoc, set-set, length-append, length-take, if◌then◌else◌}
+use Rattle.std.proofs.Common.{◌≡◌, ◌<◌, ◌≤◌, ℕ, ◌+◌, Bool, true, false, List, [], ◌∷◌, ◌++◌, length, map, take, drop, slice_set, sum_by, Option, Some, None, refl, sym, ap, ◌∙◌, arith, add-one, append_assoc, add_assoc, set-set, length-append, if◌then◌else◌}
 use Rattle.std.proofs.lemmas.List.{set_at, get_or_at, take_more, map-append, length-map, append-nil, length-take-le}
 use Rattle.std.proofs.Math.Seq.{drop-cons}
 use Rattle.std.proofs.lemmas.List.Sums.{sum_by_more, sum_by-le}
@@ -9,7 +9,7 @@ use Rattle.srb.specs.declared.DeviceLabel.{DeviceLabel}
 use Rattle.miniport.specs.declared.on_tag.OnTag.{OnTag}
 use Rattle.miniport.specs.declared.on_tag.Progress.{Progress}
 use Rattle.miniport.specs.declared.on_tag.Progress.TheVariants.{Untouched, Moved, Failed}
-use Rattle.miniport.specs.Slots.{Table, piece_at, labels_by, slot_after_reset, failures_of_reset, labels_of_reset, with_slot, with_reset_counted, with_reset_at, with_first_reset, with_reset}
+use Rattle.miniport.specs.Slots.{Table, piece_at, labels_by, slot_after_reset, failures_of_reset, labels_of_reset, with_slot, with_reset_counted, with_reset_at, with_first_reset}
 
 -- the piece taken off its tag, counted and put back
 pub reset_one : (t : Table) (tag : ℕ) (on after : OnTag) → piece_at t.slots tag ≡ Some on → Some after ≡ slot_after_reset (Some on)
@@ -64,7 +64,7 @@ set_first s n below =
     let here = slot_after_reset (piece_at s n) in
     let done = map slot_after_reset (take n s) in
     let e : slice_set (done ++ drop n s) n here ≡ done ++ here ∷ drop (n + 1) s =
-        rw (tail_at s n below) (set_at done (piece_at s n) (drop (n + 1) s) here n (long s n below)) in
+    rw (tail_at s n below) (set_at done (piece_at s n) (drop (n + 1) s) here n (long s n below)) in
     let k : map slot_after_reset (take (n + 1) s) ≡ done ++ here ∷ [] = rw (take_more s n None below) (map-append slot_after_reset (take n s) (piece_at s n ∷ [])) in
     e ∙ (sym (append_assoc done (here ∷ []) (drop (n + 1) s)) ∙ sym (ap (λ (l : List (Option OnTag)). l ++ drop (n + 1) s) k))
 

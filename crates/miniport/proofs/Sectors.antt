@@ -1,6 +1,6 @@
 -- Sectors read and written on a medium are those that the command moves.
-use Rattle.std.proofs.Common.{◌≡◌, ◌<◌, ◌≤◌, ◌^◌, ℕ, ◌+◌, ◌-◌, ◌&&◌, Bool, true, false, List, [], ◌∷◌, ◌++◌, length, take, drop, slice_range, slice_index, Option, Some, None, Ok, All, refl, sym, ap, ◌∙◌, ◌⊎◌, inl, inr, arith, nat_le, nat_lt, length-drop}
-use Rattle.std.specs.Prelude.{Contains, Any}
+use Rattle.std.proofs.Common.{◌≡◌, ◌≤◌, ℕ, ◌+◌, ◌-◌, ◌&&◌, Bool, true, false, List, [], ◌∷◌, ◌++◌, length, take, drop, slice_range, slice_index, Some, None, Ok, All, refl, sym, ap, ◌∙◌, ◌⊎◌, inl, inr, arith, length-drop}
+use Rattle.std.specs.Prelude.{Any}
 use Rattle.std.specs.List.{concat, list_any}
 use Rattle.std.specs.Simd.{first_chunks}
 use Rattle.std.proofs.lemmas.List.{take_at, drop_at, length-take-le, nil_from_length, append-nil}
@@ -8,21 +8,18 @@ use Rattle.std.proofs.lemmas.List.Elements.{All-head, All-tail, All-take, All-dr
 use Rattle.std.proofs.lemmas.List.Folds.{Any-from_list_any, list_any-from_Any}
 use Rattle.std.proofs.lemmas.Bool.{lt-ltb, ltb-true, le-leb, leb-true}
 use Rattle.std.specs.Cmp.Derive.{both_true}
-use Rattle.byteorder.specs.Endian.{big_from, big_bytes}
-use Rattle.sector.specs.declared.Extent.{Extent}
+use Rattle.byteorder.specs.Endian.{big_from}
 use Rattle.sector.specs.Splice.{splice}
 use Rattle.cdb.specs.declared.Cdb.{Cdb}
 use Rattle.cdb.specs.declared.Cdb.TheVariants.{Read10, Write10, Sync10, ReadCapacity10}
-use Rattle.cdb.specs.Meaning.{Means, HasCode, HasPlace}
 use Rattle.srb.specs.declared.Srb.{Srb}
 use Rattle.srb.specs.declared.Completion.{Completion}
-use Rattle.srb.specs.Performing.{Performs, IsSector, capacity_data}
-use Rattle.disk.specs.Medium.{MediumView, HasLength, IsWhole, HasBad, bytes_at, failed}
+use Rattle.srb.specs.Performing.{capacity_data}
+use Rattle.disk.specs.Medium.{MediumView, HasLength, IsWhole, HasBad, failed}
 use Rattle.miniport.specs.declared.carrying.Outcome.{Outcome}
 use Rattle.miniport.specs.declared.carrying.Outcome.TheVariants.{Moved, Failed}
-use Rattle.miniport.specs.declared.check.Sizes.{Sizes}
-use Rattle.miniport.specs.Faults.{Disk, fault_of, fault_of_medium, names_bad, is_one_of, error}
-use Rattle.miniport.specs.Checking.{disk_with, Passes, IsRefused}
+use Rattle.miniport.specs.Faults.{Disk, fault_of_medium, is_one_of, error}
+use Rattle.miniport.specs.Checking.{Passes, IsRefused}
 use Rattle.miniport.specs.Carrying.{disk_of, sizes_of, emptied, Reads, Writes, CarriesOut, FailsBy, Ends}
 use Rattle.miniport.specs.Moving.{moved_by}
 
@@ -104,7 +101,7 @@ read_ends medium p srb lba count fua (Moved srb' bytes) medium' whole passes (go
     let sectors = slice_range medium.sectors lba (lba + count) in
     let long : length sectors ≡ count = length-extent medium.sectors lba count passes.fits.within in
     let cut : first_chunks medium.sector_size (length sectors) (concat sectors) ≡ sectors =
-        first_chunks-concat medium.sector_size sectors (All-extent medium.sector_size medium.sectors lba count whole) in
+    first_chunks-concat medium.sector_size sectors (All-extent medium.sector_size medium.sectors lba count whole) in
     let again : first_chunks medium.sector_size count bytes ≡ sectors = cut_again medium.sector_size count bytes sectors bytes_are long cut in
     record {
       command = Read10 lba count fua;
@@ -120,7 +117,7 @@ read_ends medium p srb lba count fua (Moved srb' bytes) medium' whole passes (go
     }
 read_ends medium p srb lba count fua (Failed srb' completion) medium' whole passes (bad, e, same, after) =
     let known : FailsBy medium p srb srb (error 3 0x11 0) (failed medium) =
-        fails_by medium p srb (Read10 lba count fua) _ passes (fault_of_read (disk_of medium p) lba count fua (bad_named medium lba count bad)) in
+    fails_by medium p srb (Read10 lba count fua) _ passes (fault_of_read (disk_of medium p) lba count fua (bad_named medium lba count bad)) in
     rw (e, same, after) known
 
 pub write_ends : (medium : MediumView) (p : Bool) (srb : Srb) (lba count : ℕ) (fua : Bool) (outcome : Outcome) (medium' : MediumView)
@@ -128,9 +125,9 @@ pub write_ends : (medium : MediumView) (p : Bool) (srb : Srb) (lba count : ℕ) 
     → Ends medium p srb outcome medium'
 write_ends medium p srb lba count fua (Moved srb' bytes) medium' passes (good, writes, bytes_are, back) =
     let cut : first_chunks medium.sector_size (length writes.moved) (concat writes.moved) ≡ writes.moved =
-        first_chunks-concat medium.sector_size writes.moved writes.whole in
+    first_chunks-concat medium.sector_size writes.moved writes.whole in
     let again : first_chunks medium.sector_size count bytes ≡ writes.moved =
-        cut_again medium.sector_size count bytes writes.moved (sym writes.bytes_are) writes.covers cut in
+    cut_again medium.sector_size count bytes writes.moved (sym writes.bytes_are) writes.covers cut in
     record {
       command = Write10 lba count fua;
       moved = writes.moved;
@@ -145,7 +142,7 @@ write_ends medium p srb lba count fua (Moved srb' bytes) medium' passes (good, w
     }
 write_ends medium p srb lba count fua (Failed srb' completion) medium' passes (bad, e, same, after) =
     let known : FailsBy medium p srb srb (error 3 0x0C 0) (failed medium) =
-        fails_by medium p srb (Write10 lba count fua) _ passes (fault_of_write (disk_of medium p) lba count fua (bad_named medium lba count bad)) in
+    fails_by medium p srb (Write10 lba count fua) _ passes (fault_of_write (disk_of medium p) lba count fua (bad_named medium lba count bad)) in
     rw (e, same, after) known
 
 pub sync_ends : (medium : MediumView) (p : Bool) (srb : Srb) (lba blocks : ℕ) → Passes (sizes_of medium p) srb (Sync10 lba blocks)

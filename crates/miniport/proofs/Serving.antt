@@ -1,17 +1,16 @@
 -- What each call of the adapter in memory leaves, from what it shows before.
-use Rattle.std.proofs.Common.{◌≡◌, ◌<◌, ◌≤◌, ◌^◌, ◌⊎◌, ℕ, ◌+◌, Bool, true, false, List, [], ◌∷◌, length, map, get_or, All, Option, Some, None, MatchBool, MatchOption, IfSome, is_some, refl, sym, ap, ◌∙◌, subst, arith}
+use Rattle.std.proofs.Common.{◌≡◌, ◌<◌, ◌≤◌, ◌^◌, ℕ, ◌+◌, Bool, true, false, List, [], ◌∷◌, length, get_or, All, Option, Some, None, MatchBool, MatchOption, IfSome, is_some, refl, sym, ap, ◌∙◌, subst, arith}
 use Rattle.std.specs.Prelude.{Any}
 use Rattle.srb.specs.declared.Srb.{Srb}
 use Rattle.srb.specs.declared.Completion.{Completion}
 use Rattle.srb.specs.declared.DeviceLabel.{DeviceLabel}
-use Rattle.srb.specs.Adapter.{AdapterView, IsInOrder, IsFree, HasTag, HasNotTag, IsWritable, IsReserved, Accepts}
+use Rattle.srb.specs.Adapter.{AdapterView, IsInOrder, IsFree, HasTag, HasNotTag, IsWritable, Accepts}
 use Rattle.sector.specs.declared.Extent.{Extent}
 use Rattle.disk.specs.Medium.{MediumView, IsWhole, Reserves as MediumReserves, IsReserved as MediumReserved}
 use Rattle.miniport.specs.declared.on_tag.OnTag.{OnTag}
-use Rattle.miniport.specs.declared.on_tag.Progress.TheVariants.{Untouched}
-use Rattle.miniport.specs.Calls.{Reserves, Acts, ActsNot, Finishes, FinishesNot, Resets, LeavesFirst, HasNoLabel}
+use Rattle.miniport.specs.Calls.{Reserves, Acts, ActsNot, Finishes, FinishesNot, Resets}
 use Rattle.miniport.specs.Faults.{busy}
-use Rattle.miniport.specs.Slots.{Table, ComesBack, piece_at, tags_of, slot_completion, completion_of, with_new, with_returned, with_reset}
+use Rattle.miniport.specs.Slots.{Table, ComesBack, piece_at, tags_of, completion_of, with_new, with_returned, with_reset}
 use Rattle.miniport.specs.Memory.{MemView, IsKept, shown_of, view_of, Dues, SameDues, ActsByTable, ActsIn, ActsNotIn, ResetsAll}
 use Rattle.miniport.proofs.Acts.{Leaves, act_leaves, acts_not, is_below}
 use Rattle.miniport.proofs.Keeping.{in_order, empty_slot, accept_kept, finish_kept, reset_kept, is_short}
@@ -42,8 +41,8 @@ pub in_use_seen : (m : MediumView) (longest : ℕ) (p : Bool) (t : Table) (v : M
     → b ≡ is_some (piece_at t.slots tag) → MatchBool b (Any (HasTag tag) v.shown.tags) (IsFree v.shown tag)
 in_use_seen m longest p t v tag b e f =
     subst (λ (u : MemView). MatchBool b (Any (HasTag tag) u.shown.tags) (IsFree u.shown tag)) e
-      (subst (λ (c : Bool). MatchBool c (Any (HasTag tag) (shown_of m longest t).tags) (IsFree (shown_of m longest t) tag)) (sym f)
-        (used_or_free m.sector_size t.slots tag (piece_at t.slots tag) refl))
+    (subst (λ (c : Bool). MatchBool c (Any (HasTag tag) (shown_of m longest t).tags) (IsFree (shown_of m longest t) tag)) (sym f)
+    (used_or_free m.sector_size t.slots tag (piece_at t.slots tag) refl))
 
 -- ACCEPT
 
@@ -60,7 +59,7 @@ accepted : (m : MediumView) (longest : ℕ) (p : Bool) (t : Table) (tag piece : 
 accepted m longest p t tag piece srb whole kept asks =
     let none : piece_at t.slots tag ≡ None = empty_slot m longest t tag asks.free in
     let keeps : IsKept m longest (with_new tag piece srb t) =
-        accept_kept m longest t tag piece srb kept asks.below none asks.writable asks.buffers asks.few asks.place in
+    accept_kept m longest t tag piece srb kept asks.below none asks.writable asks.buffers asks.few asks.place in
     record {
       kept = keeps;
       order = in_order m longest (with_new tag piece srb t) whole keeps;
@@ -73,8 +72,8 @@ pub after_accept : (m : MediumView) (longest : ℕ) (p : Bool) (t t' : Table) (v
     → After m longest p t' (Accepts v.shown tag piece srb) (Dues tag (Some busy) v)
 after_accept m longest p t t' v tag piece srb e f whole kept =
     subst (λ (u : MemView). AsksAccept u tag srb → After m longest p t' (Accepts u.shown tag piece srb) (Dues tag (Some busy) u)) e
-      (λ asks. subst (λ (s : Table). After m longest p s (Accepts (shown_of m longest t) tag piece srb) (Dues tag (Some busy) (view_of m longest p t))) (sym f)
-        (accepted m longest p t tag piece srb whole kept asks))
+    (λ asks. subst (λ (s : Table). After m longest p s (Accepts (shown_of m longest t) tag piece srb) (Dues tag (Some busy) (view_of m longest p t))) (sym f)
+    (accepted m longest p t tag piece srb whole kept asks))
 
 -- ACT
 
@@ -102,7 +101,7 @@ pub after_act : (m : MediumView) (longest : ℕ) (p : Bool) (t : Table) (v : Mem
     → IsWhole m' → IsKept m longest t → length v.shown.labels < 64 → MatchBool b (ActsIn m p t tag m' t') (ActsNotIn m t tag m' t') → AfterAct v tag b m' longest p t'
 after_act m longest p t v tag b m' t' e whole kept =
     subst (λ (u : MemView). length u.shown.labels < 64 → MatchBool b (ActsIn m p t tag m' t') (ActsNotIn m t tag m' t') → AfterAct u tag b m' longest p t') e
-      (acted_on m longest p t tag b m' t' whole kept)
+    (acted_on m longest p t tag b m' t' whole kept)
 
 -- FINISH
 
@@ -164,13 +163,13 @@ finished m longest p t t' tag None whole kept place (none, same) =
     subst (λ (s : Table). AfterFinish (view_of m longest p t) tag None m longest p s) (sym same) (none_came m longest p t tag whole kept none)
 finished m longest p t t' tag (Some back) whole kept place h =
     subst (λ (s : Table). AfterFinish (view_of m longest p t) tag (Some back) m longest p s) (sym h.after)
-      (came_back m longest p t tag back.0 back.1 h.on whole kept place h.was_there h.completion_is h.comes_back)
+    (came_back m longest p t tag back.0 back.1 h.on whole kept place h.was_there h.completion_is h.comes_back)
 
 pub after_finish : (m : MediumView) (longest : ℕ) (p : Bool) (t t' : Table) (v : MemView) (tag : ℕ) (r : Option (Srb × Completion)) → view_of m longest p t ≡ v
     → IsWhole m → IsKept m longest t → length v.shown.labels < 64 → Takes t tag r t' → AfterFinish v tag r m longest p t'
 after_finish m longest p t t' v tag r e whole kept =
     subst (λ (u : MemView). length u.shown.labels < 64 → Takes t tag r t' → AfterFinish u tag r m longest p t') e
-      (λ place takes. finished m longest p t t' tag r whole kept place takes)
+    (λ place takes. finished m longest p t t' tag r whole kept place takes)
 
 -- RESET
 
@@ -189,8 +188,8 @@ pub after_reset : (m : MediumView) (longest : ℕ) (p : Bool) (t t' : Table) (v 
     → IsWhole m → IsKept m longest t → length v.shown.labels + v.shown.depth ≤ 64 → After m longest p t' (Resets v.shown) (ResetsAll v)
 after_reset m longest p t t' v e f whole kept =
     subst (λ (u : MemView). length u.shown.labels + u.shown.depth ≤ 64 → After m longest p t' (Resets u.shown) (ResetsAll u)) e
-      (λ places. subst (λ (s : Table). After m longest p s (Resets (shown_of m longest t)) (ResetsAll (view_of m longest p t))) (sym f)
-        (reset_whole m longest p t whole kept places))
+    (λ places. subst (λ (s : Table). After m longest p s (Resets (shown_of m longest t)) (ResetsAll (view_of m longest p t))) (sym f)
+    (reset_whole m longest p t whole kept places))
 
 -- RESERVE
 
@@ -229,8 +228,8 @@ pub after_reserve : (m m' : MediumView) (longest : ℕ) (p : Bool) (t : Table) (
 after_reserve m m' longest p t v e reserves whole kept =
     let lasts : (extent : Extent) → MediumReserved m extent → MediumReserved (record m { reserved = m'.reserved }) extent = reserves.lasts in
     subst (λ (u : MemView). After m' longest p t (Reserves u.shown) (SameDues u)) e
-      (subst (λ (n : MediumView). After n longest p t (Reserves (shown_of m longest t)) (SameDues (view_of m longest p t))) (sym reserves.after)
-        (reserved_along m longest p t m'.reserved lasts whole kept))
+    (subst (λ (n : MediumView). After n longest p t (Reserves (shown_of m longest t)) (SameDues (view_of m longest p t))) (sym reserves.after)
+    (reserved_along m longest p t m'.reserved lasts whole kept))
 
 -- TAKE A LABEL
 

@@ -1,32 +1,27 @@
 -- What the adapter in memory shows after a call is what the call promises.
-use Rattle.std.proofs.Common.{◌≡◌, ◌<◌, ◌≤◌, ◌⊎◌, inl, inr, ℕ, zero, suc, ◌+◌, ◌==◌, Bool, true, false, not, List, [], ◌∷◌, ◌++◌, length, map, filter, slice_set, get_or, sum_by, All, Option, Some, None, Result, Ok, Err, IsPermutation, IsFalse, IsTrue, refl, sym, ap, ◌∙◌, subst, arith, length-set, set-set, replicate, if◌then◌else◌}
-use Rattle.std.specs.Prelude.{count_by}
-use Rattle.std.proofs.lemmas.List.{set-get_or, length-map, length-replicate, map-set, get_or-map}
-use Rattle.std.proofs.lemmas.List.Sums.{sum_by-cons}
+use Rattle.std.proofs.Common.{◌≡◌, ◌<◌, ℕ, zero, suc, ◌+◌, Bool, true, false, List, [], ◌∷◌, length, map, slice_set, get_or, Option, Some, None, Result, Ok, IsPermutation, refl, sym, ap, ◌∙◌, subst, arith, length-set, replicate, if◌then◌else◌}
+use Rattle.std.proofs.lemmas.List.{set-get_or, length-replicate, map-set, get_or-map}
 use Rattle.std.proofs.lemmas.List.Sorted.{IsPermutation-refl}
-use Rattle.std.specs.List.{concat, flat_map}
+use Rattle.std.specs.List.{concat}
 use Rattle.cdb.specs.declared.Cdb.{Cdb}
 use Rattle.cdb.specs.declared.CdbFault.{CdbFault}
-use Rattle.cdb.specs.declared.CdbFault.TheVariants.{ShortCdb, UnknownOpcode, InvalidField}
 use Rattle.cdb.specs.Meaning.{Means}
 use Rattle.srb.specs.declared.Srb.{Srb}
 use Rattle.srb.specs.declared.Completion.{Completion}
-use Rattle.srb.specs.declared.Class.{Class}
-use Rattle.srb.specs.declared.Class.TheVariants.{Good, Busy, Bad}
-use Rattle.srb.specs.declared.DeviceLabel.{DeviceLabel}
-use Rattle.srb.specs.Fate.{Fate, Fresh, Acted, Faulted, class_of}
+use Rattle.srb.specs.declared.Class.TheVariants.{Bad}
+use Rattle.srb.specs.Fate.{Fresh, Acted, class_of}
 use Rattle.srb.specs.Performing.{Performs}
-use Rattle.srb.specs.Adapter.{TagInUse, AdapterView, IsFree, HasNotTag, IsOn, Accepts, ActsOn, FaultsOn, ReturnsOn, MayReturn, acted, faulted}
+use Rattle.srb.specs.Adapter.{TagInUse, AdapterView, IsFree, Accepts, ActsOn, FaultsOn, ReturnsOn, MayReturn, acted}
 use Rattle.disk.specs.Medium.{MediumView}
 use Rattle.miniport.specs.declared.on_tag.OnTag.{OnTag}
 use Rattle.miniport.specs.declared.on_tag.Progress.{Progress}
 use Rattle.miniport.specs.declared.on_tag.Progress.TheVariants.{Untouched, Moved, Failed}
 use Rattle.miniport.specs.Calls.{Finishes}
 use Rattle.miniport.specs.Carrying.{emptied, disk_of}
-use Rattle.miniport.specs.Faults.{Disk, fault_of, Decodes, success, busy, bus_reset}
+use Rattle.miniport.specs.Faults.{fault_of, Decodes, success, busy, bus_reset}
 use Rattle.miniport.specs.Moving.{moved_by}
 use Rattle.miniport.specs.Slots.{Table, piece_at, in_use_of, fate_of, tags_of, new_piece, with_new, with_moved, with_failed, with_returned, completion_of, completion_by, slot_completion}
-use Rattle.miniport.specs.Memory.{MemView, shown_of, view_of, new_view, Dues, EndsBy, ActsByTable, IsPieceRight}
+use Rattle.miniport.specs.Memory.{shown_of, view_of, new_view, Dues, ActsByTable, IsPieceRight}
 use Rattle.miniport.proofs.TagsInUse.{taken_first, filled}
 use Rattle.miniport.proofs.Keeping.{moved_piece, failed_piece}
 
@@ -40,8 +35,8 @@ due_set : (m : MediumView) (longest : ℕ) (p : Bool) (t : Table) (slots : List 
     → view_of m longest p t ≡ record (view_of m longest p t) { due = slice_set (map slot_completion slots) tag due }
 due_set m longest p t slots tag slot due e f =
     ap (λ (d : List (Option Completion)). record (view_of m longest p t) { due = d })
-        (ap (λ (s : List (Option OnTag)). map slot_completion s) e ∙ map-set slot_completion slots tag slot
-        ∙ ap (λ (c : Option Completion). slice_set (map slot_completion slots) tag c) f)
+    (ap (λ (s : List (Option OnTag)). map slot_completion s) e ∙ map-set slot_completion slots tag slot
+    ∙ ap (λ (c : Option Completion). slice_set (map slot_completion slots) tag c) f)
 
 -- ACCEPT
 
@@ -53,7 +48,7 @@ pub accepts : (m : MediumView) (longest : ℕ) (t : Table) (tag piece : ℕ) (sr
 accepts m longest t tag piece srb free below none =
     let new = new_piece t.failures piece srb in
     let put : IsPermutation (tags_of m.sector_size 0 (slice_set t.slots tag (Some new))) (in_use_of m.sector_size tag new ∷ tags_of m.sector_size 0 (slice_set t.slots tag None)) =
-        filled m.sector_size t.slots tag new below in
+    filled m.sector_size t.slots tag new below in
     record {
       tags = tags_of m.sector_size 0 (slice_set t.slots tag (Some new));
       is_free = free;
@@ -88,7 +83,7 @@ pub acts : (m : MediumView) (longest : ℕ) (t : Table) (tag : ℕ) (on : OnTag)
     → ActsOn (shown_of m longest t) tag on.piece bytes (shown_of (record m { sectors = sectors }) longest (with_moved tag (moved_piece on bytes) bytes t))
 acts m longest t tag on command bytes moved sectors below there untouched means performs bytes_are moved_is =
     let put : IsPermutation (tags_of m.sector_size 0 (slice_set t.slots tag (Some (moved_piece on bytes)))) (in_use_of m.sector_size tag (moved_piece on bytes) ∷ tags_of m.sector_size 0 (slice_set t.slots tag None)) =
-        filled m.sector_size t.slots tag (moved_piece on bytes) below in
+    filled m.sector_size t.slots tag (moved_piece on bytes) below in
     record {
       use' = in_use_of m.sector_size tag on;
       others = tags_of m.sector_size 0 (slice_set t.slots tag None);
@@ -140,8 +135,11 @@ acts_by_table m longest p t tag on command bytes sectors right there untouched m
       decoded = Ok command;
       is_on = record { in_use = taken_first m.sector_size t.slots tag on there; has_tag = refl };
       decodes = means;
-      ends = rw none ((bytes, act), due_set (record m { sectors = sectors }) longest p (with_moved tag (moved_piece on bytes) bytes t) t.slots tag
-          (Some (moved_piece on bytes)) (Some success) refl (completion_unmet (moved_piece on bytes) unmet));
+      ends = rw none (
+        (bytes, act),
+        due_set (record m { sectors = sectors }) longest p (with_moved tag (moved_piece on bytes) bytes t) t.slots tag
+            (Some (moved_piece on bytes)) (Some success) refl (completion_unmet (moved_piece on bytes) unmet),
+      );
     }
 
 pub faults_by_table : (m : MediumView) (longest : ℕ) (p : Bool) (t : Table) (tag : ℕ) (on : OnTag) (completion : Completion) (k : ℕ) (decoded : Result Cdb CdbFault)
@@ -157,8 +155,12 @@ faults_by_table m longest p t tag on completion k decoded right there untouched 
       decoded = decoded;
       is_on = record { in_use = taken_first m.sector_size t.slots tag on there; has_tag = refl };
       decodes = decodes;
-      ends = rw fault (act, refl, due_set (record m { failures = k }) longest p (with_failed tag (failed_piece on completion) t) t.slots tag
-          (Some (failed_piece on completion)) (Some completion) refl (completion_unmet (failed_piece on completion) unmet));
+      ends = rw fault (
+        act,
+        refl,
+        due_set (record m { failures = k }) longest p (with_failed tag (failed_piece on completion) t) t.slots tag
+            (Some (failed_piece on completion)) (Some completion) refl (completion_unmet (failed_piece on completion) unmet),
+      );
     }
 
 -- FINISH

@@ -1,9 +1,8 @@
 -- The tags in use, as the slots show them.
-use Rattle.std.proofs.Common.{◌≡◌, ◌≢◌, ◌<◌, ◌≤◌, ℕ, zero, suc, ◌+◌, Bool, true, false, List, [], ◌∷◌, ◌++◌, length, map, slice_set, get_or, filter, All, Option, Some, None, IsPermutation, refl, sym, ap, ◌∙◌, subst, arith, add-zero, zero-add, set-set}
-use Rattle.std.specs.Prelude.{Any, AllPairs, Contains, slice_index}
-use Rattle.std.specs.List.{flat_map}
+use Rattle.std.proofs.Common.{◌≡◌, ◌<◌, ◌≤◌, ℕ, zero, suc, ◌+◌, List, [], ◌∷◌, length, map, slice_set, get_or, filter, All, Option, Some, None, IsPermutation, refl, subst, arith, add-zero, zero-add, set-set}
+use Rattle.std.specs.Prelude.{Any, AllPairs, Contains}
 use Rattle.std.specs.List.Sorted.{IsStrictlyIncreasing}
-use Rattle.std.proofs.lemmas.List.{get_or-set_same, get_or-set_other, get_or-map, length-map, set-get_or, get_or_past}
+use Rattle.std.proofs.lemmas.List.{get_or-set_same, get_or-map, length-map}
 use Rattle.std.proofs.lemmas.List.Elements.{All-nil, All-cons, All-weaker}
 use Rattle.std.proofs.lemmas.List.Kept.{AllPairs-cons, AllPairs-filter}
 use Rattle.std.proofs.lemmas.List.Sorted.{IsPermutation-refl, IsPermutation-cons, IsPermutation-middle, IsPermutation-trans, IsPermutation-sym, Contains-permutation}
@@ -28,9 +27,9 @@ taken size k (Some p ∷ slots) (suc i) on e =
     let here : suc k + i ≡ k + suc i = omega arith in
     let rest = tags_of size (suc k) (slice_set slots i None) in
     let below : IsPermutation (tags_of size (suc k) slots) (in_use_of size (k + suc i) on ∷ rest) =
-        subst (λ (n : ℕ). IsPermutation (tags_of size (suc k) slots) (in_use_of size n on ∷ rest)) here (taken size (suc k) slots i on e) in
+    subst (λ (n : ℕ). IsPermutation (tags_of size (suc k) slots) (in_use_of size n on ∷ rest)) here (taken size (suc k) slots i on e) in
     IsPermutation-trans _ _ _ (IsPermutation-cons (in_use_of size k p) _ _ below)
-        (IsPermutation-middle (in_use_of size k p ∷ []) (in_use_of size (k + suc i) on) rest)
+    (IsPermutation-middle (in_use_of size k p ∷ []) (in_use_of size (k + suc i) on) rest)
 
 -- a slot is filled
 pub filled : (size : ℕ) (slots : List (Option OnTag)) (i : ℕ) (on : OnTag) → i < length slots
@@ -38,7 +37,7 @@ pub filled : (size : ℕ) (slots : List (Option OnTag)) (i : ℕ) (on : OnTag) �
 filled size slots i on below =
     let there : piece_at (slice_set slots i (Some on)) i ≡ Some on = get_or-set_same slots i (Some on) None below in
     let moved : IsPermutation (tags_of size 0 (slice_set slots i (Some on))) (in_use_of size (0 + i) on ∷ tags_of size 0 (slice_set (slice_set slots i (Some on)) i None)) =
-        taken size 0 (slice_set slots i (Some on)) i on there in
+    taken size 0 (slice_set slots i (Some on)) i on there in
     simp (zero-add, set-set) at moved
 
 pub taken_first : (size : ℕ) (slots : List (Option OnTag)) (i : ℕ) (on : OnTag) → piece_at slots i ≡ Some on
@@ -107,7 +106,7 @@ free_from size k (None ∷ slots) (suc i) e =
 free_from size k (Some on ∷ slots) (suc i) e =
     let here : suc k + i ≡ k + suc i = omega arith in
     All-cons (HasNotTag (k + suc i)) _ _ (λ t. absurd (omega (arith, t)))
-        (subst (λ (n : ℕ). All (HasNotTag n) (tags_of size (suc k) slots)) here (free_from size (suc k) slots i e))
+    (subst (λ (n : ℕ). All (HasNotTag n) (tags_of size (suc k) slots)) here (free_from size (suc k) slots i e))
 
 pub is_free : (size : ℕ) (slots : List (Option OnTag)) (i : ℕ) → piece_at slots i ≡ None → All (HasNotTag i) (tags_of size 0 slots)
 is_free size slots i e = simp zero-add at (free_from size 0 slots i e)
@@ -116,5 +115,5 @@ pub is_used : (size : ℕ) (slots : List (Option OnTag)) (i : ℕ) (on : OnTag) 
 is_used size slots i on e =
     let moved : IsPermutation (tags_of size 0 slots) (in_use_of size i on ∷ tags_of size 0 (slice_set slots i None)) = taken_first size slots i on e in
     let there : Contains (tags_of size 0 slots) (in_use_of size i on) =
-        Contains-permutation _ _ (in_use_of size i on) (IsPermutation-sym _ _ moved) (0, omega arith, refl) in
+    Contains-permutation _ _ (in_use_of size i on) (IsPermutation-sym _ _ moved) (0, omega arith, refl) in
     (there.0, in_use_of size i on, there.1, there.2, refl)

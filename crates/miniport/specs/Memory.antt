@@ -1,9 +1,8 @@
 -- What an adapter in memory shows, and what becomes of it.
-use Rattle.std.specs.Prelude.{◌≡◌, ◌≤◌, ◌<◌, ◌^◌, ◌⊎◌, ℕ, ◌+◌, ◌*◌, Bool, not, true, List, [], length, map, replicate, slice_set, get_or, count_by, sum_by, Option, Some, None, Result, if◌then◌else◌}
+use Rattle.std.specs.Prelude.{◌≡◌, ◌≤◌, ◌<◌, ◌^◌, ◌⊎◌, ℕ, ◌+◌, ◌*◌, Bool, not, true, List, [], length, map, replicate, slice_set, count_by, sum_by, Option, Some, None, Result, if◌then◌else◌}
 use Rattle.std.specs.List.{concat}
 use Rattle.cdb.specs.declared.Cdb.{Cdb}
 use Rattle.cdb.specs.declared.CdbFault.{CdbFault}
-use Rattle.srb.specs.declared.Srb.{Srb}
 use Rattle.srb.specs.declared.Completion.{Completion}
 use Rattle.srb.specs.declared.Class.TheVariants.{Bad}
 use Rattle.srb.specs.Fate.{class_of}

@@ -10,11 +10,9 @@ ghost use Rattle.disk.specs.Medium.{IsWithin, IsReserved, HasBad, bytes_at, fail
 ghost use Rattle.miniport.specs.Checking.{Passes, IsRefused};
 ghost use Rattle.miniport.specs.Carrying.{emptied, disk_of, sizes_of, IsReady, Ends, Reads, Writes};
 
-
-use crate::completion::{MEDIUM_ERROR, failed_with};
 use crate::check::{Sizes, check};
+use crate::completion::{MEDIUM_ERROR, failed_with};
 use byteorder::{BigEndian, ByteOrder};
-
 use cdb::Cdb;
 use disk::Medium;
 use sector::{Bytes, Extent};
@@ -45,9 +43,23 @@ fn moved(srb: Srb) -> Outcome
     requires { length srb.for_label ≡ length srb.data }
     ensures { result ≡ Outcome.Moved (emptied srb.data srb) srb.data }
 {
-    let Srb { function, flags, block, data, for_label, sense } = srb;
-    let (bytes, for_label) = copied(&data, for_label);
-    let srb = Srb { function, flags, block, data, for_label, sense };
+    let Srb {
+        function,
+        flags,
+        block,
+        data: moved,
+        for_label,
+        sense,
+    } = srb;
+    let (bytes, for_label) = copied(&moved, for_label);
+    let srb = Srb {
+        function,
+        flags,
+        block,
+        data: moved,
+        for_label,
+        sense,
+    };
     Outcome::Moved { srb, bytes }
 }
 
@@ -59,14 +71,31 @@ fn read<M: Medium>(medium: &mut M, lba: u32, count: u16, srb: Srb) -> Outcome
     requires countable { (M.seen medium.old).failures < 2 ^ 120 }
     ensures { Reads (M.seen medium.old) (record { first = lba; count = count }) srb result (M.seen medium.new) }
 {
-    let Srb { function, flags, block, data, for_label, sense } = srb;
-    let mut bytes = data.into_vec();
+    let Srb {
+        function,
+        flags,
+        block,
+        data: place,
+        for_label,
+        sense,
+    } = srb;
+    let mut bytes = place.into_vec();
     let read = medium.read(extent(lba, count), bytes.as_mut_slice());
-    let srb = Srb { function, flags, block, data: Bytes::new(bytes), for_label, sense };
-    match read {
-        Ok(()) => moved(srb),
-        Err(_) => Outcome::Failed { srb, completion: failed_with(MEDIUM_ERROR, 0x11) },
+    let srb = Srb {
+        function,
+        flags,
+        block,
+        data: Bytes::new(bytes),
+        for_label,
+        sense,
+    };
+    if read.is_err() {
+        return Outcome::Failed {
+            srb,
+            completion: failed_with(MEDIUM_ERROR, 0x11),
+        };
     }
+    moved(srb)
 }
 
 /// Writes the SRB's data over sectors.
@@ -80,7 +109,10 @@ fn write<M: Medium>(medium: &mut M, lba: u32, count: u16, srb: Srb) -> Outcome
 {
     match medium.write(extent(lba, count), srb.data.as_slice()) {
         Ok(()) => moved(srb),
-        Err(_) => Outcome::Failed { srb, completion: failed_with(MEDIUM_ERROR, 0x0C) },
+        Err(_) => Outcome::Failed {
+            srb,
+            completion: failed_with(MEDIUM_ERROR, 0x0C),
+        },
     }
 }
 
@@ -90,11 +122,25 @@ fn tell_capacity(last: u32, sector_size: u32, srb: Srb) -> Outcome
     requires buffers { length srb.for_label ≡ length srb.data }
     ensures { let bytes = big_bytes 4 last ++ big_bytes 4 sector_size in result ≡ Outcome.Moved (emptied bytes srb) bytes }
 {
-    let Srb { function, flags, block, data, for_label, sense } = srb;
-    let mut bytes = data.into_vec();
+    let Srb {
+        function,
+        flags,
+        block,
+        data: place,
+        for_label,
+        sense,
+    } = srb;
+    let mut bytes = place.into_vec();
     BigEndian::write_u32(bytes.as_mut_slice(), last);
     BigEndian::write_u32(&mut bytes.as_mut_slice()[4..], sector_size);
-    moved(Srb { function, flags, block, data: Bytes::new(bytes), for_label, sense })
+    moved(Srb {
+        function,
+        flags,
+        block,
+        data: Bytes::new(bytes),
+        for_label,
+        sense,
+    })
 }
 
 fn extent(lba: u32, count: u16) -> Extent

@@ -54,7 +54,8 @@ fn data_length(sector_size: u32, command: Cdb) -> u64
     ensures { result ≡ bytes_of sector_size command }
 {
     match command {
-        Cdb::Read10 { count, .. } | Cdb::Write10 { count, .. } => u64::from(count) * u64::from(sector_size),
+        Cdb::Read10 { count, .. } | Cdb::Write10 { count, .. } => u64::from(count)
+            * u64::from(sector_size),
         Cdb::Sync10 { .. } => 0,
         Cdb::ReadCapacity10 => 8,
     }

@@ -37,7 +37,13 @@ impl<M: Medium> Model for MemAdapter<M> {
 impl<M: Medium> MemAdapter<M> {
     /// An adapter with no piece on any of its tags, over a medium of 512 or 4096 bytes a sector and 1 to 2^32 - 1 sectors.
     /// `max_transfer` is in sectors, from 1 to 65,535; `depth` is the number of tags, from 1 to 32.
-    pub fn new(alloc: Global, medium: M, max_transfer: u32, depth: u8, write_protected: bool) -> Result<MemAdapter<M>, NoMemory>
+    pub fn new(
+        alloc: Global,
+        medium: M,
+        max_transfer: u32,
+        depth: u8,
+        write_protected: bool,
+    ) -> Result<MemAdapter<M>, NoMemory>
         requires sector_size { ((M.seen medium).sector_size ≡ 512) ⊎ ((M.seen medium).sector_size ≡ 4096) }
         requires some { 1 ≤ length (M.seen medium).sectors }
         requires few { length (M.seen medium).sectors < 2 ^ 32 }
@@ -153,7 +159,13 @@ impl<M: Medium> Adapter for MemAdapter<M> {
 }
 
 /// Carries the command of a piece out, and puts it back on its tag.
-fn carry_on<M: Medium>(medium: &mut M, write_protected: bool, table: &mut TagTable, tag: u8, on_tag: OnTag)
+fn carry_on<M: Medium>(
+    medium: &mut M,
+    write_protected: bool,
+    table: &mut TagTable,
+    tag: u8,
+    on_tag: OnTag,
+)
     requires ready { IsReady (M.seen medium.old) on_tag.srb }
     requires buffers { length on_tag.srb.for_label ≡ length on_tag.srb.data }
     requires countable { (M.seen medium.old).failures < 2 ^ 120 }
@@ -164,14 +176,32 @@ fn carry_on<M: Medium>(medium: &mut M, write_protected: bool, table: &mut TagTab
     requires counted { table.old.failures < 2 ^ 127 }
     ensures { (outcome : Outcome) × PutsBack (M.seen medium.old) write_protected table.old tag on_tag outcome (M.seen medium.new) table.new }
 {
-    let OnTag { piece, srb, progress: _, failures_before, was_reset } = on_tag;
+    let OnTag {
+        piece,
+        srb,
+        progress: _,
+        failures_before,
+        was_reset,
+    } = on_tag;
     match carry_out(medium, write_protected, srb) {
         Outcome::Moved { srb, bytes } => {
-            let on_tag = OnTag { piece, srb, progress: Progress::Moved, failures_before, was_reset };
+            let on_tag = OnTag {
+                piece,
+                srb,
+                progress: Progress::Moved,
+                failures_before,
+                was_reset,
+            };
             table.put_moved(tag, on_tag, bytes);
         }
         Outcome::Failed { srb, completion } => {
-            let on_tag = OnTag { piece, srb, progress: Progress::Failed(completion), failures_before, was_reset };
+            let on_tag = OnTag {
+                piece,
+                srb,
+                progress: Progress::Failed(completion),
+                failures_before,
+                was_reset,
+            };
             table.put_failed(tag, on_tag);
         }
     }

@@ -48,7 +48,12 @@ impl TagTable {
             slots.push_reserved(None);
         }
         let labels = VecDeque::with_capacity(alloc, LABELS)?;
-        Ok(TagTable { slots, accepted: 0, failures: 0, labels })
+        Ok(TagTable {
+            slots,
+            accepted: 0,
+            failures: 0,
+            labels,
+        })
     }
 
     pub fn depth(&self) -> u8
@@ -79,7 +84,8 @@ impl TagTable {
             was_reset: false,
         });
         self.accepted += 1;
-        self.labels.push_back_reserved(DeviceLabel::Start { piece, tag, block });
+        self.labels
+            .push_back_reserved(DeviceLabel::Start { piece, tag, block });
     }
 
     /// Takes the piece off a tag.
@@ -121,7 +127,8 @@ impl TagTable {
     {
         let piece = on_tag.piece;
         self.place(tag, on_tag);
-        self.labels.push_back_reserved(DeviceLabel::Act { piece, bytes });
+        self.labels
+            .push_back_reserved(DeviceLabel::Act { piece, bytes });
     }
 
     /// Puts a piece back on its tag, which failed.
@@ -152,9 +159,26 @@ impl TagTable {
         let on_tag = self.take(tag)?;
         let completion = on_tag.completion();
         let OnTag { piece, srb, .. } = on_tag;
-        self.labels.push_back_reserved(DeviceLabel::Return { piece, class: completion.class() });
-        let Srb { function, flags, block, data, for_label, sense: _ } = srb;
-        let srb = Srb { function, flags, block, data, for_label, sense: completion.sense };
+        self.labels.push_back_reserved(DeviceLabel::Return {
+            piece,
+            class: completion.class(),
+        });
+        let Srb {
+            function,
+            flags,
+            block,
+            data: bytes,
+            for_label,
+            sense: _,
+        } = srb;
+        let srb = Srb {
+            function,
+            flags,
+            block,
+            data: bytes,
+            for_label,
+            sense: completion.sense,
+        };
         Some((srb, completion))
     }
 
@@ -188,10 +212,22 @@ impl TagTable {
         ensures piece { Some result ≡ slot_after_reset (Some on_tag) }
         ensures after { self.new ≡ with_reset_counted (Some on_tag) self.old }
     {
-        let OnTag { piece, srb, progress, failures_before, was_reset } = on_tag;
+        let OnTag {
+            piece,
+            srb,
+            progress,
+            failures_before,
+            was_reset,
+        } = on_tag;
         self.count_reset(was_reset);
         let progress = self.fault_by(piece, progress);
-        OnTag { piece, srb, progress, failures_before, was_reset: true }
+        OnTag {
+            piece,
+            srb,
+            progress,
+            failures_before,
+            was_reset: true,
+        }
     }
 
     /// Counts a failure, unless a reset met the piece before.

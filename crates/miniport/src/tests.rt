@@ -52,12 +52,22 @@ const fn checked(key: u8, asc: u8) -> Completion {
 }
 
 /// An SRB with as many bytes of a value as are given, and as many in the second buffer.
-fn srb(alloc: Global, function: SrbFunction, flags: u8, block: &[u8], count: usize, byte: u8) -> Result<Srb, Fail>
+fn srb(
+    alloc: Global,
+    function: SrbFunction,
+    flags: u8,
+    block: &[u8],
+    count: usize,
+    byte: u8,
+) -> Result<Srb, Fail>
     requires { count < 2 ^ 40 }
     ensures { IfOk result (λ s. length s.for_label ≡ length s.data) }
 {
     let mut bytes = ArrayVec::new();
-    bytes.try_extend_from_slice(block).ok().ok_or("a long block")?;
+    bytes
+        .try_extend_from_slice(block)
+        .ok()
+        .ok_or("a long block")?;
     let data = vec![in alloc; byte; count]?;
     let for_label = vec![in alloc; 0; count]?;
     Ok(Srb {
@@ -71,7 +81,11 @@ fn srb(alloc: Global, function: SrbFunction, flags: u8, block: &[u8], count: usi
 }
 
 /// A disk of four sectors, the last one bad.
-fn four_sectors(alloc: Global, depth: u8, write_protected: bool) -> Result<MemAdapter<VecDisk>, Fail>
+fn four_sectors(
+    alloc: Global,
+    depth: u8,
+    write_protected: bool,
+) -> Result<MemAdapter<VecDisk>, Fail>
     requires deep { 1 ≤ depth }
     requires shallow { depth ≤ 32 }
     ensures accepted { IfOk result (λ a. a.shown.accepted ≡ 0) }
@@ -79,11 +93,21 @@ fn four_sectors(alloc: Global, depth: u8, write_protected: bool) -> Result<MemAd
 {
     let bad = vec![in alloc; 3]?;
     let disk = VecDisk::new(alloc, 512, 4, bad).ok().ok_or("no memory")?;
-    Ok(MemAdapter::new(alloc, disk, 64, depth, write_protected).ok().ok_or("no memory")?)
+    Ok(
+        MemAdapter::new(alloc, disk, 64, depth, write_protected)
+            .ok()
+            .ok_or("no memory")?,
+    )
 }
 
 /// Puts a piece on a tag that is free, with all of the disk reserved.
-fn put<A: Adapter>(rt: &impl Abort, adapter: &mut A, tag: u8, piece: u128, srb: Srb) -> Result<(), Fail>
+fn put<A: Adapter>(
+    rt: &impl Abort,
+    adapter: &mut A,
+    tag: u8,
+    piece: u128,
+    srb: Srb,
+) -> Result<(), Fail>
     requires few { (A.view adapter.old).accepted < 2 ^ 100 }
     requires place { length (A.view adapter.old).labels < 64 }
     requires buffers { length srb.for_label ≡ length srb.data }
@@ -119,7 +143,12 @@ fn finish<A: Adapter>(adapter: &mut A, tag: u8) -> Result<(Srb, Completion), Fai
 }
 
 /// The completion of one SRB on a disk of four sectors, the last one bad; the failures that were counted.
-fn completion_of(rt: &impl Abort, alloc: Global, write_protected: bool, srb: Srb) -> Result<(Completion, u128), Fail>
+fn completion_of(
+    rt: &impl Abort,
+    alloc: Global,
+    write_protected: bool,
+    srb: Srb,
+) -> Result<(Completion, u128), Fail>
     requires { length srb.for_label ≡ length srb.data }
 {
     let mut adapter = four_sectors(alloc, 1, write_protected)?;
@@ -140,26 +169,117 @@ fn fails_by_the_first_row_that_fits(rt: HostRuntime) -> Result<(), Fail> {
         (SrbFunction::AbortCommand, 0x40, &READ, 512, false, INVALID),
         (SrbFunction::ResetBus, 0x40, &[], 0, false, INVALID),
         (scsi, 0x40, &[], 512, false, checked(5, 0x24)),
-        (scsi, 0x40, &[0x28, 0, 0, 0, 0, 0, 0, 0, 1], 512, false, checked(5, 0x24)),
-        (scsi, 0x40, &[0x28, 0x20, 0, 0, 8, 0, 0, 0, 1, 0], 512, false, checked(5, 0x24)),
-        (scsi, 0x40, &[0x12, 0, 0, 0, 36, 0], 36, false, checked(5, 0x20)),
-        (scsi, 0x40, &[0x28, 0, 0, 0, 0, 3, 0, 0, 2, 0], 512, false, checked(5, 0x21)),
-        (scsi, 0x00, &[0x2A, 0, 0, 0, 0, 5, 0, 0, 0, 0], 0, true, checked(5, 0x21)),
-        (scsi, 0x00, &[0x35, 0, 0xFF, 0xFF, 0xFF, 0xFF, 0, 0xFF, 0xFF, 0], 0, false, checked(5, 0x21)),
+        (
+            scsi,
+            0x40,
+            &[0x28, 0, 0, 0, 0, 0, 0, 0, 1],
+            512,
+            false,
+            checked(5, 0x24),
+        ),
+        (
+            scsi,
+            0x40,
+            &[0x28, 0x20, 0, 0, 8, 0, 0, 0, 1, 0],
+            512,
+            false,
+            checked(5, 0x24),
+        ),
+        (
+            scsi,
+            0x40,
+            &[0x12, 0, 0, 0, 36, 0],
+            36,
+            false,
+            checked(5, 0x20),
+        ),
+        (
+            scsi,
+            0x40,
+            &[0x28, 0, 0, 0, 0, 3, 0, 0, 2, 0],
+            512,
+            false,
+            checked(5, 0x21),
+        ),
+        (
+            scsi,
+            0x00,
+            &[0x2A, 0, 0, 0, 0, 5, 0, 0, 0, 0],
+            0,
+            true,
+            checked(5, 0x21),
+        ),
+        (
+            scsi,
+            0x00,
+            &[0x35, 0, 0xFF, 0xFF, 0xFF, 0xFF, 0, 0xFF, 0xFF, 0],
+            0,
+            false,
+            checked(5, 0x21),
+        ),
         (scsi, 0x80, &READ, 512, false, INVALID),
         (scsi, 0xC0, &WRITE, 512, false, INVALID),
         (scsi, 0x40, &READ, 511, false, INVALID),
         (scsi, 0x80, &WRITE, 1024, true, INVALID),
-        (scsi, 0x40, &[0x35, 0, 0, 0, 0, 0, 0, 0, 0, 0], 0, false, INVALID),
+        (
+            scsi,
+            0x40,
+            &[0x35, 0, 0, 0, 0, 0, 0, 0, 0, 0],
+            0,
+            false,
+            INVALID,
+        ),
         (scsi, 0x40, &CAPACITY, 9, false, INVALID),
         (scsi, 0x80, &WRITE, 512, true, checked(7, 0x27)),
-        (scsi, 0x80, &[0x2A, 0, 0, 0, 0, 3, 0, 0, 1, 0], 512, true, checked(7, 0x27)),
-        (scsi, 0x40, &[0x28, 0, 0, 0, 0, 2, 0, 0, 2, 0], 1024, false, checked(3, 0x11)),
-        (scsi, 0x80, &[0x2A, 0, 0, 0, 0, 3, 0, 0, 1, 0], 512, false, checked(3, 0x0C)),
+        (
+            scsi,
+            0x80,
+            &[0x2A, 0, 0, 0, 0, 3, 0, 0, 1, 0],
+            512,
+            true,
+            checked(7, 0x27),
+        ),
+        (
+            scsi,
+            0x40,
+            &[0x28, 0, 0, 0, 0, 2, 0, 0, 2, 0],
+            1024,
+            false,
+            checked(3, 0x11),
+        ),
+        (
+            scsi,
+            0x80,
+            &[0x2A, 0, 0, 0, 0, 3, 0, 0, 1, 0],
+            512,
+            false,
+            checked(3, 0x0C),
+        ),
         (scsi, 0x40, &READ, 512, true, GOOD),
-        (scsi, 0x80, &[0x2A, 8, 0, 0, 0, 0, 0, 0, 3, 0, 7], 1536, false, GOOD),
-        (scsi, 0x40, &[0x28, 0, 0, 0, 0, 4, 0, 0, 0, 0], 0, false, GOOD),
-        (scsi, 0x00, &[0x35, 0, 0, 0, 0, 0, 0, 0, 0, 0], 0, true, GOOD),
+        (
+            scsi,
+            0x80,
+            &[0x2A, 8, 0, 0, 0, 0, 0, 0, 3, 0, 7],
+            1536,
+            false,
+            GOOD,
+        ),
+        (
+            scsi,
+            0x40,
+            &[0x28, 0, 0, 0, 0, 4, 0, 0, 0, 0],
+            0,
+            false,
+            GOOD,
+        ),
+        (
+            scsi,
+            0x00,
+            &[0x35, 0, 0, 0, 0, 0, 0, 0, 0, 0],
+            0,
+            true,
+            GOOD,
+        ),
         (scsi, 0x40, &CAPACITY, 8, true, GOOD),
     ];
     for (function, flags, block, count, write_protected, want) in cases {
@@ -176,8 +296,12 @@ fn fails_by_the_first_row_that_fits(rt: HostRuntime) -> Result<(), Fail> {
 #[test]
 fn tells_its_capacity(rt: HostRuntime) -> Result<(), Fail> {
     let alloc = rt.alloc();
-    let disk = VecDisk::new(alloc, 512, 4096, vec![in alloc]?).ok().ok_or("no memory")?;
-    let mut adapter = MemAdapter::new(alloc, disk, 64, 2, true).ok().ok_or("no memory")?;
+    let disk = VecDisk::new(alloc, 512, 4096, vec![in alloc]?)
+        .ok()
+        .ok_or("no memory")?;
+    let mut adapter = MemAdapter::new(alloc, disk, 64, 2, true)
+        .ok()
+        .ok_or("no memory")?;
     assert_eq!(rt; adapter.sector_size(), 512);
     assert_eq!(rt; adapter.sectors(), 4096);
     assert_eq!(rt; adapter.max_transfer(), 64);
@@ -187,7 +311,10 @@ fn tells_its_capacity(rt: HostRuntime) -> Result<(), Fail> {
     act(&rt, &mut adapter, 1);
     let (srb, completion) = finish(&mut adapter, 1)?;
     assert_eq!(rt; completion, GOOD);
-    assert_eq!(rt; srb.data.as_slice(), [0, 0, 0x0F, 0xFF, 0, 0, 2, 0].as_slice());
+    assert_eq!(rt;
+        srb.data.as_slice(),
+        [0, 0, 0x0F, 0xFF, 0, 0, 2, 0].as_slice()
+    );
     Ok(())
 }
 
@@ -201,7 +328,11 @@ fn told(rt: &impl Abort, label: DeviceLabel) -> (u128, char, u8) {
             assert_eq!(rt; block.as_slice().len(), 10);
             (piece, 'S', tag)
         }
-        DeviceLabel::Act { piece, bytes } => (piece, 'A', bytes.as_slice().first().copied().unwrap_or(0)),
+        DeviceLabel::Act { piece, bytes } => (
+            piece,
+            'A',
+            bytes.as_slice().first().copied().unwrap_or(0),
+        ),
         DeviceLabel::Fault { piece } => (piece, 'F', 0),
         DeviceLabel::Return { piece, class } => match class {
             srb::Class::Good => (piece, 'G', 0),
@@ -226,44 +357,104 @@ fn tells<A: Adapter>(rt: &impl Abort, adapter: &mut A, want: Told)
 /// What is done to an adapter, and what it must answer.
 enum Step {
     /// A write of one sector full of a byte is put on a tag.
-    Write { tag: u8, piece: u128, sector: u8, byte: u8 },
+    Write {
+        tag: u8,
+        piece: u128,
+        sector: u8,
+        byte: u8,
+    },
     /// A read of one sector is put on a tag.
-    Read { tag: u8, piece: u128, sector: u8 },
-    Act { tag: u8, acts: bool },
+    Read {
+        tag: u8,
+        piece: u128,
+        sector: u8,
+    },
+    Act {
+        tag: u8,
+        acts: bool,
+    },
     /// The tag's piece comes back with its data full of a byte.
-    Finish { tag: u8, completion: Completion, byte: u8 },
+    Finish {
+        tag: u8,
+        completion: Completion,
+        byte: u8,
+    },
     /// No piece is on the tag.
-    Free { tag: u8 },
+    Free {
+        tag: u8,
+    },
     /// After it so many failures are counted.
-    Reset { failures: u128 },
+    Reset {
+        failures: u128,
+    },
 }
 
 /// The SRB of one sector, all of a byte.
 fn one_sector(alloc: Global, flags: u8, code: u8, sector: u8, byte: u8) -> Result<Srb, Fail>
     ensures { IfOk result (λ s. length s.for_label ≡ length s.data) }
 {
-    srb(alloc, SrbFunction::ExecuteScsi, flags, &[code, 0, 0, 0, 0, sector, 0, 0, 1, 0], 512, byte)
+    srb(
+        alloc,
+        SrbFunction::ExecuteScsi,
+        flags,
+        &[code, 0, 0, 0, 0, sector, 0, 0, 1, 0],
+        512,
+        byte,
+    )
 }
 
 /// The data are full of the byte, and the second buffer is whole where nothing was done.
 fn comes_back_with(srb: &Srb, completion: Completion, byte: u8) -> bool {
     let data = srb.data.as_slice();
-    let left = if completion == BUSY { 512 } else { srb.for_label.as_slice().len() };
+    let left = if completion == BUSY {
+        512
+    } else {
+        srb.for_label.as_slice().len()
+    };
     data.len() == 512 && data.iter().all(|b| *b == byte) && srb.for_label.as_slice().len() == left
 }
 
-fn take<A: Adapter>(rt: &impl Abort, alloc: Global, adapter: &mut A, step: &Step) -> Result<(), Fail>
+fn take<A: Adapter>(
+    rt: &impl Abort,
+    alloc: Global,
+    adapter: &mut A,
+    step: &Step,
+) -> Result<(), Fail>
     requires few { (A.view adapter.old).accepted < 2 ^ 100 }
     requires labels { length (A.view adapter.old).labels ≡ 0 }
     ensures { OnOk result ((A.view adapter.new).accepted ≤ (A.view adapter.old).accepted + 1) }
 {
     match *step {
-        Step::Write { tag, piece, sector, byte } => put(rt, adapter, tag, piece, one_sector(alloc, 0x80, 0x2A, sector, byte)?)?,
-        Step::Read { tag, piece, sector } => put(rt, adapter, tag, piece, one_sector(alloc, 0x40, 0x28, sector, 0)?)?,
+        Step::Write {
+            tag,
+            piece,
+            sector,
+            byte,
+        } => put(
+            rt,
+            adapter,
+            tag,
+            piece,
+            one_sector(alloc, 0x80, 0x2A, sector, byte)?,
+        )?,
+        Step::Read { tag, piece, sector } => put(
+            rt,
+            adapter,
+            tag,
+            piece,
+            one_sector(alloc, 0x40, 0x28, sector, 0)?,
+        )?,
         Step::Act { tag, acts } => assert_eq!(rt; adapter.act(tag), acts),
-        Step::Finish { tag, completion, byte } => {
+        Step::Finish {
+            tag,
+            completion,
+            byte,
+        } => {
             let (srb, given) = finish(adapter, tag)?;
-            assert!(rt; given == completion && comes_back_with(&srb, completion, byte), "tag {tag}");
+            assert!(rt;
+                given == completion && comes_back_with(&srb, completion, byte),
+                "tag {tag}"
+            );
         }
         Step::Free { tag } => assert!(rt; adapter.finish(tag).is_none() && !adapter.in_use(tag)),
         Step::Reset { failures } => {
@@ -276,7 +467,12 @@ fn take<A: Adapter>(rt: &impl Abort, alloc: Global, adapter: &mut A, step: &Step
 }
 
 /// Takes the steps one after the other; after each just its labels are there.
-fn run<A: Adapter>(rt: &impl Abort, alloc: Global, adapter: &mut A, steps: &[(Step, Told)]) -> Result<(), Fail>
+fn run<A: Adapter>(
+    rt: &impl Abort,
+    alloc: Global,
+    adapter: &mut A,
+    steps: &[(Step, Told)],
+) -> Result<(), Fail>
     requires few { (A.view adapter.old).accepted ≡ 0 }
     requires labels { length (A.view adapter.old).labels ≡ 0 }
 {
@@ -291,48 +487,220 @@ fn run<A: Adapter>(rt: &impl Abort, alloc: Global, adapter: &mut A, steps: &[(St
 #[test]
 fn two_tags_serve_at_once(rt: HostRuntime) -> Result<(), Fail> {
     let mut adapter = four_sectors(rt.alloc(), 2, false)?;
-    run(&rt, rt.alloc(), &mut adapter, &[
-        (Step::Write { tag: 0, piece: 1, sector: 0, byte: 0xA5 }, &[(1, 'S', 0)]),
-        (Step::Write { tag: 1, piece: 2, sector: 1, byte: 0x5A }, &[(2, 'S', 1)]),
-        (Step::Act { tag: 1, acts: true }, &[(2, 'A', 0x5A)]),
-        (Step::Finish { tag: 1, completion: GOOD, byte: 0x5A }, &[(2, 'G', 0)]),
-        (Step::Read { tag: 1, piece: 3, sector: 0 }, &[(3, 'S', 1)]),
-        (Step::Act { tag: 1, acts: true }, &[(3, 'A', 0)]),
-        (Step::Act { tag: 0, acts: true }, &[(1, 'A', 0xA5)]),
-        (Step::Finish { tag: 1, completion: GOOD, byte: 0 }, &[(3, 'G', 0)]),
-        (Step::Finish { tag: 0, completion: GOOD, byte: 0xA5 }, &[(1, 'G', 0)]),
-        (Step::Read { tag: 1, piece: 4, sector: 0 }, &[(4, 'S', 1)]),
-        (Step::Read { tag: 0, piece: 5, sector: 1 }, &[(5, 'S', 0)]),
-        (Step::Act { tag: 0, acts: true }, &[(5, 'A', 0x5A)]),
-        (Step::Act { tag: 1, acts: true }, &[(4, 'A', 0xA5)]),
-        (Step::Finish { tag: 1, completion: GOOD, byte: 0xA5 }, &[(4, 'G', 0)]),
-        (Step::Finish { tag: 0, completion: GOOD, byte: 0x5A }, &[(5, 'G', 0)]),
-    ])
+    run(
+        &rt,
+        rt.alloc(),
+        &mut adapter,
+        &[
+            (
+                Step::Write {
+                    tag: 0,
+                    piece: 1,
+                    sector: 0,
+                    byte: 0xA5,
+                },
+                &[(1, 'S', 0)],
+            ),
+            (
+                Step::Write {
+                    tag: 1,
+                    piece: 2,
+                    sector: 1,
+                    byte: 0x5A,
+                },
+                &[(2, 'S', 1)],
+            ),
+            (Step::Act { tag: 1, acts: true }, &[(2, 'A', 0x5A)]),
+            (
+                Step::Finish {
+                    tag: 1,
+                    completion: GOOD,
+                    byte: 0x5A,
+                },
+                &[(2, 'G', 0)],
+            ),
+            (
+                Step::Read {
+                    tag: 1,
+                    piece: 3,
+                    sector: 0,
+                },
+                &[(3, 'S', 1)],
+            ),
+            (Step::Act { tag: 1, acts: true }, &[(3, 'A', 0)]),
+            (Step::Act { tag: 0, acts: true }, &[(1, 'A', 0xA5)]),
+            (
+                Step::Finish {
+                    tag: 1,
+                    completion: GOOD,
+                    byte: 0,
+                },
+                &[(3, 'G', 0)],
+            ),
+            (
+                Step::Finish {
+                    tag: 0,
+                    completion: GOOD,
+                    byte: 0xA5,
+                },
+                &[(1, 'G', 0)],
+            ),
+            (
+                Step::Read {
+                    tag: 1,
+                    piece: 4,
+                    sector: 0,
+                },
+                &[(4, 'S', 1)],
+            ),
+            (
+                Step::Read {
+                    tag: 0,
+                    piece: 5,
+                    sector: 1,
+                },
+                &[(5, 'S', 0)],
+            ),
+            (Step::Act { tag: 0, acts: true }, &[(5, 'A', 0x5A)]),
+            (Step::Act { tag: 1, acts: true }, &[(4, 'A', 0xA5)]),
+            (
+                Step::Finish {
+                    tag: 1,
+                    completion: GOOD,
+                    byte: 0xA5,
+                },
+                &[(4, 'G', 0)],
+            ),
+            (
+                Step::Finish {
+                    tag: 0,
+                    completion: GOOD,
+                    byte: 0x5A,
+                },
+                &[(5, 'G', 0)],
+            ),
+        ],
+    )
 }
 
 // A piece that did nothing is busy; a reset faults one that did nothing and marks one that acted, each counted once.
 #[test]
 fn resets_are_met(rt: HostRuntime) -> Result<(), Fail> {
     let mut adapter = four_sectors(rt.alloc(), 3, false)?;
-    run(&rt, rt.alloc(), &mut adapter, &[
-        (Step::Write { tag: 2, piece: 1, sector: 1, byte: 0xA5 }, &[(1, 'S', 2)]),
-        (Step::Finish { tag: 2, completion: BUSY, byte: 0xA5 }, &[(1, 'B', 0)]),
-        (Step::Free { tag: 2 }, &[]),
-        (Step::Write { tag: 2, piece: 2, sector: 1, byte: 0xA5 }, &[(2, 'S', 2)]),
-        (Step::Read { tag: 1, piece: 3, sector: 1 }, &[(3, 'S', 1)]),
-        (Step::Read { tag: 0, piece: 4, sector: 1 }, &[(4, 'S', 0)]),
-        (Step::Act { tag: 2, acts: true }, &[(2, 'A', 0xA5)]),
-        (Step::Reset { failures: 3 }, &[(4, 'F', 0), (3, 'F', 0)]),
-        (Step::Reset { failures: 3 }, &[]),
-        (Step::Act { tag: 0, acts: false }, &[]),
-        (Step::Act { tag: 2, acts: false }, &[]),
-        (Step::Act { tag: 99, acts: false }, &[]),
-        (Step::Finish { tag: 0, completion: RESET, byte: 0 }, &[(4, 'R', 0x0E)]),
-        (Step::Finish { tag: 1, completion: RESET, byte: 0 }, &[(3, 'R', 0x0E)]),
-        (Step::Finish { tag: 2, completion: RESET, byte: 0xA5 }, &[(2, 'R', 0x0E)]),
-        (Step::Free { tag: 99 }, &[]),
-        (Step::Read { tag: 0, piece: 5, sector: 1 }, &[(5, 'S', 0)]),
-        (Step::Act { tag: 0, acts: true }, &[(5, 'A', 0xA5)]),
-        (Step::Finish { tag: 0, completion: GOOD, byte: 0xA5 }, &[(5, 'G', 0)]),
-    ])
+    run(
+        &rt,
+        rt.alloc(),
+        &mut adapter,
+        &[
+            (
+                Step::Write {
+                    tag: 2,
+                    piece: 1,
+                    sector: 1,
+                    byte: 0xA5,
+                },
+                &[(1, 'S', 2)],
+            ),
+            (
+                Step::Finish {
+                    tag: 2,
+                    completion: BUSY,
+                    byte: 0xA5,
+                },
+                &[(1, 'B', 0)],
+            ),
+            (Step::Free { tag: 2 }, &[]),
+            (
+                Step::Write {
+                    tag: 2,
+                    piece: 2,
+                    sector: 1,
+                    byte: 0xA5,
+                },
+                &[(2, 'S', 2)],
+            ),
+            (
+                Step::Read {
+                    tag: 1,
+                    piece: 3,
+                    sector: 1,
+                },
+                &[(3, 'S', 1)],
+            ),
+            (
+                Step::Read {
+                    tag: 0,
+                    piece: 4,
+                    sector: 1,
+                },
+                &[(4, 'S', 0)],
+            ),
+            (Step::Act { tag: 2, acts: true }, &[(2, 'A', 0xA5)]),
+            (Step::Reset { failures: 3 }, &[(4, 'F', 0), (3, 'F', 0)]),
+            (Step::Reset { failures: 3 }, &[]),
+            (
+                Step::Act {
+                    tag: 0,
+                    acts: false,
+                },
+                &[],
+            ),
+            (
+                Step::Act {
+                    tag: 2,
+                    acts: false,
+                },
+                &[],
+            ),
+            (
+                Step::Act {
+                    tag: 99,
+                    acts: false,
+                },
+                &[],
+            ),
+            (
+                Step::Finish {
+                    tag: 0,
+                    completion: RESET,
+                    byte: 0,
+                },
+                &[(4, 'R', 0x0E)],
+            ),
+            (
+                Step::Finish {
+                    tag: 1,
+                    completion: RESET,
+                    byte: 0,
+                },
+                &[(3, 'R', 0x0E)],
+            ),
+            (
+                Step::Finish {
+                    tag: 2,
+                    completion: RESET,
+                    byte: 0xA5,
+                },
+                &[(2, 'R', 0x0E)],
+            ),
+            (Step::Free { tag: 99 }, &[]),
+            (
+                Step::Read {
+                    tag: 0,
+                    piece: 5,
+                    sector: 1,
+                },
+                &[(5, 'S', 0)],
+            ),
+            (Step::Act { tag: 0, acts: true }, &[(5, 'A', 0xA5)]),
+            (
+                Step::Finish {
+                    tag: 0,
+                    completion: GOOD,
+                    byte: 0xA5,
+                },
+                &[(5, 'G', 0)],
+            ),
+        ],
+    )
 }
