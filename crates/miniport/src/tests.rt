@@ -17,6 +17,8 @@ const READ: [u8; 10] = [0x28, 0, 0, 0, 0, 0, 0, 0, 1, 0];
 
 const WRITE: [u8; 10] = [0x2A, 0, 0, 0, 0, 0, 0, 0, 1, 0];
 
+const SYNC: [u8; 10] = [0x35, 0, 0, 0, 0, 0, 0, 0, 0, 0];
+
 const CAPACITY: [u8; 10] = [0x25, 0, 0, 0, 0, 0, 0, 0, 0, 0];
 
 const GOOD: Completion = Completion {
@@ -160,136 +162,102 @@ fn completion_of(
     Ok((completion, adapter.failures()))
 }
 
-// Each row of the table once, then what is carried out. A block of the wrong length comes before its flags, and so on.
-#[test]
-fn fails_by_the_first_row_that_fits(rt: HostRuntime) -> Result<(), Fail> {
-    let alloc = rt.alloc();
-    let scsi = SrbFunction::ExecuteScsi;
-    let cases: [(SrbFunction, u8, &[u8], usize, bool, Completion); 24] = [
-        (SrbFunction::AbortCommand, 0x40, &READ, 512, false, INVALID),
-        (SrbFunction::ResetBus, 0x40, &[], 0, false, INVALID),
-        (scsi, 0x40, &[], 512, false, checked(5, 0x24)),
-        (
-            scsi,
-            0x40,
-            &[0x28, 0, 0, 0, 0, 0, 0, 0, 1],
-            512,
-            false,
-            checked(5, 0x24),
-        ),
-        (
-            scsi,
-            0x40,
-            &[0x28, 0x20, 0, 0, 8, 0, 0, 0, 1, 0],
-            512,
-            false,
-            checked(5, 0x24),
-        ),
-        (
-            scsi,
-            0x40,
-            &[0x12, 0, 0, 0, 36, 0],
-            36,
-            false,
-            checked(5, 0x20),
-        ),
-        (
-            scsi,
-            0x40,
-            &[0x28, 0, 0, 0, 0, 3, 0, 0, 2, 0],
-            512,
-            false,
-            checked(5, 0x21),
-        ),
-        (
-            scsi,
-            0x00,
-            &[0x2A, 0, 0, 0, 0, 5, 0, 0, 0, 0],
-            0,
-            true,
-            checked(5, 0x21),
-        ),
-        (
-            scsi,
-            0x00,
-            &[0x35, 0, 0xFF, 0xFF, 0xFF, 0xFF, 0, 0xFF, 0xFF, 0],
-            0,
-            false,
-            checked(5, 0x21),
-        ),
-        (scsi, 0x80, &READ, 512, false, INVALID),
-        (scsi, 0xC0, &WRITE, 512, false, INVALID),
-        (scsi, 0x40, &READ, 511, false, INVALID),
-        (scsi, 0x80, &WRITE, 1024, true, INVALID),
-        (
-            scsi,
-            0x40,
-            &[0x35, 0, 0, 0, 0, 0, 0, 0, 0, 0],
-            0,
-            false,
-            INVALID,
-        ),
-        (scsi, 0x40, &CAPACITY, 9, false, INVALID),
-        (scsi, 0x80, &WRITE, 512, true, checked(7, 0x27)),
-        (
-            scsi,
-            0x80,
-            &[0x2A, 0, 0, 0, 0, 3, 0, 0, 1, 0],
-            512,
-            true,
-            checked(7, 0x27),
-        ),
-        (
-            scsi,
-            0x40,
-            &[0x28, 0, 0, 0, 0, 2, 0, 0, 2, 0],
-            1024,
-            false,
-            checked(3, 0x11),
-        ),
-        (
-            scsi,
-            0x80,
-            &[0x2A, 0, 0, 0, 0, 3, 0, 0, 1, 0],
-            512,
-            false,
-            checked(3, 0x0C),
-        ),
-        (scsi, 0x40, &READ, 512, true, GOOD),
-        (
-            scsi,
-            0x80,
-            &[0x2A, 8, 0, 0, 0, 0, 0, 0, 3, 0, 7],
-            1536,
-            false,
-            GOOD,
-        ),
-        (
-            scsi,
-            0x40,
-            &[0x28, 0, 0, 0, 0, 4, 0, 0, 0, 0],
-            0,
-            false,
-            GOOD,
-        ),
-        (
-            scsi,
-            0x00,
-            &[0x35, 0, 0, 0, 0, 0, 0, 0, 0, 0],
-            0,
-            true,
-            GOOD,
-        ),
-        (scsi, 0x40, &CAPACITY, 8, true, GOOD),
-    ];
-    for (function, flags, block, count, write_protected, want) in cases {
-        assert!(rt; count <= 1536);
-        let srb = srb(alloc, function, flags, block, count, 0xA5)?;
-        let (completion, failures) = completion_of(&rt, alloc, write_protected, srb)?;
-        assert_eq!(rt; completion, want, "{block:?}");
-        assert_eq!(rt; failures, if want == GOOD { 0 } else { 1 }, "{block:?}");
+/// An SRB as a case hands it in: its function, its flags, its block, the length of its data.
+type Case<'a> = (SrbFunction, u8, &'a [u8], usize);
+
+/// What becomes of each case on a disk of four sectors, the last one bad.
+fn completes(
+    rt: &impl Abort,
+    alloc: Global,
+    protected: bool,
+    cases: &[(Case, Completion)],
+) -> Result<(), Fail> {
+    for ((function, flags, block, count), want) in cases {
+        assert!(rt; *count <= 1536);
+        let srb = srb(alloc, *function, *flags, block, *count, 0xA5)?;
+        let (completion, failures) = completion_of(rt, alloc, protected, srb)?;
+        assert_eq!(rt; completion, *want, "{block:?}");
+        assert_eq!(rt; failures, if *want == GOOD { 0 } else { 1 }, "{block:?}");
     }
     Ok(())
+}
+
+const SCSI: SrbFunction = SrbFunction::ExecuteScsi;
+
+// Each row of the table, where later rows fit too.
+#[test]
+fn fails_by_the_first_row_that_fits(rt: HostRuntime) -> Result<(), Fail> {
+    let past_end = [0x28, 0, 0, 0, 0, 3, 0, 0, 2, 0];
+    let bad_sync = [0x35, 0, 0xFF, 0xFF, 0xFF, 0xFF, 0, 0xFF, 0xFF, 0];
+    let protect_field = [0x28, 0x20, 0, 0, 8, 0, 0, 0, 1, 0];
+    completes(
+        &rt,
+        rt.alloc(),
+        false,
+        &[
+            ((SrbFunction::AbortCommand, 0x40, &READ, 512), INVALID),
+            ((SrbFunction::ResetBus, 0x40, &[], 0), INVALID),
+            ((SCSI, 0x40, &[], 512), checked(5, 0x24)),
+            ((SCSI, 0x40, &READ[..9], 512), checked(5, 0x24)),
+            ((SCSI, 0x40, &protect_field, 512), checked(5, 0x24)),
+            ((SCSI, 0x40, &[0x12, 0, 0, 0, 36, 0], 36), checked(5, 0x20)),
+            ((SCSI, 0x40, &past_end, 512), checked(5, 0x21)),
+            ((SCSI, 0x00, &bad_sync, 0), checked(5, 0x21)),
+            ((SCSI, 0x80, &READ, 512), INVALID),
+            ((SCSI, 0xC0, &WRITE, 512), INVALID),
+            ((SCSI, 0x40, &READ, 511), INVALID),
+            ((SCSI, 0x40, &SYNC, 0), INVALID),
+            ((SCSI, 0x40, &CAPACITY, 9), INVALID),
+            (
+                (SCSI, 0x40, &[0x28, 0, 0, 0, 0, 2, 0, 0, 2, 0], 1024),
+                checked(3, 0x11),
+            ),
+            (
+                (SCSI, 0x80, &[0x2A, 0, 0, 0, 0, 3, 0, 0, 1, 0], 512),
+                checked(3, 0x0C),
+            ),
+        ],
+    )?;
+    completes(
+        &rt,
+        rt.alloc(),
+        true,
+        &[
+            (
+                (SCSI, 0x00, &[0x2A, 0, 0, 0, 0, 5, 0, 0, 0, 0], 0),
+                checked(5, 0x21),
+            ),
+            ((SCSI, 0x80, &WRITE, 1024), INVALID),
+            ((SCSI, 0x80, &WRITE, 512), checked(7, 0x27)),
+            (
+                (SCSI, 0x80, &[0x2A, 0, 0, 0, 0, 3, 0, 0, 1, 0], 512),
+                checked(7, 0x27),
+            ),
+        ],
+    )
+}
+
+#[test]
+fn all_else_is_carried_out(rt: HostRuntime) -> Result<(), Fail> {
+    let none_at_end = [0x28, 0, 0, 0, 0, 4, 0, 0, 0, 0];
+    let through = [0x2A, 8, 0, 0, 0, 0, 0, 0, 3, 0, 7];
+    completes(
+        &rt,
+        rt.alloc(),
+        false,
+        &[((SCSI, 0x80, &through, 1536), GOOD)],
+    )?;
+    completes(
+        &rt,
+        rt.alloc(),
+        true,
+        &[
+            ((SCSI, 0x40, &READ, 512), GOOD),
+            ((SCSI, 0x40, &none_at_end, 0), GOOD),
+            ((SCSI, 0x00, &SYNC, 0), GOOD),
+            ((SCSI, 0x40, &CAPACITY, 8), GOOD),
+        ],
+    )
 }
 
 // The worked data of READ CAPACITY(10) for 4,096 sectors of 512 bytes.
@@ -355,6 +323,7 @@ fn tells<A: Adapter>(rt: &impl Abort, adapter: &mut A, want: Told)
 }
 
 /// What is done to an adapter, and what it must answer.
+#[derive(Drop)]
 enum Step {
     /// A write of one sector full of a byte is put on a tag.
     Write {
@@ -380,13 +349,9 @@ enum Step {
         byte: u8,
     },
     /// No piece is on the tag.
-    Free {
-        tag: u8,
-    },
+    Free(u8),
     /// After it so many failures are counted.
-    Reset {
-        failures: u128,
-    },
+    Reset(u128),
 }
 
 /// The SRB of one sector, all of a byte.
@@ -456,8 +421,8 @@ fn take<A: Adapter>(
                 "tag {tag}"
             );
         }
-        Step::Free { tag } => assert!(rt; adapter.finish(tag).is_none() && !adapter.in_use(tag)),
-        Step::Reset { failures } => {
+        Step::Free(tag) => assert!(rt; adapter.finish(tag).is_none() && !adapter.in_use(tag)),
+        Step::Reset(failures) => {
             assert!(rt; adapter.depth() <= 32);
             adapter.reset();
             assert_eq!(rt; adapter.failures(), failures);
@@ -483,6 +448,31 @@ fn run<A: Adapter>(
     Ok(())
 }
 
+fn write(tag: u8, piece: u128, sector: u8, byte: u8) -> Step {
+    Step::Write {
+        tag,
+        piece,
+        sector,
+        byte,
+    }
+}
+
+fn read(tag: u8, piece: u128, sector: u8) -> Step {
+    Step::Read { tag, piece, sector }
+}
+
+fn acts(tag: u8, acts: bool) -> Step {
+    Step::Act { tag, acts }
+}
+
+fn back(tag: u8, completion: Completion, byte: u8) -> Step {
+    Step::Finish {
+        tag,
+        completion,
+        byte,
+    }
+}
+
 // The later tag acts and finishes first, and a read between two writes sees the first alone.
 #[test]
 fn two_tags_serve_at_once(rt: HostRuntime) -> Result<(), Fail> {
@@ -492,93 +482,21 @@ fn two_tags_serve_at_once(rt: HostRuntime) -> Result<(), Fail> {
         rt.alloc(),
         &mut adapter,
         &[
-            (
-                Step::Write {
-                    tag: 0,
-                    piece: 1,
-                    sector: 0,
-                    byte: 0xA5,
-                },
-                &[(1, 'S', 0)],
-            ),
-            (
-                Step::Write {
-                    tag: 1,
-                    piece: 2,
-                    sector: 1,
-                    byte: 0x5A,
-                },
-                &[(2, 'S', 1)],
-            ),
-            (Step::Act { tag: 1, acts: true }, &[(2, 'A', 0x5A)]),
-            (
-                Step::Finish {
-                    tag: 1,
-                    completion: GOOD,
-                    byte: 0x5A,
-                },
-                &[(2, 'G', 0)],
-            ),
-            (
-                Step::Read {
-                    tag: 1,
-                    piece: 3,
-                    sector: 0,
-                },
-                &[(3, 'S', 1)],
-            ),
-            (Step::Act { tag: 1, acts: true }, &[(3, 'A', 0)]),
-            (Step::Act { tag: 0, acts: true }, &[(1, 'A', 0xA5)]),
-            (
-                Step::Finish {
-                    tag: 1,
-                    completion: GOOD,
-                    byte: 0,
-                },
-                &[(3, 'G', 0)],
-            ),
-            (
-                Step::Finish {
-                    tag: 0,
-                    completion: GOOD,
-                    byte: 0xA5,
-                },
-                &[(1, 'G', 0)],
-            ),
-            (
-                Step::Read {
-                    tag: 1,
-                    piece: 4,
-                    sector: 0,
-                },
-                &[(4, 'S', 1)],
-            ),
-            (
-                Step::Read {
-                    tag: 0,
-                    piece: 5,
-                    sector: 1,
-                },
-                &[(5, 'S', 0)],
-            ),
-            (Step::Act { tag: 0, acts: true }, &[(5, 'A', 0x5A)]),
-            (Step::Act { tag: 1, acts: true }, &[(4, 'A', 0xA5)]),
-            (
-                Step::Finish {
-                    tag: 1,
-                    completion: GOOD,
-                    byte: 0xA5,
-                },
-                &[(4, 'G', 0)],
-            ),
-            (
-                Step::Finish {
-                    tag: 0,
-                    completion: GOOD,
-                    byte: 0x5A,
-                },
-                &[(5, 'G', 0)],
-            ),
+            (write(0, 1, 0, 0xA5), &[(1, 'S', 0)]),
+            (write(1, 2, 1, 0x5A), &[(2, 'S', 1)]),
+            (acts(1, true), &[(2, 'A', 0x5A)]),
+            (back(1, GOOD, 0x5A), &[(2, 'G', 0)]),
+            (read(1, 3, 0), &[(3, 'S', 1)]),
+            (acts(1, true), &[(3, 'A', 0)]),
+            (acts(0, true), &[(1, 'A', 0xA5)]),
+            (back(1, GOOD, 0), &[(3, 'G', 0)]),
+            (back(0, GOOD, 0xA5), &[(1, 'G', 0)]),
+            (read(1, 4, 0), &[(4, 'S', 1)]),
+            (read(0, 5, 1), &[(5, 'S', 0)]),
+            (acts(0, true), &[(5, 'A', 0x5A)]),
+            (acts(1, true), &[(4, 'A', 0xA5)]),
+            (back(1, GOOD, 0xA5), &[(4, 'G', 0)]),
+            (back(0, GOOD, 0x5A), &[(5, 'G', 0)]),
         ],
     )
 }
@@ -592,115 +510,25 @@ fn resets_are_met(rt: HostRuntime) -> Result<(), Fail> {
         rt.alloc(),
         &mut adapter,
         &[
-            (
-                Step::Write {
-                    tag: 2,
-                    piece: 1,
-                    sector: 1,
-                    byte: 0xA5,
-                },
-                &[(1, 'S', 2)],
-            ),
-            (
-                Step::Finish {
-                    tag: 2,
-                    completion: BUSY,
-                    byte: 0xA5,
-                },
-                &[(1, 'B', 0)],
-            ),
-            (Step::Free { tag: 2 }, &[]),
-            (
-                Step::Write {
-                    tag: 2,
-                    piece: 2,
-                    sector: 1,
-                    byte: 0xA5,
-                },
-                &[(2, 'S', 2)],
-            ),
-            (
-                Step::Read {
-                    tag: 1,
-                    piece: 3,
-                    sector: 1,
-                },
-                &[(3, 'S', 1)],
-            ),
-            (
-                Step::Read {
-                    tag: 0,
-                    piece: 4,
-                    sector: 1,
-                },
-                &[(4, 'S', 0)],
-            ),
-            (Step::Act { tag: 2, acts: true }, &[(2, 'A', 0xA5)]),
-            (Step::Reset { failures: 3 }, &[(4, 'F', 0), (3, 'F', 0)]),
-            (Step::Reset { failures: 3 }, &[]),
-            (
-                Step::Act {
-                    tag: 0,
-                    acts: false,
-                },
-                &[],
-            ),
-            (
-                Step::Act {
-                    tag: 2,
-                    acts: false,
-                },
-                &[],
-            ),
-            (
-                Step::Act {
-                    tag: 99,
-                    acts: false,
-                },
-                &[],
-            ),
-            (
-                Step::Finish {
-                    tag: 0,
-                    completion: RESET,
-                    byte: 0,
-                },
-                &[(4, 'R', 0x0E)],
-            ),
-            (
-                Step::Finish {
-                    tag: 1,
-                    completion: RESET,
-                    byte: 0,
-                },
-                &[(3, 'R', 0x0E)],
-            ),
-            (
-                Step::Finish {
-                    tag: 2,
-                    completion: RESET,
-                    byte: 0xA5,
-                },
-                &[(2, 'R', 0x0E)],
-            ),
-            (Step::Free { tag: 99 }, &[]),
-            (
-                Step::Read {
-                    tag: 0,
-                    piece: 5,
-                    sector: 1,
-                },
-                &[(5, 'S', 0)],
-            ),
-            (Step::Act { tag: 0, acts: true }, &[(5, 'A', 0xA5)]),
-            (
-                Step::Finish {
-                    tag: 0,
-                    completion: GOOD,
-                    byte: 0xA5,
-                },
-                &[(5, 'G', 0)],
-            ),
+            (write(2, 1, 1, 0xA5), &[(1, 'S', 2)]),
+            (back(2, BUSY, 0xA5), &[(1, 'B', 0)]),
+            (Step::Free(2), &[]),
+            (write(2, 2, 1, 0xA5), &[(2, 'S', 2)]),
+            (read(1, 3, 1), &[(3, 'S', 1)]),
+            (read(0, 4, 1), &[(4, 'S', 0)]),
+            (acts(2, true), &[(2, 'A', 0xA5)]),
+            (Step::Reset(3), &[(4, 'F', 0), (3, 'F', 0)]),
+            (Step::Reset(3), &[]),
+            (acts(0, false), &[]),
+            (acts(2, false), &[]),
+            (acts(99, false), &[]),
+            (back(0, RESET, 0), &[(4, 'R', 0x0E)]),
+            (back(1, RESET, 0), &[(3, 'R', 0x0E)]),
+            (back(2, RESET, 0xA5), &[(2, 'R', 0x0E)]),
+            (Step::Free(99), &[]),
+            (read(0, 5, 1), &[(5, 'S', 0)]),
+            (acts(0, true), &[(5, 'A', 0xA5)]),
+            (back(0, GOOD, 0xA5), &[(5, 'G', 0)]),
         ],
     )
 }
