@@ -1,10 +1,10 @@
 -- No place fails with the status of a good or a busy return.
-use Rattle.std.proofs.Common.{◌≡◌, ◌≢◌, ◌<◌, inl, inr, ℕ, ◌+◌, ◌==◌, ◌&&◌, Bool, true, false, List, [], ◌∷◌, ◌++◌, Option, Some, None, refl, sym, ◌∙◌, ap, subst, arith, map, length, take, drop, replicate, bit_and}
+use Rattle.std.proofs.Common.{subst, ◌≡◌, ◌≢◌, inl, inr, ℕ, ◌+◌, ◌==◌, ◌&&◌, Bool, true, false, List, [], ◌∷◌, Option, Some, None, refl, arith, map, length, bit_and}
 use Rattle.std.specs.Prelude.{IsPermutation, All, if◌then◌else◌}
 use Rattle.std.proofs.lemmas.List.Sorted.{IsPermutation-sym, All-permutation}
 use Rattle.std.proofs.lemmas.List.Elements.{All-nil, All-cons, All-head, All-tail, All-weaker, All-map, All-append, All-take, All-drop, All-replicate}
 use Rattle.ntstatus.specs.declared.NtStatus.{NtStatus}
-use Rattle.ntstatus.specs.declared.NtStatus.TheVariants.{Success, Cancelled, DeviceBusy, InvalidDeviceRequest, NoSuchDevice, IoDeviceError, DeviceNotReady, DeviceDataError, NonexistentSector, MediaWriteProtected}
+use Rattle.ntstatus.specs.declared.NtStatus.TheVariants.{Success, DeviceBusy, InvalidDeviceRequest, NonexistentSector}
 use Rattle.ntstatus.specs.declared.Sense.{Sense}
 use Rattle.ntstatus.specs.Table.{status_of, status_of_sense, used_sense}
 use Rattle.sector.specs.Splice.{splice}
@@ -25,43 +25,22 @@ use Rattle.device.specs.Answering.{Answers}
 use Rattle.device.specs.Holding.{held_back, beyond, as_timely, as_cancelled, Drains}
 use Rattle.device.specs.Step.{DeviceStep, FreeStep, OwingStep, Step, Run}
 use Rattle.device.specs.Marks.{IsEarned, HasEarned, HaveEarned}
+use Rattle.ntstatus.proofs.Rows.{success_code, busy_code}
 use Rattle.device.proofs.Same.{IsSame-sym}
 
 -- THE STATUS TABLE
 
-neither : (b : Bool) (x y z : NtStatus) → x ≢ z → y ≢ z → (if b then x else y) ≢ z
-neither true x y z left right e = left e
-neither false x y z left right e = right e
-
-second : (b : Bool) (x y z : NtStatus) → b ≡ false → y ≢ z → (if b then x else y) ≢ z
-second true x y z fails right e = cc (fails)
-second false x y z fails right e = right e
-
-pub sense_not_busy : (sense : Option Sense) → status_of_sense sense ≢ DeviceBusy
-sense_not_busy None = λ e. cc (e)
-sense_not_busy (Some sense) =
-    neither (sense.key == 2) _ _ DeviceBusy (λ e. cc (e)) (neither (sense.key == 3) _ _ DeviceBusy (λ e. cc (e))
-    (neither (sense.key == 5) _ _ DeviceBusy (neither ((sense.asc == 33) && (sense.ascq == 0)) NonexistentSector InvalidDeviceRequest DeviceBusy (λ e. cc (e)) (λ e. cc (e))) (neither (sense.key == 7) _ _ DeviceBusy (λ e. cc (e)) (λ e. cc (e)))))
-
-pub sense_not_success : (sense : Option Sense) → status_of_sense sense ≢ Success
-sense_not_success None = λ e. cc (e)
-sense_not_success (Some sense) =
-    neither (sense.key == 2) _ _ Success (λ e. cc (e)) (neither (sense.key == 3) _ _ Success (λ e. cc (e))
-    (neither (sense.key == 5) _ _ Success (neither ((sense.asc == 33) && (sense.ascq == 0)) NonexistentSector InvalidDeviceRequest Success (λ e. cc (e)) (λ e. cc (e))) (neither (sense.key == 7) _ _ Success (λ e. cc (e)) (λ e. cc (e)))))
-
 -- only code 5 is DEVICE_BUSY
 pub status_not_busy : (srb scsi : ℕ) (sense : Option Sense) → (bit_and srb 63 == 5) ≡ false → status_of srb scsi sense ≢ DeviceBusy
-status_not_busy srb scsi sense fails =
-    neither (bit_and srb 63 == 1) _ _ DeviceBusy (λ e. cc (e)) (neither (bit_and srb 63 == 2) _ _ DeviceBusy (λ e. cc (e)) (neither (bit_and srb 63 == 22) _ _ DeviceBusy (λ e. cc (e))
-    (second (bit_and srb 63 == 5) _ _ DeviceBusy fails (neither (bit_and srb 63 == 6) _ _ DeviceBusy (λ e. cc (e)) (neither (bit_and srb 63 == 8) _ _ DeviceBusy (λ e. cc (e))
-    (neither (bit_and srb 63 == 4) _ _ DeviceBusy (sense_not_busy (used_sense srb scsi sense)) (λ e. cc (e))))))))
+status_not_busy srb scsi sense fails = λ e.
+    let same : (5 == 5) ≡ false = subst (λ (n : ℕ). (n == 5) ≡ false) (busy_code srb scsi sense e) fails in
+    cc (same)
 
 -- only code 1 is SUCCESS
 pub status_not_success : (srb scsi : ℕ) (sense : Option Sense) → (bit_and srb 63 == 1) ≡ false → status_of srb scsi sense ≢ Success
-status_not_success srb scsi sense fails =
-    second (bit_and srb 63 == 1) _ _ Success fails (neither (bit_and srb 63 == 2) _ _ Success (λ e. cc (e)) (neither (bit_and srb 63 == 22) _ _ Success (λ e. cc (e))
-    (neither (bit_and srb 63 == 5) _ _ Success (λ e. cc (e)) (neither (bit_and srb 63 == 6) _ _ Success (λ e. cc (e)) (neither (bit_and srb 63 == 8) _ _ Success (λ e. cc (e))
-    (neither (bit_and srb 63 == 4) _ _ Success (sense_not_success (used_sense srb scsi sense)) (λ e. cc (e))))))))
+status_not_success srb scsi sense fails = λ e.
+    let same : (1 == 1) ≡ false = subst (λ (n : ℕ). (n == 1) ≡ false) (success_code srb scsi sense e) fails in
+    cc (same)
 
 bad_codes : (good busy : Bool) (c : Completion) → (if good then Good else (if busy then Busy else Bad c)) ≡ Bad c → (good ≡ false) × (busy ≡ false)
 bad_codes true busy c e = cc (e)

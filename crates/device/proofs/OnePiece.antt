@@ -1,5 +1,5 @@
 -- Where a request goes as one piece, its marks are alike at every moment.
-use Rattle.std.proofs.Common.{◌≡◌, ◌≢◌, ◌<◌, ◌≤◌, inl, inr, ℕ, ◌+◌, Bool, true, false, List, [], ◌∷◌, ◌++◌, Option, Some, None, refl, sym, ◌∙◌, ap, subst, arith, map, length, take, drop, get_or, replicate, append-nil}
+use Rattle.std.proofs.Common.{◌≡◌, ◌≢◌, ◌<◌, ◌≤◌, inl, inr, ℕ, ◌+◌, Bool, true, false, List, [], ◌∷◌, Option, Some, None, refl, sym, ◌∙◌, arith, map, length, get_or, replicate, append-nil}
 use Rattle.std.specs.Prelude.{IsPermutation, All, Any, IsTrue, if◌then◌else◌}
 use Rattle.std.proofs.lemmas.List.{length-replicate, drop_all}
 use Rattle.std.proofs.lemmas.List.Sorted.{IsPermutation-sym, All-permutation}
@@ -18,7 +18,7 @@ use Rattle.device.specs.declared.Label.TheVariants.{Call, Device, Answer, Cancel
 use Rattle.device.specs.Rules.{Rules, place_count}
 use Rattle.device.specs.State.{Mark, Untouched, Out, Done, Failed, Back, OpenRequest, Piece, State, IsSame, opening}
 use Rattle.device.specs.Calling.{Opens, Admits, refusal, new_request}
-use Rattle.device.specs.Sending.{IsWhole, Leaves, status_of_completion, sent, given_back, new_piece, with_fate}
+use Rattle.device.specs.Sending.{Leaves, status_of_completion, sent, given_back, new_piece, with_fate}
 use Rattle.device.specs.Answering.{Answers}
 use Rattle.device.specs.Holding.{held_back, beyond, as_timely, as_cancelled, Drains}
 use Rattle.device.specs.Step.{DeviceStep, FreeStep, OwingStep, Step, Run}
@@ -91,7 +91,7 @@ module _ (s : State) (k : AreOnePiece s) where
       let n : length outs ≡ places.count = length-replicate places.count Out in
       let e : splice o.marks places.first outs ≡ outs = whole_splice o.marks places.first outs (omega arith) (omega arith) in
       let before : AreOnePiece (record s { requests = sent places o ∷ others; pieces = s.pieces }) =
-          changed o (sent places o) others s.pieces refl (rw e (n ∙ whole)) (Out, rw e (All-replicate (IsLike Out) places.count Out refl)) p k.whole in
+      changed o (sent places o) others s.pieces refl (rw e (n ∙ whole)) (Out, rw e (All-replicate (IsLike Out) places.count Out refl)) p k.whole in
       record {
         alike = before.alike;
         whole = All-cons (IsAll (sent places o ∷ others)) (new_piece s tag o places) s.pieces

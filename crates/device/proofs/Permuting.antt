@@ -1,5 +1,5 @@
 -- What two lists in another order share: take the same item from both, and the others are in another order.
-use Rattle.std.proofs.Common.{◌≡◌, ◌≢◌, ◌<◌, ◌⊎◌, inl, inr, ℕ, zero, suc, false, List, [], ◌∷◌, refl, sym, subst, ap, arith, map, length, get_or, set}
+use Rattle.std.proofs.Common.{◌≡◌, ◌≢◌, ◌<◌, ◌⊎◌, inl, inr, ℕ, zero, suc, false, List, [], ◌∷◌, refl, subst, arith, map, length, get_or, set}
 use Rattle.std.specs.Prelude.{IsPermutation, All, Contains, eqb}
 use Rattle.std.specs.List.{IsDistinct, AllByRecursion, swap}
 use Rattle.std.proofs.lemmas.Bool.Decides.{nat_tests}

@@ -1,13 +1,13 @@
 -- Each piece out is of an open request and covers places that are out, at every moment.
-use Rattle.std.proofs.Common.{◌≡◌, ◌≢◌, ◌<◌, ◌≤◌, ◌⊎◌, inl, inr, ℕ, zero, suc, ◌+◌, ◌-◌, Bool, true, false, cond, List, [], ◌∷◌, ◌++◌, Option, Some, None, refl, sym, ◌∙◌, ap, subst, arith, map, length, take, drop, get_or, replicate, length-take, length-drop, length-append, get_or-drop, get_or-take}
+use Rattle.std.proofs.Common.{◌≡◌, ◌≢◌, ◌<◌, ◌≤◌, inl, inr, ℕ, zero, suc, ◌+◌, ◌-◌, Bool, true, false, cond, List, [], ◌∷◌, ◌++◌, Option, Some, None, refl, sym, ◌∙◌, ap, subst, arith, map, length, take, drop, get_or, replicate, get_or-drop, get_or-take}
 use Rattle.std.specs.List.{remove}
 use Rattle.std.specs.Prelude.{IsPermutation, All, Any, Contains, count_by, slice_range, if◌then◌else◌}
-use Rattle.std.proofs.lemmas.Bool.{cases_lt, cases_order, cases_eq}
+use Rattle.std.proofs.lemmas.Bool.{cases_lt}
 use Rattle.std.proofs.lemmas.Bool.Decides.{nat_tests}
-use Rattle.std.proofs.lemmas.List.{places, length-replicate, length-map, length-take-le, get_or-map, get_or-replicate, get_or_append_left, get_or-append_right, get_or_past, get_or_default}
+use Rattle.std.proofs.lemmas.List.{length-replicate, length-map, length-take-le, get_or-map, get_or-replicate, get_or_append_left, get_or-append_right, get_or_past}
 use Rattle.std.proofs.lemmas.List.Edits.{get_or-between, length-between}
 use Rattle.std.proofs.lemmas.List.Sums.{sum_by-cons}
-use Rattle.std.proofs.lemmas.List.Sorted.{IsPermutation-refl, IsPermutation-sym, IsPermutation-cons, IsPermutation-remove, All-permutation, Contains-permutation, sum_by-IsPermutation}
+use Rattle.std.proofs.lemmas.List.Sorted.{IsPermutation-sym, IsPermutation-remove, All-permutation, sum_by-IsPermutation}
 use Rattle.std.proofs.lemmas.List.Elements.{All-nil, All-cons, All-head, All-tail, All-weaker, All-map, All-contains, All-replicate, All-get_or, Contains-get_or}
 use Rattle.ntstatus.specs.declared.NtStatus.{NtStatus}
 use Rattle.sector.specs.declared.Extent.{Extent}
@@ -16,14 +16,14 @@ use Rattle.srb.specs.declared.DeviceLabel.{DeviceLabel}
 use Rattle.srb.specs.declared.DeviceLabel.TheVariants.{Start, Act, Fault, Return}
 use Rattle.srb.specs.declared.Class.{Class}
 use Rattle.srb.specs.declared.Class.TheVariants.{Good, Busy, Bad}
-use Rattle.srb.specs.Fate.{Fate, Fresh, Acted, Faulted}
+use Rattle.srb.specs.Fate.{Fate, Acted, Faulted}
 use Rattle.device.specs.declared.ClientRequest.{ClientRequest}
 use Rattle.device.specs.declared.Label.{Label}
 use Rattle.device.specs.declared.Label.TheVariants.{Call, Device, Answer, Cancel, Pause, Resume, Remove, Removed}
 use Rattle.device.specs.Rules.{Rules, place_count}
-use Rattle.device.specs.State.{Mark, Untouched, Out, Done, Failed, Back, OpenRequest, Owed, Piece, State, IsSame, opening}
-use Rattle.device.specs.Calling.{Opens, Admits, refusal, new_request}
-use Rattle.device.specs.Sending.{Starts, Acts, Faults, Returns, Leaves, IsUnsent, is_unsent, sent, given_back, new_piece, with_fate}
+use Rattle.device.specs.State.{Mark, Untouched, Out, Done, Failed, Back, OpenRequest, Piece, State, IsSame, opening}
+use Rattle.device.specs.Calling.{Opens, Admits, refusal}
+use Rattle.device.specs.Sending.{Leaves, IsUnsent, sent, given_back, new_piece, with_fate}
 use Rattle.device.specs.Answering.{Answers, HasEnded}
 use Rattle.device.specs.Holding.{held_back, beyond, as_timely, as_cancelled, Drains}
 use Rattle.device.specs.Settled.{is_out}
@@ -56,16 +56,16 @@ get_or-splice_above xs first more i d fits high =
 
 -- WHAT A PIECE COVERS
 
-covers_inside : (n i : ℕ) (p : Piece) → p.owner ≡ n → p.places.first ≤ i → i < p.places.first + p.places.count → covers n i p ≡ true
+pub covers_inside : (n i : ℕ) (p : Piece) → p.owner ≡ n → p.places.first ≤ i → i < p.places.first + p.places.count → covers n i p ≡ true
 covers_inside n i p e low high = grind (arith, nat_tests)
 
-covers_other : (n i : ℕ) (p : Piece) → p.owner ≢ n → covers n i p ≡ false
+pub covers_other : (n i : ℕ) (p : Piece) → p.owner ≢ n → covers n i p ≡ false
 covers_other n i p other = grind (arith, nat_tests)
 
-covers_below : (n i : ℕ) (p : Piece) → i < p.places.first → covers n i p ≡ false
+pub covers_below : (n i : ℕ) (p : Piece) → i < p.places.first → covers n i p ≡ false
 covers_below n i p low = grind (arith, nat_tests)
 
-covers_above : (n i : ℕ) (p : Piece) → p.places.first + p.places.count ≤ i → covers n i p ≡ false
+pub covers_above : (n i : ℕ) (p : Piece) → p.places.first + p.places.count ≤ i → covers n i p ≡ false
 covers_above n i p high = grind (arith, nat_tests)
 
 abbrev one_if : Bool → ℕ
@@ -77,7 +77,7 @@ count_first n i p ps = sum_by-cons (λ x. one_if (covers n i x)) p ps
 count_same : (n i : ℕ) (ps qs : List Piece) → IsPermutation ps qs → count_by (covers n i) qs ≡ count_by (covers n i) ps
 count_same n i ps qs perm = sum_by-IsPermutation (λ x. one_if (covers n i x)) ps qs perm
 
-out_mark : (m : Mark) → is_out m ≡ true → m ≡ Out
+pub out_mark : (m : Mark) → is_out m ≡ true → m ≡ Out
 out_mark Out h = refl
 out_mark Untouched h = cc (h)
 out_mark (Done sector) h = cc (h)
@@ -99,7 +99,7 @@ count_with : (n i : ℕ) (p : Piece) (ps : List Piece) → covers n i p ≡ true
 count_with n i p ps e = count_first n i p ps ∙ ap (λ b. one_if b + count_by (covers n i) ps) e
 
 -- the first piece of a list that covers the places of its owner
-first_alone : (p : Piece) (ps : List Piece) (o : OpenRequest) (i : ℕ) → IsCovered (p ∷ ps) o → o.number ≡ p.owner → p.places.first ≤ i → i < p.places.first + p.places.count
+pub first_alone : (p : Piece) (ps : List Piece) (o : OpenRequest) (i : ℕ) → IsCovered (p ∷ ps) o → o.number ≡ p.owner → p.places.first ≤ i → i < p.places.first + p.places.count
     → (is_out (mark_at o i) ≡ true) × (count_by (covers o.number i) ps ≡ 0)
 first_alone p ps o i covered owner low high =
     let yes : covers o.number i p ≡ true = covers_inside o.number i p (sym owner) low high in
@@ -114,7 +114,7 @@ pub is_out_there : (ps : List Piece) (p : Piece) (others : List Piece) (o : Open
 is_out_there ps p others o i perm covered owner low high =
     out_mark (mark_at o i) (first_alone p others o i (IsCovered-permutation ps (p ∷ others) o perm covered) owner low high).0
 
-within : (marks : List Mark) (i : ℕ) → is_out (get_or marks i Untouched) ≡ true → i < length marks
+pub within : (marks : List Mark) (i : ℕ) → is_out (get_or marks i Untouched) ≡ true → i < length marks
 within marks i out =
     elim (cases_lt i (length marks)) [
       | inl low ↦ low
@@ -291,13 +291,13 @@ module _ (s : State) (k : ArePlaced s) where
       mine_out i mine =
           elim (cases_lt i places.first) [
             | inl low ↦ count_without o.number i (new_piece s tag o places) s.pieces (covers_below o.number i (new_piece s tag o places) low)
-              ∙ mine i ∙ ap (λ m. one_if (is_out m)) (sym (get_or-splice_below o.marks places.first outs i Untouched (omega arith) low))
+                ∙ mine i ∙ ap (λ m. one_if (is_out m)) (sym (get_or-splice_below o.marks places.first outs i Untouched (omega arith) low))
             | inr from ↦ elim (cases_lt i (places.first + places.count)) [
               | inl high ↦ count_with o.number i (new_piece s tag o places) s.pieces (covers_inside o.number i (new_piece s tag o places) refl from high)
-                ∙ ap (λ n. 1 + n) (mine i ∙ ap one_if (unsent_not_out (mark_at o i) (unsent_at i from high)))
-                ∙ ap (λ m. one_if (is_out m)) (sym (get_or-splice_inside o.marks places.first outs i Untouched (omega arith) from (rw outs_long high) ∙ get_or-replicate places.count (i - places.first) Out Untouched (omega arith)))
+                  ∙ ap (λ n. 1 + n) (mine i ∙ ap one_if (unsent_not_out (mark_at o i) (unsent_at i from high)))
+                  ∙ ap (λ m. one_if (is_out m)) (sym (get_or-splice_inside o.marks places.first outs i Untouched (omega arith) from (rw outs_long high) ∙ get_or-replicate places.count (i - places.first) Out Untouched (omega arith)))
               | inr past ↦ count_without o.number i (new_piece s tag o places) s.pieces (covers_above o.number i (new_piece s tag o places) past)
-                ∙ mine i ∙ ap (λ m. one_if (is_out m)) (sym (get_or-splice_above o.marks places.first outs i Untouched (omega arith) (rw outs_long past)))
+                  ∙ mine i ∙ ap (λ m. one_if (is_out m)) (sym (get_or-splice_above o.marks places.first outs i Untouched (omega arith) (rw outs_long past)))
             ]
           ]
 
@@ -325,13 +325,13 @@ module _ (s : State) (k : ArePlaced s) where
       mine_back i inside mine =
           elim (cases_lt i p.places.first) [
             | inl low ↦ sym (count_without o.number i p ps (covers_below o.number i p low))
-              ∙ mine i ∙ ap (λ m. one_if (is_out m)) (sym (get_or-splice_below o.marks p.places.first marks i Untouched (omega arith) low))
+                ∙ mine i ∙ ap (λ m. one_if (is_out m)) (sym (get_or-splice_below o.marks p.places.first marks i Untouched (omega arith) low))
             | inr from ↦ elim (cases_lt i (p.places.first + p.places.count)) [
               | inl high ↦ (first_alone p ps o i mine owner from high).1
-                ∙ sym (ap (λ m. one_if (is_out m)) (get_or-splice_inside o.marks p.places.first marks i Untouched (omega arith) from (rw long high))
-                ∙ ap one_if (All-get_or (λ m. is_out m ≡ false) marks (i - p.places.first) Untouched (omega arith) none))
+                  ∙ sym (ap (λ m. one_if (is_out m)) (get_or-splice_inside o.marks p.places.first marks i Untouched (omega arith) from (rw long high))
+                  ∙ ap one_if (All-get_or (λ m. is_out m ≡ false) marks (i - p.places.first) Untouched (omega arith) none))
               | inr past ↦ sym (count_without o.number i p ps (covers_above o.number i p past))
-                ∙ mine i ∙ ap (λ m. one_if (is_out m)) (sym (get_or-splice_above o.marks p.places.first marks i Untouched (omega arith) (rw long past)))
+                  ∙ mine i ∙ ap (λ m. one_if (is_out m)) (sym (get_or-splice_above o.marks p.places.first marks i Untouched (omega arith) (rw long past)))
             ]
           ]
 

@@ -1,6 +1,6 @@
 -- After removed the device is left alone.
-use Rattle.std.proofs.Common.{◌≡◌, ◌<◌, ◌⊎◌, inl, inr, ℕ, ◌+◌, true, false, List, [], ◌∷◌, ◌++◌, Option, Some, None, refl, sym, ◌∙◌, ap, arith, map, length, is_none}
-use Rattle.std.specs.Prelude.{IsPermutation, All, IsTrue, IsFalse, Any}
+use Rattle.std.proofs.Common.{◌≡◌, ◌<◌, ◌⊎◌, inl, inr, ℕ, false, List, [], ◌∷◌, ◌++◌, Option, Some, None, refl, sym, ◌∙◌, ap, arith, map, length, is_none}
+use Rattle.std.specs.Prelude.{IsPermutation, All, IsTrue}
 use Rattle.std.proofs.lemmas.List.Sorted.{IsPermutation-sym, length_permutation}
 use Rattle.std.proofs.lemmas.List.Elements.{All-nil, All-cons}
 use Rattle.ntstatus.specs.declared.NtStatus.{NtStatus}
@@ -11,7 +11,7 @@ use Rattle.device.specs.declared.ClientRequest.{ClientRequest}
 use Rattle.device.specs.declared.Label.{Label}
 use Rattle.device.specs.declared.Label.TheVariants.{Call, Device, Answer, Cancel, Pause, Resume, Remove, Removed}
 use Rattle.device.specs.Rules.{Rules}
-use Rattle.device.specs.State.{OpenRequest, Piece, State, IsSame, opening}
+use Rattle.device.specs.State.{Piece, State, IsSame, opening}
 use Rattle.device.specs.Calling.{refusal, Admits}
 use Rattle.device.specs.Holding.{Ends, as_timely}
 use Rattle.device.specs.Step.{DeviceStep, FreeStep, OwingStep, Step, Run}

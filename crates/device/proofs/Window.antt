@@ -1,17 +1,17 @@
 -- Resume, drain and settled states of a layer that holds requests above a window of them below.
-use Rattle.std.proofs.Common.{◌≡◌, ◌<◌, ◌≤◌, ◌⊎◌, inl, inr, ℕ, ◌+◌, Bool, true, false, List, [], ◌∷◌, ◌++◌, Option, Some, None, refl, sym, ◌∙◌, ap, subst, arith, map, length, cond, get_or}
+use Rattle.std.proofs.Common.{◌≡◌, ◌<◌, ◌≤◌, ◌⊎◌, inl, inr, ℕ, Bool, true, false, List, [], ◌∷◌, ◌++◌, Option, Some, None, refl, sym, ◌∙◌, ap, subst, arith, map, length, cond, get_or}
 use Rattle.std.specs.Prelude.{IsPermutation, All, IsTrue, IsFalse, count_by, if◌then◌else◌}
 use Rattle.std.proofs.lemmas.Bool.{cases_Bool}
 use Rattle.std.proofs.lemmas.List.{map-append}
 use Rattle.std.proofs.lemmas.List.Sums.{count_by-le-length, sum_by-cons, sum_by-append}
 use Rattle.std.proofs.lemmas.List.Sorted.{IsPermutation-refl, IsPermutation-append_left}
-use Rattle.std.proofs.lemmas.List.Elements.{All-nil, All-cons, All-head, All-tail, All-weaker, All-append, All-same}
+use Rattle.std.proofs.lemmas.List.Elements.{All-nil, All-head, All-tail, All-weaker, All-append, All-same}
 use Rattle.device.specs.Rules.{Rules}
-use Rattle.device.specs.State.{OpenRequest, State, IsSame}
+use Rattle.device.specs.State.{OpenRequest, State}
 use Rattle.device.specs.Sending.{IsInTurn, is_started}
 use Rattle.device.specs.Holding.{Resumes, Drains, held_back, as_timely}
-use Rattle.device.specs.Settled.{Settled, IsHeld, WaitsIfCancelled, Waits, IsAllSent, IsHeldBack, HasMore, IsAtWork, IsFull, IsWithin, started_count}
-use Rattle.device.specs.Frame.{Frame, framed, with_window, MayPass, AllMayPass}
+use Rattle.device.specs.Settled.{Settled, IsHeld, WaitsIfCancelled, Waits, IsAllSent, IsHeldBack, HasMore, IsAtWork, IsFull, started_count}
+use Rattle.device.specs.Frame.{Frame, framed, with_window, AllMayPass}
 use Rattle.device.specs.Window.{HasLowerNumber, IsAbove, IsTimely, IsLate, IsWaiting, Holds, HasReleased}
 use Rattle.device.proofs.Settling.{late, held_back-framed}
 
@@ -65,7 +65,7 @@ drained_order window true below below' held timely above within full p = IsPermu
 drained_order window false below below' held timely above within full p =
     rw (held_back-framed window below held timely above within (full refl)) (IsPermutation-append_left (map late held) _ _ p)
 
-same_below : (paused : Bool) (window : Option ℕ) (requests : List OpenRequest) → window ≡ None → (if paused then requests else held_back window requests) ≡ requests
+pub same_below : (paused : Bool) (window : Option ℕ) (requests : List OpenRequest) → window ≡ None → (if paused then requests else held_back window requests) ≡ requests
 same_below true window requests none = refl
 same_below false window requests none = rw none
 

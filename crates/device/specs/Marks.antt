@@ -1,8 +1,7 @@
 -- What the marks of an open request say of how it went.
-use Rattle.std.specs.Prelude.{◌≡◌, ◌≢◌, ◌<◌, ◌≤◌, ℕ, List, length, IsTrue, All}
-use Rattle.ntstatus.specs.declared.NtStatus.{NtStatus}
+use Rattle.std.specs.Prelude.{◌≡◌, ◌≢◌, ◌<◌, ◌≤◌, List, length, IsTrue, All}
 use Rattle.ntstatus.specs.declared.NtStatus.TheVariants.{Success, DeviceBusy}
-use Rattle.device.specs.State.{Mark, Untouched, Out, Done, Failed, Back, OpenRequest, Piece, State}
+use Rattle.device.specs.State.{Mark, Done, Failed, Back, OpenRequest, Piece, State}
 use Rattle.device.specs.Answering.{is_done}
 
 -- a place fails with neither a success nor a busy return, and comes back by a busy return only

@@ -10,11 +10,9 @@ ghost use Rattle.std.specs.Prelude.{List, ℕ, IsNone};
 pub fn numbers_are_used_once()
     ensures calls { (rules : Rules) (s : State) → CallsOnce rules s }
     ensures answers { (rules : Rules) (s : State) → AreDistinct s → IsNone s.owed → AnswersOnce rules s }
-{
-}
+{}
 
 /// After `removed` no piece is started, acts, faults or comes back, in every run from an opening state.
 pub fn device_is_quiet_after_removed()
     ensures { (rules : Rules) (arrays : List (List (List ℕ))) → IsQuietAfterRemoved rules arrays }
-{
-}
+{}

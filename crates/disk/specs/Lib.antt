@@ -1,1 +1,3 @@
+pub mod Chunks
 pub mod Medium
+pub mod VecDisk

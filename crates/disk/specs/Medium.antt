@@ -1,5 +1,5 @@
 -- What a medium shows, and what its calls do to it.
-use Rattle.std.specs.Prelude.{◌≡◌, ◌≤◌, ℕ, ◌+◌, List, length, All, Contains, slice_range}
+use Rattle.std.specs.Prelude.{◌≡◌, ◌≤◌, ℕ, ◌+◌, List, length, All, Contains, replicate, slice_range}
 use Rattle.std.specs.List.{concat}
 use Rattle.sector.specs.declared.Extent.{Extent}
 use Rattle.sector.specs.Extents.{IsIn}
@@ -63,3 +63,9 @@ pub record Writes (old : MediumView) (extent : Extent) (bytes : List ℕ) (new :
 -- a call failed: it is counted, and nothing else changes
 abbrev pub failed : MediumView → MediumView
 failed view = record view { failures = view.failures + 1 }
+
+-- a medium on which nothing but zeros stands, and no call failed
+pub record IsBlank (view : MediumView) (sector_size sectors : ℕ) : Type 0 where
+  pub size_is : view.sector_size ≡ sector_size
+  pub zeros : view.sectors ≡ replicate sectors (replicate sector_size 0)
+  pub none_failed : view.failures ≡ 0

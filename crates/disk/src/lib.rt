@@ -7,11 +7,22 @@
 //! Doesn't promise that anything stands after the process ends.
 #![tactic(auto)]
 
+mod bad_list;
+mod vec_disk;
+
 use sector::Extent;
+use std::alloc::AllocError;
+pub use vec_disk::VecDisk;
 
 /// The memory for a reservation was refused.
 #[derive(Debug, Clone, Copy, PartialEq, Eq)]
 pub struct NoMemory;
+
+impl From<AllocError> for NoMemory {
+    fn from(_: AllocError) -> NoMemory {
+        NoMemory
+    }
+}
 
 /// The extent of the call holds a sector that can't be read or written.
 #[derive(Debug, Clone, Copy, PartialEq, Eq)]
@@ -36,13 +47,21 @@ pub trait Medium: Drop {
     fn failures(&self) -> u128
         ensures { result ≡ (seen self.now).failures };
 
-    /// Makes room for writes of an extent, for good. A reservation that was refused may have made room for a part.
+    /// Makes room for writes of an extent, for good.
+    ///
+    /// # Errors
+    ///
+    /// [`NoMemory`] where a growth was refused; room may then have been made for a part of the extent.
     fn reserve(&mut self, extent: Extent) -> Result<(), NoMemory>
         requires { IsWithin (seen self.old) extent }
         ensures reserved { OnOk result (IsReserved (seen self.new) extent) }
         ensures reserves { Reserves (seen self.old) (seen self.new) };
 
-    /// Reads the bytes of an extent. Where it holds a bad sector, the buffer stays as it was.
+    /// Reads the bytes of an extent within the medium into a buffer of just as many bytes.
+    ///
+    /// # Errors
+    ///
+    /// [`BadSector`], counted, exactly where a sector of the extent is bad; the buffer then stays as it was.
     fn read(&mut self, extent: Extent, buffer: &mut [u8]) -> Result<(), BadSector>
         requires within { IsWithin (seen self.old) extent }
         requires long { length buffer.old ≡ extent.count * (seen self.old).sector_size }
@@ -52,7 +71,11 @@ pub trait Medium: Drop {
         ensures buffer { OnErr result (buffer.new ≡ buffer.old) }
         ensures fails { OnErr result (seen self.new ≡ failed (seen self.old)) };
 
-    /// Writes the bytes of an extent.
+    /// Writes the bytes of an extent within the medium that was reserved before.
+    ///
+    /// # Errors
+    ///
+    /// [`BadSector`], counted, exactly where a sector of the extent is bad; nothing is then written.
     fn write(&mut self, extent: Extent, bytes: &[u8]) -> Result<(), BadSector>
         requires within { IsWithin (seen self.old) extent }
         requires reserved { IsReserved (seen self.old) extent }
@@ -64,3 +87,6 @@ pub trait Medium: Drop {
 
     ghost whole: { (medium : Self) → IsWhole (seen medium) };
 }
+
+#[cfg(test)]
+mod tests;

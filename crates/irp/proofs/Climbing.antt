@@ -1,5 +1,5 @@
 -- The steps of a climb.
-use Rattle.std.proofs.Common.{◌≡◌, ◌-◌, ◌<◌, suc, Bool, true, false, List, [], ◌∷◌, ◌++◌, length, take, get_or, Some, None, refl, sym, ◌∙◌, ap, subst, append_assoc, arith}
+use Rattle.std.proofs.Common.{◌≡◌, ◌-◌, ◌<◌, suc, Bool, true, false, List, [], ◌∷◌, ◌++◌, length, take, get_or, Option, Some, None, refl, sym, ◌∙◌, ap, subst, append_assoc, arith}
 use Rattle.std.specs.Prelude.{All, slice_get}
 use Rattle.std.proofs.lemmas.List.{append-nil}
 use Rattle.std.proofs.lemmas.List.Elements.{All-nil, All-cons}
@@ -26,6 +26,10 @@ last_is xs x e =
     let whole : take (suc (length xs - 1)) xs ≡ take (length xs - 1) xs ++ get_or xs (length xs - 1) x ∷ [] = take-suc xs (length xs - 1) x within in
     let same : suc (length xs - 1) ≡ length xs = omega arith in
     sym (take-length xs) ∙ ap (λ n. take n xs) (sym same) ∙ whole ∙ ap (λ y. take (length xs - 1) xs ++ y ∷ []) (get_or_from_slice_get xs (length xs - 1) x x e)
+
+-- a list's last element, read through a slice that is the same list
+pub last_of : (now items : List StackLocation) (copied read found : Option StackLocation) → now ≡ items → read ≡ slice_get now (length now - 1) → copied ≡ read → copied ≡ found → slice_get items (length items - 1) ≡ found
+last_of now items copied read found same value copy is = sym (ap (λ (xs : List StackLocation). slice_get xs (length xs - 1)) same) ∙ sym value ∙ sym copy ∙ is
 
 -- one more location is passed over
 pub passed_one : (success cancelled : Bool) (from here rest : List StackLocation) (own : StackLocation) → HasPassed success cancelled from here → here ≡ rest ++ own ∷ [] → asks success cancelled own ≡ false → HasPassed success cancelled from rest
@@ -76,16 +80,20 @@ all_passed start irp climbing none =
     let e : start.locations.items ≡ climbing.passed.nearer = climbing.passed.from_is ∙ ap (λ xs. xs ++ climbing.passed.nearer) (none_left irp.locations.items none) in
     subst (All (AsksNot (succeeds start.io_status.status) start.cancelled)) (sym e) climbing.passed.passed_over
 
+-- two steps that each leave all but the locations
+pub kept_both : (first second third : Irp) → KeepsAllButLocations first second → KeepsAllButLocations second third → KeepsAllButLocations first third
+kept_both first second third before after = record {
+  number = after.number ∙ before.number;
+  payload = after.payload ∙ before.payload;
+  cancelled = after.cancelled ∙ before.cancelled;
+  io_status = after.io_status ∙ before.io_status;
+  cancel_routine = after.cancel_routine ∙ before.cancel_routine;
+}
+
 -- its last location does not ask, and is taken off
 pub comes_past : (start irp rest : Irp) (own : StackLocation) → IsClimbing start irp → slice_get irp.locations.items (length irp.locations.items - 1) ≡ Some own → asks (succeeds start.io_status.status) start.cancelled own ≡ false → rest.locations.items ≡ take (length irp.locations.items - 1) irp.locations.items → KeepsAllButLocations irp rest → IsClimbing start rest
 comes_past start irp rest own climbing last asked_not taken kept = record {
   passed = passed_one _ _ start.locations.items irp.locations.items rest.locations.items own climbing.passed
       (last_is irp.locations.items own last ∙ ap (λ xs. xs ++ own ∷ []) (sym taken)) asked_not;
-  kept = record {
-    number = kept.number ∙ climbing.kept.number;
-    payload = kept.payload ∙ climbing.kept.payload;
-    cancelled = kept.cancelled ∙ climbing.kept.cancelled;
-    io_status = kept.io_status ∙ climbing.kept.io_status;
-    cancel_routine = kept.cancel_routine ∙ climbing.kept.cancel_routine;
-  };
+  kept = kept_both start irp rest climbing.kept kept;
 }

@@ -1,1 +1,3 @@
 pub mod Climbing
+pub mod Returning
+pub mod Routines

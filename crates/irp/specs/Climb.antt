@@ -1,7 +1,7 @@
 -- Completion runs upward: which location's routine is called, and what of the packet reaches it.
-use Rattle.std.specs.Prelude.{◌≡◌, ◌==◌, ◌&&◌, ◌||◌, ◌-◌, ℕ, Bool, true, false, not, List, [], ◌∷◌, ◌++◌, All, take, length, bit_and}
+use Rattle.std.specs.Prelude.{⊤, ◌≡◌, ◌==◌, ◌&&◌, ◌||◌, ◌-◌, ◌^◌, nat_lt, ℕ, Bool, true, false, not, List, [], ◌∷◌, ◌++◌, All, take, length, bit_and}
 use Rattle.ntstatus.specs.declared.NtStatus.{NtStatus}
-use Rattle.ntstatus.specs.declared.NtStatus.TheVariants.{Success, Pending}
+use Rattle.ntstatus.specs.Codes.{value_of}
 use Rattle.irp.specs.declared.Climb.{Climb}
 use Rattle.irp.specs.declared.Climb.TheVariants.{Routine, Finished}
 use Rattle.irp.specs.declared.Done.{Done}
@@ -10,11 +10,9 @@ use Rattle.irp.specs.declared.Irp.{Irp}
 use Rattle.irp.specs.declared.Payload.{Payload}
 use Rattle.irp.specs.declared.StackLocation.{StackLocation}
 
--- whether a status is a success by its severity
+-- whether a status is a success: its highest bit, which marks warnings and errors, is clear
 abbrev pub succeeds : NtStatus → Bool
-succeeds Success = true
-succeeds Pending = true
-succeeds _ = false
+succeeds status = nat_lt (value_of status) (2 ^ 31)
 
 -- whether a location asks to be called: at a success, at an error, or since the packet is cancelled
 abbrev pub asks : Bool → Bool → StackLocation → Bool
@@ -60,3 +58,8 @@ pub record Finishes (above : List StackLocation) (number : ℕ) (cancelled : Boo
 abbrev pub Climbs : (above : List StackLocation) (number : ℕ) (cancelled : Bool) (status : NtStatus) (information : ℕ) (payload : Payload) (climb : Climb) → Type 0
 Climbs above number cancelled status information payload (Routine driver irp) = CallsRoutine above number cancelled status information payload driver irp
 Climbs above number cancelled status information payload (Finished done) = Finishes above number cancelled status information payload done
+
+-- a completion neither sets nor takes the packet's cancel routine
+abbrev pub KeepsCancelRoutine : Irp → Climb → Type 0
+KeepsCancelRoutine irp (Routine driver left) = left.cancel_routine ≡ irp.cancel_routine
+KeepsCancelRoutine irp (Finished done) = ⊤

@@ -1,2 +1,3 @@
 pub mod Climb
+pub mod Functions
 pub mod Packet

@@ -1,17 +1,18 @@
 ghost use Rattle.std.specs.Prelude.{◌≡◌};
-ghost use Rattle.irp.specs.Climb.{Climbs, above, succeeds};
+ghost use Rattle.irp.specs.Climb.{Climbs, KeepsCancelRoutine, above};
 
 use crate::{Climb, Done, IoStatus, Irp};
 use ntstatus::NtStatus;
 
 /// The driver whose location is the packet's last completes the packet: its location is taken off, and the packet
-/// climbs.
+/// climbs to the nearest location above that asks. `information` is in bytes.
 ///
-/// A routine that keeps its packet (WDK: STATUS_MORE_PROCESSING_REQUIRED) stores the `irp` of `Climb::Routine`, which
-/// ends with that driver's own location. Later it either calls `complete` with a status of its own, or `resume`, by
-/// which the packet climbs on with the status that it has.
+/// A completion routine that keeps its packet (WDK: STATUS_MORE_PROCESSING_REQUIRED) stores the `irp` of
+/// `Climb::Routine`, whose last location is that driver's own. Later the driver either calls `complete` with a status of
+/// its own choice, or `resume`, and the packet climbs on with the status that it has.
 pub fn complete(irp: Irp, status: NtStatus, information: u64) -> Climb
-    ensures { Climbs (above irp) irp.number irp.cancelled status information irp.payload result }
+    ensures climbs { Climbs (above irp) irp.number irp.cancelled status information irp.payload result }
+    ensures cancel_routine { KeepsCancelRoutine irp result }
 {
     let mut irp = irp;
     irp.io_status = IoStatus {
@@ -21,21 +22,23 @@ pub fn complete(irp: Irp, status: NtStatus, information: u64) -> Climb
     resume(irp)
 }
 
-/// The packet climbs on from the routine where it was kept, with the status that it has.
+/// The packet climbs on from the driver whose location is its last, with the status that it has.
 pub fn resume(irp: Irp) -> Climb
-    ensures { Climbs (above irp) irp.number irp.cancelled irp.io_status.status irp.io_status.information irp.payload result }
+    ensures climbs { Climbs (above irp) irp.number irp.cancelled irp.io_status.status irp.io_status.information irp.payload result }
+    ensures cancel_routine { KeepsCancelRoutine irp result }
 {
     let mut irp = irp;
     irp.locations.pop();
     climb(irp)
 }
 
-/// The packet goes to the routine of its last location that asks, and all below it are taken off.
+/// The packet goes to its last location that asks, and those below that one are taken off.
 fn climb(irp: Irp) -> Climb
-    ensures { Climbs irp.locations.items irp.number irp.cancelled irp.io_status.status irp.io_status.information irp.payload result }
+    ensures climbs { Climbs irp.locations.items irp.number irp.cancelled irp.io_status.status irp.io_status.information irp.payload result }
+    ensures cancel_routine { KeepsCancelRoutine irp result }
 {
     let mut irp = irp;
-    let success = is_success(irp.io_status.status);
+    let success = irp.io_status.status.is_success();
     while let Some(location) = irp.locations.last().copied() {
         if location.asks(success, irp.cancelled) {
             return Climb::Routine {
@@ -51,11 +54,4 @@ fn climb(irp: Irp) -> Climb
         information: irp.io_status.information,
         payload: irp.payload,
     })
-}
-
-/// Whether the status is a success by its severity.
-fn is_success(status: NtStatus) -> bool
-    ensures { result ≡ succeeds status }
-{
-    matches!(status, NtStatus::Success | NtStatus::Pending)
 }

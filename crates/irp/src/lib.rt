@@ -9,6 +9,7 @@
 
 mod completion;
 mod flags;
+mod functions;
 mod location;
 mod packet;
 
@@ -130,3 +131,6 @@ pub enum Climb {
     /// Out of the stack.
     Finished(Done),
 }
+
+#[cfg(test)]
+mod tests;

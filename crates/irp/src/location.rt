@@ -1,5 +1,6 @@
 ghost use Rattle.std.specs.Prelude.{◌≡◌};
 ghost use Rattle.irp.specs.Climb.{asks};
+ghost use Rattle.irp.specs.Packet.{handed_to, with_routine};
 
 use crate::{Control, Driver, LocationFlags, MajorFunction, StackLocation};
 use bitflags::Flags;
@@ -13,6 +14,39 @@ impl StackLocation {
         success && self.control.contains(Control::INVOKE_ON_SUCCESS)
             || !success && self.control.contains(Control::INVOKE_ON_ERROR)
             || cancelled && self.control.contains(Control::INVOKE_ON_CANCEL)
+    }
+
+    /// The location as the next driver gets it: with no control flags.
+    pub(crate) fn handed_to(self, driver: Driver) -> StackLocation
+        ensures { result ≡ handed_to driver self }
+    {
+        StackLocation {
+            driver,
+            control: Control(0),
+            ..self
+        }
+    }
+
+    /// The location with the flags of a completion routine, and no others.
+    pub(crate) fn with_routine(
+        self,
+        on_success: bool,
+        on_error: bool,
+        on_cancel: bool,
+    ) -> StackLocation
+        ensures { result ≡ with_routine on_success on_error on_cancel self }
+    {
+        let mut control = Control(0);
+        if on_success {
+            control.insert(Control::INVOKE_ON_SUCCESS);
+        }
+        if on_error {
+            control.insert(Control::INVOKE_ON_ERROR);
+        }
+        if on_cancel {
+            control.insert(Control::INVOKE_ON_CANCEL);
+        }
+        StackLocation { control, ..self }
     }
 }
 

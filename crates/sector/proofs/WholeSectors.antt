@@ -3,7 +3,7 @@ use Rattle.std.proofs.Common.{◌≡◌, ℕ, ◌+◌, ◌*◌, ◌/◌, ◌%◌
 use Rattle.std.proofs.lemmas.Bool.{cases_lt}
 use Rattle.std.proofs.Math.Nat.{mul-le-mul_right, le_of_mul-le-mul_right, mod-add-div'}
 use Rattle.sector.specs.declared.Extent.{Extent}
-use Rattle.sector.specs.Extents.{IsIn, AreWholeSectors}
+use Rattle.sector.specs.Extents.{IsIn}
 
 pub whole_sectors : (bytes size : ℕ) → bytes % size ≡ 0 → bytes / size * size ≡ bytes
 whole_sectors bytes size e = omega (arith, e, mod-add-div' bytes size)

@@ -78,6 +78,6 @@ impl Completion {
     pub fn status(&self) -> NtStatus
         ensures { result ≡ status_of self.now.srb_status self.now.scsi_status self.now.sense }
     {
-        NtStatus::from_device(self.srb_status, self.scsi_status, self.sense)
+        NtStatus::from_device(self.srb_status, self.scsi_status, self.sense.as_ref())
     }
 }

@@ -1,4 +1,4 @@
-use Rattle.std.proofs.Common.{arith, refl}
+use Rattle.std.proofs.Common.{refl}
 use Rattle.sector.proofs.WholeSectors.{whole_sectors, within_bytes, covered_bytes}
 use Rattle.sector.proofs.bytes_to_sectors.Goals as goal
 use Rattle.sector.proofs.bytes_to_sectors.Goals.{then-offset-size-ne0-via-then-offset-size-ne0, then-offset-size-ne0-via-else-offset-size-ne0+then-length-size-ne0, then-offset-size-ne0-via-else-offset-size-ne0+else-length-size-ne0+then-not-is_within}

@@ -1,0 +1,4 @@
+mod Cutting
+pub mod Laws
+mod Looking
+mod Shown

@@ -1,0 +1,125 @@
+//! A medium in memory.
+
+ghost use Rattle.std.specs.Prelude.{◌≡◌, ℕ, ◌*◌, ◌<◌, ◌≤◌, ◌+◌, ◌^◌, ◌↔◌, length, IfOk, IsOk, IsErr, OnOk, OnErr, Contains};
+
+use crate::bad_list::BadList;
+use crate::{BadSector, Medium, NoMemory};
+use sector::Extent;
+use std::alloc::Global;
+
+/// A disk in one block of memory, zeros at first; all of it is reserved from the start.
+#[derive(Debug, Drop)]
+pub struct VecDisk {
+    sector_size: u32,
+    sectors: u64,
+    bytes: Vec<u8>,
+    bad: BadList,
+    failures: u128,
+    ghost filled: { length bytes.items ≡ sectors * sector_size },
+}
+
+impl VecDisk {
+    ghost use Rattle.disk.specs.Medium.{IsBlank, IsWithin, IsReserved, HasBad, failed};
+    ghost use Rattle.disk.specs.VecDisk.{shown};
+
+    /// A disk of so many sectors, each of `sector_size` bytes, in which the sectors of the list are bad.
+    ///
+    /// # Errors
+    ///
+    /// [`NoMemory`] where the memory for the sectors was refused.
+    pub fn new(
+        alloc: Global,
+        sector_size: u32,
+        sectors: u64,
+        bad: Vec<u64>,
+    ) -> Result<VecDisk, NoMemory>
+        requires { sectors * sector_size < 2 ^ 64 }
+        ensures blank { IfOk result (λ disk. IsBlank (shown disk) sector_size sectors) }
+        ensures bad { IfOk result (λ disk. (sector : ℕ) → Contains (shown disk).bad sector ↔ Contains bad.items sector) }
+        ensures reserved { IfOk result (λ disk. (extent : Extent) → IsWithin (shown disk) extent → IsReserved (shown disk) extent) }
+    {
+        let length = sectors * sector_size as u64;
+        Ok(VecDisk {
+            sector_size,
+            sectors,
+            bytes: vec![in alloc; 0; length as usize]?,
+            bad: BadList::new(bad),
+            failures: 0,
+        })
+    }
+
+    /// Counts a failure where a sector of the extent is bad.
+    fn check(&mut self, extent: Extent) -> Result<(), BadSector>
+        requires { self.old.failures < 2 ^ 120 }
+        ensures refused { IsErr result ↔ HasBad (shown self.old) extent }
+        ensures passes { OnOk result (self.new ≡ self.old) }
+        ensures fails { OnErr result (shown self.new ≡ failed (shown self.old)) }
+    {
+        if self.bad.meets(extent) {
+            self.failures += 1;
+            return Err(BadSector);
+        }
+        Ok(())
+    }
+
+    /// The places of the first byte of an extent and of the byte after its last.
+    fn places(&self, extent: Extent) -> (usize, usize)
+        requires { extent.first + extent.count ≤ self.now.sectors }
+        ensures start { result.0 ≡ extent.first * self.now.sector_size }
+        ensures end { result.1 ≡ (extent.first + extent.count) * self.now.sector_size }
+        ensures ordered { result.0 ≤ result.1 }
+        ensures within { result.1 ≤ length self.now.bytes.items }
+    {
+        let size = self.sector_size as u64;
+        let start = extent.first * size;
+        let end = (extent.first + extent.count) * size;
+        (start as usize, end as usize)
+    }
+}
+
+impl Medium for VecDisk {
+    ghost use Rattle.disk.specs.Medium.{IsWithin, IsReserved, Reserves};
+    ghost use Rattle.disk.specs.VecDisk.{shown};
+    ghost use Rattle.disk.specs.Chunks.{All-first_chunks};
+
+    ghost seen = { shown };
+
+    fn sector_size(&self) -> u32 {
+        self.sector_size
+    }
+
+    fn sectors(&self) -> u64 {
+        self.sectors
+    }
+
+    fn failures(&self) -> u128 {
+        self.failures
+    }
+
+    /// Takes no memory, since the block holds all sectors.
+    fn reserve(&mut self, _extent: Extent) -> Result<(), NoMemory>
+        requires { IsWithin (shown self.old) _extent }
+        ensures reserved { OnOk result (IsReserved (shown self.new) _extent) }
+        ensures reserves { Reserves (shown self.old) (shown self.new) }
+        ensures takes_none { IsOk result }
+    {
+        // The block was taken whole.
+        Ok(())
+    }
+
+    fn read(&mut self, extent: Extent, buffer: &mut [u8]) -> Result<(), BadSector> {
+        self.check(extent)?;
+        let (start, end) = self.places(extent);
+        buffer.copy_from_slice(&self.bytes[start..end]);
+        Ok(())
+    }
+
+    fn write(&mut self, extent: Extent, bytes: &[u8]) -> Result<(), BadSector> {
+        self.check(extent)?;
+        let (start, end) = self.places(extent);
+        self.bytes[start..end].copy_from_slice(bytes);
+        Ok(())
+    }
+
+    ghost whole = { λ disk. All-first_chunks disk.sector_size disk.sectors disk.bytes.items disk.filled };
+}

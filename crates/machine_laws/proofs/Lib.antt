@@ -1,0 +1,15 @@
+pub mod Chunks
+pub mod Splicing
+pub mod Acted
+pub mod Bounds
+pub mod Serving
+pub mod Sound
+pub mod Sectors
+pub mod Alone
+pub mod Marks
+pub mod SoloRead
+pub mod SoloWrite
+pub mod Writes
+pub mod Matching
+pub mod Ending
+pub mod Going

@@ -1,0 +1,6 @@
+use Rattle.machine_laws.proofs.SoloRead.{solo_reads}
+use Rattle.machine_laws.proofs.Sound.{IsSound-reached}
+use Rattle.machine_laws.proofs.solo_reads.Goals as goal
+
+pub returns : goal.returns
+returns c = λ rules before reached. solo_reads rules before (IsSound-reached rules before reached)

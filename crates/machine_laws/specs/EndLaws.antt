@@ -1,0 +1,54 @@
+-- What comes no more after an answer, and after the end of a removal.
+use Rattle.std.specs.Prelude.{◌≡◌, ◌≢◌, ℕ, List, [], All, IsTrue}
+use Rattle.ntstatus.specs.declared.NtStatus.{NtStatus}
+use Rattle.device.specs.declared.Label.{Label}
+use Rattle.device.specs.declared.Label.TheVariants.{Device, Removed}
+use Rattle.device.specs.Rules.{Rules}
+use Rattle.device.specs.State.{OpenRequest, Piece, State}
+use Rattle.device.specs.Answering.{Answers}
+use Rattle.device.specs.Step.{Step, Run}
+use Rattle.machine_laws.specs.Sectors.{WritesSector}
+use Rattle.machine_laws.specs.Along.{Sometime, Always}
+use Rattle.machine_laws.specs.Reached.{IsReached}
+
+abbrev pub HasOtherNumber : ℕ → OpenRequest → Type 0
+HasOtherNumber number o = o.number ≢ number
+
+abbrev pub HasOtherOwner : ℕ → Piece → Type 0
+HasOtherOwner number piece = piece.owner ≢ number
+
+-- the request is not open, and no piece of it is out
+pub record IsOver (number : ℕ) (s : State) : Type 0 where
+  pub not_open : All (HasOtherNumber number) s.requests
+  pub none_out : All (HasOtherOwner number) s.pieces
+
+-- an answered request is over for good
+abbrev pub AnsweredAreOver : Type 0
+AnsweredAreOver = (rules : Rules) (s : State) (number : ℕ) (status : NtStatus) (bytes : List ℕ) (answered : State) (labels : List Label) (s' : State)
+    → IsReached rules s → Answers rules s number status bytes answered → (run : Run rules answered labels s') → Always (IsOver number) rules answered labels s' run
+
+-- so no piece of it writes a sector after its answer
+abbrev pub AnsweredWriteNoMore : Type 0
+AnsweredWriteNoMore = (rules : Rules) (s : State) (number : ℕ) (status : NtStatus) (bytes : List ℕ) (answered : State) (labels : List Label) (s' : State)
+    → IsReached rules s → Answers rules s number status bytes answered → (run : Run rules answered labels s') (p i : ℕ) → Sometime (WritesSector rules number p i) rules answered labels s' run → ⊥
+
+-- a label that is no start, act, fault or return
+abbrev pub IsNotOfDevice : Label → Type 0
+IsNotOfDevice (Device label) = ⊥
+IsNotOfDevice _ = Unit {0}
+
+-- nothing is open or out
+pub record IsEmpty (s : State) : Type 0 where
+  pub removing : IsTrue s.removing
+  pub none_open : s.requests ≡ []
+  pub none_out : s.pieces ≡ []
+
+-- after a removal has ended nothing is open or out any more
+abbrev pub RemovedAreEmpty : Type 0
+RemovedAreEmpty = (rules : Rules) (s removed : State) (labels : List Label) (s' : State)
+    → IsReached rules s → Step rules s Removed removed → (run : Run rules removed labels s') → Always IsEmpty rules removed labels s' run
+
+-- and no start, act, fault or return comes
+abbrev pub RemovedIsLast : Type 0
+RemovedIsLast = (rules : Rules) (s removed : State) (labels : List Label) (s' : State)
+    → IsReached rules s → Step rules s Removed removed → Run rules removed labels s' → All IsNotOfDevice labels

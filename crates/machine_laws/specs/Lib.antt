@@ -1,0 +1,6 @@
+pub mod Sectors
+pub mod Along
+pub mod Reached
+pub mod SoloLaws
+pub mod WriteLaws
+pub mod EndLaws

@@ -1,0 +1,53 @@
+-- The laws of a request that no other write meets, at each moment that a run reaches.
+use Rattle.std.specs.Prelude.{◌≡◌, ◌<◌, ◌⊎◌, ℕ, List, Some, None}
+use Rattle.ntstatus.specs.declared.NtStatus.{NtStatus}
+use Rattle.device.specs.declared.Kind.TheVariants.{Write}
+use Rattle.device.specs.declared.ClientRequest.{ClientRequest}
+use Rattle.device.specs.declared.Label.{Label}
+use Rattle.device.specs.declared.Label.TheVariants.{Call, Answer}
+use Rattle.device.specs.Rules.{Rules, place_count}
+use Rattle.device.specs.State.{State}
+use Rattle.device.specs.Calling.{refusal, Opens}
+use Rattle.device.specs.Sending.{partition_number}
+use Rattle.device.specs.Answering.{Answers}
+use Rattle.device.specs.Step.{Step, Run}
+use Rattle.device.specs.Solo.{IsSolo, SoloReads, SoloWrites}
+use Rattle.machine_laws.specs.Sectors.{sector_at, sector_of, bytes_for, WritesSector}
+use Rattle.machine_laws.specs.Along.{Sometime}
+use Rattle.machine_laws.specs.Reached.{IsReached}
+
+-- a solo read that succeeds gives the bytes of the array at its call
+abbrev pub SoloReadsHold : Type 0
+SoloReadsHold = (rules : Rules) (before : State) → IsReached rules before → SoloReads rules before
+
+-- a solo write that succeeds stands in the array at its answer
+abbrev pub SoloWritesHold : Type 0
+SoloWritesHold = (rules : Rules) (before : State) → IsReached rules before → SoloWrites rules before
+
+-- a solo request from its call to its answer, whatever its status
+pub record IsAnswered (rules : Rules) (number : ℕ) (q : ClientRequest) (status : NtStatus) (bytes : List ℕ) (before after : State) : Type 0 where
+  pub called : State
+  pub labels : List Label
+  pub ended : State
+  pub opens : Opens rules before number q called
+  pub run : Run rules called labels ended
+  pub solo : IsSolo rules number q called labels ended run
+  pub answers : Answers rules ended number status bytes after
+
+-- a call that is not refused opens its request, and an answer of that number after it is the open request's
+abbrev pub LabelsAreOfOne : Type 0
+LabelsAreOfOne = (rules : Rules) (number : ℕ) (q : ClientRequest) (status : NtStatus) (bytes : List ℕ) (before called : State) (labels : List Label) (ended after : State)
+    → refusal rules before q ≡ None → Step rules before (Call number q) called → Run rules called labels ended → Step rules ended (Answer number status bytes) after
+    → Opens rules before number q called × Answers rules ended number status bytes after
+
+-- each place of a solo write, also of one that failed, is as it was before its call,
+-- or a piece of the write acted on it before its answer, and the write's bytes stand there
+abbrev pub FailedWrites : Rules → State → Type 0
+FailedWrites rules before = (number : ℕ) (q : ClientRequest) (status : NtStatus) (bytes : List ℕ) (after : State)
+    → q.kind ≡ Write → (answered : IsAnswered rules number q status bytes before after) → (place : ℕ) → place < place_count rules q
+    → (sector_at after (partition_number q) (sector_of rules q place) ≡ sector_at before (partition_number q) (sector_of rules q place))
+    ⊎ (Sometime (WritesSector rules number (partition_number q) (sector_of rules q place)) rules answered.called answered.labels answered.ended answered.run
+    × (sector_at after (partition_number q) (sector_of rules q place) ≡ Some (bytes_for rules q place)))
+
+abbrev pub FailedWritesHold : Type 0
+FailedWritesHold = (rules : Rules) (before : State) → IsReached rules before → FailedWrites rules before

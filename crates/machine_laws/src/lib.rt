@@ -1,0 +1,95 @@
+//! The laws of the sector machine over whole runs, each the contract of a function with an empty body: who calls it
+//! has the law.
+//!
+//! They hold at each state that a run reaches from an opening state whose arrays have the sectors of their
+//! partitions (`goes_on`), whoever made the run: the whole stack or one layer of it.
+//!
+//! - `solo_reads`, `solo_writes`, `failed_writes`: what a request that no other write meets has read or written.
+//! - `keeps_arrays`, `keeps_sectors`, `keeps_lengths`: what a label may change of the arrays, whoever else is at work.
+//! - `answered_are_over`, `removed_is_last`: what comes no more.
+//! - `goes_on`, `labels_are_of_one`: how a run is taken apart, so that the laws fit its labels.
+//!
+//! Nothing is said of requests that overlap as to their order, nor that any request is ever answered.
+#![tactic(auto)]
+
+ghost use Rattle.machine_laws.specs.EndLaws.{
+  AnsweredAreOver,
+  AnsweredWriteNoMore,
+  RemovedAreEmpty,
+  RemovedIsLast,
+};
+ghost use Rattle.machine_laws.specs.Reached.{OpeningsAreReached, RunsGoOn, RunsSplit};
+ghost use Rattle.machine_laws.specs.SoloLaws.{
+  FailedWritesHold,
+  LabelsAreOfOne,
+  SoloReadsHold,
+  SoloWritesHold,
+};
+ghost use Rattle.machine_laws.specs.WriteLaws.{
+  RunsKeepArrays,
+  RunsKeepLengths,
+  RunsKeepSectors,
+  StepsKeepArrays,
+  StepsKeepSectors,
+};
+
+/// A read that no other write meets, and that succeeds, gives the bytes of the array at its call.
+pub fn solo_reads()
+    ensures { SoloReadsHold }
+{}
+
+/// A write that no other write meets, and that succeeds, stands in the array at its answer.
+pub fn solo_writes()
+    ensures { SoloWritesHold }
+{}
+
+/// A write that no other write meets, also one that failed, changes only places on which a piece of it acted before
+/// its answer; its bytes stand there, and all its other places are as they were before its call.
+pub fn failed_writes()
+    ensures { FailedWritesHold }
+{}
+
+/// No label changes the array of another partition: a partition's array stays unless the label is the act of a write
+/// on that very partition.
+pub fn keeps_arrays()
+    ensures step { StepsKeepArrays }
+    ensures run { RunsKeepArrays }
+{}
+
+/// A sector stays unless the label is the act of a write's piece that covers it. It then lies in the write's request
+/// and in its partition, and the write's bytes for it stand there.
+pub fn keeps_sectors()
+    ensures step { StepsKeepSectors }
+    ensures run { RunsKeepSectors }
+{}
+
+/// No run adds or takes away an array or a sector.
+pub fn keeps_lengths()
+    ensures { RunsKeepLengths }
+{}
+
+/// From its answer on a request is not open and no piece of it is out, at each state of a run, so it writes no sector.
+pub fn answered_are_over()
+    ensures over { AnsweredAreOver }
+    ensures writes { AnsweredWriteNoMore }
+{}
+
+/// From the end of a removal on nothing is open or out, and no start, act, fault or return comes.
+pub fn removed_is_last()
+    ensures empty { RemovedAreEmpty }
+    ensures last { RemovedIsLast }
+{}
+
+/// An opening state with whole arrays is reached, and so is each state that a run leads to from a reached one; with no
+/// label, each state that says the same. A run of joined labels passes through a state between them.
+pub fn goes_on()
+    ensures opening { OpeningsAreReached }
+    ensures run { RunsGoOn }
+    ensures splits { RunsSplit }
+{}
+
+/// A call that is not refused opens its request, and an answer of that number after it is the open request's, not one
+/// that a refused call was owed.
+pub fn labels_are_of_one()
+    ensures { LabelsAreOfOne }
+{}

@@ -1,0 +1,168 @@
+-- The table of an adapter in memory: a slot for each tag, the counts, and the labels.
+use Rattle.std.specs.Prelude.{◌≡◌, ◌≢◌, ℕ, suc, ◌+◌, true, false, List, [], ◌∷◌, ◌++◌, Option, Some, None, get_or, slice_set, map, take, drop, sum_by, if◌then◌else◌}
+use Rattle.std.specs.List.{flat_map}
+use Rattle.srb.specs.declared.Srb.{Srb}
+use Rattle.srb.specs.declared.Completion.{Completion}
+use Rattle.srb.specs.declared.DeviceLabel.{DeviceLabel}
+use Rattle.srb.specs.declared.DeviceLabel.TheVariants.{Start, Act, Fault, Return}
+use Rattle.srb.specs.Fate.{Fate, Fresh, Acted, Faulted, class_of}
+use Rattle.srb.specs.Adapter.{TagInUse}
+use Rattle.miniport.specs.declared.on_tag.OnTag.{OnTag}
+use Rattle.miniport.specs.declared.on_tag.Progress.{Progress}
+use Rattle.miniport.specs.declared.on_tag.Progress.TheVariants.{Untouched, Moved, Failed}
+use Rattle.miniport.specs.Faults.{success, busy, bus_reset}
+use Rattle.miniport.specs.Moving.{moved_by}
+
+pub record Table : Type 0 where
+  pub slots : List (Option OnTag)
+  pub accepted : ℕ
+  pub failures : ℕ
+  pub labels : List DeviceLabel
+
+-- the piece on a tag, if there is one
+abbrev pub piece_at : List (Option OnTag) → ℕ → Option OnTag
+piece_at slots tag = get_or slots tag None
+
+-- WHAT A SLOT SHOWS
+
+abbrev pub fate_of : ℕ → Srb → Progress → Fate
+fate_of size srb Untouched = Fresh
+fate_of size srb Moved = Acted (moved_by size srb.block srb.data)
+fate_of size srb (Failed completion) = Faulted
+
+abbrev pub in_use_of : ℕ → ℕ → OnTag → TagInUse
+in_use_of size tag on = record {
+  tag = tag;
+  piece = on.piece;
+  srb = on.srb;
+  fate = fate_of size on.srb on.progress;
+  failures_before = on.failures_before;
+  was_reset = on.was_reset;
+}
+
+-- the tags in use, the slots being those from this tag on
+abbrev pub tags_of : ℕ → ℕ → List (Option OnTag) → List TagInUse
+tags_of size tag [] = []
+tags_of size tag (None ∷ slots) = tags_of size (suc tag) slots
+tags_of size tag (Some on ∷ slots) = in_use_of size tag on ∷ tags_of size (suc tag) slots
+
+abbrev pub completion_by : Progress → Completion
+completion_by Untouched = busy
+completion_by Moved = success
+completion_by (Failed completion) = completion
+
+-- the completion with which a piece would come back now
+abbrev pub completion_of : OnTag → Completion
+completion_of on = if on.was_reset then bus_reset else completion_by on.progress
+
+abbrev pub slot_completion : Option OnTag → Option Completion
+slot_completion None = None
+slot_completion (Some on) = Some (completion_of on)
+
+-- WHAT BECOMES OF A TABLE
+
+abbrev pub with_slot : ℕ → Option OnTag → Table → Table
+with_slot tag slot table = record table { slots = slice_set table.slots tag slot }
+
+abbrev pub new_piece : ℕ → ℕ → Srb → OnTag
+new_piece failures piece srb = record {
+  piece = piece;
+  srb = srb;
+  progress = Untouched;
+  failures_before = failures;
+  was_reset = false;
+}
+
+abbrev pub with_new : ℕ → ℕ → Srb → Table → Table
+with_new tag piece srb table = record table {
+  slots = slice_set table.slots tag (Some (new_piece table.failures piece srb));
+  accepted = table.accepted + 1;
+  labels = table.labels ++ Start piece tag srb.block ∷ [];
+}
+
+-- the piece acted, and is this now
+abbrev pub with_moved : ℕ → OnTag → List ℕ → Table → Table
+with_moved tag on bytes table = record table {
+  slots = slice_set table.slots tag (Some on);
+  labels = table.labels ++ Act on.piece bytes ∷ [];
+}
+
+-- the piece failed, and is this now
+abbrev pub with_failed : ℕ → OnTag → Table → Table
+with_failed tag on table = record table {
+  slots = slice_set table.slots tag (Some on);
+  failures = table.failures + 1;
+  labels = table.labels ++ Fault on.piece ∷ [];
+}
+
+-- the piece left
+abbrev pub with_returned : ℕ → OnTag → Table → Table
+with_returned tag on table = record table {
+  slots = slice_set table.slots tag None;
+  labels = table.labels ++ Return on.piece (class_of (completion_of on)) ∷ [];
+}
+
+-- RESET
+
+abbrev pub progress_after_reset : Progress → Progress
+progress_after_reset Untouched = Failed bus_reset
+progress_after_reset Moved = Moved
+progress_after_reset (Failed completion) = Failed completion
+
+abbrev pub slot_after_reset : Option OnTag → Option OnTag
+slot_after_reset None = None
+slot_after_reset (Some on) = Some (record on { progress = progress_after_reset on.progress; was_reset = true })
+
+-- one failure for a piece that no reset met before
+abbrev pub failures_of_reset : Option OnTag → ℕ
+failures_of_reset None = 0
+failures_of_reset (Some on) = if on.was_reset then 0 else 1
+
+-- a label for a piece that had done nothing
+abbrev pub labels_by : ℕ → Progress → List DeviceLabel
+labels_by piece Untouched = Fault piece ∷ []
+labels_by piece Moved = []
+labels_by piece (Failed completion) = []
+
+abbrev pub labels_of_reset : Option OnTag → List DeviceLabel
+labels_of_reset None = []
+labels_of_reset (Some on) = labels_by on.piece on.progress
+
+-- a slot's reset counted and recorded
+abbrev pub with_reset_counted : Option OnTag → Table → Table
+with_reset_counted slot table = record table {
+  failures = table.failures + failures_of_reset slot;
+  labels = table.labels ++ labels_of_reset slot;
+}
+
+abbrev pub with_reset_at : ℕ → Table → Table
+with_reset_at tag table = with_slot tag (slot_after_reset (piece_at table.slots tag)) (with_reset_counted (piece_at table.slots tag) table)
+
+-- the first slots reset
+abbrev pub with_first_reset : ℕ → Table → Table
+with_first_reset count table = record table {
+  slots = map slot_after_reset (take count table.slots) ++ drop count table.slots;
+  failures = table.failures + sum_by failures_of_reset (take count table.slots);
+  labels = table.labels ++ flat_map labels_of_reset (take count table.slots);
+}
+
+abbrev pub with_reset : Table → Table
+with_reset table = record table {
+  slots = map slot_after_reset table.slots;
+  failures = table.failures + sum_by failures_of_reset table.slots;
+  labels = table.labels ++ flat_map labels_of_reset table.slots;
+}
+
+-- WHAT A CALL FINDS
+
+-- no piece on the tag that has done nothing yet
+abbrev pub HasNoneUntouched : List (Option OnTag) → ℕ → Type 0
+HasNoneUntouched slots tag = (on : OnTag) → piece_at slots tag ≡ Some on → on.progress ≢ Untouched
+
+-- the tag's piece comes back
+pub record ComesBack (old : Table) (tag : ℕ) (srb : Srb) (completion : Completion) (new : Table) : Type 0 where
+  pub on : OnTag
+  pub was_there : piece_at old.slots tag ≡ Some on
+  pub completion_is : completion ≡ completion_of on
+  pub comes_back : srb ≡ record on.srb { sense = completion.sense }
+  pub after : new ≡ with_returned tag on old

@@ -1,0 +1,119 @@
+//! What is checked of an SRB before its command is carried out.
+
+ghost use Rattle.std.specs.Prelude.{◌≡◌, ◌&&◌, ℕ, List, MatchResult};
+ghost use Rattle.miniport.specs.Checking.{disk_with, Fits, IsMisfit, Passes, IsRefused};
+ghost use Rattle.miniport.specs.Faults.{lba_of, blocks_of, flags_of, bytes_of, is_execute, is_write, fits as is_fit};
+
+use crate::completion::{DATA_PROTECT, ILLEGAL_REQUEST, failed_with, not_decoded, was_invalid};
+use cdb::{Cdb, decode};
+use srb::{Completion, Srb, SrbFlags, SrbFunction};
+
+/// What of a disk, but for its bad sectors, decides whether it carries a command out.
+#[derive(Debug, Clone, Copy, PartialEq, Eq)]
+pub(crate) struct Sizes {
+    /// Bytes.
+    pub sector_size: u32,
+    pub sectors: u64,
+    pub write_protected: bool,
+}
+
+/// The first sector that a command names.
+pub(crate) fn first_sector(command: Cdb) -> u32
+    ensures { result ≡ lba_of command }
+{
+    match command {
+        Cdb::Read10 { lba, .. } | Cdb::Write10 { lba, .. } | Cdb::Sync10 { lba, .. } => lba,
+        Cdb::ReadCapacity10 => 0,
+    }
+}
+
+/// How many sectors a command names.
+pub(crate) fn sector_count(command: Cdb) -> u16
+    ensures { result ≡ blocks_of command }
+{
+    match command {
+        Cdb::Read10 { count, .. } | Cdb::Write10 { count, .. } => count,
+        Cdb::Sync10 { blocks, .. } => blocks,
+        Cdb::ReadCapacity10 => 0,
+    }
+}
+
+/// The direction of a command's data.
+fn direction(command: Cdb) -> SrbFlags
+    ensures { result.0 ≡ flags_of command }
+{
+    match command {
+        Cdb::Read10 { .. } | Cdb::ReadCapacity10 => SrbFlags::DATA_IN,
+        Cdb::Write10 { .. } => SrbFlags::DATA_OUT,
+        Cdb::Sync10 { .. } => SrbFlags(0),
+    }
+}
+
+/// How many bytes go with a command.
+fn data_length(sector_size: u32, command: Cdb) -> u64
+    ensures { result ≡ bytes_of sector_size command }
+{
+    match command {
+        Cdb::Read10 { count, .. } | Cdb::Write10 { count, .. } => u64::from(count)
+            * u64::from(sector_size),
+        Cdb::Sync10 { .. } => 0,
+        Cdb::ReadCapacity10 => 8,
+    }
+}
+
+/// Whether it is a write, and the disk takes none.
+fn is_protected(sizes: &Sizes, command: Cdb) -> bool
+    ensures { result ≡ (is_write command && sizes.now.write_protected) }
+{
+    match command {
+        Cdb::Write10 { .. } => sizes.write_protected,
+        Cdb::Read10 { .. } | Cdb::Sync10 { .. } | Cdb::ReadCapacity10 => false,
+    }
+}
+
+/// Whether the flags and the length of the data are the command's.
+fn is_fitting(sizes: &Sizes, srb: &Srb, command: Cdb) -> bool
+    ensures { (bad : List ℕ) → result ≡ is_fit (disk_with sizes.now bad) srb.now command }
+{
+    srb.flags.0 == direction(command).0
+        && srb.data.as_slice().len() as u64 == data_length(sizes.sector_size, command)
+}
+
+/// The checks of a command that the SRB's block asks for.
+fn check_command(sizes: &Sizes, srb: &Srb, command: Cdb) -> Result<(), Completion>
+    ensures { MatchResult result (λ done. Fits sizes.now srb.now command) (IsMisfit sizes.now srb.now command) }
+{
+    let end = u64::from(first_sector(command)) + u64::from(sector_count(command));
+    if end > sizes.sectors {
+        return Err(failed_with(ILLEGAL_REQUEST, 0x21));
+    }
+    if !is_fitting(sizes, srb, command) {
+        return Err(was_invalid());
+    }
+    if is_protected(sizes, command) {
+        return Err(failed_with(DATA_PROTECT, 0x27));
+    }
+    Ok(())
+}
+
+fn is_for_execution(function: SrbFunction) -> bool
+    ensures { result ≡ is_execute function }
+{
+    match function {
+        SrbFunction::ExecuteScsi => true,
+        SrbFunction::AbortCommand | SrbFunction::ResetBus => false,
+    }
+}
+
+/// The command that an SRB asks for, or the completion with which it fails before any sector is looked at.
+pub(crate) fn check(sizes: &Sizes, srb: &Srb) -> Result<Cdb, Completion>
+    ensures { MatchResult result (Passes sizes.now srb.now) (IsRefused sizes.now srb.now) }
+{
+    let decoded = decode(srb.block.as_slice());
+    if !is_for_execution(srb.function) {
+        return Err(was_invalid());
+    }
+    let command = decoded.map_err(not_decoded)?;
+    check_command(sizes, srb, command)?;
+    Ok(command)
+}

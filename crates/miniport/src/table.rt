@@ -1,0 +1,262 @@
+//! The tags of the adapter in memory, its counts and its record of labels.
+
+ghost use Rattle.std.specs.Prelude.{◌≡◌, ◌≤◌, ◌<◌, ◌^◌, ◌+◌, ◌++◌, ◌∷◌, [], List, ℕ, Some, None, is_some, IsTrue, IfOk, length, replicate, get_or, vec_len, MatchOption, if◌then◌else◌};
+ghost use Rattle.std.specs.VecDeque.{deque_len, deque_capacity};
+ghost use Rattle.srb.specs.declared.DeviceLabel.{DeviceLabel};
+ghost use Rattle.miniport.specs.Slots.{Table, ComesBack, HasNoneUntouched, piece_at, progress_after_reset, labels_by, slot_after_reset, with_reset_counted, with_slot, with_new, with_moved, with_failed, with_returned, with_reset, with_reset_at};
+ghost use Rattle.miniport.specs.declared.on_tag.Progress.TheVariants.{Untouched};
+
+use crate::completion::met_reset;
+use crate::on_tag::{OnTag, Progress};
+use sector::Bytes;
+use srb::{Completion, DeviceLabel, Srb};
+use std::alloc::{AllocError, Global};
+use std::collections::VecDeque;
+use std::marker::Model;
+
+/// The labels that may wait to be taken.
+const LABELS: usize = 64;
+
+/// The most tags.
+const TAGS: usize = 32;
+
+/// A slot for each tag. Nothing but `new` takes memory.
+#[derive(Drop)]
+pub(crate) struct TagTable {
+    slots: Vec<Option<OnTag>>,
+    accepted: u128,
+    failures: u128,
+    labels: VecDeque<DeviceLabel>,
+}
+
+impl Model for TagTable {
+    ghost Value = { Table };
+
+    ghost view = { λ t. record { slots = t.slots.items; accepted = t.accepted; failures = t.failures; labels = t.labels.items } };
+
+    ghost invariant = { λ t. (vec_len t.slots ≤ 32) × (64 ≤ deque_capacity t.labels) };
+}
+
+impl TagTable {
+    /// No piece on any of the tags.
+    pub fn new(alloc: Global, depth: u8) -> Result<TagTable, AllocError>
+        requires { depth ≤ 32 }
+        ensures { IfOk result (λ t. t ≡ record { slots = replicate depth None; accepted = 0; failures = 0; labels = [] }) }
+    {
+        let mut slots = Vec::with_capacity(alloc, depth as usize)?;
+        for _ in 0..depth {
+            slots.push_reserved(None);
+        }
+        let labels = VecDeque::with_capacity(alloc, LABELS)?;
+        Ok(TagTable {
+            slots,
+            accepted: 0,
+            failures: 0,
+            labels,
+        })
+    }
+
+    pub fn depth(&self) -> u8
+        ensures { result ≡ length self.now.slots }
+    {
+        self.slots.len() as u8
+    }
+
+    pub fn failures(&self) -> u128
+        ensures { result ≡ self.now.failures }
+    {
+        self.failures
+    }
+
+    /// Puts a piece on a tag.
+    pub fn accept(&mut self, tag: u8, piece: u128, srb: Srb)
+        requires below { tag < length self.old.slots }
+        requires few { self.old.accepted < 2 ^ 100 }
+        requires place { length self.old.labels < 64 }
+        ensures { self.new ≡ with_new tag piece srb self.old }
+    {
+        let block = srb.block.copied();
+        self.slots[tag as usize] = Some(OnTag {
+            piece,
+            srb,
+            progress: Progress::Untouched,
+            failures_before: self.failures,
+            was_reset: false,
+        });
+        self.accepted += 1;
+        self.labels
+            .push_back_reserved(DeviceLabel::Start { piece, tag, block });
+    }
+
+    /// Takes the piece off a tag.
+    pub fn take(&mut self, tag: u8) -> Option<OnTag>
+        ensures piece { result ≡ piece_at self.old.slots tag }
+        ensures after { self.new ≡ with_slot tag None self.old }
+    {
+        let index = tag as usize;
+        if index < self.slots.len() {
+            self.slots[index].take()
+        } else {
+            None
+        }
+    }
+
+    /// Whether a piece is on a tag.
+    pub fn is_in_use(&self, tag: u8) -> bool
+        ensures { result ≡ is_some (piece_at self.now.slots tag) }
+    {
+        self.slots.get(tag as usize).is_some_and(Option::is_some)
+    }
+
+    /// Takes the piece off a tag, if it has done nothing yet.
+    pub fn take_untouched(&mut self, tag: u8) -> Option<OnTag>
+        ensures untouched { MatchOption result (HasNoneUntouched self.old.slots tag) (λ on. (piece_at self.old.slots tag ≡ Some on) × (on.progress ≡ Untouched)) }
+        ensures after { MatchOption result (self.new ≡ self.old) (λ on. self.new ≡ with_slot tag None self.old) }
+    {
+        match self.slots.get(tag as usize) {
+            Some(Some(on_tag)) if on_tag.progress == Progress::Untouched => self.take(tag),
+            _ => None,
+        }
+    }
+
+    /// Puts a piece back on its tag, which was carried out: these bytes were read or written.
+    pub fn put_moved(&mut self, tag: u8, on_tag: OnTag, bytes: Bytes)
+        requires below { tag < length self.old.slots }
+        requires place { length self.old.labels < 64 }
+        ensures { self.new ≡ with_moved tag on_tag bytes self.old }
+    {
+        let piece = on_tag.piece;
+        self.place(tag, on_tag);
+        self.labels
+            .push_back_reserved(DeviceLabel::Act { piece, bytes });
+    }
+
+    /// Puts a piece back on its tag, which failed.
+    pub fn put_failed(&mut self, tag: u8, on_tag: OnTag)
+        requires below { tag < length self.old.slots }
+        requires place { length self.old.labels < 64 }
+        requires countable { self.old.failures < 2 ^ 127 }
+        ensures { self.new ≡ with_failed tag on_tag self.old }
+    {
+        let piece = on_tag.piece;
+        self.place(tag, on_tag);
+        self.failures += 1;
+        self.labels.push_back_reserved(DeviceLabel::Fault { piece });
+    }
+
+    fn place(&mut self, tag: u8, on_tag: OnTag)
+        requires { tag < length self.old.slots }
+        ensures { self.new ≡ with_slot tag (Some on_tag) self.old }
+    {
+        self.slots[tag as usize] = Some(on_tag);
+    }
+
+    /// The piece of a tag comes back, with the completion and its sense.
+    pub fn finish(&mut self, tag: u8) -> Option<(Srb, Completion)>
+        requires { length self.old.labels < 64 }
+        ensures { MatchOption result ((piece_at self.old.slots tag ≡ None) × (self.new ≡ self.old)) (λ back. ComesBack self.old tag back.0 back.1 self.new) }
+    {
+        let on_tag = self.take(tag)?;
+        let completion = on_tag.completion();
+        let OnTag { piece, srb, .. } = on_tag;
+        self.labels.push_back_reserved(DeviceLabel::Return {
+            piece,
+            class: completion.class(),
+        });
+        let Srb {
+            function,
+            flags,
+            block,
+            data: bytes,
+            for_label,
+            sense: _,
+        } = srb;
+        let srb = Srb {
+            function,
+            flags,
+            block,
+            data: bytes,
+            for_label,
+            sense: completion.sense,
+        };
+        Some((srb, completion))
+    }
+
+    /// Fails each piece that has done nothing yet; all pieces have met a reset.
+    pub fn reset(&mut self)
+        requires places { length self.old.labels + length self.old.slots ≤ 64 }
+        requires countable { self.old.failures < 2 ^ 127 }
+        ensures { self.new ≡ with_reset self.old }
+    {
+        for tag in 0..self.depth() {
+            self.reset_at(tag);
+        }
+    }
+
+    fn reset_at(&mut self, tag: u8)
+        requires below { tag < length self.old.slots }
+        requires place { length self.old.labels < 64 }
+        requires countable { self.old.failures < 2 ^ 127 + 64 }
+        ensures { self.new ≡ with_reset_at tag self.old }
+    {
+        if let Some(on_tag) = self.take(tag) {
+            let on_tag = self.reset_piece(on_tag);
+            self.place(tag, on_tag);
+        }
+    }
+
+    /// The piece after a reset, which is counted and recorded.
+    fn reset_piece(&mut self, on_tag: OnTag) -> OnTag
+        requires place { length self.old.labels < 64 }
+        requires countable { self.old.failures < 2 ^ 127 + 64 }
+        ensures piece { Some result ≡ slot_after_reset (Some on_tag) }
+        ensures after { self.new ≡ with_reset_counted (Some on_tag) self.old }
+    {
+        let OnTag {
+            piece,
+            srb,
+            progress,
+            failures_before,
+            was_reset,
+        } = on_tag;
+        self.count_reset(was_reset);
+        let progress = self.fault_by(piece, progress);
+        OnTag {
+            piece,
+            srb,
+            progress,
+            failures_before,
+            was_reset: true,
+        }
+    }
+
+    /// Counts a failure, unless a reset met the piece before.
+    fn count_reset(&mut self, was_reset: bool)
+        requires { self.old.failures < 2 ^ 127 + 64 }
+        ensures { self.new ≡ record self.old { failures = self.old.failures + (if was_reset then 0 else 1) } }
+    {
+        if !was_reset {
+            self.failures += 1;
+        }
+    }
+
+    /// What a piece has done after a reset; one that had done nothing faults.
+    fn fault_by(&mut self, piece: u128, progress: Progress) -> Progress
+        requires { length self.old.labels < 64 }
+        ensures progress { result ≡ progress_after_reset progress }
+        ensures after { self.new ≡ record self.old { labels = self.old.labels ++ labels_by piece progress } }
+    {
+        if progress != Progress::Untouched {
+            return progress;
+        }
+        self.labels.push_back_reserved(DeviceLabel::Fault { piece });
+        Progress::Failed(met_reset())
+    }
+
+    /// The earliest label leaves.
+    pub fn take_label(&mut self) -> Option<DeviceLabel>
+        ensures { MatchOption result ((self.old.labels ≡ []) × (self.new ≡ self.old)) (λ label. (rest : List DeviceLabel) × (self.old.labels ≡ label ∷ rest) × (self.new ≡ record self.old { labels = rest })) }
+    {
+        self.labels.pop_front()
+    }
+}

@@ -1,0 +1,177 @@
+-- Runs of requests that are cut short or fail.
+use Rattle.std.proofs.Common.{ℕ, Bool, true, false, [], ◌∷◌, ◌++◌, refl, inl, inr, rules}
+use Rattle.std.proofs.lemmas.List.Sorted.{IsPermutation-refl}
+use Rattle.ntstatus.specs.declared.NtStatus.TheVariants.{Cancelled, DeviceBusy, DeviceDataError, DeviceNotReady, IoDeviceError}
+use Rattle.srb.specs.declared.Class.TheVariants.{Good, Busy, Bad}
+use Rattle.srb.specs.Fate.{Fate, Fresh, Acted, Faulted}
+use Rattle.device.specs.State.{OpenRequest, Piece, Mark, Untouched, Out, Done, Failed, Back}
+use Rattle.device.proofs.Commuting.{swapped}
+use Rattle.device.proofs.Same.{IsSame-refl}
+use Rattle.worked_runs.specs.Small.{small, full_of, sectors, read, write, read_block, write_block, bus_reset, error_of_key, opened, one_place, piece_of}
+use Rattle.worked_runs.specs.Failed.{IsCutShort, StaysBusy, IsResetBeforeAct, IsResetAfterAct, AnswersLowestFailure}
+use Rattle.worked_runs.proofs.Steps.{called, started, acted, faulted, returned, answered, cancelled, tag_0, tag_1}
+
+pub is_cut_short : IsCutShort
+is_cut_short =
+    let w : Bool → Mark → Mark → OpenRequest = λ marked a b. record (opened 1 (write 0 6 (full_of 165 ++ full_of 165 ++ full_of 165)) (a ∷ b ∷ Untouched ∷ [])) { cancelled = marked } in
+    let p : Fate → Piece = λ fate. piece_of 1 0 1 0 fate in
+    let k : Fate → Piece = λ fate. piece_of 2 1 1 1 fate in
+    let sector = full_of 165 ∷ [] in
+    let d = Done (full_of 165) in (
+      _,
+      called small _ (write 0 6 (full_of 165 ++ full_of 165 ++ full_of 165)) refl refl refl,
+      (
+        _,
+        started small _ (w false Untouched Untouched) [] (one_place 0) 0 (write_block 2 1) refl tag_0 (IsPermutation-refl _) (search rules) (search rules) (search rules),
+        (
+          _,
+          started small _ (w false Out Untouched) [] (one_place 1) 1 (write_block 3 1) refl (tag_1 (p Fresh) refl) (IsPermutation-refl _) (search rules) (search rules) (search rules),
+          (
+            _,
+            cancelled small _ (w false Out Out) [] refl (IsPermutation-refl _) refl,
+            (
+              _,
+              acted small _ (p Fresh) (k Fresh ∷ []) (w true Out Out) sector (sectors 165 0 0) (full_of 165)
+                  refl (record { is_out = swapped (k Fresh) (p Fresh) []; is_number = refl; is_fresh = refl }) (search rules) refl refl (search rules) refl,
+              (
+                _,
+                returned small _ (p (Acted sector)) (k Fresh ∷ []) (w true Out Out) [] Good (d ∷ []) refl (IsPermutation-refl _) (IsPermutation-refl _) refl (search rules),
+                (
+                  _,
+                  acted small _ (k Fresh) [] (w true d Out) sector (sectors 165 165 0) (full_of 165) refl (search rules) (search rules) refl refl (search rules) refl,
+                  (
+                    _,
+                    returned small _ (k (Acted sector)) [] (w true d Out) [] Good (d ∷ []) refl (IsPermutation-refl _) (IsPermutation-refl _) refl (search rules),
+                    (
+                      _,
+                      answered small _ (w true d d) [] Cancelled [] refl (IsPermutation-refl _) (inl refl, (inl refl, (inr (Cancelled, inl (refl, refl)), tt))) (search rules) (inl (refl, refl)) refl,
+                      IsSame-refl _,
+                    ),
+                  ),
+                ),
+              ),
+            ),
+          ),
+        ),
+      ),
+    )
+
+pub stays_busy : StaysBusy
+stays_busy =
+    let w : ℕ → Mark → OpenRequest = λ times mark. record (opened 1 (write 0 2 (full_of 165)) (mark ∷ [])) { busy_returns = times } in
+    let p : ℕ → Piece = λ number. piece_of number 0 1 0 Fresh in (
+      _,
+      called small _ (write 0 2 (full_of 165)) refl refl refl,
+      (
+        _,
+        started small _ (w 0 Untouched) [] (one_place 0) 0 (write_block 2 1) refl tag_0 (IsPermutation-refl _) (search rules) (search rules) (search rules),
+        (
+          _,
+          returned small _ (p 1) [] (w 0 Out) [] Busy (Back ∷ []) refl (IsPermutation-refl _) (IsPermutation-refl _) refl (search rules),
+          (
+            _,
+            started small _ (w 1 Back) [] (one_place 0) 0 (write_block 2 1) refl tag_0 (IsPermutation-refl _) (search rules) (search rules) (search rules),
+            (
+              _,
+              returned small _ (p 2) [] (w 1 Out) [] Busy (Back ∷ []) refl (IsPermutation-refl _) (IsPermutation-refl _) refl (search rules),
+              (
+                _,
+                answered small _ (w 2 Back) [] DeviceBusy [] refl (IsPermutation-refl _) (inr (DeviceBusy, inr (search rules, refl)), tt) (search rules) (search rules) refl,
+                IsSame-refl _,
+              ),
+            ),
+          ),
+        ),
+      ),
+    )
+
+pub is_reset_before_act : IsResetBeforeAct
+is_reset_before_act =
+    let w : Mark → OpenRequest = λ mark. opened 1 (write 0 2 (full_of 165)) (mark ∷ []) in
+    let p : Fate → Piece = λ fate. piece_of 1 0 1 0 fate in (
+      _,
+      called small _ (write 0 2 (full_of 165)) refl refl refl,
+      (
+        _,
+        started small _ (w Untouched) [] (one_place 0) 0 (write_block 2 1) refl tag_0 (IsPermutation-refl _) (search rules) (search rules) (search rules),
+        (
+          _,
+          faulted small _ (p Fresh) [] refl (search rules),
+          (
+            _,
+            returned small _ (p Faulted) [] (w Out) [] (Bad bus_reset) (Failed IoDeviceError ∷ []) refl (IsPermutation-refl _) (IsPermutation-refl _) refl (search rules),
+            (
+              _,
+              answered small _ (w (Failed IoDeviceError)) [] IoDeviceError [] refl (IsPermutation-refl _) (inr (IoDeviceError, refl), tt) (search rules) refl refl,
+              IsSame-refl _,
+            ),
+          ),
+        ),
+      ),
+    )
+
+pub is_reset_after_act : IsResetAfterAct
+is_reset_after_act =
+    let w : Mark → OpenRequest = λ mark. opened 1 (write 0 2 (full_of 165)) (mark ∷ []) in
+    let p : Fate → Piece = λ fate. piece_of 1 0 1 0 fate in
+    let sector = full_of 165 ∷ [] in (
+      _,
+      called small _ (write 0 2 (full_of 165)) refl refl refl,
+      (
+        _,
+        started small _ (w Untouched) [] (one_place 0) 0 (write_block 2 1) refl tag_0 (IsPermutation-refl _) (search rules) (search rules) (search rules),
+        (
+          _,
+          acted small _ (p Fresh) [] (w Out) sector (sectors 165 0 0) (full_of 165) refl (search rules) (search rules) refl refl (search rules) refl,
+          (
+            _,
+            returned small _ (p (Acted sector)) [] (w Out) [] (Bad bus_reset) (Failed IoDeviceError ∷ []) refl (IsPermutation-refl _) (IsPermutation-refl _) refl (search rules),
+            (
+              _,
+              answered small _ (w (Failed IoDeviceError)) [] IoDeviceError [] refl (IsPermutation-refl _) (inr (IoDeviceError, refl), tt) (search rules) refl refl,
+              IsSame-refl _,
+            ),
+          ),
+        ),
+      ),
+    )
+
+pub answers_lowest_failure : AnswersLowestFailure
+answers_lowest_failure =
+    let r : Mark → Mark → OpenRequest = λ a b. opened 1 (read 0 4) (a ∷ b ∷ []) in
+    let p : Fate → Piece = λ fate. piece_of 1 0 1 0 fate in
+    let k : Fate → Piece = λ fate. piece_of 2 1 1 1 fate in
+    let a = Failed DeviceDataError in
+    let b = Failed DeviceNotReady in (
+      _,
+      called small _ (read 0 4) refl refl refl,
+      (
+        _,
+        started small _ (r Untouched Untouched) [] (one_place 0) 0 (read_block 2 1) refl tag_0 (IsPermutation-refl _) (search rules) (search rules) (search rules),
+        (
+          _,
+          started small _ (r Out Untouched) [] (one_place 1) 1 (read_block 3 1) refl (tag_1 (p Fresh) refl) (IsPermutation-refl _) (search rules) (search rules) (search rules),
+          (
+            _,
+            faulted small _ (k Fresh) (p Fresh ∷ []) refl (search rules),
+            (
+              _,
+              returned small _ (k Faulted) (p Fresh ∷ []) (r Out Out) [] (Bad (error_of_key 2)) (b ∷ []) refl (IsPermutation-refl _) (IsPermutation-refl _) refl (search rules),
+              (
+                _,
+                faulted small _ (p Fresh) [] refl (search rules),
+                (
+                  _,
+                  returned small _ (p Faulted) [] (r Out b) [] (Bad (error_of_key 3)) (a ∷ []) refl (IsPermutation-refl _) (IsPermutation-refl _) refl (search rules),
+                  (
+                    _,
+                    answered small _ (r a b) [] DeviceDataError [] refl (IsPermutation-refl _) (inr (DeviceDataError, refl), (inr (DeviceNotReady, refl), tt)) (search rules) refl refl,
+                    IsSame-refl _,
+                  ),
+                ),
+              ),
+            ),
+          ),
+        ),
+      ),
+    )

@@ -1,0 +1,6 @@
+pub mod Small
+pub mod Served
+pub mod Failed
+pub mod Held
+pub mod Refused
+pub mod Impossible

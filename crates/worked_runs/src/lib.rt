@@ -1,0 +1,96 @@
+//! Worked runs of the sector machine. The definitions of `device` are computed here on small cases, so that a slip in
+//! one of them shows before any layer stands on it.
+//!
+//! Each function does nothing, and its contract is the run: labels from an opening state to the state that they reach.
+//! `impossible` has what wrong bodies would do. A run there leads to a state, and from that state no step of the wrong
+//! kind leads anywhere.
+//!
+//! The runs are examples: they say nothing of other sizes or orders, which is what the laws of `device` are for. No crate
+//! stands on this one.
+#![tactic(auto)]
+
+pub mod impossible;
+
+ghost use Rattle.worked_runs.specs.Failed.{IsCutShort, StaysBusy, IsResetBeforeAct, IsResetAfterAct, AnswersLowestFailure};
+ghost use Rattle.worked_runs.specs.Held.{HoldsThenResumes, RemovesAll};
+ghost use Rattle.worked_runs.specs.Refused.{RefusesClosedHandle, RefusesRemoved, RefusesOutOfBounds, RefusesTooLong, ReadsNothing, RefusesOneMore};
+ghost use Rattle.worked_runs.specs.Served.{WritesThenReads, JoinsInOrder, Flushes, WritesThrough, SendsAgain, SucceedsThoughCancelled};
+
+/// A sector is written, and read back.
+#[tactic(auto, using(crate::proofs::Serving::writes_then_reads))]
+pub fn write_then_read()
+    ensures { WritesThenReads }
+{}
+
+/// The bytes of a read stand in the order of their places, whatever the order in which its pieces came back.
+#[tactic(auto, using(crate::proofs::Serving::joins_in_order))]
+pub fn join_in_order()
+    ensures { JoinsInOrder }
+{}
+
+/// A flush, and a write that asks for forced unit access.
+#[tactic(auto, using(crate::proofs::Serving::flushes, crate::proofs::Serving::writes_through))]
+pub fn reach_the_medium()
+    ensures flush { Flushes }
+    ensures write_through { WritesThrough }
+{}
+
+/// A piece that came back busy is sent again.
+#[tactic(auto, using(crate::proofs::Serving::sends_again))]
+pub fn send_again()
+    ensures { SendsAgain }
+{}
+
+/// A request may succeed after its cancel.
+#[tactic(auto, using(crate::proofs::Serving::succeeds_though_cancelled))]
+pub fn succeed_though_cancelled()
+    ensures { SucceedsThoughCancelled }
+{}
+
+/// A cancel cuts a write short: what was not sent is never sent, and what was sent is written.
+#[tactic(auto, using(crate::proofs::Failing::is_cut_short))]
+pub fn cut_short()
+    ensures { IsCutShort }
+{}
+
+/// A piece that comes back busy too often ends its request.
+#[tactic(auto, using(crate::proofs::Failing::stays_busy))]
+pub fn stay_busy()
+    ensures { StaysBusy }
+{}
+
+/// After a reset the answer does not tell whether the piece had acted.
+#[tactic(auto, using(crate::proofs::Failing::is_reset_before_act, crate::proofs::Failing::is_reset_after_act))]
+pub fn meet_a_reset()
+    ensures before_the_act { IsResetBeforeAct }
+    ensures after_the_act { IsResetAfterAct }
+{}
+
+/// The lowest place that failed gives the status.
+#[tactic(auto, using(crate::proofs::Failing::answers_lowest_failure))]
+pub fn answer_the_lowest_failure()
+    ensures { AnswersLowestFailure }
+{}
+
+/// A pause holds what comes, and its end lets it go.
+#[tactic(auto, using(crate::proofs::Holding::holds_then_resumes))]
+pub fn hold_then_resume()
+    ensures { HoldsThenResumes }
+{}
+
+/// A removal waits for the pieces out, and answers all requests.
+#[tactic(auto, using(crate::proofs::Holding::removes_all))]
+pub fn remove_all()
+    ensures { RemovesAll }
+{}
+
+/// A call is answered at once for each of these causes, and the first that fits gives the status.
+#[tactic(auto, using(crate::proofs::Refusing::refuses_closed_handle, crate::proofs::Refusing::refuses_removed, crate::proofs::Refusing::refuses_out_of_bounds, crate::proofs::Refusing::refuses_too_long, crate::proofs::Refusing::reads_nothing, crate::proofs::Refusing::refuses_one_more))]
+pub fn refuse_for_each_cause()
+    ensures closed_handle { RefusesClosedHandle }
+    ensures removed { RefusesRemoved }
+    ensures out_of_bounds { RefusesOutOfBounds }
+    ensures too_long { RefusesTooLong }
+    ensures of_length_0 { ReadsNothing }
+    ensures too_many_open { RefusesOneMore }
+{}
