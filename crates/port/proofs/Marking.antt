@@ -14,7 +14,8 @@ use Rattle.device.specs.declared.Label.TheVariants.{Cancel}
 use Rattle.device.specs.Rules.{Rules}
 use Rattle.device.specs.State.{OpenRequest, Piece, State, IsSame}
 use Rattle.device.specs.Holding.{Cancels, as_cancelled}
-use Rattle.device.specs.Seen.{Carries, IsBounded, payload_bytes}
+use Rattle.device.specs.declared.Kind.TheVariants.{Read}
+use Rattle.device.specs.Seen.{Carries, IsBounded, payload_bytes, transfer_length}
 use Rattle.device.specs.Served.{IsBeside, NoneToCancel, CancelsIfOpen}
 use Rattle.device.proofs.Numbers.{AreDistinct-Step}
 use Rattle.port.specs.declared.queues.Held.{Held}
@@ -196,7 +197,8 @@ module _ (b : Books) (v : AdapterView) (number : ℕ) (before : List Ended) (end
       request_is = ap (λ (e : Entry). e.request) same_entry
       by_outcome : (outcome : Outcome) → HasOutcome rules removing ended outcome → HasOutcome rules removing marked outcome
       by_outcome (Returned Good) h =
-          let P : Request → Payload → Type 0 = λ r p. concat (sectors_moved rules r p) ≡ payload_bytes p in
+          let P : Request → Payload → Type 0 =
+            λ r p. (concat (sectors_moved rules r p) ≡ payload_bytes p) × (r.kind ≡ Read → length (payload_bytes p) ≡ transfer_length rules r) in
           subst (λ p. P marked.request p) (sym carries) (subst (λ r. P r ended.irp.payload) (sym request_is) h)
       by_outcome (Returned Busy) h = subst (λ p. Carries true rules marked.request p) (sym carries) (subst (λ r. Carries true rules r ended.irp.payload) (sym request_is) h)
       by_outcome (Returned (Bad completion)) h = h
