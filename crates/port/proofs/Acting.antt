@@ -29,7 +29,6 @@ use Rattle.device.specs.Sending.{Acts, Faults, IsFreshPiece, with_fate, Moves as
 use Rattle.device.specs.Seen.{AsksFor, IsBounded, whole_command, sent_bytes, sectors_in, label_places, transfer_length}
 use Rattle.device.specs.Served.{ActsOn, ActsNot, IsFreshOn, Moves}
 use Rattle.device.proofs.Same.{IsSame-refl}
-use Rattle.device.proofs.Splicing.{length-splice}
 use Rattle.device.proofs.Numbers.{AreDistinct-DeviceStep}
 use Rattle.port.specs.declared.queues.Sizes.{Sizes}
 use Rattle.port.specs.declared.queues.Held.{Held}
@@ -37,7 +36,7 @@ use Rattle.port.specs.Books.{Entry, Books, entry_of}
 use Rattle.port.specs.Turns.{held_on}
 use Rattle.port.specs.Shown.{rules_of, places_of, sectors_moved, cut, waiting_open, done_open, out_open, out_piece, open_on, piece_on, entry_on, packet as packet_as, of_packets, of_waiting, of_tag, of_done, state_of, seen_of, requests_of}
 use Rattle.port.specs.Kept.{asked, IsKept, IsInHand, IsBusy, IsRoom, IsWaiting, IsAtWork, IsDoing}
-use Rattle.port.proofs.Lists.{cut-concat, second_front}
+use Rattle.port.proofs.Lists.{cut-concat, length-splice}
 use Rattle.port.proofs.Labels.{moves_one}
 use Rattle.port.proofs.Sizing.{volume_zero, sectors_are, places_transfer, places_flush, inside_disk}
 use Rattle.port.proofs.Starting.{room_moves, waiting_moves, kept_sector_some}

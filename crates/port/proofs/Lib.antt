@@ -16,3 +16,4 @@ pub mod Searching
 pub mod Draining
 pub mod Marking
 pub mod Fresh
+pub mod Trying

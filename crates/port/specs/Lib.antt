@@ -6,3 +6,4 @@ pub mod Order
 pub mod Opening
 pub mod Releases
 pub mod Cancelling
+pub mod Client

@@ -1,0 +1,113 @@
+-- What a client knows, from call to call.
+use Rattle.std.proofs.Common.{◌≡◌, ◌<◌, ◌≤◌, ◌⊎◌, inl, inr, ℕ, ◌+◌, ◌-◌, Bool, true, false, List, [], ◌∷◌, Option, Some, None, refl, sym, subst, ap, ◌∙◌, arith, map, length}
+use Rattle.std.specs.Prelude.{MatchBool, MatchOption}
+use Rattle.srb.specs.declared.DeviceLabel.{DeviceLabel}
+use Rattle.srb.specs.declared.DeviceLabel.TheVariants.{Start, Act, Fault, Return}
+use Rattle.irp.specs.declared.Payload.{Payload}
+use Rattle.irp.specs.declared.Climb.{Climb}
+use Rattle.device.specs.declared.Request.{Request}
+use Rattle.device.specs.Rules.{Rules}
+use Rattle.device.specs.State.{State}
+use Rattle.device.specs.Holding.{Cancels}
+use Rattle.device.specs.Step.{Run, DeviceStep}
+use Rattle.device.specs.Seen.{Seen, Packet, label_places}
+use Rattle.device.specs.Served.{Moves, Reserves, Submits, ActsOn, ActsNot, Finishes, FinishesNot, Resets, CancelsIfOpen, DrainsAll, HandsUp, HandsUpNone, TakesLabel, IsBeside, NoneToCancel, as_label}
+use Rattle.port.specs.Client.{IsReady, four_sectors}
+
+step_keeps : (rules : Rules) (s : State) (label : DeviceLabel) (s' : State) → DeviceStep rules s label s' → (s'.next_request ≡ s.next_request) × (s'.removing ≡ s.removing)
+step_keeps rules s (Start piece tag block) s' h = (h.after.next_request, h.after.removing)
+step_keeps rules s (Act piece bytes) s' h = (h.after.next_request, h.after.removing)
+step_keeps rules s (Fault piece) s' h = (h.after.next_request, h.after.removing)
+step_keeps rules s (Return piece class) s' h = (h.after.next_request, h.after.removing)
+
+run_keeps : (rules : Rules) (s s' : State) (labels : List DeviceLabel) → Run rules s (map as_label labels) s' → (s'.next_request ≡ s.next_request) × (s'.removing ≡ s.removing)
+run_keeps rules s s' [] h = (sym h.next_request, sym h.removing)
+run_keeps rules s s' (label ∷ labels) (mid, inl (free, step), rest) =
+    let a = step_keeps rules s label mid step in
+    let b = run_keeps rules mid s' labels rest in
+    (b.0 ∙ a.0, b.1 ∙ a.1)
+run_keeps rules s s' (label ∷ labels) (mid, inr h, rest) = absurd h
+
+ready_moves : (v v' : Seen) (labels : List DeviceLabel) (rules : Rules) (next : ℕ) (removed : Bool) → Moves v labels v' → IsReady v rules next removed → IsReady v' rules next removed
+ready_moves v v' labels rules next removed h r =
+    let k = run_keeps v.rules v.state v'.state labels h.run in
+    record {
+      rules_are = h.same_rules ∙ r.rules_are;
+      most_is = h.same_most ∙ r.most_is;
+      numbers = let n = r.numbers in let e = k.0 in omega arith;
+      submitted = let n = r.submitted in let e = h.same_submitted in omega arith;
+      removing = k.1 ∙ r.removing;
+    }
+
+ready_same : (v v' : Seen) (rules : Rules) (next : ℕ) (removed : Bool) → v' ≡ v → IsReady v rules next removed → IsReady v' rules next removed
+ready_same v v' rules next removed e r = subst (λ x. IsReady x rules next removed) (sym e) r
+
+pub ready_reserves : (v v' : Seen) (rules : Rules) (next : ℕ) (removed : Bool) → Reserves v v' → IsReady v rules next removed → IsReady v' rules next removed
+ready_reserves v v' rules next removed h r =
+    subst (λ x. IsReady x rules next removed) (sym h.same) (record { rules_are = r.rules_are; most_is = r.most_is; numbers = r.numbers; submitted = r.submitted; removing = r.removing })
+
+pub ready_submits : (v v' : Seen) (packet : Packet) (request : Request) (payload : Payload) (rules : Rules) (next : ℕ) (removed : Bool) → packet.number ≡ next → Submits v packet request payload v' → IsReady v rules next removed
+    → IsReady v' rules (next + 1) removed
+ready_submits v v' packet request payload rules next removed is h r =
+    ready_moves _ v' h.starts rules (next + 1) removed h.moves (record {
+      rules_are = r.rules_are;
+      most_is = r.most_is;
+      numbers = let e = h.opens.after.next_request in omega arith;
+      submitted = let n = r.submitted in omega arith;
+      removing = h.opens.after.removing ∙ r.removing;
+    })
+
+pub ready_acts : (v v' : Seen) (tag : ℕ) (result : Bool) (rules : Rules) (next : ℕ) (removed : Bool) → MatchBool result (ActsOn v tag v') (ActsNot v tag v') → IsReady v rules next removed → IsReady v' rules next removed
+ready_acts v v' tag true rules next removed h r = ready_moves v v' _ rules next removed h.moves r
+ready_acts v v' tag false rules next removed h r = ready_same v v' rules next removed h.same r
+
+pub ready_finishes : (v v' : Seen) (tag : ℕ) (result : Bool) (rules : Rules) (next : ℕ) (removed : Bool) → MatchBool result (Finishes v tag v') (FinishesNot v tag v') → IsReady v rules next removed → IsReady v' rules next removed
+ready_finishes v v' tag true rules next removed h r = ready_moves v v' _ rules next removed h.moves r
+ready_finishes v v' tag false rules next removed h r = ready_same v v' rules next removed h.same r
+
+pub ready_resets : (v v' : Seen) (rules : Rules) (next : ℕ) (removed : Bool) → Resets v v' → IsReady v rules next removed → IsReady v' rules next removed
+ready_resets v v' rules next removed h r = ready_moves v v' _ rules next removed h.moves r
+
+pub ready_cancels : (v v' : Seen) (number : ℕ) (rules : Rules) (next : ℕ) (removed : Bool) → CancelsIfOpen v number v' → IsReady v rules next removed → IsReady v' rules next removed
+ready_cancels v v' number rules next removed h r = by_case h.one_of
+  where
+    by_case : (Cancels v.state number v'.state × IsBeside v v') ⊎ (NoneToCancel v.state number × (v' ≡ v)) → IsReady v' rules next removed
+    by_case (inl (c, beside)) = record {
+      rules_are = beside.same_rules ∙ r.rules_are;
+      most_is = beside.same_most ∙ r.most_is;
+      numbers = let n = r.numbers in let e = c.after.next_request in omega arith;
+      submitted = let n = r.submitted in let e = beside.same_submitted in omega arith;
+      removing = c.after.removing ∙ r.removing;
+    }
+    by_case (inr (none, same)) = ready_same v v' rules next removed same r
+
+pub ready_drains : (v v' : Seen) (rules : Rules) (next : ℕ) (removed : Bool) → DrainsAll v v' → IsReady v rules next removed → IsReady v' rules next true
+ready_drains v v' rules next removed h r = record {
+  rules_are = h.beside.same_rules ∙ r.rules_are;
+  most_is = h.beside.same_most ∙ r.most_is;
+  numbers = let n = r.numbers in let e = h.drains.next_request in omega arith;
+  submitted = let n = r.submitted in let e = h.beside.same_submitted in omega arith;
+  removing = h.drains.removing;
+}
+
+pub ready_hands : (v v' : Seen) (takes : Bool) (request : Request) (climb : Climb) (rules : Rules) (next : ℕ) (removed : Bool) → HandsUp takes v request climb v' → IsReady v rules next removed → IsReady v' rules next removed
+ready_hands v v' takes request climb rules next removed h r =
+    ready_moves _ v' h.starts rules next removed h.moves (record {
+      rules_are = r.rules_are;
+      most_is = r.most_is;
+      numbers = let n = r.numbers in let e = h.answers.after.next_request in omega arith;
+      submitted = r.submitted;
+      removing = h.answers.after.removing ∙ r.removing;
+    })
+
+pub ready_hands_none : (v v' : Seen) (rules : Rules) (next : ℕ) (removed : Bool) → HandsUpNone v v' → IsReady v rules next removed → IsReady v' rules next removed
+ready_hands_none v v' rules next removed h r = ready_same v v' rules next removed h.same r
+
+pub ready_labels : (v v' : Seen) (result : Option DeviceLabel) (rules : Rules) (next : ℕ) (removed : Bool) → TakesLabel v result v' → IsReady v rules next removed → IsReady v' rules next removed
+ready_labels v v' None rules next removed h r = ready_same v v' rules next removed h.1 r
+ready_labels v v' (Some label) rules next removed (rest, first, same) r =
+    subst (λ x. IsReady x rules next removed) (sym same) (record { rules_are = r.rules_are; most_is = r.most_is; numbers = r.numbers; submitted = r.submitted; removing = r.removing })
+
+-- with no label left there are places for what a call may record
+pub places_left : (v : Seen) (rules : Rules) (next : ℕ) (removed : Bool) (more : ℕ) → IsReady v rules next removed → length v.adapter.labels ≡ 0 → rules.depth + more ≤ 64 → label_places v + more ≤ 64
+places_left v rules next removed more r none few = let d = ap (λ (x : Rules). x.depth) r.rules_are in omega arith
