@@ -141,10 +141,10 @@ module _ (sizes : Sizes) (s : State) (r : Request) (srb : Srb) (sectors moved af
         sent = refl;
         long = ap (λ xs. length xs) p'.2;
         filled = λ _.
-          let sized' : length (concat moved) ≡ length moved * sizes.sector_size = concat_sized sizes.sector_size moved within in
-          let whole : transfer_length rules r ≡ r.extent.count * sizes.sector_size = rw is refl in
-          let places : n ≡ r.extent.count = places_transfer sizes r some (ap is_transfer is) in
-          sized' ∙ ap (λ k. k * sizes.sector_size) (long ∙ places) ∙ sym whole;
+            let sized' : length (concat moved) ≡ length moved * sizes.sector_size = concat_sized sizes.sector_size moved within in
+            let whole : transfer_length rules r ≡ r.extent.count * sizes.sector_size = rw is refl in
+            let places : n ≡ r.extent.count = places_transfer sizes r some (ap is_transfer is) in
+            sized' ∙ ap (λ k. k * sizes.sector_size) (long ∙ places) ∙ sym whole;
       }
 
   carried_write : r.kind ≡ Write → AsksFor (rules_of sizes) r srb → Means srb.block command → Performs sizes.sector_size sectors srb.data command moved after
@@ -172,6 +172,7 @@ module _ (sizes : Sizes) (s : State) (r : Request) (srb : Srb) (sectors moved af
     where
       transfer : (if is_transfer r.kind then r.extent.count * sizes.sector_size else 0) ≡ r.extent.count * sizes.sector_size
       transfer = rw is refl
+
       whole_bytes : (bytes : List ℕ) (n size : ℕ) → length bytes ≡ n * size → slice_range bytes (0 * size) ((0 + n) * size) ≡ bytes
       whole_bytes bytes n size e =
           let a : 0 * size ≡ 0 = omega arith in
@@ -180,8 +181,10 @@ module _ (sizes : Sizes) (s : State) (r : Request) (srb : Srb) (sectors moved af
         where
           zero_plus : (k : ℕ) → 0 + k ≡ k
           zero_plus k = omega arith
+
           whole_bytes' : (bytes : List ℕ) → slice_range bytes 0 (0 + length bytes) ≡ bytes
           whole_bytes' bytes = take_all (0 + length bytes - 0) bytes (omega arith)
+
       written_is : (x : ℕ) → after ≡ splice sectors x moved → length after ≡ length sectors → the_arrays (rules_of sizes) after ≡ slice_set s.arrays r.volume (splice (get_or s.arrays r.volume []) x moved)
       written_is x after_is long =
           let e : slice_range after 0 (0 + sizes.sectors) ≡ splice sectors x moved = whole_disk after sizes.sectors (count_is ∙ sym long) ∙ after_is in

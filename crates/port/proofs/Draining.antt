@@ -41,13 +41,13 @@ requests_drained : (b : Books) (v : AdapterView) → IsPermutation (requests_of 
 requests_drained b v =
     let rules : Rules = rules_of b.sizes in
     let e : map (done_open rules) (b.done ++ map gone b.waiting) ≡ map (done_open rules) b.done ++ map (waiting_open rules) b.waiting =
-        map-append (done_open rules) b.done (map gone b.waiting) ∙ ap (λ xs. map (done_open rules) b.done ++ xs) (maps_are gone (done_open rules) (waiting_open rules) (λ h. refl) b.waiting) in
+    map-append (done_open rules) b.done (map gone b.waiting) ∙ ap (λ xs. map (done_open rules) b.done ++ xs) (maps_are gone (done_open rules) (waiting_open rules) (λ h. refl) b.waiting) in
     rw e (to_end (map (waiting_open rules) b.waiting) (map (open_on rules b.started) v.tags) (map (done_open rules) b.done))
 
 packets_drained : {Y : Type 0} (f : Entry → Y) (b : Books) (v : AdapterView) → IsPermutation (of_packets f (drained b) v) (of_packets f b v)
 packets_drained f b v =
     let e : map (of_done f) (b.done ++ map gone b.waiting) ≡ map (of_done f) b.done ++ map (of_waiting f) b.waiting =
-        map-append (of_done f) b.done (map gone b.waiting) ∙ ap (λ xs. map (of_done f) b.done ++ xs) (maps_are gone (of_done f) (of_waiting f) (λ h. refl) b.waiting) in
+    map-append (of_done f) b.done (map gone b.waiting) ∙ ap (λ xs. map (of_done f) b.done ++ xs) (maps_are gone (of_done f) (of_waiting f) (λ h. refl) b.waiting) in
     rw e (to_end (map (of_waiting f) b.waiting) (map (of_tag f b.started) v.tags) (map (of_done f) b.done))
 
 drains : (b : Books) (v : AdapterView) → Drains (rules_of b.sizes) (state_of b v) (state_of (drained b) v)
@@ -88,8 +88,8 @@ kept_drained b v rooms k =
       in_turn = tt;
       at_work = k.at_work;
       ended = All-append (HasEnded rules true) b.done (map gone b.waiting)
-        (All-weaker (HasEnded rules b.removing) (HasEnded rules true) (ended_at_removal rules b.removing) b.done k.ended)
-        (All-map (HasEnded rules true) gone b.waiting (All-weaker (IsWaiting rules v) (λ h. HasEnded rules true (gone h)) (λ h w. record { bounded = w.room.bounded; why = refl }) b.waiting k.waiting));
+          (All-weaker (HasEnded rules b.removing) (HasEnded rules true) (ended_at_removal rules b.removing) b.done k.ended)
+          (All-map (HasEnded rules true) gone b.waiting (All-weaker (IsWaiting rules v) (λ h. HasEnded rules true (gone h)) (λ h w. record { bounded = w.room.bounded; why = refl }) b.waiting k.waiting));
       reserved = All-permutation (IsRoom rules v) _ _ (IsPermutation-sym _ _ (packets_drained asked b v)) k.reserved;
       rooms_out = k.rooms_out;
       removing = λ _. refl;
@@ -179,7 +179,7 @@ module _ (b : Books) (v : AdapterView) (number : ℕ) (before : List Held) (held
       let is : of_done f flushed ≡ of_waiting f held = ap f same_entry ∙ keeps (entry_of held) in
       let rest : List Y = map (of_waiting f) (before ++ behind) ++ (map (of_tag f b.started) v.tags ++ map (of_done f) b.done) in
       let after : IsPermutation (of_packets f (books_flushed b (before ++ behind) flushed) v) (of_done f flushed ∷ rest) =
-          rw more (last_front (map (of_waiting f) (before ++ behind)) (map (of_tag f b.started) v.tags) (map (of_done f) b.done) (of_done f flushed)) in
+      rw more (last_front (map (of_waiting f) (before ++ behind)) (map (of_tag f b.started) v.tags) (map (of_done f) b.done) (of_done f flushed)) in
       let old : IsPermutation (of_packets f b v) (of_waiting f held ∷ rest) = IsPermutation-append_left (map (of_tag f b.started) v.tags ++ map (of_done f) b.done) _ _ (IsPermutation-map (of_waiting f) _ _ front) in
       IsPermutation-trans _ _ _ (subst (λ y. IsPermutation (of_packets f (books_flushed b (before ++ behind) flushed) v) (y ∷ rest)) is after) (IsPermutation-sym _ _ old)
 

@@ -74,7 +74,7 @@ opens_in_hand b v sizes e h f order =
     let h' : IsEmpty (sizes_over v) b = subst (λ (x : Sizes). IsEmpty x b) e h in
     let v_is : v ≡ view_fresh v = fresh_is v f in
     subst (λ x. IsInHand x v []) (sym (empty_is b (sizes_over v) h'))
-      (subst (λ x. IsInHand (books_empty b (sizes_over v)) x []) (sym v_is) (hand_empty b v f.accepted (h'.started) (subst IsInOrder v_is order)))
+    (subst (λ x. IsInHand (books_empty b (sizes_over v)) x []) (sym v_is) (hand_empty b v f.accepted (h'.started) (subst IsInOrder v_is order)))
 
 pub opens_seen : (b : Books) (v : AdapterView) (sizes : Sizes) → sizes ≡ sizes_over v → IsEmpty sizes b → IsFresh v → seen_of b v ≡ opening_seen v
 opens_seen b v sizes e h f =

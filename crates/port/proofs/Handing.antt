@@ -82,13 +82,13 @@ module _ (b : Books) (v : AdapterView) (rooms : List Request) (k : IsInHand b v 
       let s : State = state_of b v in
       let some : 0 < b.sizes.sector_size = kept_sector_some b v rooms k.kept in
       all_three b v (IsUnfinished rules s)
-        (λ i d low all. let w : IsWaiting rules v (get_or b.waiting i d) = k.kept.waiting i d low in
-          unended rules s (waiting_open rules (get_or b.waiting i d)) Untouched _ (places_some b.sizes (get_or b.waiting i d).request some w.room.bounded)
-            (never_waits rules s (waiting_open rules (get_or b.waiting i d)) w.not_cancelled (stays_by b.removing b.waiting i low k.kept.removing)) all)
-        (λ i d low all. let w : IsOnTag rules b.started (get_or v.tags i d) = k.kept.at_work i d low in
-          unended rules s (open_on rules b.started (get_or v.tags i d)) Out _ (subst (λ (e : Entry). 0 < places_of rules e.request) (sym (ap entry_or_nobody w.on_tag)) (places_some b.sizes w.held.request some w.bounded))
-            (never_out rules s (open_on rules b.started (get_or v.tags i d))) all)
-        (no_done (λ d. IsUnfinished rules s (done_open rules d)))
+      (λ i d low all. let w : IsWaiting rules v (get_or b.waiting i d) = k.kept.waiting i d low in
+      unended rules s (waiting_open rules (get_or b.waiting i d)) Untouched _ (places_some b.sizes (get_or b.waiting i d).request some w.room.bounded)
+      (never_waits rules s (waiting_open rules (get_or b.waiting i d)) w.not_cancelled (stays_by b.removing b.waiting i low k.kept.removing)) all)
+      (λ i d low all. let w : IsOnTag rules b.started (get_or v.tags i d) = k.kept.at_work i d low in
+      unended rules s (open_on rules b.started (get_or v.tags i d)) Out _ (subst (λ (e : Entry). 0 < places_of rules e.request) (sym (ap entry_or_nobody w.on_tag)) (places_some b.sizes w.held.request some w.bounded))
+      (never_out rules s (open_on rules b.started (get_or v.tags i d))) all)
+      (no_done (λ d. IsUnfinished rules s (done_open rules d)))
 
   no_pieces : map (piece_on (rules_of b.sizes) b.started) v.tags ≡ [] → (v.tags ≡ []) × (b.waiting ≡ [])
   no_pieces e =
@@ -109,19 +109,19 @@ module _ (b : Books) (v : AdapterView) (rooms : List Request) (k : IsInHand b v 
         idle = λ e. subst (All IsHeld) (sym (no_requests e)) (All-nil IsHeld);
         idle_unpaused = λ e _. no_requests e;
         cancelled = all_three b v WaitsIfCancelled
-          (λ i d low is. true_false (get_or b.waiting i d).irp.cancelled is (k.kept.waiting i d low).not_cancelled)
-          (λ i d low is. out_has i d low) (no_done (λ d. WaitsIfCancelled (done_open rules d)));
+            (λ i d low is. true_false (get_or b.waiting i d).irp.cancelled is (k.kept.waiting i d low).not_cancelled)
+            (λ i d low is. out_has i d low) (no_done (λ d. WaitsIfCancelled (done_open rules d)));
         removing = λ removes. all_three b v Waits
-          (λ i d low. true_false b.removing removes (stays_by b.removing b.waiting i low k.kept.removing))
-          (λ i d low. out_has i d low) (no_done (λ d. Waits (done_open rules d)));
+            (λ i d low. true_false b.removing removes (stays_by b.removing b.waiting i low k.kept.removing))
+            (λ i d low. out_has i d low) (no_done (λ d. Waits (done_open rules d)));
         sent = k.orderly.sending.sent;
         released = λ free stays. all_three b v (IsHeldBack rules s)
-          (subst (All (λ h. IsHeldBack rules s (waiting_open rules h))) (sym (k.busy (let l = length-map v.tags (piece_on rules b.started) in let e = k.kept.sizes.depth in omega arith))) (All-nil (λ h. IsHeldBack rules s (waiting_open rules h))))
-          (λ i d low still. true_false _ (out_started i d low) still) (no_done (λ d. IsHeldBack rules s (done_open rules d)));
+            (subst (All (λ h. IsHeldBack rules s (waiting_open rules h))) (sym (k.busy (let l = length-map v.tags (piece_on rules b.started) in let e = k.kept.sizes.depth in omega arith))) (All-nil (λ h. IsHeldBack rules s (waiting_open rules h))))
+            (λ i d low still. true_false _ (out_started i d low) still) (no_done (λ d. IsHeldBack rules s (done_open rules d)));
         alive = all_three b v HasMore
-          (λ i d low started. true_false _ started (rw untouched_all refl)) (λ i d low started. inl (out_has i d low)) (no_done (λ d. HasMore (done_open rules d)));
+            (λ i d low started. true_false _ started (rw untouched_all refl)) (λ i d low started. inl (out_has i d low)) (no_done (λ d. HasMore (done_open rules d)));
         at_work = λ free. all_three b v IsAtWork
-          (λ i d low started. true_false _ started (rw untouched_all refl)) (λ i d low started. out_has i d low) (no_done (λ d. IsAtWork (done_open rules d)));
+            (λ i d low started. true_false _ started (rw untouched_all refl)) (λ i d low started. out_has i d low) (no_done (λ d. IsAtWork (done_open rules d)));
         within_window = tt;
       }
 
@@ -206,12 +206,12 @@ open_left : (b : Books) (v : AdapterView) (d : Ended) (rest : List Ended) → b.
 open_left b v d rest is =
     let rules : Rules = rules_of b.sizes in
     subst (λ (ds : List Ended). IsPermutation (map (waiting_open rules) b.waiting ++ (map (open_on rules b.started) v.tags ++ map (done_open rules) ds)) (done_open rules d ∷ requests_of (books_left b rest) v)) (sym is)
-      (third_front (map (waiting_open rules) b.waiting) (map (open_on rules b.started) v.tags) (map (done_open rules) rest) (done_open rules d))
+    (third_front (map (waiting_open rules) b.waiting) (map (open_on rules b.started) v.tags) (map (done_open rules) rest) (done_open rules d))
 
 packets_left : {Y : Type 0} (f : Entry → Y) (b : Books) (v : AdapterView) (d : Ended) (rest : List Ended) → b.done ≡ d ∷ rest → IsPermutation (of_packets f b v) (f (ended_entry d) ∷ of_packets f (books_left b rest) v)
 packets_left f b v d rest is =
     subst (λ (ds : List Ended). IsPermutation (map (of_waiting f) b.waiting ++ (map (of_tag f b.started) v.tags ++ map (of_done f) ds)) (f (ended_entry d) ∷ of_packets f (books_left b rest) v)) (sym is)
-      (third_front (map (of_waiting f) b.waiting) (map (of_tag f b.started) v.tags) (map (of_done f) rest) (f (ended_entry d)))
+    (third_front (map (of_waiting f) b.waiting) (map (of_tag f b.started) v.tags) (map (of_done f) rest) (f (ended_entry d)))
 
 answers_left : (b : Books) (v : AdapterView) (rooms : List Request) (d : Ended) (rest : List Ended) → IsKept b v rooms → b.done ≡ d ∷ rest
     → IsHanded (rules_of b.sizes) (state_of b v) (done_open (rules_of b.sizes) d) d.request d.irp.payload (status_left d.outcome)
@@ -284,9 +284,9 @@ hands_up b b' v rooms d status bytes_moved climb k h status_is moved_is climbs =
       carries = x.carries;
       brings = x.brings;
       filled = λ is succeeds.
-        let long : length (payload_bytes d.irp.payload) ≡ transfer_length rules d.request = x.filled is succeeds in
-        let whole : transfer_length rules d.request ≡ d.request.extent.count * rules.sector_size = rw is refl in
-        ap (λ (bytes : List ℕ). length bytes) (sym (x.brings is succeeds)) ∙ long ∙ whole;
+          let long : length (payload_bytes d.irp.payload) ≡ transfer_length rules d.request = x.filled is succeeds in
+          let whole : transfer_length rules d.request ≡ d.request.extent.count * rules.sector_size = rw is refl in
+          ap (λ (bytes : List ℕ). length bytes) (sym (x.brings is succeeds)) ∙ long ∙ whole;
       climbs = subst (λ (st : NtStatus). Climbs (entry d.irp d.request).above d.irp.number d.irp.cancelled st (information (as_client rules d.request []) st) d.irp.payload climb) status_is
           (subst (λ (n : ℕ). Climbs (entry d.irp d.request).above d.irp.number d.irp.cancelled status n d.irp.payload climb) (subst (λ (y : Books). bytes_moved ≡ information (as_client (rules_of y.sizes) d.request []) status) h.after moved_is) climbs);
       only_starts = All-nil IsStart;

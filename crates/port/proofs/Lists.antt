@@ -39,7 +39,7 @@ pub last_front : {X : Type 0} (first second third : List X) (x : X)
     → IsPermutation (first ++ (second ++ (third ++ x ∷ []))) (x ∷ (first ++ (second ++ third)))
 last_front first second third x =
     let inner : IsPermutation (second ++ (third ++ x ∷ [])) (x ∷ (second ++ third)) =
-        IsPermutation-trans _ _ _ (IsPermutation-append_right second _ _ (IsPermutation-to_front third x)) (IsPermutation-middle second x third) in
+    IsPermutation-trans _ _ _ (IsPermutation-append_right second _ _ (IsPermutation-to_front third x)) (IsPermutation-middle second x third) in
     IsPermutation-trans _ _ _ (IsPermutation-append_right first _ _ inner) (IsPermutation-middle first x (second ++ third))
 
 -- CUT

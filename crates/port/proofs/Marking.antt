@@ -109,7 +109,7 @@ module _ (b : Books) (v : AdapterView) (number tag : ℕ) (use' : TagInUse) (oth
         waiting = h.waiting;
         in_turn = h.in_turn;
         at_work = All-permutation (IsAtWork rules (slice_set b.started tag (Some marked))) _ _ (IsPermutation-sym _ _ on.in_use)
-          (All-cons (IsAtWork rules (slice_set b.started tag (Some marked))) use' others
+            (All-cons (IsAtWork rules (slice_set b.started tag (Some marked))) use' others
             (record {
               held = marked;
               on_tag = rw on.has_tag (get_or-set_same b.started tag (Some marked) None low);
@@ -138,7 +138,7 @@ module _ (b : Books) (v : AdapterView) (number tag : ℕ) (use' : TagInUse) (oth
 pub cancelled_out : (b b' : Books) (v : AdapterView) (rooms : List Request) (number tag : ℕ) → IsInHand b v rooms → Any (HasTag tag) v.tags → CancelsOn b tag number b' → IsCancelled b v number b'
 cancelled_out b b' v rooms number tag k here h =
     subst (λ x. IsCancelled b v number x) (sym h.after) (marked_fields b v number tag here.1 (remove v.tags here.0) h.held h.marked (rooms, k)
-      (record { in_use = IsPermutation-remove v.tags here.0 here.1 here.2 (sym here.3); has_tag = here.4 }) h.on_tag h.can h.same_entry)
+    (record { in_use = IsPermutation-remove v.tags here.0 here.1 here.2 (sym here.3); has_tag = here.4 }) h.on_tag h.can h.same_entry)
 
 -- AFTER IT ENDED
 
@@ -188,17 +188,18 @@ module _ (b : Books) (v : AdapterView) (number : ℕ) (before : List Ended) (end
       let is : of_done f marked ≡ of_done f ended = ap f same_entry ∙ keeps (ended_entry ended) in
       let rest : List Y = map (of_waiting f) b.waiting ++ (map (of_tag f b.started) v.tags ++ map (of_done f) (before ++ behind)) in
       IsPermutation-trans _ _ _ (subst (λ y. IsPermutation (of_packets f (books_ended b (before ++ behind) marked) v) (y ∷ rest)) is (shown_last (map (of_waiting f) b.waiting) (map (of_tag f b.started) v.tags) (of_done f)))
-        (IsPermutation-sym _ _ (shown_front (map (of_waiting f) b.waiting) (map (of_tag f b.started) v.tags) (of_done f)))
+      (IsPermutation-sym _ _ (shown_front (map (of_waiting f) b.waiting) (map (of_tag f b.started) v.tags) (of_done f)))
 
   why_marked : (rules : Rules) (removing : Bool) (outcome : Outcome) → HasOutcome rules removing ended outcome → HasOutcome rules removing marked outcome
   why_marked rules removing outcome h = by_outcome outcome h
     where
       request_is : marked.request ≡ ended.request
       request_is = ap (λ (e : Entry). e.request) same_entry
+
       by_outcome : (outcome : Outcome) → HasOutcome rules removing ended outcome → HasOutcome rules removing marked outcome
       by_outcome (Returned Good) h =
           let P : Request → Payload → Type 0 =
-            λ r p. (concat (sectors_moved rules r p) ≡ payload_bytes p) × (r.kind ≡ Read → length (payload_bytes p) ≡ transfer_length rules r) in
+          λ r p. (concat (sectors_moved rules r p) ≡ payload_bytes p) × (r.kind ≡ Read → length (payload_bytes p) ≡ transfer_length rules r) in
           subst (λ p. P marked.request p) (sym carries) (subst (λ r. P r ended.irp.payload) (sym request_is) h)
       by_outcome (Returned Busy) h = subst (λ p. Carries true rules marked.request p) (sym carries) (subst (λ r. Carries true rules r ended.irp.payload) (sym request_is) h)
       by_outcome (Returned (Bad completion)) h = h
@@ -257,19 +258,19 @@ cancelled_none b b' v rooms number k waiting out h = subst (λ x. IsCancelled b 
   where
     all : All (IsSafe number) (requests_of b v)
     all = all_three b v (IsSafe number)
-      (λ i d low. cannot_facts number (entry_of (get_or b.waiting i d)) (waiting i d low))
-      (λ i d low. let w : IsAtWork (rules_of b.sizes) b.started (get_or v.tags i d) = k.kept.at_work i d low in
+        (λ i d low. cannot_facts number (entry_of (get_or b.waiting i d)) (waiting i d low))
+        (λ i d low. let w : IsAtWork (rules_of b.sizes) b.started (get_or v.tags i d) = k.kept.at_work i d low in
         subst (λ (e : Entry). e.number ≡ number → e.cancelled ≡ false → ⊥) (sym (ap entry_or_nobody w.on_tag)) (cannot_facts number (entry_of w.held) (out i d low w.held w.on_tag)))
-      (λ i d low. cannot_facts number (ended_entry (get_or b.done i d)) (h.none i d low))
+        (λ i d low. cannot_facts number (ended_entry (get_or b.done i d)) (h.none i d low))
 
 -- each tag in use is below the depth
 pub none_started : (b c : Books) (v : AdapterView) (rooms : List Request) (number tag : ℕ) → IsInHand b v rooms → b.sizes.depth ≤ tag → ((lower : ℕ) → lower < tag → Any (HasTag lower) v.tags → CannotCancelOn b.started number lower) → c ≡ b
     → CancelsNoStarted b v number c
 none_started b c v rooms number tag k past none same = record {
   none = λ i d low.
-    let below : (get_or v.tags i d).tag < v.depth = k.kept.adapter.tags_below i d low in
-    let depth = k.kept.sizes.depth in
-    none (get_or v.tags i d).tag (omega arith) (i, get_or v.tags i d, low, get_or_default v.tags i (get_or v.tags i d) d low, refl);
+      let below : (get_or v.tags i d).tag < v.depth = k.kept.adapter.tags_below i d low in
+      let depth = k.kept.sizes.depth in
+      none (get_or v.tags i d).tag (omega arith) (i, get_or v.tags i d, low, get_or_default v.tags i (get_or v.tags i d) d low, refl);
   same = same;
 }
 
@@ -282,6 +283,7 @@ none_to_here b c b' v w number tag e f h none lower below = by_case (cases_lt lo
   where
     here : Any (HasTag tag) v.tags → CannotCancelOn b.started number tag
     here = (subst (λ x. CancelsNotAt x v tag number b') e (subst (λ y. CancelsNotAt c y tag number b') f h)).cannot
+
     by_case : (lower < tag) ⊎ (tag ≤ lower) → Any (HasTag lower) v.tags → CannotCancelOn b.started number lower
     by_case (inl under) = none lower under
     by_case (inr over) = let same : tag ≡ lower = omega arith in subst (λ t. Any (HasTag t) v.tags → CannotCancelOn b.started number t) same here

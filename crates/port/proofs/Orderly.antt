@@ -34,7 +34,7 @@ pub all_three : (b : Books) (v : AdapterView) (P : OpenRequest → Type 0) → A
     → All (λ d. P (done_open (rules_of b.sizes) d)) b.done → All P (requests_of b v)
 all_three b v P waiting out ended =
     All-append P _ _ (All-map P (waiting_open (rules_of b.sizes)) b.waiting waiting)
-      (All-append P _ _ (All-map P (open_on (rules_of b.sizes) b.started) v.tags out) (All-map P (done_open (rules_of b.sizes)) b.done ended))
+    (All-append P _ _ (All-map P (open_on (rules_of b.sizes) b.started) v.tags out) (All-map P (done_open (rules_of b.sizes)) b.done ended))
 
 pub maps_are : {X Y Z : Type 0} (f : X → Y) (g : Y → Z) (h : X → Z) → ((x : X) → g (f x) ≡ h x) → (xs : List X) → map g (map f xs) ≡ map h xs
 maps_are f g h same [] = refl
@@ -52,19 +52,19 @@ have_places b v rooms k =
     let rules : Rules = rules_of b.sizes in
     let some : 0 < b.sizes.sector_size = kept_sector_some b v rooms k in
     all_three b v HasPlaces
-      (All-weaker (IsWaiting rules v) (λ h. HasPlaces (waiting_open rules h)) (λ h w. rw length-replicate (places_some b.sizes h.request some w.room.bounded)) b.waiting k.waiting)
-      (All-weaker (IsAtWork rules b.started) (λ u. HasPlaces (open_on rules b.started u)) (λ u w. rw (w.on_tag, length-replicate) (places_some b.sizes w.held.request some w.bounded)) v.tags k.at_work)
-      (All-weaker (HasEnded rules b.removing) (λ d. HasPlaces (done_open rules d)) (λ d e. marks_some rules d.request d.irp.payload d.outcome (places_some b.sizes d.request some e.bounded)) b.done k.ended)
+    (All-weaker (IsWaiting rules v) (λ h. HasPlaces (waiting_open rules h)) (λ h w. rw length-replicate (places_some b.sizes h.request some w.room.bounded)) b.waiting k.waiting)
+    (All-weaker (IsAtWork rules b.started) (λ u. HasPlaces (open_on rules b.started u)) (λ u w. rw (w.on_tag, length-replicate) (places_some b.sizes w.held.request some w.bounded)) v.tags k.at_work)
+    (All-weaker (HasEnded rules b.removing) (λ d. HasPlaces (done_open rules d)) (λ d e. marks_some rules d.request d.irp.payload d.outcome (places_some b.sizes d.request some e.bounded)) b.done k.ended)
 
 numbers_are : (b : Books) (v : AdapterView) → map packet_number (packets_of b v) ≡ map request_number (requests_of b v)
 numbers_are b v =
     let rules : Rules = rules_of b.sizes in
     let w : map packet_number (map (of_waiting packet) b.waiting) ≡ map request_number (map (waiting_open rules) b.waiting) =
-        maps_are (of_waiting packet) packet_number (λ (h : Held). h.irp.number) (λ h. refl) b.waiting ∙ sym (maps_are (waiting_open rules) request_number (λ (h : Held). h.irp.number) (λ h. refl) b.waiting) in
+    maps_are (of_waiting packet) packet_number (λ (h : Held). h.irp.number) (λ h. refl) b.waiting ∙ sym (maps_are (waiting_open rules) request_number (λ (h : Held). h.irp.number) (λ h. refl) b.waiting) in
     let d : map packet_number (map (of_done packet) b.done) ≡ map request_number (map (done_open rules) b.done) =
-        maps_are (of_done packet) packet_number (λ (h : Ended). h.irp.number) (λ h. refl) b.done ∙ sym (maps_are (done_open rules) request_number (λ (h : Ended). h.irp.number) (λ h. refl) b.done) in
+    maps_are (of_done packet) packet_number (λ (h : Ended). h.irp.number) (λ h. refl) b.done ∙ sym (maps_are (done_open rules) request_number (λ (h : Ended). h.irp.number) (λ h. refl) b.done) in
     let t : map packet_number (map (of_tag packet b.started) v.tags) ≡ map request_number (map (open_on rules b.started) v.tags) =
-        maps_are (of_tag packet b.started) packet_number (λ (u : TagInUse). (of_tag packet b.started u).number) (λ u. refl) v.tags ∙ sym (maps_are (open_on rules b.started) request_number (λ (u : TagInUse). (of_tag packet b.started u).number) (λ u. refl) v.tags) in
+    maps_are (of_tag packet b.started) packet_number (λ (u : TagInUse). (of_tag packet b.started u).number) (λ u. refl) v.tags ∙ sym (maps_are (open_on rules b.started) request_number (λ (u : TagInUse). (of_tag packet b.started u).number) (λ u. refl) v.tags) in
     map-append packet_number (map (of_waiting packet) b.waiting) _
     ∙ ap (λ ns. map packet_number (map (of_waiting packet) b.waiting) ++ ns) (map-append packet_number (map (of_tag packet b.started) v.tags) (map (of_done packet) b.done))
     ∙ ap (λ ns. ns ++ (map packet_number (map (of_tag packet b.started) v.tags) ++ map packet_number (map (of_done packet) b.done))) w
@@ -85,7 +85,7 @@ ended_sent rules o r payload Gone e busy limit started = true_false _ started (r
 pub ended_is_started : (b : Books) (d : Ended) → 0 < b.sizes.sector_size → HasEnded (rules_of b.sizes) b.removing d → b.removing ≡ false → d.irp.cancelled ≡ false → is_started (done_open (rules_of b.sizes) d) ≡ true
 ended_is_started b d some e stays timely =
     ended_started (rules_of b.sizes) d (places_some b.sizes d.request some e.bounded)
-      (λ o. subst (HasOutcome (rules_of b.sizes) b.removing d) o e.why) (λ o. true_false b.removing (subst (HasOutcome (rules_of b.sizes) b.removing d) o e.why) stays) timely
+    (λ o. subst (HasOutcome (rules_of b.sizes) b.removing d) o e.why) (λ o. true_false b.removing (subst (HasOutcome (rules_of b.sizes) b.removing d) o e.why) stays) timely
 
 sending : (b : Books) (v : AdapterView) (rooms : List Request) → IsKept b v rooms → IsBusy b v → IsSending (rules_of b.sizes) (state_of b v)
 sending b v rooms k busy =
@@ -93,13 +93,13 @@ sending b v rooms k busy =
     let some : 0 < b.sizes.sector_size = kept_sector_some b v rooms k in
     record {
       sent = λ free stays. all_three b v (IsAllSent rules)
-        (λ i d low timely started. true_false _ started (rw untouched_all refl))
-        (λ i d low timely started. All-replicate (HasGone rules (open_on rules b.started (get_or v.tags i d))) (places_of rules (entry_on b.started (get_or v.tags i d).tag).request) Out tt)
-        (λ i d low timely started. ended_sent rules (done_open rules (get_or b.done i d)) (get_or b.done i d).request (get_or b.done i d).irp.payload (get_or b.done i d).outcome refl refl (omega arith) started);
+          (λ i d low timely started. true_false _ started (rw untouched_all refl))
+          (λ i d low timely started. All-replicate (HasGone rules (open_on rules b.started (get_or v.tags i d))) (places_of rules (entry_on b.started (get_or v.tags i d).tag).request) Out tt)
+          (λ i d low timely started. ended_sent rules (done_open rules (get_or b.done i d)) (get_or b.done i d).request (get_or b.done i d).irp.payload (get_or b.done i d).outcome refl refl (omega arith) started);
       released = λ free stays. all_three b v (WaitsForTag rules (state_of b v))
-        (subst (All (λ h. WaitsForTag rules (state_of b v) (waiting_open rules h))) (sym (none_waits free)) (All-nil (λ h. WaitsForTag rules (state_of b v) (waiting_open rules h))))
-        (All-weaker (IsAtWork rules b.started) (λ u. WaitsForTag rules (state_of b v) (open_on rules b.started u)) (λ u w timely still. true_false (is_started (open_on rules b.started u)) (rw w.on_tag (started_by _ Out _ (places_some b.sizes w.held.request some w.bounded) refl refl)) still) v.tags k.at_work)
-        (All-weaker (HasEnded rules b.removing) (λ d. WaitsForTag rules (state_of b v) (done_open rules d)) (λ d e timely still. true_false (is_started (done_open rules d)) (ended_is_started b d some e stays timely) still) b.done k.ended);
+          (subst (All (λ h. WaitsForTag rules (state_of b v) (waiting_open rules h))) (sym (none_waits free)) (All-nil (λ h. WaitsForTag rules (state_of b v) (waiting_open rules h))))
+          (All-weaker (IsAtWork rules b.started) (λ u. WaitsForTag rules (state_of b v) (open_on rules b.started u)) (λ u w timely still. true_false (is_started (open_on rules b.started u)) (rw w.on_tag (started_by _ Out _ (places_some b.sizes w.held.request some w.bounded) refl refl)) still) v.tags k.at_work)
+          (All-weaker (HasEnded rules b.removing) (λ d. WaitsForTag rules (state_of b v) (done_open rules d)) (λ d e timely still. true_false (is_started (done_open rules d)) (ended_is_started b d some e stays timely) still) b.done k.ended);
       within_window = tt;
     }
   where

@@ -56,13 +56,19 @@ faults_run : (rules : Rules) (s : State) (fresh rest : List Piece) → All IsFre
 faults_run rules s [] rest all none p = same_pieces s s.pieces rest p
 faults_run rules s (f ∷ fs) rest all none p =
     let mid : State = with_pieces s (faulted_piece f ∷ (fs ++ rest)) in
-    let more = faults_run rules mid fs (faulted_piece f ∷ rest) (All-tail IsFreshFate f fs all) none (IsPermutation-sym _ _ (IsPermutation-middle fs (faulted_piece f) rest)) in
-    (mid, inl (none, record {
-      piece = f;
-      other_pieces = fs ++ rest;
-      fresh = record { is_out = p; is_number = refl; is_fresh = All-head IsFreshFate f fs all };
-      after = IsSame-refl _;
-    }), Run-same rules _ mid mid _ _ (IsSame-refl _) (same_pieces s _ _ (IsPermutation-middle (map faulted_piece fs) (faulted_piece f) rest)) more)
+    let more = faults_run rules mid fs (faulted_piece f ∷ rest) (All-tail IsFreshFate f fs all) none (IsPermutation-sym _ _ (IsPermutation-middle fs (faulted_piece f) rest)) in (
+      mid,
+      inl (
+        none,
+        record {
+          piece = f;
+          other_pieces = fs ++ rest;
+          fresh = record { is_out = p; is_number = refl; is_fresh = All-head IsFreshFate f fs all };
+          after = IsSame-refl _;
+        },
+      ),
+      Run-same rules _ mid mid _ _ (IsSame-refl _) (same_pieces s _ _ (IsPermutation-middle (map faulted_piece fs) (faulted_piece f) rest)) more,
+    )
 
 -- THE TAGS
 
@@ -104,9 +110,10 @@ reset_pieces rules started (u ∷ us) = by_fate (reset_pieces rules started us) 
 
 rising_pieces : (rules : Rules) (started : List (Option Held)) (tags : List TagInUse) → AllPairs (λ x y. x < y) (map tag_of tags) → HaveRisingTags (map (piece_on rules started) tags)
 rising_pieces rules started [] h = tt
-rising_pieces rules started (u ∷ us) h =
-    (All-map (IsBelow u.tag) (piece_on rules started) us (λ k d low. rw (← get_or-map tag_of us k d u.tag low) (h 0 (suc k) u.tag (omega arith) (let l = length-map us tag_of in omega arith))),
-     rising_pieces rules started us (λ i j d before low. h (suc i) (suc j) d (omega arith) (omega arith)))
+rising_pieces rules started (u ∷ us) h = (
+  All-map (IsBelow u.tag) (piece_on rules started) us (λ k d low. rw (← get_or-map tag_of us k d u.tag low) (h 0 (suc k) u.tag (omega arith) (let l = length-map us tag_of in omega arith))),
+  rising_pieces rules started us (λ i j d before low. h (suc i) (suc j) d (omega arith) (omega arith)),
+)
 
 work_reset : (rules : Rules) (started : List (Option Held)) (u : TagInUse) → IsAtWork rules started u → IsAtWork rules started (after_reset u)
 work_reset rules started u w = record { held = w.held; on_tag = w.on_tag; bounded = w.bounded; doing = by_fate u.fate w.doing }
@@ -133,13 +140,13 @@ reset_run b v tags' fresh failures labels p f =
     let rules : Rules = rules_of b.sizes in
     let on : TagInUse → Piece = piece_on rules b.started in
     let split : IsPermutation (map on v.tags) (map on fresh ++ map on (filter is_other v.tags)) =
-        IsPermutation-trans _ _ _ (subst (λ ps. IsPermutation (map on v.tags) ps) (map-append on (filter is_fresh_use v.tags) (filter is_other v.tags)) (IsPermutation-map on _ _ (IsPermutation-filter_both is_fresh_use is_other (λ u. refl) v.tags)))
-          (IsPermutation-append_left (map on (filter is_other v.tags)) _ _ (IsPermutation-map on _ _ f)) in
+    IsPermutation-trans _ _ _ (subst (λ ps. IsPermutation (map on v.tags) ps) (map-append on (filter is_fresh_use v.tags) (filter is_other v.tags)) (IsPermutation-map on _ _ (IsPermutation-filter_both is_fresh_use is_other (λ u. refl) v.tags)))
+    (IsPermutation-append_left (map on (filter is_other v.tags)) _ _ (IsPermutation-map on _ _ f)) in
     let all : All IsFreshFate (map on fresh) = All-map IsFreshFate on fresh (All-permutation (λ u. u.fate ≡ Fresh) _ _ f (fresh_fates v.tags)) in
     let run = faults_run rules (state_of b v) (map on fresh) (map on (filter is_other v.tags)) all refl split in
     let pieces : IsPermutation (map faulted_piece (map on fresh) ++ map on (filter is_other v.tags)) (map on tags') =
-        IsPermutation-sym _ _ (IsPermutation-trans _ _ _ (IsPermutation-map on _ _ p) (IsPermutation-trans _ _ _ (reset_pieces rules b.started v.tags)
-          (IsPermutation-append_left (map on (filter is_other v.tags)) _ _ (IsPermutation-map faulted_piece _ _ (IsPermutation-map on _ _ f))))) in
+    IsPermutation-sym _ _ (IsPermutation-trans _ _ _ (IsPermutation-map on _ _ p) (IsPermutation-trans _ _ _ (reset_pieces rules b.started v.tags)
+    (IsPermutation-append_left (map on (filter is_other v.tags)) _ _ (IsPermutation-map faulted_piece _ _ (IsPermutation-map on _ _ f))))) in
     let e : map (open_on rules b.started) (map after_reset v.tags) ≡ map (open_on rules b.started) v.tags = maps_are after_reset (open_on rules b.started) (open_on rules b.started) (λ u. refl) v.tags in
     let opens : IsPermutation (map (open_on rules b.started) tags') (map (open_on rules b.started) v.tags) = subst (λ xs. IsPermutation (map (open_on rules b.started) tags') xs) e (IsPermutation-map (open_on rules b.started) _ _ p) in
     Run-same rules _ (state_of b v) (state_of b v) _ _ (IsSame-refl _) (record {

@@ -124,17 +124,18 @@ outcome_is rules removing v held use' sense class ended may doing h =
   where
     request_is : ended.request ≡ held.request
     request_is = ap (λ (e : Entry). e.request) h.same_entry
+
     by_class : (class : Class) → MayReturn v use' class → HasOutcome rules removing ended (Returned class)
     by_class Good may =
         let moved : List (List ℕ) = may.0.0 in
         let d : IsDoing rules held.request (Acted moved) use'.srb = subst (λ f. IsDoing rules held.request f use'.srb) may.0.1 doing in
         let P : Request → Payload → Type 0 =
-          λ r p. (concat (sectors_moved rules r p) ≡ payload_bytes p) × (r.kind ≡ Read → length (payload_bytes p) ≡ transfer_length rules r) in
+        λ r p. (concat (sectors_moved rules r p) ≡ payload_bytes p) × (r.kind ≡ Read → length (payload_bytes p) ≡ transfer_length rules r) in
         subst (λ p. P ended.request p) (sym h.carries) (subst (λ r. P r (Packed (with_sense use'.srb sense))) (sym request_is) (ap concat d.1 ∙ sym d.0, d.2))
     by_class Busy may =
         let d : AsksFor rules held.request use'.srb = subst (λ f. IsDoing rules held.request f use'.srb) may.0 doing in
         subst (λ p. Carries true rules ended.request p) (sym h.carries) (subst (λ r. Carries true rules r (Packed (with_sense use'.srb sense))) (sym request_is)
-          (record { function = d.function; flags = d.flags; asks = d.asks; data_length = d.data_length; label_length = d.label_length }))
+        (record { function = d.function; flags = d.flags; asks = d.asks; data_length = d.data_length; label_length = d.label_length }))
     by_class (Bad completion) may = may.1
 
 pub record Back (b : Books) (v : AdapterView) (tag : ℕ) (use' : TagInUse) (others tags' : List TagInUse) (class : Class) (sense : Option Sense) (held : Held) (ended : Ended) : Type 0 where
@@ -155,13 +156,13 @@ module _ (b : Books) (v : AdapterView) (tag : ℕ) (use' : TagInUse) (others tag
       let work = on_tag_work rules b.started v.tags use' others tag held k.at_work h.on.in_use h.on.has_tag h.held_is in
       let marks : List Mark = marks_left rules held.request (Packed (with_sense use'.srb sense)) (Returned class) in
       let whole : splice (replicate (places_of rules held.request) Out) 0 marks ≡ marks =
-          splice_whole _ _ (let a = length-replicate (places_of rules held.request) Out in let c = length_marks rules held.request (Packed (with_sense use'.srb sense)) (Returned class) in omega arith) in
+      splice_whole _ _ (let a = length-replicate (places_of rules held.request) Out in let c = length_marks rules held.request (Packed (with_sense use'.srb sense)) (Returned class) in omega arith) in
       let x : OpenRequest = given_back (out_piece rules e use') class marks (out_open rules e use') in
       let is : done_open rules ended ≡ x =
-          done_is rules ended e (Packed (with_sense use'.srb sense)) (Returned class) h.ends_as.same_entry h.ends_as.carries h.ends_as.ends
-          ∙ ap (λ (n : ℕ). open_as rules e (Packed (with_sense use'.srb sense)) n marks) (busy_is class)
-          ∙ ap (λ (ms : List Mark). open_as rules e (Packed (with_sense use'.srb sense)) (0 + one_if_busy class) ms) (sym whole)
-          ∙ ap (λ (bytes : List ℕ). record x { request = as_client rules held.request bytes }) (same_sent held.request.kind use'.srb sense) in
+      done_is rules ended e (Packed (with_sense use'.srb sense)) (Returned class) h.ends_as.same_entry h.ends_as.carries h.ends_as.ends
+      ∙ ap (λ (n : ℕ). open_as rules e (Packed (with_sense use'.srb sense)) n marks) (busy_is class)
+      ∙ ap (λ (ms : List Mark). open_as rules e (Packed (with_sense use'.srb sense)) (0 + one_if_busy class) ms) (sym whole)
+      ∙ ap (λ (bytes : List ℕ). record x { request = as_client rules held.request bytes }) (same_sent held.request.kind use'.srb sense) in
       record {
         piece = out_piece rules e use';
         other_pieces = map (piece_on rules b.started) others;
@@ -193,7 +194,7 @@ module _ (b : Books) (v : AdapterView) (tag : ℕ) (use' : TagInUse) (others tag
       put_last rules apart =
           let more : map (done_open rules) (b.done ++ ended ∷ []) ≡ map (done_open rules) b.done ++ done_open rules ended ∷ [] = map-append (done_open rules) b.done (ended ∷ []) in
           rw more (IsPermutation-trans _ _ _ (IsPermutation-append_right (map (waiting_open rules) b.waiting) _ _ (IsPermutation-append_left (map (done_open rules) b.done ++ done_open rules ended ∷ []) _ _ (tags_left (out_open rules) b.started tag None tags' others apart h.left)))
-            (last_front (map (waiting_open rules) b.waiting) (map (open_on rules b.started) others) (map (done_open rules) b.done) (done_open rules ended)))
+          (last_front (map (waiting_open rules) b.waiting) (map (open_on rules b.started) others) (map (done_open rules) b.done) (done_open rules ended)))
 
   packets_returned : {Y : Type 0} (f : Entry → Y) (rooms : List Request) → IsKept b v rooms → Back b v tag use' others tags' class sense held ended
       → IsPermutation (of_packets f (books_returned b tag ended) (view_returned v tags' use'.piece class)) (of_packets f b v)
@@ -203,10 +204,10 @@ module _ (b : Books) (v : AdapterView) (tag : ℕ) (use' : TagInUse) (others tag
       let more : map (of_done f) (b.done ++ ended ∷ []) ≡ map (of_done f) b.done ++ of_done f ended ∷ [] = map-append (of_done f) b.done (ended ∷ []) in
       let shown : List Y = map (of_waiting f) b.waiting ++ (map (of_tag f (slice_set b.started tag None)) tags' ++ (map (of_done f) b.done ++ of_done f ended ∷ [])) in
       let first : IsPermutation shown (f (ended_entry ended) ∷ (map (of_waiting f) b.waiting ++ (map (of_tag f b.started) others ++ map (of_done f) b.done))) =
-          IsPermutation-trans _ _ _ (IsPermutation-append_right (map (of_waiting f) b.waiting) _ _ (IsPermutation-append_left (map (of_done f) b.done ++ of_done f ended ∷ []) _ _ (tags_left (λ e u. f e) b.started tag None tags' others apart h.left)))
-            (last_front (map (of_waiting f) b.waiting) (map (of_tag f b.started) others) (map (of_done f) b.done) (of_done f ended)) in
+      IsPermutation-trans _ _ _ (IsPermutation-append_right (map (of_waiting f) b.waiting) _ _ (IsPermutation-append_left (map (of_done f) b.done ++ of_done f ended ∷ []) _ _ (tags_left (λ e u. f e) b.started tag None tags' others apart h.left)))
+      (last_front (map (of_waiting f) b.waiting) (map (of_tag f b.started) others) (map (of_done f) b.done) (of_done f ended)) in
       let second : IsPermutation (of_packets f b v) (f (entry_of held) ∷ (map (of_waiting f) b.waiting ++ (map (of_tag f b.started) others ++ map (of_done f) b.done))) =
-          second_front (map (of_waiting f) b.waiting) (map (of_tag f b.started) v.tags) (map (of_tag f b.started) others) (map (of_done f) b.done) (f (entry_of held)) (tags_on (λ e u. f e) b.started v.tags use' others held h.on.in_use on) in
+      second_front (map (of_waiting f) b.waiting) (map (of_tag f b.started) v.tags) (map (of_tag f b.started) others) (map (of_done f) b.done) (f (entry_of held)) (tags_on (λ e u. f e) b.started v.tags use' others held h.on.in_use on) in
       rw more (IsPermutation-trans _ _ _ (subst (λ (e : Entry). IsPermutation shown (f e ∷ (map (of_waiting f) b.waiting ++ (map (of_tag f b.started) others ++ map (of_done f) b.done)))) h.ends_as.same_entry first) (IsPermutation-sym _ _ second))
 
   kept_returned : (rooms : List Request) → IsKept b v rooms → Back b v tag use' others tags' class sense held ended → length v.labels + (v.depth - length v.tags) + 2 ≤ 64 → IsInOrder (view_returned v tags' use'.piece class)
@@ -232,7 +233,7 @@ module _ (b : Books) (v : AdapterView) (tag : ℕ) (use' : TagInUse) (others tag
           why = outcome_is rules b.removing v held use' sense class ended h.may work.1 h.ends_as;
         });
         reserved = All-permutation (IsRoom rules v') _ _ (IsPermutation-sym _ _ (packets_returned asked rooms k h))
-          (All-weaker (IsRoom rules v) (IsRoom rules v') (room_moves rules v v' (λ extent r. r)) (of_packets asked b v) k.reserved);
+            (All-weaker (IsRoom rules v) (IsRoom rules v') (room_moves rules v v' (λ extent r. r)) (of_packets asked b v) k.reserved);
         rooms_out = All-weaker (IsRoom rules v) (IsRoom rules v') (room_moves rules v v' (λ extent r. r)) rooms k.rooms_out;
         removing = k.removing;
         distinct = AreDistinct-DeviceStep rules (state_of b v) (Return use'.piece class) _ k.distinct (machine_returns rooms k h);
@@ -252,7 +253,7 @@ module _ (b : Books) (v : AdapterView) (tag : ℕ) (use' : TagInUse) (others tag
     same_most = refl;
     run = (state_of (books_returned b tag ended) (view_returned v tags' use'.piece class), inl (refl, machine_returns rooms k h), IsSame-refl _);
     adapter = moves_one v (view_returned v tags' use'.piece class) tag (Return use'.piece class)
-      (record { use' = use'; others = others; tags = tags'; is_on = h.on; is_piece = refl; may = h.may; in_use = h.left; after = refl });
+        (record { use' = use'; others = others; tags = tags'; is_on = h.on; is_piece = refl; may = h.may; in_use = h.left; after = refl });
   }
 
   finishes_returned : (rooms : List Request) (c : Books) (w : AdapterView) → IsKept b v rooms → Back b v tag use' others tags' class sense held ended

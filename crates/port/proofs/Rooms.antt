@@ -73,18 +73,18 @@ kept_reserved b v reserved rooms order lasts k =
 pub hand_reserved : (b : Books) (v v' : AdapterView) (rooms : List Request) → AdapterReserves v v' → IsInOrder v' → IsInHand b v rooms → IsInHand b v' rooms
 hand_reserved b v v' rooms h order k =
     subst (λ x. IsInHand b x rooms) (sym h.after) (in_hand b (with_reserved v h.reserved) rooms
-      (kept_reserved b v h.reserved rooms (subst IsInOrder h.after order) (λ extent r. subst (λ x. IsReserved x extent) h.after (h.lasts extent r)) k.kept) k.busy)
+    (kept_reserved b v h.reserved rooms (subst IsInOrder h.after order) (λ extent r. subst (λ x. IsReserved x extent) h.after (h.lasts extent r)) k.kept) k.busy)
 
 -- one place more, for a request that is bounded and reserved
 pub hand_added : (b b' : Books) (v : AdapterView) (r : Request) (rooms : List Request) → b' ≡ record b { places = b.places + 1 } → IsRoom (rules_of b.sizes) v r → IsInHand b v rooms → IsInHand b' v (r ∷ rooms)
 hand_added b b' v r rooms e room k =
     subst (λ x. IsInHand x v (r ∷ rooms)) (sym e) (in_hand (with_places b (b.places + 1)) v (r ∷ rooms)
-      (kept_places b v (b.places + 1) rooms (r ∷ rooms) (omega arith) (All-cons (IsRoom (rules_of b.sizes) v) r rooms room k.kept.rooms_out) k.kept) k.busy)
+    (kept_places b v (b.places + 1) rooms (r ∷ rooms) (omega arith) (All-cons (IsRoom (rules_of b.sizes) v) r rooms room k.kept.rooms_out) k.kept) k.busy)
 
 pub hand_freed : (b b' : Books) (v : AdapterView) (r : Request) (rooms : List Request) → b' ≡ record b { places = b.places - 1 } → IsInHand b v (r ∷ rooms) → IsInHand b' v rooms
 hand_freed b b' v r rooms e k =
     subst (λ x. IsInHand x v rooms) (sym e) (in_hand (with_places b (b.places - 1)) v rooms
-      (kept_places b v (b.places - 1) (r ∷ rooms) rooms (let c = k.kept.places in omega arith) (All-tail (IsRoom (rules_of b.sizes) v) r rooms k.kept.rooms_out) k.kept) k.busy)
+    (kept_places b v (b.places - 1) (r ∷ rooms) rooms (let c = k.kept.places in omega arith) (All-tail (IsRoom (rules_of b.sizes) v) r rooms k.kept.rooms_out) k.kept) k.busy)
 
 pub hand_same : (b b' : Books) (v : AdapterView) (rooms : List Request) → b' ≡ b → IsInHand b v rooms → IsInHand b' v rooms
 hand_same b b' v rooms e k = subst (λ x. IsInHand x v rooms) (sym e) k

@@ -89,6 +89,7 @@ in_bounds sizes r bytes some b =
   where
     le_true : (m n : ℕ) → m ≤ n → nat_le m n ≡ true
     le_true m n h = grind (arith, nat_tests)
+
     two_true : (a b : Bool) → a ≡ true → b ≡ true → (a && b) ≡ true
     two_true true true h k = refl
     two_true true false h k = cc (k)
@@ -121,6 +122,7 @@ carries_bytes sizes r (Packed srb) b c = carries_kind r.kind (Packed srb) _ (λ 
   where
     transfer : r.kind ≡ Write → transfer_length (rules_of sizes) r ≡ r.extent.count * sizes.sector_size
     transfer is = rw is refl
+
     carries_kind : (k : Kind) (payload : Payload) (n : ℕ) → (k ≡ Write → length (payload_bytes payload) ≡ n) → length (sent_bytes k payload) ≡ bytes_carried k n
     carries_kind Read payload n h = refl
     carries_kind Write payload n h = h refl

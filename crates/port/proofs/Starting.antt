@@ -67,14 +67,14 @@ front_in_turn : (b : Books) (v : AdapterView) (rooms : List Request) (front : He
 front_in_turn b v rooms front rest k is stays some =
     let owner : OpenRequest = waiting_open (rules_of b.sizes) front in
     All-append (IsInTurn owner) _ _
-      (subst (λ w. All (IsInTurn owner) (map (waiting_open (rules_of b.sizes)) w)) (sym is) (All-map (IsInTurn owner) (waiting_open (rules_of b.sizes)) (front ∷ rest)
-        (All-cons (λ h. IsInTurn owner (waiting_open (rules_of b.sizes) h)) front rest (λ lower _. absurd (omega arith))
-          (All-weaker (IsBefore front) (λ h. IsInTurn owner (waiting_open (rules_of b.sizes) h)) (λ h before lower _. absurd (omega arith)) rest (subst AreInTurn is k.in_turn).0))))
-      (All-append (IsInTurn owner) _ _
-        (All-map (IsInTurn owner) (open_on (rules_of b.sizes) b.started) v.tags
-          (All-weaker (IsAtWork (rules_of b.sizes) b.started) (λ u. IsInTurn owner (open_on (rules_of b.sizes) b.started u)) (λ u w lower timely. rw w.on_tag (started_by _ Out _ (places_some b.sizes w.held.request some w.bounded) refl refl)) v.tags k.at_work))
-        (All-map (IsInTurn owner) (done_open (rules_of b.sizes)) b.done
-          (All-weaker (HasEnded (rules_of b.sizes) b.removing) (λ d. IsInTurn owner (done_open (rules_of b.sizes) d)) (λ d e lower timely. ended d e timely) b.done k.ended)))
+    (subst (λ w. All (IsInTurn owner) (map (waiting_open (rules_of b.sizes)) w)) (sym is) (All-map (IsInTurn owner) (waiting_open (rules_of b.sizes)) (front ∷ rest)
+    (All-cons (λ h. IsInTurn owner (waiting_open (rules_of b.sizes) h)) front rest (λ lower _. absurd (omega arith))
+    (All-weaker (IsBefore front) (λ h. IsInTurn owner (waiting_open (rules_of b.sizes) h)) (λ h before lower _. absurd (omega arith)) rest (subst AreInTurn is k.in_turn).0))))
+    (All-append (IsInTurn owner) _ _
+    (All-map (IsInTurn owner) (open_on (rules_of b.sizes) b.started) v.tags
+    (All-weaker (IsAtWork (rules_of b.sizes) b.started) (λ u. IsInTurn owner (open_on (rules_of b.sizes) b.started u)) (λ u w lower timely. rw w.on_tag (started_by _ Out _ (places_some b.sizes w.held.request some w.bounded) refl refl)) v.tags k.at_work))
+    (All-map (IsInTurn owner) (done_open (rules_of b.sizes)) b.done
+    (All-weaker (HasEnded (rules_of b.sizes) b.removing) (λ d. IsInTurn owner (done_open (rules_of b.sizes) d)) (λ d e lower timely. ended d e timely) b.done k.ended)))
   where
     ended : (d : Ended) → HasEnded (rules_of b.sizes) b.removing d → d.irp.cancelled ≡ false → is_started (done_open (rules_of b.sizes) d) ≡ true
     ended d e timely = ended_started (rules_of b.sizes) d (places_some b.sizes d.request some e.bounded)
@@ -82,6 +82,7 @@ front_in_turn b v rooms front rest k is stays some =
       where
         flushed : (d : Ended) → d.outcome ≡ Flushed → HasOutcome (rules_of b.sizes) b.removing d d.outcome → IsTrue d.irp.cancelled
         flushed d o h = subst (HasOutcome (rules_of b.sizes) b.removing d) o h
+
         gone : (d : Ended) → d.outcome ≡ Gone → HasOutcome (rules_of b.sizes) b.removing d d.outcome → IsTrue b.removing
         gone d o h = subst (HasOutcome (rules_of b.sizes) b.removing d) o h
 
@@ -181,7 +182,7 @@ machine_starts b v rooms front rest tag srb packet tags' k is packs same low fre
         next_piece = refl;
         requests = requests_after rules inside count;
         pieces = subst (λ e. IsPermutation (map (piece_on rules (slice_set b.started tag (Some packet))) tags') (out_piece rules e (in_use_from v tag b.next_piece srb) ∷ map (piece_on rules b.started) v.tags)) same
-          (tags_started (out_piece rules) b.started tag packet (in_use_from v tag b.next_piece srb) v.tags tags' inside refl free p);
+            (tags_started (out_piece rules) b.started tag packet (in_use_from v tag b.next_piece srb) v.tags tags' inside refl free p);
         owed = refl;
         paused = refl;
         removing = refl;
@@ -191,17 +192,17 @@ machine_starts b v rooms front rest tag srb packet tags' k is packs same low fre
   where
     requests_after : (rules : Rules) → tag < length b.started → length (replicate (places_of rules front.request) Untouched) ≡ places_of rules front.request
         → IsPermutation (map (waiting_open rules) rest ++ (map (open_on rules (slice_set b.started tag (Some packet))) tags' ++ map (done_open rules) b.done))
-          (sent (record { first = 0; count = places_of rules front.request }) (waiting_open rules front) ∷ (map (waiting_open rules) rest ++ (map (open_on rules b.started) v.tags ++ map (done_open rules) b.done)))
+        (sent (record { first = 0; count = places_of rules front.request }) (waiting_open rules front) ∷ (map (waiting_open rules) rest ++ (map (open_on rules b.started) v.tags ++ map (done_open rules) b.done)))
     requests_after rules inside count =
         let n : ℕ = places_of rules front.request in
         let x : OpenRequest = out_open rules (entry_of packet) (in_use_from v tag b.next_piece srb) in
         let marks : splice (replicate n Untouched) 0 (replicate n Out) ≡ replicate n Out = splice_whole _ _ (let a = length-replicate n Untouched in let c = length-replicate n Out in omega arith) in
         let e : x ≡ sent (record { first = 0; count = n }) (waiting_open rules front) =
-            ap (λ (e : Entry). out_open rules e (in_use_from v tag b.next_piece srb)) same
-            ∙ ap (λ (q : Payload). open_as rules (entry_of front) q 0 (replicate n Out)) (sym packs)
-            ∙ ap (λ (ms : List Mark). open_as rules (entry_of front) front.irp.payload 0 ms) (sym marks) in
+        ap (λ (e : Entry). out_open rules e (in_use_from v tag b.next_piece srb)) same
+        ∙ ap (λ (q : Payload). open_as rules (entry_of front) q 0 (replicate n Out)) (sym packs)
+        ∙ ap (λ (ms : List Mark). open_as rules (entry_of front) front.irp.payload 0 ms) (sym marks) in
         subst (λ y. IsPermutation (map (waiting_open rules) rest ++ (map (open_on rules (slice_set b.started tag (Some packet))) tags' ++ map (done_open rules) b.done)) (y ∷ (map (waiting_open rules) rest ++ (map (open_on rules b.started) v.tags ++ map (done_open rules) b.done)))) e
-          (second_front (map (waiting_open rules) rest) _ _ (map (done_open rules) b.done) x (tags_started (out_open rules) b.started tag packet (in_use_from v tag b.next_piece srb) v.tags tags' inside refl free p))
+        (second_front (map (waiting_open rules) rest) _ _ (map (done_open rules) b.done) x (tags_started (out_open rules) b.started tag packet (in_use_from v tag b.next_piece srb) v.tags tags' inside refl free p))
 
 -- WHAT IS KEPT
 
@@ -226,8 +227,8 @@ packets_started : {Y : Type 0} (f : Entry → Y) (b : Books) (v : AdapterView) (
     → IsPermutation (of_packets f (books_started b rest tag packet) (view_started v tags' tag b.next_piece srb)) (of_packets f b v)
 packets_started f b v front rest tag srb packet tags' is same inside free p =
     subst (λ (hs : List Held). IsPermutation (of_packets f (books_started b rest tag packet) (view_started v tags' tag b.next_piece srb)) (map (of_waiting f) hs ++ (map (of_tag f b.started) v.tags ++ map (of_done f) b.done))) (sym is)
-      (subst (λ (e : Entry). IsPermutation (of_packets f (books_started b rest tag packet) (view_started v tags' tag b.next_piece srb)) (f e ∷ (map (of_waiting f) rest ++ (map (of_tag f b.started) v.tags ++ map (of_done f) b.done)))) same
-        (second_front (map (of_waiting f) rest) (map (of_tag f (slice_set b.started tag (Some packet))) tags') (map (of_tag f b.started) v.tags) (map (of_done f) b.done) (f (entry_of packet)) (tags_started (λ e u. f e) b.started tag packet (in_use_from v tag b.next_piece srb) v.tags tags' inside refl free p)))
+    (subst (λ (e : Entry). IsPermutation (of_packets f (books_started b rest tag packet) (view_started v tags' tag b.next_piece srb)) (f e ∷ (map (of_waiting f) rest ++ (map (of_tag f b.started) v.tags ++ map (of_done f) b.done)))) same
+    (second_front (map (of_waiting f) rest) (map (of_tag f (slice_set b.started tag (Some packet))) tags') (map (of_tag f b.started) v.tags) (map (of_done f) b.done) (f (entry_of packet)) (tags_started (λ e u. f e) b.started tag packet (in_use_from v tag b.next_piece srb) v.tags tags' inside refl free p)))
 
 pub kept_started : (b : Books) (v : AdapterView) (rooms : List Request) (front : Held) (rest : List Held) (tag : ℕ) (srb : Srb) (packet : Held) (tags' : List TagInUse)
     → IsKept b v rooms → b.waiting ≡ front ∷ rest → front.irp.payload ≡ Packed srb → entry_of packet ≡ entry_of front
@@ -253,7 +254,7 @@ kept_started b v rooms front rest tag srb packet tags' k is packs same low free 
       waiting = All-weaker (IsWaiting rules v) (IsWaiting rules v') (waiting_moves rules v v' (λ extent h. h)) rest (All-tail (IsWaiting rules v) front rest waits);
       in_turn = (subst AreInTurn is k.in_turn).1;
       at_work = All-permutation (IsAtWork rules (slice_set b.started tag (Some packet))) _ _ (IsPermutation-sym _ _ p)
-        (All-cons (IsAtWork rules (slice_set b.started tag (Some packet))) (in_use_from v tag b.next_piece srb) v.tags
+          (All-cons (IsAtWork rules (slice_set b.started tag (Some packet))) (in_use_from v tag b.next_piece srb) v.tags
           (record {
             held = packet;
             on_tag = get_or-set_same b.started tag (Some packet) None inside;
@@ -263,7 +264,7 @@ kept_started b v rooms front rest tag srb packet tags' k is packs same low free 
           (λ i d below. work_beside rules b.started tag (Some packet) _ (free i d below) (k.at_work i d below)));
       ended = k.ended;
       reserved = All-permutation (IsRoom rules v') _ _ (IsPermutation-sym _ _ (packets_started asked b v front rest tag srb packet tags' is same inside free p))
-        (All-weaker (IsRoom rules v) (IsRoom rules v') (room_moves rules v v' (λ extent h. h)) (of_packets asked b v) k.reserved);
+          (All-weaker (IsRoom rules v) (IsRoom rules v') (room_moves rules v v' (λ extent h. h)) (of_packets asked b v) k.reserved);
       rooms_out = All-weaker (IsRoom rules v) (IsRoom rules v') (room_moves rules v v' (λ extent h. h)) rooms k.rooms_out;
       removing = λ r. absurd (cc (k.removing r, is));
       distinct = AreDistinct-DeviceStep rules (state_of b v) (Start b.next_piece tag srb.block) _ k.distinct starts;
@@ -290,7 +291,7 @@ start_moves b v front rest tag srb packet tags' is same inside low free p starts
     same_most = refl;
     run = (state_of (books_started b rest tag packet) (view_started v tags' tag b.next_piece srb), inl (refl, starts), IsSame-refl _);
     adapter = moves_one v (view_started v tags' tag b.next_piece srb) tag (Start b.next_piece tag srb.block)
-      (refl, record { srb = srb; has_block = refl; accepts = record { tags = tags'; is_free = free; below = low; in_use = p; after = refl } });
+        (refl, record { srb = srb; has_block = refl; accepts = record { tags = tags'; is_free = free; below = low; in_use = p; after = refl } });
   };
 }
 
@@ -329,7 +330,7 @@ started_one b b' v v' rooms tag piece srb k lower s a order =
     let tags_in : IsPermutation a.tags (in_use_from v tag b.next_piece srb ∷ v.tags) = subst (λ (n : ℕ). IsPermutation a.tags (in_use_from v tag n srb ∷ v.tags)) s.is_piece a.in_use in
     let view_is : v' ≡ view_started v a.tags tag b.next_piece srb = a.after ∙ ap (λ (n : ℕ). view_started v a.tags tag n srb) s.is_piece in
     subst (λ x. Started b v tag x v') (sym s.after) (subst (λ x. Started b v tag (books_started b s.rest tag s.sent) x) (sym view_is)
-      (started_fields b v rooms s.front s.rest tag srb s.sent a.tags k s.is_front s.is_srb s.same_entry a.below a.is_free (lowers lower) tags_in (subst IsInOrder view_is order)))
+    (started_fields b v rooms s.front s.rest tag srb s.sent a.tags k s.is_front s.is_srb s.same_entry a.below a.is_free (lowers lower) tags_in (subst IsInOrder view_is order)))
   where
     lowers : AreLowerInUse b v tag → (l : ℕ) → l < tag → Any (UseHasTag l) v.tags
     lowers (inl none) l below = let e : [] ≡ s.front ∷ s.rest = sym none ∙ s.is_front in absurd (cc (e))

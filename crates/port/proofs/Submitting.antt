@@ -81,22 +81,22 @@ opens_queued b v irp r rooms k m =
         (new_request rules (state_of b v) irp.number (as_client rules r (sent_bytes r.kind irp.payload)) ∷ (map (waiting_open rules) b.waiting ++ (map (open_on rules b.started) v.tags ++ map (done_open rules) b.done)))
     requests_after rules =
         let e : waiting_open rules (held_with irp r) ≡ new_request rules (state_of b v) irp.number (as_client rules r (sent_bytes r.kind irp.payload)) =
-            ap (λ (flag : Bool). record (new_request rules (state_of b v) irp.number (as_client rules r (sent_bytes r.kind irp.payload))) { cancelled = flag }) m.not_cancelled in
+        ap (λ (flag : Bool). record (new_request rules (state_of b v) irp.number (as_client rules r (sent_bytes r.kind irp.payload))) { cancelled = flag }) m.not_cancelled in
         let p : IsPermutation ((map (waiting_open rules) b.waiting ++ waiting_open rules (held_with irp r) ∷ []) ++ (map (open_on rules b.started) v.tags ++ map (done_open rules) b.done)) (waiting_open rules (held_with irp r) ∷ (map (waiting_open rules) b.waiting ++ (map (open_on rules b.started) v.tags ++ map (done_open rules) b.done))) = behind_all (map (waiting_open rules) b.waiting) (waiting_open rules (held_with irp r)) (map (open_on rules b.started) v.tags ++ map (done_open rules) b.done) in
         subst (λ ws. IsPermutation (ws ++ (map (open_on rules b.started) v.tags ++ map (done_open rules) b.done)) (new_request rules (state_of b v) irp.number (as_client rules r (sent_bytes r.kind irp.payload)) ∷ (map (waiting_open rules) b.waiting ++ (map (open_on rules b.started) v.tags ++ map (done_open rules) b.done)))) (sym (map-append (waiting_open rules) b.waiting (held_with irp r ∷ [])))
-          (subst (λ (x : OpenRequest). IsPermutation ((map (waiting_open rules) b.waiting ++ waiting_open rules (held_with irp r) ∷ []) ++ (map (open_on rules b.started) v.tags ++ map (done_open rules) b.done)) (x ∷ (map (waiting_open rules) b.waiting ++ (map (open_on rules b.started) v.tags ++ map (done_open rules) b.done)))) e p)
+        (subst (λ (x : OpenRequest). IsPermutation ((map (waiting_open rules) b.waiting ++ waiting_open rules (held_with irp r) ∷ []) ++ (map (open_on rules b.started) v.tags ++ map (done_open rules) b.done)) (x ∷ (map (waiting_open rules) b.waiting ++ (map (open_on rules b.started) v.tags ++ map (done_open rules) b.done)))) e p)
 
 packets_queued : {Y : Type 0} (f : Entry → Y) (b : Books) (v : AdapterView) (irp : Irp) (r : Request) → IsPermutation (of_packets f (books_queued b irp r) v) (f (entry irp r) ∷ of_packets f b v)
 packets_queued {Y} f b v irp r =
     subst (λ (ws : List Y). IsPermutation (ws ++ (map (of_tag f b.started) v.tags ++ map (of_done f) b.done)) (f (entry irp r) ∷ of_packets f b v)) (sym (map-append (of_waiting f) b.waiting (held_with irp r ∷ [])))
-      (behind_all (map (of_waiting f) b.waiting) (f (entry irp r)) (map (of_tag f b.started) v.tags ++ map (of_done f) b.done))
+    (behind_all (map (of_waiting f) b.waiting) (f (entry irp r)) (map (of_tag f b.started) v.tags ++ map (of_done f) b.done))
 
 kept_queued : (b : Books) (v : AdapterView) (irp : Irp) (r : Request) (rooms : List Request) → IsKept b v (r ∷ rooms) → MayQueue b irp r → IsKept (books_queued b irp r) v rooms
 kept_queued b v irp r rooms k m =
     let rules : Rules = rules_of b.sizes in
     let room : IsRoom rules v r = All-head (IsRoom rules v) r rooms k.rooms_out in
     let below : All (numbered_below irp.number) b.waiting =
-        All-weaker (numbered_below (b.last_request + 1)) (numbered_below irp.number) (λ h low. omega (arith, m.number)) b.waiting (waiting_given rules (b.last_request + 1) b.waiting _ k.distinct.given) in
+    All-weaker (numbered_below (b.last_request + 1)) (numbered_below irp.number) (λ h low. omega (arith, m.number)) b.waiting (waiting_given rules (b.last_request + 1) b.waiting _ k.distinct.given) in
     let l = length-append b.waiting (held_with irp r ∷ []) in
     record {
       adapter = k.adapter;

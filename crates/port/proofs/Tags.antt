@@ -60,6 +60,7 @@ below_fit n xs apart below =
         let l : length (range_with_len 0 n) ≡ n = length-range_with_len 0 n in
         let zero_plus : 0 + q ≡ q = omega arith in
         (q, omega arith, get_or-range_with_len 0 n q q low ∙ zero_plus)
+
     inside : (q : ℕ) → is_member eqb xs q ≡ true → is_member eqb (range_with_len 0 n) q ≡ true
     inside q h = (is_member-Decides Decides-eqb (range_with_len 0 n) q).1 (there q ((is_member-Decides Decides-eqb xs q).0 h))
 
@@ -75,8 +76,8 @@ pub free_leaves : (view : AdapterView) (tag : ℕ) → IsInOrder view → IsFree
 free_leaves view tag order free low =
     let n : length (map tag_of view.tags) ≡ length view.tags = length-map view.tags tag_of in
     let few : length (tag ∷ map tag_of view.tags) ≤ view.depth = below_fit view.depth (tag ∷ map tag_of view.tags)
-        (IsDistinct-from_AllPairs Decides-eqb _ (AllPairs-cons (λ x y. x ≢ y) tag (map tag_of view.tags) (All-map (λ x. tag ≢ x) tag_of view.tags (λ k d l e. free k d l (sym e))) (map_apart view.tags order.tags_differ)))
-        (All-cons (λ x. x < view.depth) tag _ low (All-map (λ x. x < view.depth) tag_of view.tags order.tags_below)) in
+    (IsDistinct-from_AllPairs Decides-eqb _ (AllPairs-cons (λ x y. x ≢ y) tag (map tag_of view.tags) (All-map (λ x. tag ≢ x) tag_of view.tags (λ k d l e. free k d l (sym e))) (map_apart view.tags order.tags_differ)))
+    (All-cons (λ x. x < view.depth) tag _ low (All-map (λ x. x < view.depth) tag_of view.tags order.tags_below)) in
     omega arith
 
 -- with each tag below a bound in use, at least as many are in use

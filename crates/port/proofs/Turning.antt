@@ -62,7 +62,7 @@ module _ (b : Books) (v : AdapterView) (tag : ℕ) (use' use'' : TagInUse) (othe
       let after = tags_on (out_open rules) b.started tags' use'' others held h.in_use (on_after h) in
       let before = tags_on (out_open rules) b.started v.tags use' others held h.on.in_use (on_before h) in
       let both : IsPermutation (map (open_on rules b.started) tags') (map (open_on rules b.started) v.tags) =
-          IsPermutation-trans _ _ _ (subst (λ (x : OpenRequest). IsPermutation (map (open_on rules b.started) tags') (x ∷ map (open_on rules b.started) others)) h.same_open after) (IsPermutation-sym _ _ before) in
+      IsPermutation-trans _ _ _ (subst (λ (x : OpenRequest). IsPermutation (map (open_on rules b.started) tags') (x ∷ map (open_on rules b.started) others)) h.same_open after) (IsPermutation-sym _ _ before) in
       IsPermutation-append_right (map (waiting_open rules) b.waiting) _ _ (IsPermutation-append_left (map (done_open rules) b.done) _ _ both)
 
   packets_turned : {Y : Type 0} (f : Entry → Y) → Turned b v tag use' use'' others tags' sectors held → IsPermutation (of_packets f b (view_turned v sectors tags' failures label)) (of_packets f b v)
@@ -94,7 +94,7 @@ module _ (b : Books) (v : AdapterView) (tag : ℕ) (use' use'' : TagInUse) (othe
         waiting = All-weaker (IsWaiting rules v) (IsWaiting rules v') (waiting_moves rules v v' (λ extent r. r)) b.waiting k.waiting;
         in_turn = k.in_turn;
         at_work = All-permutation (IsAtWork rules b.started) _ _ (IsPermutation-sym _ _ h.in_use) (All-cons (IsAtWork rules b.started) use'' others
-          (record { held = held; on_tag = on_after h; bounded = work.0; doing = h.doing }) rest);
+            (record { held = held; on_tag = on_after h; bounded = work.0; doing = h.doing }) rest);
         ended = k.ended;
         reserved = All-permutation (IsRoom rules v') _ _ (IsPermutation-sym _ _ (packets_turned asked h)) (All-weaker (IsRoom rules v) (IsRoom rules v') (room_moves rules v v' (λ extent r. r)) (of_packets asked b v) k.reserved);
         rooms_out = All-weaker (IsRoom rules v) (IsRoom rules v') (room_moves rules v v' (λ extent r. r)) rooms k.rooms_out;
@@ -125,8 +125,8 @@ turned_act b v v' rooms tag piece bytes a held k on =
     let asks : AsksFor rules held.request a.use'.srb = subst (λ f. IsDoing rules held.request f a.use'.srb) a.is_fresh work.1 in
     let size = k.sizes.sector_size in
     carried b.sizes (state_of b v) held.request a.use'.srb v.sectors a.moved a.sectors a.left a.command (kept_sector_some b v rooms k) work.0 k.sizes.sectors
-      (subst (λ n. All (IsSector n) v.sectors) (sym size) k.adapter.whole_sectors) refl held.request.kind refl asks a.means
-      (subst (λ n. Performs n v.sectors a.use'.srb.data a.command a.moved a.sectors) (sym size) a.performs)
+    (subst (λ n. All (IsSector n) v.sectors) (sym size) k.adapter.whole_sectors) refl held.request.kind refl asks a.means
+    (subst (λ n. Performs n v.sectors a.use'.srb.data a.command a.moved a.sectors) (sym size) a.performs)
 
 -- all of it, of an act or a fault
 pub record IsTurned (b : Books) (v : AdapterView) (tag : ℕ) (v' : AdapterView) : Type 0 where
@@ -161,7 +161,7 @@ acted_all b v v' rooms tag piece bytes k space a order =
       arrays' = the_arrays rules a.sectors;
       fresh = record { is_out = is_out b v tag a.use' u a.others a.tags a.sectors held v.failures label h; is_number = a.is_piece; is_fresh = a.is_fresh };
       is_open = Contains-permutation _ _ _ (IsPermutation-sym _ _ (second_front (map (waiting_open rules) b.waiting) (map (open_on rules b.started) v.tags) (map (open_on rules b.started) a.others) (map (done_open rules) b.done) (out_open rules e a.use')
-        (tags_on (out_open rules) b.started v.tags a.use' a.others held a.is_on.in_use (on_before b v tag a.use' u a.others a.tags a.sectors held v.failures label h)))) (0, omega arith, refl);
+          (tags_on (out_open rules) b.started v.tags a.use' a.others held a.is_on.in_use (on_before b v tag a.use' u a.others a.tags a.sectors held v.failures label h)))) (0, omega arith, refl);
       is_owner = refl;
       covers = c.covers;
       moves = c.moves;
@@ -192,8 +192,21 @@ acted_all b v v' rooms tag piece bytes k space a order =
           same_most = refl;
           run = (state_of b x, inl (refl, step), IsSame-refl _);
           adapter = moves_one v x tag label (record {
-            use' = a.use'; others = a.others; command = a.command; moved = a.moved; sectors = a.sectors; left = a.left; tags = a.tags;
-            is_on = a.is_on; is_piece = a.is_piece; is_fresh = a.is_fresh; means = a.means; performs = a.performs; hands_over = a.hands_over; in_use = a.in_use; after = refl;
+            use' = a.use';
+            others = a.others;
+            command = a.command;
+            moved = a.moved;
+            sectors = a.sectors;
+            left = a.left;
+            tags = a.tags;
+            is_on = a.is_on;
+            is_piece = a.is_piece;
+            is_fresh = a.is_fresh;
+            means = a.means;
+            performs = a.performs;
+            hands_over = a.hands_over;
+            in_use = a.in_use;
+            after = refl;
           });
         };
       };
@@ -250,7 +263,16 @@ faulted_all b v v' rooms tag piece k space a order =
           same_most = refl;
           run = (state_of b x, inl (refl, step), IsSame-refl _);
           adapter = moves_one v x tag label (record {
-            use' = a.use'; others = a.others; tags = a.tags; failures = a.failures; is_on = a.is_on; is_piece = a.is_piece; is_fresh = a.is_fresh; counted = a.counted; in_use = a.in_use; after = refl;
+            use' = a.use';
+            others = a.others;
+            tags = a.tags;
+            failures = a.failures;
+            is_on = a.is_on;
+            is_piece = a.is_piece;
+            is_fresh = a.is_fresh;
+            counted = a.counted;
+            in_use = a.in_use;
+            after = refl;
           });
         };
       };
@@ -285,8 +307,8 @@ from_map f (x ∷ xs) y (suc k, low, is) =
 turned_not : (b : Books) (v v' : AdapterView) (tag : ℕ) → AdapterActsNot v tag v' → ActsNot (seen_of b v) tag (seen_of b v')
 turned_not b v v' tag h = record {
   none = λ piece fresh.
-    let u = from_map (piece_on (rules_of b.sizes) b.started) v.tags piece fresh.is_out in
-    h.none_fresh u.0 u.1.0 (record { in_use = u.1.1; has_tag = ap (λ (p : Piece). p.tag) u.2 ∙ fresh.is_tag }) (ap (λ (p : Piece). p.fate) u.2 ∙ fresh.is_fresh);
+      let u = from_map (piece_on (rules_of b.sizes) b.started) v.tags piece fresh.is_out in
+      h.none_fresh u.0 u.1.0 (record { in_use = u.1.1; has_tag = ap (λ (p : Piece). p.tag) u.2 ∙ fresh.is_tag }) (ap (λ (p : Piece). p.fate) u.2 ∙ fresh.is_fresh);
   same = ap (λ (x : AdapterView). seen_of b x) h.same;
 }
 

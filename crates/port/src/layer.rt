@@ -102,7 +102,8 @@ fn information(request: &Request, sizes: &Sizes, status: NtStatus) -> u64
     ensures { result ≡ information_of (as_client (rules_of sizes.now) request.now []) status }
 {
     match (status, request.kind) {
-        (NtStatus::Success, Kind::Read | Kind::Write) => request.extent.count * sizes.sector_size as u64,
+        (NtStatus::Success, Kind::Read | Kind::Write) => request.extent.count
+            * sizes.sector_size as u64,
         _ => 0,
     }
 }
@@ -129,7 +130,11 @@ impl<A: Adapter> Device for Port<A> {
     }
 
     fn sectors(&self, volume: u8) -> u64 {
-        if volume == 0 { self.queues.sizes.sectors } else { 0 }
+        if volume == 0 {
+            self.queues.sizes.sectors
+        } else {
+            0
+        }
     }
 
     fn longest(&self) -> u64 {
@@ -188,11 +193,13 @@ impl<A: Adapter> Device for Port<A> {
     }
 
     fn take_done(&mut self) -> Option<(Climb, PortRoom)> {
-        let Some(Ended {
-            irp,
-            request,
-            outcome,
-        }) = self.queues.take_done()
+        let Some(
+            Ended {
+                irp,
+                request,
+                outcome,
+            },
+        ) = self.queues.take_done()
         else {
             return None;
         };

@@ -16,7 +16,6 @@ mod layer;
 mod queues;
 mod turns;
 
-
 use device::{Device, Request};
 use miniport::Adapter;
 use queues::{Queues, Sizes};
@@ -53,9 +52,6 @@ impl<A: Adapter> Port<A> {
             depth: adapter.depth(),
         };
         let queues = Queues::new(alloc, sizes)?;
-        Ok(Port {
-            adapter,
-            queues,
-        })
+        Ok(Port { adapter, queues })
     }
 }

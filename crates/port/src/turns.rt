@@ -100,7 +100,8 @@ impl Queues {
         let Some(places) = self.places.checked_add(1) else {
             return Err(AllocError);
         };
-        self.waiting.reserve(places.saturating_sub(self.waiting.len()))?;
+        self.waiting
+            .reserve(places.saturating_sub(self.waiting.len()))?;
         self.done.reserve(places.saturating_sub(self.done.len()))?;
         self.places = places;
         Ok(())
@@ -185,14 +186,18 @@ impl Queues {
     fn find_waiting(&self, number: u128) -> Option<usize>
         ensures { result ≡ position (can_cancel_held number) self.now.waiting.items }
     {
-        self.waiting.iter().position(|held| is_cancellable(&held.irp, number))
+        self.waiting
+            .iter()
+            .position(|held| is_cancellable(&held.irp, number))
     }
 
     /// Where the packet of this number stands that has ended and is not cancelled yet.
     fn find_done(&self, number: u128) -> Option<usize>
         ensures { result ≡ position (can_cancel_ended number) self.now.done.items }
     {
-        self.done.iter().position(|ended| is_cancellable(&ended.irp, number))
+        self.done
+            .iter()
+            .position(|ended| is_cancellable(&ended.irp, number))
     }
 
     /// The packet of this number is flushed, where it waits and is not cancelled yet.

@@ -37,4 +37,4 @@ pub returns : goal.returns
 returns c =
     let k = c.in_default.ensures.cases in
     drained_by (books_of c.args.self.now) (books_of c.loop-irp.self) c.loop-irp.invariant.before c.pop_front.new.self.items c.loop-irp.invariant.waited c.loop-irp.invariant.went c.loop-irp.invariant.others
-      (omega (arith, c.loop-irp.self.waiting.ok)) (omega (arith, c.pop_front.new.self.ok))
+    (omega (arith, c.loop-irp.self.waiting.ok)) (omega (arith, c.pop_front.new.self.ok))
