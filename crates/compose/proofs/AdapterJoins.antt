@@ -1,0 +1,62 @@
+-- Moves of an adapter, one after another: they join, and record their labels.
+use Rattle.std.proofs.Common.{◌≡◌, ◌≤◌, inl, inr, ℕ, ◌+◌, List, [], ◌∷◌, ◌++◌, refl, sym, ◌∙◌, ap, subst, arith, map, append_assoc}
+use Rattle.std.specs.Prelude.{◌⊎◌, IsPermutation}
+use Rattle.std.proofs.lemmas.List.{append-nil}
+use Rattle.std.proofs.lemmas.List.Sorted.{IsPermutation-trans, IsPermutation-map}
+use Rattle.srb.specs.declared.DeviceLabel.{DeviceLabel}
+use Rattle.srb.specs.declared.DeviceLabel.TheVariants.{Start, Act, Fault, Return}
+use Rattle.srb.specs.Adapter.{AdapterView, TagInUse, met_by_reset, MovesUnseen, MovesBy, MovesOn, MovesByAll}
+use Rattle.compose.specs.Right.{AdapterMoves}
+
+-- a reset that is noted twice is noted
+noted_twice : (tags : List TagInUse) → map met_by_reset (map met_by_reset tags) ≡ map met_by_reset tags
+noted_twice [] = refl
+noted_twice (use' ∷ tags) = ap (λ more. met_by_reset use' ∷ more) (noted_twice tags)
+
+both_noted : (old mid tags : List TagInUse) → IsPermutation mid old ⊎ IsPermutation mid (map met_by_reset old) → IsPermutation tags mid ⊎ IsPermutation tags (map met_by_reset mid)
+    → IsPermutation tags old ⊎ IsPermutation tags (map met_by_reset old)
+both_noted old mid tags (inl a) (inl b) = inl (IsPermutation-trans tags mid old b a)
+both_noted old mid tags (inl a) (inr b) = inr (IsPermutation-trans tags (map met_by_reset mid) (map met_by_reset old) b (IsPermutation-map met_by_reset mid old a))
+both_noted old mid tags (inr a) (inl b) = inr (IsPermutation-trans tags mid (map met_by_reset old) b a)
+both_noted old mid tags (inr a) (inr b) =
+    inr (subst (λ more. IsPermutation tags more) (noted_twice old)
+    (IsPermutation-trans tags (map met_by_reset mid) (map met_by_reset (map met_by_reset old)) b (IsPermutation-map met_by_reset mid (map met_by_reset old) a)))
+
+pub unseen_joined : (old mid new : AdapterView) → MovesUnseen old mid → MovesUnseen mid new → MovesUnseen old new
+unseen_joined old mid new a b = record {
+  tags = b.tags;
+  failures = b.failures;
+  reserved = b.reserved;
+  in_use = both_noted old.tags a.tags b.tags a.in_use (subst (λ (v : AdapterView). IsPermutation b.tags v.tags ⊎ IsPermutation b.tags (map met_by_reset v.tags)) a.after b.in_use);
+  counted = let same : mid.failures ≡ a.failures = ap (λ (v : AdapterView). v.failures) a.after in let first : old.failures ≤ a.failures = a.counted in let second : mid.failures ≤ b.failures = b.counted in omega arith;
+  after = b.after ∙ ap (λ (v : AdapterView). record v { tags = b.tags; failures = b.failures; reserved = b.reserved }) a.after;
+  lasts = λ extent reserved. b.lasts extent (a.lasts extent reserved);
+}
+
+pub moves_joined : (old : AdapterView) (labels : List DeviceLabel) (mid : AdapterView) (more : List DeviceLabel) (new : AdapterView)
+    → MovesByAll old labels mid → MovesByAll mid more new → MovesByAll old (labels ++ more) new
+moves_joined old [] mid [] new a b = unseen_joined old mid new a b
+moves_joined old [] mid (label ∷ more) new a b = (b.0, b.1, unseen_joined old mid b.0 a b.2, b.3, b.4)
+moves_joined old (label ∷ labels) mid more new a b = (a.0, a.1, a.2, a.3, moves_joined a.1 labels mid more new a.4 b)
+
+label_moved : (tag : ℕ) (old : AdapterView) (label : DeviceLabel) (new : AdapterView) → MovesOn old tag label new → new.labels ≡ old.labels ++ label ∷ []
+label_moved tag old (Start piece started block) new h =
+    ap (λ (v : AdapterView). v.labels) h.1.accepts.after
+    ∙ ap (λ t. old.labels ++ Start piece t h.1.srb.block ∷ []) (sym h.0)
+    ∙ ap (λ b. old.labels ++ Start piece started b ∷ []) h.1.has_block
+label_moved tag old (Act piece bytes) new h = ap (λ (v : AdapterView). v.labels) h.after
+label_moved tag old (Fault piece) new h = ap (λ (v : AdapterView). v.labels) h.after
+label_moved tag old (Return piece class) new h = ap (λ (v : AdapterView). v.labels) h.after
+
+-- just these labels are recorded
+pub labels_moved : (old : AdapterView) (labels : List DeviceLabel) (new : AdapterView) → MovesByAll old labels new → new.labels ≡ old.labels ++ labels
+labels_moved old [] new h = ap (λ (v : AdapterView). v.labels) h.after ∙ sym (append-nil old.labels)
+labels_moved old (label ∷ labels) new h =
+    labels_moved h.1 labels new h.4
+    ∙ ap (λ first. first ++ labels) (label_moved h.3.0 h.0 label h.1 h.3.1 ∙ ap (λ first. first ++ label ∷ []) (ap (λ (v : AdapterView). v.labels) h.2.after))
+    ∙ append_assoc old.labels (label ∷ []) labels
+
+-- moves whose labels were not taken yet, and then moves whose labels were
+pub taken_joined : (old : AdapterView) (labels : List DeviceLabel) (mid : AdapterView) (more : List DeviceLabel) (new : AdapterView)
+    → MovesByAll old labels mid → AdapterMoves mid more new → AdapterMoves old (labels ++ more) new
+taken_joined old labels mid more new a b = record { moved = b.moved; moves = moves_joined old labels mid more b.moved a b.moves; taken = b.taken }

@@ -1,0 +1,194 @@
+-- Acts and returns of the adapter as steps of the stack.
+use Rattle.std.proofs.Common.{◌≡◌, ◌≤◌, inl, inr, ℕ, List, [], ◌∷◌, ◌++◌, Option, Some, None, refl, sym, ◌∙◌, ap, subst, arith, map}
+use Rattle.std.specs.Prelude.{IsPermutation, All, ◌⊎◌, IsTrue}
+use Rattle.std.proofs.lemmas.List.Sorted.{All-permutation, IsPermutation-refl, IsPermutation-sym}
+use Rattle.std.proofs.lemmas.List.Elements.{All-append, All-weaker}
+use Rattle.ntstatus.specs.declared.NtStatus.{NtStatus}
+use Rattle.srb.specs.declared.DeviceLabel.{DeviceLabel}
+use Rattle.srb.specs.declared.DeviceLabel.TheVariants.{Start, Act as ActLabel, Fault, Return}
+use Rattle.srb.specs.Adapter.{AdapterView, MovesUnseen}
+use Rattle.device.specs.Rules.{Rules}
+use Rattle.device.specs.State.{Mark, Untouched, Out, Done, Failed, Back, OpenRequest, State}
+use Rattle.device.specs.Answering.{IsGivenUp, HasEnded}
+use Rattle.device.specs.Step.{Run}
+use Rattle.device.specs.Seen.{Seen, IsOrderly}
+use Rattle.device.specs.Served.{as_label, IsStart, IsActOrFault, IsFreshOn, Moves, ActsOn, ActsNot, Finishes, FinishesNot, IsUnfinished}
+use Rattle.device.proofs.Same.{IsSame-refl}
+use Rattle.compose.specs.declared.OpenHandle.{OpenHandle}
+use Rattle.compose.specs.declared.Event.TheVariants.{Act, Finish}
+use Rattle.compose.specs.declared.Reply.TheVariants.{Ok as OkReply, Ignored}
+use Rattle.compose.specs.declared.admission.Limits.{Limits}
+use Rattle.compose.specs.declared.tables.Tables.{Tables}
+use Rattle.compose.specs.Shown.{StackView, Holder}
+use Rattle.compose.specs.Right.{SameHandles, tells_nothing, unless_answered, IsRightBy, IsRight}
+use Rattle.compose.specs.Sound.{view_of, IsSound, IsAtRest, Collects}
+use Rattle.compose.proofs.Righting.{IsServed, told_by, rests, IsRightBy-served}
+
+-- NOTHING HAPPENS
+
+none_answered : (holder : Option Holder) → holder ≡ unless_answered [] holder
+none_answered None = refl
+none_answered (Some holder) = refl
+
+adapter_stays : (v : AdapterView) → MovesUnseen v v
+adapter_stays v = record {
+  tags = v.tags;
+  failures = v.failures;
+  reserved = v.reserved;
+  in_use = inl (IsPermutation-refl v.tags);
+  counted = omega arith;
+  after = refl;
+  lasts = λ extent reserved. reserved;
+}
+
+-- with nothing told, handles alone may change
+pub IsRightBy-unmoved : (v : StackView) (handles : List (Option OpenHandle)) (next_handle : ℕ) → v.labels ≡ [] → v.adapter.labels ≡ []
+    → IsRightBy (tells_nothing v) v (record v { handles = handles; next_handle = next_handle })
+IsRightBy-unmoved v handles next_handle none_told none_recorded = record {
+  in_order = none_told;
+  rising = tt;
+  same_rules = refl;
+  run = subst (λ labels. Run v.rules v.state labels v.state) (sym none_told) (IsSame-refl v.state);
+  adapter = record { moved = v.adapter; moves = adapter_stays v.adapter; taken = ap (λ labels. record v.adapter { labels = labels }) none_recorded };
+  outside = λ sector apart. refl;
+  holders = λ slot. none_answered _;
+  waiting = IsPermutation-refl v.answers;
+}
+
+-- WHAT HAS NOT ENDED
+
+given_up : (s t : State) → s.removing ≡ t.removing → (o : OpenRequest) (status : NtStatus) → IsGivenUp s o status → IsGivenUp t o status
+given_up s t same o status (inl cancelled) = inl cancelled
+given_up s t same o status (inr removed) = inr (subst (λ r. IsTrue r) same removed.0, removed.1)
+
+ended : (rules : Rules) (s t : State) → s.removing ≡ t.removing → (o : OpenRequest) (mark : Mark) → HasEnded rules s o mark → HasEnded rules t o mark
+ended rules s t same o mark (inl done) = inl done
+ended rules s t same o (Failed failure) (inr h) = inr h
+ended rules s t same o Untouched (inr h) = inr (h.0, given_up s t same o h.0 h.1)
+ended rules s t same o Back (inr h) = inr (h.0, elim h.1 [ inl gone ↦ inl (given_up s t same o h.0 gone) | inr busy ↦ inr busy ])
+ended rules s t same o Out (inr h) = absurd h.1
+ended rules s t same o (Done sector) (inr h) = absurd h.1
+
+pub IsUnfinished-same : (rules : Rules) (s t : State) → s.removing ≡ t.removing → IsPermutation s.requests t.requests → All (IsUnfinished rules s) s.requests → All (IsUnfinished rules t) t.requests
+IsUnfinished-same rules s t same requests h =
+    All-weaker (IsUnfinished rules s) (IsUnfinished rules t)
+    (λ o unfinished over. unfinished (All-weaker (HasEnded rules t o) (HasEnded rules s o) (ended rules t s (sym same) o) o.marks over))
+    t.requests (All-permutation (IsUnfinished rules s) _ _ requests h)
+
+-- an act or a fault ends no request
+unfinished_after : (rules : Rules) (number : ℕ) (label : DeviceLabel) (s s' : State) → IsActOrFault number label → Run rules s (as_label label ∷ []) s'
+    → All (IsUnfinished rules s) s.requests → All (IsUnfinished rules s') s'.requests
+unfinished_after rules number (ActLabel piece bytes) s s' told (mid, inl (free, step), run) h =
+    IsUnfinished-same rules mid s' run.removing run.requests
+    (IsUnfinished-same rules s mid (sym step.after.removing) (IsPermutation-sym _ _ step.after.requests) h)
+unfinished_after rules number (Fault piece) s s' told (mid, inl (free, step), run) h =
+    IsUnfinished-same rules mid s' run.removing run.requests
+    (IsUnfinished-same rules s mid (sym step.after.removing) (IsPermutation-sym _ _ step.after.requests) h)
+unfinished_after rules number (Start piece tag block) s s' told run h = absurd told
+unfinished_after rules number (Return piece class) s s' told run h = absurd told
+unfinished_after rules number (ActLabel piece bytes) s s' told (mid, inr none, run) h = absurd none
+unfinished_after rules number (Fault piece) s s' told (mid, inr none, run) h = absurd none
+
+-- ACTS AND RETURNS
+
+module _ (limits : Limits) (below : Seen) (tables : Tables) where
+  -- an adapter step opens nothing
+  served : (labels : List DeviceLabel) (below1 : Seen) → IsSound limits below tables → IsOrderly below → IsAtRest below → (tables.labels.items ≡ []) × (below.adapter.labels ≡ []) → Moves below labels below1
+      → IsServed limits below tables [] labels below1 tables
+  served labels below1 sound orderly rest taken moves = record {
+    opened = below.state;
+    packets = below.packets;
+    submitted = below.submitted;
+    read = orderly.read;
+    rest = rest;
+    none_untaken = taken.1;
+    on_disk = sound.on_disk;
+    opened_on_disk = sound.on_disk;
+    same_arrays = refl;
+    run = IsSame-refl _;
+    moves = moves;
+    own_labels = taken.0;
+    same_waiting = refl;
+  }
+
+  same_handles : (below1 below2 : Seen) (tables2 : Tables) → Collects below1 tables below2 tables2 → SameHandles (view_of limits below tables) (view_of limits below2 tables2)
+  same_handles below1 below2 tables2 c = record { handles = ap (λ handles. handles.slots) c.same_handles; next_handle = c.same_next_handle }
+
+  pub IsRight-act : (tag : ℕ) (below1 below2 : Seen) (tables2 : Tables) → IsSound limits below tables → IsOrderly below → IsAtRest below
+      → (tables.labels.items ≡ []) × (below.adapter.labels ≡ []) → ActsOn below tag below1 → Collects below1 tables below2 tables2 → IsOrderly below2
+      → IsRight (view_of limits below tables) (Act tag) OkReply (view_of limits below2 tables2) × IsAtRest below2
+  IsRight-act tag below1 below2 tables2 sound orderly rest taken acts c orderly2 =
+      let moves : Moves below (acts.label ∷ []) below1 = acts.moves in
+      let unfinished : All (IsUnfinished below1.rules below1.state) below1.state.requests =
+      subst (λ r. All (IsUnfinished r below1.state) below1.state.requests) (sym moves.same_rules)
+      (unfinished_after below.rules acts.piece.number acts.label below.state below1.state acts.told moves.run rest.unfinished) in
+      let h : IsServed limits below tables [] (acts.label ∷ []) below1 tables = served (acts.label ∷ []) below1 sound orderly rest taken moves in (
+        record {
+          told = told_by limits below tables [] (acts.label ∷ []) below1 tables below2 tables2 h c;
+          replies = (
+            record {
+              piece = acts.piece;
+              label = acts.label;
+              fresh = record { is_out = acts.fresh.is_out; is_tag = acts.fresh.is_tag; is_fresh = acts.fresh.is_fresh };
+              acts = acts.told;
+              no_own = refl;
+              device = ap (λ starts. acts.label ∷ starts) (c.quiet unfinished).0;
+              holders = refl;
+            },
+            same_handles below1 below2 tables2 c,
+          );
+          by = IsRightBy-served limits below tables [] (acts.label ∷ []) below1 tables below2 tables2 h c orderly2.read;
+        },
+        rests limits below tables [] (acts.label ∷ []) below1 tables below2 tables2 h c,
+      )
+
+  pub IsRight-act_ignored : (tag : ℕ) (below' : Seen) → (tables.labels.items ≡ []) × (below.adapter.labels ≡ []) → ActsNot below tag below'
+      → IsRight (view_of limits below tables) (Act tag) Ignored (view_of limits below' tables)
+  IsRight-act_ignored tag below' taken h =
+      subst (λ (seen : Seen). IsRight (view_of limits below tables) (Act tag) Ignored (view_of limits seen tables)) (sym h.same)
+      (record {
+        told = tells_nothing (view_of limits below tables);
+        replies = (
+          (record { nothing = refl; same_state = refl }, record { none = λ piece fresh. h.none piece (record { is_out = fresh.is_out; is_tag = fresh.is_tag; is_fresh = fresh.is_fresh }) }),
+          record { handles = refl; next_handle = refl },
+        );
+        by = IsRightBy-unmoved (view_of limits below tables) tables.handles.slots tables.next_handle taken.0 taken.1;
+      })
+
+  pub IsRight-finish : (tag : ℕ) (below1 below2 : Seen) (tables2 : Tables) → IsSound limits below tables → IsOrderly below → IsAtRest below
+      → (tables.labels.items ≡ []) × (below.adapter.labels ≡ []) → Finishes below tag below1 → Collects below1 tables below2 tables2 → IsOrderly below2
+      → IsRight (view_of limits below tables) (Finish tag) OkReply (view_of limits below2 tables2) × IsAtRest below2
+  IsRight-finish tag below1 below2 tables2 sound orderly rest taken finishes c orderly2 =
+      let moves : Moves below (Return finishes.piece.number finishes.class ∷ finishes.starts) below1 = finishes.moves in
+      let h : IsServed limits below tables [] (Return finishes.piece.number finishes.class ∷ finishes.starts) below1 tables =
+      served (Return finishes.piece.number finishes.class ∷ finishes.starts) below1 sound orderly rest taken moves in (
+        record {
+          told = told_by limits below tables [] (Return finishes.piece.number finishes.class ∷ finishes.starts) below1 tables below2 tables2 h c;
+          replies = (
+            record {
+              piece = finishes.piece;
+              class = finishes.class;
+              starts = finishes.starts ++ c.starts;
+              is_out = finishes.is_out;
+              is_tag = finishes.is_tag;
+              only_starts = All-append IsStart finishes.starts c.starts finishes.only_starts c.only_starts;
+              no_own = refl;
+              device = refl;
+              holders = refl;
+            },
+            same_handles below1 below2 tables2 c,
+          );
+          by = IsRightBy-served limits below tables [] (Return finishes.piece.number finishes.class ∷ finishes.starts) below1 tables below2 tables2 h c orderly2.read;
+        },
+        rests limits below tables [] (Return finishes.piece.number finishes.class ∷ finishes.starts) below1 tables below2 tables2 h c,
+      )
+
+  pub IsRight-finish_ignored : (tag : ℕ) (below' : Seen) → (tables.labels.items ≡ []) × (below.adapter.labels ≡ []) → FinishesNot below tag below'
+      → IsRight (view_of limits below tables) (Finish tag) Ignored (view_of limits below' tables)
+  IsRight-finish_ignored tag below' taken h =
+      subst (λ (seen : Seen). IsRight (view_of limits below tables) (Finish tag) Ignored (view_of limits seen tables)) (sym h.same)
+      (record {
+        told = tells_nothing (view_of limits below tables);
+        replies = ((record { nothing = refl; same_state = refl }, h.free), record { handles = refl; next_handle = refl });
+        by = IsRightBy-unmoved (view_of limits below tables) tables.handles.slots tables.next_handle taken.0 taken.1;
+      })

@@ -1,0 +1,189 @@
+-- The tables stay sound when a request is opened and its packet goes down.
+use Rattle.std.proofs.Common.{◌≡◌, ◌≢◌, ◌<◌, ◌≤◌, ◌⊎◌, inl, inr, ℕ, ◌+◌, ◌*◌, ◌/◌, ◌^◌, List, ◌∷◌, Some, None, refl, sym, ◌∙◌, ap, subst, arith, length, map}
+use Rattle.std.specs.Prelude.{IsFalse, All, Contains}
+use Rattle.std.specs.VecDeque.{deque_len, deque_capacity}
+use Rattle.std.proofs.lemmas.Bool.{cases_eq}
+use Rattle.std.proofs.lemmas.List.Elements.{All-cons, All-weaker, All-contains, All-map}
+use Rattle.slab.proofs.SlabLemmas.{Contains-cons}
+use Rattle.slab.specs.Slab.{Slab, get, slab_len, Updates as SlabUpdates}
+use Rattle.device.specs.declared.Kind.TheVariants.{Read}
+use Rattle.device.specs.declared.ClientRequest.{ClientRequest}
+use Rattle.device.specs.Rules.{Rules, as_client}
+use Rattle.device.specs.State.{OpenRequest as OpenBelow, State}
+use Rattle.device.specs.Calling.{Opens, new_request}
+use Rattle.device.specs.Numbers.{request_number, IsGiven}
+use Rattle.device.specs.Seen.{Seen, sent_bytes}
+use Rattle.device.proofs.Same.{IsSame-sym}
+use Rattle.compose.specs.declared.Answer.{Answer}
+use Rattle.compose.specs.declared.Handle.{Handle}
+use Rattle.compose.specs.declared.admission.Limits.{Limits}
+use Rattle.compose.specs.declared.admission.Places.{Places}
+use Rattle.compose.specs.declared.tables.OpenRequest.{OpenRequest}
+use Rattle.compose.specs.declared.tables.Tables.{Tables}
+use Rattle.compose.specs.Calls.{number_limit}
+use Rattle.compose.specs.OnDisk.{on_partition, IsOnDisk}
+use Rattle.compose.specs.Ordering.{HasOtherNumber}
+use Rattle.compose.specs.Sound.{partitions_of, rules_of, IsHeldAt, AreHeld, IsTopmost, WasGiven, AreApart, IsSound}
+use Rattle.compose.specs.Admitting.{request_on_disk, HasBuffers, Admits, SendsDown, IsAdmissible}
+use Rattle.compose.proofs.OnDiskCalls.{Opens-over}
+use Rattle.compose.proofs.Askings.{KeepsAsked-same, AreHeld-along}
+use Rattle.compose.proofs.Righting.{IsSound-moves}
+use Rattle.compose.proofs.Handing.{numbers_last}
+use Rattle.compose.proofs.Fitting.{AsksBy, asks_whole, free_place}
+
+-- a slot in use is another than the one that was free
+other_slot : {X : Type 0} (table : Slab X) (slot free : ℕ) (item : X) → get table slot ≡ Some item → get table free ≡ None → slot ≢ free
+other_slot table slot free item there none same = let e : Some item ≡ None = sym there ∙ ap (get table) same ∙ none in cc (e)
+
+-- what a slot holds after one more was filled: the new item, or what it held
+cases_held : {X : Type 0} (old new : Slab X) (slot : ℕ) (item : X) → SlabUpdates old new slot (Some item) → (other : ℕ) (there : X) → get new other ≡ Some there
+    → ((other ≡ slot) × (item ≡ there)) ⊎ ((other ≢ slot) × (get old other ≡ Some there))
+cases_held old new slot item updates other there h = elim (cases_eq other slot) [
+  | inl same ↦ let e : Some item ≡ Some there = sym updates.changed ∙ ap (get new) (sym same) ∙ h in inl (same, cc (e))
+  | inr apart ↦ inr (apart, sym (updates.others other apart) ∙ h)
+]
+
+held_still : (old new : Slab OpenRequest) (slot : ℕ) (entry : OpenRequest) → get old slot ≡ None → SlabUpdates old new slot (Some entry) → (o : OpenBelow) → IsHeldAt old o → IsHeldAt new o
+held_still old new slot entry free updates o h = record {
+  slot = h.slot;
+  request = h.request;
+  there = updates.others h.slot (other_slot old h.slot slot h.request h.there free) ∙ h.there;
+  same_number = h.same_number;
+  same_kind = h.same_kind;
+  label_bytes = h.label_bytes;
+}
+
+-- one more request is open below and in the table
+AreHeld-more : (old new : Slab OpenRequest) (slot : ℕ) (entry : OpenRequest) (opened : OpenBelow) (below : List OpenBelow) (next : ℕ) → get old slot ≡ None → SlabUpdates old new slot (Some entry)
+    → slab_len new ≡ slab_len old + 1 → entry.number ≡ opened.number → entry.kind ≡ opened.request.kind → (opened.request.kind ≡ Read → length entry.label_bytes ≡ opened.request.length)
+    → All (IsGiven next) below → next ≤ entry.number → AreHeld old below → AreHeld new (opened ∷ below)
+AreHeld-more old new slot entry opened below next free updates counted number kind label_bytes given later h =
+    record {
+      held =
+          All-cons (IsHeldAt new) opened below
+          (record { slot = slot; request = entry; there = updates.changed; same_number = number; same_kind = kind; label_bytes = label_bytes })
+          (All-weaker (IsHeldAt old) (IsHeldAt new) (held_still old new slot entry free updates) below h.held);
+      is_open = λ other request there. elim (cases_held old new slot entry updates other request there) [
+        | inl (same, is) ↦ at_first (map request_number below) (sym (ap (λ (e : OpenRequest). e.number) is) ∙ number)
+        | inr (apart, before) ↦ Contains-cons opened.number request.number (map request_number below) (h.is_open other request before)
+      ];
+      one_slot = λ a b first second at_a at_b same.
+          only (cases_held old new slot entry updates a first at_a) (cases_held old new slot entry updates b second at_b) same;
+      counted = let before : slab_len old ≡ length below = h.counted in omega arith;
+    }
+  where
+    at_first : {n m : ℕ} (more : List ℕ) → m ≡ n → Contains (n ∷ more) m
+    at_first {n} {m} more e = subst (λ k. Contains (n ∷ more) k) (sym e) (0, omega arith, refl)
+
+    before_it : (a : ℕ) (request : OpenRequest) → get old a ≡ Some request → request.number < entry.number
+    before_it a request there =
+        let low : request.number < next = All-contains (λ n. n < next) (map request_number below) request.number (All-map (λ n. n < next) request_number below given) (h.is_open a request there) in
+        omega arith
+
+    only : {a b : ℕ} {first second : OpenRequest} → ((a ≡ slot) × (entry ≡ first)) ⊎ ((a ≢ slot) × (get old a ≡ Some first))
+        → ((b ≡ slot) × (entry ≡ second)) ⊎ ((b ≢ slot) × (get old b ≡ Some second)) → first.number ≡ second.number → a ≡ b
+    only (inl (same_a, is_a)) (inl (same_b, is_b)) same = same_a ∙ sym same_b
+    only {a} {b} {first} {second} (inl (same_a, is_a)) (inr (apart, there)) same =
+        let low : second.number < entry.number = before_it b second there in let e : entry.number ≡ first.number = ap (λ (e : OpenRequest). e.number) is_a in absurd (omega arith)
+    only {a} {b} {first} {second} (inr (apart, there)) (inl (same_b, is_b)) same =
+        let low : first.number < entry.number = before_it a first there in let e : entry.number ≡ second.number = ap (λ (e : OpenRequest). e.number) is_b in absurd (omega arith)
+    only {a} {b} {first} {second} (inr (apart_a, at_a)) (inr (apart_b, at_b)) same = h.one_slot a b first second at_a at_b same
+
+-- no answer that waits is the new request's
+AreApart-more : (old new : Slab OpenRequest) (slot : ℕ) (entry : OpenRequest) (answers : List Answer) → SlabUpdates old new slot (Some entry)
+    → All (WasGiven entry.number) answers → AreApart old answers → AreApart new answers
+AreApart-more old new slot entry answers updates before h = λ other request there. elim (cases_held old new slot entry updates other request there) [
+  | inl (same, is) ↦ subst (λ (e : OpenRequest). All (HasOtherNumber e.number) answers) is (All-weaker (WasGiven entry.number) (HasOtherNumber entry.number) (λ answer low same'. absurd (omega arith)) answers before)
+  | inr (apart, still) ↦ h other request still
+]
+
+module _ (limits : Limits) (below : Seen) (tables : Tables) (q : ClientRequest) (h : IsSound limits below tables) (k : IsAdmissible limits below tables q) where
+  abbrev over : Rules
+  over = rules_of limits below.rules
+
+  -- the request as its call tells it
+  abbrev pub as_told : List ℕ → ClientRequest
+  as_told bytes = record q { bytes = bytes }
+
+  as_asked : (bytes : List ℕ) → as_told bytes ≡ record {
+    partition = Some 0;
+    kind = q.kind;
+    offset = q.offset / limits.sector_size * below.rules.sector_size;
+    length = q.length / limits.sector_size * below.rules.sector_size;
+    through = q.through;
+    bytes = bytes;
+  }
+  as_asked bytes =
+      let asks : AsksBy over below.rules q limits.sector_size = asks_whole limits below tables q h k in
+      ap (λ p. record q { partition = p; bytes = bytes }) asks.on_first
+      ∙ ap (λ n. record q { partition = Some 0; offset = n; bytes = bytes }) asks.offset
+      ∙ ap (λ n. record q { partition = Some 0; offset = q.offset / limits.sector_size * below.rules.sector_size; length = n; bytes = bytes }) asks.length_is
+
+  -- what the disk's machine opens, the partition's opens
+  pub opened_above : (number : ℕ) (bytes : List ℕ) (opened : State) → number ≡ tables.next_request → Opens below.rules below.state number (as_client below.rules (request_on_disk limits q) bytes) opened
+      → Opens over (on_partition over tables.next_request below.state) tables.next_request (as_told bytes) (on_partition over (tables.next_request + 1) opened) × IsOnDisk over below.rules opened
+  opened_above number bytes opened same opens =
+      let asks : AsksBy over below.rules q limits.sector_size = asks_whole limits below tables q h k in
+      Opens-over (partitions_of limits.partition) limits.open_requests limits.window below.rules tables.next_request below.state number (request_on_disk limits q) bytes (q.offset / limits.sector_size)
+      (as_told bytes) opened h.on_disk opens same refl refl asks.inside (as_asked bytes) k.not_refused
+
+  pub admitted_sound : (handle : Handle) (places : Places) (slot : ℕ) (tables1 : Tables) (buffer : List ℕ) (below1 : Seen) → HasBuffers q.kind buffer places → q.length ≡ length buffer
+      → deque_len tables.waiting + (slab_len tables.requests + 1) ≤ deque_capacity tables.waiting → Admits tables handle q places slot tables1
+      → SendsDown below tables.next_request (request_on_disk limits q) buffer below1 → IsSound limits below1 tables1
+  admitted_sound handle places slot tables1 buffer below1 buffers same_length place admits sends =
+      subst (IsSound limits below1) (sym admits.after)
+      (IsSound-moves limits (record below { state = sends.submits.opened; packets = sends.packet ∷ below.packets; submitted = below.submitted + 1 })
+      (record tables { next_request = tables.next_request + 1; requests = tables1.requests; labels = tables1.labels }) sends.submits.starts below1 opened sends.submits.moves)
+    where
+      asked : ClientRequest
+      asked = as_client below.rules (request_on_disk limits q) (sent_bytes q.kind sends.payload)
+
+      opened : IsSound limits (record below { state = sends.submits.opened; packets = sends.packet ∷ below.packets; submitted = below.submitted + 1 })
+          (record tables { next_request = tables.next_request + 1; requests = tables1.requests; labels = tables1.labels })
+      opened =
+          let last : tables.next_request < number_limit = numbers_last tables.next_request k.numbers_last in
+          let rising : below.state.next_request ≤ tables.next_request = h.numbers.rising in
+          let submitted : below.submitted ≤ tables.next_request = h.numbers.submitted in
+          let free : slab_len tables.requests < limits.open_requests = free_place limits below tables q h k in
+          let counted : slab_len tables1.requests ≡ slab_len tables.requests + 1 = admits.counted in
+          let number : sends.packet.number ≡ tables.next_request = sends.is_number in
+          let after : sends.submits.opened.next_request ≡ sends.packet.number + 1 = sends.submits.opens.after.next_request in
+          let labels : deque_capacity tables1.labels ≡ deque_capacity tables.labels = admits.label_places in
+          let slots : tables1.requests.capacity ≡ tables.requests.capacity = admits.slots in
+          let asks : AsksBy (rules_of limits below.rules) below.rules q limits.sector_size = asks_whole limits below tables q h k in
+          record {
+            fits = record {
+              sector_size = h.fits.sector_size;
+              some_bytes = h.fits.some_bytes;
+              longest = h.fits.longest;
+              short = h.fits.short;
+              small = h.fits.small;
+              some_open = h.fits.some_open;
+              no_window = h.fits.no_window;
+              many = h.fits.many;
+            };
+            numbers = record { requests = omega arith; handles = h.numbers.handles; rising = omega arith; submitted = omega arith };
+            held =
+                AreHeld-along tables1.requests
+                (record below.state { next_request = sends.packet.number + 1; requests = new_request below.rules below.state sends.packet.number asked ∷ below.state.requests }) sends.submits.opened
+                (KeepsAsked-same _ _ (IsSame-sym _ _ sends.submits.opens.after))
+                (AreHeld-more tables.requests tables1.requests slot _ (new_request below.rules below.state sends.packet.number asked) below.state.requests below.state.next_request admits.was_free admits.holds counted (sym number) refl
+                (λ reads. buffers.label_bytes reads ∙ sym same_length ∙ asks.length_is) h.on_disk.distinct.given h.numbers.rising h.held);
+            few = omega arith;
+            places = record {
+              labels = subst (λ capacity. 192 ≤ capacity) (sym labels) h.places.labels;
+              answered = h.places.answered;
+              waiting = subst (λ count. deque_len tables.waiting + count ≤ deque_capacity tables.waiting) (sym counted) place;
+              handles = h.places.handles;
+              requests = subst (λ capacity. (limits.open_requests ≤ capacity) × (capacity < 2 ^ 32)) (sym slots) h.places.requests;
+            };
+            on_map = h.on_map;
+            on_disk = (opened_above sends.packet.number (sent_bytes q.kind sends.payload) sends.submits.opened number sends.submits.opens).1;
+            topmost = All-cons IsTopmost sends.packet below.packets sends.topmost h.topmost;
+            not_paused = subst IsFalse (sym sends.submits.opens.after.paused) h.not_paused;
+            not_removing = subst IsFalse (sym sends.submits.opens.after.removing) h.not_removing;
+            none_put_by = h.none_put_by;
+            rising = h.rising;
+            given = All-weaker (WasGiven tables.next_request) (WasGiven (tables.next_request + 1)) (λ answer low. omega arith) tables.waiting.items h.given;
+            apart = AreApart-more tables.requests tables1.requests slot _ tables.waiting.items admits.holds h.given h.apart;
+          }

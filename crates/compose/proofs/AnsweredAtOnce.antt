@@ -1,0 +1,101 @@
+-- Calls that end where they begin are right steps: those that are refused, those of no bytes, and those past the last number.
+use Rattle.std.proofs.Common.{◌≡◌, ◌<◌, inl, inr, ℕ, ◌+◌, Bool, true, false, List, [], ◌∷◌, ◌++◌, Option, Some, None, refl, sym, ◌∙◌, ap, subst, length}
+use Rattle.std.specs.Prelude.{◌==◌, if◌then◌else◌}
+use Rattle.std.proofs.lemmas.List.{length-map}
+use Rattle.slab.specs.Slab.{Slab, get, slab_len}
+use Rattle.ntstatus.specs.declared.NtStatus.{NtStatus}
+use Rattle.device.specs.declared.Kind.{Kind}
+use Rattle.device.specs.declared.ClientRequest.{ClientRequest}
+use Rattle.device.specs.declared.Label.{Label}
+use Rattle.device.specs.declared.Label.TheVariants.{Call, Answer as AnswerLabel}
+use Rattle.device.specs.Calling.{refusal}
+use Rattle.device.specs.Step.{Run}
+use Rattle.device.specs.Seen.{Seen}
+use Rattle.device.proofs.Same.{IsSame-refl}
+use Rattle.compose.specs.declared.Handle.{Handle}
+use Rattle.compose.specs.declared.OpenHandle.{OpenHandle}
+use Rattle.compose.specs.declared.Refusal.TheVariants.{DeviceBusy}
+use Rattle.compose.specs.declared.Reply.{Reply}
+use Rattle.compose.specs.declared.Reply.TheVariants.{Refused}
+use Rattle.compose.specs.declared.admission.AtOnce.{AtOnce}
+use Rattle.compose.specs.declared.admission.AtOnce.TheVariants.{Empty, Refused as RefusedFor}
+use Rattle.compose.specs.declared.admission.Limits.{Limits}
+use Rattle.compose.specs.declared.tables.Tables.{Tables}
+use Rattle.compose.specs.Shown.{StackView}
+use Rattle.compose.specs.Calls.{are_used_up, partition_at, partition_of, call_on, without_bytes}
+use Rattle.compose.specs.OnDisk.{open_as_called, on_partition}
+use Rattle.compose.specs.Right.{tells_nothing, CallReplies, IsRightCall}
+use Rattle.compose.specs.Sound.{partitions_of, rules_of, view_of, IsOnMap, IsSound}
+use Rattle.compose.specs.Admitting.{status_at_once, IsKnown, HasSizes, AnswersAtOnce, reply_at_once}
+use Rattle.compose.proofs.OnDiskCalls.{Run-refused}
+use Rattle.compose.proofs.Quiet.{right_alone, nothing_moves, tells_own}
+
+-- the partition of an open handle is there
+pub known_handle : (limits : Limits) (handles : Slab OpenHandle) (handle : Handle) → IsOnMap limits handles → IsKnown limits (partition_of handles.slots handle)
+known_handle limits handles handle on_map = at_slot (get handles handle.slot) handle.number (on_map handle.slot)
+  where
+    at_slot : (slot : Option OpenHandle) (number : ℕ) → ((open' : OpenHandle) → slot ≡ Some open' → open'.partition < length (partitions_of limits.partition)) → IsKnown limits (partition_at slot number)
+    at_slot None number h = tt
+    at_slot (Some open') number h = tested (open'.number == number)
+      where
+        tested : (b : Bool) → IsKnown limits (if b then Some open'.partition else None)
+        tested true = h open' refl
+        tested false = tt
+
+pub has_sizes : (limits : Limits) (below : Seen) (tables : Tables) → IsSound limits below tables → HasSizes limits below.rules
+has_sizes limits below tables h = record { sector_size = h.fits.sector_size; longest = h.fits.longest }
+
+-- as many requests are open in the partition's machine as in the table
+pub open_count : (limits : Limits) (below : Seen) (tables : Tables) → IsSound limits below tables → length (view_of limits below tables).state.requests ≡ slab_len tables.requests
+open_count limits below tables h = length-map below.state.requests (open_as_called (rules_of limits below.rules)) ∙ sym h.held.counted
+
+module _ (limits : Limits) (below : Seen) (tables : Tables) (handle : Handle) (kind : Kind) (offset : ℕ) (buffer : List ℕ) (h : IsSound limits below tables)
+    (taken : (tables.labels.items ≡ []) × (below.adapter.labels ≡ [])) where
+  abbrev view : StackView
+  view = view_of limits below tables
+
+  abbrev called : ClientRequest
+  called = call_on view handle kind offset buffer
+
+  pub used_up_right : (reply : Reply) → are_used_up tables.next_request ≡ true → reply ≡ Refused DeviceBusy buffer → IsRightCall view handle kind offset buffer reply view
+  used_up_right reply used_up is_reply =
+      subst (λ r. IsRightCall view handle kind offset buffer r view) (sym is_reply) (record {
+        told = tells_nothing view;
+        replies = (refl, inr (used_up, record { nothing = refl; same_state = refl }));
+        handles = record { handles = refl; next_handle = refl };
+        by =
+            right_alone view [] view.state below.adapter.reserved tables.handles.slots tables.next_handle tables.labels.items tables.waiting.items (IsSame-refl _) (nothing_moves below.adapter)
+            taken.1 taken.0 refl;
+      })
+
+  abbrev own : NtStatus → List Label
+  own status = Call tables.next_request (without_bytes called) ∷ AnswerLabel tables.next_request status [] ∷ []
+
+  replied : (at_once : AtOnce) (new : StackView) → are_used_up tables.next_request ≡ false → refusal view.rules view.state called ≡ Some (status_at_once at_once)
+      → CallReplies view handle called buffer (reply_at_once tables.next_request buffer at_once) (tells_own view (own (status_at_once at_once))) new
+  replied Empty new last refused = (record { numbers_last = last; is_refused = refused; tells = refl }, refl)
+  replied (RefusedFor reason) new last refused = (refl, inl (record { numbers_last = last; is_refused = refused; tells = refl }))
+
+  pub at_once_right : (q : ClientRequest) (at_once : AtOnce) (reply : Reply) (tables1 : Tables) → are_used_up tables.next_request ≡ false → q ≡ without_bytes called
+      → refusal view.rules view.state q ≡ Some (status_at_once at_once) → AnswersAtOnce tables q (status_at_once at_once) tables1 → reply ≡ reply_at_once tables.next_request buffer at_once
+      → IsRightCall view handle kind offset buffer reply (view_of limits below tables1)
+  at_once_right q at_once reply tables1 last is_call refused answers is_reply =
+      subst (λ r. IsRightCall view handle kind offset buffer r (view_of limits below tables1)) (sym is_reply)
+      (subst (λ t. IsRightCall view handle kind offset buffer (reply_at_once tables.next_request buffer at_once) (view_of limits below t)) (sym answers.after) (record {
+        told = tells_own view (own (status_at_once at_once));
+        replies = replied at_once _ last (subst (λ r. refusal view.rules view.state r ≡ Some (status_at_once at_once)) is_call refused);
+        handles = record { handles = refl; next_handle = refl };
+        by =
+            right_alone view (own (status_at_once at_once)) (on_partition view.rules (tables.next_request + 1) below.state) below.adapter.reserved tables.handles.slots tables.next_handle
+            tables1.labels.items tables.waiting.items run (nothing_moves below.adapter) taken.1 told refl;
+      }))
+    where
+      run : Run view.rules view.state (own (status_at_once at_once)) (on_partition view.rules (tables.next_request + 1) below.state)
+      run =
+          Run-refused view.rules tables.next_request below.state (without_bytes called) (status_at_once at_once) h.on_disk.none_owed refl
+          (subst (λ r. refusal view.rules view.state r ≡ Some (status_at_once at_once)) is_call refused)
+
+      told : tables1.labels.items ≡ own (status_at_once at_once)
+      told =
+          answers.tells ∙ ap (λ before. before ++ Call tables.next_request q ∷ AnswerLabel tables.next_request (status_at_once at_once) [] ∷ []) taken.0
+          ∙ ap (λ r. Call tables.next_request r ∷ AnswerLabel tables.next_request (status_at_once at_once) [] ∷ []) is_call

@@ -1,0 +1,226 @@
+-- An admitted call, and one turned away for want of memory, are right steps.
+use Rattle.std.proofs.Common.{◌≡◌, ◌≤◌, inl, inr, ℕ, ◌+◌, List, [], ◌∷◌, ◌++◌, Some, None, refl, sym, ◌∙◌, ap, subst, arith}
+use Rattle.std.specs.Prelude.{All, option_map}
+use Rattle.std.specs.VecDeque.{deque_len, deque_capacity}
+use Rattle.std.proofs.Math.ListN.{get_or-map}
+use Rattle.std.proofs.lemmas.List.Elements.{All-append}
+use Rattle.slab.specs.Slab.{Slab, get, slab_len}
+use Rattle.srb.specs.Adapter.{MovesUnseen}
+use Rattle.irp.specs.declared.Payload.{Payload}
+use Rattle.device.specs.declared.Kind.{Kind}
+use Rattle.device.specs.declared.Kind.TheVariants.{Read, Write, Flush}
+use Rattle.device.specs.declared.ClientRequest.{ClientRequest}
+use Rattle.device.specs.declared.Label.{Label}
+use Rattle.device.specs.declared.Label.TheVariants.{Call}
+use Rattle.device.specs.Rules.{Rules, as_client}
+use Rattle.device.specs.Calling.{refusal, Opens}
+use Rattle.device.specs.Step.{Run}
+use Rattle.device.specs.Seen.{Seen, IsRead, sent_bytes, payload_bytes}
+use Rattle.device.specs.Served.{IsStart, Reserves}
+use Rattle.device.proofs.Same.{IsSame-refl}
+use Rattle.compose.specs.declared.Handle.{Handle}
+use Rattle.compose.specs.declared.Id.{Id}
+use Rattle.compose.specs.declared.OpenHandle.{OpenHandle}
+use Rattle.compose.specs.declared.Refusal.TheVariants.{InsufficientResources}
+use Rattle.compose.specs.declared.Reply.{Reply}
+use Rattle.compose.specs.declared.Reply.TheVariants.{Request as Requested, Refused}
+use Rattle.compose.specs.declared.admission.Limits.{Limits}
+use Rattle.compose.specs.declared.admission.Places.{Places}
+use Rattle.compose.specs.declared.tables.Tables.{Tables}
+use Rattle.compose.specs.Shown.{Holder}
+use Rattle.compose.specs.Calls.{bytes_called, call_on, without_bytes}
+use Rattle.compose.specs.OnDisk.{on_partition, IsOnDisk}
+use Rattle.compose.specs.Right.{tells_nothing, IsRightCall}
+use Rattle.compose.specs.Sound.{rules_of, holder_of, view_of, WasGiven, AreApart, IsSound, IsAtRest, Collects}
+use Rattle.compose.specs.Admitting.{request_on_disk, HasBuffers, Admits, KeepsAnswers, SendsDown, IsAdmissible}
+use Rattle.compose.proofs.OnDiskCalls.{Calls-opened}
+use Rattle.compose.proofs.AdapterJoins.{moves_joined}
+use Rattle.compose.proofs.Righting.{IsServed, told_by, rests, IsRightBy-served}
+use Rattle.compose.proofs.Quiet.{right_alone}
+use Rattle.compose.proofs.Admitted.{opened_above}
+
+-- PLACES ALONE ARE MADE
+
+pub reserved_sound : (limits : Limits) (below : Seen) (tables : Tables) (below' : Seen) (tables' : Tables) → IsSound limits below tables → Reserves below below' → KeepsAnswers tables tables'
+    → IsSound limits below' tables'
+reserved_sound limits below tables below' tables' h reserves keeps =
+    subst (λ b. IsSound limits b tables') (sym reserves.same) (subst (IsSound limits (record below { adapter = record below.adapter { reserved = below'.adapter.reserved } })) (sym keeps.after) (record {
+      fits = record {
+        sector_size = h.fits.sector_size;
+        some_bytes = h.fits.some_bytes;
+        longest = h.fits.longest;
+        short = h.fits.short;
+        small = h.fits.small;
+        some_open = h.fits.some_open;
+        no_window = h.fits.no_window;
+        many = h.fits.many;
+      };
+      numbers = record { requests = h.numbers.requests; handles = h.numbers.handles; rising = h.numbers.rising; submitted = h.numbers.submitted };
+      held = h.held;
+      few = h.few;
+      places = record {
+        labels = h.places.labels;
+        answered = h.places.answered;
+        waiting =
+            let count : deque_len tables'.waiting ≡ deque_len tables.waiting = keeps.same_count in
+            let more : deque_capacity tables.waiting ≤ deque_capacity tables'.waiting = keeps.answer_places in
+            let fits : deque_len tables.waiting + slab_len tables.requests ≤ deque_capacity tables.waiting = h.places.waiting in
+            omega arith;
+        handles = h.places.handles;
+        requests = h.places.requests;
+      };
+      on_map = h.on_map;
+      on_disk = h.on_disk;
+      topmost = h.topmost;
+      not_paused = h.not_paused;
+      not_removing = h.not_removing;
+      none_put_by = h.none_put_by;
+      rising = rw keeps.same_waiting h.rising;
+      given = subst (All (WasGiven tables.next_request)) (sym keeps.same_waiting) h.given;
+      apart = subst (AreApart tables.requests) (sym keeps.same_waiting) h.apart;
+    }))
+
+pub reserved_rest : (below below' : Seen) → IsAtRest below → Reserves below below' → IsAtRest below'
+reserved_rest below below' h reserves = subst IsAtRest (sym reserves.same) (record { all_sectors = h.all_sectors; unfinished = h.unfinished })
+
+more_reserved : (below below' : Seen) → Reserves below below' → MovesUnseen below.adapter (record below.adapter { reserved = below'.adapter.reserved })
+more_reserved below below' reserves = subst (MovesUnseen below.adapter) (ap (λ (b : Seen). b.adapter) reserves.same) reserves.adapter
+
+-- A CALL
+
+module _ (limits : Limits) (below : Seen) (tables : Tables) (handle : Handle) (q : ClientRequest) (buffer : List ℕ) (h : IsSound limits below tables) (k : IsAdmissible limits below tables q)
+    (taken : (tables.labels.items ≡ []) × (below.adapter.labels ≡ [])) (is_call : q ≡ without_bytes (call_on (view_of limits below tables) handle q.kind q.offset buffer)) where
+  abbrev over : Rules
+  over = rules_of limits below.rules
+
+  admitted : refusal over (view_of limits below tables).state (call_on (view_of limits below tables) handle q.kind q.offset buffer) ≡ None
+  admitted = subst (λ r. refusal over (view_of limits below tables).state r ≡ None) is_call k.not_refused
+
+  -- for want of memory nothing happens
+  pub turned_away : (below' : Seen) (tables' : Tables) (reply : Reply) → Reserves below below' → KeepsAnswers tables tables' → reply ≡ Refused InsufficientResources buffer
+      → IsRightCall (view_of limits below tables) handle q.kind q.offset buffer reply (view_of limits below' tables')
+  turned_away below' tables' reply reserves keeps is_reply =
+      subst (λ r. IsRightCall (view_of limits below tables) handle q.kind q.offset buffer r (view_of limits below' tables')) (sym is_reply)
+      (subst (λ b. IsRightCall (view_of limits below tables) handle q.kind q.offset buffer (Refused InsufficientResources buffer) (view_of limits b tables')) (sym reserves.same)
+      (subst (λ t. IsRightCall (view_of limits below tables) handle q.kind q.offset buffer (Refused InsufficientResources buffer) (view_of limits (record below { adapter = record below.adapter { reserved = below'.adapter.reserved } }) t)) (sym keeps.after) (record {
+        told = tells_nothing (view_of limits below tables);
+        replies = (refl, inr ((k.numbers_last, admitted), record { nothing = refl; same_state = refl }));
+        handles = record { handles = refl; next_handle = refl };
+        by =
+            right_alone (view_of limits below tables) [] (view_of limits below tables).state below'.adapter.reserved tables.handles.slots tables.next_handle tables.labels.items tables'.waiting.items
+            (IsSame-refl _) (more_reserved below below' reserves) taken.1 taken.0 keeps.same_waiting;
+      })))
+
+  sent_is : (kind : Kind) (payload : Payload) → sent_bytes kind payload ≡ bytes_called kind (payload_bytes payload)
+  sent_is Read payload = refl
+  sent_is Write payload = refl
+  sent_is Flush payload = refl
+
+  -- the call as its label tells it
+  abbrev pub told_request : ClientRequest
+  told_request = record q { bytes = bytes_called q.kind buffer }
+
+  told_is : told_request ≡ call_on (view_of limits below tables) handle q.kind q.offset buffer
+  told_is = ap (λ (r : ClientRequest). record r { bytes = bytes_called q.kind buffer }) is_call
+
+  module _ (below' : Seen) (tables' : Tables) (places : Places) (slot : ℕ) (below1 : Seen) (tables1 : Tables) (reserves : Reserves below below') (keeps : KeepsAnswers tables tables')
+      (buffers : HasBuffers q.kind buffer places) (admits' : Admits tables' handle q places slot tables1) (sends' : SendsDown below' tables'.next_request (request_on_disk limits q) buffer below1) where
+    abbrev reserved_below : Seen
+    reserved_below = record below { adapter = record below.adapter { reserved = below'.adapter.reserved } }
+
+    abbrev reserved_tables : Tables
+    reserved_tables = record tables { waiting = tables'.waiting }
+
+    admits : Admits reserved_tables handle q places slot tables1
+    admits = subst (λ t. Admits t handle q places slot tables1) keeps.after admits'
+
+    abbrev pub sends : SendsDown reserved_below tables.next_request (request_on_disk limits q) buffer below1
+    sends =
+        subst (λ b. SendsDown b tables.next_request (request_on_disk limits q) buffer below1) reserves.same
+        (subst (λ (t : Tables). SendsDown below' t.next_request (request_on_disk limits q) buffer below1) keeps.after sends')
+
+    next_is : tables1.next_request ≡ tables.next_request + 1
+    next_is = ap (λ (t : Tables). t.next_request) admits.after
+
+    abbrev pub own : List Label
+    own = Call tables.next_request told_request ∷ []
+
+    opened_over : Opens over (on_partition over tables.next_request below.state) tables.next_request told_request (on_partition over (tables.next_request + 1) sends.submits.opened)
+        × IsOnDisk over below.rules sends.submits.opened
+    opened_over =
+        opened_above limits below tables q h k sends.packet.number (bytes_called q.kind buffer) sends.submits.opened sends.is_number
+        (subst (λ bytes. Opens below.rules below.state sends.packet.number (as_client below.rules (request_on_disk limits q) bytes) sends.submits.opened)
+        (sent_is q.kind sends.payload ∙ ap (bytes_called q.kind) sends.brings) sends.submits.opens)
+
+    run_own : Run over (on_partition over tables.next_request below.state) own (on_partition over tables1.next_request sends.submits.opened)
+    run_own =
+        subst (λ n. Run over (on_partition over tables.next_request below.state) own (on_partition over n sends.submits.opened)) (sym next_is) (
+          on_partition over (tables.next_request + 1) sends.submits.opened,
+          inl (h.on_disk.none_owed, Calls-opened over (on_partition over tables.next_request below.state) told_request (on_partition over (tables.next_request + 1) sends.submits.opened) k.not_refused opened_over.0),
+          IsSame-refl _,
+        )
+
+    labels_are : tables1.labels.items ≡ own
+    labels_are =
+        admits.tells ∙ ap (λ before. before ++ Call tables.next_request (record q { bytes = places.call_bytes }) ∷ []) taken.0
+        ∙ ap (λ bytes. Call tables.next_request (record q { bytes = bytes }) ∷ []) buffers.call_bytes
+
+    pub is_served : IsRead below.rules below.state below.adapter → IsAtRest below → IsServed limits below tables own sends.submits.starts below1 tables1
+    is_served read rest = record {
+      opened = sends.submits.opened;
+      packets = sends.packet ∷ below.packets;
+      submitted = below.submitted + 1;
+      read = read;
+      rest = rest;
+      none_untaken = taken.1;
+      on_disk = h.on_disk;
+      opened_on_disk = opened_over.1;
+      same_arrays = sends.submits.opens.after.arrays;
+      run = run_own;
+      moves = record {
+        same_rules = sends.submits.moves.same_rules;
+        same_packets = sends.submits.moves.same_packets;
+        same_submitted = sends.submits.moves.same_submitted;
+        same_most = sends.submits.moves.same_most;
+        run = sends.submits.moves.run;
+        adapter = moves_joined below.adapter [] (record below.adapter { reserved = below'.adapter.reserved }) sends.submits.starts below1.adapter (more_reserved below below' reserves) sends.submits.moves.adapter;
+      };
+      own_labels = labels_are;
+      same_waiting = ap (λ (t : Tables). t.waiting.items) admits.after ∙ keeps.same_waiting;
+    }
+
+    pub admitted_rest : IsRead below.rules below.state below.adapter → IsAtRest below → (below2 : Seen) (tables2 : Tables) → Collects below1 tables1 below2 tables2 → IsAtRest below2
+    admitted_rest read rest below2 tables2 collects = rests limits below tables own sends.submits.starts below1 tables1 below2 tables2 (is_served read rest) collects
+
+    pub admitted_right : (read : IsRead below.rules below.state below.adapter) (rest : IsAtRest below) (below2 : Seen) (tables2 : Tables) (id : Id) → id.slot ≡ slot → id.number ≡ tables'.next_request
+        → Collects below1 tables1 below2 tables2 → IsRead below2.rules below2.state below2.adapter
+        → IsRightCall (view_of limits below tables) handle q.kind q.offset buffer (Requested id) (view_of limits below2 tables2)
+    admitted_right read rest below2 tables2 id same_slot same_number collects read2 = record {
+      told = told_by limits below tables own sends.submits.starts below1 tables1 below2 tables2 (is_served read rest) collects;
+      replies = record {
+        numbers_last = k.numbers_last;
+        not_refused = admitted;
+        next_number = number_is;
+        own = ap (λ n. Call n told_request ∷ []) (sym number_is) ∙ ap (λ r. Call id.number r ∷ []) told_is;
+        only_starts = All-append IsStart sends.submits.starts collects.starts sends.submits.only_starts collects.only_starts;
+        was_free = get_or-map (option_map holder_of) tables.requests.slots id.slot None ∙ ap (option_map holder_of) (ap (get tables.requests) same_slot ∙ admits.was_free);
+        holds = record {
+          there =
+              get_or-map (option_map holder_of) tables1.requests.slots id.slot None
+              ∙ ap (option_map holder_of) (ap (get tables1.requests) same_slot ∙ admits.holds.changed)
+              ∙ ap (λ n. Some (let holder : Holder = record { number = n; handle = handle.number } in holder)) (sym number_is);
+          others = λ other apart.
+              get_or-map (option_map holder_of) tables1.requests.slots other None
+              ∙ ap (option_map holder_of) (admits.holds.others other (λ e. apart (e ∙ sym same_slot)))
+              ∙ sym (get_or-map (option_map holder_of) tables.requests.slots other None);
+        };
+      };
+      handles = record {
+        handles = ap (λ (s : Slab OpenHandle). s.slots) (collects.same_handles ∙ ap (λ (t : Tables). t.handles) admits.after);
+        next_handle = collects.same_next_handle ∙ ap (λ (t : Tables). t.next_handle) admits.after;
+      };
+      by = IsRightBy-served limits below tables own sends.submits.starts below1 tables1 below2 tables2 (is_served read rest) collects read2;
+    }
+      where
+        number_is : id.number ≡ tables.next_request
+        number_is = same_number ∙ ap (λ (t : Tables). t.next_request) keeps.after

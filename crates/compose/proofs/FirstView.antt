@@ -1,0 +1,161 @@
+-- What a stack shows before its first event.
+use Rattle.std.proofs.Common.{◌≡◌, ◌<◌, ◌≤◌, ℕ, ◌+◌, ◌^◌, Bool, false, true, not, List, [], ◌∷◌, All, Option, Some, None, Result, Ok, Err, refl, sym, ◌∙◌, ap, subst, map, length, get_or, arith, rules}
+use Rattle.std.specs.Prelude.{◌==◌, nat_lt, AllPairs, if◌then◌else◌}
+use Rattle.std.proofs.lemmas.Bool.{eqb-false, ltb-false}
+use Rattle.std.proofs.lemmas.List.Elements.{All-nil, All-cons}
+use Rattle.sector.specs.declared.Extent.{Extent}
+use Rattle.srb.specs.Adapter.{AdapterView, IsInOrder}
+use Rattle.device.specs.Map.{AreApart, IsMap, IsPartition}
+use Rattle.device.specs.Rules.{Rules}
+use Rattle.device.specs.State.{State, opening}
+use Rattle.device.specs.Seen.{Seen, sectors_in}
+use Rattle.compose.specs.declared.MbrFault.{MbrFault}
+use Rattle.compose.specs.declared.MbrFault.TheVariants.{NoSignature, EmptyEntry, CoversTable, PastEnd}
+use Rattle.compose.specs.declared.Settings.{Settings}
+use Rattle.compose.specs.declared.admission.Limits.{Limits}
+use Rattle.compose.specs.declared.tables.OpenRequest.{OpenRequest}
+use Rattle.compose.specs.declared.tables.Tables.{Tables}
+use Rattle.compose.specs.Calls.{number_limit}
+use Rattle.compose.specs.Mbr.{is_signed, first_type, first_extent, checked, first_entry}
+use Rattle.compose.specs.OnDisk.{on_partition, rules_over}
+use Rattle.compose.specs.Shown.{StackView, Holder}
+use Rattle.compose.specs.Sound.{partitions_of, rules_of, holder_of, holders_of, view_of}
+use Rattle.compose.specs.Start.{IsSameDisk, sector_zero, told_partition, AreInRange, AreLimits}
+use Rattle.compose.specs.Opening.{IsUnasked, AreFor, AreEmpty, first_rules, IsFirstView}
+use Rattle.compose.proofs.Opened.{opening-view}
+
+-- THE FIRST ENTRY IS A MAP
+
+none_is_map : (sectors : ℕ) → IsMap sectors []
+none_is_map sectors = record { each = All-nil (IsPartition sectors); apart = λ i j d below within. absurd (omega (arith, within)) }
+
+one_is_map : (sectors : ℕ) (extent : Extent) → IsPartition sectors extent → IsMap sectors (extent ∷ [])
+one_is_map sectors extent part = record {
+  each = All-cons (IsPartition sectors) extent [] part (All-nil (IsPartition sectors));
+  apart = λ i j d below within. absurd (omega (arith, below, within));
+}
+
+checked_is_map : (sectors : ℕ) (extent : Extent) (partition : Option Extent) → checked sectors extent ≡ Ok partition → IsMap sectors (partitions_of partition)
+checked_is_map sectors extent partition told = by_tests (extent.count == 0) (extent.first == 0) (nat_lt sectors (extent.first + extent.count)) refl refl refl told
+  where
+    by_tests : (none covers past : Bool) → (extent.count == 0) ≡ none → (extent.first == 0) ≡ covers → nat_lt sectors (extent.first + extent.count) ≡ past
+        → (if none then Err EmptyEntry else if covers then Err CoversTable else if past then Err PastEnd else Ok (Some extent)) ≡ Ok partition
+        → IsMap sectors (partitions_of partition)
+    by_tests true covers past e f g told = cc (told)
+    by_tests false true past e f g told = cc (told)
+    by_tests false false true e f g told = cc (told)
+    by_tests false false false e f g told =
+        let same : Some extent ≡ partition = cc (told) in
+        let some : extent.count ≡ 0 → ⊥ = eqb-false extent.count 0 e in
+        let behind : extent.first ≡ 0 → ⊥ = eqb-false extent.first 0 f in
+        let inside : extent.first + extent.count ≤ sectors = ltb-false sectors (extent.first + extent.count) g in
+        subst (λ (p : Option Extent). IsMap sectors (partitions_of p)) same
+        (one_is_map sectors extent (record { behind_table = omega (arith, behind); some = omega (arith, some); inside = inside }))
+
+pub IsMap-first_entry : (sectors : ℕ) (table : List ℕ) (partition : Option Extent) → first_entry sectors table ≡ Ok partition → IsMap sectors (partitions_of partition)
+IsMap-first_entry sectors table partition told = by_tests (is_signed table) (first_type table == 0) told
+  where
+    by_tests : (signed unused : Bool) → (if not signed then Err NoSignature else if unused then Ok None else checked sectors (first_extent table)) ≡ Ok partition
+        → IsMap sectors (partitions_of partition)
+    by_tests false unused told = cc (told)
+    by_tests true true told = let same : None ≡ partition = cc (told) in subst (λ (p : Option Extent). IsMap sectors (partitions_of p)) same (none_is_map sectors)
+    by_tests true false told = checked_is_map sectors (first_extent table) partition told
+
+-- A DEVICE OF THE WHOLE DISK
+
+-- what a layer over an adapter shows that has the whole disk, one piece a request and no restarts
+abbrev pub on_whole_disk : AdapterView → ℕ → Seen
+on_whole_disk v most = record {
+  rules = record {
+    sector_size = v.sector_size;
+    partitions = record { first = 0; count = length v.sectors } ∷ [];
+    longest = v.max_transfer;
+    max_transfer = v.max_transfer;
+    depth = v.depth;
+    open_requests = None;
+    window = None;
+    one_piece = true;
+    busy_limit = 1;
+  };
+  state = opening (map (sectors_in v.sectors) (record { first = 0; count = length v.sectors } ∷ []));
+  packets = [];
+  submitted = 0;
+  most = most;
+  adapter = v;
+}
+
+pub IsUnasked-whole_disk : (v : AdapterView) (most : ℕ) → number_limit ≤ most → v.labels ≡ [] → IsUnasked (on_whole_disk v most)
+IsUnasked-whole_disk v most many none = record {
+  whole_disk = refl;
+  state = refl;
+  no_window = refl;
+  no_packets = refl;
+  none_submitted = refl;
+  many = many;
+  no_labels = none;
+}
+
+module _ (disk v : AdapterView) (settings : Settings) (limits : Limits) (most : ℕ) (same : IsSameDisk 2 disk v) (are : AreLimits disk settings limits) where
+  is_map : IsMap (length disk.sectors) (partitions_of limits.partition)
+  is_map = IsMap-first_entry (length disk.sectors) (sector_zero disk) limits.partition are.partition
+
+  pub AreFor-whole_disk : IsInOrder v → AreFor (on_whole_disk v most) limits
+  AreFor-whole_disk order =
+      let open' : limits.open_requests ≡ settings.open_requests = ap (λ (l : Limits). l.open_requests) are.sizes in
+      let window' : limits.window ≡ settings.window = ap (λ (l : Limits). l.window) are.sizes in
+      let longest' : limits.longest ≡ v.max_transfer = ap (λ (l : Limits). l.longest) are.sizes ∙ sym same.max_transfer in
+      record {
+        sector_size = ap (λ (l : Limits). l.sector_size) are.sizes ∙ sym same.sector_size;
+        longest = longest';
+        short = let few = order.max_transfer.1 in omega (arith, longest', few);
+        some_open =
+            let some = are.in_range.open_requests.0 in
+            let within = are.in_range.open_requests.1 in
+            let few = are.in_range.window.1 in
+            (omega (arith, open', some), omega (arith, open', window', within), omega (arith, window', few));
+        is_map = subst (λ (xs : List (List ℕ)). IsMap (length xs) (partitions_of limits.partition)) (sym same.sectors) is_map;
+      }
+
+  rules_with : ℕ → ℕ → ℕ → ℕ → ℕ → Rules
+  rules_with size transfer depth open' window' = record {
+    sector_size = size;
+    partitions = partitions_of limits.partition;
+    longest = transfer;
+    max_transfer = transfer;
+    depth = depth;
+    open_requests = Some open';
+    window = Some window';
+    one_piece = false;
+    busy_limit = 1;
+  }
+
+  rules_are : rules_of limits (on_whole_disk v most).rules ≡ first_rules disk settings (partitions_of limits.partition)
+  unfolding rules_with
+  rules_are =
+      ap (λ n. rules_with n v.max_transfer v.depth limits.open_requests limits.window) same.sector_size
+      ∙ ap (λ n. rules_with disk.sector_size n v.depth limits.open_requests limits.window) same.max_transfer
+      ∙ ap (λ n. rules_with disk.sector_size disk.max_transfer n limits.open_requests limits.window) same.depth
+      ∙ ap (λ (l : Limits). rules_with disk.sector_size disk.max_transfer disk.depth l.open_requests l.window) are.sizes
+
+  pub IsFirstView-whole_disk : (tables : Tables) → number_limit ≤ most → AreEmpty tables → IsFirstView disk settings (view_of limits (on_whole_disk v most) tables)
+  IsFirstView-whole_disk tables many empty = record {
+    partition = limits.partition;
+    told = are.partition;
+    is_map = is_map;
+    rules = rules_are;
+    state =
+        opening-view limits (on_whole_disk v most) tables (IsUnasked-whole_disk v most many same.idle.no_labels) empty
+        ∙ ap (λ (xs : List (List ℕ)). opening (map (sectors_in xs) (partitions_of limits.partition))) same.sectors;
+    same_disk = same;
+    no_handles = empty.no_handles;
+    first_handle = empty.first_handle;
+    no_requests = ap (λ (xs : List (Option OpenRequest)). holders_of (record tables.requests { slots = xs })) empty.no_requests;
+    no_labels = empty.no_labels;
+    no_answers = empty.no_answers;
+  }
+
+  pub IsFirstView-over : (below : Seen) (limits' : Limits) (tables : Tables) → below ≡ on_whole_disk v most → limits' ≡ limits → number_limit ≤ most → AreEmpty tables
+      → IsFirstView disk settings (view_of limits' below tables)
+  IsFirstView-over below limits' tables whole sizes many empty =
+      subst (λ (l : Limits). IsFirstView disk settings (view_of l below tables)) (sym sizes)
+      (subst (λ (b : Seen). IsFirstView disk settings (view_of limits b tables)) (sym whole) (IsFirstView-whole_disk tables many empty))

@@ -1,0 +1,332 @@
+-- One request that has ended after another is taken: the run that they make, and what holds meanwhile.
+use Rattle.std.proofs.Common.{◌≡◌, ◌≢◌, ◌≤◌, inl, ℕ, ◌+◌, Bool, true, false, List, [], ◌∷◌, ◌++◌, Option, Some, None, refl, sym, ◌∙◌, ap, subst, arith, map, length, nat_eq, eq-eqb, eqb-true}
+use Rattle.std.specs.Prelude.{IsPermutation, IsNone, All, option_map, ◌==◌}
+use Rattle.std.specs.VecDeque.{deque_len, deque_capacity}
+use Rattle.std.proofs.lemmas.Bool.Decides.{nat_tests}
+use Rattle.std.proofs.lemmas.List.Sorted.{IsPermutation-refl, IsPermutation-sym, IsPermutation-trans, IsPermutation-append_left, IsPermutation-cons, All-permutation, length_permutation}
+use Rattle.std.proofs.lemmas.List.Elements.{All-nil, All-head, All-tail, All-cons, All-append}
+use Rattle.slab.specs.Slab.{get, slab_len}
+use Rattle.ntstatus.specs.declared.NtStatus.{NtStatus}
+use Rattle.sector.specs.declared.Extent.{Extent}
+use Rattle.srb.specs.Adapter.{AdapterView, MovesUnseen}
+use Rattle.irp.specs.declared.Climb.TheVariants.{Finished}
+use Rattle.irp.specs.declared.Done.{Done}
+use Rattle.device.specs.declared.Request.{Request}
+use Rattle.device.specs.Rules.{Rules}
+use Rattle.device.specs.State.{OpenRequest as OpenBelow}
+use Rattle.device.specs.Answering.{Answers}
+use Rattle.device.specs.Numbers.{AreDistinct, HavePlaces, request_number}
+use Rattle.device.specs.Seen.{Seen, payload_bytes}
+use Rattle.device.specs.Served.{HandsUp, as_label, IsStart, IsUnfinished}
+use Rattle.device.specs.Settled.{Settled}
+use Rattle.device.specs.Step.{Run}
+use Rattle.device.proofs.Permuting.{distinct_first}
+use Rattle.device.proofs.Same.{IsSame-refl, IsSame-sym}
+use Rattle.compose.specs.declared.Answer.{Answer}
+use Rattle.compose.specs.declared.admission.Limits.{Limits}
+use Rattle.compose.specs.declared.tables.OpenRequest.{OpenRequest}
+use Rattle.compose.specs.declared.tables.Tables.{Tables}
+use Rattle.compose.specs.OnDisk.{rules_over, IsOnDisk}
+use Rattle.compose.specs.Shown.{Holder}
+use Rattle.compose.specs.Ordering.{inserted, HasOtherNumber}
+use Rattle.compose.specs.Right.{as_answer, unless_answered}
+use Rattle.compose.specs.Sound.{HasPlaces, WasGiven, AreApart, AreHeld, IsTopmost, IsOnMap, IsSound, IsSoundWith, Collects, partitions_of, holder_of}
+use Rattle.compose.specs.Collecting.{Closes, TakesEnded, Gathers, brought, answer_for, unlabelled}
+use Rattle.compose.proofs.AdapterJoins.{moves_joined, labels_moved}
+use Rattle.compose.proofs.Askings.{KeepsAsked, KeepsAsked-same, KeepsAsked-trans, run_keeps, AreHeld-along}
+use Rattle.compose.proofs.Closing.{held_at, only_there, is_ended, is_given, brings, kept_slot, kept_number, AreHeld-less}
+use Rattle.compose.proofs.Inserting.{unless_one_more}
+use Rattle.compose.proofs.OnDiskCalls.{Answers-over}
+use Rattle.compose.proofs.OnDiskSteps.{Run-over}
+use Rattle.compose.proofs.Righting.{FitsBelow-same}
+use Rattle.compose.proofs.Ordering.{Run-collected, inserted_is, inserted_rises}
+
+module _ (takes_srb : Bool) (old new : Seen) (request : Request) (done : Done) (t t' : Tables) (h : HandsUp takes_srb old request (Finished done) new) (k : AreHeld t.requests old.state.requests) (c : Closes t done t') where
+  -- THE STEP
+
+  bytes_are : h.bytes ≡ (answer_for c.request done).bytes
+  bytes_are =
+      let there : (held_at takes_srb old new request done t.requests h k).request ≡ c.request = only_there takes_srb old new request done t.requests h k c.slot c.request c.there c.same_number in
+      let kind : h.answers.request.request.kind ≡ c.request.kind = sym (held_at takes_srb old new request done t.requests h k).same_kind ∙ ap (λ r. r.kind) there in
+      brings h.answers.request.request.kind h.status h.answers.request.marks (payload_bytes h.payload) h.bytes h.answers.hands_back h.answers.success
+      (λ is_read. h.brings (ap (λ q. q.kind) (sym h.is_request) ∙ is_read))
+      ∙ ap (λ x. brought x h.status (payload_bytes h.payload)) kind
+      ∙ ap (λ s. brought c.request.kind s (payload_bytes h.payload)) (sym h.climbs.status_is)
+      ∙ ap (λ p. brought c.request.kind done.status (payload_bytes p)) (sym h.climbs.payload_is)
+
+  answers_are : Answers old.rules old.state done.number done.status (answer_for c.request done).bytes h.answered
+  answers_are =
+      let P : ℕ → Type 0 = λ n. Answers old.rules old.state n done.status (answer_for c.request done).bytes h.answered in
+      let Q : NtStatus → Type 0 = λ s. Answers old.rules old.state h.packet.number s (answer_for c.request done).bytes h.answered in
+      let R : List ℕ → Type 0 = λ b. Answers old.rules old.state h.packet.number h.status b h.answered in
+      subst P (sym h.climbs.number_is) (subst Q (sym h.climbs.status_is) (subst R bytes_are h.answers))
+
+  pub takes_ended : TakesEnded old t new t'
+  takes_ended =
+      let before : length (h.packet ∷ h.others) ≡ length old.packets = length_permutation _ _ h.is_in in
+      let after : length h.others ≡ length new.packets = length_permutation _ _ h.moves.same_packets in
+      record {
+        done = done;
+        closes = c;
+        answered = h.answered;
+        starts = h.starts;
+        answers = answers_are;
+        only_starts = h.only_starts;
+        same_rules = h.moves.same_rules;
+        run = h.moves.run;
+        adapter = h.moves.adapter;
+        fewer = omega arith;
+      }
+
+  -- WHAT HOLDS AFTER IT
+
+  keeps : KeepsAsked (record old.state { requests = h.answers.others }) new.state
+  keeps =
+      KeepsAsked-trans (record old.state { requests = h.answers.others }) h.answered new.state
+      (KeepsAsked-same (record old.state { requests = h.answers.others }) h.answered (IsSame-sym h.answered (record old.state { requests = h.answers.others }) h.answers.after))
+      (run_keeps old.rules h.answered h.starts new.state h.moves.run)
+
+  number_is : h.answers.request.number ≡ done.number
+  number_is = is_ended takes_srb old new request done t.requests h k
+
+  held_after : AreDistinct old.state → AreHeld t'.requests new.state.requests
+  held_after distinct =
+      let differ : All (λ (x : OpenBelow). x.number ≢ h.answers.request.number) h.answers.others = distinct_first request_number old.state.requests h.answers.request h.answers.others distinct.requests h.answers.is_open in
+      AreHeld-along t'.requests (record old.state { requests = h.answers.others }) new.state keeps
+      (AreHeld-less t t' done c old.state.requests k h.answers.request h.answers.others number_is h.answers.is_open differ)
+
+  -- the answer is of a request that was open, so of no other answer's number
+  others_waiting : AreApart t.requests t.waiting.items → All (HasOtherNumber (answer_for c.request done).number) t.waiting.items
+  others_waiting apart = λ i d low same. apart c.slot c.request c.there i d low (same ∙ sym c.same_number)
+
+  apart_after : AreApart t.requests t.waiting.items → AreApart t'.requests t'.waiting.items
+  apart_after apart slot x there =
+      let kept : (slot ≢ c.slot) × (get t.requests slot ≡ Some x) = kept_slot t t' done c old.state.requests k slot x there in
+      let other : x.number ≢ done.number = kept_number t t' done c old.state.requests k slot x there in
+      let all : All (HasOtherNumber x.number) (answer_for c.request done ∷ t.waiting.items) =
+      All-cons (HasOtherNumber x.number) (answer_for c.request done) t.waiting.items (λ same. other (sym same)) (apart slot x kept.1) in
+      subst (λ xs. All (HasOtherNumber x.number) xs) (sym c.waiting) (All-permutation (HasOtherNumber x.number) _ _ (IsPermutation-sym _ _ (inserted_is (answer_for c.request done) t.waiting.items)) all)
+
+  on_disk_after : (partitions : List Extent) (many window : ℕ) → IsOnDisk (rules_over partitions many window old.rules) old.rules old.state → IsOnDisk (rules_over partitions many window new.rules) new.rules new.state
+  on_disk_after partitions many window d =
+      let mid : IsOnDisk (rules_over partitions many window old.rules) old.rules h.answered =
+      (Answers-over partitions many window old.rules 0 old.state h.packet.number h.status h.bytes h.answered d h.answers).2 in
+      let last : IsOnDisk (rules_over partitions many window old.rules) old.rules new.state = (Run-over partitions many window old.rules 0 h.starts h.answered new.state mid h.moves.run).1 in
+      let P : Rules → Type 0 = λ r. IsOnDisk (rules_over partitions many window r) r new.state in
+      subst P (sym h.moves.same_rules) last
+
+  count_after : (answer : Answer) (answers more : List Answer) → more ≡ inserted answer answers → length more ≡ length answers + 1
+  count_after answer answers more is =
+      let n : length (answer ∷ answers) ≡ length (inserted answer answers) = length_permutation _ _ (inserted_is answer answers) in
+      let m : length more ≡ length (inserted answer answers) = ap length is in
+      omega arith
+
+  places_after : (limits : Limits) → HasPlaces limits t → HasPlaces limits t'
+  places_after limits p =
+      let n : slab_len t'.requests + 1 ≡ slab_len t.requests = c.fewer in
+      let m : length t'.waiting.items ≡ length t.waiting.items + 1 = count_after (answer_for c.request done) t.waiting.items t'.waiting.items c.waiting in
+      let now : deque_len t'.waiting ≡ length t'.waiting.items = t'.waiting.ok.0 in
+      let before : deque_len t.waiting ≡ length t.waiting.items = t.waiting.ok.0 in
+      let room : deque_len t.waiting + slab_len t.requests ≤ deque_capacity t.waiting = p.waiting in
+      let more : deque_capacity t.waiting ≤ deque_capacity t'.waiting = c.waiting_place in
+      let some : 64 ≤ deque_capacity t.answered = p.answered in
+      let as_many : deque_capacity t.answered ≤ deque_capacity t'.answered = c.answered_place in
+      record {
+        labels = rw c.same_labels p.labels;
+        answered = omega arith;
+        waiting = omega arith;
+        handles = rw c.same_handles p.handles;
+        requests = rw c.slots p.requests;
+      }
+
+  -- one more is put by, and one fewer is open
+  pub few_after : (most : ℕ) → deque_len t.answered + slab_len t.requests ≤ most → deque_len t'.answered + slab_len t'.requests ≤ most
+  few_after most few =
+      let n : slab_len t'.requests + 1 ≡ slab_len t.requests = c.fewer in
+      let m : length t'.answered.items ≡ length t.answered.items + 1 = count_after (answer_for c.request done) t.answered.items t'.answered.items c.answered in
+      let now : deque_len t'.answered ≡ length t'.answered.items = t'.answered.ok.0 in
+      let before : deque_len t.answered ≡ length t.answered.items = t.answered.ok.0 in
+      omega arith
+
+  given_after : AreDistinct old.state → old.state.next_request ≤ t.next_request → All (WasGiven t.next_request) t.waiting.items → All (WasGiven t'.next_request) t'.waiting.items
+  given_after distinct rising given =
+      let all : All (WasGiven t.next_request) (answer_for c.request done ∷ t.waiting.items) =
+      All-cons (WasGiven t.next_request) (answer_for c.request done) t.waiting.items (is_given takes_srb old new request done t.requests h k distinct t.next_request rising) given in
+      let inserted_all : All (WasGiven t.next_request) (inserted (answer_for c.request done) t.waiting.items) =
+      All-permutation (WasGiven t.next_request) _ _ (IsPermutation-sym _ _ (inserted_is (answer_for c.request done) t.waiting.items)) all in
+      let P : ℕ → List Answer → Type 0 = λ n xs. All (WasGiven n) xs in
+      subst (λ n. P n t'.waiting.items) (sym c.same_next_request) (subst (λ xs. P t.next_request xs) (sym c.waiting) inserted_all)
+
+  pub sound_after : (put_by : List Answer) (limits : Limits) → IsSoundWith put_by limits old t → IsSoundWith t'.answered.items limits new t'
+  sound_after put_by limits s = record {
+    fits = FitsBelow-same limits old new h.moves.same_rules h.moves.same_most s.fits;
+    numbers = record {
+      requests = rw c.same_next_request s.numbers.requests;
+      handles = rw c.same_next_handle s.numbers.handles;
+      rising = rw (c.same_next_request, keeps.next_request) s.numbers.rising;
+      submitted = rw (c.same_next_request, h.moves.same_submitted) s.numbers.submitted;
+    };
+    held = held_after s.on_disk.distinct;
+    few = let n : slab_len t'.requests + 1 ≡ slab_len t.requests = c.fewer in let m : slab_len t.requests ≤ limits.open_requests = s.few in omega arith;
+    places = places_after limits s.places;
+    on_map = subst (λ handles. IsOnMap limits handles) (sym c.same_handles) s.on_map;
+    on_disk = on_disk_after (partitions_of limits.partition) limits.open_requests limits.window s.on_disk;
+    topmost = All-permutation IsTopmost _ _ (IsPermutation-sym _ _ h.moves.same_packets) (All-tail IsTopmost h.packet h.others (All-permutation IsTopmost _ _ h.is_in s.topmost));
+    not_paused = keeps.paused ∙ s.not_paused;
+    not_removing = keeps.removing ∙ s.not_removing;
+    none_put_by = refl;
+    rising = rw c.waiting (inserted_rises (answer_for c.request done) t.waiting.items (others_waiting s.apart) s.rising);
+    given = given_after s.on_disk.distinct s.numbers.rising s.given;
+    apart = apart_after s.apart;
+  }
+
+-- ONE AFTER ANOTHER
+
+unseen_none : (view : AdapterView) → MovesUnseen view view
+unseen_none view = record {
+  tags = view.tags;
+  failures = view.failures;
+  reserved = view.reserved;
+  in_use = inl (IsPermutation-refl view.tags);
+  counted = omega arith;
+  after = refl;
+  lasts = λ extent reserved. reserved;
+}
+
+-- none yet
+pub gathers_none : (below : Seen) (tables : Tables) → tables.answered.items ≡ [] → Gathers below tables below tables
+gathers_none below tables none = record {
+  starts = [];
+  only_starts = All-nil IsStart;
+  rising = rw none tt;
+  same_rules = refl;
+  run = rw none (IsSame-refl below.state);
+  adapter = unseen_none below.adapter;
+  waiting = rw none (IsPermutation-refl tables.waiting.items);
+  holders = λ slot. rw none (sym (unless_none (option_map holder_of (get tables.requests slot))));
+  same_labels = refl;
+  same_handles = refl;
+  same_next_handle = refl;
+  same_next_request = refl;
+  quiet = λ unfinished. (refl, refl, none);
+}
+  where
+    unless_none : (slot : Option Holder) → unless_answered [] slot ≡ slot
+    unless_none None = refl
+    unless_none (Some holder) = refl
+
+all_left : {X : Type 0} (P : X → Type 0) (xs ys : List X) → All P (xs ++ ys) → All P xs
+all_left P [] ys h = All-nil P
+all_left P (x ∷ xs) ys h = All-cons P x xs (All-head P x (xs ++ ys) h) (all_left P xs ys (All-tail P x (xs ++ ys) h))
+
+module _ (below mid new : Seen) (first t t' : Tables) (g : Gathers below first mid t) (e : TakesEnded mid t new t') (k : AreHeld t.requests mid.state.requests) where
+  -- its slot alone loses its holder
+  one_gone : (slot : ℕ) → option_map holder_of (get t'.requests slot) ≡ unless_answered (answer_for e.closes.request e.done ∷ []) (option_map holder_of (get t.requests slot))
+  one_gone slot = by_test (nat_eq slot e.closes.slot) refl
+    where
+      its_own : slot ≡ e.closes.slot → option_map holder_of (get t'.requests slot) ≡ unless_answered (answer_for e.closes.request e.done ∷ []) (option_map holder_of (get t.requests slot))
+      its_own same =
+          let gone : get t'.requests slot ≡ None = ap (λ s. get t'.requests s) same ∙ e.closes.leaves.changed in
+          let there : get t.requests slot ≡ Some e.closes.request = ap (λ s. get t.requests s) same ∙ e.closes.there in
+          let test : (e.done.number == e.closes.request.number) ≡ true = eq-eqb e.done.number e.closes.request.number (sym e.closes.same_number) in
+          let taken : unless_answered (answer_for e.closes.request e.done ∷ []) (Some (holder_of e.closes.request)) ≡ None = rw test refl in
+          ap (λ s. option_map holder_of s) gone ∙ sym (ap (λ s. unless_answered (answer_for e.closes.request e.done ∷ []) (option_map holder_of s)) there ∙ taken)
+
+      by_slot : slot ≢ e.closes.slot → (x : Option OpenRequest) → get t.requests slot ≡ x → option_map holder_of x ≡ unless_answered (answer_for e.closes.request e.done ∷ []) (option_map holder_of x)
+      by_slot other None there = refl
+      by_slot other (Some r) there =
+          let apart : r.number ≢ e.done.number = λ same. other (k.one_slot slot e.closes.slot r e.closes.request there e.closes.there (same ∙ sym e.closes.same_number)) in
+          let test : (e.done.number == r.number) ≡ false = grind (arith, nat_tests) in
+          rw test refl
+
+      by_test : (b : Bool) → nat_eq slot e.closes.slot ≡ b → option_map holder_of (get t'.requests slot) ≡ unless_answered (answer_for e.closes.request e.done ∷ []) (option_map holder_of (get t.requests slot))
+      by_test true test = its_own (eqb-true slot e.closes.slot test)
+      by_test false test =
+          let other : slot ≢ e.closes.slot = grind (arith, nat_tests) in
+          ap (λ s. option_map holder_of s) (e.closes.leaves.others slot other) ∙ by_slot other (get t.requests slot) refl
+
+  -- it is another's than all that were put by
+  others_put_by : AreApart t.requests t.waiting.items → All (HasOtherNumber (answer_for e.closes.request e.done).number) t.answered.items
+  others_put_by apart =
+      let waiting : All (HasOtherNumber (answer_for e.closes.request e.done).number) t.waiting.items =
+      λ i d low same. apart e.closes.slot e.closes.request e.closes.there i d low (same ∙ sym e.closes.same_number) in
+      all_left (HasOtherNumber (answer_for e.closes.request e.done).number) t.answered.items first.waiting.items
+      (All-permutation (HasOtherNumber (answer_for e.closes.request e.done).number) _ _ g.waiting waiting)
+
+  run_more : HavePlaces below.state → IsNone below.state.owed → Run below.rules below.state (map as_label (g.starts ++ e.starts) ++ map as_answer t'.answered.items) new.state
+  run_more places free =
+      let P : Rules → Type 0 = λ r. Answers r mid.state e.done.number e.done.status (answer_for e.closes.request e.done).bytes e.answered in
+      let Q : Rules → Type 0 = λ r. Run r e.answered (map as_label e.starts) new.state in
+      let R : List Answer → Type 0 = λ xs. Run below.rules below.state (map as_label (g.starts ++ e.starts) ++ map as_answer xs) new.state in
+      subst R (sym e.closes.answered)
+      (Run-collected below.rules g.starts e.starts t.answered.items (answer_for e.closes.request e.done) below.state mid.state e.answered new.state free places g.only_starts e.only_starts g.run
+      (subst P g.same_rules e.answers) (subst Q g.same_rules e.run))
+
+  waiting_more : IsPermutation t'.waiting.items (t'.answered.items ++ first.waiting.items)
+  waiting_more =
+      let a : Answer = answer_for e.closes.request e.done in
+      let one : IsPermutation (inserted a t.waiting.items) (a ∷ (t.answered.items ++ first.waiting.items)) =
+      IsPermutation-trans _ _ _ (inserted_is a t.waiting.items) (IsPermutation-cons a _ _ g.waiting) in
+      let two : IsPermutation ((a ∷ t.answered.items) ++ first.waiting.items) (inserted a t.answered.items ++ first.waiting.items) =
+      IsPermutation-append_left first.waiting.items _ _ (IsPermutation-sym _ _ (inserted_is a t.answered.items)) in
+      let P : List Answer → List Answer → Type 0 = λ xs ys. IsPermutation xs (ys ++ first.waiting.items) in
+      subst (λ xs. P xs t'.answered.items) (sym e.closes.waiting) (subst (λ ys. P (inserted a t.waiting.items) ys) (sym e.closes.answered) (IsPermutation-trans _ _ _ one two))
+
+  pub gathers_more : AreApart t.requests t.waiting.items → HavePlaces below.state → IsNone below.state.owed → Gathers below first new t'
+  gathers_more apart places free = record {
+    starts = g.starts ++ e.starts;
+    only_starts = All-append IsStart g.starts e.starts g.only_starts e.only_starts;
+    rising = rw e.closes.answered (inserted_rises (answer_for e.closes.request e.done) t.answered.items (others_put_by apart) g.rising);
+    same_rules = e.same_rules ∙ g.same_rules;
+    run = run_more places free;
+    adapter = moves_joined below.adapter g.starts mid.adapter e.starts new.adapter g.adapter e.adapter;
+    waiting = waiting_more;
+    holders = λ slot.
+        one_gone slot
+        ∙ ap (unless_answered (answer_for e.closes.request e.done ∷ [])) (g.holders slot)
+        ∙ sym (unless_one_more (answer_for e.closes.request e.done) t.answered.items t'.answered.items (option_map holder_of (get first.requests slot)) (subst (λ xs. IsPermutation xs (answer_for e.closes.request e.done ∷ t.answered.items)) (sym e.closes.answered) (inserted_is (answer_for e.closes.request e.done) t.answered.items)));
+    same_labels = e.closes.same_labels ∙ g.same_labels;
+    same_handles = e.closes.same_handles ∙ g.same_handles;
+    same_next_handle = e.closes.same_next_handle ∙ g.same_next_handle;
+    same_next_request = e.closes.same_next_request ∙ g.same_next_request;
+    quiet = λ unfinished. absurd (not_quiet (subst (λ v. All (IsUnfinished v.rules v.state) v.state.requests) (sym (g.quiet unfinished).0) unfinished));
+  }
+    where
+      -- the request that was taken had ended
+      not_quiet : All (IsUnfinished mid.rules mid.state) mid.state.requests → ⊥
+      not_quiet unfinished =
+          All-head (IsUnfinished mid.rules mid.state) e.answers.request e.answers.others (All-permutation (IsUnfinished mid.rules mid.state) _ _ e.answers.is_open unfinished) e.answers.ended
+
+-- then the device's labels are told, and the answers
+pub collects : (below mid new : Seen) (first t t' : Tables) → Gathers below first mid t → new ≡ unlabelled mid → Settled mid.rules mid.state → All (IsUnfinished mid.rules mid.state) mid.state.requests → t' ≡ record t { labels = t'.labels; answered = t'.answered }
+    → t'.labels.items ≡ (t.labels.items ++ map as_label mid.adapter.labels) ++ map as_answer t.answered.items → Collects below first new t'
+collects below mid new first t t' g taken settled unfinished kept labels = record {
+  starts = g.starts;
+  answers = t.answered.items;
+  only_starts = g.only_starts;
+  rising = g.rising;
+  same_rules = ap (λ v. v.rules) taken ∙ g.same_rules;
+  run = subst (λ s. Run below.rules below.state (map as_label g.starts ++ map as_answer t.answered.items) s) (sym (ap (λ v. v.state) taken)) g.run;
+  adapter = record { moved = mid.adapter; moves = g.adapter; taken = ap (λ v. v.adapter) taken };
+  labels = labels
+      ∙ ap (λ q. (q.items ++ map as_label mid.adapter.labels) ++ map as_answer t.answered.items) g.same_labels
+      ∙ ap (λ ls. (first.labels.items ++ map as_label ls) ++ map as_answer t.answered.items) (labels_moved below.adapter g.starts mid.adapter g.adapter);
+  waiting = subst (λ q. IsPermutation q.items (t.answered.items ++ first.waiting.items)) (sym (ap (λ x. x.waiting) kept)) g.waiting;
+  holders = λ slot. ap (λ x. option_map holder_of (get x.requests slot)) kept ∙ g.holders slot;
+  same_handles = ap (λ x. x.handles) kept ∙ g.same_handles;
+  same_next_handle = ap (λ x. x.next_handle) kept ∙ g.same_next_handle;
+  same_next_request = ap (λ x. x.next_request) kept ∙ g.same_next_request;
+  settled = subst (λ v. Settled v.rules v.state) (sym taken) settled;
+  quiet = λ nothing. ((g.quiet nothing).1, (g.quiet nothing).2);
+  unfinished = subst (λ v. All (IsUnfinished v.rules v.state) v.state.requests) (sym taken) unfinished;
+}
+
+-- the bounds of the tables' places
+pub few_open : (limits : Limits) (below : Seen) (tables : Tables) → IsSound limits below tables → deque_len tables.answered + slab_len tables.requests ≤ 64
+few_open limits below tables s =
+    let none : length tables.answered.items ≡ 0 = ap length s.none_put_by in
+    let same : deque_len tables.answered ≡ length tables.answered.items = tables.answered.ok.0 in
+    let few : slab_len tables.requests ≤ limits.open_requests = s.few in
+    let within : limits.open_requests ≤ limits.window = s.fits.some_open.1 in
+    let short : limits.window ≤ 64 = s.fits.some_open.2 in
+    omega arith

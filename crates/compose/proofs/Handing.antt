@@ -1,0 +1,125 @@
+-- A handle given, or refused, is a right step.
+use Rattle.std.proofs.Common.{◌≡◌, ◌<◌, ◌≤◌, inl, inr, ℕ, ◌+◌, ◌^◌, false, List, [], ◌∷◌, Option, Some, None, refl, sym, ◌∙◌, ap, subst, arith, length}
+use Rattle.std.specs.Prelude.{IsFalse, nat_le}
+use Rattle.std.proofs.lemmas.Bool.{cases_eq, leb-false}
+use Rattle.slab.specs.Slab.{Slab, get, slab_len, Updates as SlabUpdates}
+use Rattle.ntstatus.specs.declared.NtStatus.{NtStatus}
+use Rattle.ntstatus.specs.declared.NtStatus.TheVariants.{DeviceBusy as BusyStatus, DeletePending as PendingStatus, InvalidParameter as ParameterStatus}
+use Rattle.device.specs.Calling.{first_some, when}
+use Rattle.device.specs.Seen.{Seen}
+use Rattle.device.proofs.Same.{IsSame-refl}
+use Rattle.device.proofs.Places.{none_first}
+use Rattle.compose.specs.declared.OpenHandle.{OpenHandle}
+use Rattle.compose.specs.declared.Event.TheVariants.{Open}
+use Rattle.compose.specs.declared.Reply.{Reply}
+use Rattle.compose.specs.declared.Reply.TheVariants.{Handle as HandleReply, Ok as OkReply, Request as Requested, Answered, Refused, Ignored}
+use Rattle.compose.specs.declared.admission.Limits.{Limits}
+use Rattle.compose.specs.declared.tables.Tables.{Tables}
+use Rattle.compose.specs.Calls.{number_limit, are_used_up, handle_limit, open_refusal}
+use Rattle.compose.specs.Right.{tells_nothing, IsRight}
+use Rattle.compose.specs.Sound.{partitions_of, view_of, IsOnMap, IsSound}
+use Rattle.compose.specs.Admitting.{handle_refusal, OpensHandle}
+use Rattle.compose.proofs.Quiet.{right_alone, nothing_moves}
+
+-- numbers that are not used up are below the limit
+pub numbers_last : (next : ℕ) → are_used_up next ≡ false → next < number_limit
+numbers_last next h = leb-false number_limit next h
+
+skipped : (first : Option NtStatus) (rest : List (Option NtStatus)) → first_some (first ∷ None ∷ rest) ≡ first_some (first ∷ rest)
+skipped None rest = refl
+skipped (Some status) rest = refl
+
+open_refusal_is : (limits : Limits) (below : Seen) (tables : Tables) (partition : ℕ) → IsFalse below.state.removing
+    → open_refusal (view_of limits below tables) partition ≡ handle_refusal tables partition (length (partitions_of limits.partition))
+open_refusal_is limits below tables partition staying =
+    let rest : List (Option NtStatus) = when (nat_le (length (partitions_of limits.partition)) partition) ParameterStatus ∷ when (nat_le handle_limit (slab_len tables.handles)) BusyStatus ∷ [] in
+    ap (λ b. first_some (when (are_used_up tables.next_handle) BusyStatus ∷ when b PendingStatus ∷ rest)) staying ∙ skipped (when (are_used_up tables.next_handle) BusyStatus) rest
+
+on_map : (limits : Limits) (old new : Slab OpenHandle) (slot : ℕ) (given : OpenHandle) → SlabUpdates old new slot (Some given) → given.partition < length (partitions_of limits.partition)
+    → IsOnMap limits old → IsOnMap limits new
+on_map limits old new slot given updates known h other handle there = elim (cases_eq other slot) [
+  | inl same ↦
+      let e : Some given ≡ Some handle = sym updates.changed ∙ ap (get new) (sym same) ∙ there in
+      let same_handle : given ≡ handle = cc (e) in
+      subst (λ (o : OpenHandle). o.partition < length (partitions_of limits.partition)) same_handle known
+  | inr apart ↦ h other handle (sym (updates.others other apart) ∙ there)
+]
+
+given_sound : (limits : Limits) (below : Seen) (old : Tables) (handles : Slab OpenHandle) (partition slot number : ℕ) → IsSound limits below old
+    → handle_refusal old partition (length (partitions_of limits.partition)) ≡ None
+    → SlabUpdates old.handles handles slot (Some (record { number = number; partition = partition })) → handles.capacity ≡ old.handles.capacity
+    → IsSound limits below (record old { next_handle = old.next_handle + 1; handles = handles })
+given_sound limits below old handles partition slot number h admitted updates slots =
+    let a : (are_used_up old.next_handle ≡ false) × _ = none_first (are_used_up old.next_handle) BusyStatus _ admitted in
+    let b : (nat_le (length (partitions_of limits.partition)) partition ≡ false) × _ = none_first (nat_le (length (partitions_of limits.partition)) partition) ParameterStatus _ a.1 in
+    let last : old.next_handle < number_limit = numbers_last old.next_handle a.0 in
+    record {
+      fits = h.fits;
+      numbers = record { requests = h.numbers.requests; handles = omega arith; rising = h.numbers.rising; submitted = h.numbers.submitted };
+      held = h.held;
+      few = h.few;
+      places = record {
+        labels = h.places.labels;
+        answered = h.places.answered;
+        waiting = h.places.waiting;
+        handles = subst (λ capacity. (handle_limit ≤ capacity) × (capacity < 2 ^ 32)) (sym slots) h.places.handles;
+        requests = h.places.requests;
+      };
+      on_map = on_map limits old.handles handles slot _ updates (leb-false (length (partitions_of limits.partition)) partition b.0) h.on_map;
+      on_disk = h.on_disk;
+      topmost = h.topmost;
+      not_paused = h.not_paused;
+      not_removing = h.not_removing;
+      none_put_by = h.none_put_by;
+      rising = h.rising;
+      given = h.given;
+      apart = h.apart;
+    }
+
+pub opened_sound : (limits : Limits) (below : Seen) (old : Tables) (partition : ℕ) (reply : Reply) (new : Tables) → IsSound limits below old
+    → OpensHandle old partition (length (partitions_of limits.partition)) reply new → IsSound limits below new
+opened_sound limits below old partition (HandleReply handle) new h opens =
+    subst (IsSound limits below) (sym opens.after) (given_sound limits below old new.handles partition handle.slot handle.number h opens.not_refused opens.opens opens.slots)
+opened_sound limits below old partition (Refused reason bytes) new h opens = subst (IsSound limits below) (sym opens.2) h
+opened_sound limits below old partition OkReply new h opens = absurd opens
+opened_sound limits below old partition (Requested id) new h opens = absurd opens
+opened_sound limits below old partition (Answered answer) new h opens = absurd opens
+opened_sound limits below old partition Ignored new h opens = absurd opens
+
+pub opened_right : (limits : Limits) (below : Seen) (old : Tables) (partition : ℕ) (reply : Reply) (new : Tables) → IsSound limits below old
+    → old.labels.items ≡ [] → below.adapter.labels ≡ [] → OpensHandle old partition (length (partitions_of limits.partition)) reply new
+    → IsRight (view_of limits below old) (Open partition) reply (view_of limits below new)
+opened_right limits below old partition (HandleReply handle) new h none_told none_recorded opens =
+    subst (λ t. IsRight (view_of limits below old) (Open partition) (HandleReply handle) (view_of limits below t)) (sym opens.after) (record {
+      told = tells_nothing (view_of limits below old);
+      replies = (
+        record { nothing = refl; same_state = refl },
+        record {
+          not_refused = open_refusal_is limits below old partition h.not_removing ∙ opens.not_refused;
+          next_number = opens.next_number;
+          counted = refl;
+          was_free = opens.was_free;
+          opens = record { there = opens.opens.changed; others = opens.opens.others };
+        },
+      );
+      by =
+          right_alone (view_of limits below old) [] (view_of limits below old).state below.adapter.reserved new.handles.slots (old.next_handle + 1) old.labels.items old.waiting.items
+          (IsSame-refl _) (nothing_moves below.adapter) none_recorded none_told refl;
+    })
+opened_right limits below old partition (Refused reason bytes) new h none_told none_recorded opens =
+    subst (λ t. IsRight (view_of limits below old) (Open partition) (Refused reason bytes) (view_of limits below t)) (sym opens.2) (record {
+      told = tells_nothing (view_of limits below old);
+      replies = (
+        record { nothing = refl; same_state = refl },
+        open_refusal_is limits below old partition h.not_removing ∙ opens.0,
+        opens.1,
+        record { handles = refl; next_handle = refl },
+      );
+      by =
+          right_alone (view_of limits below old) [] (view_of limits below old).state below.adapter.reserved old.handles.slots old.next_handle old.labels.items old.waiting.items
+          (IsSame-refl _) (nothing_moves below.adapter) none_recorded none_told refl;
+    })
+opened_right limits below old partition OkReply new h none_told none_recorded opens = absurd opens
+opened_right limits below old partition (Requested id) new h none_told none_recorded opens = absurd opens
+opened_right limits below old partition (Answered answer) new h none_told none_recorded opens = absurd opens
+opened_right limits below old partition Ignored new h none_told none_recorded opens = absurd opens

@@ -1,0 +1,94 @@
+-- The labels of events that were carried out are a run, which obeys the laws of runs.
+use Rattle.std.proofs.Common.{◌≡◌, inl, inr, ℕ, List, [], ◌∷◌, ◌++◌, refl, sym, ◌∙◌, ap, subst, map, append_assoc}
+use Rattle.std.specs.Prelude.{Any, slice_get, take, length}
+use Rattle.std.proofs.lemmas.List.{append-nil}
+use Rattle.sector.specs.declared.Extent.{Extent}
+use Rattle.srb.specs.Adapter.{AdapterView}
+use Rattle.ntstatus.specs.declared.NtStatus.{NtStatus}
+use Rattle.ntstatus.specs.declared.NtStatus.TheVariants.{Success}
+use Rattle.device.specs.declared.ClientRequest.{ClientRequest}
+use Rattle.device.specs.declared.Label.{Label}
+use Rattle.device.specs.declared.Label.TheVariants.{Call, Answer}
+use Rattle.device.specs.Rules.{Rules}
+use Rattle.device.specs.State.{State}
+use Rattle.device.specs.Calling.{Opens}
+use Rattle.device.specs.Answering.{Answers}
+use Rattle.device.specs.Step.{Step, Run}
+use Rattle.device.proofs.Same.{IsSame-refl, Run-append}
+use Rattle.machine_laws.specs.Reached.{IsReached, RunsGoOn}
+use Rattle.machine_laws.specs.SoloLaws.{SoloReadsHold, SoloWritesHold, FailedWritesHold, LabelsAreOfOne}
+use Rattle.machine_laws.specs.WriteLaws.{StepsKeepArrays}
+use Rattle.compose.specs.declared.Event.{Event}
+use Rattle.compose.specs.declared.Shown.{Shown}
+use Rattle.compose.specs.Shown.{StackView}
+use Rattle.compose.specs.Right.{Covers, KeepsOutside, IsRight}
+use Rattle.compose.specs.Runs.{Carries, CarriesAll, labels_shown, IsOfRun, ObeysLaws, IsLawful, RunsObeyLaws}
+
+-- THE LAWS
+
+module _ (reads : SoloReadsHold) (writes : SoloWritesHold) (failed : FailedWritesHold) (keeps : StepsKeepArrays) (one : LabelsAreOfOne) (on : RunsGoOn) where
+  -- the request of a run that is called and answered there
+  of_one : (rules : Rules) (s : State) (labels : List Label) (s' : State) (number : ℕ) (q : ClientRequest) (status : NtStatus) (bytes : List ℕ) (before after : State)
+      → (h : IsOfRun rules s labels s' number q status bytes before after) → Opens rules before number q h.called × Answers rules h.ended number status bytes after
+  of_one rules s labels s' number q status bytes before after h = one rules number q status bytes before h.called h.between h.ended after h.not_refused h.calls h.run h.answers
+
+  pub obey : RunsObeyLaws
+  obey rules s labels s' reached = record {
+    solo_reads = λ number q bytes before after h is_read solo.
+        let both : Opens rules before number q h.called × Answers rules h.ended number Success bytes after = of_one rules s labels s' number q Success bytes before after h in
+        reads rules before (on rules s h.first before reached h.comes) number q bytes after is_read
+        (record { called = h.called; labels = h.between; ended = h.ended; opens = both.0; run = h.run; solo = solo; answers = both.1 });
+    solo_writes = λ number q bytes before after h is_write solo.
+        let both : Opens rules before number q h.called × Answers rules h.ended number Success bytes after = of_one rules s labels s' number q Success bytes before after h in
+        writes rules before (on rules s h.first before reached h.comes) number q bytes after is_write
+        (record { called = h.called; labels = h.between; ended = h.ended; opens = both.0; run = h.run; solo = solo; answers = both.1 });
+    failed_writes = λ number q status bytes before after h is_write solo place inside.
+        let both : Opens rules before number q h.called × Answers rules h.ended number status bytes after = of_one rules s labels s' number q status bytes before after h in
+        failed rules before (on rules s h.first before reached h.comes) number q status bytes after is_write
+        (record { called = h.called; labels = h.between; ended = h.ended; opens = both.0; run = h.run; solo = solo; answers = both.1 }) place inside;
+    keeps_arrays = λ first last label before after split comes step goes p. keeps rules before label after step p;
+  }
+
+-- EVENTS, ONE AFTER ANOTHER
+
+-- one event more
+pub CarriesAll-more : (old : StackView) (events : List Event) (shown : List Shown) (mid : StackView) (event : Event) (one : Shown) (new : StackView)
+    → CarriesAll old events shown mid → Carries mid event one new → CarriesAll old (events ++ event ∷ []) (shown ++ one ∷ []) new
+CarriesAll-more old [] [] mid event one new all more = (new, subst (λ (v : StackView). Carries v event one new) all more, refl)
+CarriesAll-more old (first ∷ events) (its ∷ shown) mid event one new all more = (all.0, all.1, CarriesAll-more all.0 events shown mid event one new all.2 more)
+CarriesAll-more old [] (its ∷ shown) mid event one new all more = absurd all
+CarriesAll-more old (first ∷ events) [] mid event one new all more = absurd all
+
+-- a run and sectors that stay
+record Leads (old new : StackView) (labels : List Label) : Type 0 where
+  pub same_rules : new.rules ≡ old.rules
+  pub run : Run old.rules old.state labels new.state
+  pub outside : KeepsOutside old.rules.partitions old.adapter new.adapter
+
+leads_one : (old : StackView) (event : Event) (one : Shown) (new : StackView) → Carries old event one new → Leads old new one.labels.items
+leads_one old event one new h =
+    subst (λ (v : StackView). Leads old v one.labels.items) (sym h.taken)
+    (record {
+      same_rules = h.right.by.same_rules;
+      run = subst (λ labels. Run old.rules old.state labels h.stepped.state) (sym h.labels) h.right.by.run;
+      outside = h.right.by.outside;
+    })
+
+leads_then : (old mid new : StackView) (labels more : List Label) → Leads old mid labels → Leads mid new more → Leads old new (labels ++ more)
+leads_then old mid new labels more a b = record {
+  same_rules = b.same_rules ∙ a.same_rules;
+  run = Run-append old.rules old.state labels mid.state more new.state a.run (subst (λ rules. Run rules mid.state more new.state) a.same_rules b.run);
+  outside = λ sector apart. b.outside sector (subst (λ (rules : Rules). Any (Covers sector) rules.partitions → ⊥) (sym a.same_rules) apart) ∙ a.outside sector apart;
+}
+
+leads : (old : StackView) (events : List Event) (shown : List Shown) (new : StackView) → CarriesAll old events shown new → Leads old new (labels_shown shown)
+leads old [] [] new all = subst (λ (v : StackView). Leads old v []) (sym all) (record { same_rules = refl; run = IsSame-refl old.state; outside = λ sector apart. refl })
+leads old (event ∷ events) (one ∷ shown) new all =
+    leads_then old all.0 new one.labels.items (labels_shown shown) (leads_one old event one all.0 all.1) (leads all.0 events shown new all.2)
+leads old [] (one ∷ shown) new all = absurd all
+leads old (event ∷ events) [] new all = absurd all
+
+pub lawful : RunsObeyLaws → (old : StackView) (events : List Event) (shown : List Shown) (new : StackView) → IsReached old.rules old.state → CarriesAll old events shown new → IsLawful old shown new
+lawful obey' old events shown new reached all =
+    let h : Leads old new (labels_shown shown) = leads old events shown new all in
+    record { same_rules = h.same_rules; run = h.run; laws = obey' old.rules old.state (labels_shown shown) new.state reached; outside = h.outside }

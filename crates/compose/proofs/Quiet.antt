@@ -1,0 +1,58 @@
+-- Steps in which the device below does nothing: what is told of them, and how the tables stay sound.
+use Rattle.std.proofs.Common.{◌≡◌, inl, ℕ, List, [], ◌++◌, Option, Some, None, refl, sym, ◌∙◌, ap, subst, arith}
+use Rattle.std.specs.Prelude.{IsPermutation}
+use Rattle.std.proofs.lemmas.List.{append-nil}
+use Rattle.std.proofs.lemmas.List.Sorted.{IsPermutation-refl}
+use Rattle.sector.specs.declared.Extent.{Extent}
+use Rattle.srb.specs.Adapter.{AdapterView, MovesUnseen}
+use Rattle.device.specs.declared.Label.{Label}
+use Rattle.device.specs.State.{State}
+use Rattle.device.specs.Step.{Run}
+use Rattle.device.specs.Seen.{Seen}
+use Rattle.device.specs.Served.{Reserves}
+use Rattle.compose.specs.declared.Answer.{Answer}
+use Rattle.compose.specs.declared.OpenHandle.{OpenHandle}
+use Rattle.compose.specs.Shown.{StackView, Holder}
+use Rattle.compose.specs.Right.{Told, tells_nothing, unless_answered, IsRightBy}
+
+none_answered : (holder : Option Holder) → holder ≡ unless_answered [] holder
+none_answered None = refl
+none_answered (Some holder) = refl
+
+pub nothing_moves : (v : AdapterView) → MovesUnseen v v
+nothing_moves v = record {
+  tags = v.tags;
+  failures = v.failures;
+  reserved = v.reserved;
+  in_use = inl (IsPermutation-refl v.tags);
+  counted = omega arith;
+  after = refl;
+  lasts = λ extent reserved. reserved;
+}
+
+-- what a step tells that only has labels of its own
+abbrev pub tells_own : StackView → List Label → Told
+tells_own v own = record (tells_nothing v) { own = own }
+
+-- the machine, the labels and the handles may change, and more may be reserved
+pub right_alone : (v : StackView) (own : List Label) (s : State) (reserved : List Extent) (handles : List (Option OpenHandle)) (next_handle : ℕ) (labels : List Label) (answers : List Answer)
+    → Run v.rules v.state own s → MovesUnseen v.adapter (record v.adapter { reserved = reserved }) → v.adapter.labels ≡ [] → labels ≡ own → answers ≡ v.answers
+    → IsRightBy (tells_own v own) v
+    (record v { state = s; adapter = record v.adapter { reserved = reserved }; handles = handles; next_handle = next_handle; labels = labels; answers = answers })
+right_alone v own s reserved handles next_handle labels answers run moves none_recorded told waits = record {
+  in_order = told ∙ sym (append-nil own) ∙ sym (append-nil (own ++ []));
+  rising = tt;
+  same_rules = refl;
+  run = subst (λ told. Run v.rules v.state told s) (sym told) run;
+  adapter = record {
+    moved = record v.adapter { reserved = reserved };
+    moves = moves;
+    taken = ap (λ recorded. record v.adapter { reserved = reserved; labels = recorded }) none_recorded;
+  };
+  outside = λ sector apart. refl;
+  holders = λ slot. none_answered _;
+  waiting = subst (λ now. IsPermutation now v.answers) (sym waits) (IsPermutation-refl v.answers);
+}
+
+pub none_reserved : (v : Seen) → Reserves v v
+none_reserved v = record { same = refl; adapter = nothing_moves v.adapter }

@@ -1,0 +1,157 @@
+-- A call at the stack's door: what it is answered at once, and the request and the packet of one that is admitted.
+use Rattle.std.specs.Prelude.{◌≡◌, ◌<◌, ◌≤◌, ℕ, false, ◌+◌, ◌/◌, ◌^◌, nat_le, List, [], ◌∷◌, ◌++◌, Option, Some, None, length, IsTrue}
+use Rattle.std.specs.VecDeque.{deque_len, deque_capacity}
+use Rattle.slab.specs.Slab.{get, slab_len, Updates}
+use Rattle.ntstatus.specs.declared.NtStatus.{NtStatus}
+use Rattle.ntstatus.specs.declared.NtStatus.TheVariants.{Success, DeviceBusy as BusyStatus, InvalidParameter as ParameterStatus}
+use Rattle.device.specs.declared.Kind.{Kind}
+use Rattle.device.specs.declared.Kind.TheVariants.{Read, Write, Flush}
+use Rattle.device.specs.declared.Request.{Request}
+use Rattle.device.specs.declared.ClientRequest.{ClientRequest}
+use Rattle.device.specs.declared.Label.TheVariants.{Call, Answer as AnswerLabel}
+use Rattle.device.specs.Rules.{Rules, is_transfer}
+use Rattle.device.specs.Calling.{first_some, when, refusal}
+use Rattle.device.specs.Seen.{Seen, Packet, payload_bytes}
+use Rattle.device.specs.Served.{Submits}
+use Rattle.compose.specs.declared.Handle.{Handle}
+use Rattle.compose.specs.declared.Reply.{Reply}
+use Rattle.compose.specs.declared.Reply.TheVariants.{Handle as HandleReply, Ok as OkReply, Request as Requested, Answered, Refused, Ignored}
+use Rattle.compose.specs.declared.tables.Tables.{Tables}
+use Rattle.cdb.specs.declared.Cdb.{Cdb}
+use Rattle.cdb.specs.declared.Cdb.TheVariants.{Read10, Write10, Sync10}
+use Rattle.irp.specs.declared.Irp.{Irp}
+use Rattle.irp.specs.declared.Payload.{Payload}
+use Rattle.sector.specs.declared.Extent.{Extent}
+use Rattle.compose.specs.declared.admission.AtOnce.{AtOnce}
+use Rattle.compose.specs.declared.admission.AtOnce.TheVariants.{Empty, Refused as RefusedFor}
+use Rattle.compose.specs.declared.admission.Limits.{Limits}
+use Rattle.compose.specs.declared.admission.Places.{Places}
+use Rattle.compose.specs.Calls.{status_of_refusal, bytes_called, are_used_up, handle_limit}
+use Rattle.compose.specs.OnDisk.{first_of}
+use Rattle.compose.specs.Sound.{partitions_of, rules_of, view_of, IsTopmost}
+
+-- the status of a call that ends where it begins
+abbrev pub status_at_once : AtOnce → NtStatus
+status_at_once Empty = Success
+status_at_once (RefusedFor refusal) = status_of_refusal refusal
+
+-- where a call has a partition, it is one that is there
+abbrev pub IsKnown : Limits → Option ℕ → Type 0
+IsKnown limits None = Unit {0}
+IsKnown limits (Some partition) = partition < length (partitions_of limits.partition)
+
+-- the sizes that the stack keeps are those of the rules below
+pub record HasSizes (limits : Limits) (below : Rules) : Type 0 where
+  pub sector_size : limits.sector_size ≡ below.sector_size
+  pub longest : limits.longest ≡ below.longest
+
+-- the sectors of the disk that a request of the partition asks for
+abbrev pub request_on_disk : Limits → ClientRequest → Request
+request_on_disk limits q = record {
+  volume = 0;
+  kind = q.kind;
+  extent = record { first = first_of (partitions_of limits.partition) + q.offset / limits.sector_size; count = q.length / limits.sector_size };
+  through = q.through;
+}
+
+-- the rules of a whole disk from its first sector on
+pub record IsWholeDisk (rules : Rules) : Type 0 where
+  pub disk : Extent
+  pub one_extent : rules.partitions ≡ disk ∷ []
+  pub from_first : disk.first ≡ 0
+  pub some_bytes : 0 < rules.sector_size
+
+-- a request of a whole disk that a ten-byte command block can ask for
+pub record FitsBlock (request : Request) : Type 0 where
+  pub volume : request.volume ≡ 0
+  pub first : request.extent.first < 2 ^ 32
+  pub count : request.extent.count < 2 ^ 16
+
+-- the command that asks a disk for all of a request
+abbrev pub disk_command : Request → Kind → Cdb
+disk_command r Read = Read10 r.extent.first r.extent.count r.through
+disk_command r Write = Write10 r.extent.first r.extent.count r.through
+disk_command r Flush = Sync10 0 0
+
+-- the buffers that a request of the caller's length needs
+pub record HasBuffers (kind : Kind) (buffer : List ℕ) (places : Places) : Type 0 where
+  pub for_label : length places.for_label ≡ length buffer
+  pub call_bytes : places.call_bytes ≡ bytes_called kind buffer
+  pub label_bytes : kind ≡ Read → length places.label_bytes ≡ length buffer
+
+-- a packet on its way to the topmost driver
+pub record IsOnTop (number : ℕ) (irp : Irp) : Type 0 where
+  pub is_number : irp.number ≡ number
+  pub not_cancelled : irp.cancelled ≡ false
+  pub one_location : length irp.locations.items ≡ 1
+
+-- a call and its answer are told, and a number is used
+pub record AnswersAtOnce (old : Tables) (q : ClientRequest) (status : NtStatus) (new : Tables) : Type 0 where
+  pub tells : new.labels.items ≡ old.labels.items ++ Call old.next_request q ∷ AnswerLabel old.next_request status [] ∷ []
+  pub label_places : deque_capacity new.labels ≡ deque_capacity old.labels
+  pub after : new ≡ record old { next_request = old.next_request + 1; labels = new.labels }
+
+abbrev pub reply_at_once : ℕ → List ℕ → AtOnce → Reply
+reply_at_once number buffer Empty = Answered (record { number = number; status = Success; bytes = [] })
+reply_at_once number buffer (RefusedFor refusal) = Refused refusal buffer
+
+-- a request is open under the next number, in a slot that was free, and its call is told
+pub record Admits (old : Tables) (handle : Handle) (q : ClientRequest) (places : Places) (slot : ℕ) (new : Tables) : Type 0 where
+  pub was_free : get old.requests slot ≡ None
+  pub holds : Updates old.requests new.requests slot
+      (Some (record { number = old.next_request; handle = handle.number; kind = q.kind; label_bytes = places.label_bytes }))
+  pub counted : slab_len new.requests ≡ slab_len old.requests + 1
+  pub slots : new.requests.capacity ≡ old.requests.capacity
+  pub tells : new.labels.items ≡ old.labels.items ++ Call old.next_request (record q { bytes = places.call_bytes }) ∷ []
+  pub one_more : deque_len new.labels ≡ deque_len old.labels + 1
+  pub label_places : deque_capacity new.labels ≡ deque_capacity old.labels
+  pub after : new ≡ record old { next_request = old.next_request + 1; requests = new.requests; labels = new.labels }
+
+-- what refuses a handle on a partition of so many, if anything: the first that fits
+abbrev pub handle_refusal : Tables → ℕ → ℕ → Option NtStatus
+handle_refusal tables partition partitions = first_some (
+    when (are_used_up tables.next_handle) BusyStatus
+    ∷ when (nat_le partitions partition) ParameterStatus
+    ∷ when (nat_le handle_limit (slab_len tables.handles)) BusyStatus
+    ∷ [])
+
+-- a handle is given under the next number, in a slot that was free
+pub record Gives (old : Tables) (partition partitions : ℕ) (handle : Handle) (new : Tables) : Type 0 where
+  pub not_refused : handle_refusal old partition partitions ≡ None
+  pub next_number : handle.number ≡ old.next_handle
+  pub was_free : get old.handles handle.slot ≡ None
+  pub opens : Updates old.handles new.handles handle.slot (Some (record { number = handle.number; partition = partition }))
+  pub slots : new.handles.capacity ≡ old.handles.capacity
+  pub after : new ≡ record old { next_handle = old.next_handle + 1; handles = new.handles }
+
+abbrev pub OpensHandle : Tables → ℕ → ℕ → Reply → Tables → Type 0
+OpensHandle old partition partitions (HandleReply handle) new = Gives old partition partitions handle new
+OpensHandle old partition partitions (Refused reason bytes) new =
+    (handle_refusal old partition partitions ≡ Some (status_of_refusal reason)) × (bytes ≡ []) × (new ≡ old)
+OpensHandle old partition partitions OkReply new = ⊥
+OpensHandle old partition partitions (Requested id) new = ⊥
+OpensHandle old partition partitions (Answered answer) new = ⊥
+OpensHandle old partition partitions Ignored new = ⊥
+
+-- places for more answers may be made, and no more
+pub record KeepsAnswers (old new : Tables) : Type 0 where
+  pub same_waiting : new.waiting.items ≡ old.waiting.items
+  pub same_count : deque_len new.waiting ≡ deque_len old.waiting
+  pub answer_places : deque_capacity old.waiting ≤ deque_capacity new.waiting
+  pub after : new ≡ record old { waiting = new.waiting }
+
+-- the packet of a request goes down as the topmost, with the caller's buffer
+pub record SendsDown (old : Seen) (number : ℕ) (request : Request) (buffer : List ℕ) (new : Seen) : Type 0 where
+  pub packet : Packet
+  pub payload : Payload
+  pub is_number : packet.number ≡ number
+  pub topmost : IsTopmost packet
+  pub brings : payload_bytes payload ≡ buffer
+  pub submits : Submits old packet request payload new
+
+-- a call that nothing refuses, on a partition that is there, with a number and a free slot for it
+pub record IsAdmissible (limits : Limits) (below : Seen) (tables : Tables) (q : ClientRequest) : Type 0 where
+  pub transfer : IsTrue (is_transfer q.kind)
+  pub known : IsKnown limits q.partition
+  pub numbers_last : are_used_up tables.next_request ≡ false
+  pub not_refused : refusal (rules_of limits below.rules) (view_of limits below tables).state q ≡ None

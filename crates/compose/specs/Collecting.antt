@@ -1,0 +1,102 @@
+-- What becomes of requests that have ended, until their answers are told.
+use Rattle.std.specs.Prelude.{◌≡◌, ◌≢◌, ◌<◌, ◌≤◌, ℕ, ◌+◌, List, [], ◌++◌, Some, None, option_map, map, length, All, IsPermutation}
+use Rattle.std.specs.VecDeque.{deque_capacity}
+use Rattle.slab.specs.Slab.{Slab, get, slab_len, Updates}
+use Rattle.ntstatus.specs.declared.NtStatus.{NtStatus}
+use Rattle.ntstatus.specs.declared.NtStatus.TheVariants.{Success}
+use Rattle.srb.specs.declared.DeviceLabel.{DeviceLabel}
+use Rattle.srb.specs.Adapter.{MovesByAll}
+use Rattle.irp.specs.declared.Done.{Done}
+use Rattle.device.specs.declared.Kind.{Kind}
+use Rattle.device.specs.declared.Kind.TheVariants.{Read}
+use Rattle.device.specs.State.{State}
+use Rattle.device.specs.Answering.{Answers}
+use Rattle.device.specs.Step.{Run}
+use Rattle.device.specs.Seen.{Seen, payload_bytes}
+use Rattle.device.specs.Served.{as_label, IsStart, IsUnfinished}
+use Rattle.compose.specs.declared.Answer.{Answer}
+use Rattle.compose.specs.declared.tables.OpenRequest.{OpenRequest}
+use Rattle.compose.specs.declared.tables.Tables.{Tables}
+use Rattle.compose.specs.Ordering.{inserted}
+use Rattle.compose.specs.Right.{AreRising, answer_number, as_answer, unless_answered}
+use Rattle.compose.specs.Sound.{holder_of}
+
+-- a layer whose adapter's labels are all taken
+abbrev pub unlabelled : Seen → Seen
+unlabelled below = record below { adapter = record below.adapter { labels = [] } }
+
+-- an open request of this number at this slot
+pub record IsAt (requests : Slab OpenRequest) (number slot : ℕ) : Type 0 where
+  pub request : OpenRequest
+  pub there : get requests slot ≡ Some request
+  pub same_number : request.number ≡ number
+
+abbrev pub HasNone : Slab OpenRequest → ℕ → Type 0
+HasNone requests number = (slot : ℕ) (request : OpenRequest) → get requests slot ≡ Some request → request.number ≢ number
+
+-- the bytes that an answer brings: those of a read that succeeded
+abbrev pub brought : Kind → NtStatus → List ℕ → List ℕ
+brought Read Success bytes = bytes
+brought kind status bytes = []
+
+abbrev pub answer_for : OpenRequest → Done → Answer
+answer_for request done = record {
+  number = done.number;
+  status = done.status;
+  bytes = brought request.kind done.status (payload_bytes done.payload);
+}
+
+-- a read that succeeded has as many bytes as its request has for the label
+abbrev pub IsFilled : OpenRequest → Done → Type 0
+IsFilled request done = request.kind ≡ Read → done.status ≡ Success → length request.label_bytes ≡ length (payload_bytes done.payload)
+
+abbrev pub AreFilled : Slab OpenRequest → Done → Type 0
+AreFilled requests done = (slot : ℕ) (request : OpenRequest) → get requests slot ≡ Some request → request.number ≡ done.number → IsFilled request done
+
+-- a request that has ended leaves its slot, and its answer is put by and waits to be taken
+pub record Closes (old : Tables) (done : Done) (new : Tables) : Type 0 where
+  pub slot : ℕ
+  pub request : OpenRequest
+  pub there : get old.requests slot ≡ Some request
+  pub same_number : request.number ≡ done.number
+  pub leaves : Updates old.requests new.requests slot None
+  pub fewer : slab_len new.requests + 1 ≡ slab_len old.requests
+  pub slots : new.requests.capacity ≡ old.requests.capacity
+  pub answered : new.answered.items ≡ inserted (answer_for request done) old.answered.items
+  pub answered_place : deque_capacity old.answered ≤ deque_capacity new.answered
+  pub waiting : new.waiting.items ≡ inserted (answer_for request done) old.waiting.items
+  pub waiting_place : deque_capacity old.waiting ≤ deque_capacity new.waiting
+  pub same_labels : new.labels ≡ old.labels
+  pub same_handles : new.handles ≡ old.handles
+  pub same_next_handle : new.next_handle ≡ old.next_handle
+  pub same_next_request : new.next_request ≡ old.next_request
+
+-- one request that has ended is taken from the device and closed
+pub record TakesEnded (below : Seen) (tables : Tables) (below' : Seen) (tables' : Tables) : Type 0 where
+  pub done : Done
+  pub closes : Closes tables done tables'
+  pub answered : State
+  pub starts : List DeviceLabel
+  pub answers : Answers below.rules below.state done.number done.status (answer_for closes.request done).bytes answered
+  pub only_starts : All IsStart starts
+  pub same_rules : below'.rules ≡ below.rules
+  pub run : Run below.rules answered (map as_label starts) below'.state
+  pub adapter : MovesByAll below.adapter starts below'.adapter
+  pub fewer : length below'.packets < length below.packets
+
+-- some were taken and closed: first the machine starts all pieces that they made room for, then it gives their answers
+pub record Gathers (below : Seen) (tables : Tables) (below' : Seen) (tables' : Tables) : Type 0 where
+  pub starts : List DeviceLabel
+  pub only_starts : All IsStart starts
+  pub rising : AreRising (map answer_number tables'.answered.items)
+  pub same_rules : below'.rules ≡ below.rules
+  pub run : Run below.rules below.state (map as_label starts ++ map as_answer tables'.answered.items) below'.state
+  pub adapter : MovesByAll below.adapter starts below'.adapter
+  pub waiting : IsPermutation tables'.waiting.items (tables'.answered.items ++ tables.waiting.items)
+  pub holders : (slot : ℕ) → option_map holder_of (get tables'.requests slot) ≡ unless_answered tables'.answered.items (option_map holder_of (get tables.requests slot))
+  pub same_labels : tables'.labels ≡ tables.labels
+  pub same_handles : tables'.handles ≡ tables.handles
+  pub same_next_handle : tables'.next_handle ≡ tables.next_handle
+  pub same_next_request : tables'.next_request ≡ tables.next_request
+  -- where nothing had ended, nothing was taken
+  pub quiet : All (IsUnfinished below.rules below.state) below.state.requests → (below' ≡ below) × (starts ≡ []) × (tables'.answered.items ≡ [])

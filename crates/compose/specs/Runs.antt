@@ -1,0 +1,107 @@
+-- Events carried out one after another, and what is promised of the labels that they show.
+use Rattle.std.specs.Prelude.{◌≡◌, ◌<◌, ◌≤◌, ◌⊎◌, ℕ, List, [], ◌∷◌, ◌++◌, Some, None, length, take}
+use Rattle.std.specs.List.{concat}
+use Rattle.ntstatus.specs.declared.NtStatus.{NtStatus}
+use Rattle.ntstatus.specs.declared.NtStatus.TheVariants.{Success}
+use Rattle.device.specs.declared.Kind.TheVariants.{Read, Write}
+use Rattle.device.specs.declared.ClientRequest.{ClientRequest}
+use Rattle.device.specs.declared.Label.{Label}
+use Rattle.device.specs.declared.Label.TheVariants.{Call, Answer}
+use Rattle.device.specs.Rules.{Rules, place_count}
+use Rattle.device.specs.State.{State}
+use Rattle.device.specs.Calling.{refusal}
+use Rattle.device.specs.Sending.{partition_number, sectors_at}
+use Rattle.device.specs.Settled.{Settled}
+use Rattle.device.specs.Step.{Step, Run}
+use Rattle.device.specs.Solo.{IsSolo, all_places}
+use Rattle.machine_laws.specs.Along.{Sometime}
+use Rattle.machine_laws.specs.Reached.{IsReached}
+use Rattle.machine_laws.specs.Sectors.{array_at, sector_at, sector_of, bytes_for, WritesPartition, WritesSector}
+use Rattle.compose.specs.declared.Event.{Event}
+use Rattle.compose.specs.declared.Shown.{Shown}
+use Rattle.compose.specs.declared.RunStopped.{RunStopped}
+use Rattle.compose.specs.Shown.{StackView}
+use Rattle.compose.specs.Right.{IsRight, KeepsOutside}
+
+-- EVENTS
+
+-- a right step that leaves the stack settled, and all its labels taken
+pub record Carries (old : StackView) (event : Event) (shown : Shown) (new : StackView) : Type 0 where
+  pub stepped : StackView
+  pub right : IsRight old event shown.reply stepped
+  pub settled : Settled stepped.rules stepped.state
+  pub labels : shown.labels.items ≡ stepped.labels
+  pub taken : new ≡ record stepped { labels = [] }
+
+-- these events in order, each with what it showed
+abbrev pub CarriesAll : StackView → List Event → List Shown → StackView → Type 0
+CarriesAll old [] [] new = new ≡ old
+CarriesAll old (event ∷ events) (shown ∷ more) new = (mid : StackView) × Carries old event shown mid × CarriesAll mid events more new
+CarriesAll old [] (shown ∷ more) new = ⊥
+CarriesAll old (event ∷ events) [] new = ⊥
+
+-- just the first of these events
+pub record StopsAfter (old : StackView) (events : List Event) (stopped : RunStopped) (new : StackView) : Type 0 where
+  pub within : stopped.done ≤ length events
+  pub carries : CarriesAll old (take stopped.done events) stopped.shown.items new
+
+-- all labels in order
+abbrev pub labels_shown : List Shown → List Label
+labels_shown [] = []
+labels_shown (shown ∷ more) = shown.labels.items ++ labels_shown more
+
+-- THE LAWS OF A RUN'S LABELS
+
+-- a request that a run calls and answers: called and not refused at one label, and answered at a later one
+pub record IsOfRun (rules : Rules) (s : State) (labels : List Label) (s' : State) (number : ℕ) (q : ClientRequest) (status : NtStatus) (bytes : List ℕ) (before after : State) : Type 0 where
+  pub first : List Label
+  pub between : List Label
+  pub last : List Label
+  pub called : State
+  pub ended : State
+  pub split : labels ≡ first ++ Call number q ∷ (between ++ Answer number status bytes ∷ last)
+  pub comes : Run rules s first before
+  pub calls : Step rules before (Call number q) called
+  pub not_refused : refusal rules before q ≡ None
+  pub run : Run rules called between ended
+  pub answers : Step rules ended (Answer number status bytes) after
+  pub goes : Run rules after last s'
+
+-- no other write meets it from its call to its answer
+abbrev pub IsSoloIn : (rules : Rules) (s : State) (labels : List Label) (s' : State) (number : ℕ) (q : ClientRequest) (status : NtStatus) (bytes : List ℕ) (before after : State)
+    → IsOfRun rules s labels s' number q status bytes before after → Type 0
+IsSoloIn rules s labels s' number q status bytes before after h = IsSolo rules number q h.called h.between h.ended h.run
+
+-- each place of a write is as it was before the call, or a piece of the write acted on it and its bytes stand there
+abbrev pub WroteOrLeft : (rules : Rules) (number : ℕ) (q : ClientRequest) (before called : State) (between : List Label) (ended : State) (after : State) → Run rules called between ended → ℕ → Type 0
+WroteOrLeft rules number q before called between ended after run place =
+    (sector_at after (partition_number q) (sector_of rules q place) ≡ sector_at before (partition_number q) (sector_of rules q place))
+    ⊎ (Sometime (WritesSector rules number (partition_number q) (sector_of rules q place)) rules called between ended run
+    × (sector_at after (partition_number q) (sector_of rules q place) ≡ Some (bytes_for rules q place)))
+
+pub record ObeysLaws (rules : Rules) (s : State) (labels : List Label) (s' : State) : Type 0 where
+  -- a solo read that succeeds gives the bytes of the array at its call
+  pub solo_reads : (number : ℕ) (q : ClientRequest) (bytes : List ℕ) (before after : State) (h : IsOfRun rules s labels s' number q Success bytes before after)
+      → q.kind ≡ Read → IsSoloIn rules s labels s' number q Success bytes before after h → bytes ≡ concat (sectors_at rules before q (all_places rules q))
+  -- a solo write that succeeds stands in the array at its answer
+  pub solo_writes : (number : ℕ) (q : ClientRequest) (bytes : List ℕ) (before after : State) (h : IsOfRun rules s labels s' number q Success bytes before after)
+      → q.kind ≡ Write → IsSoloIn rules s labels s' number q Success bytes before after h → q.bytes ≡ concat (sectors_at rules after q (all_places rules q))
+  -- a solo write, also one that failed, changed only places on which a piece of it acted before its answer
+  pub failed_writes : (number : ℕ) (q : ClientRequest) (status : NtStatus) (bytes : List ℕ) (before after : State) (h : IsOfRun rules s labels s' number q status bytes before after)
+      → q.kind ≡ Write → IsSoloIn rules s labels s' number q status bytes before after h
+      → (place : ℕ) → place < place_count rules q → WroteOrLeft rules number q before h.called h.between h.ended after h.run place
+  -- no label changes another partition's array
+  pub keeps_arrays : (first last : List Label) (label : Label) (before after : State) → labels ≡ first ++ label ∷ last
+      → Run rules s first before → Step rules before label after → Run rules after last s'
+      → (p : ℕ) → (array_at after.arrays p ≡ array_at before.arrays p) ⊎ WritesPartition p before label
+
+-- whatever is shown is a run from where it began, which obeys the laws and keeps the sectors of no partition
+pub record IsLawful (old : StackView) (shown : List Shown) (new : StackView) : Type 0 where
+  pub same_rules : new.rules ≡ old.rules
+  pub run : Run old.rules old.state (labels_shown shown) new.state
+  pub laws : ObeysLaws old.rules old.state (labels_shown shown) new.state
+  pub outside : KeepsOutside old.rules.partitions old.adapter new.adapter
+
+-- at each state that a run reaches
+abbrev pub RunsObeyLaws : Type 0
+RunsObeyLaws = (rules : Rules) (s : State) (labels : List Label) (s' : State) → IsReached rules s → ObeysLaws rules s labels s'

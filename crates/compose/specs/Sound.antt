@@ -1,0 +1,164 @@
+-- What the stack's tables and the device below say of each other between two calls.
+use Rattle.std.specs.Prelude.{◌≡◌, ◌<◌, ◌≤◌, ℕ, ◌+◌, ◌^◌, List, [], ◌∷◌, ◌++◌, Option, Some, None, option_map, map, get_or, length, IsFalse, All, Contains, IsPermutation}
+use Rattle.std.specs.VecDeque.{deque_len, deque_capacity}
+use Rattle.slab.specs.Slab.{Slab, get, slab_len}
+use Rattle.sector.specs.declared.Extent.{Extent}
+use Rattle.srb.specs.declared.DeviceLabel.{DeviceLabel}
+use Rattle.device.specs.declared.Kind.TheVariants.{Read}
+use Rattle.device.specs.Rules.{Rules}
+use Rattle.device.specs.State.{OpenRequest as OpenBelow}
+use Rattle.device.specs.Numbers.{request_number}
+use Rattle.device.specs.Settled.{Settled}
+use Rattle.device.specs.Step.{Run}
+use Rattle.device.specs.Seen.{Seen, Packet}
+use Rattle.device.specs.Served.{as_label, IsStart, IsUnfinished}
+use Rattle.machine_laws.specs.Reached.{IsReached}
+use Rattle.compose.specs.declared.Answer.{Answer}
+use Rattle.compose.specs.declared.OpenHandle.{OpenHandle}
+use Rattle.compose.specs.declared.admission.Limits.{Limits}
+use Rattle.compose.specs.declared.tables.OpenRequest.{OpenRequest}
+use Rattle.compose.specs.declared.tables.Tables.{Tables}
+use Rattle.compose.specs.Shown.{StackView, Holder}
+use Rattle.compose.specs.Calls.{number_limit, handle_limit}
+use Rattle.compose.specs.OnDisk.{rules_over, on_partition, end_of, IsOnDisk}
+use Rattle.compose.specs.Ordering.{HasOtherNumber}
+use Rattle.compose.specs.Right.{AreRising, answer_number, as_answer, unless_answered, AdapterMoves}
+
+abbrev pub partitions_of : Option Extent → List Extent
+partitions_of None = []
+partitions_of (Some extent) = extent ∷ []
+
+abbrev pub rules_of : Limits → Rules → Rules
+rules_of limits below = rules_over (partitions_of limits.partition) limits.open_requests limits.window below
+
+abbrev pub holder_of : OpenRequest → Holder
+holder_of request = record { number = request.number; handle = request.handle }
+
+abbrev pub holders_of : Slab OpenRequest → List (Option Holder)
+holders_of requests = map (option_map holder_of) requests.slots
+
+-- what the stack shows
+abbrev pub view_of : Limits → Seen → Tables → StackView
+view_of limits below tables = record {
+  rules = rules_of limits below.rules;
+  state = on_partition (rules_of limits below.rules) tables.next_request below.state;
+  adapter = below.adapter;
+  handles = tables.handles.slots;
+  next_handle = tables.next_handle;
+  holders = holders_of tables.requests;
+  labels = tables.labels.items;
+  answers = tables.waiting.items;
+}
+
+-- the sizes that the stack keeps are those of the device below, and fit a ten-byte command block
+pub record FitsBelow (limits : Limits) (below : Seen) : Type 0 where
+  pub sector_size : limits.sector_size ≡ below.rules.sector_size
+  pub some_bytes : 512 ≤ limits.sector_size
+  pub longest : limits.longest ≡ below.rules.longest
+  pub short : limits.longest < 2 ^ 16
+  pub small : end_of (partitions_of limits.partition) ≤ 2 ^ 32
+  pub some_open : (1 ≤ limits.open_requests) × (limits.open_requests ≤ limits.window) × (limits.window ≤ 64)
+  pub no_window : below.rules.window ≡ None
+  pub many : number_limit ≤ below.most
+
+-- numbers that were given, none of them used up
+pub record HasNumbers (below : Seen) (tables : Tables) : Type 0 where
+  pub requests : tables.next_request ≤ number_limit
+  pub handles : tables.next_handle ≤ number_limit
+  pub rising : below.state.next_request ≤ tables.next_request
+  pub submitted : below.submitted ≤ tables.next_request
+
+-- the slot of a request that is open below
+pub record IsHeldAt (requests : Slab OpenRequest) (o : OpenBelow) : Type 0 where
+  pub slot : ℕ
+  pub request : OpenRequest
+  pub there : get requests slot ≡ Some request
+  pub same_number : request.number ≡ o.number
+  pub same_kind : request.kind ≡ o.request.kind
+  pub label_bytes : o.request.kind ≡ Read → length request.label_bytes ≡ o.request.length
+
+-- the requests that are open below are those in the table
+pub record AreHeld (requests : Slab OpenRequest) (below : List OpenBelow) : Type 0 where
+  pub held : All (IsHeldAt requests) below
+  pub is_open : (slot : ℕ) (request : OpenRequest) → get requests slot ≡ Some request → Contains (map request_number below) request.number
+  pub one_slot : (slot other : ℕ) (request same : OpenRequest) → get requests slot ≡ Some request → get requests other ≡ Some same
+      → request.number ≡ same.number → slot ≡ other
+  pub counted : slab_len requests ≡ length below
+
+-- places for what a step may add, so that it takes no memory
+pub record HasPlaces (limits : Limits) (tables : Tables) : Type 0 where
+  pub labels : 192 ≤ deque_capacity tables.labels
+  pub answered : 64 ≤ deque_capacity tables.answered
+  pub waiting : deque_len tables.waiting + slab_len tables.requests ≤ deque_capacity tables.waiting
+  pub handles : (handle_limit ≤ tables.handles.capacity) × (tables.handles.capacity < 2 ^ 32)
+  pub requests : (limits.open_requests ≤ tables.requests.capacity) × (tables.requests.capacity < 2 ^ 32)
+
+abbrev pub IsTopmost : Packet → Type 0
+IsTopmost packet = packet.above ≡ []
+
+-- an open handle is on a partition that is there
+abbrev pub IsOnMap : Limits → Slab OpenHandle → Type 0
+IsOnMap limits handles = (slot : ℕ) (handle : OpenHandle) → get handles slot ≡ Some handle → handle.partition < length (partitions_of limits.partition)
+
+-- an answer of a number that was given
+abbrev pub WasGiven : ℕ → Answer → Type 0
+WasGiven next answer = answer.number < next
+
+-- no answer that waits to be taken is one of an open request
+abbrev pub AreApart : Slab OpenRequest → List Answer → Type 0
+AreApart requests answers = (slot : ℕ) (request : OpenRequest) → get requests slot ≡ Some request → All (HasOtherNumber request.number) answers
+
+-- what holds with these answers put by, whose labels are not told yet
+pub record IsSoundWith (put_by : List Answer) (limits : Limits) (below : Seen) (tables : Tables) : Type 0 where
+  pub fits : FitsBelow limits below
+  pub numbers : HasNumbers below tables
+  pub held : AreHeld tables.requests below.state.requests
+  pub few : slab_len tables.requests ≤ limits.open_requests
+  pub places : HasPlaces limits tables
+  pub on_map : IsOnMap limits tables.handles
+  pub on_disk : IsOnDisk (rules_of limits below.rules) below.rules below.state
+  pub topmost : All IsTopmost below.packets
+  pub not_paused : IsFalse below.state.paused
+  pub not_removing : IsFalse below.state.removing
+  pub none_put_by : tables.answered.items ≡ put_by
+  pub rising : AreRising (map answer_number tables.waiting.items)
+  pub given : All (WasGiven tables.next_request) tables.waiting.items
+  pub apart : AreApart tables.requests tables.waiting.items
+
+-- between two calls no answer is put by
+abbrev pub IsSound : Limits → Seen → Tables → Type 0
+IsSound limits below tables = IsSoundWith [] limits below tables
+
+-- between two calls the disk's array has all sectors of the adapter, and no request that has ended waits to be taken
+pub record IsAtRest (below : Seen) : Type 0 where
+  pub all_sectors : length below.adapter.sectors ≡ length (get_or below.state.arrays 0 [])
+  pub unfinished : All (IsUnfinished below.rules below.state) below.state.requests
+
+-- all that has ended is taken: the device's labels and the answers are told, and the device is settled
+pub record Collects (below : Seen) (tables : Tables) (below' : Seen) (tables' : Tables) : Type 0 where
+  pub starts : List DeviceLabel
+  pub answers : List Answer
+  pub only_starts : All IsStart starts
+  pub rising : AreRising (map answer_number answers)
+  pub same_rules : below'.rules ≡ below.rules
+  pub run : Run below.rules below.state (map as_label starts ++ map as_answer answers) below'.state
+  pub adapter : AdapterMoves below.adapter starts below'.adapter
+  pub labels : tables'.labels.items ≡ (tables.labels.items ++ map as_label (below.adapter.labels ++ starts)) ++ map as_answer answers
+  pub waiting : IsPermutation tables'.waiting.items (answers ++ tables.waiting.items)
+  pub holders : (slot : ℕ) → option_map holder_of (get tables'.requests slot) ≡ unless_answered answers (option_map holder_of (get tables.requests slot))
+  pub same_handles : tables'.handles ≡ tables.handles
+  pub same_next_handle : tables'.next_handle ≡ tables.next_handle
+  pub same_next_request : tables'.next_request ≡ tables.next_request
+  pub settled : Settled below'.rules below'.state
+  -- where nothing has ended, nothing starts and nothing is answered; afterwards nothing has
+  pub quiet : All (IsUnfinished below.rules below.state) below.state.requests → (starts ≡ []) × (answers ≡ [])
+  pub unfinished : All (IsUnfinished below'.rules below'.state) below'.state.requests
+
+-- what holds between two steps, beside the order of the device: all is sound, at rest and settled, the adapter's labels
+-- are taken, and a run leads from an opening state to the state that is shown
+pub record IsKept (limits : Limits) (below : Seen) (tables : Tables) : Type 0 where
+  pub sound : IsSound limits below tables
+  pub rest : IsAtRest below
+  pub settled : Settled below.rules below.state
+  pub none_recorded : below.adapter.labels ≡ []
+  pub reached : IsReached (rules_of limits below.rules) (on_partition (rules_of limits below.rules) tables.next_request below.state)

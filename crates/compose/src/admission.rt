@@ -1,0 +1,230 @@
+//! What a call is answered at once, and the packet of one that is admitted.
+
+ghost use Rattle.std.specs.Prelude.{◌≡◌, ◌<◌, ◌≤◌, ℕ, ◌+◌, ◌/◌, ◌^◌, Some, true, length, option_map, is_some, IsTrue, IsFalse, IfOk};
+ghost use Rattle.device.specs.Rules.{Rules, is_transfer, is_in_bounds};
+ghost use Rattle.device.specs.State.{State};
+ghost use Rattle.device.specs.Calling.{refusal};
+ghost use Rattle.device.specs.Seen.{Carries, payload_bytes, transfer_length, direction};
+ghost use Rattle.compose.specs.Calls.{status_of_refusal};
+ghost use Rattle.compose.specs.OnDisk.{first_of};
+ghost use Rattle.compose.specs.Sound.{partitions_of, rules_of};
+ghost use Rattle.compose.specs.Admitting.{status_at_once, IsKnown, HasSizes, request_on_disk, IsWholeDisk, FitsBlock, disk_command, HasBuffers, IsOnTop};
+
+use crate::Refusal;
+use cdb::{Cdb, encode};
+use device::{ClientRequest, Kind, Request};
+use irp::{Control, Driver, Irp, LocationFlags, MajorFunction, Payload, StackLocation};
+use ntstatus::NtStatus;
+use sector::{Bytes, Extent};
+use srb::{CommandBlock, Srb, SrbFlags, SrbFunction};
+use std::alloc::{AllocError, Global};
+
+/// The sizes of a stack, and its partition where it has one.
+#[derive(Debug, Clone, Copy, PartialEq, Eq)]
+pub(crate) struct Limits {
+    pub(crate) sector_size: u64,
+    pub(crate) partition: Option<Extent>,
+    pub(crate) longest: u64,
+    pub(crate) window: u32,
+    pub(crate) open_requests: u32,
+}
+
+/// A call that ends where it begins.
+#[derive(Debug, Clone, Copy, PartialEq, Eq)]
+pub(crate) enum AtOnce {
+    /// It asks for no bytes, and succeeds.
+    Empty,
+    Refused(Refusal),
+}
+
+impl AtOnce {
+    pub(crate) fn status(self) -> NtStatus
+        ensures { result ≡ status_at_once self }
+    {
+        match self {
+            AtOnce::Empty => NtStatus::Success,
+            AtOnce::Refused(refusal) => refusal.status(),
+        }
+    }
+}
+
+impl Refusal {
+    /// The status of the answer's label.
+    pub fn status(self) -> NtStatus
+        ensures { result ≡ status_of_refusal self }
+    {
+        match self {
+            Refusal::InvalidHandle => NtStatus::InvalidHandle,
+            Refusal::InvalidParameter => NtStatus::InvalidParameter,
+            Refusal::DeletePending => NtStatus::DeletePending,
+            Refusal::DeviceBusy => NtStatus::DeviceBusy,
+            Refusal::InsufficientResources => NtStatus::InsufficientResources,
+            Refusal::InvalidDeviceRequest => NtStatus::InvalidDeviceRequest,
+            Refusal::NotFound => NtStatus::NotFound,
+        }
+    }
+}
+
+impl Limits {
+    /// The number of partitions.
+    pub(crate) fn partitions(&self) -> usize
+        ensures { result ≡ length (partitions_of self.now.partition) }
+    {
+        match self.partition {
+            Some(_) => 1,
+            None => 0,
+        }
+    }
+
+    /// Whether a request of the partition asks for whole sectors of it, no more than the longest may.
+    fn holds(&self, request: &ClientRequest) -> bool
+        requires some_bytes { 0 < self.now.sector_size }
+        requires known { IsKnown self.now request.now.partition }
+        requires given { is_some request.now.partition ≡ true }
+        ensures { (below : Rules) → HasSizes self.now below → result ≡ is_in_bounds (rules_of self.now below) request.now }
+    {
+        let first = request.offset / self.sector_size;
+        let count = request.length / self.sector_size;
+        let sectors = match self.partition {
+            Some(extent) => extent.count,
+            None => 0,
+        };
+        request.offset % self.sector_size == 0
+            && request.length % self.sector_size == 0
+            && first <= sectors
+            && count <= sectors - first
+            && count <= self.longest
+    }
+
+    /// The sectors of the disk that a request of the partition asks for.
+    pub(crate) fn request_below(&self, request: &ClientRequest) -> Request
+        requires some_bytes { 0 < self.now.sector_size }
+        requires small { first_of (partitions_of self.now.partition) + request.now.offset / self.now.sector_size < 2 ^ 64 }
+        ensures { result ≡ request_on_disk self.now request.now }
+    {
+        let begin = match self.partition {
+            Some(extent) => extent.first,
+            None => 0,
+        };
+        Request {
+            volume: 0,
+            kind: request.kind,
+            extent: Extent {
+                first: begin + request.offset / self.sector_size,
+                count: request.length / self.sector_size,
+            },
+            through: request.through,
+        }
+    }
+}
+
+/// What a read or write is answered at once, if anything, with so many requests open.
+pub(crate) fn refusal_of(
+    limits: &Limits,
+    request: &ClientRequest,
+    open_count: usize,
+) -> Option<AtOnce>
+    requires some_bytes { 0 < limits.now.sector_size }
+    requires known { IsKnown limits.now request.now.partition }
+    requires transfer { IsTrue (is_transfer request.now.kind) }
+    ensures exact { (below : Rules) (s : State) → HasSizes limits.now below → IsFalse s.removing → length s.requests ≡ open_count
+        → refusal (rules_of limits.now below) s request.now ≡ option_map status_at_once result }
+{
+    if request.partition.is_none() {
+        Some(AtOnce::Refused(Refusal::InvalidHandle))
+    } else if !limits.holds(request) {
+        Some(AtOnce::Refused(Refusal::InvalidParameter))
+    } else if request.length == 0 {
+        Some(AtOnce::Empty)
+    } else if open_count >= limits.open_requests as usize {
+        Some(AtOnce::Refused(Refusal::DeviceBusy))
+    } else {
+        None
+    }
+}
+
+/// The buffers that a request needs beside its caller's.
+#[derive(Drop)]
+pub(crate) struct Places {
+    /// For the label of its act.
+    pub(crate) for_label: Bytes,
+    /// The bytes of a write, for the label of its call.
+    pub(crate) call_bytes: Bytes,
+    /// For the label of a read's answer.
+    pub(crate) label_bytes: Bytes,
+}
+
+/// Copies of a buffer, as many as a request of it needs.
+pub(crate) fn places_for(alloc: Global, kind: Kind, buffer: &Bytes) -> Result<Places, AllocError>
+    ensures { IfOk result (λ places. HasBuffers kind buffer.now places) }
+{
+    let for_label = Bytes::new(vec![in alloc; 0u8; buffer.len()]?);
+    let empty = Bytes::new(Vec::new(alloc));
+    let copy = Bytes::new(Vec::from_slice(alloc, buffer.as_slice())?);
+    let (call_bytes, label_bytes) = match kind {
+        Kind::Write => (copy, empty),
+        Kind::Read | Kind::Flush => (empty, copy),
+    };
+    Ok(Places {
+        for_label,
+        call_bytes,
+        label_bytes,
+    })
+}
+
+/// What a request of the disk asks its driver for, which way its data go, and its command.
+fn command_of(request: &Request) -> (MajorFunction, SrbFlags, Cdb)
+    requires { FitsBlock request.now }
+    ensures flags { result.1.0 ≡ direction request.now.kind }
+    ensures command { result.2 ≡ disk_command request.now request.now.kind }
+{
+    let (lba, count) = (request.extent.first as u32, request.extent.count as u16);
+    let fua = request.through;
+    match request.kind {
+        Kind::Read => (
+            MajorFunction::Read,
+            SrbFlags::DATA_IN,
+            Cdb::Read10 { lba, count, fua },
+        ),
+        Kind::Write => (
+            MajorFunction::Write,
+            SrbFlags::DATA_OUT,
+            Cdb::Write10 { lba, count, fua },
+        ),
+        Kind::Flush => (
+            MajorFunction::FlushBuffers,
+            SrbFlags(0),
+            Cdb::Sync10 { lba: 0, blocks: 0 },
+        ),
+    }
+}
+
+/// The packet of a request, with an SRB that asks for its sectors.
+pub(crate) fn packet_for(number: u64, request: &Request, buffer: Bytes, for_label: Bytes) -> Irp
+    requires { FitsBlock request.now }
+    ensures top { IsOnTop number result }
+    ensures bytes { payload_bytes result.payload ≡ buffer }
+    ensures asks { (rules : Rules) → IsWholeDisk rules → length buffer ≡ transfer_length rules request.now → length for_label ≡ transfer_length rules request.now
+        → Carries true rules request.now result.payload }
+{
+    let (major, flags, command) = command_of(request);
+    let srb = Srb {
+        function: SrbFunction::ExecuteScsi,
+        flags,
+        block: CommandBlock::new(encode(&command)),
+        data: buffer,
+        for_label,
+        sense: None,
+    };
+    let mut irp = Irp::new(number as u128, Payload::Srb(srb));
+    irp.next_location(StackLocation {
+        driver: Driver::Port,
+        major,
+        minor: None,
+        control: Control(0),
+        flags: LocationFlags(0),
+        volume: request.volume,
+        extent: request.extent,
+    });
+    irp
+}

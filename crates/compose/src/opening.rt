@@ -1,0 +1,82 @@
+//! A stack before its first event: its tables, empty, over a device of which nothing was asked yet.
+
+ghost use Rattle.std.specs.Prelude.{◌≡◌, ◌≤◌, ◌<◌, ◌^◌, [], IfOk};
+ghost use Rattle.compose.specs.Sound.{HasPlaces, IsKept};
+ghost use Rattle.compose.specs.Opening.{IsUnasked, AreFor, AreEmpty};
+
+use crate::admission::Limits;
+use crate::io_manager::IoManager;
+use crate::tables::Tables;
+use device::Device;
+use slab::Slab;
+use std::alloc::{AllocError, Global};
+use std::collections::VecDeque;
+
+/// As many handles as are open at once.
+const HANDLE_PLACES: usize = 64;
+
+/// More labels than a step tells.
+const LABEL_PLACES: usize = 192;
+
+/// As many answers as a step tells.
+const ANSWER_PLACES: usize = 64;
+
+/// A table with places for so many values, whose slots are numbers of 32 bits.
+fn slots<T: Drop>(alloc: Global, places: usize) -> Result<Slab<T>, AllocError>
+    ensures empty { IfOk result (λ slab. slab.slots ≡ []) }
+    ensures places { IfOk result (λ slab. places ≤ slab.capacity) }
+    ensures small { IfOk result (λ slab. slab.capacity < 2 ^ 32) }
+{
+    let slab = Slab::with_capacity(alloc, places)?;
+    if slab.capacity() >= 1 << 32 {
+        return Err(AllocError);
+    }
+    Ok(slab)
+}
+
+impl Tables {
+    /// Empty tables, with places for all that a step may add.
+    ///
+    /// # Errors
+    ///
+    /// [`AllocError`] where memory for the places was refused.
+    pub(crate) fn new(alloc: Global, limits: &Limits) -> Result<Tables, AllocError>
+        ensures empty { IfOk result AreEmpty }
+        ensures places { IfOk result (HasPlaces limits.now) }
+    {
+        Ok(Tables {
+            next_request: 1,
+            next_handle: 1,
+            handles: slots(alloc, HANDLE_PLACES)?,
+            requests: slots(alloc, limits.open_requests as usize)?,
+            labels: VecDeque::with_capacity(alloc, LABEL_PLACES)?,
+            answered: VecDeque::with_capacity(alloc, ANSWER_PLACES)?,
+            waiting: VecDeque::new(alloc),
+        })
+    }
+}
+
+impl<D: Device> IoManager<D> {
+    /// A stack over a device of which nothing was asked yet.
+    ///
+    /// # Errors
+    ///
+    /// [`AllocError`] where memory for the tables was refused.
+    pub(crate) fn new(alloc: Global, device: D, limits: Limits) -> Result<IoManager<D>, AllocError>
+        requires rooms { D.rooms_out device [] }
+        requires unasked { IsUnasked (D.seen device) }
+        requires limits { AreFor (D.seen device) limits }
+        ensures rooms { IfOk result (λ manager. D.rooms_out manager.device []) }
+        ensures seen { IfOk result (λ manager. D.seen manager.device ≡ D.seen device) }
+        ensures limits { IfOk result (λ manager. manager.limits ≡ limits) }
+        ensures empty { IfOk result (λ manager. AreEmpty manager.tables) }
+        ensures kept { IfOk result (λ manager. IsKept manager.limits (D.seen manager.device) manager.tables) }
+    {
+        let tables = Tables::new(alloc, &limits)?;
+        Ok(IoManager {
+            device,
+            limits,
+            tables,
+        })
+    }
+}

@@ -1,0 +1,105 @@
+//! The stack over an adapter.
+
+ghost use Rattle.std.specs.Prelude.{◌≡◌, [], IfOk, IfErr, MatchResult};
+ghost use Rattle.device.specs.Settled.{Settled};
+ghost use Rattle.compose.specs.Right.{IsRight, IsWhole, TakesAnswer, TakesLabel as TakesFirst};
+ghost use Rattle.compose.specs.Opening.{IsFirstView};
+ghost use Rattle.compose.specs.Runs.{CarriesAll, IsLawful, StopsAfter};
+ghost use Rattle.compose.specs.Start.{IsIdle, IsSpent};
+
+use crate::io_manager::IoManager;
+use crate::start::start;
+use crate::{Answer, Event, Reply, RunStopped, Settings, Shown, StartFault};
+use device::Label;
+use miniport::Adapter;
+use port::Port;
+use std::alloc::Global;
+use std::marker::Model;
+
+/// The device stack of one disk, with its handles and requests.
+#[derive(Drop)]
+pub struct Stack<A: Adapter> {
+    manager: IoManager<Port<A>>,
+}
+
+impl<A: Adapter> Model for Stack<A> {
+    ghost use Rattle.std.specs.Prelude.{[]};
+    ghost use Rattle.port.specs.Books.{books_of};
+    ghost use Rattle.port.specs.Kept.{IsInHand};
+    ghost use Rattle.port.specs.Shown.{seen_of};
+    ghost use Rattle.compose.specs.Shown.{StackView};
+    ghost use Rattle.compose.specs.Sound.{IsKept, view_of};
+
+    ghost Value = { StackView };
+
+    ghost view = { λ s. view_of s.manager.limits (seen_of (books_of s.manager.device.queues) (A.view s.manager.device.adapter)) s.manager.tables };
+
+    ghost invariant = { λ s. IsInHand (books_of s.manager.device.queues) (A.view s.manager.device.adapter) [] × IsKept s.manager.limits (seen_of (books_of s.manager.device.queues) (A.view s.manager.device.adapter)) s.manager.tables };
+}
+
+impl<A: Adapter> Stack<A> {
+    /// A stack over an adapter that has accepted nothing. It sends READ CAPACITY(10) and READ(10) of sector 0, and takes
+    /// their labels.
+    ///
+    /// # Errors
+    ///
+    /// [`StartFault::Settings`] just where a setting is out of range, before anything is sent; [`StartFault::Device`]
+    /// where the adapter failed a command; [`StartFault::Mbr`] where the partition table is wrong;
+    /// [`StartFault::NoMemory`]. The adapter is spent.
+    pub fn start(alloc: Global, adapter: A, settings: Settings) -> Result<Stack<A>, StartFault>
+        requires idle { IsIdle (A.view adapter) }
+        requires unasked { (A.view adapter).accepted ≡ 0 }
+        ensures view { IfOk result (IsFirstView (A.view adapter) settings) }
+        ensures fault { IfErr result (λ fault. (spent : A) × IsSpent (A.view adapter) settings fault (A.view spent)) }
+    {
+        match start(alloc, adapter, settings) {
+            Ok(manager) => Ok(Stack { manager }),
+            Err(fault) => Err(fault),
+        }
+    }
+
+    /// Carries one event out. All labels of the step before have to be taken.
+    pub fn step(&mut self, alloc: Global, event: Event) -> Reply
+        requires taken { self.old.labels ≡ [] }
+        ensures right { IsRight self.old event result self.new }
+        ensures settled { Settled self.new.rules self.new.state }
+        ensures whole { IsWhole self.new }
+    {
+        let reply = self.manager.step(alloc, event);
+        self.manager.shows_whole();
+        reply
+    }
+
+    /// The earliest label of the last step that was not taken yet.
+    pub fn take_label(&mut self) -> Option<Label>
+        ensures { TakesFirst self.old result self.new }
+    {
+        self.manager.take_label()
+    }
+
+    /// The waiting answer with the lowest number.
+    pub fn take_answer(&mut self) -> Option<Answer>
+        ensures { TakesAnswer self.old result self.new }
+    {
+        self.manager.take_answer()
+    }
+
+    /// Carries events out one after another, and gives the reply and the labels of each. All labels of the step before
+    /// have to be taken.
+    ///
+    /// # Errors
+    ///
+    /// Memory for the result was refused: just the first `done` events were carried out.
+    pub fn run(&mut self, alloc: Global, events: Vec<Event>) -> Result<Vec<Shown>, RunStopped>
+        requires taken { self.old.labels ≡ [] }
+        ensures carries { MatchResult result (λ shown. CarriesAll self.old events.items shown.items self.new) (λ stopped. StopsAfter self.old events.items stopped self.new) }
+        ensures lawful { MatchResult result (λ shown. IsLawful self.old shown.items self.new) (λ stopped. IsLawful self.old stopped.shown.items self.new) }
+        ensures taken { self.new.labels ≡ [] }
+        ensures settled { Settled self.new.rules self.new.state }
+        ensures whole { IsWhole self.new }
+    {
+        let result = self.manager.run(alloc, events);
+        self.manager.shows_whole();
+        result
+    }
+}

@@ -1,0 +1,163 @@
+//! What the stack keeps beside the device: handles, open requests, labels and answers.
+
+ghost use Rattle.std.specs.Prelude.{◌≡◌, ◌≤◌, ◌<◌, ◌+◌, ◌^◌, [], false};
+ghost use Rattle.std.specs.VecDeque.{deque_len, deque_capacity};
+ghost use Rattle.slab.specs.Slab.{HasRoomFor};
+ghost use Rattle.compose.specs.declared.Reply.TheVariants.{Refused as RefusedReply};
+ghost use Rattle.compose.specs.Calls.{partition_of, are_used_up, handle_limit};
+ghost use Rattle.compose.specs.Admitting.{AnswersAtOnce, Admits, OpensHandle, status_at_once, reply_at_once};
+
+use crate::admission::{AtOnce, Places};
+use crate::{Answer, Handle, OpenHandle, Refusal, Reply};
+use device::{ClientRequest, Kind, Label};
+use ntstatus::NtStatus;
+use sector::Bytes;
+use slab::Slab;
+use std::alloc::Global;
+use std::collections::VecDeque;
+
+/// Numbers of requests and of handles are below this one.
+pub(crate) const NUMBER_LIMIT: u64 = 1 << 62;
+
+/// Handles open at once.
+const HANDLE_LIMIT: usize = 64;
+
+/// An open request, at its slot.
+#[derive(Debug, Drop)]
+pub(crate) struct OpenRequest {
+    pub(crate) number: u64,
+    pub(crate) handle: u64,
+    pub(crate) kind: Kind,
+    /// As many bytes as a read brings, for its answer's label; a write has none here.
+    pub(crate) label_bytes: Bytes,
+}
+
+#[derive(Drop)]
+pub(crate) struct Tables {
+    pub(crate) next_request: u64,
+    pub(crate) next_handle: u64,
+    pub(crate) handles: Slab<OpenHandle>,
+    pub(crate) requests: Slab<OpenRequest>,
+    /// Not yet taken, in order.
+    pub(crate) labels: VecDeque<Label>,
+    /// The labels of the answers of this step, by rising numbers.
+    pub(crate) answered: VecDeque<Answer>,
+    /// Answers not yet taken, by rising numbers.
+    pub(crate) waiting: VecDeque<Answer>,
+}
+
+/// A refusal, with the caller's bytes.
+pub(crate) fn refused(refusal: Refusal, bytes: Bytes) -> Reply
+    ensures { result ≡ RefusedReply refusal bytes }
+{
+    Reply::Refused { refusal, bytes }
+}
+
+impl Tables {
+    /// The partition that a handle is open on.
+    pub(crate) fn partition_of(&self, handle: Handle) -> Option<u8>
+        ensures { result ≡ partition_of self.now.handles.slots handle }
+    {
+        let open = self.handles.get(handle.slot as usize)?;
+        if open.number == handle.number {
+            Some(open.partition)
+        } else {
+            None
+        }
+    }
+
+    /// Gives a handle on a partition.
+    pub(crate) fn open(&mut self, alloc: Global, partition: u8, partitions: usize) -> Reply
+        requires { (handle_limit ≤ self.old.handles.capacity) × (self.old.handles.capacity < 2 ^ 32) }
+        ensures { OpensHandle self.old partition partitions result self.new }
+    {
+        let no_bytes = Bytes::new(Vec::new(alloc));
+        if self.next_handle >= NUMBER_LIMIT {
+            return refused(Refusal::DeviceBusy, no_bytes);
+        }
+        if partition as usize >= partitions {
+            return refused(Refusal::InvalidParameter, no_bytes);
+        }
+        if self.handles.len() >= HANDLE_LIMIT {
+            return refused(Refusal::DeviceBusy, no_bytes);
+        }
+        let number = self.next_handle;
+        self.next_handle += 1;
+        let slot = self
+            .handles
+            .insert_reserved(OpenHandle { number, partition });
+        Reply::Handle(Handle {
+            slot: slot as u32,
+            number,
+        })
+    }
+
+    /// Tells a call that is refused or of no bytes, and its answer.
+    pub(crate) fn answer_at_once(
+        &mut self,
+        alloc: Global,
+        request: ClientRequest,
+        at_once: AtOnce,
+        buffer: Bytes,
+    ) -> Reply
+        requires numbers_last { are_used_up self.old.next_request ≡ false }
+        requires places { deque_len self.old.labels + 2 ≤ deque_capacity self.old.labels }
+        requires no_bytes { request.bytes ≡ [] }
+        ensures tells { AnswersAtOnce self.old request (status_at_once at_once) self.new }
+        ensures replies { result ≡ reply_at_once self.old.next_request buffer at_once }
+    {
+        let number = self.next_request;
+        self.next_request += 1;
+        self.labels
+            .push_back_reserved(Label::Call { number, request });
+        self.labels.push_back_reserved(Label::Answer {
+            number,
+            status: at_once.status(),
+            bytes: Bytes::new(Vec::new(alloc)),
+        });
+        match at_once {
+            AtOnce::Empty => Reply::Answered(Answer {
+                number,
+                status: NtStatus::Success,
+                bytes: buffer.emptied(),
+            }),
+            AtOnce::Refused(refusal) => refused(refusal, buffer),
+        }
+    }
+
+    /// Opens a request under the next number, tells its call, and gives its slot and the buffer for its act's label.
+    pub(crate) fn admit(
+        &mut self,
+        handle: Handle,
+        request: ClientRequest,
+        places: Places,
+    ) -> (u32, Bytes)
+        requires numbers_last { are_used_up self.old.next_request ≡ false }
+        requires label_place { deque_len self.old.labels < deque_capacity self.old.labels }
+        requires free_slot { HasRoomFor self.old.requests 1 }
+        requires slots { self.old.requests.capacity < 2 ^ 32 }
+        ensures admits { Admits self.old handle request places result.0 self.new }
+        ensures for_label { result.1 ≡ places.for_label }
+    {
+        let Places {
+            for_label,
+            call_bytes,
+            label_bytes,
+        } = places;
+        let number = self.next_request;
+        self.next_request = number + 1;
+        let slot = self.requests.insert_reserved(OpenRequest {
+            number,
+            handle: handle.number,
+            kind: request.kind,
+            label_bytes,
+        });
+        let request = ClientRequest {
+            bytes: call_bytes,
+            ..request
+        };
+        self.labels
+            .push_back_reserved(Label::Call { number, request });
+        (slot as u32, for_label)
+    }
+}
