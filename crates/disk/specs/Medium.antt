@@ -2,7 +2,7 @@
 use Rattle.std.specs.Prelude.{◌≡◌, ◌≤◌, ℕ, ◌+◌, List, length, All, Contains, replicate, slice_range}
 use Rattle.std.specs.List.{concat}
 use Rattle.sector.specs.declared.Extent.{Extent}
-use Rattle.sector.specs.Extents.{IsIn}
+use Rattle.sector.specs.Extents.{IsCovered, IsIn, IsSector}
 use Rattle.sector.specs.Splice.{splice}
 
 pub record MediumView : Type 0 where
@@ -17,13 +17,9 @@ pub record MediumView : Type 0 where
   -- the calls that failed
   pub failures : ℕ
 
--- a list of this length
-abbrev pub HasLength : ℕ → List ℕ → Type 0
-HasLength size bytes = length bytes ≡ size
-
 -- each sector is as long as a sector has to be
 abbrev pub IsWhole : MediumView → Type 0
-IsWhole view = All (HasLength view.sector_size) view.sectors
+IsWhole view = All (IsSector view.sector_size) view.sectors
 
 -- the extent lies within the medium
 abbrev pub IsWithin : MediumView → Extent → Type 0
@@ -35,8 +31,7 @@ HasBad view extent = (sector : ℕ) × Contains view.bad sector × IsIn sector e
 
 -- each sector of the extent is one of a reserved extent
 abbrev pub IsReserved : MediumView → Extent → Type 0
-IsReserved view extent =
-    (sector : ℕ) → IsIn sector extent → (reserved : Extent) × Contains view.reserved reserved × IsIn sector reserved
+IsReserved view extent = IsCovered view.reserved extent
 
 -- the bytes of an extent's sectors, one sector after the other
 abbrev pub bytes_at : MediumView → Extent → List ℕ
@@ -57,7 +52,7 @@ pub record Writes (old : MediumView) (extent : Extent) (bytes : List ℕ) (new :
   pub moved : List (List ℕ)
   pub bytes_are : concat moved ≡ bytes
   pub covers : length moved ≡ extent.count
-  pub whole : All (HasLength old.sector_size) moved
+  pub whole : All (IsSector old.sector_size) moved
   pub after : new ≡ record old { sectors = splice old.sectors extent.first moved }
 
 -- a call failed: it is counted, and nothing else changes

@@ -30,7 +30,8 @@ use Rattle.device.specs.Numbers.{request_number, piece_number, AreDistinct}
 use Rattle.device.proofs.Same.{IsSame-sym}
 use Rattle.device.proofs.Numbers.{AreDistinct-same, requests_in_order}
 use Rattle.machine_laws.specs.Reached.{IsReached}
-use Rattle.machine_laws.proofs.Splicing.{AllAt, splice_at, length-splice, splice_inside}
+use Rattle.device.proofs.Splicing.{AllAt, splice_at, length-splice}
+use Rattle.machine_laws.proofs.Splicing.{splice_inside}
 use Rattle.machine_laws.proofs.Serving.{HoldsPlaces, IsSized, PieceFits, leaves_right, others_differ}
 use Rattle.machine_laws.proofs.Sound.{Anything, IsSound, IsSound-Step, IsSound-opening}
 

@@ -27,7 +27,7 @@ use Rattle.device.specs.Step.{DeviceStep, FreeStep, OwingStep, Step}
 use Rattle.device.specs.Numbers.{request_number, IsGiven, AreDistinct}
 use Rattle.device.specs.Solo.{past}
 use Rattle.device.proofs.Numbers.{requests_in_order}
-use Rattle.machine_laws.proofs.Splicing.{AllAt, splice_at, length-splice}
+use Rattle.device.proofs.Splicing.{AllAt, splice_at, length-splice}
 use Rattle.machine_laws.proofs.Bounds.{in_bounds}
 use Rattle.machine_laws.specs.Sectors.{array_at}
 use Rattle.machine_laws.specs.Reached.{AreWhole}

@@ -9,13 +9,14 @@ use Rattle.std.proofs.lemmas.List.Folds.{Any-from_list_any, list_any-from_Any}
 use Rattle.std.proofs.lemmas.Bool.{lt-ltb, ltb-true, le-leb, leb-true}
 use Rattle.std.specs.Cmp.Derive.{both_true}
 use Rattle.byteorder.specs.Endian.{big_from}
+use Rattle.sector.specs.Extents.{IsSector}
 use Rattle.sector.specs.Splice.{splice}
 use Rattle.cdb.specs.declared.Cdb.{Cdb}
 use Rattle.cdb.specs.declared.Cdb.TheVariants.{Read10, Write10, Sync10, ReadCapacity10}
 use Rattle.srb.specs.declared.Srb.{Srb}
 use Rattle.srb.specs.declared.Completion.{Completion}
 use Rattle.srb.specs.Performing.{capacity_data}
-use Rattle.disk.specs.Medium.{MediumView, HasLength, IsWhole, HasBad, failed}
+use Rattle.disk.specs.Medium.{MediumView, IsWhole, HasBad, failed}
 use Rattle.miniport.specs.declared.carrying.Outcome.{Outcome}
 use Rattle.miniport.specs.declared.carrying.Outcome.TheVariants.{Moved, Failed}
 use Rattle.miniport.specs.Faults.{Disk, fault_of_medium, is_one_of, error}
@@ -24,13 +25,13 @@ use Rattle.miniport.specs.Carrying.{disk_of, sizes_of, emptied, Reads, Writes, C
 use Rattle.miniport.specs.Moving.{moved_by}
 
 -- whole sectors joined and cut again
-pub first_chunks-concat : (size : ℕ) (sectors : List (List ℕ)) → All (HasLength size) sectors → first_chunks size (length sectors) (concat sectors) ≡ sectors
+pub first_chunks-concat : (size : ℕ) (sectors : List (List ℕ)) → All (IsSector size) sectors → first_chunks size (length sectors) (concat sectors) ≡ sectors
 first_chunks-concat size [] all = refl
 first_chunks-concat size (x ∷ xs) all =
-    let long : length x ≡ size = All-head (HasLength size) x xs all in
+    let long : length x ≡ size = All-head (IsSector size) x xs all in
     let first : take size (x ++ concat xs) ≡ x = take_at x (concat xs) size long in
     let rest : drop size (x ++ concat xs) ≡ concat xs = drop_at x (concat xs) size long in
-    let others : first_chunks size (length xs) (concat xs) ≡ xs = first_chunks-concat size xs (All-tail (HasLength size) x xs all) in
+    let others : first_chunks size (length xs) (concat xs) ≡ xs = first_chunks-concat size xs (All-tail (IsSector size) x xs all) in
     let k : first_chunks size (length xs) (drop size (x ++ concat xs)) ≡ xs = ap (λ (l : List ℕ). first_chunks size (length xs) l) rest ∙ others in
     cc
 
@@ -42,8 +43,8 @@ cut_again size count bytes sectors e long cut = rw (e, ← long) cut
 length-extent : (sectors : List (List ℕ)) (first count : ℕ) → first + count ≤ length sectors → length (slice_range sectors first (first + count)) ≡ count
 length-extent sectors first count within = length-take-le (first + count - first) (drop first sectors) (omega (arith, length-drop first sectors)) ∙ omega arith
 
-All-extent : (size : ℕ) (sectors : List (List ℕ)) (first count : ℕ) → All (HasLength size) sectors → All (HasLength size) (slice_range sectors first (first + count))
-All-extent size sectors first count all = All-take (HasLength size) (first + count - first) (drop first sectors) (All-drop (HasLength size) first sectors all)
+All-extent : (size : ℕ) (sectors : List (List ℕ)) (first count : ℕ) → All (IsSector size) sectors → All (IsSector size) (slice_range sectors first (first + count))
+All-extent size sectors first count all = All-take (IsSector size) (first + count - first) (drop first sectors) (All-drop (IsSector size) first sectors all)
 
 -- the sectors that were moved, by the operation code
 moved_transfer : (size count : ℕ) (block bytes : List ℕ) (sectors : List (List ℕ)) → first_chunks size count bytes ≡ sectors → big_from 7 2 block ≡ count

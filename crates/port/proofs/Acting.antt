@@ -6,6 +6,7 @@ use Rattle.std.proofs.lemmas.List.{length-append, length-map, take_all, length-t
 use Rattle.std.proofs.lemmas.List.Elements.{All-nil, All-cons, All-weaker, All-head, All-tail, All-take, All-drop}
 use Rattle.std.proofs.lemmas.List.Sorted.{IsPermutation-refl, IsPermutation-sym, IsPermutation-trans, IsPermutation-append_left, IsPermutation-append_right, All-permutation, Contains-permutation, length_permutation}
 use Rattle.sector.specs.declared.Extent.{Extent}
+use Rattle.sector.specs.Extents.{IsSector}
 use Rattle.sector.specs.Splice.{splice}
 use Rattle.cdb.specs.declared.Cdb.{Cdb}
 use Rattle.cdb.specs.declared.Cdb.TheVariants.{Read10, Write10, Sync10, ReadCapacity10}
@@ -14,7 +15,7 @@ use Rattle.srb.specs.declared.Srb.{Srb}
 use Rattle.srb.specs.declared.DeviceLabel.{DeviceLabel}
 use Rattle.srb.specs.declared.DeviceLabel.TheVariants.{Act, Fault}
 use Rattle.srb.specs.Fate.{Fate, Fresh, Acted, Faulted}
-use Rattle.srb.specs.Performing.{Performs, IsSector}
+use Rattle.srb.specs.Performing.{Performs}
 use Rattle.srb.specs.Adapter.{AdapterView, TagInUse, IsInOrder, IsOn, HasNotTag, ActsOn as AdapterActsOn, FaultsOn as AdapterFaultsOn, IsReserved, acted, faulted}
 use Rattle.miniport.specs.Calls.{Acts as AdapterActs, ActsNot as AdapterActsNot}
 use Rattle.irp.specs.declared.Payload.{Payload}

@@ -6,11 +6,12 @@ use Rattle.std.proofs.lemmas.List.{length-append, length-map}
 use Rattle.std.proofs.lemmas.List.Elements.{All-nil, All-cons, All-weaker, All-head, All-tail, All-contains}
 use Rattle.std.proofs.lemmas.List.Sorted.{IsPermutation-refl, IsPermutation-sym, IsPermutation-trans, IsPermutation-cons, IsPermutation-middle, IsPermutation-append_left, IsPermutation-append_right, All-permutation, Contains-permutation, length_permutation}
 use Rattle.sector.specs.declared.Extent.{Extent}
+use Rattle.sector.specs.Extents.{IsSector}
 use Rattle.srb.specs.declared.Srb.{Srb}
 use Rattle.srb.specs.declared.DeviceLabel.{DeviceLabel}
 use Rattle.srb.specs.declared.DeviceLabel.TheVariants.{Act, Fault}
 use Rattle.srb.specs.Fate.{Fate, Fresh, Acted, Faulted}
-use Rattle.srb.specs.Performing.{IsSector, Performs}
+use Rattle.srb.specs.Performing.{Performs}
 use Rattle.srb.specs.Adapter.{AdapterView, TagInUse, IsInOrder, IsOn, ActsOn as AdapterActsOn, FaultsOn as AdapterFaultsOn, IsReserved, acted, faulted}
 use Rattle.miniport.specs.Calls.{Acts as AdapterActs, ActsNot as AdapterActsNot}
 use Rattle.irp.specs.declared.Payload.TheVariants.{Srb as Packed}

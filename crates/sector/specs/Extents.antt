@@ -1,10 +1,19 @@
 -- An extent as a set of sectors.
-use Rattle.std.specs.Prelude.{◌≡◌, ℕ, ◌+◌, ◌*◌, ◌%◌, ◌≤◌, ◌<◌}
+use Rattle.std.specs.Prelude.{◌≡◌, ℕ, ◌+◌, ◌*◌, ◌%◌, ◌≤◌, ◌<◌, List, Contains, length}
 use Rattle.sector.specs.declared.Extent.{Extent}
 
 -- the sector of this number is one of the extent's
 abbrev pub IsIn : ℕ → Extent → Type 0
 IsIn sector extent = (extent.first ≤ sector) × (sector < extent.first + extent.count)
+
+-- each sector of the extent is one of these extents'
+abbrev pub IsCovered : List Extent → Extent → Type 0
+IsCovered extents extent =
+    (sector : ℕ) → IsIn sector extent → (other : Extent) × Contains extents other × IsIn sector other
+
+-- a sector of this many bytes
+abbrev pub IsSector : ℕ → List ℕ → Type 0
+IsSector size bytes = length bytes ≡ size
 
 -- these bytes begin at a sector, are whole sectors, and lie in a disk of so many
 pub record AreWholeSectors (offset length sector_size sectors : ℕ) : Type 0 where

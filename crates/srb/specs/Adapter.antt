@@ -2,7 +2,7 @@
 use Rattle.std.specs.Prelude.{◌≡◌, ◌≢◌, ◌<◌, ◌≤◌, ◌^◌, ◌⊎◌, ℕ, ◌+◌, ◌*◌, Bool, true, false, IsTrue, IsFalse, List, [], ◌∷◌, ◌++◌, map, length, All, AllPairs, Contains, IsPermutation, bit_and}
 use Rattle.std.specs.List.{concat}
 use Rattle.sector.specs.declared.Extent.{Extent}
-use Rattle.sector.specs.Extents.{IsIn}
+use Rattle.sector.specs.Extents.{IsCovered, IsSector}
 use Rattle.cdb.specs.declared.Cdb.{Cdb}
 use Rattle.cdb.specs.declared.Cdb.TheVariants.{Write10}
 use Rattle.cdb.specs.Meaning.{Means}
@@ -13,7 +13,7 @@ use Rattle.srb.specs.declared.Class.TheVariants.{Good, Busy, Bad}
 use Rattle.srb.specs.declared.DeviceLabel.{DeviceLabel}
 use Rattle.srb.specs.declared.DeviceLabel.TheVariants.{Start, Act, Fault, Return}
 use Rattle.srb.specs.Fate.{Fate, Fresh, Acted, Faulted, class_of}
-use Rattle.srb.specs.Performing.{Performs, IsSector}
+use Rattle.srb.specs.Performing.{Performs}
 
 -- a tag with a piece on it
 pub record TagInUse : Type 0 where
@@ -94,8 +94,7 @@ acted moved left use' = record use' {
 
 -- each sector of the extent is one of a reserved extent
 abbrev pub IsReserved : AdapterView → Extent → Type 0
-IsReserved view extent =
-    (sector : ℕ) → IsIn sector extent → (reserved : Extent) × Contains view.reserved reserved × IsIn sector reserved
+IsReserved view extent = IsCovered view.reserved extent
 
 -- a write that lies in the disk has its extent reserved
 abbrev pub IsWritable : AdapterView → Srb → Type 0

@@ -2,13 +2,10 @@
 use Rattle.std.specs.Prelude.{◌≡◌, ◌≤◌, ℕ, ◌+◌, ◌-◌, List, [], ◌∷◌, ◌++◌, length, slice_range, All}
 use Rattle.std.specs.List.{concat}
 use Rattle.byteorder.specs.Endian.{big_bytes}
+use Rattle.sector.specs.Extents.{IsSector}
 use Rattle.sector.specs.Splice.{splice}
 use Rattle.cdb.specs.declared.Cdb.{Cdb}
 use Rattle.cdb.specs.declared.Cdb.TheVariants.{Read10, Write10, Sync10, ReadCapacity10}
-
--- a sector of this many bytes
-abbrev pub IsSector : ℕ → List ℕ → Type 0
-IsSector size sector = length sector ≡ size
 
 -- what READ CAPACITY tells: the number of the last sector, then the bytes of a sector
 abbrev pub capacity_data : ℕ → List (List ℕ) → List ℕ
