@@ -34,5 +34,6 @@ pub record KeepsAllButLocations (old new : Irp) : Type 0 where
 abbrev pub cancel_routine_of : Irp → Option CancelRoutine
 cancel_routine_of irp = irp.cancel_routine
 
+-- the packet with this cancel routine, or with none
 abbrev pub with_cancel_routine : Option CancelRoutine → Irp → Irp
 with_cancel_routine routine irp = record irp { cancel_routine = routine }
