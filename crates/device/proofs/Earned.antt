@@ -6,7 +6,7 @@ use Rattle.std.proofs.lemmas.List.Elements.{All-nil, All-cons, All-head, All-tai
 use Rattle.ntstatus.specs.declared.NtStatus.{NtStatus}
 use Rattle.ntstatus.specs.declared.NtStatus.TheVariants.{Success, DeviceBusy, InvalidDeviceRequest, NonexistentSector}
 use Rattle.ntstatus.specs.declared.Sense.{Sense}
-use Rattle.ntstatus.specs.Table.{status_of, used_sense}
+use Rattle.ntstatus.specs.Table.{status_of, status_of_sense, used_sense}
 use Rattle.sector.specs.Splice.{splice}
 use Rattle.srb.specs.declared.DeviceLabel.{DeviceLabel}
 use Rattle.srb.specs.declared.DeviceLabel.TheVariants.{Start, Act, Fault, Return}
