@@ -5,6 +5,7 @@ use Rattle.sector.specs.declared.Extent.{Extent}
 use Rattle.sector.specs.Extents.{IsCovered, IsIn, IsSector}
 use Rattle.sector.specs.Splice.{splice}
 
+-- what a medium shows
 pub record MediumView : Type 0 where
   -- the bytes of one sector
   pub sector_size : ℕ
