@@ -183,15 +183,7 @@ module _ (takes_srb : Bool) (old new : Seen) (request : Request) (done : Done) (
 -- ONE AFTER ANOTHER
 
 unseen_none : (view : AdapterView) → MovesUnseen view view
-unseen_none view = record {
-  tags = view.tags;
-  failures = view.failures;
-  reserved = view.reserved;
-  in_use = inl (IsPermutation-refl view.tags);
-  counted = omega arith;
-  after = refl;
-  lasts = λ extent reserved. reserved;
-}
+unseen_none view = record { reserved = view.reserved; after = refl; lasts = λ extent reserved. reserved }
 
 -- none yet
 pub gathers_none : (below : Seen) (tables : Tables) → tables.answered.items ≡ [] → Gathers below tables below tables

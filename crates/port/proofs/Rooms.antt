@@ -95,11 +95,7 @@ seen_reserved b b' v v' places h e =
     subst (λ x. Reserves (seen_of b v) (seen_of x v')) (sym e) (subst (λ x. Reserves (seen_of b v) (seen_of (with_places b places) x)) (sym h.after) (record {
       same = refl;
       adapter = record {
-        tags = v.tags;
-        failures = v.failures;
         reserved = h.reserved;
-        in_use = inl (IsPermutation-refl _);
-        counted = omega arith;
         after = refl;
         lasts = λ extent r. subst (λ x. IsReserved x extent) h.after (h.lasts extent r);
       };
