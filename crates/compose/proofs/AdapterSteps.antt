@@ -1,5 +1,5 @@
 -- Acts and returns of the adapter as steps of the stack.
-use Rattle.std.proofs.Common.{◌≡◌, ◌≤◌, inl, inr, ℕ, List, [], ◌∷◌, ◌++◌, Option, Some, None, refl, sym, ◌∙◌, ap, subst, arith, map}
+use Rattle.std.proofs.Common.{◌≡◌, ◌≤◌, inl, inr, ℕ, List, [], ◌∷◌, ◌++◌, Option, Some, None, refl, sym, ◌∙◌, ap, subst, map}
 use Rattle.std.specs.Prelude.{IsPermutation, All, ◌⊎◌, IsTrue}
 use Rattle.std.proofs.lemmas.List.Sorted.{All-permutation, IsPermutation-refl, IsPermutation-sym}
 use Rattle.std.proofs.lemmas.List.Elements.{All-append, All-weaker}

@@ -1,5 +1,5 @@
 -- A reset is shown as the faults of the pieces that had done nothing, and the mark on all.
-use Rattle.std.proofs.Common.{◌≡◌, ◌≤◌, inl, inr, ℕ, suc, ◌+◌, Bool, true, false, not, List, [], ◌∷◌, ◌++◌, length, map, filter, sum_by, All, Option, Some, None, IsPermutation, refl, sym, ap, ◌∙◌, subst, arith, append_assoc, cond, if◌then◌else◌}
+use Rattle.std.proofs.Common.{◌≡◌, ◌≤◌, ℕ, suc, ◌+◌, Bool, true, false, not, List, [], ◌∷◌, ◌++◌, length, map, filter, sum_by, All, Option, Some, None, IsPermutation, refl, sym, ap, ◌∙◌, subst, arith, append_assoc, cond, if◌then◌else◌}
 use Rattle.std.specs.Prelude.{count_by}
 use Rattle.std.specs.List.{flat_map}
 use Rattle.std.proofs.lemmas.List.{append-nil, map-append, length-map}

@@ -1,8 +1,7 @@
 -- Places made, and given back.
-use Rattle.std.proofs.Common.{◌≡◌, ◌<◌, ◌≤◌, ◌⊎◌, inl, ℕ, ◌+◌, ◌-◌, List, [], ◌∷◌, refl, sym, subst, ap, ◌∙◌, arith, map, length}
+use Rattle.std.proofs.Common.{◌≡◌, ◌<◌, ◌≤◌, ◌⊎◌, ℕ, ◌+◌, ◌-◌, List, [], ◌∷◌, refl, sym, subst, ap, ◌∙◌, arith, map, length}
 use Rattle.std.specs.Prelude.{All, IsTrue}
 use Rattle.std.proofs.lemmas.List.Elements.{All-cons, All-tail, All-weaker}
-use Rattle.std.proofs.lemmas.List.Sorted.{IsPermutation-refl}
 use Rattle.std.specs.Prelude.{Result, Ok, Err, OnErr}
 use Rattle.sector.specs.declared.Extent.{Extent}
 use Rattle.srb.specs.Adapter.{AdapterView, IsInOrder, IsReserved, MovesByAll}
