@@ -1,5 +1,5 @@
 -- Acts and returns of the adapter as steps of the stack.
-use Rattle.std.proofs.Common.{◌≡◌, ◌≤◌, inl, inr, ℕ, List, [], ◌∷◌, ◌++◌, Option, Some, None, refl, sym, ◌∙◌, ap, subst, arith, map}
+use Rattle.std.proofs.Common.{◌≡◌, ◌≤◌, inl, inr, ℕ, List, [], ◌∷◌, ◌++◌, Option, Some, None, refl, sym, ◌∙◌, ap, subst, map}
 use Rattle.std.specs.Prelude.{IsPermutation, All, ◌⊎◌, IsTrue}
 use Rattle.std.proofs.lemmas.List.Sorted.{All-permutation, IsPermutation-refl, IsPermutation-sym}
 use Rattle.std.proofs.lemmas.List.Elements.{All-append, All-weaker}
@@ -31,15 +31,7 @@ none_answered None = refl
 none_answered (Some holder) = refl
 
 adapter_stays : (v : AdapterView) → MovesUnseen v v
-adapter_stays v = record {
-  tags = v.tags;
-  failures = v.failures;
-  reserved = v.reserved;
-  in_use = inl (IsPermutation-refl v.tags);
-  counted = omega arith;
-  after = refl;
-  lasts = λ extent reserved. reserved;
-}
+adapter_stays v = record { reserved = v.reserved; after = refl; lasts = λ extent reserved. reserved }
 
 -- with nothing told, handles alone may change
 pub IsRightBy-unmoved : (v : StackView) (handles : List (Option OpenHandle)) (next_handle : ℕ) → v.labels ≡ [] → v.adapter.labels ≡ []

@@ -1,5 +1,5 @@
 -- Steps in which the device below does nothing: what is told of them, and how the tables stay sound.
-use Rattle.std.proofs.Common.{◌≡◌, inl, ℕ, List, [], ◌++◌, Option, Some, None, refl, sym, ◌∙◌, ap, subst, arith}
+use Rattle.std.proofs.Common.{◌≡◌, ℕ, List, [], ◌++◌, Option, Some, None, refl, sym, ◌∙◌, ap, subst}
 use Rattle.std.specs.Prelude.{IsPermutation}
 use Rattle.std.proofs.lemmas.List.{append-nil}
 use Rattle.std.proofs.lemmas.List.Sorted.{IsPermutation-refl}
@@ -20,15 +20,7 @@ none_answered None = refl
 none_answered (Some holder) = refl
 
 pub nothing_moves : (v : AdapterView) → MovesUnseen v v
-nothing_moves v = record {
-  tags = v.tags;
-  failures = v.failures;
-  reserved = v.reserved;
-  in_use = inl (IsPermutation-refl v.tags);
-  counted = omega arith;
-  after = refl;
-  lasts = λ extent reserved. reserved;
-}
+nothing_moves v = record { reserved = v.reserved; after = refl; lasts = λ extent reserved. reserved }
 
 -- what a step tells that only has labels of its own
 abbrev pub tells_own : StackView → List Label → Told

@@ -6,7 +6,7 @@ use Rattle.srb.specs.declared.Class.{Class}
 use Rattle.srb.specs.declared.DeviceLabel.{DeviceLabel}
 use Rattle.srb.specs.declared.DeviceLabel.TheVariants.{Start, Act, Fault, Return}
 use Rattle.srb.specs.Fate.{Fate, Fresh, Acted, Faulted}
-use Rattle.srb.specs.Adapter.{AdapterView, MovesByAll}
+use Rattle.srb.specs.Adapter.{AdapterView, MovesByAll, NotesReset}
 use Rattle.irp.specs.declared.Payload.{Payload}
 use Rattle.irp.specs.declared.Climb.{Climb}
 use Rattle.irp.specs.Climb.{Climbs}
@@ -130,12 +130,14 @@ abbrev pub HaveRisingTags : List Piece → Type 0
 HaveRisingTags [] = Unit {0}
 HaveRisingTags (piece ∷ pieces) = All (IsBelow piece.tag) pieces × HaveRisingTags pieces
 
--- each fresh piece faults, by rising tags
+-- each fresh piece faults, by rising tags, and then the adapter notes the reset
 pub record Resets (old new : Seen) : Type 0 where
   pub fresh : List Piece
+  pub all_faulted : AdapterView
   pub all_fresh : IsPermutation fresh (filter is_fresh_piece old.state.pieces)
   pub rising : HaveRisingTags fresh
-  pub moves : Moves old (map fault_of fresh) new
+  pub moves : Moves old (map fault_of fresh) (record new { adapter = all_faulted })
+  pub noted : NotesReset all_faulted new.adapter
 
 -- no open request of this number could be cancelled
 abbrev pub NoneToCancel : State → ℕ → Type 0

@@ -1,8 +1,7 @@
 -- Places made, and given back.
-use Rattle.std.proofs.Common.{◌≡◌, ◌<◌, ◌≤◌, ◌⊎◌, inl, ℕ, ◌+◌, ◌-◌, List, [], ◌∷◌, refl, sym, subst, ap, ◌∙◌, arith, map, length}
+use Rattle.std.proofs.Common.{◌≡◌, ◌<◌, ◌≤◌, ◌⊎◌, ℕ, ◌+◌, ◌-◌, List, [], ◌∷◌, refl, sym, subst, ap, ◌∙◌, arith, map, length}
 use Rattle.std.specs.Prelude.{All, IsTrue}
 use Rattle.std.proofs.lemmas.List.Elements.{All-cons, All-tail, All-weaker}
-use Rattle.std.proofs.lemmas.List.Sorted.{IsPermutation-refl}
 use Rattle.std.specs.Prelude.{Result, Ok, Err, OnErr}
 use Rattle.sector.specs.declared.Extent.{Extent}
 use Rattle.srb.specs.Adapter.{AdapterView, IsInOrder, IsReserved, MovesByAll}
@@ -95,11 +94,7 @@ seen_reserved b b' v v' places h e =
     subst (λ x. Reserves (seen_of b v) (seen_of x v')) (sym e) (subst (λ x. Reserves (seen_of b v) (seen_of (with_places b places) x)) (sym h.after) (record {
       same = refl;
       adapter = record {
-        tags = v.tags;
-        failures = v.failures;
         reserved = h.reserved;
-        in_use = inl (IsPermutation-refl _);
-        counted = omega arith;
         after = refl;
         lasts = λ extent r. subst (λ x. IsReserved x extent) h.after (h.lasts extent r);
       };

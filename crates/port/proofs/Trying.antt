@@ -66,7 +66,9 @@ ready_finishes v v' tag true rules next removed h r = ready_moves v v' _ rules n
 ready_finishes v v' tag false rules next removed h r = ready_same v v' rules next removed h.same r
 
 pub ready_resets : (v v' : Seen) (rules : Rules) (next : ℕ) (removed : Bool) → Resets v v' → IsReady v rules next removed → IsReady v' rules next removed
-ready_resets v v' rules next removed h r = ready_moves v v' _ rules next removed h.moves r
+ready_resets v v' rules next removed h r =
+    let k = ready_moves v (record v' { adapter = h.all_faulted }) _ rules next removed h.moves r in
+    record { rules_are = k.rules_are; most_is = k.most_is; numbers = k.numbers; submitted = k.submitted; removing = k.removing }
 
 pub ready_cancels : (v v' : Seen) (number : ℕ) (rules : Rules) (next : ℕ) (removed : Bool) → CancelsIfOpen v number v' → IsReady v rules next removed → IsReady v' rules next removed
 ready_cancels v v' number rules next removed h r = by_case h.one_of

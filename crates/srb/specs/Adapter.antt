@@ -212,15 +212,19 @@ MovesBy old label new = (tag : ℕ) × MovesOn old tag label new
 abbrev pub met_by_reset : TagInUse → TagInUse
 met_by_reset use' = record use' { was_reset = true }
 
--- what may change with no label: more is reserved, more failures are counted, a reset is noted at all tags in use
+-- what may change with no label: more is reserved
 pub record MovesUnseen (old new : AdapterView) : Type 0 where
+  pub reserved : List Extent
+  pub after : new ≡ record old { reserved = reserved }
+  pub lasts : (extent : Extent) → IsReserved old extent → IsReserved new extent
+
+-- a reset is noted at all tags in use, and may be counted at each
+pub record NotesReset (old new : AdapterView) : Type 0 where
   pub tags : List TagInUse
   pub failures : ℕ
-  pub reserved : List Extent
-  pub in_use : IsPermutation tags old.tags ⊎ IsPermutation tags (map met_by_reset old.tags)
+  pub in_use : IsPermutation tags (map met_by_reset old.tags)
   pub counted : old.failures ≤ failures
-  pub after : new ≡ record old { tags = tags; failures = failures; reserved = reserved }
-  pub lasts : (extent : Extent) → IsReserved old extent → IsReserved new extent
+  pub after : new ≡ record old { tags = tags; failures = failures }
 
 -- the view moves by just these labels, in this order
 abbrev pub MovesByAll : AdapterView → List DeviceLabel → AdapterView → Type 0
