@@ -1,11 +1,9 @@
 -- The view of an adapter over many labels.
-use Rattle.std.proofs.Common.{◌≡◌, ◌≤◌, ◌⊎◌, inl, inr, List, [], ◌∷◌, ◌++◌, refl, sym, subst, ap, ◌∙◌, arith, map}
+use Rattle.std.proofs.Common.{◌≡◌, ◌⊎◌, inl, inr, List, [], ◌∷◌, ◌++◌, refl, sym, subst, ap, arith, map}
 use Rattle.std.specs.Prelude.{IsPermutation}
-use Rattle.std.proofs.lemmas.List.{map-append}
 use Rattle.std.proofs.lemmas.List.Sorted.{IsPermutation-refl, IsPermutation-trans, IsPermutation-map}
-use Rattle.sector.specs.declared.Extent.{Extent}
 use Rattle.srb.specs.declared.DeviceLabel.{DeviceLabel}
-use Rattle.srb.specs.Adapter.{AdapterView, TagInUse, MovesUnseen, MovesBy, MovesOn, MovesByAll, met_by_reset, IsReserved}
+use Rattle.srb.specs.Adapter.{AdapterView, TagInUse, MovesUnseen, MovesOn, MovesByAll, met_by_reset, IsReserved}
 
 pub unseen_none : (v : AdapterView) → MovesUnseen v v
 unseen_none v = record {

@@ -8,7 +8,9 @@ use super::*;
 use cdb::{Cdb, encode};
 use device::Kind;
 use disk::VecDisk;
-use irp::{Climb, Control, Done, Driver, Irp, LocationFlags, MajorFunction, Payload, StackLocation};
+use irp::{
+    Climb, Control, Done, Driver, Irp, LocationFlags, MajorFunction, Payload, StackLocation,
+};
 use miniport::MemAdapter;
 use ntstatus::NtStatus;
 use sector::{Bytes, Extent};
@@ -149,12 +151,7 @@ fn told(label: DeviceLabel) -> (u128, char, u8) {
 }
 
 /// Takes as many labels as are wanted, and no more are there.
-fn tells<D: Device>(
-    rt: &impl Abort,
-    device: &mut D,
-    client: &Client,
-    want: &[(u128, char, u8)],
-)
+fn tells<D: Device>(rt: &impl Abort, device: &mut D, client: &Client, want: &[(u128, char, u8)])
     requires rooms { D.rooms_out device.old [] }
     requires ready { IsReady (D.seen device.old) four_sectors client.now.next client.now.removed }
     ensures rooms { D.rooms_out device.new [] }
@@ -265,7 +262,10 @@ fn try_step<D: Device>(
         Step::Tells(want) => tells(rt, device, client, want),
         Step::Done(number, status) => {
             let done = take_done(device, client);
-            assert!(rt; done.is_some_and(|done| done.number == *number && done.status == *status), "{step:?}")
+            assert!(rt;
+                done.is_some_and(|done| done.number == *number && done.status == *status),
+                "{step:?}"
+            )
         }
         Step::NoneDone => assert!(rt; take_done(device, client).is_none(), "{step:?}"),
     }
@@ -445,7 +445,7 @@ fn resets_what_is_out(rt: HostRuntime) -> Result<(), Fail> {
     )
 }
 
-// One of four requests may find no memory: those that were taken end under their numbers. The removal ends those that wait.
+// One of four requests may find no memory: those that were taken end under their numbers, those that wait by a removal.
 #[test]
 fn takes_requests_or_no_memory(rt: HostRuntime) -> Result<(), Fail> {
     let Ok(mut port) = port(rt.alloc()) else {
