@@ -4,16 +4,16 @@ use Rattle.std.specs.Prelude.{All, IsTrue}
 use Rattle.std.proofs.lemmas.List.Elements.{All-cons, All-tail, All-weaker}
 use Rattle.std.specs.Prelude.{Result, Ok, Err, OnErr}
 use Rattle.sector.specs.declared.Extent.{Extent}
-use Rattle.srb.specs.Adapter.{AdapterView, IsInOrder, IsReserved, MovesByAll}
+use Rattle.srb.specs.Adapter.{AdapterView, IsInOrder, IsReserved}
 use Rattle.miniport.specs.Calls.{Reserves as AdapterReserves}
 use Rattle.device.specs.declared.Kind.TheVariants.{Write}
 use Rattle.device.specs.declared.Request.{Request}
 use Rattle.device.specs.Rules.{Rules}
-use Rattle.device.specs.Seen.{Seen, IsBounded}
+use Rattle.device.specs.Seen.{IsBounded}
 use Rattle.device.specs.Served.{Reserves}
 use Rattle.port.specs.Books.{Books}
 use Rattle.port.specs.Shown.{rules_of, seen_of, of_packets}
-use Rattle.port.specs.Kept.{asked, IsKept, IsBusy, IsInHand, IsRoom, IsWaiting}
+use Rattle.port.specs.Kept.{asked, IsKept, IsInHand, IsRoom, IsWaiting}
 use Rattle.port.proofs.Starting.{room_moves, waiting_moves}
 use Rattle.port.proofs.Orderly.{in_hand}
 
