@@ -139,6 +139,7 @@ module _ (disk v : AdapterView) (settings : Settings) (limits : Limits) (most : 
 
   pub IsFirstView-whole_disk : (tables : Tables) → number_limit ≤ most → AreEmpty tables → IsFirstView disk settings (view_of limits (on_whole_disk v most) tables)
   IsFirstView-whole_disk tables many empty = record {
+    in_range = are.in_range;
     partition = limits.partition;
     told = are.partition;
     is_map = is_map;

@@ -85,9 +85,9 @@ pub record AreInRange (settings : Settings) : Type 0 where
   pub window : (1 ≤ settings.window) × (settings.window ≤ 64)
   pub open_requests : (1 ≤ settings.open_requests) × (settings.open_requests ≤ settings.window)
 
--- why a stack could not be started: a setting is out of range, or else the disk could not be read
+-- why a stack could not be started: a setting is out of range, and nothing was sent; or else the disk could not be read
 abbrev pub IsStartFault : AdapterView → Settings → StartFault → AdapterView → Type 0
-IsStartFault disk settings SettingsFault after = ¬ (AreInRange settings)
+IsStartFault disk settings SettingsFault after = (¬ (AreInRange settings)) × (after ≡ disk)
 IsStartFault disk settings fault after = AreInRange settings × IsReadFault disk fault after
 
 -- what was left of an adapter over which no stack could be started

@@ -20,7 +20,10 @@ use std::collections::VecDeque;
 pub(crate) const NUMBER_LIMIT: u64 = 1 << 62;
 
 /// Handles open at once.
-const HANDLE_LIMIT: usize = 64;
+pub(crate) const HANDLE_LIMIT: usize = 64;
+
+/// Places for labels: more than a step tells.
+pub(crate) const LABEL_PLACES: usize = 192;
 
 /// An open request, at its slot.
 #[derive(Debug, Drop)]
