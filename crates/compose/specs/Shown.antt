@@ -16,15 +16,17 @@ pub record Holder : Type 0 where
   pub number : ℕ
   pub handle : ℕ
 
+-- a stack as its user sees it
 pub record StackView : Type 0 where
   pub rules : Rules
   pub state : State
   pub adapter : AdapterView
-  -- by slot
+  -- the open ones, by slot
   pub handles : List (Option OpenHandle)
   pub next_handle : ℕ
+  -- the open requests, by slot
   pub holders : List (Option Holder)
   -- not yet taken, in order
   pub labels : List Label
-  -- of admitted requests, not yet taken, by rising numbers
+  -- those of requests that were open, not yet taken, by rising numbers
   pub answers : List Answer
