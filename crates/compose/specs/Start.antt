@@ -2,6 +2,7 @@
 use Rattle.std.specs.Prelude.{◌≡◌, ◌<◌, ◌≤◌, ℕ, ◌+◌, Bool, List, [], ◌∷◌, Option, Some, None, Result, Ok, Err, length, slice_range, get_or}
 use Rattle.std.specs.List.{concat}
 use Rattle.ntstatus.specs.declared.NtStatus.{NtStatus}
+use Rattle.ntstatus.specs.Table.{status_of}
 use Rattle.sector.specs.declared.Extent.{Extent}
 use Rattle.cdb.specs.declared.Cdb.{Cdb}
 use Rattle.cdb.specs.declared.Cdb.TheVariants.{Read10, Write10, Sync10, ReadCapacity10}
@@ -73,10 +74,16 @@ pub record IsCapacityOf (disk : AdapterView) (capacity : Capacity) : Type 0 wher
   pub sectors : capacity.sectors ≡ length disk.sectors
   pub sector_size : capacity.sector_size ≡ disk.sector_size
 
+-- what a completion means that is neither good nor busy
+pub record IsOfFailure (status : NtStatus) : Type 0 where
+  pub completion : Completion
+  pub is_bad : class_of completion ≡ Bad completion
+  pub means : status ≡ status_of completion.srb_status completion.scsi_status completion.sense
+
 -- why a disk could not be read: memory was refused, the adapter counted a failure, or the table is wrong
 abbrev pub IsReadFault : AdapterView → StartFault → AdapterView → Type 0
 IsReadFault disk NoMemory after = Unit {0}
-IsReadFault disk (DeviceFault status) after = disk.failures < after.failures
+IsReadFault disk (DeviceFault status) after = (disk.failures < after.failures) × IsOfFailure status
 IsReadFault disk (TableFault fault) after = told_partition disk ≡ Err fault
 IsReadFault disk SettingsFault after = ⊥
 
