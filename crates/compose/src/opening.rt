@@ -16,6 +16,10 @@ use std::collections::VecDeque;
 const ANSWER_PLACES: usize = 64;
 
 /// A table with places for so many values, whose slots are numbers of 32 bits.
+///
+/// # Errors
+///
+/// [`AllocError`] where memory was refused, or for more places than that.
 fn slots<T: Drop>(alloc: Global, places: usize) -> Result<Slab<T>, AllocError>
     ensures empty { IfOk result (λ slab. slab.slots ≡ []) }
     ensures places { IfOk result (λ slab. places ≤ slab.capacity) }
