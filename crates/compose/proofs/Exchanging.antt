@@ -1,10 +1,8 @@
 -- A command sent to an idle adapter, and its way back.
 use Rattle.std.proofs.Common.{append-nil, ◌≡◌, ◌<◌, ◌≤◌, ℕ, ◌+◌, Bool, true, false, List, [], ◌∷◌, ◌++◌, All, refl, sym, ◌∙◌, ap, subst, length, arith, ◌⊎◌, inl, inr, IsPermutation, rules}
-use Rattle.std.specs.Prelude.{◌==◌, bit_and, if◌then◌else◌}
 use Rattle.std.specs.List.{concat}
 use Rattle.std.proofs.lemmas.List.Sorted.{length_permutation, All-permutation, IsPermutation-sym, IsPermutation-trans}
 use Rattle.std.proofs.lemmas.List.Elements.{All-head, All-cons}
-use Rattle.ntstatus.specs.Table.{status_of}
 use Rattle.cdb.specs.declared.Cdb.{Cdb}
 use Rattle.cdb.specs.declared.Cdb.TheVariants.{Read10, Write10, Sync10, ReadCapacity10}
 use Rattle.cdb.specs.Meaning.{Means}
@@ -17,7 +15,7 @@ use Rattle.srb.specs.Fate.{Fate, Fresh, Acted, Faulted, class_of}
 use Rattle.srb.specs.Adapter.{AdapterView, TagInUse, HasNotTag, IsFree, Accepts, IsOn, in_use_from, acted, faulted, ReturnsOn, MayReturn}
 use Rattle.srb.specs.Performing.{Performs}
 use Rattle.miniport.specs.Calls.{Acts, ActsNot, Finishes, FinishesNot}
-use Rattle.compose.specs.Start.{IsIdle, Looks, bytes_brought, IsSameDisk, Brings, AsksOnce, IsOfFailure}
+use Rattle.compose.specs.Start.{IsIdle, Looks, bytes_brought, IsSameDisk, Brings, AsksOnce}
 
 -- a list in which one item stands is just that item
 pub just_one : {X : Type 0} (x y : X) (xs ys : List X) → IsPermutation xs (x ∷ []) → IsPermutation xs (y ∷ ys) → (x ≡ y) × (ys ≡ [])
@@ -119,23 +117,6 @@ asks_once old first second last command sent srb completion idle means looks acc
           refl refl refl refl refl (omega (arith, counted))
           finishes'
     ]
-
--- a completion of the bad class is the one that its class names
-bad_is_own : (c other : Completion) → class_of c ≡ Bad other → class_of c ≡ Bad c
-bad_is_own c other is = by_tests (bit_and c.srb_status 63 == 1) (bit_and c.srb_status 63 == 5) is
-  where
-    by_tests : (good busy : Bool) → (if good then Good else (if busy then Busy else Bad c)) ≡ Bad other → (if good then Good else (if busy then Busy else Bad c)) ≡ Bad c
-    by_tests true busy is = cc (is)
-    by_tests false true is = cc (is)
-    by_tests false false is = refl
-
--- a command that brought nothing failed, and its completion says how
-pub fails_as : (old new : AdapterView) (command : Cdb) (bytes : List ℕ) (completion : Completion) (class : Class) → class_of completion ≡ class → (class ≡ Good → ⊥)
-    → Brings old command bytes class new → (old.failures < new.failures) × IsOfFailure (status_of completion.srb_status completion.scsi_status completion.sense)
-fails_as old new command bytes completion Good is not brings = absurd (not refl)
-fails_as old new command bytes completion Busy is not brings = absurd brings
-fails_as old new command bytes completion (Bad other) is not brings =
-    (brings, record { completion = completion; is_bad = bad_is_own completion other is; means = refl })
 
 -- the piece that was just accepted can act
 pub acts_after : (old first second : AdapterView) (sent : Srb) → IsIdle old → Accepts old 0 0 sent first → ActsNot first 0 second → ⊥
