@@ -50,7 +50,7 @@ pub record IsSameDisk (asked : ℕ) (old new : AdapterView) : Type 0 where
   pub accepted : new.accepted ≤ old.accepted + asked
   pub failures : old.failures ≤ new.failures
 
--- the data of a command that came back so
+-- what a command brought that came back in this class
 abbrev pub Brings : AdapterView → Cdb → List ℕ → Class → AdapterView → Type 0
 Brings old command bytes Good new = bytes ≡ bytes_brought old command
 Brings old command bytes Busy new = ⊥
@@ -74,7 +74,7 @@ pub record IsCapacityOf (disk : AdapterView) (capacity : Capacity) : Type 0 wher
   pub sectors : capacity.sectors ≡ length disk.sectors
   pub sector_size : capacity.sector_size ≡ disk.sector_size
 
--- what a completion means that is neither good nor busy
+-- the status of a completion that is neither good nor busy
 pub record IsOfFailure (status : NtStatus) : Type 0 where
   pub completion : Completion
   pub is_bad : class_of completion ≡ Bad completion
