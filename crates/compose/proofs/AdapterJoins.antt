@@ -1,11 +1,11 @@
 -- Moves of an adapter, one after another: they join, and record their labels.
-use Rattle.std.proofs.Common.{◌≡◌, ◌≤◌, inl, inr, ℕ, ◌+◌, List, [], ◌∷◌, ◌++◌, refl, sym, ◌∙◌, ap, subst, arith, map, append_assoc}
+use Rattle.std.proofs.Common.{◌≡◌, ◌≤◌, inl, inr, ℕ, List, [], ◌∷◌, ◌++◌, refl, sym, ◌∙◌, ap, subst, arith, map, append_assoc}
 use Rattle.std.specs.Prelude.{◌⊎◌, IsPermutation}
 use Rattle.std.proofs.lemmas.List.{append-nil}
 use Rattle.std.proofs.lemmas.List.Sorted.{IsPermutation-trans, IsPermutation-map}
 use Rattle.srb.specs.declared.DeviceLabel.{DeviceLabel}
 use Rattle.srb.specs.declared.DeviceLabel.TheVariants.{Start, Act, Fault, Return}
-use Rattle.srb.specs.Adapter.{AdapterView, TagInUse, met_by_reset, MovesUnseen, MovesBy, MovesOn, MovesByAll}
+use Rattle.srb.specs.Adapter.{AdapterView, TagInUse, met_by_reset, MovesUnseen, MovesOn, MovesByAll}
 use Rattle.compose.specs.Right.{AdapterMoves}
 
 -- a reset that is noted twice is noted

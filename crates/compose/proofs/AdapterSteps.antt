@@ -1,26 +1,23 @@
 -- Acts and returns of the adapter as steps of the stack.
-use Rattle.std.proofs.Common.{◌≡◌, ◌≤◌, inl, inr, ℕ, List, [], ◌∷◌, ◌++◌, Option, Some, None, refl, sym, ◌∙◌, ap, subst, arith, map}
-use Rattle.std.specs.Prelude.{IsPermutation, All, ◌⊎◌, IsTrue}
-use Rattle.std.proofs.lemmas.List.Sorted.{All-permutation, IsPermutation-refl, IsPermutation-sym}
+use Rattle.std.proofs.Common.{◌≡◌, inl, inr, ℕ, List, [], ◌∷◌, ◌++◌, refl, sym, ap, subst}
+use Rattle.std.specs.Prelude.{IsPermutation, All, IsTrue}
+use Rattle.std.proofs.lemmas.List.Sorted.{All-permutation, IsPermutation-sym}
 use Rattle.std.proofs.lemmas.List.Elements.{All-append, All-weaker}
 use Rattle.ntstatus.specs.declared.NtStatus.{NtStatus}
 use Rattle.srb.specs.declared.DeviceLabel.{DeviceLabel}
 use Rattle.srb.specs.declared.DeviceLabel.TheVariants.{Start, Act as ActLabel, Fault, Return}
-use Rattle.srb.specs.Adapter.{AdapterView, MovesUnseen}
 use Rattle.device.specs.Rules.{Rules}
 use Rattle.device.specs.State.{Mark, Untouched, Out, Done, Failed, Back, OpenRequest, State}
 use Rattle.device.specs.Answering.{IsGivenUp, HasEnded}
 use Rattle.device.specs.Step.{Run}
 use Rattle.device.specs.Seen.{Seen, IsOrderly}
-use Rattle.device.specs.Served.{as_label, IsStart, IsActOrFault, IsFreshOn, Moves, ActsOn, ActsNot, Finishes, FinishesNot, IsUnfinished}
+use Rattle.device.specs.Served.{as_label, IsStart, IsActOrFault, Moves, ActsOn, ActsNot, Finishes, FinishesNot, IsUnfinished}
 use Rattle.device.proofs.Same.{IsSame-refl}
-use Rattle.compose.specs.declared.OpenHandle.{OpenHandle}
 use Rattle.compose.specs.declared.Event.TheVariants.{Act, Finish}
 use Rattle.compose.specs.declared.Reply.TheVariants.{Ok as OkReply, Ignored}
 use Rattle.compose.specs.declared.admission.Limits.{Limits}
 use Rattle.compose.specs.declared.tables.Tables.{Tables}
-use Rattle.compose.specs.Shown.{StackView, Holder}
-use Rattle.compose.specs.Right.{SameHandles, tells_nothing, unless_answered, IsRightBy, IsRight}
+use Rattle.compose.specs.Right.{SameHandles, tells_nothing, IsRight}
 use Rattle.compose.specs.Sound.{view_of, IsSound, IsAtRest, Collects}
 use Rattle.compose.proofs.Quiet.{IsRightBy-unmoved}
 use Rattle.compose.proofs.Righting.{IsServed, told_by, rests, IsRightBy-served}

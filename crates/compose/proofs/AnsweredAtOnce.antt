@@ -11,7 +11,6 @@ use Rattle.device.specs.declared.Label.TheVariants.{Call, Answer as AnswerLabel}
 use Rattle.device.specs.Calling.{refusal}
 use Rattle.device.specs.Step.{Run}
 use Rattle.device.specs.Seen.{Seen}
-use Rattle.device.proofs.Same.{IsSame-refl}
 use Rattle.compose.specs.declared.Handle.{Handle}
 use Rattle.compose.specs.declared.OpenHandle.{OpenHandle}
 use Rattle.compose.specs.declared.Refusal.TheVariants.{DeviceBusy}

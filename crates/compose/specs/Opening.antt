@@ -1,5 +1,5 @@
 -- A stack before its first event.
-use Rattle.std.specs.Prelude.{◌≡◌, ◌<◌, ◌≤◌, ℕ, ◌^◌, false, List, [], ◌∷◌, Option, Some, None, Ok, map, length}
+use Rattle.std.specs.Prelude.{◌≡◌, ◌<◌, ◌≤◌, ◌^◌, false, List, [], ◌∷◌, Option, Some, None, Ok, map, length}
 use Rattle.sector.specs.declared.Extent.{Extent}
 use Rattle.srb.specs.Adapter.{AdapterView}
 use Rattle.device.specs.Map.{IsMap}

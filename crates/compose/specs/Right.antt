@@ -1,5 +1,5 @@
 -- When a step of the stack is right.
-use Rattle.std.specs.Prelude.{◌≡◌, ◌≢◌, ◌<◌, ◌≤◌, ◌⊎◌, ℕ, ◌+◌, ◌==◌, Bool, true, false, List, [], ◌∷◌, ◌++◌, Option, Some, None, map, length, slice_get, slice_index_or, All, Any, Contains, IsPermutation, if◌then◌else◌}
+use Rattle.std.specs.Prelude.{◌≡◌, ◌≢◌, ◌<◌, ◌≤◌, ◌⊎◌, ℕ, ◌+◌, ◌==◌, Bool, true, false, List, [], ◌∷◌, ◌++◌, Option, Some, None, map, slice_get, slice_index_or, All, Any, Contains, IsPermutation, if◌then◌else◌}
 use Rattle.std.specs.List.{list_any}
 use Rattle.ntstatus.specs.declared.NtStatus.{NtStatus}
 use Rattle.ntstatus.specs.declared.NtStatus.TheVariants.{Success}
@@ -13,7 +13,7 @@ use Rattle.device.specs.declared.Kind.TheVariants.{Read, Write}
 use Rattle.device.specs.declared.ClientRequest.{ClientRequest}
 use Rattle.device.specs.declared.Label.{Label}
 use Rattle.device.specs.declared.Label.TheVariants.{Call, Answer as AnswerLabel}
-use Rattle.device.specs.State.{OpenRequest, Piece, State}
+use Rattle.device.specs.State.{OpenRequest, Piece}
 use Rattle.device.specs.Calling.{refusal}
 use Rattle.device.specs.Sending.{HasOtherTag}
 use Rattle.device.specs.Step.{Run}
@@ -28,7 +28,6 @@ use Rattle.compose.specs.declared.Refusal.{Refusal}
 use Rattle.compose.specs.declared.Refusal.TheVariants.{DeviceBusy, InsufficientResources}
 use Rattle.compose.specs.declared.Reply.{Reply}
 use Rattle.compose.specs.declared.Reply.TheVariants.{Handle as HandleReply, Ok as OkReply, Request as Requested, Answered, Refused, Ignored}
-use Rattle.compose.specs.declared.OpenHandle.{OpenHandle}
 use Rattle.compose.specs.Shown.{StackView, Holder}
 use Rattle.compose.specs.Calls.{are_used_up, status_of_refusal, call_on, without_bytes, open_refusal}
 

@@ -1,13 +1,9 @@
 -- What a stack shows of itself.
-use Rattle.std.specs.Prelude.{◌≡◌, ◌<◌, ◌≤◌, ℕ, ◌+◌, ◌-◌, ◌*◌, Bool, false, List, [], ◌∷◌, Option, Some, None, map, length, slice_get, IsPermutation}
-use Rattle.slab.specs.Slab.{Slab, get, values}
-use Rattle.sector.specs.declared.Extent.{Extent}
+use Rattle.std.specs.Prelude.{ℕ, List, Option}
 use Rattle.srb.specs.Adapter.{AdapterView}
-use Rattle.device.specs.declared.ClientRequest.{ClientRequest}
 use Rattle.device.specs.declared.Label.{Label}
 use Rattle.device.specs.Rules.{Rules}
-use Rattle.device.specs.State.{OpenRequest, State}
-use Rattle.device.specs.Seen.{Seen, IsRead, sectors_in}
+use Rattle.device.specs.State.{State}
 use Rattle.compose.specs.declared.Answer.{Answer}
 use Rattle.compose.specs.declared.OpenHandle.{OpenHandle}
 

@@ -1,5 +1,5 @@
 -- What a stack asks of its adapter before its first event, and what it starts as.
-use Rattle.std.specs.Prelude.{◌≡◌, ◌<◌, ◌≤◌, ℕ, ◌+◌, Bool, List, [], ◌∷◌, Option, Some, None, Result, Ok, Err, length, slice_range, get_or}
+use Rattle.std.specs.Prelude.{◌≡◌, ◌<◌, ◌≤◌, ℕ, ◌+◌, List, [], Option, Result, Ok, Err, length, slice_range, get_or}
 use Rattle.std.specs.List.{concat}
 use Rattle.ntstatus.specs.declared.NtStatus.{NtStatus}
 use Rattle.ntstatus.specs.Table.{status_of}
