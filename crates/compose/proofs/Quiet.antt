@@ -10,6 +10,7 @@ use Rattle.device.specs.State.{State}
 use Rattle.device.specs.Step.{Run}
 use Rattle.device.specs.Seen.{Seen}
 use Rattle.device.specs.Served.{Reserves}
+use Rattle.device.proofs.Same.{IsSame-refl}
 use Rattle.compose.specs.declared.Answer.{Answer}
 use Rattle.compose.specs.declared.OpenHandle.{OpenHandle}
 use Rattle.compose.specs.Shown.{StackView, Holder}
@@ -45,6 +46,11 @@ right_alone v own s reserved handles next_handle labels answers run moves none_r
   holders = λ slot. none_answered _;
   waiting = subst (λ now. IsPermutation now v.answers) (sym waits) (IsPermutation-refl v.answers);
 }
+
+-- nothing is told, and nothing changes
+pub IsRightBy-unmoved : (v : StackView) → v.labels ≡ [] → v.adapter.labels ≡ [] → IsRightBy (tells_nothing v) v v
+IsRightBy-unmoved v none_told none_recorded =
+    right_alone v [] v.state v.adapter.reserved v.handles v.next_handle v.labels v.answers (IsSame-refl v.state) (nothing_moves v.adapter) none_recorded none_told refl
 
 pub none_reserved : (v : Seen) → Reserves v v
 none_reserved v = record { same = refl; adapter = nothing_moves v.adapter }
