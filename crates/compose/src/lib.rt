@@ -18,6 +18,8 @@ mod rising;
 mod stack;
 mod start;
 mod tables;
+#[cfg(test)]
+mod tests;
 
 use device::Label;
 use ntstatus::NtStatus;
