@@ -1,6 +1,7 @@
 -- The labels of events that were carried out are a run, which obeys the laws of runs.
 use Rattle.std.proofs.Common.{◌≡◌, ℕ, List, [], ◌∷◌, ◌++◌, refl, sym, ◌∙◌, subst}
 use Rattle.std.specs.Prelude.{Any}
+use Rattle.sector.specs.Extents.{IsIn}
 use Rattle.ntstatus.specs.declared.NtStatus.{NtStatus}
 use Rattle.ntstatus.specs.declared.NtStatus.TheVariants.{Success}
 use Rattle.device.specs.declared.ClientRequest.{ClientRequest}
@@ -17,7 +18,7 @@ use Rattle.machine_laws.specs.WriteLaws.{StepsKeepArrays}
 use Rattle.compose.specs.declared.Event.{Event}
 use Rattle.compose.specs.declared.Shown.{Shown}
 use Rattle.compose.specs.Shown.{StackView}
-use Rattle.compose.specs.Right.{Covers, KeepsOutside}
+use Rattle.compose.specs.Right.{KeepsOutside}
 use Rattle.compose.specs.Runs.{Carries, CarriesAll, labels_shown, IsOfRun, IsLawful, RunsObeyLaws}
 
 -- THE LAWS
@@ -74,7 +75,7 @@ leads_then : (old mid new : StackView) (labels more : List Label) → Leads old 
 leads_then old mid new labels more a b = record {
   same_rules = b.same_rules ∙ a.same_rules;
   run = Run-append old.rules old.state labels mid.state more new.state a.run (subst (λ rules. Run rules mid.state more new.state) a.same_rules b.run);
-  outside = λ sector apart. b.outside sector (subst (λ (rules : Rules). Any (Covers sector) rules.partitions → ⊥) (sym a.same_rules) apart) ∙ a.outside sector apart;
+  outside = λ sector apart. b.outside sector (subst (λ (rules : Rules). Any (IsIn sector) rules.partitions → ⊥) (sym a.same_rules) apart) ∙ a.outside sector apart;
 }
 
 leads : (old : StackView) (events : List Event) (shown : List Shown) (new : StackView) → CarriesAll old events shown new → Leads old new (labels_shown shown)

@@ -4,6 +4,7 @@ use Rattle.std.specs.List.{list_any}
 use Rattle.ntstatus.specs.declared.NtStatus.{NtStatus}
 use Rattle.ntstatus.specs.declared.NtStatus.TheVariants.{Success}
 use Rattle.sector.specs.declared.Extent.{Extent}
+use Rattle.sector.specs.Extents.{IsIn}
 use Rattle.srb.specs.declared.Class.{Class}
 use Rattle.srb.specs.declared.DeviceLabel.{DeviceLabel}
 use Rattle.srb.specs.declared.DeviceLabel.TheVariants.{Return}
@@ -53,14 +54,10 @@ pub record Updates {X : Type 0} (old new : List (Option X)) (slot : ℕ) (item :
   pub there : slice_index_or new slot None ≡ item
   pub others : (other : ℕ) → other ≢ slot → slice_index_or new other None ≡ slice_index_or old other None
 
--- a sector is one of a partition's
-abbrev pub Covers : ℕ → Extent → Type 0
-Covers sector extent = (extent.first ≤ sector) × (sector < extent.first + extent.count)
-
 -- the sectors of no partition stay as they are
 abbrev pub KeepsOutside : List Extent → AdapterView → AdapterView → Type 0
 KeepsOutside partitions old new =
-    (sector : ℕ) → (Any (Covers sector) partitions → ⊥) → slice_get new.sectors sector ≡ slice_get old.sectors sector
+    (sector : ℕ) → (Any (IsIn sector) partitions → ⊥) → slice_get new.sectors sector ≡ slice_get old.sectors sector
 
 -- WHAT A STEP TELLS
 
