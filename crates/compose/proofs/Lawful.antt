@@ -6,6 +6,7 @@ use Rattle.ntstatus.specs.declared.NtStatus.{NtStatus}
 use Rattle.ntstatus.specs.declared.NtStatus.TheVariants.{Success}
 use Rattle.device.specs.declared.ClientRequest.{ClientRequest}
 use Rattle.device.specs.declared.Label.{Label}
+use Rattle.device.specs.declared.Label.TheVariants.{Call}
 use Rattle.device.specs.Rules.{Rules}
 use Rattle.device.specs.State.{State}
 use Rattle.device.specs.Calling.{Opens}
@@ -14,7 +15,8 @@ use Rattle.device.specs.Step.{Run}
 use Rattle.device.proofs.Same.{IsSame-refl, Run-append}
 use Rattle.machine_laws.specs.Reached.{IsReached, RunsGoOn}
 use Rattle.machine_laws.specs.SoloLaws.{SoloReadsHold, SoloWritesHold, FailedWritesHold, LabelsAreOfOne}
-use Rattle.machine_laws.specs.WriteLaws.{StepsKeepArrays}
+use Rattle.machine_laws.specs.WriteLaws.{StepsKeepArrays, StepsKeepSectors}
+use Rattle.machine_laws.specs.EndLaws.{AnsweredWriteNoMore}
 use Rattle.compose.specs.declared.Event.{Event}
 use Rattle.compose.specs.declared.Shown.{Shown}
 use Rattle.compose.specs.Shown.{StackView}
@@ -23,11 +25,20 @@ use Rattle.compose.specs.Runs.{Carries, CarriesAll, labels_shown, IsOfRun, IsLaw
 
 -- THE LAWS
 
-module _ (reads : SoloReadsHold) (writes : SoloWritesHold) (failed : FailedWritesHold) (keeps : StepsKeepArrays) (one : LabelsAreOfOne) (on : RunsGoOn) where
+module _ (reads : SoloReadsHold) (writes : SoloWritesHold) (failed : FailedWritesHold) (keeps : StepsKeepArrays) (sectors : StepsKeepSectors) (over : AnsweredWriteNoMore)
+    (one : LabelsAreOfOne) (on : RunsGoOn) where
   -- the request of a run that is called and answered there
   of_one : (rules : Rules) (s : State) (labels : List Label) (s' : State) (number : ℕ) (q : ClientRequest) (status : NtStatus) (bytes : List ℕ) (before after : State)
       → (h : IsOfRun rules s labels s' number q status bytes before after) → Opens rules before number q h.called × Answers rules h.ended number status bytes after
   of_one rules s labels s' number q status bytes before after h = one rules number q status bytes before h.called h.between h.ended after h.not_refused h.calls h.run h.answers
+
+  -- its state at its answer can be reached
+  ended_reached : (rules : Rules) (s : State) (labels : List Label) (s' : State) (number : ℕ) (q : ClientRequest) (status : NtStatus) (bytes : List ℕ) (before after : State)
+      → IsReached rules s → (h : IsOfRun rules s labels s' number q status bytes before after) → IsReached rules h.ended
+  ended_reached rules s labels s' number q status bytes before after reached h =
+      let at_call : IsReached rules before = on rules s h.first before reached h.comes in
+      let called : Run rules before (Call number q ∷ []) h.called = (h.called, h.calls, IsSame-refl h.called) in
+      on rules h.called h.between h.ended (on rules before (Call number q ∷ []) h.called at_call called) h.run
 
   pub obey : RunsObeyLaws
   obey rules s labels s' reached = record {
@@ -44,6 +55,10 @@ module _ (reads : SoloReadsHold) (writes : SoloWritesHold) (failed : FailedWrite
         failed rules before (on rules s h.first before reached h.comes) number q status bytes after is_write
         (record { called = h.called; labels = h.between; ended = h.ended; opens = both.0; run = h.run; solo = solo; answers = both.1 }) place inside;
     keeps_arrays = λ first last label before after split comes step goes p. keeps rules before label after step p;
+    keeps_sectors = λ first last label before after split comes step goes p i. sectors rules before label after (on rules s first before reached comes) step p i;
+    answered_writes = λ number q status bytes before after h p i wrote.
+        let both : Opens rules before number q h.called × Answers rules h.ended number status bytes after = of_one rules s labels s' number q status bytes before after h in
+        over rules h.ended number status bytes after h.last s' (ended_reached rules s labels s' number q status bytes before after reached h) both.1 h.goes p i wrote;
   }
 
 -- EVENTS, ONE AFTER ANOTHER

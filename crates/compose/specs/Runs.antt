@@ -17,6 +17,7 @@ use Rattle.device.specs.Solo.{IsSolo, all_places}
 use Rattle.machine_laws.specs.Along.{Sometime}
 use Rattle.machine_laws.specs.Reached.{IsReached}
 use Rattle.machine_laws.specs.Sectors.{array_at, sector_at, sector_of, bytes_for, WritesPartition, WritesSector}
+use Rattle.machine_laws.specs.WriteLaws.{IsWriteAt}
 use Rattle.compose.specs.declared.Event.{Event}
 use Rattle.compose.specs.declared.Shown.{Shown}
 use Rattle.compose.specs.declared.RunStopped.{RunStopped}
@@ -73,7 +74,8 @@ abbrev pub IsSoloIn : (rules : Rules) (s : State) (labels : List Label) (s' : St
 IsSoloIn rules s labels s' number q status bytes before after h = IsSolo rules number q h.called h.between h.ended h.run
 
 -- each place of a write is as it was before the call, or a piece of the write acted on it and its bytes stand there
-abbrev pub WroteOrLeft : (rules : Rules) (number : ℕ) (q : ClientRequest) (before called : State) (between : List Label) (ended : State) (after : State) → Run rules called between ended → ℕ → Type 0
+abbrev pub WroteOrLeft : (rules : Rules) (number : ℕ) (q : ClientRequest) (before called : State) (between : List Label) (ended : State) (after : State)
+    → Run rules called between ended → ℕ → Type 0
 WroteOrLeft rules number q before called between ended after run place =
     (sector_at after (partition_number q) (sector_of rules q place) ≡ sector_at before (partition_number q) (sector_of rules q place))
     ⊎ (Sometime (WritesSector rules number (partition_number q) (sector_of rules q place)) rules called between ended run
@@ -95,6 +97,13 @@ pub record ObeysLaws (rules : Rules) (s : State) (labels : List Label) (s' : Sta
   pub keeps_arrays : (first last : List Label) (label : Label) (before after : State) → labels ≡ first ++ label ∷ last
       → Run rules s first before → Step rules before label after → Run rules after last s'
       → (p : ℕ) → (array_at after.arrays p ≡ array_at before.arrays p) ⊎ WritesPartition p before label
+  -- no label changes a sector but the act of a write's piece that covers it, whose bytes then stand there
+  pub keeps_sectors : (first last : List Label) (label : Label) (before after : State) → labels ≡ first ++ label ∷ last
+      → Run rules s first before → Step rules before label after → Run rules after last s'
+      → (p i : ℕ) → (sector_at after p i ≡ sector_at before p i) ⊎ IsWriteAt rules p i before label after
+  -- a write, also one that failed, writes no sector after its answer
+  pub answered_writes : (number : ℕ) (q : ClientRequest) (status : NtStatus) (bytes : List ℕ) (before after : State) (h : IsOfRun rules s labels s' number q status bytes before after)
+      → (p i : ℕ) → Sometime (WritesSector rules number p i) rules after h.last s' h.goes → ⊥
 
 -- all that is shown is one run, which obeys the laws; and the sectors of no partition stay as they are
 pub record IsLawful (old : StackView) (shown : List Shown) (new : StackView) : Type 0 where

@@ -23,6 +23,8 @@ fn laws_of_runs()
     machine_laws::solo_writes();
     machine_laws::failed_writes();
     machine_laws::keeps_arrays();
+    machine_laws::keeps_sectors();
+    machine_laws::answered_are_over();
     machine_laws::labels_are_of_one();
     machine_laws::goes_on();
 }
