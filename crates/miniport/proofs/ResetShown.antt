@@ -39,13 +39,17 @@ pub faults_move : (fresh others : List TagInUse) (old new : AdapterView) (tags :
     → All IsFreshUse fresh → IsPermutation old.tags (fresh ++ others) → IsPermutation tags (map met_by_reset (map faulted fresh ++ others))
     → old.failures + length fresh ≤ failures → labels ≡ old.labels ++ map fault_of fresh
     → new ≡ record old { tags = tags; failures = failures; labels = labels } → FaultsThenNotes old (map fault_of fresh) new
-faults_move [] others old new tags failures labels all before after counted are e = (old, nothing_moves old, record {
-  tags = tags;
-  failures = failures;
-  in_use = IsPermutation-trans _ _ _ after (IsPermutation-map met_by_reset _ _ (IsPermutation-sym _ _ before));
-  counted = omega (arith, counted);
-  after = e ∙ ap (λ (l : List DeviceLabel). record old { tags = tags; failures = failures; labels = l }) (are ∙ append-nil old.labels);
-})
+faults_move [] others old new tags failures labels all before after counted are e = (
+  old,
+  nothing_moves old,
+  record {
+    tags = tags;
+    failures = failures;
+    in_use = IsPermutation-trans _ _ _ after (IsPermutation-map met_by_reset _ _ (IsPermutation-sym _ _ before));
+    counted = omega (arith, counted);
+    after = e ∙ ap (λ (l : List DeviceLabel). record old { tags = tags; failures = failures; labels = l }) (are ∙ append-nil old.labels);
+  },
+)
 faults_move (f ∷ fs) others old new tags failures labels all before after counted are e =
     let mid : AdapterView = record old { tags = faulted f ∷ (fs ++ others); failures = old.failures + 1; labels = old.labels ++ Fault f.piece ∷ [] } in
     let fault : FaultsOn old f.tag f.piece mid = record {
@@ -62,11 +66,11 @@ faults_move (f ∷ fs) others old new tags failures labels all before after coun
     } in
     let rest : FaultsThenNotes mid (map fault_of fs) new =
     faults_move fs (faulted f ∷ others) mid new tags failures labels (All-tail IsFreshUse f fs all)
-        (IsPermutation-sym _ _ (IsPermutation-middle fs (faulted f) others))
-        (IsPermutation-trans _ _ _ after (IsPermutation-map met_by_reset _ _ (IsPermutation-sym _ _ (IsPermutation-middle (map faulted fs) (faulted f) others))))
-        (omega (arith, counted))
-        (are ∙ sym (append_assoc old.labels (Fault f.piece ∷ []) (map fault_of fs)))
-        e in
+    (IsPermutation-sym _ _ (IsPermutation-middle fs (faulted f) others))
+    (IsPermutation-trans _ _ _ after (IsPermutation-map met_by_reset _ _ (IsPermutation-sym _ _ (IsPermutation-middle (map faulted fs) (faulted f) others))))
+    (omega (arith, counted))
+    (are ∙ sym (append_assoc old.labels (Fault f.piece ∷ []) (map fault_of fs)))
+    e in
     (rest.0, (old, mid, nothing_moves old, (f.tag, fault), rest.1), rest.2)
 
 -- THE TAGS
@@ -223,8 +227,8 @@ resets m longest t unmet =
     ap (λ (d : ℕ). record new { depth = d }) (length-map t.slots slot_after_reset) in
     let moved : FaultsThenNotes old (map fault_of fresh) new =
     faults_move fresh (filter is_settled old.tags) old new new.tags failures new.labels (fresh_pass old.tags)
-        (IsPermutation-filter_both is_fresh is_settled (λ x. refl) old.tags) marked
-        (omega (arith, fresh_few m.sector_size 0 t.slots unmet)) labels depth in
+    (IsPermutation-filter_both is_fresh is_settled (λ x. refl) old.tags) marked
+    (omega (arith, fresh_few m.sector_size 0 t.slots unmet)) labels depth in
     record {
       fresh = fresh;
       tags = new.tags;
