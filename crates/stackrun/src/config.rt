@@ -1,0 +1,68 @@
+//! The settings.
+
+mod table;
+pub mod values;
+
+ghost use Rattle.std.specs.Prelude.{◌≡◌, ◌⊎◌, Some, Err, IfOk};
+ghost use Rattle.toml.specs.Data.{Members};
+ghost use Rattle.toml.specs.Parse.{parse_document};
+ghost use Rattle.toml.specs.View.{table_view};
+ghost use Rattle.stackrun.specs.declared.config.values.ConfigFault.TheVariants.{UnknownKey, NoMemory};
+ghost use Rattle.stackrun.specs.Settings.{AreSettings, HasKnownKeys};
+
+use crate::config::values::{Config, ConfigFault};
+use std::alloc::Global;
+use toml::Table;
+
+/// Reads the settings of a TOML document.
+///
+/// # Errors
+///
+/// The first of these that fits: [`ConfigFault::NotToml`]; [`ConfigFault::UnknownKey`], at the top or in a partition;
+/// [`ConfigFault::TooManyPartitions`]; then key by key, in the order of [`Config`], [`ConfigFault::MissingKey`] or
+/// [`ConfigFault::OutOfRange`], which a value of another kind is too. [`ConfigFault::NoMemory`] in place of any of them,
+/// where memory was refused.
+pub fn config(alloc: Global, text: &str) -> Result<Config, ConfigFault>
+    ensures settings { IfOk result (λ config. (document : Members) × (parse_document text.now ≡ Some document) × AreSettings document config) }
+    ensures unknown { (document : Members) → parse_document text.now ≡ Some document
+        → HasKnownKeys document ⊎ ((result ≡ Err UnknownKey) ⊎ (result ≡ Err NoMemory)) }
+{
+    match toml::table_from_str(alloc, text) {
+        Ok(table) => of_table(alloc, &table),
+        Err(error) if error.is_memory() => Err(ConfigFault::NoMemory),
+        Err(_) => Err(ConfigFault::NotToml),
+    }
+}
+
+/// The settings of a table.
+fn of_table(alloc: Global, table: &Table) -> Result<Config, ConfigFault>
+    ensures settings { IfOk result (AreSettings (table_view table.now)) }
+    ensures unknown { HasKnownKeys (table_view table.now) ⊎ (result ≡ Err UnknownKey) }
+{
+    if !table::has_known_keys(table) {
+        return Err(ConfigFault::UnknownKey);
+    }
+    if table::has_too_many_partitions(table) {
+        return Err(ConfigFault::TooManyPartitions);
+    }
+    let sector_size = table::sector_size(table)?;
+    let sectors = table::number(table, "sectors", 1, u32::MAX)?;
+    let max_transfer = table::number(table, "max_transfer", 1, 65_535)?;
+    let depth = table::number(table, "depth", 1, 32)?;
+    let window = table::number(table, "window", 1, 64)?;
+    let open_requests = table::number_or(table, "open_requests", 1, window, 64)?;
+    let write_protected = table::write_protected(table)?;
+    let bad_sectors = table::bad_sectors(alloc, table, sectors)?;
+    let partitions = table::partitions(alloc, table)?;
+    Ok(Config {
+        sector_size,
+        sectors,
+        max_transfer,
+        depth: depth as u8,
+        window,
+        open_requests,
+        write_protected,
+        bad_sectors,
+        partitions,
+    })
+}

@@ -1,0 +1,83 @@
+//! Why a trace ends early.
+
+use crate::config::values::ConfigFault;
+use compose::{MbrFault, StartFault};
+use ntstatus::NtStatus;
+use std::alloc::{AllocError, AllocFailed};
+use std::io;
+use std::io::ErrorKind;
+use thiserror::Error;
+
+#[derive(Debug, Drop, Error)]
+pub enum Fault {
+    #[error("stackrun: cannot read CONFIG")]
+    ConfigUnreadable,
+    #[error("stackrun: cannot read SCRIPT")]
+    ScriptUnreadable,
+    #[error(transparent)]
+    Config(ConfigFault),
+    /// The number of the line, from 1.
+    #[error("stackrun: script line {0}: bad line")]
+    BadLine(u64),
+    /// The adapter failed a command of the start.
+    #[error("stackrun: start: {}", .0.name())]
+    Start(NtStatus),
+    #[error("stackrun: mbr: {}", words_of(.0))]
+    Mbr(MbrFault),
+    #[error("stackrun: no memory")]
+    NoMemory,
+    #[error("stackrun: output failed")]
+    OutputFailed,
+}
+
+/// What is wrong with a partition table, in words.
+fn words_of(fault: &MbrFault) -> &'static str {
+    match fault {
+        MbrFault::ShortSector => "short sector",
+        MbrFault::NoSignature => "no signature",
+        MbrFault::EmptyEntry => "empty entry",
+        MbrFault::CoversTable => "covers table",
+        MbrFault::PastEnd => "past end",
+        MbrFault::Overlap => "overlap",
+    }
+}
+
+impl From<StartFault> for Fault {
+    fn from(fault: StartFault) -> Fault {
+        match fault {
+            StartFault::Settings => Fault::Config(ConfigFault::OutOfRange),
+            StartFault::Device(status) => Fault::Start(status),
+            StartFault::Mbr(fault) => Fault::Mbr(fault),
+            StartFault::NoMemory => Fault::NoMemory,
+        }
+    }
+}
+
+impl From<AllocError> for Fault {
+    fn from(_error: AllocError) -> Fault {
+        Fault::NoMemory
+    }
+}
+
+impl<T: Drop> From<AllocFailed<T>> for Fault {
+    fn from(_error: AllocFailed<T>) -> Fault {
+        Fault::NoMemory
+    }
+}
+
+/// What a failed write means.
+impl From<io::Error> for Fault {
+    fn from(_error: io::Error) -> Fault {
+        Fault::OutputFailed
+    }
+}
+
+impl Fault {
+    /// What a failed read means, for an input that can't be read as `unreadable` says.
+    pub fn of_read(error: &io::Error, unreadable: Fault) -> Fault {
+        match error.kind() {
+            ErrorKind::OutOfMemory => Fault::NoMemory,
+            _ => unreadable,
+        }
+    }
+}

@@ -1,0 +1,54 @@
+//! The program: runs a script of events through a stack over a disk in memory, and prints the trace.
+//!
+//! It promises, by the contract of [`config::config`], that settings which were accepted are those of the document, each
+//! in its range, or its default. What is printed, and which fault comes first, is tested and not proved.
+#![tactic(auto)]
+
+mod config;
+mod faults;
+mod input;
+mod lengths;
+mod printing;
+mod runs;
+mod script;
+mod start;
+#[cfg(test)]
+mod tests;
+mod trace;
+mod words;
+
+use crate::trace::trace;
+use crate::words::asked::{Command, CommandFault};
+use crate::words::command;
+use std::env;
+use std::process::ExitCode;
+
+/// Says on standard error why nothing was run, and gives the exit status.
+fn refused(rt: &impl Eprint, fault: CommandFault) -> ExitCode {
+    let status = match fault {
+        CommandFault::Usage => 2,
+        CommandFault::NoMemory => 1,
+    };
+    // Nobody is left to hear of a fault of this writer.
+    let _ = eprintln!(rt; "{fault}");
+    ExitCode::from(status)
+}
+
+fn main(rt: HostRuntime) -> ExitCode {
+    let alloc = rt.alloc();
+    let given = match env::args(&rt) {
+        Ok(words) => words.collect::<Vec<String>>(alloc),
+        Err(error) => return refused(&rt, CommandFault::of_words(&error)),
+    };
+    let Ok(words) = given else {
+        return refused(&rt, CommandFault::NoMemory);
+    };
+    match command(alloc, words.as_slice()) {
+        Ok(Command::Trace { config, script }) => {
+            let config = input::open(&rt, config);
+            let script = input::open(&rt, script);
+            ExitCode::from(trace(alloc, config, script, rt.stdout(), rt.stderr()))
+        }
+        Err(fault) => refused(&rt, fault),
+    }
+}

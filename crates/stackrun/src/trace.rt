@@ -1,0 +1,183 @@
+//! A script run through a stack, and its trace in print.
+
+ghost use Rattle.std.specs.Prelude.{◌≡◌, [], IfOk, OnOk};
+ghost use Rattle.toml.specs.Data.{Members};
+ghost use Rattle.stackrun.specs.Settings.{AreSettings};
+
+use crate::config::config;
+use crate::config::values::{Config, ConfigFault};
+use crate::faults::Fault;
+use crate::lengths::Lengths;
+use crate::printing::{write_label, write_reply};
+use crate::script::{Line, Order, lines};
+use crate::start::start;
+use compose::{Event, Handle, Refusal, Reply, Stack};
+use device::Label;
+use miniport::Adapter;
+use sector::Bytes;
+use std::alloc::Global;
+use std::collections::BTreeMap;
+use std::io::{BufWriter, Read, Write};
+
+/// Bytes of output that are written at once.
+const BUFFER: usize = 65_536;
+
+/// Tags that an adapter can have.
+const TAGS: u64 = 32;
+
+/// Runs a script through a stack over a disk in memory, and writes what comes of each event.
+///
+/// Answers the exit status: 0, or 1 after a line about a fault, which goes to `faults`.
+pub fn trace<C: Read + Drop, S: Read + Drop, O: Write + Drop, F: Write + Drop>(
+    alloc: Global,
+    config: C,
+    script: S,
+    out: O,
+    mut faults: F,
+) -> u8 {
+    match run(alloc, config, script, out) {
+        Ok(()) => 0,
+        Err(fault) => {
+            // Nobody is left to hear of a fault of this writer.
+            let _ = writeln!(faults, "{fault}");
+            let _ = faults.flush();
+            1
+        }
+    }
+}
+
+fn run<C: Read + Drop, S: Read + Drop, O: Write + Drop>(
+    alloc: Global,
+    config: C,
+    script: S,
+    out: O,
+) -> Result<(), Fault> {
+    let config = settings(alloc, config)?;
+    let script = contents(alloc, script, Fault::ScriptUnreadable)?;
+    let Ok(text) = std::str::from_utf8(script.as_slice()) else {
+        return Err(Fault::BadLine(1));
+    };
+    let lines = lines(alloc, text)?;
+    let mut stack = start(alloc, config)?;
+    let Ok(mut out) = BufWriter::with_capacity(alloc, BUFFER, out) else {
+        return Err(Fault::NoMemory);
+    };
+    play(alloc, &mut stack, lines.as_slice(), &mut out)?;
+    Ok(out.flush()?)
+}
+
+/// All bytes of an input.
+fn contents<R: Read + Drop>(
+    alloc: Global,
+    mut input: R,
+    unreadable: Fault,
+) -> Result<Vec<u8>, Fault> {
+    let mut bytes = Vec::new(alloc);
+    match input.read_to_end(&mut bytes) {
+        Ok(_) => Ok(bytes),
+        Err(error) => Err(Fault::of_read(&error, unreadable)),
+    }
+}
+
+fn settings<R: Read + Drop>(alloc: Global, input: R) -> Result<Config, Fault>
+    ensures { IfOk result (λ config. (document : Members) × AreSettings document config) }
+{
+    let bytes = contents(alloc, input, Fault::ConfigUnreadable)?;
+    match std::str::from_utf8(bytes.as_slice()) {
+        Ok(text) => config(alloc, text).map_err(Fault::Config),
+        Err(_) => Err(Fault::Config(ConfigFault::NotToml)),
+    }
+}
+
+/// Runs the lines of a script through a stack of which all labels were taken.
+fn play<A: Adapter, W: Write>(
+    alloc: Global,
+    stack: &mut Stack<A>,
+    lines: &[Line<'_>],
+    out: &mut W,
+) -> Result<(), Fault>
+    requires { stack.old.labels ≡ [] }
+{
+    let mut handles = BTreeMap::new(alloc);
+    let mut lengths = Lengths::new(alloc)?;
+    for line in lines {
+        let reply = match event(alloc, line.order, &handles) {
+            Ok(event) => stack.step(alloc, event),
+            Err(reply) => reply,
+        };
+        writeln!(out, "> {}", line.text)?;
+        write_reply(out, &reply)?;
+        if let Reply::Handle(handle) = reply {
+            handles.insert(handle.number, handle)?;
+        }
+        write_labels(stack, out, &mut lengths)?;
+    }
+    Ok(())
+}
+
+/// Writes all labels that a stack has not given yet, and takes the answers that go with them.
+fn write_labels<A: Adapter, W: Write>(
+    stack: &mut Stack<A>,
+    out: &mut W,
+    lengths: &mut Lengths,
+) -> Result<(), Fault>
+    ensures { OnOk result (stack.new.labels ≡ []) }
+{
+    while let Some(label) = stack.take_label() {
+        write_label(out, &label, lengths)?;
+        if let Label::Answer { .. } = label {
+            let _ = stack.take_answer();
+        }
+    }
+    Ok(())
+}
+
+/// The event of an order, or the reply to one that can't be made.
+fn event(alloc: Global, order: Order, handles: &BTreeMap<u64, Handle>) -> Result<Event, Reply> {
+    match order {
+        Order::Open { partition } => Ok(Event::Open {
+            partition: u8::try_from(partition).unwrap_or(u8::MAX),
+        }),
+        Order::Read {
+            handle,
+            offset,
+            length,
+        } => Ok(Event::Read {
+            handle: handle_of(handle, handles),
+            offset,
+            buffer: filled(alloc, 0, length)?,
+        }),
+        Order::Write {
+            handle,
+            offset,
+            length,
+            byte,
+        } => Ok(Event::Write {
+            handle: handle_of(handle, handles),
+            offset,
+            bytes: filled(alloc, byte, length)?,
+        }),
+        Order::Act { tag } if tag < TAGS => Ok(Event::Act { tag: tag as u8 }),
+        Order::Finish { tag } if tag < TAGS => Ok(Event::Finish { tag: tag as u8 }),
+        Order::Act { .. } | Order::Finish { .. } => Err(Reply::Ignored),
+    }
+}
+
+/// The handle of a number; one that isn't there, where the number was not given out.
+fn handle_of(number: u64, handles: &BTreeMap<u64, Handle>) -> Handle {
+    match handles.get(&number) {
+        Some(handle) => *handle,
+        None => Handle { slot: 0, number },
+    }
+}
+
+/// So many equal bytes, or the reply where memory for them is refused.
+fn filled(alloc: Global, byte: u8, length: u64) -> Result<Bytes, Reply> {
+    match vec![in alloc; byte; length as usize] {
+        Ok(bytes) => Ok(Bytes::new(bytes)),
+        Err(_) => Err(Reply::Refused {
+            refusal: Refusal::InsufficientResources,
+            bytes: Bytes::new(Vec::new(alloc)),
+        }),
+    }
+}
