@@ -101,7 +101,10 @@ fn opens_no_third_request(rt: HostRuntime) -> Result<(), Fail> {
                 "answered 5 SUCCESS none / call 5 read 0 0 / answer 5 SUCCESS none",
             ),
             (Step::Act(0), "ok / act 1 00*512"),
-            (Step::Finish(0), "ok / return 1 good / answer 1 SUCCESS 00*512"),
+            (
+                Step::Finish(0),
+                "ok / return 1 good / answer 1 SUCCESS 00*512",
+            ),
             (
                 read(512, 512),
                 "request 6 / call 6 read 512 512 / start 3 tag 0 28000000080100000100",
@@ -153,7 +156,10 @@ fn fails_and_ignores(rt: HostRuntime) -> Result<(), Fail> {
                 write(0, 512, 0xA5),
                 "request 1 / call 1 write 0 512 a5*512 / start 1 tag 0 2a000000080000000100",
             ),
-            (Step::Finish(0), "ok / return 1 busy / answer 1 DEVICE_BUSY none"),
+            (
+                Step::Finish(0),
+                "ok / return 1 busy / answer 1 DEVICE_BUSY none",
+            ),
             (Step::Finish(0), "ignored"),
             (
                 read(0, 1536),
@@ -167,8 +173,14 @@ fn fails_and_ignores(rt: HostRuntime) -> Result<(), Fail> {
             (Step::Act(0), "ignored"),
             (Step::Act(1), "ok / act 3 00*1024"),
             (Step::Act(1), "ignored"),
-            (Step::Finish(0), "ok / return 2 bad / answer 2 DEVICE_DATA_ERROR none"),
-            (Step::Finish(1), "ok / return 3 good / answer 3 SUCCESS 00*1024"),
+            (
+                Step::Finish(0),
+                "ok / return 2 bad / answer 2 DEVICE_DATA_ERROR none",
+            ),
+            (
+                Step::Finish(1),
+                "ok / return 3 good / answer 3 SUCCESS 00*1024",
+            ),
             (Step::Act(1), "ignored"),
         ],
     )?;
@@ -176,7 +188,11 @@ fn fails_and_ignores(rt: HostRuntime) -> Result<(), Fail> {
         &rt,
         alloc,
         &mut stack,
-        &["1 DEVICE_BUSY none", "2 DEVICE_DATA_ERROR none", "3 SUCCESS 00*1024"],
+        &[
+            "1 DEVICE_BUSY none",
+            "2 DEVICE_DATA_ERROR none",
+            "3 SUCCESS 00*1024",
+        ],
     )?;
     Ok(())
 }
@@ -197,13 +213,19 @@ fn writes_nothing_on_a_protected_disk(rt: HostRuntime) -> Result<(), Fail> {
                 "request 1 / call 1 write 512 512 a5*512 / start 1 tag 0 2a000000080100000100",
             ),
             (Step::Act(0), "ok / fault 1"),
-            (Step::Finish(0), "ok / return 1 bad / answer 1 MEDIA_WRITE_PROTECTED none"),
+            (
+                Step::Finish(0),
+                "ok / return 1 bad / answer 1 MEDIA_WRITE_PROTECTED none",
+            ),
             (
                 read(512, 512),
                 "request 2 / call 2 read 512 512 / start 2 tag 0 28000000080100000100",
             ),
             (Step::Act(0), "ok / act 2 00*512"),
-            (Step::Finish(0), "ok / return 2 good / answer 2 SUCCESS 00*512"),
+            (
+                Step::Finish(0),
+                "ok / return 2 good / answer 2 SUCCESS 00*512",
+            ),
         ],
     )?;
     Ok(())

@@ -84,7 +84,10 @@ fn refuses_a_write_twice(rt: HostRuntime) -> Result<(), Fail> {
                 "request 2 / call 2 write 0 512 a5*512 / start 2 tag 1 2a000000080000000100",
             ),
             (Step::Act(1), "ok / act 2 a5*512"),
-            (Step::Finish(1), "ok / return 2 good / answer 2 SUCCESS none"),
+            (
+                Step::Finish(1),
+                "ok / return 2 good / answer 2 SUCCESS none",
+            ),
         ],
     )?;
     answers(&rt, alloc, &mut stack, &["2 SUCCESS none"])?;
@@ -157,13 +160,19 @@ fn serve(rt: &impl Abort, alloc: Global) -> Result<(), AllocError> {
             "request 2 / call 2 write 0 512 a5*512 / start 1 tag 0 2a000000080000000100",
         ),
         (Step::Act(0), "ok / act 1 a5*512"),
-        (Step::Finish(0), "ok / return 1 good / answer 2 SUCCESS none"),
+        (
+            Step::Finish(0),
+            "ok / return 1 good / answer 2 SUCCESS none",
+        ),
         (
             read(0, 512),
             "request 3 / call 3 read 0 512 / start 2 tag 0 28000000080000000100",
         ),
         (Step::Act(0), "ok / act 2 a5*512"),
-        (Step::Finish(0), "ok / return 2 good / answer 3 SUCCESS a5*512"),
+        (
+            Step::Finish(0),
+            "ok / return 2 good / answer 3 SUCCESS a5*512",
+        ),
     ];
     for row in rows {
         let refused = match row.0 {

@@ -89,7 +89,10 @@ fn takes_a_right_table(rt: HostRuntime) -> Result<(), Fail> {
         (entry(7, 4095, 2), Some(MbrFault::PastEnd)),
         (entry(7, 4096, 1), Some(MbrFault::PastEnd)),
         (entry(7, 4_294_967_295, 1), Some(MbrFault::PastEnd)),
-        (entry(7, 4_294_967_295, 4_294_967_295), Some(MbrFault::PastEnd)),
+        (
+            entry(7, 4_294_967_295, 4_294_967_295),
+            Some(MbrFault::PastEnd),
+        ),
         (entry(7, 4095, 1), None),
         (entry(7, 1, 4095), None),
         (entry(0, 0, 0), None),

@@ -22,16 +22,27 @@ fn writes_and_reads_a_sector(rt: HostRuntime) -> Result<(), Fail> {
                 "request 1 / call 1 write 0 512 a5*512 / start 1 tag 0 2a000000080000000100",
             ),
             (Step::Act(0), "ok / act 1 a5*512"),
-            (Step::Finish(0), "ok / return 1 good / answer 1 SUCCESS none"),
+            (
+                Step::Finish(0),
+                "ok / return 1 good / answer 1 SUCCESS none",
+            ),
             (
                 read(0, 512),
                 "request 2 / call 2 read 0 512 / start 2 tag 0 28000000080000000100",
             ),
             (Step::Act(0), "ok / act 2 a5*512"),
-            (Step::Finish(0), "ok / return 2 good / answer 2 SUCCESS a5*512"),
+            (
+                Step::Finish(0),
+                "ok / return 2 good / answer 2 SUCCESS a5*512",
+            ),
         ],
     )?;
-    answers(&rt, alloc, &mut stack, &["1 SUCCESS none", "2 SUCCESS a5*512"])?;
+    answers(
+        &rt,
+        alloc,
+        &mut stack,
+        &["1 SUCCESS none", "2 SUCCESS a5*512"],
+    )?;
     Ok(())
 }
 
@@ -67,9 +78,15 @@ fn two_tags_serve_three_reads(rt: HostRuntime) -> Result<(), Fail> {
                 "ok / return 2 good / start 3 tag 1 28000000080200000100 / answer 2 SUCCESS 00*512",
             ),
             (Step::Act(1), "ok / act 3 00*512"),
-            (Step::Finish(1), "ok / return 3 good / answer 3 SUCCESS 00*512"),
+            (
+                Step::Finish(1),
+                "ok / return 3 good / answer 3 SUCCESS 00*512",
+            ),
             (Step::Act(0), "ok / act 1 00*512"),
-            (Step::Finish(0), "ok / return 1 good / answer 1 SUCCESS 00*512"),
+            (
+                Step::Finish(0),
+                "ok / return 1 good / answer 1 SUCCESS 00*512",
+            ),
         ],
     )?;
     answers(
