@@ -6,7 +6,8 @@ ghost use Rattle.cdb.specs.SenseData.{IsSenseData, Tells, TellsOfError};
 
 use ntstatus::Sense;
 
-/// The sense data of an error: 18 bytes in the fixed format of SPC, with response code 70h.
+/// The sense data of an error: 18 bytes in the fixed format of SPC, with response code 70h. A key below 16, as all keys
+/// of the standard are, is read back (`told`); a larger one spoils the bits beside it.
 pub fn encode_sense(sense: &Sense) -> [u8; 18]
     ensures data { IsSenseData result sense.now }
     ensures told { sense.now.key < 16 → Tells result sense.now }

@@ -1,35 +1,15 @@
 -- Moves of an adapter, one after another: they join, and record their labels.
-use Rattle.std.proofs.Common.{◌≡◌, ◌≤◌, inl, inr, ℕ, ◌+◌, List, [], ◌∷◌, ◌++◌, refl, sym, ◌∙◌, ap, subst, arith, map, append_assoc}
-use Rattle.std.specs.Prelude.{◌⊎◌, IsPermutation}
+use Rattle.std.proofs.Common.{◌≡◌, ℕ, ◌+◌, List, [], ◌∷◌, ◌++◌, sym, ◌∙◌, ap, append_assoc}
 use Rattle.std.proofs.lemmas.List.{append-nil}
-use Rattle.std.proofs.lemmas.List.Sorted.{IsPermutation-trans, IsPermutation-map}
 use Rattle.srb.specs.declared.DeviceLabel.{DeviceLabel}
 use Rattle.srb.specs.declared.DeviceLabel.TheVariants.{Start, Act, Fault, Return}
-use Rattle.srb.specs.Adapter.{AdapterView, TagInUse, met_by_reset, MovesUnseen, MovesBy, MovesOn, MovesByAll}
+use Rattle.srb.specs.Adapter.{AdapterView, MovesUnseen, MovesBy, MovesOn, MovesByAll}
 use Rattle.compose.specs.Right.{AdapterMoves}
-
--- a reset that is noted twice is noted
-noted_twice : (tags : List TagInUse) → map met_by_reset (map met_by_reset tags) ≡ map met_by_reset tags
-noted_twice [] = refl
-noted_twice (use' ∷ tags) = ap (λ more. met_by_reset use' ∷ more) (noted_twice tags)
-
-both_noted : (old mid tags : List TagInUse) → IsPermutation mid old ⊎ IsPermutation mid (map met_by_reset old) → IsPermutation tags mid ⊎ IsPermutation tags (map met_by_reset mid)
-    → IsPermutation tags old ⊎ IsPermutation tags (map met_by_reset old)
-both_noted old mid tags (inl a) (inl b) = inl (IsPermutation-trans tags mid old b a)
-both_noted old mid tags (inl a) (inr b) = inr (IsPermutation-trans tags (map met_by_reset mid) (map met_by_reset old) b (IsPermutation-map met_by_reset mid old a))
-both_noted old mid tags (inr a) (inl b) = inr (IsPermutation-trans tags mid (map met_by_reset old) b a)
-both_noted old mid tags (inr a) (inr b) =
-    inr (subst (λ more. IsPermutation tags more) (noted_twice old)
-    (IsPermutation-trans tags (map met_by_reset mid) (map met_by_reset (map met_by_reset old)) b (IsPermutation-map met_by_reset mid (map met_by_reset old) a)))
 
 pub unseen_joined : (old mid new : AdapterView) → MovesUnseen old mid → MovesUnseen mid new → MovesUnseen old new
 unseen_joined old mid new a b = record {
-  tags = b.tags;
-  failures = b.failures;
   reserved = b.reserved;
-  in_use = both_noted old.tags a.tags b.tags a.in_use (subst (λ (v : AdapterView). IsPermutation b.tags v.tags ⊎ IsPermutation b.tags (map met_by_reset v.tags)) a.after b.in_use);
-  counted = let same : mid.failures ≡ a.failures = ap (λ (v : AdapterView). v.failures) a.after in let first : old.failures ≤ a.failures = a.counted in let second : mid.failures ≤ b.failures = b.counted in omega arith;
-  after = b.after ∙ ap (λ (v : AdapterView). record v { tags = b.tags; failures = b.failures; reserved = b.reserved }) a.after;
+  after = b.after ∙ ap (λ (v : AdapterView). record v { reserved = b.reserved }) a.after;
   lasts = λ extent reserved. b.lasts extent (a.lasts extent reserved);
 }
 

@@ -1,59 +1,26 @@
 -- Acts and returns of the adapter as steps of the stack.
-use Rattle.std.proofs.Common.{◌≡◌, ◌≤◌, inl, inr, ℕ, List, [], ◌∷◌, ◌++◌, Option, Some, None, refl, sym, ◌∙◌, ap, subst, arith, map}
-use Rattle.std.specs.Prelude.{IsPermutation, All, ◌⊎◌, IsTrue}
-use Rattle.std.proofs.lemmas.List.Sorted.{All-permutation, IsPermutation-refl, IsPermutation-sym}
+use Rattle.std.proofs.Common.{◌≡◌, inl, inr, ℕ, List, [], ◌∷◌, ◌++◌, refl, sym, ap, subst}
+use Rattle.std.specs.Prelude.{IsPermutation, All, IsTrue}
+use Rattle.std.proofs.lemmas.List.Sorted.{All-permutation, IsPermutation-sym}
 use Rattle.std.proofs.lemmas.List.Elements.{All-append, All-weaker}
 use Rattle.ntstatus.specs.declared.NtStatus.{NtStatus}
 use Rattle.srb.specs.declared.DeviceLabel.{DeviceLabel}
 use Rattle.srb.specs.declared.DeviceLabel.TheVariants.{Start, Act as ActLabel, Fault, Return}
-use Rattle.srb.specs.Adapter.{AdapterView, MovesUnseen}
 use Rattle.device.specs.Rules.{Rules}
 use Rattle.device.specs.State.{Mark, Untouched, Out, Done, Failed, Back, OpenRequest, State}
 use Rattle.device.specs.Answering.{IsGivenUp, HasEnded}
 use Rattle.device.specs.Step.{Run}
 use Rattle.device.specs.Seen.{Seen, IsOrderly}
-use Rattle.device.specs.Served.{as_label, IsStart, IsActOrFault, IsFreshOn, Moves, ActsOn, ActsNot, Finishes, FinishesNot, IsUnfinished}
+use Rattle.device.specs.Served.{as_label, IsStart, IsActOrFault, Moves, ActsOn, ActsNot, Finishes, FinishesNot, IsUnfinished}
 use Rattle.device.proofs.Same.{IsSame-refl}
-use Rattle.compose.specs.declared.OpenHandle.{OpenHandle}
 use Rattle.compose.specs.declared.Event.TheVariants.{Act, Finish}
 use Rattle.compose.specs.declared.Reply.TheVariants.{Ok as OkReply, Ignored}
 use Rattle.compose.specs.declared.admission.Limits.{Limits}
 use Rattle.compose.specs.declared.tables.Tables.{Tables}
-use Rattle.compose.specs.Shown.{StackView, Holder}
-use Rattle.compose.specs.Right.{SameHandles, tells_nothing, unless_answered, IsRightBy, IsRight}
+use Rattle.compose.specs.Right.{SameHandles, tells_nothing, IsRight}
 use Rattle.compose.specs.Sound.{view_of, IsSound, IsAtRest, Collects}
+use Rattle.compose.proofs.Quiet.{IsRightBy-unmoved}
 use Rattle.compose.proofs.Righting.{IsServed, told_by, rests, IsRightBy-served}
-
--- NOTHING HAPPENS
-
-none_answered : (holder : Option Holder) → holder ≡ unless_answered [] holder
-none_answered None = refl
-none_answered (Some holder) = refl
-
-adapter_stays : (v : AdapterView) → MovesUnseen v v
-adapter_stays v = record {
-  tags = v.tags;
-  failures = v.failures;
-  reserved = v.reserved;
-  in_use = inl (IsPermutation-refl v.tags);
-  counted = omega arith;
-  after = refl;
-  lasts = λ extent reserved. reserved;
-}
-
--- with nothing told, handles alone may change
-pub IsRightBy-unmoved : (v : StackView) (handles : List (Option OpenHandle)) (next_handle : ℕ) → v.labels ≡ [] → v.adapter.labels ≡ []
-    → IsRightBy (tells_nothing v) v (record v { handles = handles; next_handle = next_handle })
-IsRightBy-unmoved v handles next_handle none_told none_recorded = record {
-  in_order = none_told;
-  rising = tt;
-  same_rules = refl;
-  run = subst (λ labels. Run v.rules v.state labels v.state) (sym none_told) (IsSame-refl v.state);
-  adapter = record { moved = v.adapter; moves = adapter_stays v.adapter; taken = ap (λ labels. record v.adapter { labels = labels }) none_recorded };
-  outside = λ sector apart. refl;
-  holders = λ slot. none_answered _;
-  waiting = IsPermutation-refl v.answers;
-}
 
 -- WHAT HAS NOT ENDED
 
@@ -152,7 +119,7 @@ module _ (limits : Limits) (below : Seen) (tables : Tables) where
           (record { nothing = refl; same_state = refl }, record { none = λ piece fresh. h.none piece (record { is_out = fresh.is_out; is_tag = fresh.is_tag; is_fresh = fresh.is_fresh }) }),
           record { handles = refl; next_handle = refl },
         );
-        by = IsRightBy-unmoved (view_of limits below tables) tables.handles.slots tables.next_handle taken.0 taken.1;
+        by = IsRightBy-unmoved (view_of limits below tables) taken.0 taken.1;
       })
 
   pub IsRight-finish : (tag : ℕ) (below1 below2 : Seen) (tables2 : Tables) → IsSound limits below tables → IsOrderly below → IsAtRest below
@@ -190,5 +157,5 @@ module _ (limits : Limits) (below : Seen) (tables : Tables) where
       (record {
         told = tells_nothing (view_of limits below tables);
         replies = ((record { nothing = refl; same_state = refl }, h.free), record { handles = refl; next_handle = refl });
-        by = IsRightBy-unmoved (view_of limits below tables) tables.handles.slots tables.next_handle taken.0 taken.1;
+        by = IsRightBy-unmoved (view_of limits below tables) taken.0 taken.1;
       })

@@ -11,7 +11,6 @@ use Rattle.device.specs.declared.Label.TheVariants.{Call, Answer as AnswerLabel}
 use Rattle.device.specs.Calling.{refusal}
 use Rattle.device.specs.Step.{Run}
 use Rattle.device.specs.Seen.{Seen}
-use Rattle.device.proofs.Same.{IsSame-refl}
 use Rattle.compose.specs.declared.Handle.{Handle}
 use Rattle.compose.specs.declared.OpenHandle.{OpenHandle}
 use Rattle.compose.specs.declared.Refusal.TheVariants.{DeviceBusy}
@@ -28,7 +27,7 @@ use Rattle.compose.specs.Right.{tells_nothing, CallReplies, IsRightCall}
 use Rattle.compose.specs.Sound.{partitions_of, rules_of, view_of, IsOnMap, IsSound}
 use Rattle.compose.specs.Admitting.{status_at_once, IsKnown, HasSizes, AnswersAtOnce, reply_at_once}
 use Rattle.compose.proofs.OnDiskCalls.{Run-refused}
-use Rattle.compose.proofs.Quiet.{right_alone, nothing_moves, tells_own}
+use Rattle.compose.proofs.Quiet.{right_alone, nothing_moves, tells_own, IsRightBy-unmoved}
 
 -- the partition of an open handle is there
 pub known_handle : (limits : Limits) (handles : Slab OpenHandle) (handle : Handle) → IsOnMap limits handles → IsKnown limits (partition_of handles.slots handle)
@@ -63,9 +62,7 @@ module _ (limits : Limits) (below : Seen) (tables : Tables) (handle : Handle) (k
         told = tells_nothing view;
         replies = (refl, inr (used_up, record { nothing = refl; same_state = refl }));
         handles = record { handles = refl; next_handle = refl };
-        by =
-            right_alone view [] view.state below.adapter.reserved tables.handles.slots tables.next_handle tables.labels.items tables.waiting.items (IsSame-refl _) (nothing_moves below.adapter)
-            taken.1 taken.0 refl;
+        by = IsRightBy-unmoved view taken.0 taken.1;
       })
 
   abbrev own : NtStatus → List Label

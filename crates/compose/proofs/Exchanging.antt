@@ -1,5 +1,5 @@
 -- A command sent to an idle adapter, and its way back.
-use Rattle.std.proofs.Common.{append-nil, ◌≡◌, ◌<◌, ◌≤◌, ℕ, ◌+◌, Bool, true, false, List, [], ◌∷◌, ◌++◌, All, refl, sym, ◌∙◌, ap, subst, length, arith, ◌⊎◌, inl, inr, IsPermutation, rules}
+use Rattle.std.proofs.Common.{append-nil, ◌≡◌, ◌≤◌, ℕ, ◌+◌, List, [], ◌∷◌, All, refl, sym, ◌∙◌, ap, subst, length, arith, inl, inr, IsPermutation, rules}
 use Rattle.std.specs.List.{concat}
 use Rattle.std.proofs.lemmas.List.Sorted.{length_permutation, All-permutation, IsPermutation-sym, IsPermutation-trans}
 use Rattle.std.proofs.lemmas.List.Elements.{All-head, All-cons}
@@ -11,11 +11,11 @@ use Rattle.srb.specs.declared.Srb.{Srb}
 use Rattle.srb.specs.declared.Completion.{Completion}
 use Rattle.srb.specs.declared.Class.{Class}
 use Rattle.srb.specs.declared.Class.TheVariants.{Good, Busy, Bad}
-use Rattle.srb.specs.Fate.{Fate, Fresh, Acted, Faulted, class_of}
-use Rattle.srb.specs.Adapter.{AdapterView, TagInUse, HasNotTag, IsFree, Accepts, IsOn, in_use_from, acted, faulted, ReturnsOn, MayReturn}
+use Rattle.srb.specs.Fate.{Fresh, Acted, class_of}
+use Rattle.srb.specs.Adapter.{AdapterView, TagInUse, HasNotTag, IsFree, Accepts, in_use_from, acted, faulted, MayReturn}
 use Rattle.srb.specs.Performing.{Performs}
 use Rattle.miniport.specs.Calls.{Acts, ActsNot, Finishes, FinishesNot}
-use Rattle.compose.specs.Start.{IsIdle, Looks, bytes_brought, IsSameDisk, Brings, AsksOnce}
+use Rattle.compose.specs.Start.{IsIdle, Looks, bytes_brought, Brings, AsksOnce}
 
 -- a list in which one item stands is just that item
 pub just_one : {X : Type 0} (x y : X) (xs ys : List X) → IsPermutation xs (x ∷ []) → IsPermutation xs (y ∷ ys) → (x ≡ y) × (ys ≡ [])

@@ -1,15 +1,14 @@
 -- What a stack shows before its first event.
-use Rattle.std.proofs.Common.{◌≡◌, ◌<◌, ◌≤◌, ℕ, ◌+◌, ◌^◌, Bool, false, true, not, List, [], ◌∷◌, All, Option, Some, None, Result, Ok, Err, refl, sym, ◌∙◌, ap, subst, map, length, get_or, arith, rules}
-use Rattle.std.specs.Prelude.{◌==◌, nat_lt, AllPairs, if◌then◌else◌}
+use Rattle.std.proofs.Common.{◌≡◌, ◌≤◌, ℕ, ◌+◌, Bool, false, true, not, List, [], ◌∷◌, Option, Some, None, Ok, Err, refl, sym, ◌∙◌, ap, subst, map, length, arith}
+use Rattle.std.specs.Prelude.{◌==◌, nat_lt, if◌then◌else◌}
 use Rattle.std.proofs.lemmas.Bool.{eqb-false, ltb-false}
 use Rattle.std.proofs.lemmas.List.Elements.{All-nil, All-cons}
 use Rattle.sector.specs.declared.Extent.{Extent}
 use Rattle.srb.specs.Adapter.{AdapterView, IsInOrder}
-use Rattle.device.specs.Map.{AreApart, IsMap, IsPartition}
+use Rattle.device.specs.Map.{IsMap, IsPartition}
 use Rattle.device.specs.Rules.{Rules}
-use Rattle.device.specs.State.{State, opening}
+use Rattle.device.specs.State.{opening}
 use Rattle.device.specs.Seen.{Seen, sectors_in}
-use Rattle.compose.specs.declared.MbrFault.{MbrFault}
 use Rattle.compose.specs.declared.MbrFault.TheVariants.{NoSignature, EmptyEntry, CoversTable, PastEnd}
 use Rattle.compose.specs.declared.Settings.{Settings}
 use Rattle.compose.specs.declared.admission.Limits.{Limits}
@@ -17,10 +16,8 @@ use Rattle.compose.specs.declared.tables.OpenRequest.{OpenRequest}
 use Rattle.compose.specs.declared.tables.Tables.{Tables}
 use Rattle.compose.specs.Calls.{number_limit}
 use Rattle.compose.specs.Mbr.{is_signed, first_type, first_extent, checked, first_entry}
-use Rattle.compose.specs.OnDisk.{on_partition, rules_over}
-use Rattle.compose.specs.Shown.{StackView, Holder}
-use Rattle.compose.specs.Sound.{partitions_of, rules_of, holder_of, holders_of, view_of}
-use Rattle.compose.specs.Start.{IsSameDisk, sector_zero, told_partition, AreInRange, AreLimits}
+use Rattle.compose.specs.Sound.{partitions_of, rules_of, holders_of, view_of}
+use Rattle.compose.specs.Start.{IsSameDisk, sector_zero, AreLimits}
 use Rattle.compose.specs.Opening.{IsUnasked, AreFor, AreEmpty, first_rules, IsFirstView}
 use Rattle.compose.proofs.Opened.{opening-view}
 
@@ -139,6 +136,7 @@ module _ (disk v : AdapterView) (settings : Settings) (limits : Limits) (most : 
 
   pub IsFirstView-whole_disk : (tables : Tables) → number_limit ≤ most → AreEmpty tables → IsFirstView disk settings (view_of limits (on_whole_disk v most) tables)
   IsFirstView-whole_disk tables many empty = record {
+    in_range = are.in_range;
     partition = limits.partition;
     told = are.partition;
     is_map = is_map;

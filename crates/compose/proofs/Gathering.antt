@@ -1,5 +1,5 @@
 -- One request that has ended after another is taken: the run that they make, and what holds meanwhile.
-use Rattle.std.proofs.Common.{◌≡◌, ◌≢◌, ◌≤◌, inl, ℕ, ◌+◌, Bool, true, false, List, [], ◌∷◌, ◌++◌, Option, Some, None, refl, sym, ◌∙◌, ap, subst, arith, map, length, nat_eq, eq-eqb, eqb-true}
+use Rattle.std.proofs.Common.{◌≡◌, ◌≢◌, ◌≤◌, ℕ, ◌+◌, Bool, true, false, List, [], ◌∷◌, ◌++◌, Option, Some, None, refl, sym, ◌∙◌, ap, subst, arith, map, length, nat_eq, eq-eqb, eqb-true}
 use Rattle.std.specs.Prelude.{IsPermutation, IsNone, All, option_map, ◌==◌}
 use Rattle.std.specs.VecDeque.{deque_len, deque_capacity}
 use Rattle.std.proofs.lemmas.Bool.Decides.{nat_tests}
@@ -183,15 +183,7 @@ module _ (takes_srb : Bool) (old new : Seen) (request : Request) (done : Done) (
 -- ONE AFTER ANOTHER
 
 unseen_none : (view : AdapterView) → MovesUnseen view view
-unseen_none view = record {
-  tags = view.tags;
-  failures = view.failures;
-  reserved = view.reserved;
-  in_use = inl (IsPermutation-refl view.tags);
-  counted = omega arith;
-  after = refl;
-  lasts = λ extent reserved. reserved;
-}
+unseen_none view = record { reserved = view.reserved; after = refl; lasts = λ extent reserved. reserved }
 
 -- none yet
 pub gathers_none : (below : Seen) (tables : Tables) → tables.answered.items ≡ [] → Gathers below tables below tables

@@ -19,7 +19,7 @@ use Rattle.compose.specs.Calls.{number_limit, are_used_up, handle_limit, open_re
 use Rattle.compose.specs.Right.{tells_nothing, IsRight}
 use Rattle.compose.specs.Sound.{partitions_of, view_of, IsOnMap, IsSound}
 use Rattle.compose.specs.Admitting.{handle_refusal, OpensHandle}
-use Rattle.compose.proofs.Quiet.{right_alone, nothing_moves}
+use Rattle.compose.proofs.Quiet.{right_alone, nothing_moves, IsRightBy-unmoved}
 
 -- numbers that are not used up are below the limit
 pub numbers_last : (next : ℕ) → are_used_up next ≡ false → next < number_limit
@@ -115,9 +115,7 @@ opened_right limits below old partition (Refused reason bytes) new h none_told n
         opens.1,
         record { handles = refl; next_handle = refl },
       );
-      by =
-          right_alone (view_of limits below old) [] (view_of limits below old).state below.adapter.reserved old.handles.slots old.next_handle old.labels.items old.waiting.items
-          (IsSame-refl _) (nothing_moves below.adapter) none_recorded none_told refl;
+      by = IsRightBy-unmoved (view_of limits below old) none_told none_recorded;
     })
 opened_right limits below old partition OkReply new h none_told none_recorded opens = absurd opens
 opened_right limits below old partition (Requested id) new h none_told none_recorded opens = absurd opens

@@ -1,19 +1,16 @@
 -- The labels of events that were carried out are a run, which obeys the laws of runs.
-use Rattle.std.proofs.Common.{◌≡◌, inl, inr, ℕ, List, [], ◌∷◌, ◌++◌, refl, sym, ◌∙◌, ap, subst, map, append_assoc}
-use Rattle.std.specs.Prelude.{Any, slice_get, take, length}
-use Rattle.std.proofs.lemmas.List.{append-nil}
-use Rattle.sector.specs.declared.Extent.{Extent}
-use Rattle.srb.specs.Adapter.{AdapterView}
+use Rattle.std.proofs.Common.{◌≡◌, ℕ, List, [], ◌∷◌, ◌++◌, refl, sym, ◌∙◌, subst}
+use Rattle.std.specs.Prelude.{Any}
+use Rattle.sector.specs.Extents.{IsIn}
 use Rattle.ntstatus.specs.declared.NtStatus.{NtStatus}
 use Rattle.ntstatus.specs.declared.NtStatus.TheVariants.{Success}
 use Rattle.device.specs.declared.ClientRequest.{ClientRequest}
 use Rattle.device.specs.declared.Label.{Label}
-use Rattle.device.specs.declared.Label.TheVariants.{Call, Answer}
 use Rattle.device.specs.Rules.{Rules}
 use Rattle.device.specs.State.{State}
 use Rattle.device.specs.Calling.{Opens}
 use Rattle.device.specs.Answering.{Answers}
-use Rattle.device.specs.Step.{Step, Run}
+use Rattle.device.specs.Step.{Run}
 use Rattle.device.proofs.Same.{IsSame-refl, Run-append}
 use Rattle.machine_laws.specs.Reached.{IsReached, RunsGoOn}
 use Rattle.machine_laws.specs.SoloLaws.{SoloReadsHold, SoloWritesHold, FailedWritesHold, LabelsAreOfOne}
@@ -21,8 +18,8 @@ use Rattle.machine_laws.specs.WriteLaws.{StepsKeepArrays}
 use Rattle.compose.specs.declared.Event.{Event}
 use Rattle.compose.specs.declared.Shown.{Shown}
 use Rattle.compose.specs.Shown.{StackView}
-use Rattle.compose.specs.Right.{Covers, KeepsOutside, IsRight}
-use Rattle.compose.specs.Runs.{Carries, CarriesAll, labels_shown, IsOfRun, ObeysLaws, IsLawful, RunsObeyLaws}
+use Rattle.compose.specs.Right.{KeepsOutside}
+use Rattle.compose.specs.Runs.{Carries, CarriesAll, labels_shown, IsOfRun, IsLawful, RunsObeyLaws}
 
 -- THE LAWS
 
@@ -78,7 +75,7 @@ leads_then : (old mid new : StackView) (labels more : List Label) → Leads old 
 leads_then old mid new labels more a b = record {
   same_rules = b.same_rules ∙ a.same_rules;
   run = Run-append old.rules old.state labels mid.state more new.state a.run (subst (λ rules. Run rules mid.state more new.state) a.same_rules b.run);
-  outside = λ sector apart. b.outside sector (subst (λ (rules : Rules). Any (Covers sector) rules.partitions → ⊥) (sym a.same_rules) apart) ∙ a.outside sector apart;
+  outside = λ sector apart. b.outside sector (subst (λ (rules : Rules). Any (IsIn sector) rules.partitions → ⊥) (sym a.same_rules) apart) ∙ a.outside sector apart;
 }
 
 leads : (old : StackView) (events : List Event) (shown : List Shown) (new : StackView) → CarriesAll old events shown new → Leads old new (labels_shown shown)

@@ -4,6 +4,7 @@ use Rattle.std.specs.Prelude.{All, Any, slice_get}
 use Rattle.std.proofs.lemmas.List.{take_all}
 use Rattle.std.proofs.lemmas.List.Elements.{All-nil, All-head, All-tail, All-cons}
 use Rattle.sector.specs.declared.Extent.{Extent}
+use Rattle.sector.specs.Extents.{IsIn}
 use Rattle.srb.specs.Adapter.{AdapterView}
 use Rattle.srb.specs.declared.DeviceLabel.{DeviceLabel}
 use Rattle.device.specs.declared.Label.{Label}
@@ -16,7 +17,7 @@ use Rattle.device.specs.Served.{as_label}
 use Rattle.device.specs.Step.{Run}
 use Rattle.compose.specs.declared.Answer.{Answer}
 use Rattle.compose.specs.OnDisk.{end_of, rules_over, open_as_called, on_partition, IsOnDisk}
-use Rattle.compose.specs.Right.{as_answer, Covers, KeepsOutside}
+use Rattle.compose.specs.Right.{as_answer, KeepsOutside}
 use Rattle.compose.proofs.PartSlices.{Keeps}
 use Rattle.compose.proofs.OnDisk.{IsSame-on_partition}
 use Rattle.compose.proofs.OnDiskSteps.{IsOnDisk-along, IsOnDisk-DeviceStep, DeviceStep-over, DeviceStep-keeps}
@@ -50,7 +51,7 @@ module _ (partitions : List Extent) (many window : ℕ) (below : Rules) where
 
   -- the disk's array keeps the sectors of no partition
   abbrev pub KeepsSectors : State → State → Type 0
-  KeepsSectors s s' = (i : ℕ) → (Any (Covers i) partitions → ⊥) → slice_get (get_or s'.arrays 0 []) i ≡ slice_get (get_or s.arrays 0 []) i
+  KeepsSectors s s' = (i : ℕ) → (Any (IsIn i) partitions → ⊥) → slice_get (get_or s'.arrays 0 []) i ≡ slice_get (get_or s.arrays 0 []) i
 
   pub Run-told : (next : ℕ) (labels : List Label) (s s' : State) → All IsToldBelow labels → IsOnDisk over below s → Run below s labels s'
       → Run over (on_partition over next s) labels (on_partition over next s') × IsOnDisk over below s' × KeepsSectors s s'

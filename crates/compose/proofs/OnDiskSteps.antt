@@ -5,6 +5,7 @@ use Rattle.std.proofs.lemmas.List.{length-map, length-replicate, get_or-map}
 use Rattle.std.proofs.lemmas.List.Sorted.{IsPermutation-sym, IsPermutation-map, All-permutation, Contains-permutation}
 use Rattle.std.proofs.lemmas.List.Elements.{All-head, All-tail, All-cons, All-map, All-contains}
 use Rattle.sector.specs.declared.Extent.{Extent}
+use Rattle.sector.specs.Extents.{IsIn}
 use Rattle.sector.specs.Splice.{splice}
 use Rattle.cdb.specs.declared.Cdb.TheVariants.{Read10, Write10}
 use Rattle.cdb.specs.Meaning.{Means}
@@ -27,7 +28,6 @@ use Rattle.device.proofs.Placed.{ArePlaced-same, ArePlaced-DeviceStep, leaves}
 use Rattle.device.proofs.Owners.{Owns, owns}
 use Rattle.device.proofs.Splicing.{length-splice}
 use Rattle.compose.specs.OnDisk.{first_of, end_of, rules_over, as_called, open_as_called, on_partition, LiesInside, IsOnDisk}
-use Rattle.compose.specs.Right.{Covers}
 use Rattle.compose.proofs.PartSlices.{slice_of_partition, write_of_partition, Keeps, Keeps-none, Keeps-splice, sector_of_offset}
 use Rattle.compose.proofs.OnDisk.{IsSame-on_partition}
 
@@ -332,7 +332,7 @@ module _ (partitions : List Extent) (many window : ℕ) (below : Rules) where
 
   -- the sectors of no partition stay
   pub Run-keeps : (labels : List DeviceLabel) (s s' : State) → IsOnDisk over below s → Run below s (map as_label labels) s'
-      → (i : ℕ) → (Any (Covers i) partitions → ⊥) → slice_get (get_or s'.arrays 0 []) i ≡ slice_get (get_or s.arrays 0 []) i
+      → (i : ℕ) → (Any (IsIn i) partitions → ⊥) → slice_get (get_or s'.arrays 0 []) i ≡ slice_get (get_or s.arrays 0 []) i
   Run-keeps [] s s' k run i apart = ap (λ ys. slice_get (get_or ys 0 []) i) (sym run.arrays)
   Run-keeps (label ∷ labels) s s' k (mid, inl (free, step), run) i apart =
       let a : (new : List (List ℕ)) × (mid.arrays ≡ new ∷ []) × Keeps partitions (get_or s.arrays 0 []) new = DeviceStep-keeps s label mid k step in

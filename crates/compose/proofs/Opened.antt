@@ -1,27 +1,22 @@
 -- A stack before its first event is in order.
-use Rattle.std.proofs.Common.{◌≡◌, ◌<◌, ◌≤◌, ℕ, zero, suc, ◌+◌, ◌^◌, false, true, List, [], ◌∷◌, ◌⊎◌, inl, inr, All, Option, Some, None, refl, sym, ◌∙◌, ap, subst, map, length, get_or, take_all, arith, rules}
-use Rattle.std.specs.Prelude.{slice_get}
+use Rattle.std.proofs.Common.{◌≡◌, ◌≤◌, ℕ, zero, suc, false, List, [], inl, inr, All, Option, Some, None, refl, sym, ◌∙◌, ap, subst, map, length, get_or, take_all, arith, rules}
 use Rattle.std.proofs.lemmas.List.Elements.{All-nil, All-head}
 use Rattle.slab.specs.Slab.{Slab, get, slab_len}
 use Rattle.sector.specs.declared.Extent.{Extent}
 use Rattle.device.specs.Map.{IsMap, IsPartition}
-use Rattle.device.specs.Rules.{Rules, sectors_of}
-use Rattle.device.specs.State.{OpenRequest as OpenBelow, State, opening}
-use Rattle.device.specs.Settled.{Settled, IsHeld, WaitsIfCancelled, Waits, IsAllSent, IsHeldBack, HasMore, IsAtWork, IsWithin, started_count}
+use Rattle.device.specs.Rules.{Rules}
+use Rattle.device.specs.State.{State, opening}
+use Rattle.device.specs.Settled.{Settled, IsHeld, WaitsIfCancelled, Waits, IsAllSent, IsHeldBack, HasMore, IsAtWork, IsWithin}
 use Rattle.device.specs.Seen.{Seen, IsOrderly, sectors_in}
 use Rattle.device.specs.Served.{IsUnfinished}
 use Rattle.device.proofs.Same.{IsSame-refl}
 use Rattle.machine_laws.specs.Reached.{AreWhole, IsReached}
-use Rattle.machine_laws.specs.Sectors.{array_at}
 use Rattle.compose.specs.declared.admission.Limits.{Limits}
-use Rattle.compose.specs.declared.tables.OpenRequest.{OpenRequest}
 use Rattle.compose.specs.declared.tables.Tables.{Tables}
 use Rattle.compose.specs.declared.Answer.{Answer}
-use Rattle.compose.specs.Calls.{number_limit}
 use Rattle.compose.specs.OnDisk.{end_of, rules_over, on_partition, IsOnDisk}
-use Rattle.compose.specs.Ordering.{HasOtherNumber}
 use Rattle.compose.specs.Right.{AreRising, answer_number}
-use Rattle.compose.specs.Sound.{partitions_of, rules_of, FitsBelow, HasNumbers, IsHeldAt, AreHeld, HasPlaces, IsTopmost, IsOnMap, WasGiven, AreApart, IsSound, IsAtRest, IsKept}
+use Rattle.compose.specs.Sound.{partitions_of, rules_of, FitsBelow, HasNumbers, IsHeldAt, AreHeld, HasPlaces, IsTopmost, WasGiven, IsSound, IsKept}
 use Rattle.compose.specs.Opening.{IsUnasked, AreFor, AreEmpty}
 use Rattle.compose.proofs.PartSlices.{slice_is_part, length-part}
 use Rattle.compose.proofs.OnDiskOpening.{IsOnDisk-opening}

@@ -6,12 +6,12 @@ use Rattle.std.proofs.lemmas.Option.{slice_get-get_or, slice_get_past}
 use Rattle.std.proofs.lemmas.List.{get_or-take, get_or-drop, drop-take, take-take, drop-drop, same_lists}
 use Rattle.std.proofs.Math.Nat.{mul-add-div_right}
 use Rattle.sector.specs.declared.Extent.{Extent}
+use Rattle.sector.specs.Extents.{IsIn}
 use Rattle.sector.specs.Splice.{splice}
 use Rattle.device.specs.Seen.{sectors_in}
 use Rattle.device.proofs.Splicing.{length-splice}
 use Rattle.device.proofs.Placed.{get_or-splice_inside, get_or-splice_below, get_or-splice_above}
 use Rattle.compose.specs.OnDisk.{first_of, end_of}
-use Rattle.compose.specs.Right.{Covers}
 
 -- the part of so many items from a place on
 abbrev pub part : {X : Type 0} → List X → ℕ → ℕ → List X
@@ -107,7 +107,7 @@ sectors_of_front (extent ∷ other ∷ partitions) sectors count single inside =
 -- the sectors that no partition has stay
 pub record Keeps (partitions : List Extent) (old new : List (List ℕ)) : Type 0 where
   pub same_length : length new ≡ length old
-  pub outside : (i : ℕ) → (Any (Covers i) partitions → ⊥) → slice_get new i ≡ slice_get old i
+  pub outside : (i : ℕ) → (Any (IsIn i) partitions → ⊥) → slice_get new i ≡ slice_get old i
 
 pub Keeps-none : (partitions : List Extent) (sectors : List (List ℕ)) → Keeps partitions sectors sectors
 Keeps-none partitions sectors = record { same_length = refl; outside = λ i apart. refl }
@@ -118,7 +118,7 @@ slice_get-same xs ys i same e = elim (cases_lt i (length xs)) [
   | inr past ↦ slice_get_past xs i past ∙ sym (slice_get_past ys i (omega arith))
 ]
 
-apart_from : (partitions : List Extent) (i : ℕ) → length partitions ≤ 1 → (Any (Covers i) partitions → ⊥) → (i < first_of partitions) ⊎ (end_of partitions ≤ i)
+apart_from : (partitions : List Extent) (i : ℕ) → length partitions ≤ 1 → (Any (IsIn i) partitions → ⊥) → (i < first_of partitions) ⊎ (end_of partitions ≤ i)
 apart_from [] i single apart = inr (omega arith)
 apart_from (extent ∷ []) i single apart = elim (cases_lt i extent.first) [
   | inl below ↦ inl below

@@ -1,5 +1,5 @@
 -- Steps in which the device below does nothing: what is told of them, and how the tables stay sound.
-use Rattle.std.proofs.Common.{◌≡◌, inl, ℕ, List, [], ◌++◌, Option, Some, None, refl, sym, ◌∙◌, ap, subst, arith}
+use Rattle.std.proofs.Common.{◌≡◌, ℕ, List, [], ◌++◌, Option, Some, None, refl, sym, ◌∙◌, ap, subst}
 use Rattle.std.specs.Prelude.{IsPermutation}
 use Rattle.std.proofs.lemmas.List.{append-nil}
 use Rattle.std.proofs.lemmas.List.Sorted.{IsPermutation-refl}
@@ -10,6 +10,7 @@ use Rattle.device.specs.State.{State}
 use Rattle.device.specs.Step.{Run}
 use Rattle.device.specs.Seen.{Seen}
 use Rattle.device.specs.Served.{Reserves}
+use Rattle.device.proofs.Same.{IsSame-refl}
 use Rattle.compose.specs.declared.Answer.{Answer}
 use Rattle.compose.specs.declared.OpenHandle.{OpenHandle}
 use Rattle.compose.specs.Shown.{StackView, Holder}
@@ -20,15 +21,7 @@ none_answered None = refl
 none_answered (Some holder) = refl
 
 pub nothing_moves : (v : AdapterView) → MovesUnseen v v
-nothing_moves v = record {
-  tags = v.tags;
-  failures = v.failures;
-  reserved = v.reserved;
-  in_use = inl (IsPermutation-refl v.tags);
-  counted = omega arith;
-  after = refl;
-  lasts = λ extent reserved. reserved;
-}
+nothing_moves v = record { reserved = v.reserved; after = refl; lasts = λ extent reserved. reserved }
 
 -- what a step tells that only has labels of its own
 abbrev pub tells_own : StackView → List Label → Told
@@ -53,6 +46,11 @@ right_alone v own s reserved handles next_handle labels answers run moves none_r
   holders = λ slot. none_answered _;
   waiting = subst (λ now. IsPermutation now v.answers) (sym waits) (IsPermutation-refl v.answers);
 }
+
+-- nothing is told, and nothing changes
+pub IsRightBy-unmoved : (v : StackView) → v.labels ≡ [] → v.adapter.labels ≡ [] → IsRightBy (tells_nothing v) v v
+IsRightBy-unmoved v none_told none_recorded =
+    right_alone v [] v.state v.adapter.reserved v.handles v.next_handle v.labels v.answers (IsSame-refl v.state) (nothing_moves v.adapter) none_recorded none_told refl
 
 pub none_reserved : (v : Seen) → Reserves v v
 none_reserved v = record { same = refl; adapter = nothing_moves v.adapter }

@@ -1,26 +1,24 @@
 -- From the moves of the device below, and what was collected after them, to a right step of the stack.
-use Rattle.std.proofs.Common.{◌≡◌, ◌≤◌, inl, inr, ℕ, ◌+◌, List, [], ◌∷◌, ◌++◌, None, sym, ◌∙◌, ap, subst, map, length, get_or, append_assoc}
-use Rattle.std.specs.Prelude.{IsPermutation, All, option_map, slice_get, slice_index_or}
+use Rattle.std.proofs.Common.{◌≡◌, ℕ, List, [], ◌++◌, None, sym, ◌∙◌, ap, subst, map, length, get_or, append_assoc}
+use Rattle.std.specs.Prelude.{IsPermutation, option_map, slice_get, slice_index_or}
 use Rattle.std.proofs.Math.ListN.{get_or-map}
 use Rattle.std.proofs.lemmas.List.{map-append}
 use Rattle.std.proofs.lemmas.List.Sorted.{All-permutation, IsPermutation-sym}
-use Rattle.slab.specs.Slab.{Slab, get}
 use Rattle.srb.specs.declared.DeviceLabel.{DeviceLabel}
-use Rattle.srb.specs.Adapter.{AdapterView, MovesByAll}
+use Rattle.srb.specs.Adapter.{AdapterView}
 use Rattle.device.specs.declared.Label.{Label}
 use Rattle.device.specs.Rules.{Rules}
-use Rattle.device.specs.State.{State, IsSame}
+use Rattle.device.specs.State.{State}
 use Rattle.device.specs.Step.{Run}
 use Rattle.device.specs.Seen.{Seen, Packet, IsRead}
 use Rattle.device.specs.Served.{as_label, Moves}
 use Rattle.device.proofs.Same.{Run-append}
 use Rattle.compose.specs.declared.Answer.{Answer}
 use Rattle.compose.specs.declared.admission.Limits.{Limits}
-use Rattle.compose.specs.declared.tables.OpenRequest.{OpenRequest as OpenEntry}
 use Rattle.compose.specs.declared.tables.Tables.{Tables}
 use Rattle.compose.specs.OnDisk.{on_partition, IsOnDisk}
-use Rattle.compose.specs.Right.{as_answer, labels_of, Told, AdapterMoves, KeepsOutside, IsRightBy, unless_answered}
-use Rattle.compose.specs.Sound.{partitions_of, rules_of, holder_of, holders_of, view_of, FitsBelow, HasNumbers, IsTopmost, IsSound, IsAtRest, Collects}
+use Rattle.compose.specs.Right.{as_answer, labels_of, Told, AdapterMoves, IsRightBy, unless_answered}
+use Rattle.compose.specs.Sound.{partitions_of, rules_of, holder_of, holders_of, view_of, FitsBelow, IsTopmost, IsSound, IsAtRest, Collects}
 use Rattle.compose.proofs.OnDiskSteps.{Run-over}
 use Rattle.compose.proofs.OnDiskRuns.{are_told, KeepsSectors, Run-told, same_sectors, keeps_outside}
 use Rattle.compose.proofs.AdapterJoins.{labels_moved, taken_joined}

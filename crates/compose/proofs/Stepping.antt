@@ -1,20 +1,16 @@
 -- What holds between two steps, as the stack shows it.
-use Rattle.std.proofs.Common.{◌≡◌, ◌≤◌, inl, inr, ℕ, List, [], ◌∷◌, ◌++◌, Option, Some, None, refl, sym, ◌∙◌, ap, subst, arith, map, length}
-use Rattle.std.specs.Prelude.{All, Contains, option_map, slice_index_or}
+use Rattle.std.proofs.Common.{◌≡◌, ◌≤◌, ℕ, List, [], ◌∷◌, ◌++◌, Option, Some, None, refl, sym, ◌∙◌, ap, subst, arith, map, length}
+use Rattle.std.specs.Prelude.{Contains, option_map, slice_index_or}
 use Rattle.std.proofs.Math.ListN.{get_or-map}
 use Rattle.std.proofs.lemmas.List.Elements.{All-map, All-weaker}
 use Rattle.slab.specs.Slab.{Slab, get, slab_len}
-use Rattle.device.specs.declared.Label.{Label}
 use Rattle.device.specs.Rules.{Rules}
-use Rattle.device.specs.State.{OpenRequest, State}
+use Rattle.device.specs.State.{OpenRequest}
 use Rattle.device.specs.Numbers.{request_number}
 use Rattle.device.specs.Settled.{Settled}
-use Rattle.device.specs.Step.{Run}
 use Rattle.device.specs.Seen.{Seen, IsRead}
 use Rattle.device.proofs.Same.{Run-append}
 use Rattle.machine_laws.specs.Reached.{IsReached}
-use Rattle.compose.specs.declared.Event.{Event}
-use Rattle.compose.specs.declared.Reply.{Reply}
 use Rattle.compose.specs.declared.admission.Limits.{Limits}
 use Rattle.compose.specs.declared.tables.OpenRequest.{OpenRequest as OpenEntry}
 use Rattle.compose.specs.declared.tables.Tables.{Tables}

@@ -91,6 +91,7 @@ pub record AnswersAtOnce (old : Tables) (q : ClientRequest) (status : NtStatus) 
   pub label_places : deque_capacity new.labels ≡ deque_capacity old.labels
   pub after : new ≡ record old { next_request = old.next_request + 1; labels = new.labels }
 
+-- the reply to a call that ends where it begins
 abbrev pub reply_at_once : ℕ → List ℕ → AtOnce → Reply
 reply_at_once number buffer Empty = Answered (record { number = number; status = Success; bytes = [] })
 reply_at_once number buffer (RefusedFor refusal) = Refused refusal buffer
@@ -124,6 +125,7 @@ pub record Gives (old : Tables) (partition partitions : ℕ) (handle : Handle) (
   pub slots : new.handles.capacity ≡ old.handles.capacity
   pub after : new ≡ record old { next_handle = old.next_handle + 1; handles = new.handles }
 
+-- a handle is given, or refused and nothing changes
 abbrev pub OpensHandle : Tables → ℕ → ℕ → Reply → Tables → Type 0
 OpensHandle old partition partitions (HandleReply handle) new = Gives old partition partitions handle new
 OpensHandle old partition partitions (Refused reason bytes) new =

@@ -12,17 +12,19 @@ use Rattle.compose.specs.declared.Refusal.TheVariants.{InvalidHandle, InvalidPar
 use Rattle.compose.specs.declared.OpenHandle.{OpenHandle}
 use Rattle.compose.specs.Shown.{StackView}
 
--- as many numbers are given out as there are, and one more
+-- numbers are below this one
 abbrev pub number_limit : ℕ
 number_limit = 2 ^ 62
 
+-- no number is left, where this is the next one
 abbrev pub are_used_up : ℕ → Bool
 are_used_up next = nat_le number_limit next
 
--- open handles at once
+-- as many handles may be open at once
 abbrev pub handle_limit : ℕ
 handle_limit = 64
 
+-- the status that stands for a refusal
 abbrev pub status_of_refusal : Refusal → NtStatus
 status_of_refusal InvalidHandle = HandleStatus
 status_of_refusal InvalidParameter = ParameterStatus
@@ -32,11 +34,12 @@ status_of_refusal InsufficientResources = ResourcesStatus
 status_of_refusal InvalidDeviceRequest = RequestStatus
 status_of_refusal NotFound = FoundStatus
 
--- the partition that a handle is open on, if it is
+-- the partition of the handle in a slot, where it has this number
 abbrev pub partition_at : Option OpenHandle → ℕ → Option ℕ
 partition_at None number = None
 partition_at (Some open') number = if open'.number == number then Some open'.partition else None
 
+-- the partition that a handle is open on, if it is open
 abbrev pub partition_of : List (Option OpenHandle) → Handle → Option ℕ
 partition_of handles handle = partition_at (slice_index_or handles handle.slot None) handle.number
 
@@ -57,7 +60,7 @@ call_on v handle kind offset buffer = record {
   bytes = bytes_called kind buffer;
 }
 
--- a refused call goes without its bytes, which went back to the caller
+-- the label of a refused call has no bytes: they went back to the caller
 abbrev pub without_bytes : ClientRequest → ClientRequest
 without_bytes q = record q { bytes = [] }
 

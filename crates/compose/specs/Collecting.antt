@@ -31,6 +31,7 @@ pub record IsAt (requests : Slab OpenRequest) (number slot : ℕ) : Type 0 where
   pub there : get requests slot ≡ Some request
   pub same_number : request.number ≡ number
 
+-- no open request has this number
 abbrev pub HasNone : Slab OpenRequest → ℕ → Type 0
 HasNone requests number = (slot : ℕ) (request : OpenRequest) → get requests slot ≡ Some request → request.number ≢ number
 
@@ -39,6 +40,7 @@ abbrev pub brought : Kind → NtStatus → List ℕ → List ℕ
 brought Read Success bytes = bytes
 brought kind status bytes = []
 
+-- the answer of an open request whose packet was finished
 abbrev pub answer_for : OpenRequest → Done → Answer
 answer_for request done = record {
   number = done.number;
@@ -50,6 +52,7 @@ answer_for request done = record {
 abbrev pub IsFilled : OpenRequest → Done → Type 0
 IsFilled request done = request.kind ≡ Read → done.status ≡ Success → length request.label_bytes ≡ length (payload_bytes done.payload)
 
+-- so for the request that was finished
 abbrev pub AreFilled : Slab OpenRequest → Done → Type 0
 AreFilled requests done = (slot : ℕ) (request : OpenRequest) → get requests slot ≡ Some request → request.number ≡ done.number → IsFilled request done
 

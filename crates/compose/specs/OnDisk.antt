@@ -27,6 +27,7 @@ rules_over partitions open_requests window below =
 abbrev pub as_called : Rules → ClientRequest → ClientRequest
 as_called rules q = record q { offset = q.offset - first_of rules.partitions * rules.sector_size }
 
+-- an open request of the disk as its client called it
 abbrev pub open_as_called : Rules → OpenRequest → OpenRequest
 open_as_called rules o = record o { request = as_called rules o.request }
 

@@ -1,5 +1,5 @@
 -- A stack before its first event.
-use Rattle.std.specs.Prelude.{◌≡◌, ◌<◌, ◌≤◌, ℕ, ◌^◌, false, List, [], ◌∷◌, Option, Some, None, Ok, map, length}
+use Rattle.std.specs.Prelude.{◌≡◌, ◌<◌, ◌≤◌, ◌^◌, false, List, [], ◌∷◌, Option, Some, None, Ok, map, length}
 use Rattle.sector.specs.declared.Extent.{Extent}
 use Rattle.srb.specs.Adapter.{AdapterView}
 use Rattle.device.specs.Map.{IsMap}
@@ -12,7 +12,7 @@ use Rattle.compose.specs.declared.tables.Tables.{Tables}
 use Rattle.compose.specs.Shown.{StackView}
 use Rattle.compose.specs.Calls.{number_limit}
 use Rattle.compose.specs.Sound.{partitions_of}
-use Rattle.compose.specs.Start.{told_partition, IsSameDisk}
+use Rattle.compose.specs.Start.{AreInRange, told_partition, IsSameDisk}
 
 -- the device below has the whole disk, and nothing was asked of it yet
 pub record IsUnasked (below : Seen) : Type 0 where
@@ -58,6 +58,7 @@ first_rules disk settings partitions = record {
 
 -- what a stack over this disk shows before its first event
 pub record IsFirstView (disk : AdapterView) (settings : Settings) (view : StackView) : Type 0 where
+  pub in_range : AreInRange settings
   pub partition : Option Extent
   pub told : told_partition disk ≡ Ok partition
   pub is_map : IsMap (length disk.sectors) (partitions_of partition)

@@ -12,5 +12,6 @@ abbrev pub lower_first : ℕ → List Answer → ℕ
 lower_first number [] = 0
 lower_first number (first ∷ rest) = if nat_lt first.number number then suc (lower_first number rest) else 0
 
+-- an answer of another request
 abbrev pub HasOtherNumber : ℕ → Answer → Type 0
 HasOtherNumber number answer = answer.number ≢ number

@@ -1,9 +1,10 @@
 -- When a step of the stack is right.
-use Rattle.std.specs.Prelude.{◌≡◌, ◌≢◌, ◌<◌, ◌≤◌, ◌⊎◌, ℕ, ◌+◌, ◌==◌, Bool, true, false, List, [], ◌∷◌, ◌++◌, Option, Some, None, map, length, slice_get, slice_index_or, All, Any, Contains, IsPermutation, if◌then◌else◌}
+use Rattle.std.specs.Prelude.{◌≡◌, ◌≢◌, ◌<◌, ◌≤◌, ◌⊎◌, ℕ, ◌+◌, ◌==◌, Bool, true, false, List, [], ◌∷◌, ◌++◌, Option, Some, None, map, slice_get, slice_index_or, All, Any, Contains, IsPermutation, if◌then◌else◌}
 use Rattle.std.specs.List.{list_any}
 use Rattle.ntstatus.specs.declared.NtStatus.{NtStatus}
 use Rattle.ntstatus.specs.declared.NtStatus.TheVariants.{Success}
 use Rattle.sector.specs.declared.Extent.{Extent}
+use Rattle.sector.specs.Extents.{IsIn}
 use Rattle.srb.specs.declared.Class.{Class}
 use Rattle.srb.specs.declared.DeviceLabel.{DeviceLabel}
 use Rattle.srb.specs.declared.DeviceLabel.TheVariants.{Return}
@@ -13,7 +14,7 @@ use Rattle.device.specs.declared.Kind.TheVariants.{Read, Write}
 use Rattle.device.specs.declared.ClientRequest.{ClientRequest}
 use Rattle.device.specs.declared.Label.{Label}
 use Rattle.device.specs.declared.Label.TheVariants.{Call, Answer as AnswerLabel}
-use Rattle.device.specs.State.{OpenRequest, Piece, State}
+use Rattle.device.specs.State.{OpenRequest, Piece}
 use Rattle.device.specs.Calling.{refusal}
 use Rattle.device.specs.Sending.{HasOtherTag}
 use Rattle.device.specs.Step.{Run}
@@ -28,20 +29,22 @@ use Rattle.compose.specs.declared.Refusal.{Refusal}
 use Rattle.compose.specs.declared.Refusal.TheVariants.{DeviceBusy, InsufficientResources}
 use Rattle.compose.specs.declared.Reply.{Reply}
 use Rattle.compose.specs.declared.Reply.TheVariants.{Handle as HandleReply, Ok as OkReply, Request as Requested, Answered, Refused, Ignored}
-use Rattle.compose.specs.declared.OpenHandle.{OpenHandle}
 use Rattle.compose.specs.Shown.{StackView, Holder}
 use Rattle.compose.specs.Calls.{are_used_up, status_of_refusal, call_on, without_bytes, open_refusal}
 
+-- the label of an answer
 abbrev pub as_answer : Answer → Label
 as_answer answer = AnswerLabel answer.number answer.status answer.bytes
 
+-- the number of the request that it answers
 abbrev pub answer_number : Answer → ℕ
 answer_number answer = answer.number
 
--- each number is above all before it
+-- another number is above this one
 abbrev pub IsAbove : ℕ → ℕ → Type 0
 IsAbove number other = number < other
 
+-- each number is above all before it
 abbrev pub AreRising : List ℕ → Type 0
 AreRising [] = Unit {0}
 AreRising (number ∷ numbers) = All (IsAbove number) numbers × AreRising numbers
@@ -51,24 +54,22 @@ pub record Updates {X : Type 0} (old new : List (Option X)) (slot : ℕ) (item :
   pub there : slice_index_or new slot None ≡ item
   pub others : (other : ℕ) → other ≢ slot → slice_index_or new other None ≡ slice_index_or old other None
 
--- a sector of a partition
-abbrev pub Covers : ℕ → Extent → Type 0
-Covers sector extent = (extent.first ≤ sector) × (sector < extent.first + extent.count)
-
--- sectors of no partition stay
+-- the sectors of no partition stay as they are
 abbrev pub KeepsOutside : List Extent → AdapterView → AdapterView → Type 0
 KeepsOutside partitions old new =
-    (sector : ℕ) → (Any (Covers sector) partitions → ⊥) → slice_get new.sectors sector ≡ slice_get old.sectors sector
+    (sector : ℕ) → (Any (IsIn sector) partitions → ⊥) → slice_get new.sectors sector ≡ slice_get old.sectors sector
 
--- WHAT A STEP TELLS: its own labels, the device's and the answers of admitted requests; and the open requests by slot,
--- with one that the step admitted, before those that it answered left
+-- WHAT A STEP TELLS
 
+-- a step's own labels, then the device's, then the answers of requests that were open; and the requests by slot that
+-- were open before it, with the one that it opened
 pub record Told : Type 0 where
   pub own : List Label
   pub device : List DeviceLabel
   pub answers : List Answer
   pub admitted : List (Option Holder)
 
+-- all of these labels in order
 abbrev pub labels_of : Told → List Label
 labels_of told = (told.own ++ map as_label told.device) ++ map as_answer told.answers
 
@@ -78,6 +79,7 @@ tells_nothing v = record { own = []; device = []; answers = []; admitted = v.hol
 
 -- THE TABLE: for each event what is told, its reply, and what becomes of the handles
 
+-- the handles stay as they are
 pub record SameHandles (old new : StackView) : Type 0 where
   pub handles : new.handles ≡ old.handles
   pub next_handle : new.next_handle ≡ old.next_handle
@@ -131,6 +133,7 @@ pub record IsGiven (old : StackView) (partition : ℕ) (handle : Handle) (new : 
   pub was_free : slice_index_or old.handles handle.slot None ≡ None
   pub opens : Updates old.handles new.handles handle.slot (Some (record { number = handle.number; partition = partition }))
 
+-- an open gives a handle, or is refused and changes nothing
 abbrev pub OpenReplies : StackView → ℕ → Reply → Told → StackView → Type 0
 OpenReplies old partition (HandleReply handle) told new = IsUnmoved old told new × IsGiven old partition handle new
 OpenReplies old partition (Refused reason bytes) told new =
@@ -150,9 +153,11 @@ pub record TellsAct (old : StackView) (tag : ℕ) (told : Told) : Type 0 where
   pub device : told.device ≡ label ∷ []
   pub holders : told.admitted ≡ old.holders
 
+-- the tag has no piece that could act
 pub record HasNoneFresh (old : StackView) (tag : ℕ) : Type 0 where
   pub none : (piece : Piece) → IsFreshOn old.state tag piece → ⊥
 
+-- an act is told, or there is none to tell and nothing happens
 abbrev pub ActReplies : StackView → ℕ → Reply → Told → StackView → Type 0
 ActReplies old tag OkReply told new = TellsAct old tag told
 ActReplies old tag Ignored told new = IsUnmoved old told new × HasNoneFresh old tag
@@ -173,6 +178,7 @@ pub record TellsFinish (old : StackView) (tag : ℕ) (told : Told) : Type 0 wher
   pub device : told.device ≡ Return piece.number class ∷ starts
   pub holders : told.admitted ≡ old.holders
 
+-- a return is told, or the tag is free and nothing happens
 abbrev pub FinishReplies : StackView → ℕ → Reply → Told → StackView → Type 0
 FinishReplies old tag OkReply told new = TellsFinish old tag told
 FinishReplies old tag Ignored told new = IsUnmoved old told new × All (HasOtherTag tag) old.state.pieces
@@ -181,6 +187,7 @@ FinishReplies old tag (Requested id) told new = ⊥
 FinishReplies old tag (Answered answer) told new = ⊥
 FinishReplies old tag (Refused reason bytes) told new = ⊥
 
+-- the row of each event
 abbrev pub Replies : StackView → Event → Reply → Told → StackView → Type 0
 Replies old (Open partition) reply told new = OpenReplies old partition reply told new
 Replies old (ReadCall handle offset buffer) reply told new =
@@ -192,10 +199,11 @@ Replies old (Finish tag) reply told new = FinishReplies old tag reply told new �
 
 -- A RIGHT STEP
 
+-- an answer is that of this open request
 abbrev pub is_answer_of : Holder → Answer → Bool
 is_answer_of holder answer = answer.number == holder.number
 
--- an open request's slot, but for one that was answered
+-- what a slot holds after these answers: its request, but for one that was answered
 abbrev pub unless_answered : List Answer → Option Holder → Option Holder
 unless_answered answers None = None
 unless_answered answers (Some holder) = if list_any (is_answer_of holder) answers then None else Some holder
@@ -206,7 +214,8 @@ pub record AdapterMoves (old : AdapterView) (labels : List DeviceLabel) (new : A
   pub moves : MovesByAll old labels moved
   pub taken : new ≡ record moved { labels = [] }
 
--- what is told leads from the old view to the new one
+-- what is told leads from the old view to the new one: its labels are a run of the machine, and the device's labels
+-- among them are all that the adapter did
 pub record IsRightBy (told : Told) (old new : StackView) : Type 0 where
   pub in_order : new.labels ≡ labels_of told
   pub rising : AreRising (map answer_number told.answers)
@@ -219,13 +228,14 @@ pub record IsRightBy (told : Told) (old new : StackView) : Type 0 where
   -- each answer of an admitted request waits to be taken
   pub waiting : IsPermutation new.answers (told.answers ++ old.answers)
 
--- a read or a write
+-- a read or a write that is right
 pub record IsRightCall (old : StackView) (handle : Handle) (kind : Kind) (offset : ℕ) (buffer : List ℕ) (reply : Reply) (new : StackView) : Type 0 where
   pub told : Told
   pub replies : CallReplies old handle (call_on old handle kind offset buffer) buffer reply told new
   pub handles : SameHandles old new
   pub by : IsRightBy told old new
 
+-- a step that is right: something can be told that fits the event's row and leads from the old view to the new one
 pub record IsRight (old : StackView) (event : Event) (reply : Reply) (new : StackView) : Type 0 where
   pub told : Told
   pub replies : Replies old event reply told new
@@ -233,10 +243,11 @@ pub record IsRight (old : StackView) (event : Event) (reply : Reply) (new : Stac
 
 -- WHAT HOLDS BETWEEN STEPS
 
--- the slot of an open request, by its number
+-- a slot of an open request, by its number
 abbrev pub HasSlot : List (Option Holder) → OpenRequest → Type 0
 HasSlot holders o = (slot : ℕ) × (holder : Holder) × (slice_index_or holders slot None ≡ Some holder) × (holder.number ≡ o.number)
 
+-- what a stack shows fits together
 pub record IsWhole (v : StackView) : Type 0 where
   -- the arrays and the pieces out are read from the adapter
   pub read : IsRead v.rules v.state v.adapter

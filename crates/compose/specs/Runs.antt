@@ -40,7 +40,7 @@ CarriesAll old (event ∷ events) (shown ∷ more) new = (mid : StackView) × Ca
 CarriesAll old [] (shown ∷ more) new = ⊥
 CarriesAll old (event ∷ events) [] new = ⊥
 
--- just the first of these events
+-- the first of these events were carried out, and no more
 pub record StopsAfter (old : StackView) (events : List Event) (stopped : RunStopped) (new : StackView) : Type 0 where
   pub within : stopped.done ≤ length events
   pub carries : CarriesAll old (take stopped.done events) stopped.shown.items new
@@ -67,7 +67,7 @@ pub record IsOfRun (rules : Rules) (s : State) (labels : List Label) (s' : State
   pub answers : Step rules ended (Answer number status bytes) after
   pub goes : Run rules after last s'
 
--- no other write meets it from its call to its answer
+-- no other write that shares a place with it is open from its call to its answer
 abbrev pub IsSoloIn : (rules : Rules) (s : State) (labels : List Label) (s' : State) (number : ℕ) (q : ClientRequest) (status : NtStatus) (bytes : List ℕ) (before after : State)
     → IsOfRun rules s labels s' number q status bytes before after → Type 0
 IsSoloIn rules s labels s' number q status bytes before after h = IsSolo rules number q h.called h.between h.ended h.run
@@ -79,6 +79,7 @@ WroteOrLeft rules number q before called between ended after run place =
     ⊎ (Sometime (WritesSector rules number (partition_number q) (sector_of rules q place)) rules called between ended run
     × (sector_at after (partition_number q) (sector_of rules q place) ≡ Some (bytes_for rules q place)))
 
+-- what is promised of the requests that a run calls and answers, and of its arrays
 pub record ObeysLaws (rules : Rules) (s : State) (labels : List Label) (s' : State) : Type 0 where
   -- a solo read that succeeds gives the bytes of the array at its call
   pub solo_reads : (number : ℕ) (q : ClientRequest) (bytes : List ℕ) (before after : State) (h : IsOfRun rules s labels s' number q Success bytes before after)
@@ -95,13 +96,13 @@ pub record ObeysLaws (rules : Rules) (s : State) (labels : List Label) (s' : Sta
       → Run rules s first before → Step rules before label after → Run rules after last s'
       → (p : ℕ) → (array_at after.arrays p ≡ array_at before.arrays p) ⊎ WritesPartition p before label
 
--- whatever is shown is a run from where it began, which obeys the laws and keeps the sectors of no partition
+-- all that is shown is one run, which obeys the laws; and the sectors of no partition stay as they are
 pub record IsLawful (old : StackView) (shown : List Shown) (new : StackView) : Type 0 where
   pub same_rules : new.rules ≡ old.rules
   pub run : Run old.rules old.state (labels_shown shown) new.state
   pub laws : ObeysLaws old.rules old.state (labels_shown shown) new.state
   pub outside : KeepsOutside old.rules.partitions old.adapter new.adapter
 
--- at each state that a run reaches
+-- every run from a state that can be reached obeys the laws
 abbrev pub RunsObeyLaws : Type 0
 RunsObeyLaws = (rules : Rules) (s : State) (labels : List Label) (s' : State) → IsReached rules s → ObeysLaws rules s labels s'

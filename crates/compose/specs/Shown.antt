@@ -1,13 +1,9 @@
 -- What a stack shows of itself.
-use Rattle.std.specs.Prelude.{◌≡◌, ◌<◌, ◌≤◌, ℕ, ◌+◌, ◌-◌, ◌*◌, Bool, false, List, [], ◌∷◌, Option, Some, None, map, length, slice_get, IsPermutation}
-use Rattle.slab.specs.Slab.{Slab, get, values}
-use Rattle.sector.specs.declared.Extent.{Extent}
+use Rattle.std.specs.Prelude.{ℕ, List, Option}
 use Rattle.srb.specs.Adapter.{AdapterView}
-use Rattle.device.specs.declared.ClientRequest.{ClientRequest}
 use Rattle.device.specs.declared.Label.{Label}
 use Rattle.device.specs.Rules.{Rules}
-use Rattle.device.specs.State.{OpenRequest, State}
-use Rattle.device.specs.Seen.{Seen, IsRead, sectors_in}
+use Rattle.device.specs.State.{State}
 use Rattle.compose.specs.declared.Answer.{Answer}
 use Rattle.compose.specs.declared.OpenHandle.{OpenHandle}
 
@@ -16,15 +12,17 @@ pub record Holder : Type 0 where
   pub number : ℕ
   pub handle : ℕ
 
+-- a stack as its user sees it
 pub record StackView : Type 0 where
   pub rules : Rules
   pub state : State
   pub adapter : AdapterView
-  -- by slot
+  -- the open ones, by slot
   pub handles : List (Option OpenHandle)
   pub next_handle : ℕ
+  -- the open requests, by slot
   pub holders : List (Option Holder)
   -- not yet taken, in order
   pub labels : List Label
-  -- of admitted requests, not yet taken, by rising numbers
+  -- those of requests that were open, not yet taken, by rising numbers
   pub answers : List Answer

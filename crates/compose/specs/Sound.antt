@@ -24,16 +24,20 @@ use Rattle.compose.specs.OnDisk.{rules_over, on_partition, end_of, IsOnDisk}
 use Rattle.compose.specs.Ordering.{HasOtherNumber}
 use Rattle.compose.specs.Right.{AreRising, answer_number, as_answer, unless_answered, AdapterMoves}
 
+-- the partitions of a stack: one, or none
 abbrev pub partitions_of : Option Extent → List Extent
 partitions_of None = []
 partitions_of (Some extent) = extent ∷ []
 
+-- the rules of a stack over those of the device below
 abbrev pub rules_of : Limits → Rules → Rules
 rules_of limits below = rules_over (partitions_of limits.partition) limits.open_requests limits.window below
 
+-- what is shown of an open request
 abbrev pub holder_of : OpenRequest → Holder
 holder_of request = record { number = request.number; handle = request.handle }
 
+-- and of all, by slot
 abbrev pub holders_of : Slab OpenRequest → List (Option Holder)
 holders_of requests = map (option_map holder_of) requests.slots
 
@@ -61,7 +65,7 @@ pub record FitsBelow (limits : Limits) (below : Seen) : Type 0 where
   pub no_window : below.rules.window ≡ None
   pub many : number_limit ≤ below.most
 
--- numbers that were given, none of them used up
+-- the next numbers are above all that were given, here and below
 pub record HasNumbers (below : Seen) (tables : Tables) : Type 0 where
   pub requests : tables.next_request ≤ number_limit
   pub handles : tables.next_handle ≤ number_limit
@@ -93,6 +97,7 @@ pub record HasPlaces (limits : Limits) (tables : Tables) : Type 0 where
   pub handles : (handle_limit ≤ tables.handles.capacity) × (tables.handles.capacity < 2 ^ 32)
   pub requests : (limits.open_requests ≤ tables.requests.capacity) × (tables.requests.capacity < 2 ^ 32)
 
+-- no driver above asks for this packet
 abbrev pub IsTopmost : Packet → Type 0
 IsTopmost packet = packet.above ≡ []
 
@@ -108,7 +113,7 @@ WasGiven next answer = answer.number < next
 abbrev pub AreApart : Slab OpenRequest → List Answer → Type 0
 AreApart requests answers = (slot : ℕ) (request : OpenRequest) → get requests slot ≡ Some request → All (HasOtherNumber request.number) answers
 
--- what holds with these answers put by, whose labels are not told yet
+-- what holds while these answers are put by, whose labels are not told yet
 pub record IsSoundWith (put_by : List Answer) (limits : Limits) (below : Seen) (tables : Tables) : Type 0 where
   pub fits : FitsBelow limits below
   pub numbers : HasNumbers below tables

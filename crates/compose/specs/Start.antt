@@ -1,7 +1,8 @@
 -- What a stack asks of its adapter before its first event, and what it starts as.
-use Rattle.std.specs.Prelude.{◌≡◌, ◌<◌, ◌≤◌, ℕ, ◌+◌, Bool, List, [], ◌∷◌, Option, Some, None, Result, Ok, Err, length, slice_range, get_or}
+use Rattle.std.specs.Prelude.{◌≡◌, ◌<◌, ◌≤◌, ℕ, ◌+◌, List, [], Option, Result, Ok, Err, length, slice_range, get_or}
 use Rattle.std.specs.List.{concat}
 use Rattle.ntstatus.specs.declared.NtStatus.{NtStatus}
+use Rattle.ntstatus.specs.Table.{status_of}
 use Rattle.sector.specs.declared.Extent.{Extent}
 use Rattle.cdb.specs.declared.Cdb.{Cdb}
 use Rattle.cdb.specs.declared.Cdb.TheVariants.{Read10, Write10, Sync10, ReadCapacity10}
@@ -49,7 +50,7 @@ pub record IsSameDisk (asked : ℕ) (old new : AdapterView) : Type 0 where
   pub accepted : new.accepted ≤ old.accepted + asked
   pub failures : old.failures ≤ new.failures
 
--- the data of a command that came back so
+-- what a command brought that came back in this class
 abbrev pub Brings : AdapterView → Cdb → List ℕ → Class → AdapterView → Type 0
 Brings old command bytes Good new = bytes ≡ bytes_brought old command
 Brings old command bytes Busy new = ⊥
@@ -73,10 +74,16 @@ pub record IsCapacityOf (disk : AdapterView) (capacity : Capacity) : Type 0 wher
   pub sectors : capacity.sectors ≡ length disk.sectors
   pub sector_size : capacity.sector_size ≡ disk.sector_size
 
+-- the status of a completion that is neither good nor busy
+pub record IsOfFailure (status : NtStatus) : Type 0 where
+  pub completion : Completion
+  pub is_bad : class_of completion ≡ Bad completion
+  pub means : status ≡ status_of completion.srb_status completion.scsi_status completion.sense
+
 -- why a disk could not be read: memory was refused, the adapter counted a failure, or the table is wrong
 abbrev pub IsReadFault : AdapterView → StartFault → AdapterView → Type 0
 IsReadFault disk NoMemory after = Unit {0}
-IsReadFault disk (DeviceFault status) after = disk.failures < after.failures
+IsReadFault disk (DeviceFault status) after = (disk.failures < after.failures) × IsOfFailure status
 IsReadFault disk (TableFault fault) after = told_partition disk ≡ Err fault
 IsReadFault disk SettingsFault after = ⊥
 
@@ -85,9 +92,9 @@ pub record AreInRange (settings : Settings) : Type 0 where
   pub window : (1 ≤ settings.window) × (settings.window ≤ 64)
   pub open_requests : (1 ≤ settings.open_requests) × (settings.open_requests ≤ settings.window)
 
--- why a stack could not be started: a setting is out of range, or else the disk could not be read
+-- why a stack could not be started: a setting is out of range, and nothing was sent; or else the disk could not be read
 abbrev pub IsStartFault : AdapterView → Settings → StartFault → AdapterView → Type 0
-IsStartFault disk settings SettingsFault after = ¬ (AreInRange settings)
+IsStartFault disk settings SettingsFault after = (¬ (AreInRange settings)) × (after ≡ disk)
 IsStartFault disk settings fault after = AreInRange settings × IsReadFault disk fault after
 
 -- what was left of an adapter over which no stack could be started

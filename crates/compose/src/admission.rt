@@ -22,10 +22,14 @@ use std::alloc::{AllocError, Global};
 /// The sizes of a stack, and its partition where it has one.
 #[derive(Debug, Clone, Copy, PartialEq, Eq)]
 pub(crate) struct Limits {
+    /// Bytes.
     pub(crate) sector_size: u64,
     pub(crate) partition: Option<Extent>,
+    /// Sectors of the longest request.
     pub(crate) longest: u64,
+    /// Requests at work at once.
     pub(crate) window: u32,
+    /// Requests open at once.
     pub(crate) open_requests: u32,
 }
 
@@ -155,6 +159,10 @@ pub(crate) struct Places {
 }
 
 /// Copies of a buffer, as many as a request of it needs.
+///
+/// # Errors
+///
+/// [`AllocError`] where memory for one was refused.
 pub(crate) fn places_for(alloc: Global, kind: Kind, buffer: &Bytes) -> Result<Places, AllocError>
     ensures { IfOk result (λ places. HasBuffers kind buffer.now places) }
 {

@@ -8,14 +8,12 @@ ghost use Rattle.compose.specs.Runs.{CarriesAll, IsLawful, RunsObeyLaws, StopsAf
 ghost use Rattle.compose.specs.Sound.{IsKept, rules_of, view_of};
 
 use crate::io_manager::IoManager;
+use crate::tables::LABEL_PLACES;
 use crate::{Answer, Event, Reply, RunStopped, Shown};
 use device::{Device, Kind, Label};
 use std::alloc::Global;
 use std::collections::VecDeque;
 use std::mem;
-
-/// Places for the labels of one step.
-pub(crate) const LABEL_PLACES: usize = 192;
 
 /// The laws of whole runs, for who calls it.
 fn laws_of_runs()
@@ -30,7 +28,7 @@ fn laws_of_runs()
 }
 
 impl<D: Device> IoManager<D> {
-    /// Carries one event out.
+    /// Carries one event out; its labels and answers then wait to be taken.
     pub(crate) fn step(&mut self, alloc: Global, event: Event) -> Reply
         requires takes_srb { D.TAKES_SRB ≡ true }
         requires locations { D.STACK_SIZE ≤ 4 }
@@ -67,7 +65,7 @@ impl<D: Device> IoManager<D> {
         ensures whole { IsWhole (view_of self.now.limits (D.seen self.now.device) self.now.tables) }
     {}
 
-    /// The earliest label of the last step that was not taken yet.
+    /// Takes the earliest label of the last step that was not taken yet.
     pub(crate) fn take_label(&mut self) -> Option<Label>
         requires rooms { D.rooms_out self.old.device [] }
         requires kept { IsKept self.old.limits (D.seen self.old.device) self.old.tables }
@@ -79,7 +77,7 @@ impl<D: Device> IoManager<D> {
         self.tables.labels.pop_front()
     }
 
-    /// The waiting answer with the lowest number.
+    /// Takes the waiting answer with the lowest number.
     pub(crate) fn take_answer(&mut self) -> Option<Answer>
         requires rooms { D.rooms_out self.old.device [] }
         requires kept { IsKept self.old.limits (D.seen self.old.device) self.old.tables }
@@ -91,7 +89,7 @@ impl<D: Device> IoManager<D> {
         self.tables.waiting.pop_front()
     }
 
-    /// All labels of the last step, for a queue with places for those of the next.
+    /// Takes all labels of the last step, for an empty queue with places for those of the next.
     fn take_labels(&mut self, spare: VecDeque<Label>) -> Vec<Label>
         requires rooms { D.rooms_out self.old.device [] }
         requires kept { IsKept self.old.limits (D.seen self.old.device) self.old.tables }
@@ -106,11 +104,11 @@ impl<D: Device> IoManager<D> {
         mem::replace(&mut self.tables.labels, spare).into_vec()
     }
 
-    /// Carries events out one after another, and gives the reply and the labels of each.
+    /// Carries events out one after another, and gives the reply and the labels of each, which are then taken.
     ///
     /// # Errors
     ///
-    /// Memory for the result was refused: just the first `done` events were carried out.
+    /// [`RunStopped`] where memory for the result was refused: just the first `done` events were carried out.
     pub(crate) fn run(
         &mut self,
         alloc: Global,

@@ -29,7 +29,7 @@ pub(crate) struct IoManager<D: Device> {
 }
 
 impl<D: Device> IoManager<D> {
-    /// A read or a write of the buffer's length.
+    /// A read or a write of the buffer's length, from byte `offset` of the handle's partition on.
     pub(crate) fn call(
         &mut self,
         alloc: Global,
@@ -87,7 +87,11 @@ impl<D: Device> IoManager<D> {
         self.tables.open(alloc, partition, self.limits.partitions())
     }
 
-    /// Makes all places that a request needs.
+    /// Makes all places that a request needs, so that nothing after it takes memory.
+    ///
+    /// # Errors
+    ///
+    /// [`AllocError`] where memory for one was refused; those that were made stay.
     fn reserve(
         &mut self,
         alloc: Global,

@@ -1,9 +1,11 @@
 //! The stack over an adapter, seen as one sector machine: calls and adapter steps go in, answers, bytes and labels
 //! come out.
 //!
-//! It promises to its user, by the contract of [`Stack::step`] (`right`, `settled`), that each step's labels are a run
-//! of the sector machine, that the adapter moved by just the device labels among them, and that the stack is settled
-//! after it. It does not promise that a request completes, nor an order between requests that overlap.
+//! It promises to its user, by the contract of [`Stack::step`] (`right`, `settled`, `whole`), that each step's labels are
+//! a run of the sector machine, that the adapter moved by just the device labels among them, and that the stack is
+//! settled after it; by that of [`Stack::run`] (`lawful`), that the labels of many events obey the laws of whole runs;
+//! and by that of [`Stack::start`] (`view`, `fault`), that a stack begins with the sectors of the partition that the
+//! disk's table gives. It does not promise that a request completes, nor an order between requests that overlap.
 #![tactic(auto)]
 
 mod admission;
@@ -24,21 +26,23 @@ use ntstatus::NtStatus;
 use sector::Bytes;
 pub use stack::Stack;
 
-/// An open handle: its place and its number. Numbers rise from 1 and are never given twice.
+/// An open handle: its slot in the stack's table, and its number. Numbers rise from 1 to 2^62 - 1 and are never given
+/// twice; a slot is.
 #[derive(Debug, Clone, Copy, PartialEq, Eq)]
 pub struct Handle {
     pub slot: u32,
     pub number: u64,
 }
 
-/// An open request: its place and its number. Numbers rise from 1 and are never given twice.
+/// An open request: its slot in the stack's table, and its number. Numbers rise from 1 to 2^62 - 1 and are never given
+/// twice; a slot is.
 #[derive(Debug, Clone, Copy, PartialEq, Eq)]
 pub struct Id {
     pub slot: u32,
     pub number: u64,
 }
 
-/// An open handle at its slot: its number, and the partition that it is open on.
+/// An open handle at its slot: its number, and the partition that it is open on, counted from 0.
 #[derive(Debug, Clone, Copy, PartialEq, Eq)]
 pub struct OpenHandle {
     pub number: u64,
@@ -57,43 +61,43 @@ pub struct Settings {
 /// What can happen to a stack.
 #[derive(Debug, Drop)]
 pub enum Event {
-    /// A handle on a partition (WDK: IRP_MJ_CREATE).
+    /// A handle on a partition, counted from 0 (WDK: IRP_MJ_CREATE).
     Open {
         partition: u8,
     },
-    /// A read of as many bytes as the buffer has, from `offset` bytes on.
+    /// A read of as many bytes as the buffer has, from byte `offset` of the handle's partition on (WDK: IRP_MJ_READ).
     Read {
         handle: Handle,
         offset: u64,
         buffer: Bytes,
     },
-    /// A write of these bytes, from `offset` bytes on.
+    /// A write of these bytes, from byte `offset` of the handle's partition on (WDK: IRP_MJ_WRITE).
     Write {
         handle: Handle,
         offset: u64,
         bytes: Bytes,
     },
-    /// The adapter carries out the command on a tag, or fails it.
+    /// The adapter carries out the command of the piece on a tag, or fails it. Tags count from 0.
     Act {
         tag: u8,
     },
-    /// The adapter hands the piece on a tag back.
+    /// The adapter hands the piece on a tag back, whether or not it acted.
     Finish {
         tag: u8,
     },
 }
 
-/// Why a call was refused.
+/// Why a call was refused. No event gives `DeletePending`, `InvalidDeviceRequest` or `NotFound` yet.
 #[derive(Debug, Clone, Copy, PartialEq, Eq)]
 pub enum Refusal {
     /// The handle isn't open.
     InvalidHandle,
-    /// Offset or length is no multiple of the sector size, past the partition or too long; or there is no such
-    /// partition.
+    /// Offset or length is no multiple of the sector size, the end is past the partition, or the length is above the
+    /// adapter's longest transfer; or there is no such partition to open.
     InvalidParameter,
     /// The stack is being removed.
     DeletePending,
-    /// As many requests or handles are open as may be, or the numbers are used up.
+    /// As many requests are open as the settings allow, or 64 handles; or the numbers are used up.
     DeviceBusy,
     /// Memory for the call was refused.
     InsufficientResources,
@@ -106,22 +110,25 @@ pub enum Refusal {
 /// How a request ended.
 #[derive(Debug, Drop)]
 pub struct Answer {
+    /// The request's.
     pub number: u64,
     pub status: NtStatus,
-    /// The bytes of a read that succeeded, else none.
+    /// Those of a read that succeeded, else none.
     pub bytes: Bytes,
 }
 
 /// What a step answers to its event.
 #[derive(Debug, Drop)]
 pub enum Reply {
+    /// To `Open`.
     Handle(Handle),
+    /// To `Act` and `Finish`: it was done.
     Ok,
     /// The request is open; its answer comes later.
     Request(Id),
-    /// A request of no bytes, answered at once.
+    /// The answer to a request of no bytes, which is no open request and has no other answer.
     Answered(Answer),
-    /// With the caller's bytes.
+    /// With the caller's bytes, unchanged.
     Refused { refusal: Refusal, bytes: Bytes },
     /// The tag has nothing to act on or to hand back.
     Ignored,
@@ -134,32 +141,41 @@ pub struct Shown {
     pub labels: Vec<Label>,
 }
 
-/// A run that stopped for want of memory for its own result, after just the first `done` events.
+/// A run that stopped for want of memory for its own result, after just the first `done` events, with what each of
+/// these showed.
 #[derive(Debug, Drop)]
 pub struct RunStopped {
     pub shown: Vec<Shown>,
     pub done: usize,
 }
 
-/// What is wrong with a partition table.
+/// What is wrong with the partition table in sector 0. Sectors have 512 or 4096 bytes and only the first entry is read,
+/// so no start gives `ShortSector` or `Overlap` yet.
 #[derive(Debug, Clone, Copy, PartialEq, Eq)]
 pub enum MbrFault {
+    /// There are fewer than 512 bytes.
     ShortSector,
+    /// Bytes 510 and 511 are not 55h AAh.
     NoSignature,
+    /// A used entry has 0 sectors.
     EmptyEntry,
+    /// A used entry begins at sector 0, where the table stands.
     CoversTable,
+    /// A used entry ends past the disk.
     PastEnd,
+    /// Two entries share a sector.
     Overlap,
 }
 
 /// Why a stack could not be started; the adapter is spent.
 #[derive(Debug, Clone, Copy, PartialEq, Eq)]
 pub enum StartFault {
-    /// A setting is out of range.
+    /// A setting is out of range; nothing was sent.
     Settings,
-    /// The adapter failed a command.
+    /// The adapter failed READ CAPACITY(10) or the read of sector 0, with this status.
     Device(NtStatus),
     /// Sector 0 holds no partition table that is right.
     Mbr(MbrFault),
+    /// Memory was refused.
     NoMemory,
 }

@@ -6,22 +6,20 @@ ghost use Rattle.compose.specs.Opening.{IsUnasked, AreFor, AreEmpty};
 
 use crate::admission::Limits;
 use crate::io_manager::IoManager;
-use crate::tables::Tables;
+use crate::tables::{HANDLE_LIMIT, LABEL_PLACES, Tables};
 use device::Device;
 use slab::Slab;
 use std::alloc::{AllocError, Global};
 use std::collections::VecDeque;
 
-/// As many handles as are open at once.
-const HANDLE_PLACES: usize = 64;
-
-/// More labels than a step tells.
-const LABEL_PLACES: usize = 192;
-
-/// As many answers as a step tells.
+/// Places for answers: as many as a step tells.
 const ANSWER_PLACES: usize = 64;
 
 /// A table with places for so many values, whose slots are numbers of 32 bits.
+///
+/// # Errors
+///
+/// [`AllocError`] where memory was refused, or for more places than that.
 fn slots<T: Drop>(alloc: Global, places: usize) -> Result<Slab<T>, AllocError>
     ensures empty { IfOk result (λ slab. slab.slots ≡ []) }
     ensures places { IfOk result (λ slab. places ≤ slab.capacity) }
@@ -47,7 +45,7 @@ impl Tables {
         Ok(Tables {
             next_request: 1,
             next_handle: 1,
-            handles: slots(alloc, HANDLE_PLACES)?,
+            handles: slots(alloc, HANDLE_LIMIT)?,
             requests: slots(alloc, limits.open_requests as usize)?,
             labels: VecDeque::with_capacity(alloc, LABEL_PLACES)?,
             answered: VecDeque::with_capacity(alloc, ANSWER_PLACES)?,

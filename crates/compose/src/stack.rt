@@ -1,4 +1,4 @@
-//! The stack over an adapter.
+//! The stack over an adapter: what its user calls.
 
 ghost use Rattle.std.specs.Prelude.{◌≡◌, [], IfOk, IfErr, MatchResult};
 ghost use Rattle.device.specs.Settled.{Settled};
@@ -38,8 +38,8 @@ impl<A: Adapter> Model for Stack<A> {
 }
 
 impl<A: Adapter> Stack<A> {
-    /// A stack over an adapter that has accepted nothing. It sends READ CAPACITY(10) and READ(10) of sector 0, and takes
-    /// their labels.
+    /// A stack over an adapter that has accepted nothing, with the partition of the first table entry, if that is used.
+    /// It sends READ CAPACITY(10) and READ(10) of sector 0, and takes their labels.
     ///
     /// # Errors
     ///
@@ -58,7 +58,8 @@ impl<A: Adapter> Stack<A> {
         }
     }
 
-    /// Carries one event out. All labels of the step before have to be taken.
+    /// Carries one event out; its labels and answers then wait to be taken. All labels of the step before have to be
+    /// taken. Only a read or a write takes memory, before anything is changed.
     pub fn step(&mut self, alloc: Global, event: Event) -> Reply
         requires taken { self.old.labels ≡ [] }
         ensures right { IsRight self.old event result self.new }
@@ -70,26 +71,27 @@ impl<A: Adapter> Stack<A> {
         reply
     }
 
-    /// The earliest label of the last step that was not taken yet.
+    /// Takes the earliest label of the last step that was not taken yet.
     pub fn take_label(&mut self) -> Option<Label>
         ensures { TakesFirst self.old result self.new }
     {
         self.manager.take_label()
     }
 
-    /// The waiting answer with the lowest number.
+    /// Takes the waiting answer with the lowest number. Answers wait from step to step, one for each `Answer` label of a
+    /// request that was open.
     pub fn take_answer(&mut self) -> Option<Answer>
         ensures { TakesAnswer self.old result self.new }
     {
         self.manager.take_answer()
     }
 
-    /// Carries events out one after another, and gives the reply and the labels of each. All labels of the step before
-    /// have to be taken.
+    /// Carries events out one after another, and gives the reply and the labels of each, which are then taken. All
+    /// labels of the step before have to be taken.
     ///
     /// # Errors
     ///
-    /// Memory for the result was refused: just the first `done` events were carried out.
+    /// [`RunStopped`] where memory for the result was refused: just the first `done` events were carried out.
     pub fn run(&mut self, alloc: Global, events: Vec<Event>) -> Result<Vec<Shown>, RunStopped>
         requires taken { self.old.labels ≡ [] }
         ensures carries { MatchResult result (λ shown. CarriesAll self.old events.items shown.items self.new) (λ stopped. StopsAfter self.old events.items stopped self.new) }

@@ -79,6 +79,10 @@ fn forget_labels<A: Adapter>(adapter: &mut A)
 }
 
 /// Two buffers of so many bytes.
+///
+/// # Errors
+///
+/// [`AllocError`] where memory for one was refused.
 fn buffers(alloc: Global, count: usize) -> Result<(Bytes, Bytes), AllocError>
     ensures { IfOk result (λ made. length made.0 ≡ length made.1) }
 {

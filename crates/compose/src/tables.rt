@@ -20,21 +20,28 @@ use std::collections::VecDeque;
 pub(crate) const NUMBER_LIMIT: u64 = 1 << 62;
 
 /// Handles open at once.
-const HANDLE_LIMIT: usize = 64;
+pub(crate) const HANDLE_LIMIT: usize = 64;
+
+/// Places for labels: more than a step tells.
+pub(crate) const LABEL_PLACES: usize = 192;
 
 /// An open request, at its slot.
 #[derive(Debug, Drop)]
 pub(crate) struct OpenRequest {
     pub(crate) number: u64,
+    /// The number of its call's handle.
     pub(crate) handle: u64,
     pub(crate) kind: Kind,
     /// As many bytes as a read brings, for its answer's label; a write has none here.
     pub(crate) label_bytes: Bytes,
 }
 
+/// All that the stack keeps itself. The places for what a step may add are there before it.
 #[derive(Drop)]
 pub(crate) struct Tables {
+    /// The number of the next request, from 1.
     pub(crate) next_request: u64,
+    /// The number of the next handle, from 1.
     pub(crate) next_handle: u64,
     pub(crate) handles: Slab<OpenHandle>,
     pub(crate) requests: Slab<OpenRequest>,

@@ -1,12 +1,12 @@
 -- No place fails with the status of a good or a busy return.
-use Rattle.std.proofs.Common.{subst, ◌≡◌, ◌≢◌, inl, inr, ℕ, ◌+◌, ◌==◌, ◌&&◌, Bool, true, false, List, [], ◌∷◌, Option, Some, None, refl, arith, map, length, bit_and}
-use Rattle.std.specs.Prelude.{IsPermutation, All, if◌then◌else◌}
+use Rattle.std.proofs.Common.{subst, ◌≡◌, ◌≢◌, inl, inr, ℕ, ◌+◌, ◌==◌, Bool, true, false, List, [], ◌∷◌, Option, Some, None, refl, arith, map, length, bit_and}
+use Rattle.std.specs.Prelude.{All, if◌then◌else◌}
 use Rattle.std.proofs.lemmas.List.Sorted.{IsPermutation-sym, All-permutation}
-use Rattle.std.proofs.lemmas.List.Elements.{All-nil, All-cons, All-head, All-tail, All-weaker, All-map, All-append, All-take, All-drop, All-replicate}
+use Rattle.std.proofs.lemmas.List.Elements.{All-nil, All-cons, All-tail, All-weaker, All-map, All-append, All-take, All-drop, All-replicate}
 use Rattle.ntstatus.specs.declared.NtStatus.{NtStatus}
-use Rattle.ntstatus.specs.declared.NtStatus.TheVariants.{Success, DeviceBusy, InvalidDeviceRequest, NonexistentSector}
+use Rattle.ntstatus.specs.declared.NtStatus.TheVariants.{Success, DeviceBusy}
 use Rattle.ntstatus.specs.declared.Sense.{Sense}
-use Rattle.ntstatus.specs.Table.{status_of, status_of_sense, used_sense}
+use Rattle.ntstatus.specs.Table.{status_of}
 use Rattle.sector.specs.Splice.{splice}
 use Rattle.srb.specs.declared.DeviceLabel.{DeviceLabel}
 use Rattle.srb.specs.declared.DeviceLabel.TheVariants.{Start, Act, Fault, Return}
@@ -26,6 +26,7 @@ use Rattle.device.specs.Holding.{held_back, beyond, as_timely, as_cancelled, Dra
 use Rattle.device.specs.Step.{DeviceStep, FreeStep, OwingStep, Step, Run}
 use Rattle.device.specs.Marks.{IsEarned, HasEarned, HaveEarned}
 use Rattle.ntstatus.proofs.Rows.{success_code, busy_code}
+use Rattle.device.proofs.Permuting.{All-changed}
 use Rattle.device.proofs.Same.{IsSame-sym}
 
 -- THE STATUS TABLE
@@ -77,11 +78,6 @@ module _ (rules : Rules) where
   HaveEarned-same : (s t : State) → IsSame s t → HaveEarned t → HaveEarned s
   HaveEarned-same s t h k = All-permutation HasEarned _ _ (IsPermutation-sym _ _ h.requests) k
 
-  changed : (s : State) (o o' : OpenRequest) (others : List OpenRequest) → IsPermutation s.requests (o ∷ others) → HaveEarned s → (HasEarned o → HasEarned o') → All HasEarned (o' ∷ others)
-  changed s o o' others p k keeps =
-      let all : All HasEarned (o ∷ others) = All-permutation HasEarned _ _ p k in
-      All-cons HasEarned o' others (keeps (All-head HasEarned o others all)) (All-tail HasEarned o others all)
-
   pub HaveEarned-Opens : (s : State) (number : ℕ) (q : ClientRequest) (s' : State) → HaveEarned s → Opens rules s number q s' → HaveEarned s'
   HaveEarned-Opens s number q s' k h = HaveEarned-same s' _ h.after (All-cons HasEarned (new_request rules s number q) s.requests (All-replicate (IsEarned (new_request rules s number q)) (place_count rules q) Untouched tt) k)
 
@@ -91,14 +87,14 @@ module _ (rules : Rules) where
 
   pub HaveEarned-DeviceStep : (s : State) (label : DeviceLabel) (s' : State) → HaveEarned s → DeviceStep rules s label s' → HaveEarned s'
   HaveEarned-DeviceStep s (Start piece tag block) s' k h =
-      HaveEarned-same s' _ h.after (changed s h.owner (sent h.places h.owner) h.others h.is_open k
+      HaveEarned-same s' _ h.after (All-changed HasEarned s.requests h.owner (sent h.places h.owner) h.others h.is_open k
       (λ all. All-splice (IsEarned (sent h.places h.owner)) h.owner.marks h.places.first _
       (All-weaker (IsEarned h.owner) (IsEarned (sent h.places h.owner)) (IsEarned-more h.owner (sent h.places h.owner) 0 (omega arith)) h.owner.marks all)
       (All-replicate (IsEarned (sent h.places h.owner)) h.places.count Out tt)))
   HaveEarned-DeviceStep s (Act piece bytes) s' k h = HaveEarned-same s' _ h.after k
   HaveEarned-DeviceStep s (Fault piece) s' k h = HaveEarned-same s' _ h.after k
   HaveEarned-DeviceStep s (Return piece class) s' k h =
-      HaveEarned-same s' _ h.after (changed s h.owner (given_back h.piece class h.marks h.owner) h.others h.is_open k
+      HaveEarned-same s' _ h.after (All-changed HasEarned s.requests h.owner (given_back h.piece class h.marks h.owner) h.others h.is_open k
       (λ all. All-splice (IsEarned (given_back h.piece class h.marks h.owner)) h.owner.marks h.piece.places.first h.marks
       (All-weaker (IsEarned h.owner) (IsEarned (given_back h.piece class h.marks h.owner)) (IsEarned-more h.owner (given_back h.piece class h.marks h.owner) _ refl) h.owner.marks all)
       (Leaves-earned h.piece class h.marks h.marks h.owner h.leaves)))
@@ -119,7 +115,7 @@ module _ (rules : Rules) where
   HaveEarned-FreeStep s (Device label) s' k h = HaveEarned-DeviceStep s label s' k h
   HaveEarned-FreeStep s (Answer number status bytes) s' k h = HaveEarned-Answers s number status bytes s' k h
   HaveEarned-FreeStep s (Cancel number) s' k h =
-      HaveEarned-same s' _ h.after (changed s h.request (as_cancelled h.request) h.others h.is_open k
+      HaveEarned-same s' _ h.after (All-changed HasEarned s.requests h.request (as_cancelled h.request) h.others h.is_open k
       (λ all. All-weaker (IsEarned h.request) (IsEarned (as_cancelled h.request)) (IsEarned-more h.request (as_cancelled h.request) 0 (omega arith)) h.request.marks all))
   HaveEarned-FreeStep s Pause s' k h = HaveEarned-same s' _ h.after (held_earned rules.window s.requests k)
   HaveEarned-FreeStep s Resume s' k h = HaveEarned-same s' _ h.after (timely_earned s.requests k)

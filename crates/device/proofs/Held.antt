@@ -3,7 +3,7 @@ use Rattle.std.proofs.Common.{◌≡◌, ◌≢◌, ◌<◌, ◌≤◌, inl, inr
 use Rattle.std.specs.Prelude.{IsPermutation, All, IsFalse, if◌then◌else◌}
 use Rattle.std.specs.List.{list_all}
 use Rattle.std.proofs.lemmas.List.Sorted.{IsPermutation-refl, IsPermutation-sym, IsPermutation-trans, IsPermutation-append_right, IsPermutation-middle, All-permutation, length_permutation}
-use Rattle.std.proofs.lemmas.List.Elements.{All-nil, All-cons, All-head, All-tail, All-weaker, All-map}
+use Rattle.std.proofs.lemmas.List.Elements.{All-nil, All-cons, All-tail, All-weaker, All-map}
 use Rattle.ntstatus.specs.declared.NtStatus.{NtStatus}
 use Rattle.ntstatus.specs.declared.NtStatus.TheVariants.{Success, DeletePending, NoSuchDevice}
 use Rattle.srb.specs.declared.DeviceLabel.{DeviceLabel}
@@ -22,6 +22,8 @@ use Rattle.device.specs.Step.{DeviceStep, Run}
 use Rattle.device.specs.Numbers.{HasPlaces}
 use Rattle.device.specs.Frame.{Frame, framed}
 use Rattle.device.specs.Window.{HasLowerNumber, IsAbove, IsTimely, Holds}
+use Rattle.device.proofs.Permuting.{All-changed}
+use Rattle.device.proofs.Same.{IsSame-reordered}
 use Rattle.device.proofs.Settling.{late}
 use Rattle.device.proofs.Window.{resumed, drained, same_below}
 
@@ -31,17 +33,7 @@ held_first below held o others p = IsPermutation-trans _ _ _ (IsPermutation-appe
 
 held_same : (f : Frame) (s : State) (held rest : List OpenRequest) (next : ℕ) → IsPermutation (s.requests ++ held) rest
     → IsSame (framed (record f { held = held; next_request = next }) s) (record (framed f s) { requests = rest; next_request = next })
-held_same f s held rest next p = record {
-  arrays = refl;
-  next_request = refl;
-  next_piece = refl;
-  requests = p;
-  pieces = IsPermutation-refl _;
-  owed = refl;
-  paused = refl;
-  removing = refl;
-  removed = refl;
-}
+held_same f s held rest next p = IsSame-reordered (record (framed f s) { next_request = next }) _ _ _ _ p (IsPermutation-refl _)
 
 module _ (f : Frame) (rules : Rules) where
   -- a request that is held at its call
@@ -137,22 +129,19 @@ module _ (window : ℕ) (f : Frame) where
   Holds-changed : (s s' : State) (o o' : OpenRequest) (others : List OpenRequest) → IsPermutation s.requests (o ∷ others) → IsPermutation s'.requests (o' ∷ others) → s'.paused ≡ s.paused
       → o'.number ≡ o.number → o'.late ≡ o.late → Holds window f s → Holds window f s'
   Holds-changed s s' o o' others p p' paused number late h =
-      let timely : All IsTimely (o ∷ others) = All-permutation IsTimely _ _ p h.timely in
       let before : length (o ∷ others) ≡ length s.requests = length_permutation _ _ p in
       let after : length (o' ∷ others) ≡ length s'.requests = length_permutation _ _ p' in
       let few : length s.requests ≤ window = h.within in
       record {
         above = All-weaker (IsAbove s.requests) (IsAbove s'.requests) keeps f.held h.above;
-        timely = All-permutation IsTimely _ _ (IsPermutation-sym _ _ p') (All-cons IsTimely o' others (late ∙ All-head IsTimely o others timely) (All-tail IsTimely o others timely));
+        timely = All-permutation IsTimely _ _ (IsPermutation-sym _ _ p') (All-changed IsTimely s.requests o o' others p h.timely (λ t. late ∙ t));
         not_paused = paused ∙ h.not_paused;
         within = omega arith;
       }
     where
       keeps : (x : OpenRequest) → IsAbove s.requests x → IsAbove s'.requests x
       keeps x all =
-          let first : All (HasLowerNumber x) (o ∷ others) = All-permutation (HasLowerNumber x) _ _ p all in
-          let low : o.number < x.number = All-head (HasLowerNumber x) o others first in
-          All-permutation (HasLowerNumber x) _ _ (IsPermutation-sym _ _ p') (All-cons (HasLowerNumber x) o' others (rw number low) (All-tail (HasLowerNumber x) o others first))
+          All-permutation (HasLowerNumber x) _ _ (IsPermutation-sym _ _ p') (All-changed (HasLowerNumber x) s.requests o o' others p all (λ low. rw number low))
 
   Holds-same : (s s' : State) → IsPermutation s'.requests s.requests → s'.paused ≡ s.paused → Holds window f s → Holds window f s'
   Holds-same s s' p paused h =

@@ -22,13 +22,12 @@ use Rattle.device.specs.Sending.{Leaves, status_of_completion, sent, given_back,
 use Rattle.device.specs.Answering.{Answers}
 use Rattle.device.specs.Holding.{held_back, beyond, as_timely, as_cancelled, Drains}
 use Rattle.device.specs.Step.{DeviceStep, FreeStep, OwingStep, Step, Run}
-use Rattle.device.specs.Numbers.{request_number, IsGiven, AreDistinct}
+use Rattle.device.specs.Numbers.{IsGiven, AreDistinct}
 use Rattle.device.specs.Pieces.{IsOwner, IsCovered, IsPlaced, ArePlaced}
 use Rattle.device.specs.Marks.{AreAlike, HasAlike, IsAllOf, IsAll, IsLike, AreOnePiece}
 use Rattle.device.proofs.Same.{IsSame-sym}
 use Rattle.device.proofs.Numbers.{AreDistinct-Step}
-use Rattle.device.proofs.Permuting.{distinct_first}
-use Rattle.device.proofs.Placed.{is_inside, leaves, ArePlaced-Step}
+use Rattle.device.proofs.Placed.{is_inside, leaves, differ_first, ArePlaced-Step}
 
 -- a part that is the whole
 whole_splice : {X : Type 0} (xs : List X) (first : ℕ) (more : List X) → first ≡ 0 → length xs ≤ length more → splice xs first more ≡ more
@@ -120,9 +119,6 @@ pub AreOnePiece-opening : (arrays : List (List (List ℕ))) → AreOnePiece (ope
 AreOnePiece-opening arrays = record { alike = All-nil HasAlike; whole = All-nil (IsAll []) }
 
 module _ (rules : Rules) (one : IsTrue rules.one_piece) where
-  differ_first : (s : State) (o : OpenRequest) (others : List OpenRequest) → AreDistinct s → IsPermutation s.requests (o ∷ others) → All (λ x. x.number ≢ o.number) others
-  differ_first s o others d p = distinct_first request_number s.requests o others d.requests p
-
   pub AreOnePiece-Opens : (s : State) (number : ℕ) (q : ClientRequest) (s' : State) → AreDistinct s → ArePlaced s → AreOnePiece s → Opens rules s number q s' → AreOnePiece s'
   AreOnePiece-Opens s number q s' d placed k h = AreOnePiece-same s' _ h.after (opened s k (number + 1) (new_request rules s number q) (place_count rules q) (other h.new_number) refl placed.pieces)
     where

@@ -5,8 +5,14 @@ use Rattle.std.specs.List.{IsDistinct, AllByRecursion, swap}
 use Rattle.std.proofs.lemmas.Bool.Decides.{nat_tests}
 use Rattle.std.proofs.lemmas.Map.Keys.{IsDistinct-head, IsDistinct-IsPermutation}
 use Rattle.std.proofs.lemmas.List.Edits.{swap_is}
-use Rattle.std.proofs.lemmas.List.Sorted.{IsPermutation-refl, IsPermutation-sym, IsPermutation-trans, IsPermutation-cons, IsPermutation-middle, IsPermutation-map, IsPermutation-keeps, Contains-permutation}
-use Rattle.std.proofs.lemmas.List.Elements.{All-nil, All-cons, All-contains}
+use Rattle.std.proofs.lemmas.List.Sorted.{IsPermutation-refl, IsPermutation-sym, IsPermutation-trans, IsPermutation-cons, IsPermutation-middle, IsPermutation-map, IsPermutation-keeps, All-permutation, Contains-permutation}
+use Rattle.std.proofs.lemmas.List.Elements.{All-nil, All-cons, All-head, All-tail, All-contains}
+
+-- one of the items changed
+pub All-changed : {X : Type 0} (P : X → Type 0) (xs : List X) (x x' : X) (others : List X) → IsPermutation xs (x ∷ others) → All P xs → (P x → P x') → All P (x' ∷ others)
+All-changed P xs x x' others p all keeps =
+    let first : All P (x ∷ others) = All-permutation P _ _ p all in
+    All-cons P x' others (keeps (All-head P x others first)) (All-tail P x others first)
 
 -- x stands in the list, and ys are the others in their order
 abbrev pub Splits : {X : Type 0} → X → List X → List X → Type 0

@@ -358,10 +358,11 @@ ended_not_out rules s o (Done sector) h = refl
 ended_not_out rules s o (Failed status) h = refl
 ended_not_out rules s o Back h = refl
 
-module _ (rules : Rules) where
-  differ_first : (s : State) (o : OpenRequest) (others : List OpenRequest) → AreDistinct s → IsPermutation s.requests (o ∷ others) → All (λ x. x.number ≢ o.number) others
-  differ_first s o others d p = distinct_first request_number s.requests o others d.requests p
+-- the other open requests have other numbers
+pub differ_first : (s : State) (o : OpenRequest) (others : List OpenRequest) → AreDistinct s → IsPermutation s.requests (o ∷ others) → All (λ x. x.number ≢ o.number) others
+differ_first s o others d p = distinct_first request_number s.requests o others d.requests p
 
+module _ (rules : Rules) where
   pub ArePlaced-Opens : (s : State) (number : ℕ) (q : ClientRequest) (s' : State) → AreDistinct s → ArePlaced s → Opens rules s number q s' → ArePlaced s'
   ArePlaced-Opens s number q s' d k h = ArePlaced-same s' _ h.after (opened s k number _ (place_count rules q) refl (new_number h.new_number) refl)
     where

@@ -13,6 +13,7 @@ use Rattle.device.specs.Holding.{Resumes, Drains, held_back, as_timely}
 use Rattle.device.specs.Settled.{Settled, IsHeld, WaitsIfCancelled, Waits, IsAllSent, IsHeldBack, HasMore, IsAtWork, IsFull, started_count}
 use Rattle.device.specs.Frame.{Frame, framed, with_window, AllMayPass}
 use Rattle.device.specs.Window.{HasLowerNumber, IsAbove, IsTimely, IsLate, IsWaiting, Holds, HasReleased}
+use Rattle.device.proofs.Same.{IsSame-reordered}
 use Rattle.device.proofs.Settling.{late, held_back-framed}
 
 -- what comes earlier than all held may pass them
@@ -40,17 +41,7 @@ resumed f = record f { held = map as_timely f.held; paused = false }
 pub Resumes-framed : (f : Frame) (s : State) → IsTrue f.paused → All IsTimely s.requests → Resumes (framed f s) (framed (resumed f) s)
 Resumes-framed f s paused timely = record {
   is_paused = paused;
-  after = record {
-    arrays = refl;
-    next_request = refl;
-    next_piece = refl;
-    requests = rw (map-append as_timely s.requests f.held) (rw (timely_already s.requests timely) (IsPermutation-refl _));
-    pieces = IsPermutation-refl _;
-    owed = refl;
-    paused = refl;
-    removing = refl;
-    removed = refl;
-  };
+  after = IsSame-reordered (framed (resumed f) s) _ _ _ _ (rw (map-append as_timely s.requests f.held) (rw (timely_already s.requests timely) (IsPermutation-refl _))) (IsPermutation-refl _);
 }
 
 -- DRAIN

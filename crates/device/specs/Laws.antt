@@ -8,10 +8,12 @@ use Rattle.device.specs.Rules.{Rules}
 use Rattle.device.specs.State.{State, opening}
 use Rattle.device.specs.Step.{Run}
 
+-- the label is no call of this number
 abbrev pub IsNoCallOf : ℕ → Label → Type 0
 IsNoCallOf r (Call number q) = number ≢ r
 IsNoCallOf r _ = Unit {0}
 
+-- the label is no answer of this number
 abbrev pub IsNoAnswerOf : ℕ → Label → Type 0
 IsNoAnswerOf r (Answer number status bytes) = number ≢ r
 IsNoAnswerOf r _ = Unit {0}

@@ -10,9 +10,11 @@ IsEarned o (Failed status) = (status ≢ Success) × (status ≢ DeviceBusy)
 IsEarned o Back = 0 < o.busy_returns
 IsEarned o _ = Unit {0}
 
+-- each place of the request has
 abbrev pub HasEarned : OpenRequest → Type 0
 HasEarned o = All (IsEarned o) o.marks
 
+-- each open request has
 abbrev pub HaveEarned : State → Type 0
 HaveEarned s = All HasEarned s.requests
 
@@ -25,6 +27,7 @@ IsLike like mark = mark ≡ like
 abbrev pub AreAlike : List Mark → Type 0
 AreAlike marks = (like : Mark) × All (IsLike like) marks
 
+-- all places of the request are alike
 abbrev pub HasAlike : OpenRequest → Type 0
 HasAlike o = AreAlike o.marks
 
@@ -32,6 +35,7 @@ HasAlike o = AreAlike o.marks
 abbrev pub IsAllOf : Piece → OpenRequest → Type 0
 IsAllOf piece o = o.number ≡ piece.owner → length o.marks ≤ piece.places.count
 
+-- the piece has all places of its request
 abbrev pub IsAll : List OpenRequest → Piece → Type 0
 IsAll requests piece = All (IsAllOf piece) requests
 

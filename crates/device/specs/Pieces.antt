@@ -16,6 +16,7 @@ mark_at o place = get_or o.marks place Untouched
 abbrev pub IsCovered : List Piece → OpenRequest → Type 0
 IsCovered pieces o = (place : ℕ) → count_by (covers o.number place) pieces ≡ (if is_out (mark_at o place) then 1 else 0)
 
+-- the piece is of this request
 abbrev pub IsOwner : Piece → OpenRequest → Type 0
 IsOwner piece o = o.number ≡ piece.owner
 

@@ -28,12 +28,15 @@ pub record Packet : Type 0 where
   pub number : ℕ
   pub above : List StackLocation
 
+-- the number of a packet
 abbrev pub packet_number : Packet → ℕ
 packet_number packet = packet.number
 
+-- a packet as the layer that takes it in has it
 abbrev pub packet_of : Irp → Packet
 packet_of irp = record { number = irp.number; above = locations_above irp }
 
+-- what a layer shows: its machine, its packets and the adapter below
 pub record Seen : Type 0 where
   pub rules : Rules
   pub state : State
@@ -78,6 +81,7 @@ Carries false rules r (Packed srb) = ⊥
 Carries false rules r (Buffer bytes) = length bytes ≡ transfer_length rules r
 Carries false rules r AtAdapter = ⊥
 
+-- the bytes that a packet carries
 abbrev pub payload_bytes : Payload → List ℕ
 payload_bytes (Packed srb) = srb.data
 payload_bytes (Buffer bytes) = bytes
@@ -109,9 +113,11 @@ pub record OnTag : Type 0 where
   pub tag : ℕ
   pub fate : Fate
 
+-- what the adapter knows of a piece of the machine
 abbrev pub piece_on_tag : Piece → OnTag
 piece_on_tag piece = record { number = piece.number; tag = piece.tag; fate = piece.fate }
 
+-- what it knows of the piece on a tag of its own
 abbrev pub use_on_tag : TagInUse → OnTag
 use_on_tag in_use = record { number = in_use.piece; tag = in_use.tag; fate = in_use.fate }
 
@@ -122,6 +128,7 @@ pub record IsRead (rules : Rules) (s : State) (adapter : AdapterView) : Type 0 w
   pub arrays : s.arrays ≡ map (sectors_in adapter.sectors) rules.partitions
   pub pieces : IsPermutation (map piece_on_tag s.pieces) (map use_on_tag adapter.tags)
 
+-- a request that is neither cancelled nor started is late, or the window is full
 abbrev pub WaitsForTag : Rules → State → OpenRequest → Type 0
 WaitsForTag rules s o = IsFalse o.cancelled → IsHeldBack rules s o
 
@@ -136,6 +143,7 @@ pub record IsSending (rules : Rules) (s : State) : Type 0 where
 abbrev pub label_places : Seen → ℕ
 label_places v = length v.adapter.labels + (v.rules.depth - length v.state.pieces)
 
+-- what holds of a layer between its calls
 pub record IsOrderly (v : Seen) : Type 0 where
   pub adapter : IsInOrder v.adapter
   pub read : IsRead v.rules v.state v.adapter

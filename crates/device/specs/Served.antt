@@ -6,7 +6,7 @@ use Rattle.srb.specs.declared.Class.{Class}
 use Rattle.srb.specs.declared.DeviceLabel.{DeviceLabel}
 use Rattle.srb.specs.declared.DeviceLabel.TheVariants.{Start, Act, Fault, Return}
 use Rattle.srb.specs.Fate.{Fate, Fresh, Acted, Faulted}
-use Rattle.srb.specs.Adapter.{AdapterView, MovesByAll}
+use Rattle.srb.specs.Adapter.{AdapterView, MovesByAll, NotesReset}
 use Rattle.irp.specs.declared.Payload.{Payload}
 use Rattle.irp.specs.declared.Climb.{Climb}
 use Rattle.irp.specs.Climb.{Climbs}
@@ -25,6 +25,7 @@ use Rattle.device.specs.Settled.{Settled}
 use Rattle.device.specs.Step.{Run}
 use Rattle.device.specs.Seen.{Seen, Packet, Carries, payload_bytes, sent_bytes}
 
+-- a label of the adapter as one of the machine
 abbrev pub as_label : DeviceLabel → Label
 as_label label = Device label
 
@@ -37,6 +38,7 @@ pub record Moves (old : Seen) (labels : List DeviceLabel) (new : Seen) : Type 0 
   pub run : Run old.rules old.state (map as_label labels) new.state
   pub adapter : MovesByAll old.adapter labels new.adapter
 
+-- the label is a start
 abbrev pub IsStart : DeviceLabel → Type 0
 IsStart (Start piece tag block) = Unit {0}
 IsStart (Act piece bytes) = ⊥
@@ -70,6 +72,7 @@ pub record IsFreshOn (s : State) (tag : ℕ) (piece : Piece) : Type 0 where
   pub is_tag : piece.tag ≡ tag
   pub is_fresh : piece.fate ≡ Fresh
 
+-- the label is the act or the fault of this piece
 abbrev pub IsActOrFault : ℕ → DeviceLabel → Type 0
 IsActOrFault number (Act piece bytes) = piece ≡ number
 IsActOrFault number (Fault piece) = piece ≡ number
@@ -84,6 +87,7 @@ pub record ActsOn (old : Seen) (tag : ℕ) (new : Seen) : Type 0 where
   pub told : IsActOrFault piece.number label
   pub moves : Moves old (label ∷ []) new
 
+-- no fresh piece is on the tag, and nothing changes
 pub record ActsNot (old : Seen) (tag : ℕ) (new : Seen) : Type 0 where
   pub none : (piece : Piece) → IsFreshOn old.state tag piece → ⊥
   pub same : new ≡ old
@@ -98,21 +102,26 @@ pub record Finishes (old : Seen) (tag : ℕ) (new : Seen) : Type 0 where
   pub only_starts : All IsStart starts
   pub moves : Moves old (Return piece.number class ∷ starts) new
 
+-- no piece is on the tag, and nothing changes
 pub record FinishesNot (old : Seen) (tag : ℕ) (new : Seen) : Type 0 where
   pub free : All (HasOtherTag tag) old.state.pieces
   pub same : new ≡ old
 
+-- nothing is done yet
 abbrev pub is_fresh : Fate → Bool
 is_fresh Fresh = true
 is_fresh (Acted sectors) = false
 is_fresh Faulted = false
 
+-- the piece has done nothing yet
 abbrev pub is_fresh_piece : Piece → Bool
 is_fresh_piece piece = is_fresh piece.fate
 
+-- the label of the piece's fault
 abbrev pub fault_of : Piece → DeviceLabel
 fault_of piece = Fault piece.number
 
+-- the piece has a tag above this one
 abbrev pub IsBelow : ℕ → Piece → Type 0
 IsBelow tag piece = tag < piece.tag
 
@@ -121,12 +130,14 @@ abbrev pub HaveRisingTags : List Piece → Type 0
 HaveRisingTags [] = Unit {0}
 HaveRisingTags (piece ∷ pieces) = All (IsBelow piece.tag) pieces × HaveRisingTags pieces
 
--- each fresh piece faults, by rising tags
+-- each fresh piece faults, by rising tags, and then the adapter notes the reset
 pub record Resets (old new : Seen) : Type 0 where
   pub fresh : List Piece
+  pub all_faulted : AdapterView
   pub all_fresh : IsPermutation fresh (filter is_fresh_piece old.state.pieces)
   pub rising : HaveRisingTags fresh
-  pub moves : Moves old (map fault_of fresh) new
+  pub moves : Moves old (map fault_of fresh) (record new { adapter = all_faulted })
+  pub noted : NotesReset all_faulted new.adapter
 
 -- no open request of this number could be cancelled
 abbrev pub NoneToCancel : State → ℕ → Type 0
@@ -167,6 +178,7 @@ pub record HandsUp (takes_srb : Bool) (old : Seen) (request : Request) (climb : 
   pub only_starts : All IsStart starts
   pub moves : Moves (record old { state = answered; packets = others }) starts new
 
+-- some place of the request has not ended
 abbrev pub IsUnfinished : Rules → State → OpenRequest → Type 0
 IsUnfinished rules s o = All (HasEnded rules s o) o.marks → ⊥
 

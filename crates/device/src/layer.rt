@@ -14,6 +14,9 @@ use std::alloc::AllocError;
 /// What it shows is `seen`: the sector machine over the layer's own arrays, the packets that it has, and the adapter
 /// below. `rooms_out` says that the layer is in order and which rooms are in its callers' hands. Each call moves the
 /// machine as its clause says; where `take_done` has nothing to give, the machine is settled.
+///
+/// The adapter's record has 64 places for labels. `label_places` counts those that hold a label which nobody took, and
+/// one for each free tag; a caller of `act`, `finish` or `reset` sees that enough are left, and `take_label` frees one.
 pub trait Device: Drop {
     /// Places for all that one request needs in this layer and those below.
     type Room: Drop;
@@ -57,6 +60,10 @@ pub trait Device: Drop {
         ensures { result ≡ (seen self.now).most };
 
     /// Makes all places that the request will need, down to the adapter; no other call takes memory.
+    ///
+    /// # Errors
+    ///
+    /// [`AllocError`] where memory was refused. The adapter may then have made room for a part, and nothing else changed.
     fn reserve(&mut self, request: &Request) -> Result<Self::Room, AllocError>
         requires in_order { (rooms : List Request) × rooms_out self.old rooms }
         requires bounded { IsBounded (seen self.old).rules request.now }
@@ -65,7 +72,8 @@ pub trait Device: Drop {
         ensures rooms { OnOk result ((rooms : List Request) → rooms_out self.old rooms → rooms_out self.new (request.now ∷ rooms)) }
         ensures refused { OnErr result ((rooms : List Request) → rooms_out self.old rooms → rooms_out self.new rooms) };
 
-    /// Takes a packet in (WDK: IoCallDriver). Its last stack location is the layer's own.
+    /// Takes a packet in (WDK: IoCallDriver). Its last stack location is the layer's own, and with the others that the
+    /// layer and those below need it has four at most. Its number is above all submitted before.
     fn submit(&mut self, irp: Irp, room: Self::Room)
         requires in_order { (rooms : List Request) × rooms_out self.old (request_of room ∷ rooms) }
         requires not_removing { IsFalse (seen self.old).state.removing }
@@ -85,13 +93,14 @@ pub trait Device: Drop {
         ensures same { seen self.new ≡ seen self.old };
 
     /// Has the adapter carry out the command on a tag, or fail it; true where the tag had a piece that had done neither.
+    /// On any other tag, also one that the adapter doesn't have, nothing changes.
     fn act(&mut self, tag: u8) -> bool
         requires in_order { (rooms : List Request) × rooms_out self.old rooms }
         requires label_place { label_places (seen self.old) + 1 ≤ 64 }
         ensures rooms { (rooms : List Request) → rooms_out self.old rooms → rooms_out self.new rooms }
         ensures acts { MatchBool result (ActsOn (seen self.old) tag (seen self.new)) (ActsNot (seen self.old) tag (seen self.new)) };
 
-    /// Takes the piece of a tag back; true where the tag was in use.
+    /// Takes the piece of a tag back; true where the tag was in use. Else nothing changes.
     fn finish(&mut self, tag: u8) -> bool
         requires in_order { (rooms : List Request) × rooms_out self.old rooms }
         requires label_place { label_places (seen self.old) + 2 ≤ 64 }
@@ -119,7 +128,8 @@ pub trait Device: Drop {
         ensures rooms { (rooms : List Request) → rooms_out self.old rooms → rooms_out self.new rooms }
         ensures drains { DrainsAll (seen self.old) (seen self.new) };
 
-    /// A packet that has ended, on its way up, with its room, which is out again.
+    /// A packet that has ended, on its way up, with its room, which is out again. None where none has; the layer is then
+    /// settled.
     fn take_done(&mut self) -> Option<(Climb, Self::Room)>
         requires { (rooms : List Request) × rooms_out self.old rooms }
         ensures rooms { IfSome result (λ done. (rooms : List Request) → rooms_out self.old rooms → rooms_out self.new (request_of done.1 ∷ rooms)) }

@@ -1,6 +1,6 @@
 -- Bytes cut into sectors: a part of the sectors is the cut of that part of the bytes.
 use Rattle.std.proofs.Common.{◌≡◌, ℕ, zero, suc, ◌+◌, ◌-◌, ◌*◌, ◌≤◌, List, ◌∷◌, ◌++◌, length, take, drop, slice_range, replicate, arith, refl, sym, ap, ◌∙◌, zero-add, suc-add, mul-le-mul_right, length-append, length-drop}
-use Rattle.std.proofs.lemmas.List.{take-append-le, drop-append-le, take_at, drop_at, take-append-drop, length-take-le, append_assoc, nil_from_length, take-replicate, drop-replicate}
+use Rattle.std.proofs.lemmas.List.{take-append-le, drop-append-le, take_at, drop_at, take_all, take-append-drop, length-take-le, append_assoc, nil_from_length, take-replicate, drop-replicate}
 use Rattle.std.specs.List.{concat}
 use Rattle.std.specs.Simd.{first_chunks}
 use Rattle.sector.specs.Splice.{splice}
@@ -147,3 +147,20 @@ first_chunks-zeros size (suc n) =
     let tail : first_chunks size n (drop size (zeros (suc n * size))) ≡ replicate n (zeros size) =
     ap (λ (l : List ℕ). first_chunks size n l) (drop-replicate size (suc n * size) 0 ∙ ap (λ (k : ℕ). zeros k) left) ∙ first_chunks-zeros size n in
     cc
+
+-- some bytes, and zeros after them
+pub starts_filled : (size count n : ℕ) (bytes extended none first : List ℕ) → length bytes ≡ count * size → length none ≡ 0 → length first ≤ count * size
+    → extended ≡ none ++ first → n ≡ length first → bytes ≡ take (count * size) extended ++ zeros (count * size - n)
+    → concat (first_chunks size count bytes) ≡ first ++ zeros (count * size - length first)
+starts_filled size count n bytes extended none first long empty fits are counted filled =
+    let all : ℕ = count * size in
+    let is_first : extended ≡ first = are ∙ ap (λ (l : List ℕ). l ++ first) (nil_from_length none empty) in
+    let whole : take all extended ≡ first = ap (λ (l : List ℕ). take all l) is_first ∙ take_all all first fits in
+    concat-first_chunks size count bytes long
+    ∙ (filled ∙ (ap (λ (l : List ℕ). l ++ zeros (all - n)) whole ∙ ap (λ (k : ℕ). first ++ zeros (all - k)) counted))
+
+-- a disk that starts with no bytes holds zeros
+pub blank_from_concat : (size count : ℕ) (bytes : List ℕ) → length bytes ≡ count * size → concat (first_chunks size count bytes) ≡ zeros (count * size)
+    → first_chunks size count bytes ≡ replicate count (zeros size)
+blank_from_concat size count bytes long whole =
+    ap (λ (l : List ℕ). first_chunks size count l) (sym (concat-first_chunks size count bytes long) ∙ whole) ∙ first_chunks-zeros size count

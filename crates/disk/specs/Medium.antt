@@ -1,10 +1,11 @@
 -- What a medium shows, and what its calls do to it.
-use Rattle.std.specs.Prelude.{◌≡◌, ◌≤◌, ℕ, ◌+◌, List, length, All, Contains, replicate, slice_range}
+use Rattle.std.specs.Prelude.{◌≡◌, ◌≤◌, ℕ, ◌+◌, ◌-◌, ◌*◌, List, ◌++◌, length, All, Contains, replicate, slice_range}
 use Rattle.std.specs.List.{concat}
 use Rattle.sector.specs.declared.Extent.{Extent}
 use Rattle.sector.specs.Extents.{IsCovered, IsIn, IsSector}
 use Rattle.sector.specs.Splice.{splice}
 
+-- what a medium shows
 pub record MediumView : Type 0 where
   -- the bytes of one sector
   pub sector_size : ℕ
@@ -63,4 +64,11 @@ failed view = record view { failures = view.failures + 1 }
 pub record IsBlank (view : MediumView) (sector_size sectors : ℕ) : Type 0 where
   pub size_is : view.sector_size ≡ sector_size
   pub zeros : view.sectors ≡ replicate sectors (replicate sector_size 0)
+  pub none_failed : view.failures ≡ 0
+
+-- a medium on which some bytes stand from its start, zeros after them, and no call failed
+pub record StartsWith (view : MediumView) (sector_size sectors : ℕ) (first : List ℕ) : Type 0 where
+  pub size_is : view.sector_size ≡ sector_size
+  pub count_is : length view.sectors ≡ sectors
+  pub bytes_are : concat view.sectors ≡ first ++ replicate (sectors * sector_size - length first) 0
   pub none_failed : view.failures ≡ 0

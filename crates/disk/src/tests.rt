@@ -98,3 +98,48 @@ fn starts_blank_or_refuses(rt: HostRuntime) -> Result<(), Fail> {
     assert!(rt; huge.is_err_and(|fault| fault == NoMemory));
     Ok(())
 }
+
+// The bytes of a sector; none where it can't be read.
+fn sector_at<M: Medium>(
+    rt: &impl Abort,
+    alloc: Global,
+    medium: &mut M,
+    sector: u64,
+) -> Result<Option<Vec<u8>>, Fail> {
+    assert!(rt; sector < medium.sectors());
+    assert!(rt; medium.sector_size() <= 4096 && medium.failures() < 1000);
+    let extent = Extent {
+        first: sector,
+        count: 1,
+    };
+    let mut buffer = vec![in alloc; 0xff; medium.sector_size() as usize]?;
+    match medium.read(extent, &mut buffer) {
+        Ok(()) => Ok(Some(buffer)),
+        Err(BadSector) => Ok(None),
+    }
+}
+
+// Some bytes and zeros after them; sector 2 is bad.
+#[test]
+fn starts_with_bytes_or_refuses(rt: HostRuntime) -> Result<(), Fail> {
+    let alloc = rt.alloc();
+    let first = vec![in alloc; 0xa5; 600]?;
+    let mut disk = VecDisk::starting_with(alloc, 512, 4, &first, vec![in alloc; 2]?)
+        .ok()
+        .ok_or("no memory")?;
+    let mut end = vec![in alloc; 0xa5; 88]?;
+    end.resize(512, 0)?;
+    assert_eq!(rt;
+        sector_at(&rt, alloc, &mut disk, 0)?,
+        Some(vec![in alloc; 0xa5; 512]?)
+    );
+    assert_eq!(rt; sector_at(&rt, alloc, &mut disk, 1)?, Some(end));
+    assert_eq!(rt; sector_at(&rt, alloc, &mut disk, 2)?, None);
+    assert_eq!(rt;
+        sector_at(&rt, alloc, &mut disk, 3)?,
+        Some(vec![in alloc; 0; 512]?)
+    );
+    let huge = VecDisk::starting_with(alloc, 4096, 1 << 50, &first, vec![in alloc; 2]?);
+    assert!(rt; huge.is_err_and(|fault| fault == NoMemory));
+    Ok(())
+}

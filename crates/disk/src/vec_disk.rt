@@ -7,7 +7,7 @@ use crate::{BadSector, Medium, NoMemory};
 use sector::Extent;
 use std::alloc::Global;
 
-/// A disk in one block of memory, zeros at first; all of it is reserved from the start.
+/// A disk in one block of memory; all of it is reserved from the start.
 #[derive(Debug, Drop)]
 pub struct VecDisk {
     sector_size: u32,
@@ -19,10 +19,11 @@ pub struct VecDisk {
 }
 
 impl VecDisk {
-    ghost use Rattle.disk.specs.Medium.{IsBlank, IsWithin, IsReserved, HasBad, failed};
+    ghost use Rattle.disk.specs.Medium.{IsBlank, StartsWith, IsWithin, IsReserved, HasBad, failed};
     ghost use Rattle.disk.specs.VecDisk.{shown};
 
-    /// A disk of so many sectors, each of `sector_size` bytes, in which the sectors of the list are bad.
+    /// A disk of so many sectors of zeros, each of `sector_size` bytes, in which the sectors of the list are bad. It has fewer
+    /// than 2^64 bytes. Numbers that are no sectors of it say nothing.
     ///
     /// # Errors
     ///
@@ -38,11 +39,36 @@ impl VecDisk {
         ensures bad { IfOk result (λ disk. (sector : ℕ) → Contains (shown disk).bad sector ↔ Contains bad.items sector) }
         ensures reserved { IfOk result (λ disk. (extent : Extent) → IsWithin (shown disk) extent → IsReserved (shown disk) extent) }
     {
+        VecDisk::starting_with(alloc, sector_size, sectors, &[], bad)
+    }
+
+    /// The same disk with some bytes at its start, which are put there before the bad list counts: they stand in bad
+    /// sectors too.
+    ///
+    /// # Errors
+    ///
+    /// [`NoMemory`] where the memory for the sectors was refused.
+    pub fn starting_with(
+        alloc: Global,
+        sector_size: u32,
+        sectors: u64,
+        first: &[u8],
+        bad: Vec<u64>,
+    ) -> Result<VecDisk, NoMemory>
+        requires countable { sectors * sector_size < 2 ^ 64 }
+        requires fits { length first.now ≤ sectors * sector_size }
+        ensures starts { IfOk result (λ disk. StartsWith (shown disk) sector_size sectors first.now) }
+        ensures bad { IfOk result (λ disk. (sector : ℕ) → Contains (shown disk).bad sector ↔ Contains bad.items sector) }
+        ensures reserved { IfOk result (λ disk. (extent : Extent) → IsWithin (shown disk) extent → IsReserved (shown disk) extent) }
+    {
         let length = sectors * sector_size as u64;
+        let mut bytes = Vec::with_capacity(alloc, length as usize)?;
+        bytes.extend_from_slice(first)?;
+        bytes.resize(length as usize, 0)?;
         Ok(VecDisk {
             sector_size,
             sectors,
-            bytes: vec![in alloc; 0; length as usize]?,
+            bytes,
             bad: BadList::new(bad),
             failures: 0,
         })

@@ -9,6 +9,7 @@ use Rattle.irp.specs.declared.Driver.{Driver}
 use Rattle.irp.specs.declared.Irp.{Irp}
 use Rattle.irp.specs.declared.Payload.{Payload}
 use Rattle.irp.specs.declared.StackLocation.{StackLocation}
+use Rattle.irp.specs.Packet.{cancel_routine_of}
 
 -- whether a status is a success: its highest bit, which marks warnings and errors, is clear
 abbrev pub succeeds : NtStatus → Bool
@@ -61,5 +62,5 @@ Climbs above number cancelled status information payload (Finished done) = Finis
 
 -- a completion neither sets nor takes the packet's cancel routine
 abbrev pub KeepsCancelRoutine : Irp → Climb → Type 0
-KeepsCancelRoutine irp (Routine driver left) = left.cancel_routine ≡ irp.cancel_routine
+KeepsCancelRoutine irp (Routine driver left) = cancel_routine_of left ≡ cancel_routine_of irp
 KeepsCancelRoutine irp (Finished done) = ⊤

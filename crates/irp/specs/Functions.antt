@@ -5,6 +5,7 @@ use Rattle.irp.specs.declared.MajorFunction.TheVariants.{Create, Close, Read, Wr
 use Rattle.irp.specs.declared.MinorFunction.{MinorFunction}
 use Rattle.irp.specs.declared.MinorFunction.TheVariants.{QueryRemove, Remove, CancelRemove, SurpriseRemoval}
 
+-- the number of a major function
 abbrev pub major_code_of : MajorFunction → ℕ
 major_code_of Create = 0x00
 major_code_of Close = 0x02
@@ -15,6 +16,7 @@ major_code_of InternalDeviceControl = 0x0F
 major_code_of Cleanup = 0x12
 major_code_of Pnp = 0x1B
 
+-- the number of a minor function of plug and play
 abbrev pub minor_code_of : MinorFunction → ℕ
 minor_code_of QueryRemove = 0x01
 minor_code_of Remove = 0x02

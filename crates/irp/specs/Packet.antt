@@ -5,7 +5,7 @@ use Rattle.irp.specs.declared.Driver.{Driver}
 use Rattle.irp.specs.declared.Irp.{Irp}
 use Rattle.irp.specs.declared.StackLocation.{StackLocation}
 
--- the current driver's own location, the last, and those above it
+-- the last location is the current driver's own, and these are those above it
 abbrev pub HasOwn : Irp → List StackLocation → StackLocation → Type 0
 HasOwn irp higher own = irp.locations.items ≡ higher ++ own ∷ []
 
@@ -22,17 +22,18 @@ invoke_flags on_success on_error on_cancel =
 abbrev pub with_routine : Bool → Bool → Bool → StackLocation → StackLocation
 with_routine on_success on_error on_cancel own = record own { control = record { 0 = invoke_flags on_success on_error on_cancel } }
 
+-- whom a cancellation is to tell, if anybody
+abbrev pub cancel_routine_of : Irp → Option CancelRoutine
+cancel_routine_of irp = irp.cancel_routine
+
 -- a packet before and after: only its locations differ
 pub record KeepsAllButLocations (old new : Irp) : Type 0 where
   pub number : new.number ≡ old.number
   pub payload : new.payload ≡ old.payload
   pub cancelled : new.cancelled ≡ old.cancelled
   pub io_status : new.io_status ≡ old.io_status
-  pub cancel_routine : new.cancel_routine ≡ old.cancel_routine
+  pub cancel_routine : cancel_routine_of new ≡ cancel_routine_of old
 
--- whom a cancellation is to tell, where anybody
-abbrev pub cancel_routine_of : Irp → Option CancelRoutine
-cancel_routine_of irp = irp.cancel_routine
-
+-- the packet with this cancel routine, or with none
 abbrev pub with_cancel_routine : Option CancelRoutine → Irp → Irp
 with_cancel_routine routine irp = record irp { cancel_routine = routine }

@@ -5,7 +5,7 @@ use crate::{Climb, Done, IoStatus, Irp};
 use ntstatus::NtStatus;
 
 /// The driver whose location is the packet's last completes the packet: its location is taken off, and the packet
-/// climbs to the nearest location above that asks. `information` is in bytes.
+/// climbs to the nearest location above that asks, or is finished where none does. `information` is in bytes.
 ///
 /// A completion routine that keeps its packet (WDK: STATUS_MORE_PROCESSING_REQUIRED) stores the `irp` of
 /// `Climb::Routine`, whose last location is that driver's own. Later the driver either calls `complete` with a status of
@@ -22,7 +22,8 @@ pub fn complete(irp: Irp, status: NtStatus, information: u64) -> Climb
     resume(irp)
 }
 
-/// The packet climbs on from the driver whose location is its last, with the status that it has.
+/// The packet climbs on from the driver whose location is its last, with the status that it has. One with no location is
+/// finished.
 pub fn resume(irp: Irp) -> Climb
     ensures climbs { Climbs (above irp) irp.number irp.cancelled irp.io_status.status irp.io_status.information irp.payload result }
     ensures cancel_routine { KeepsCancelRoutine irp result }

@@ -102,6 +102,7 @@ pub struct CancelRoutine {
 /// layer that holds it.
 #[derive(Debug, Drop)]
 pub struct Irp {
+    /// Given by whoever made the packet; a layer that takes it wants one above all that it was given before.
     pub number: u128,
     pub payload: Payload,
     /// Whether the packet is marked as cancelled.

@@ -7,6 +7,7 @@ pub mod Sound
 pub mod Sectors
 pub mod Alone
 pub mod Marks
+pub mod Served
 pub mod SoloRead
 pub mod SoloWrite
 pub mod Writes

@@ -27,7 +27,7 @@ use Rattle.device.specs.Answering.{Answers, HasEnded}
 use Rattle.device.specs.Holding.{held_back, beyond, as_timely, as_cancelled}
 use Rattle.device.specs.Step.{DeviceStep, FreeStep, OwingStep, Step, Run}
 use Rattle.device.specs.Numbers.{request_number, piece_number, AreDistinct}
-use Rattle.device.proofs.Same.{IsSame-sym}
+use Rattle.device.proofs.Same.{IsSame-sym, IsSame-reordered}
 use Rattle.device.proofs.Numbers.{AreDistinct-same, requests_in_order}
 use Rattle.machine_laws.specs.Reached.{IsReached}
 use Rattle.device.proofs.Splicing.{AllAt, splice_at, length-splice}
@@ -144,6 +144,10 @@ owner_is s o others p d perm e h = by_case (contains_cases o others h.owner (Con
 
 -- STATES
 
+-- the same pieces in another order
+in_order : (s : State) (ps : List Piece) → IsPermutation s.pieces ps → IsSame (record s { pieces = ps }) s
+in_order s ps perm = IsSame-reordered s s.requests s.requests ps s.pieces (IsPermutation-refl _) (IsPermutation-sym _ _ perm)
+
 pub Matches-same : (s t : State) → IsSame s t → Matches t → Matches s
 Matches-same s t h m = record {
   owned = All-weaker (HasOwner t.requests) (HasOwner s.requests) (λ p o. owner_along t.requests s.requests p (IsPermutation-sym _ _ h.requests) o) s.pieces
@@ -173,7 +177,7 @@ without_first p others a =
 -- a piece that meets its fate
 met : (s : State) (p : Piece) (others : List Piece) (fate : Fate) → IsPermutation s.pieces (p ∷ others) → Matches s → Matches (record s { pieces = with_fate fate p ∷ others })
 met s p others fate perm m =
-    let m' : Matches (record s { pieces = p ∷ others }) = Matches-same (record s { pieces = p ∷ others }) s (same_pieces perm) m in
+    let m' : Matches (record s { pieces = p ∷ others }) = Matches-same (record s { pieces = p ∷ others }) s (in_order s (p ∷ others) perm) m in
     record {
       owned = All-cons (HasOwner s.requests) (with_fate fate p) others (turned (All-head (HasOwner s.requests) p others m'.owned)) (All-tail (HasOwner s.requests) p others m'.owned);
       some = All-cons HasSome (with_fate fate p) others (All-head HasSome p others m'.some) (All-tail HasSome p others m'.some);
@@ -182,19 +186,6 @@ met s p others fate perm m =
           (All-weaker (IsApartFrom (p ∷ others)) (IsApartFrom (with_fate fate p ∷ others)) (λ x h. replaced x (All-head (IsApart x) p others h) (All-tail (IsApart x) p others h)) others (All-tail (IsApartFrom (p ∷ others)) p others m'.apart));
     }
   where
-    same_pieces : IsPermutation s.pieces (p ∷ others) → IsSame (record s { pieces = p ∷ others }) s
-    same_pieces perm = record {
-      arrays = refl;
-      next_request = refl;
-      next_piece = refl;
-      requests = IsPermutation-refl _;
-      pieces = IsPermutation-sym _ _ perm;
-      owed = refl;
-      paused = refl;
-      removing = refl;
-      removed = refl;
-    }
-
     turned : HasOwner s.requests p → HasOwner s.requests (with_fate fate p)
     turned h = record { owner = h.owner; is_open = h.is_open; is_number = h.is_number; out = h.out }
 
@@ -296,8 +287,8 @@ Matches-Returns rules s n class s' sound m h =
     let o : OpenRequest = h.owner in
     let p : Piece = h.piece in
     let s1 : State = record s { pieces = p ∷ h.other_pieces } in
-    let m1 : Matches s1 = Matches-same s1 s (in_order h.is_out) m in
-    let d1 : AreDistinct s1 = AreDistinct-same s1 s (in_order h.is_out) sound.0 in
+    let m1 : Matches s1 = Matches-same s1 s (in_order s (p ∷ h.other_pieces) h.is_out) m in
+    let d1 : AreDistinct s1 = AreDistinct-same s1 s (in_order s (p ∷ h.other_pieces) h.is_out) sound.0 in
     let differ : All (λ x. p.number ≢ x.number) h.other_pieces = pieces_differ p h.other_pieces (IsDistinct-head eqb _ _ d1.pieces) in
     let apart : All (IsApart p) h.other_pieces = All-tail (IsApart p) p h.other_pieces (All-head (IsApartFrom (p ∷ h.other_pieces)) p h.other_pieces m1.apart) in
     let f : PieceFits rules 0 (Anything s.arrays) s.next_request s.requests p =
@@ -314,19 +305,6 @@ Matches-Returns rules s n class s' sound m h =
     Matches-same s' _ h.after (changed (record s { pieces = h.other_pieces }) o (given_back p class h.marks o) h.others h.is_open m2 refl
     (λ k x low e. out_elsewhere o.marks h.marks p.places.first (get_or h.other_pieces k x).places fits
     (λ i j in_x in_p same. apart k x low (differ k x low) (sym h.is_owner ∙ e) j i (rw (← count) in_p) in_x (sym same))))
-  where
-    in_order : {p : Piece} {ps : List Piece} → IsPermutation s.pieces (p ∷ ps) → IsSame (record s { pieces = p ∷ ps }) s
-    in_order perm = record {
-      arrays = refl;
-      next_request = refl;
-      next_piece = refl;
-      requests = IsPermutation-refl _;
-      pieces = IsPermutation-sym _ _ perm;
-      owed = refl;
-      paused = refl;
-      removing = refl;
-      removed = refl;
-    }
 
 Matches-DeviceStep : (rules : Rules) (s : State) (label : DeviceLabel) (s' : State) → IsSound rules s → Matches s → DeviceStep rules s label s' → Matches s'
 Matches-DeviceStep rules s (Start n tag block) s' sound m h = Matches-Starts rules s n tag block s' sound.0 m h

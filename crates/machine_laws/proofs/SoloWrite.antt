@@ -1,31 +1,26 @@
 -- A solo write that succeeds stands in the array at its answer.
-use Rattle.std.proofs.Common.{◌≡◌, ◌<◌, ◌≤◌, inl, inr, ℕ, ◌+◌, ◌-◌, ◌*◌, true, List, [], ◌∷◌, Some, refl, sym, ◌∙◌, ap, subst, arith, length, take, drop}
+use Rattle.std.proofs.Common.{◌≡◌, ◌<◌, ◌≤◌, inl, inr, ℕ, ◌+◌, ◌-◌, ◌*◌, List, Some, refl, sym, ◌∙◌, ap, subst, arith, length, take, drop}
 use Rattle.std.specs.Prelude.{slice_range, slice_get}
-use Rattle.std.specs.List.{list_all, concat}
+use Rattle.std.specs.List.{concat}
 use Rattle.std.proofs.lemmas.List.Elements.{All-contains}
-use Rattle.ntstatus.specs.declared.NtStatus.TheVariants.{Success}
 use Rattle.srb.specs.Fate.{Acted}
 use Rattle.srb.specs.declared.DeviceLabel.TheVariants.{Act}
 use Rattle.device.specs.declared.Kind.TheVariants.{Write}
 use Rattle.device.specs.declared.ClientRequest.{ClientRequest}
-use Rattle.device.specs.declared.Label.{Label}
 use Rattle.device.specs.declared.Label.TheVariants.{Device}
 use Rattle.device.specs.Rules.{Rules, first_sector, place_count}
 use Rattle.device.specs.State.{Out, State}
 use Rattle.device.specs.Sending.{partition_number}
-use Rattle.device.specs.Answering.{Answers, is_done}
-use Rattle.device.specs.Step.{Run}
-use Rattle.device.specs.Solo.{IsSoloAt, IsSolo, SoloWrites}
-use Rattle.device.proofs.Same.{IsSame-sym}
+use Rattle.device.specs.Solo.{IsSoloAt, SoloWrites}
 use Rattle.machine_laws.specs.Sectors.{array_at, sector_at, sector_of, bytes_for}
 use Rattle.machine_laws.specs.SoloLaws.{FailedWrites}
 use Rattle.machine_laws.proofs.Bounds.{write_length}
 use Rattle.machine_laws.proofs.Chunks.{chunks_join}
-use Rattle.machine_laws.proofs.Marks.{all_right}
-use Rattle.machine_laws.proofs.Serving.{IsRightFate, IsSized, IsMine, Mine, Serves, AllActRightly, Serves-same, Serves-Step, sized_first, mine_first, act_inside}
-use Rattle.machine_laws.proofs.Sound.{Anything, IsSound, IsSound-Step, called_sound, called_serves}
+use Rattle.machine_laws.proofs.Serving.{IsRightFate, IsMine, Serves, AllActRightly, act_inside}
+use Rattle.machine_laws.proofs.Sound.{Anything, IsSound, called_sound, called_serves}
 use Rattle.machine_laws.proofs.Sectors.{act_writes, bytes_are}
 use Rattle.machine_laws.proofs.Alone.{step_alone, run_alone}
+use Rattle.machine_laws.proofs.Served.{IsDoneRightly, done_rightly, whole_range}
 
 -- the write's bytes for the place stand in the array
 abbrev pub IsWritten : Rules → ClientRequest → List (List (List ℕ)) → ℕ → List ℕ → Type 0
@@ -54,35 +49,16 @@ module _ (rules : Rules) (number : ℕ) (q : ClientRequest) (is_write : q.kind �
           let sum : sector_of rules q (h.piece.places.first + j) ≡ first_sector rules q + h.piece.places.first + j = omega arith in
           (omega arith, ap (λ i. slice_get (array_at h.arrays' (partition_number q)) i) sum ∙ there)
 
-  write_run : (s : State) (labels : List Label) (s' : State) → IsSound rules s → Serves rules number q (IsWritten rules q) s → (run : Run rules s labels s') → IsSolo rules number q s labels s' run
-      → Serves rules number q (IsWritten rules q) s'
-  write_run s [] s' sound k run solo = Serves-same rules number q (IsWritten rules q) s' s (IsSame-sym s s' run) k
-  write_run s (label ∷ labels) s' sound k run solo =
-      write_run run.0 labels s' (IsSound-Step rules s label run.0 sound run.1)
-      (Serves-Step rules number q (IsWritten rules q) s label run.0 sound.0 (write_acts s run.0 sound k solo.0) k run.1) run.2 solo.1
-
 pub solo_writes : (rules : Rules) (before : State) → IsSound rules before → SoloWrites rules before
 solo_writes rules before sound number q bytes after is_write served =
-    let k : Serves rules number q (IsWritten rules q) served.ended =
-    write_run rules number q is_write served.called served.labels served.ended (called_sound rules before number q served.called sound served.opens)
-    (called_serves rules before number q (IsWritten rules q) served.called sound served.opens) served.run served.solo in
-    let h : Answers rules served.ended number Success bytes after = served.answers in
-    let mine : Mine q (IsWritten rules q served.ended.arrays) h.request = mine_first rules number q (IsWritten rules q) served.ended h.request h.others h.is_open k h.is_number in
-    let sized : IsSized rules h.request = sized_first rules number q (IsWritten rules q) served.ended h.request h.others h.is_open k in
-    let done : list_all is_done h.request.marks ≡ true = h.success.0 refl in
-    let count : length h.request.marks ≡ place_count rules q = sized.places ∙ ap (λ r. place_count rules r) mine.request in
+    let h : IsDoneRightly rules q (IsWritten rules q served.ended.arrays) served.answers.request =
+    done_rightly rules number q (IsWritten rules q) (write_acts rules number q is_write) before bytes after sound served in
     let long : length q.bytes ≡ place_count rules q * rules.sector_size = write_length rules before q is_write served.opens.not_refused served.opens.carries in
     let joined : concat (take (place_count rules q) (drop (first_sector rules q) (array_at served.ended.arrays (partition_number q)))) ≡ q.bytes =
     chunks_join rules.sector_size (place_count rules q) (first_sector rules q) (array_at served.ended.arrays (partition_number q)) q.bytes long
-    (λ j low. (all_right (IsWritten rules q served.ended.arrays) h.request.marks j Out done mine.right (rw count low)).1 ∙ ap Some (bytes_are rules q j)) in
+    (λ j low. (h.right j Out (rw h.count low)).1 ∙ ap Some (bytes_are rules q j)) in
     sym joined ∙ ap concat (whole_range (array_at served.ended.arrays (partition_number q)) (first_sector rules q) (place_count rules q)
-    ∙ ap (λ arrays. slice_range (array_at arrays (partition_number q)) (first_sector rules q + 0) (first_sector rules q + 0 + place_count rules q)) (sym h.after.arrays))
-  where
-    whole_range : (array : List (List ℕ)) (from n : ℕ) → take n (drop from array) ≡ slice_range array (from + 0) (from + 0 + n)
-    whole_range array from n =
-        let a : from + 0 ≡ from = omega arith in
-        let b : from + 0 + n - (from + 0) ≡ n = omega arith in
-        rw (b, a)
+    ∙ ap (λ arrays. slice_range (array_at arrays (partition_number q)) (first_sector rules q + 0) (first_sector rules q + 0 + place_count rules q)) (sym served.answers.after.arrays))
 
 -- THE SAME, PLACE BY PLACE
 

@@ -11,7 +11,7 @@ use Rattle.device.specs.Calling.{refusal, Opens}
 use Rattle.device.specs.Sending.{partition_number}
 use Rattle.device.specs.Answering.{Answers}
 use Rattle.device.specs.Step.{Step, Run}
-use Rattle.device.specs.Solo.{IsSolo, SoloReads, SoloWrites}
+use Rattle.device.specs.Solo.{IsAnswered, SoloReads, SoloWrites}
 use Rattle.machine_laws.specs.Sectors.{sector_at, sector_of, bytes_for, WritesSector}
 use Rattle.machine_laws.specs.Along.{Sometime}
 use Rattle.machine_laws.specs.Reached.{IsReached}
@@ -23,16 +23,6 @@ SoloReadsHold = (rules : Rules) (before : State) → IsReached rules before → 
 -- a solo write that succeeds stands in the array at its answer
 abbrev pub SoloWritesHold : Type 0
 SoloWritesHold = (rules : Rules) (before : State) → IsReached rules before → SoloWrites rules before
-
--- a solo request from its call to its answer, whatever its status
-pub record IsAnswered (rules : Rules) (number : ℕ) (q : ClientRequest) (status : NtStatus) (bytes : List ℕ) (before after : State) : Type 0 where
-  pub called : State
-  pub labels : List Label
-  pub ended : State
-  pub opens : Opens rules before number q called
-  pub run : Run rules called labels ended
-  pub solo : IsSolo rules number q called labels ended run
-  pub answers : Answers rules ended number status bytes after
 
 -- a call that is not refused opens its request, and an answer of that number after it is the open request's
 abbrev pub LabelsAreOfOne : Type 0

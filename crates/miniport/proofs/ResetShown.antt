@@ -1,5 +1,5 @@
 -- A reset is shown as the faults of the pieces that had done nothing, and the mark on all.
-use Rattle.std.proofs.Common.{◌≡◌, ◌≤◌, inl, inr, ℕ, suc, ◌+◌, Bool, true, false, not, List, [], ◌∷◌, ◌++◌, length, map, filter, sum_by, All, Option, Some, None, IsPermutation, refl, sym, ap, ◌∙◌, subst, arith, append_assoc, cond, if◌then◌else◌}
+use Rattle.std.proofs.Common.{◌≡◌, ◌≤◌, ℕ, suc, ◌+◌, Bool, true, false, not, List, [], ◌∷◌, ◌++◌, length, map, filter, sum_by, All, Option, Some, None, IsPermutation, refl, sym, ap, ◌∙◌, subst, arith, append_assoc, cond, if◌then◌else◌}
 use Rattle.std.specs.Prelude.{count_by}
 use Rattle.std.specs.List.{flat_map}
 use Rattle.std.proofs.lemmas.List.{append-nil, map-append, length-map}
@@ -11,7 +11,7 @@ use Rattle.srb.specs.declared.Completion.{Completion}
 use Rattle.srb.specs.declared.DeviceLabel.{DeviceLabel}
 use Rattle.srb.specs.declared.DeviceLabel.TheVariants.{Fault}
 use Rattle.srb.specs.Fate.{Fate, Fresh, Acted, Faulted}
-use Rattle.srb.specs.Adapter.{TagInUse, AdapterView, faulted, met_by_reset, MovesUnseen, MovesByAll, FaultsOn, IsReserved}
+use Rattle.srb.specs.Adapter.{TagInUse, AdapterView, faulted, met_by_reset, MovesUnseen, MovesByAll, NotesReset, FaultsOn}
 use Rattle.disk.specs.Medium.{MediumView}
 use Rattle.miniport.specs.declared.on_tag.OnTag.{OnTag}
 use Rattle.miniport.specs.declared.on_tag.Progress.{Progress}
@@ -28,30 +28,24 @@ abbrev pub IsFreshUse : TagInUse → Type 0
 IsFreshUse use' = use'.fate ≡ Fresh
 
 nothing_moves : (v : AdapterView) → MovesUnseen v v
-nothing_moves v = record {
-  tags = v.tags;
-  failures = v.failures;
-  reserved = v.reserved;
-  in_use = inl (IsPermutation-refl v.tags);
-  counted = omega arith;
-  after = refl;
-  lasts = λ extent h. h;
-}
+nothing_moves v = record { reserved = v.reserved; after = refl; lasts = λ extent h. h }
+
+-- faults, and then the note of a reset
+abbrev pub FaultsThenNotes : AdapterView → List DeviceLabel → AdapterView → Type 0
+FaultsThenNotes old labels new = (mid : AdapterView) × MovesByAll old labels mid × NotesReset mid new
 
 -- the fresh ones fault, one after the other, and then all are marked
 pub faults_move : (fresh others : List TagInUse) (old new : AdapterView) (tags : List TagInUse) (failures : ℕ) (labels : List DeviceLabel)
     → All IsFreshUse fresh → IsPermutation old.tags (fresh ++ others) → IsPermutation tags (map met_by_reset (map faulted fresh ++ others))
     → old.failures + length fresh ≤ failures → labels ≡ old.labels ++ map fault_of fresh
-    → new ≡ record old { tags = tags; failures = failures; labels = labels } → MovesByAll old (map fault_of fresh) new
-faults_move [] others old new tags failures labels all before after counted are e = record {
+    → new ≡ record old { tags = tags; failures = failures; labels = labels } → FaultsThenNotes old (map fault_of fresh) new
+faults_move [] others old new tags failures labels all before after counted are e = (old, nothing_moves old, record {
   tags = tags;
   failures = failures;
-  reserved = old.reserved;
-  in_use = inr (IsPermutation-trans _ _ _ after (IsPermutation-map met_by_reset _ _ (IsPermutation-sym _ _ before)));
+  in_use = IsPermutation-trans _ _ _ after (IsPermutation-map met_by_reset _ _ (IsPermutation-sym _ _ before));
   counted = omega (arith, counted);
   after = e ∙ ap (λ (l : List DeviceLabel). record old { tags = tags; failures = failures; labels = l }) (are ∙ append-nil old.labels);
-  lasts = λ extent h. subst (λ (v : AdapterView). IsReserved v extent) (sym e) h;
-}
+})
 faults_move (f ∷ fs) others old new tags failures labels all before after counted are e =
     let mid : AdapterView = record old { tags = faulted f ∷ (fs ++ others); failures = old.failures + 1; labels = old.labels ++ Fault f.piece ∷ [] } in
     let fault : FaultsOn old f.tag f.piece mid = record {
@@ -65,18 +59,15 @@ faults_move (f ∷ fs) others old new tags failures labels all before after coun
       counted = omega arith;
       in_use = IsPermutation-refl mid.tags;
       after = refl;
-    } in (
-      old,
-      mid,
-      nothing_moves old,
-      (f.tag, fault),
-      faults_move fs (faulted f ∷ others) mid new tags failures labels (All-tail IsFreshUse f fs all)
-          (IsPermutation-sym _ _ (IsPermutation-middle fs (faulted f) others))
-          (IsPermutation-trans _ _ _ after (IsPermutation-map met_by_reset _ _ (IsPermutation-sym _ _ (IsPermutation-middle (map faulted fs) (faulted f) others))))
-          (omega (arith, counted))
-          (are ∙ sym (append_assoc old.labels (Fault f.piece ∷ []) (map fault_of fs)))
-          e,
-    )
+    } in
+    let rest : FaultsThenNotes mid (map fault_of fs) new =
+    faults_move fs (faulted f ∷ others) mid new tags failures labels (All-tail IsFreshUse f fs all)
+        (IsPermutation-sym _ _ (IsPermutation-middle fs (faulted f) others))
+        (IsPermutation-trans _ _ _ after (IsPermutation-map met_by_reset _ _ (IsPermutation-sym _ _ (IsPermutation-middle (map faulted fs) (faulted f) others))))
+        (omega (arith, counted))
+        (are ∙ sym (append_assoc old.labels (Fault f.piece ∷ []) (map fault_of fs)))
+        e in
+    (rest.0, (old, mid, nothing_moves old, (f.tag, fault), rest.1), rest.2)
 
 -- THE TAGS
 
@@ -230,6 +221,10 @@ resets m longest t unmet =
     subst (λ (l : List TagInUse). IsPermutation l (map met_by_reset (map faulted fresh ++ filter is_settled old.tags))) (sym same) (tags_after old.tags) in
     let depth : new ≡ record old { tags = new.tags; failures = failures; labels = new.labels } =
     ap (λ (d : ℕ). record new { depth = d }) (length-map t.slots slot_after_reset) in
+    let moved : FaultsThenNotes old (map fault_of fresh) new =
+    faults_move fresh (filter is_settled old.tags) old new new.tags failures new.labels (fresh_pass old.tags)
+        (IsPermutation-filter_both is_fresh is_settled (λ x. refl) old.tags) marked
+        (omega (arith, fresh_few m.sector_size 0 t.slots unmet)) labels depth in
     record {
       fresh = fresh;
       tags = new.tags;
@@ -238,9 +233,9 @@ resets m longest t unmet =
       rising = fresh_rise m.sector_size t.slots;
       in_use = subst (λ (l : List TagInUse). IsPermutation l (map after_reset old.tags)) (sym same) (IsPermutation-refl (map after_reset old.tags));
       after = depth ∙ ap (λ (l : List DeviceLabel). record old { tags = new.tags; failures = failures; labels = l }) labels;
-      moves = faults_move fresh (filter is_settled old.tags) old new new.tags failures new.labels (fresh_pass old.tags)
-          (IsPermutation-filter_both is_fresh is_settled (λ x. refl) old.tags) marked
-          (omega (arith, fresh_few m.sector_size 0 t.slots unmet)) labels depth;
+      all_faulted = moved.0;
+      moves = moved.1;
+      noted = moved.2;
     }
 
 pub resets_all : (m : MediumView) (longest : ℕ) (p : Bool) (t : Table) → ResetsAll (view_of m longest p t) (view_of m longest p (with_reset t))

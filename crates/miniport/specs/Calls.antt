@@ -8,7 +8,7 @@ use Rattle.srb.specs.declared.Completion.{Completion}
 use Rattle.srb.specs.declared.DeviceLabel.{DeviceLabel}
 use Rattle.srb.specs.declared.DeviceLabel.TheVariants.{Fault}
 use Rattle.srb.specs.Fate.{Fate, Fresh, Acted, Faulted, class_of}
-use Rattle.srb.specs.Adapter.{TagInUse, AdapterView, IsFree, IsOn, IsReserved, ActsOn, FaultsOn, ReturnsOn, MovesByAll}
+use Rattle.srb.specs.Adapter.{TagInUse, AdapterView, IsFree, IsOn, IsReserved, ActsOn, FaultsOn, ReturnsOn, MovesByAll, NotesReset}
 
 -- only what is reserved may differ, and what was reserved still is
 pub record Reserves (old new : AdapterView) : Type 0 where
@@ -60,7 +60,7 @@ tag_of use' = use'.tag
 abbrev pub fault_of : TagInUse → DeviceLabel
 fault_of use' = Fault use'.piece
 
--- each piece that had done nothing yet faults, in rising order of tags, and all pieces out have met a reset
+-- each piece that had done nothing yet faults, in rising order of tags, and then all pieces out have met a reset
 pub record Resets (old new : AdapterView) : Type 0 where
   pub fresh : List TagInUse
   pub tags : List TagInUse
@@ -69,7 +69,9 @@ pub record Resets (old new : AdapterView) : Type 0 where
   pub rising : IsStrictlyIncreasing (map tag_of fresh)
   pub in_use : IsPermutation tags (map after_reset old.tags)
   pub after : new ≡ record old { tags = tags; failures = failures; labels = old.labels ++ map fault_of fresh }
-  pub moves : MovesByAll old (map fault_of fresh) new
+  pub all_faulted : AdapterView
+  pub moves : MovesByAll old (map fault_of fresh) all_faulted
+  pub noted : NotesReset all_faulted new
 
 -- the earliest label leaves
 pub record LeavesFirst (old : AdapterView) (label : DeviceLabel) (new : AdapterView) : Type 0 where

@@ -65,7 +65,7 @@ impl<M: Medium> MemAdapter<M> {
 }
 
 impl<M: Medium> Adapter for MemAdapter<M> {
-    ghost use Rattle.std.specs.Prelude.{◌+◌, Some, None, IfSome, get_or, Any, OnOk, MatchOption};
+    ghost use Rattle.std.specs.Prelude.{◌+◌, ◌*◌, Some, None, IfSome, get_or, Any, OnOk, MatchOption};
     ghost use Rattle.srb.specs.Adapter.{HasTag, IsFree, IsInOrder, IsReserved, IsWritable, Accepts};
     ghost use Rattle.miniport.specs.Calls.{Reserves, Acts, ActsNot, Finishes, FinishesNot, Resets, LeavesFirst, HasNoLabel};
     ghost use Rattle.miniport.specs.Faults.{busy};
@@ -89,7 +89,12 @@ impl<M: Medium> Adapter for MemAdapter<M> {
         self.table.depth()
     }
 
-    fn failures(&self) -> u128 {
+    /// The failures counted so far, at most twice the pieces accepted.
+    fn failures(&self) -> u128
+        ensures exact { result ≡ self.now.shown.failures }
+        ensures order { IsInOrder self.now.shown }
+        ensures twice { result ≤ 2 * self.now.shown.accepted }
+    {
         self.table.failures()
     }
 

@@ -102,6 +102,12 @@ fn four_sectors(
     )
 }
 
+/// An adapter of two tags.
+fn two_tags(alloc: Global) -> Result<MemAdapter<VecDisk>, NoMemory> {
+    let disk = VecDisk::new(alloc, 4096, 4, Vec::new(alloc))?;
+    MemAdapter::new(alloc, disk, 65_535, 2, false)
+}
+
 /// Puts a piece on a tag that is free, with all of the disk reserved.
 fn put<A: Adapter>(
     rt: &impl Abort,
@@ -283,6 +289,20 @@ fn tells_its_capacity(rt: HostRuntime) -> Result<(), Fail> {
         srb.data.as_slice(),
         [0, 0, 0x0F, 0xFF, 0, 0, 2, 0].as_slice()
     );
+    Ok(())
+}
+
+// The one test that passes with each allocation failing in turn.
+#[test]
+fn is_an_adapter_or_no_memory(rt: HostRuntime) -> Result<(), Fail> {
+    match two_tags(rt.alloc()) {
+        Ok(adapter) => {
+            assert_eq!(rt; adapter.sector_size(), 4096);
+            assert_eq!(rt; adapter.max_transfer(), 65_535);
+            assert_eq!(rt; adapter.depth(), 2);
+        }
+        Err(fault) => assert_eq!(rt; fault, NoMemory),
+    }
     Ok(())
 }
 

@@ -1,11 +1,9 @@
 -- A piece is carried out, or faults.
-use Rattle.std.proofs.Common.{◌≡◌, ◌≢◌, ◌<◌, ◌≤◌, ◌⊎◌, inl, inr, ℕ, zero, suc, ◌+◌, ◌-◌, ◌*◌, ◌/◌, Bool, true, false, List, [], ◌∷◌, ◌++◌, Option, Some, None, refl, sym, subst, ap, ◌∙◌, arith, map, length, take, drop, get_or, set, replicate}
-use Rattle.std.specs.Prelude.{All, Contains, IsTrue, IsFalse, IsPermutation, slice_get, slice_set, slice_index, if◌then◌else◌}
+use Rattle.std.proofs.Common.{◌≡◌, ◌<◌, ◌⊎◌, inl, inr, ℕ, ◌+◌, ◌-◌, ◌*◌, ◌/◌, Bool, List, [], ◌∷◌, ◌++◌, Some, refl, sym, subst, ap, ◌∙◌, arith, map, length, take, get_or}
+use Rattle.std.specs.Prelude.{All, slice_set, slice_index, if◌then◌else◌}
 use Rattle.std.specs.List.{concat, slice_range}
-use Rattle.std.proofs.lemmas.List.{length-append, length-map, take_all, length-take, length-drop}
-use Rattle.std.proofs.lemmas.List.Elements.{All-nil, All-cons, All-weaker, All-head, All-tail, All-take, All-drop}
-use Rattle.std.proofs.lemmas.List.Sorted.{IsPermutation-refl, IsPermutation-sym, IsPermutation-trans, IsPermutation-append_left, IsPermutation-append_right, All-permutation, Contains-permutation, length_permutation}
-use Rattle.sector.specs.declared.Extent.{Extent}
+use Rattle.std.proofs.lemmas.List.{length-append, take_all, length-take, length-drop}
+use Rattle.std.proofs.lemmas.List.Elements.{All-head, All-tail, All-take, All-drop}
 use Rattle.sector.specs.Extents.{IsSector}
 use Rattle.sector.specs.Splice.{splice}
 use Rattle.cdb.specs.declared.Cdb.{Cdb}
@@ -13,36 +11,20 @@ use Rattle.cdb.specs.declared.Cdb.TheVariants.{Read10, Write10, Sync10, ReadCapa
 use Rattle.cdb.specs.Meaning.{Means}
 use Rattle.srb.specs.declared.Srb.{Srb}
 use Rattle.srb.specs.declared.DeviceLabel.{DeviceLabel}
-use Rattle.srb.specs.declared.DeviceLabel.TheVariants.{Act, Fault}
-use Rattle.srb.specs.Fate.{Fate, Fresh, Acted, Faulted}
 use Rattle.srb.specs.Performing.{Performs}
-use Rattle.srb.specs.Adapter.{AdapterView, TagInUse, IsInOrder, IsOn, HasNotTag, ActsOn as AdapterActsOn, FaultsOn as AdapterFaultsOn, IsReserved, acted, faulted}
-use Rattle.miniport.specs.Calls.{Acts as AdapterActs, ActsNot as AdapterActsNot}
-use Rattle.irp.specs.declared.Payload.{Payload}
+use Rattle.srb.specs.Adapter.{AdapterView, TagInUse}
 use Rattle.irp.specs.declared.Payload.TheVariants.{Srb as Packed}
 use Rattle.device.specs.declared.Kind.{Kind}
 use Rattle.device.specs.declared.Kind.TheVariants.{Read, Write, Flush}
-use Rattle.device.specs.declared.ClientRequest.{ClientRequest}
 use Rattle.device.specs.declared.Request.{Request}
 use Rattle.device.specs.Rules.{Rules, as_client, home, is_transfer}
-use Rattle.device.specs.State.{OpenRequest, Piece, State, IsSame}
-use Rattle.device.specs.Sending.{Acts, Faults, IsFreshPiece, with_fate, Moves as MovesSectors, command_for}
-use Rattle.device.specs.Seen.{AsksFor, IsBounded, whole_command, sent_bytes, sectors_in, label_places, transfer_length}
-use Rattle.device.specs.Served.{ActsOn, ActsNot, IsFreshOn, Moves}
-use Rattle.device.proofs.Same.{IsSame-refl}
-use Rattle.device.proofs.Numbers.{AreDistinct-DeviceStep}
+use Rattle.device.specs.State.{State}
+use Rattle.device.specs.Sending.{Moves as MovesSectors, command_for}
+use Rattle.device.specs.Seen.{AsksFor, IsBounded, sent_bytes, sectors_in, transfer_length}
 use Rattle.port.specs.declared.queues.Sizes.{Sizes}
-use Rattle.port.specs.declared.queues.Held.{Held}
-use Rattle.port.specs.Books.{Entry, Books, entry_of}
-use Rattle.port.specs.Turns.{held_on}
-use Rattle.port.specs.Shown.{rules_of, places_of, sectors_moved, cut, waiting_open, done_open, out_open, out_piece, open_on, piece_on, entry_on, packet as packet_as, of_packets, of_waiting, of_tag, of_done, state_of, seen_of, requests_of}
-use Rattle.port.specs.Kept.{asked, IsKept, IsInHand, IsBusy, IsRoom, IsWaiting, IsAtWork, IsDoing}
+use Rattle.port.specs.Shown.{rules_of, places_of, cut}
 use Rattle.port.proofs.Lists.{cut-concat, length-splice}
-use Rattle.port.proofs.Labels.{moves_one}
-use Rattle.port.proofs.Sizing.{volume_zero, sectors_are, places_transfer, places_flush, inside_disk}
-use Rattle.port.proofs.Starting.{room_moves, waiting_moves, kept_sector_some}
-use Rattle.port.proofs.Returning.{tags_on, on_tag_work, on_tag_some}
-use Rattle.port.proofs.Orderly.{in_hand}
+use Rattle.port.proofs.Sizing.{volume_zero, sectors_are, places_transfer, places_flush}
 
 -- the view with other tags, other sectors, failures and one label more
 abbrev pub view_acted : AdapterView → List (List ℕ) → List TagInUse → ℕ → DeviceLabel → AdapterView

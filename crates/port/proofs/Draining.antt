@@ -1,36 +1,31 @@
 -- Packets that are cancelled, or that wait at a removal: the machine.
-use Rattle.std.proofs.Common.{◌≡◌, ◌≢◌, ◌<◌, ◌≤◌, ◌⊎◌, inl, inr, ℕ, zero, suc, ◌+◌, ◌==◌, ◌&&◌, Bool, true, false, not, List, [], ◌∷◌, ◌++◌, Option, Some, None, refl, sym, subst, ap, ◌∙◌, arith, map, length}
-use Rattle.std.specs.Prelude.{All, Any, IsTrue, IsFalse, IsPermutation, MatchBool, slice_set}
+use Rattle.std.proofs.Common.{◌≡◌, ◌≢◌, inl, ℕ, ◌==◌, ◌&&◌, Bool, true, false, not, List, [], ◌∷◌, ◌++◌, refl, sym, subst, ap, ◌∙◌, arith, map, length}
+use Rattle.std.specs.Prelude.{All, IsPermutation}
 use Rattle.std.proofs.lemmas.Bool.Decides.{nat_tests}
-use Rattle.std.proofs.lemmas.List.{length-append, length-map, length-set, map-append, append_assoc, get_or-set_same}
-use Rattle.std.proofs.lemmas.List.Elements.{All-nil, All-cons, All-append, All-push, All-map, All-weaker, All-head, All-tail}
-use Rattle.std.proofs.lemmas.List.Sorted.{IsPermutation-refl, IsPermutation-sym, IsPermutation-trans, IsPermutation-map, IsPermutation-append_left, IsPermutation-append_right, IsPermutation-middle, IsPermutation-append_comm, IsPermutation-remove, All-permutation, length_permutation}
+use Rattle.std.proofs.lemmas.List.{length-append, length-map, map-append, append_assoc}
+use Rattle.std.proofs.lemmas.List.Elements.{All-nil, All-append, All-push, All-map, All-weaker, All-head, All-tail}
+use Rattle.std.proofs.lemmas.List.Sorted.{IsPermutation-refl, IsPermutation-sym, IsPermutation-trans, IsPermutation-map, IsPermutation-append_left, IsPermutation-middle, IsPermutation-append_comm, All-permutation, length_permutation}
 use Rattle.srb.specs.declared.Class.TheVariants.{Good, Busy, Bad}
-use Rattle.srb.specs.Adapter.{AdapterView, TagInUse, IsInOrder, IsOn, HasTag, HasNotTag}
-use Rattle.irp.specs.declared.Payload.{Payload}
+use Rattle.srb.specs.Adapter.{AdapterView}
 use Rattle.device.specs.declared.Request.{Request}
 use Rattle.device.specs.declared.Label.TheVariants.{Cancel}
 use Rattle.device.specs.Rules.{Rules}
-use Rattle.device.specs.State.{OpenRequest, Piece, State, IsSame}
+use Rattle.device.specs.State.{OpenRequest, State, IsSame}
 use Rattle.device.specs.Holding.{Cancels, Drains, as_cancelled}
-use Rattle.device.specs.Numbers.{AreDistinct}
-use Rattle.device.specs.Seen.{Carries, IsBounded}
-use Rattle.device.specs.Served.{IsBeside, NoneToCancel, CancelsIfOpen, DrainsAll}
-use Rattle.device.proofs.Same.{IsSame-refl}
+use Rattle.device.specs.Seen.{IsBounded}
+use Rattle.device.specs.Served.{CancelsIfOpen, DrainsAll}
 use Rattle.device.proofs.Numbers.{AreDistinct-same, AreDistinct-Step}
 use Rattle.port.specs.declared.queues.Held.{Held}
 use Rattle.port.specs.declared.queues.Ended.{Ended}
 use Rattle.port.specs.declared.queues.Outcome.{Outcome}
 use Rattle.port.specs.declared.queues.Outcome.TheVariants.{Returned, Flushed, Gone}
 use Rattle.port.specs.Books.{Entry, Books, entry_of, ended_entry}
-use Rattle.port.specs.Turns.{held_on, gone, drained, cancelled, is_cancellable, CannotCancel, CannotCancelHeld, CannotCancelEnded, CannotCancelOn, Flushes, FlushesNot, CancelsOn, CancelsNotOn, CancelsEnded, CancelsNoEnded}
-use Rattle.port.specs.Shown.{rules_of, waiting_open, done_open, out_open, out_piece, open_on, piece_on, entry_on, entry_or_nobody, packet as packet_as, of_packets, of_waiting, of_tag, of_done, state_of, seen_of, requests_of, packets_of}
-use Rattle.port.specs.Kept.{asked, IsKept, IsInHand, IsBusy, IsRoom, IsWaiting, IsBefore, AreInTurn, IsAtWork, IsDoing, HasEnded, HasOutcome}
-use Rattle.port.proofs.Lists.{second_front, last_front}
-use Rattle.port.proofs.Tags.{others_same, others_apart}
-use Rattle.port.proofs.Starting.{work_beside}
-use Rattle.port.proofs.Returning.{tags_on, tags_left, on_tag_work, done_is, done_as}
-use Rattle.port.proofs.Orderly.{in_hand, maps_are, all_three}
+use Rattle.port.specs.Turns.{gone, drained, cancelled, is_cancellable, Flushes}
+use Rattle.port.specs.Shown.{rules_of, waiting_open, done_open, open_on, packet as packet_as, of_packets, of_waiting, of_tag, of_done, state_of, seen_of, requests_of}
+use Rattle.port.specs.Kept.{asked, IsKept, IsInHand, IsRoom, IsWaiting, IsBefore, AreInTurn, HasEnded, HasOutcome}
+use Rattle.port.proofs.Lists.{last_front}
+use Rattle.port.proofs.Returning.{done_is}
+use Rattle.port.proofs.Orderly.{in_hand, maps_are}
 
 -- A REMOVAL
 

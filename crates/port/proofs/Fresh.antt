@@ -1,22 +1,19 @@
 -- A port of which nothing was asked yet.
-use Rattle.std.proofs.Common.{◌≡◌, ◌<◌, ◌≤◌, ℕ, ◌+◌, ◌-◌, Bool, true, false, List, [], ◌∷◌, refl, sym, subst, ap, ◌∙◌, arith, length, map}
-use Rattle.std.specs.Prelude.{All}
+use Rattle.std.proofs.Common.{◌≡◌, ◌≤◌, ℕ, Bool, false, List, [], refl, sym, subst, ap, ◌∙◌, arith, length, map}
 use Rattle.std.proofs.lemmas.List.Elements.{All-nil}
 use Rattle.srb.specs.declared.DeviceLabel.{DeviceLabel}
 use Rattle.srb.specs.Adapter.{AdapterView, TagInUse, IsInOrder}
 use Rattle.port.specs.declared.queues.Held.{Held}
 use Rattle.port.specs.declared.queues.Ended.{Ended}
-use Rattle.device.specs.declared.Request.{Request}
 use Rattle.device.specs.Rules.{Rules}
-use Rattle.device.specs.State.{State, opening}
 use Rattle.device.specs.Seen.{sectors_in}
 use Rattle.device.proofs.Numbers.{AreDistinct-opening}
 use Rattle.port.specs.declared.queues.Sizes.{Sizes}
 use Rattle.port.specs.Books.{Books}
 use Rattle.port.specs.Turns.{IsEmpty}
-use Rattle.port.specs.Shown.{rules_of, state_of, seen_of, of_packets}
-use Rattle.port.specs.Kept.{asked, IsKept, IsInHand, IsRoom, IsWaiting, IsAtWork, HasEnded, AreInTurn}
-use Rattle.port.specs.Opening.{IsFresh, rules_over, opening_seen}
+use Rattle.port.specs.Shown.{rules_of, seen_of}
+use Rattle.port.specs.Kept.{IsInHand, IsRoom, IsWaiting, IsAtWork, HasEnded}
+use Rattle.port.specs.Opening.{IsFresh, opening_seen}
 use Rattle.port.proofs.Orderly.{in_hand}
 
 -- the books of empty queues over this adapter

@@ -1,10 +1,10 @@
 -- A packet that has ended is handed up; where there is none, the port is settled.
-use Rattle.std.proofs.Common.{◌≡◌, ◌≢◌, ◌<◌, ◌≤◌, ◌⊎◌, inl, inr, ℕ, zero, suc, ◌+◌, ◌*◌, ◌^◌, Bool, true, false, List, [], ◌∷◌, ◌++◌, Option, Some, None, refl, sym, subst, ap, ◌∙◌, arith, map, length, get_or, replicate}
+use Rattle.std.proofs.Common.{◌≡◌, ◌≢◌, ◌<◌, ◌≤◌, inl, inr, ℕ, zero, suc, ◌*◌, ◌^◌, Bool, true, false, List, [], ◌∷◌, ◌++◌, refl, sym, subst, ap, ◌∙◌, arith, map, length, get_or, replicate}
 use Rattle.std.specs.Prelude.{◌↔◌, if◌then◌else◌, All, IsTrue, IsFalse, IsPermutation}
-use Rattle.std.specs.List.{list_all, concat}
-use Rattle.std.proofs.lemmas.List.{length-replicate, length-map, nil_from_length}
-use Rattle.std.proofs.lemmas.List.Elements.{All-nil, All-cons, All-map, All-weaker, All-replicate, All-head, All-tail}
-use Rattle.std.proofs.lemmas.List.Sorted.{IsPermutation-refl, IsPermutation-sym, IsPermutation-trans, IsPermutation-append_right, IsPermutation-middle, All-permutation}
+use Rattle.std.specs.List.{list_all}
+use Rattle.std.proofs.lemmas.List.{length-map, nil_from_length}
+use Rattle.std.proofs.lemmas.List.Elements.{All-nil, All-cons, All-map, All-replicate, All-head, All-tail}
+use Rattle.std.proofs.lemmas.List.Sorted.{IsPermutation-refl, IsPermutation-trans, IsPermutation-append_right, IsPermutation-middle, All-permutation}
 use Rattle.ntstatus.specs.declared.NtStatus.{NtStatus}
 use Rattle.ntstatus.specs.declared.NtStatus.TheVariants.{Success, DeviceBusy, Cancelled, NoSuchDevice, DeletePending}
 use Rattle.srb.specs.declared.Class.TheVariants.{Good, Busy, Bad}
@@ -12,14 +12,13 @@ use Rattle.srb.specs.Adapter.{AdapterView, TagInUse}
 use Rattle.irp.specs.declared.Climb.{Climb}
 use Rattle.irp.specs.Climb.{Climbs}
 use Rattle.irp.specs.declared.Payload.{Payload}
-use Rattle.device.specs.declared.Kind.{Kind}
 use Rattle.device.specs.declared.Kind.TheVariants.{Read}
 use Rattle.device.specs.declared.Request.{Request}
 use Rattle.device.specs.Rules.{Rules, as_client}
-use Rattle.device.specs.State.{Mark, Untouched, Out, Done, Failed, Back, OpenRequest, Piece, State, IsSame}
+use Rattle.device.specs.State.{Mark, Untouched, Out, Done, Failed, Back, OpenRequest, Piece, State}
 use Rattle.device.specs.Sending.{is_started, status_of_completion}
 use Rattle.device.specs.Answering.{HasEnded, HasCause, Cause, Answers, is_done, answer_bytes}
-use Rattle.device.specs.Settled.{Settled, IsHeld, WaitsIfCancelled, Waits, IsAllSent, IsHeldBack, HasMore, IsAtWork, has_out}
+use Rattle.device.specs.Settled.{Settled, IsHeld, WaitsIfCancelled, Waits, IsHeldBack, HasMore, IsAtWork, has_out}
 use Rattle.device.specs.Seen.{Carries, payload_bytes, transfer_length}
 use Rattle.device.specs.Served.{HandsUp, HandsUpNone, IsUnfinished, IsStart, information}
 use Rattle.device.proofs.Same.{IsSame-refl}
@@ -32,8 +31,8 @@ use Rattle.port.specs.declared.queues.Outcome.{Outcome}
 use Rattle.port.specs.declared.queues.Outcome.TheVariants.{Returned, Flushed, Gone}
 use Rattle.port.specs.Books.{Entry, Books, entry, ended_entry}
 use Rattle.port.specs.Turns.{Leaves, LeavesNot}
-use Rattle.port.specs.Shown.{rules_of, places_of, sectors_moved, marks_left, busy_left, status_left, waiting_open, done_open, open_on, piece_on, entry_on, entry_or_nobody, packet as packet_as, of_packets, of_waiting, of_tag, of_done, state_of, seen_of, requests_of}
-use Rattle.port.specs.Kept.{asked, IsKept, IsInHand, IsBusy, IsRoom, IsWaiting, HasOutcome, HasEnded as HasEndedBy, IsAtWork as IsOnTag}
+use Rattle.port.specs.Shown.{rules_of, places_of, sectors_moved, marks_left, busy_left, status_left, waiting_open, done_open, open_on, piece_on, entry_or_nobody, packet as packet_as, of_packets, of_waiting, of_tag, of_done, state_of, seen_of, requests_of}
+use Rattle.port.specs.Kept.{asked, IsKept, IsInHand, IsRoom, IsWaiting, HasOutcome, HasEnded as HasEndedBy, IsAtWork as IsOnTag}
 use Rattle.port.proofs.Lists.{all_done, bytes_done}
 use Rattle.port.proofs.Labels.{unseen_none}
 use Rattle.port.proofs.Sizing.{places_some, bytes_short}

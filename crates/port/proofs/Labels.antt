@@ -1,48 +1,19 @@
 -- The view of an adapter over many labels.
-use Rattle.std.proofs.Common.{◌≡◌, ◌≤◌, ◌⊎◌, inl, inr, List, [], ◌∷◌, ◌++◌, refl, sym, subst, ap, ◌∙◌, arith, map}
-use Rattle.std.specs.Prelude.{IsPermutation}
+use Rattle.std.proofs.Common.{◌≤◌, List, [], ◌∷◌, ◌++◌, refl, ap, ◌∙◌}
 use Rattle.std.proofs.lemmas.List.{map-append}
-use Rattle.std.proofs.lemmas.List.Sorted.{IsPermutation-refl, IsPermutation-trans, IsPermutation-map}
 use Rattle.sector.specs.declared.Extent.{Extent}
 use Rattle.srb.specs.declared.DeviceLabel.{DeviceLabel}
-use Rattle.srb.specs.Adapter.{AdapterView, TagInUse, MovesUnseen, MovesBy, MovesOn, MovesByAll, met_by_reset, IsReserved}
+use Rattle.srb.specs.Adapter.{AdapterView, MovesUnseen, MovesBy, MovesOn, MovesByAll}
 
 pub unseen_none : (v : AdapterView) → MovesUnseen v v
-unseen_none v = record {
-  tags = v.tags;
-  failures = v.failures;
-  reserved = v.reserved;
-  in_use = inl (IsPermutation-refl _);
-  counted = omega arith;
-  after = refl;
-  lasts = λ extent h. h;
-}
-
-met_twice : (tags : List TagInUse) → map met_by_reset (map met_by_reset tags) ≡ map met_by_reset tags
-met_twice [] = refl
-met_twice (t ∷ ts) = ap (λ us. met_by_reset t ∷ us) (met_twice ts)
-
-abbrev Meets : List TagInUse → List TagInUse → Type 0
-Meets new old = IsPermutation new old ⊎ IsPermutation new (map met_by_reset old)
-
-meets_then : (old mid new : List TagInUse) → Meets mid old → Meets new mid → Meets new old
-meets_then old mid new (inl h) (inl k) = inl (IsPermutation-trans _ _ _ k h)
-meets_then old mid new (inr h) (inl k) = inr (IsPermutation-trans _ _ _ k h)
-meets_then old mid new (inl h) (inr k) = inr (IsPermutation-trans _ _ _ k (IsPermutation-map met_by_reset _ _ h))
-meets_then old mid new (inr h) (inr k) = inr (IsPermutation-trans _ _ _ k (subst (λ us. IsPermutation (map met_by_reset mid) us) (met_twice old) (IsPermutation-map met_by_reset _ _ h)))
+unseen_none v = record { reserved = v.reserved; after = refl; lasts = λ extent h. h }
 
 pub unseen_then : (u v w : AdapterView) → MovesUnseen u v → MovesUnseen v w → MovesUnseen u w
-unseen_then u v w h k =
-    let P : AdapterView → Type 0 = λ x. MovesUnseen x w → MovesUnseen u w in
-    subst P (sym h.after) (λ k. record {
-      tags = k.tags;
-      failures = k.failures;
-      reserved = k.reserved;
-      in_use = meets_then _ _ _ h.in_use k.in_use;
-      counted = let a = h.counted in let b = k.counted in omega arith;
-      after = k.after;
-      lasts = λ extent r. k.lasts extent (subst (λ x. IsReserved x extent) h.after (h.lasts extent r));
-    }) k
+unseen_then u v w h k = record {
+  reserved = k.reserved;
+  after = k.after ∙ ap (λ (x : AdapterView). record x { reserved = k.reserved }) h.after;
+  lasts = λ extent r. k.lasts extent (h.lasts extent r);
+}
 
 unseen_before : (u v w : AdapterView) (labels : List DeviceLabel) → MovesUnseen u v → MovesByAll v labels w → MovesByAll u labels w
 unseen_before u v w [] h k = unseen_then u v w h k

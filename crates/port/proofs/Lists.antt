@@ -1,12 +1,12 @@
 -- Lists: mapped alike, replaced whole, and cut in parts.
-use Rattle.std.proofs.Common.{◌≡◌, ◌≢◌, ◌<◌, ◌≤◌, ℕ, zero, suc, ◌+◌, ◌*◌, true, List, [], ◌∷◌, ◌++◌, refl, sym, ap, ◌∙◌, arith, map, length, take, drop, get_or, replicate, length-append, length-take, length-drop}
-use Rattle.std.specs.Prelude.{All, IsPermutation, IsTrue}
-use Rattle.std.specs.List.{concat, list_all, slice_range}
-use Rattle.std.proofs.lemmas.List.{append_assoc, append-nil, take_all, drop_all, length-replicate, length-map, take_at, drop_at}
-use Rattle.std.proofs.lemmas.List.Elements.{All-nil, All-cons, All-head, All-tail}
-use Rattle.std.proofs.lemmas.List.Sorted.{IsPermutation-refl, IsPermutation-trans, IsPermutation-to_front, IsPermutation-append_left, IsPermutation-append_right, IsPermutation-middle, IsPermutation-cons, IsPermutation-sym}
+use Rattle.std.proofs.Common.{◌≡◌, ◌≤◌, ℕ, zero, suc, ◌+◌, true, List, [], ◌∷◌, ◌++◌, refl, ap, arith, map, length, take, drop, length-append, length-take, length-drop}
+use Rattle.std.specs.Prelude.{All, IsPermutation}
+use Rattle.std.specs.List.{concat, list_all}
+use Rattle.std.proofs.lemmas.List.{append-nil, drop_all, take_at, drop_at}
+use Rattle.std.proofs.lemmas.List.Elements.{All-head, All-tail}
+use Rattle.std.proofs.lemmas.List.Sorted.{IsPermutation-trans, IsPermutation-to_front, IsPermutation-append_left, IsPermutation-append_right, IsPermutation-middle}
 use Rattle.sector.specs.Splice.{splice}
-use Rattle.device.specs.State.{Mark, Done}
+use Rattle.device.specs.State.{Done}
 use Rattle.device.specs.Answering.{bytes_of_mark, is_done}
 use Rattle.port.specs.Shown.{cut}
 

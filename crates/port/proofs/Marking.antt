@@ -1,36 +1,36 @@
 -- A packet that is cancelled at the adapter, or after it ended.
-use Rattle.std.proofs.Common.{◌≡◌, ◌≢◌, ◌<◌, ◌≤◌, ◌⊎◌, inl, inr, ℕ, zero, suc, ◌+◌, Bool, true, false, List, [], ◌∷◌, ◌++◌, Option, Some, None, refl, sym, subst, ap, ◌∙◌, arith, map, length, get_or}
-use Rattle.std.specs.Prelude.{All, Any, IsTrue, IsFalse, IsPermutation, MatchBool, slice_set, remove}
+use Rattle.std.proofs.Common.{◌≡◌, ◌<◌, ◌≤◌, ◌⊎◌, inl, inr, ℕ, ◌+◌, Bool, true, false, List, [], ◌∷◌, ◌++◌, Some, None, refl, sym, subst, ap, ◌∙◌, arith, map, length, get_or}
+use Rattle.std.specs.Prelude.{All, Any, IsPermutation, MatchBool, slice_set, remove}
 use Rattle.std.specs.List.{concat}
 use Rattle.std.proofs.lemmas.List.{length-append, length-set, map-append, get_or-set_same, get_or_default}
 use Rattle.std.proofs.lemmas.Bool.{cases_lt}
-use Rattle.std.proofs.lemmas.List.Elements.{All-nil, All-cons, All-append, All-push, All-map, All-weaker, All-head, All-tail}
+use Rattle.std.proofs.lemmas.List.Elements.{All-cons, All-push, All-head, All-tail}
 use Rattle.std.proofs.lemmas.List.Sorted.{IsPermutation-refl, IsPermutation-sym, IsPermutation-trans, IsPermutation-map, IsPermutation-append_left, IsPermutation-append_right, IsPermutation-middle, IsPermutation-remove, All-permutation, length_permutation}
 use Rattle.srb.specs.declared.Class.TheVariants.{Good, Busy, Bad}
-use Rattle.srb.specs.Adapter.{AdapterView, TagInUse, IsInOrder, IsOn, HasTag, HasNotTag}
+use Rattle.srb.specs.Adapter.{AdapterView, TagInUse, IsOn, HasTag, HasNotTag}
 use Rattle.irp.specs.declared.Payload.{Payload}
 use Rattle.device.specs.declared.Request.{Request}
 use Rattle.device.specs.declared.Label.TheVariants.{Cancel}
 use Rattle.device.specs.Rules.{Rules}
-use Rattle.device.specs.State.{OpenRequest, Piece, State, IsSame}
+use Rattle.device.specs.State.{OpenRequest}
 use Rattle.device.specs.Holding.{Cancels, as_cancelled}
 use Rattle.device.specs.declared.Kind.TheVariants.{Read}
 use Rattle.device.specs.Seen.{Carries, IsBounded, payload_bytes, transfer_length}
-use Rattle.device.specs.Served.{IsBeside, NoneToCancel, CancelsIfOpen}
+use Rattle.device.specs.Served.{CancelsIfOpen}
 use Rattle.device.proofs.Numbers.{AreDistinct-Step}
 use Rattle.port.specs.declared.queues.Held.{Held}
 use Rattle.port.specs.declared.queues.Ended.{Ended}
 use Rattle.port.specs.declared.queues.Outcome.{Outcome}
 use Rattle.port.specs.declared.queues.Outcome.TheVariants.{Returned, Flushed, Gone}
 use Rattle.port.specs.Books.{Entry, Books, entry_of, ended_entry}
-use Rattle.port.specs.Turns.{held_on, cancelled, is_cancellable, CannotCancelHeld, CannotCancelEnded, CannotCancelOn, FlushesNot, CancelsOn, CancelsEnded, CancelsNoEnded}
+use Rattle.port.specs.Turns.{held_on, cancelled, is_cancellable, CannotCancelHeld, CannotCancelOn, FlushesNot, CancelsOn, CancelsEnded, CancelsNoEnded}
 use Rattle.port.specs.Cancelling.{CancelsAt, CancelsNotAt, CancelsNoStarted}
-use Rattle.port.specs.Shown.{rules_of, waiting_open, done_open, out_open, out_piece, open_on, piece_on, entry_on, entry_or_nobody, sectors_moved, packet as packet_as, of_packets, of_waiting, of_tag, of_done, state_of, seen_of, requests_of}
-use Rattle.port.specs.Kept.{asked, IsKept, IsInHand, IsRoom, IsWaiting, IsAtWork, IsDoing, HasEnded, HasOutcome}
+use Rattle.port.specs.Shown.{rules_of, waiting_open, done_open, out_open, out_piece, open_on, entry_on, entry_or_nobody, sectors_moved, packet as packet_as, of_packets, of_waiting, of_tag, of_done, state_of, seen_of, requests_of}
+use Rattle.port.specs.Kept.{asked, IsKept, IsInHand, IsRoom, IsAtWork, IsDoing, HasEnded, HasOutcome}
 use Rattle.port.proofs.Lists.{second_front, last_front}
 use Rattle.port.proofs.Tags.{others_same, others_apart}
 use Rattle.port.proofs.Starting.{work_beside}
-use Rattle.port.proofs.Returning.{tags_on, on_tag_work, done_is, done_as}
+use Rattle.port.proofs.Returning.{tags_on, on_tag_work, done_is}
 use Rattle.port.proofs.Handing.{third_front}
 use Rattle.port.proofs.Orderly.{in_hand, all_three}
 use Rattle.port.proofs.Draining.{IsCancelled, can_facts, cannot_facts}

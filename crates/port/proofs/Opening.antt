@@ -1,21 +1,18 @@
 -- Open requests of the port, by where their packets are.
-use Rattle.std.proofs.Common.{◌≡◌, ◌≢◌, ◌<◌, ◌≤◌, ◌⊎◌, inl, inr, ℕ, zero, suc, ◌+◌, ◌-◌, Bool, true, false, not, List, [], ◌∷◌, ◌++◌, Option, Some, None, refl, sym, subst, ap, ◌∙◌, arith, map, length, get_or, replicate}
-use Rattle.std.specs.Prelude.{All, Any, IsTrue, IsFalse, slice_range}
+use Rattle.std.proofs.Common.{◌≡◌, ◌<◌, ℕ, zero, suc, ◌+◌, ◌-◌, Bool, true, false, not, List, [], ◌∷◌, refl, ap, ◌∙◌, arith, map, length, replicate}
+use Rattle.std.specs.Prelude.{All, Any, IsTrue, slice_range}
 use Rattle.std.specs.List.{list_all, list_any}
-use Rattle.std.proofs.lemmas.List.{length-replicate, length-map, take-replicate, drop-replicate, get_or-map}
-use Rattle.std.proofs.lemmas.List.Elements.{All-nil, All-cons, All-append, All-map, All-weaker, All-replicate, All-take, All-drop, All-head, All-tail}
-use Rattle.srb.specs.declared.Class.{Class}
+use Rattle.std.proofs.lemmas.List.{length-map, get_or-map}
+use Rattle.std.proofs.lemmas.List.Elements.{All-replicate, All-take, All-drop}
 use Rattle.srb.specs.declared.Class.TheVariants.{Good, Busy, Bad}
-use Rattle.irp.specs.declared.Payload.{Payload}
-use Rattle.device.specs.declared.Request.{Request}
 use Rattle.device.specs.Rules.{Rules}
-use Rattle.device.specs.State.{Mark, Untouched, Out, Done, Failed, Back, OpenRequest}
-use Rattle.device.specs.Sending.{is_untouched, is_started, is_unsent, IsUnsent}
-use Rattle.device.specs.Settled.{is_out, has_out, HasGone}
+use Rattle.device.specs.State.{Mark, Untouched, Out, Done, Failed, Back}
+use Rattle.device.specs.Sending.{is_untouched, is_started, IsUnsent}
+use Rattle.device.specs.Settled.{is_out}
 use Rattle.port.specs.declared.queues.Ended.{Ended}
 use Rattle.port.specs.declared.queues.Outcome.{Outcome}
 use Rattle.port.specs.declared.queues.Outcome.TheVariants.{Returned, Flushed, Gone}
-use Rattle.port.specs.Shown.{marks_left, places_of, sectors_moved, done_open, busy_left}
+use Rattle.port.specs.Shown.{marks_left, places_of, sectors_moved, done_open}
 use Rattle.port.proofs.Lists.{length-cut}
 
 pub Any-map : {X Y : Type 0} (f : X → Y) (P : Y → Type 0) (xs : List X) → Any (λ x. P (f x)) xs → Any P (map f xs)

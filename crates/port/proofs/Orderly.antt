@@ -1,26 +1,25 @@
 -- What the port keeps, in the terms of its layer.
-use Rattle.std.proofs.Common.{◌≡◌, ◌≢◌, ◌<◌, ◌≤◌, ◌⊎◌, inl, inr, ℕ, zero, suc, ◌+◌, ◌-◌, Bool, true, false, not, List, [], ◌∷◌, ◌++◌, Option, Some, None, refl, sym, subst, ap, ◌∙◌, arith, map, length, get_or, replicate}
-use Rattle.std.specs.Prelude.{All, IsTrue, IsFalse, IsPermutation}
-use Rattle.std.specs.List.{list_all}
+use Rattle.std.proofs.Common.{◌≡◌, ◌<◌, ◌≤◌, inl, inr, ℕ, true, false, List, [], ◌∷◌, ◌++◌, refl, sym, subst, ap, ◌∙◌, arith, map, length, get_or}
+use Rattle.std.specs.Prelude.{All, IsPermutation}
 use Rattle.std.proofs.lemmas.List.{length-replicate, length-map, map-append}
-use Rattle.std.proofs.lemmas.List.Elements.{All-nil, All-cons, All-append, All-map, All-weaker, All-replicate}
+use Rattle.std.proofs.lemmas.List.Elements.{All-nil, All-append, All-map, All-weaker, All-replicate}
 use Rattle.std.proofs.lemmas.List.Sorted.{IsPermutation-refl}
 use Rattle.srb.specs.declared.Class.TheVariants.{Good, Busy, Bad}
 use Rattle.irp.specs.declared.Payload.{Payload}
-use Rattle.srb.specs.Adapter.{AdapterView, TagInUse, IsInOrder}
+use Rattle.srb.specs.Adapter.{AdapterView, TagInUse}
 use Rattle.device.specs.declared.Request.{Request}
 use Rattle.device.specs.Rules.{Rules}
-use Rattle.device.specs.State.{Mark, Untouched, Out, Done, Failed, Back, OpenRequest, Piece, State}
-use Rattle.device.specs.Sending.{is_untouched, is_started, status_of_completion}
+use Rattle.device.specs.State.{Out, Done, Failed, Back, OpenRequest}
+use Rattle.device.specs.Sending.{is_started, status_of_completion}
 use Rattle.device.specs.Settled.{HasGone, IsAllSent}
 use Rattle.device.specs.Numbers.{HasPlaces, HavePlaces, request_number}
-use Rattle.device.specs.Seen.{Packet, packet_number, IsOrderly, IsRead, IsSending, WaitsForTag, piece_on_tag, use_on_tag}
+use Rattle.device.specs.Seen.{packet_number, IsSending, WaitsForTag, piece_on_tag, use_on_tag}
 use Rattle.port.specs.declared.queues.Held.{Held}
 use Rattle.port.specs.declared.queues.Ended.{Ended}
 use Rattle.port.specs.declared.queues.Outcome.{Outcome}
 use Rattle.port.specs.declared.queues.Outcome.TheVariants.{Returned, Flushed, Gone}
 use Rattle.port.specs.Books.{Books}
-use Rattle.port.specs.Shown.{entry_on, rules_of, places_of, sectors_moved, marks_left, busy_left, waiting_open, open_on, piece_on, done_open, packet, of_waiting, of_tag, of_done, state_of, seen_of, requests_of, packets_of}
+use Rattle.port.specs.Shown.{entry_on, rules_of, places_of, sectors_moved, marks_left, busy_left, waiting_open, open_on, piece_on, done_open, packet, of_waiting, of_tag, of_done, state_of, requests_of, packets_of}
 use Rattle.port.specs.Kept.{IsKept, IsBusy, IsInHand, IsWaiting, IsAtWork, HasEnded, HasOutcome}
 use Rattle.port.specs.Releases.{AreLowerInUse}
 use Rattle.port.proofs.Lists.{length-cut}

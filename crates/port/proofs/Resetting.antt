@@ -1,28 +1,27 @@
 -- A reset, and labels that are taken.
-use Rattle.std.proofs.Common.{◌≡◌, ◌≢◌, ◌<◌, ◌≤◌, ◌⊎◌, inl, inr, ℕ, zero, suc, ◌+◌, ◌-◌, Bool, true, false, not, List, [], ◌∷◌, ◌++◌, Option, Some, None, refl, sym, subst, ap, ◌∙◌, arith, map, length, get_or}
+use Rattle.std.proofs.Common.{◌≡◌, ◌<◌, ◌≤◌, inl, ℕ, suc, ◌+◌, ◌-◌, Bool, true, not, List, [], ◌∷◌, ◌++◌, Option, Some, None, refl, sym, subst, ap, arith, map, length}
 use Rattle.std.specs.Prelude.{All, AllPairs, IsNone, IsPermutation, MatchOption, filter}
 use Rattle.std.proofs.lemmas.List.{length-append, length-map, map-append, get_or-map}
 use Rattle.std.proofs.lemmas.List.Elements.{All-nil, All-cons, All-weaker, All-head, All-tail, All-map}
 use Rattle.std.proofs.lemmas.List.Kept.{AllPairs-from_increasing}
 use Rattle.std.proofs.lemmas.List.Sorted.{IsPermutation-refl, IsPermutation-sym, IsPermutation-trans, IsPermutation-cons, IsPermutation-map, IsPermutation-middle, IsPermutation-append_left, IsPermutation-append_right, IsPermutation-filter_both, All-permutation, length_permutation}
 use Rattle.srb.specs.declared.DeviceLabel.{DeviceLabel}
-use Rattle.srb.specs.declared.DeviceLabel.TheVariants.{Fault}
 use Rattle.srb.specs.Fate.{Fate, Fresh, Acted, Faulted}
-use Rattle.srb.specs.Adapter.{AdapterView, TagInUse, IsInOrder, IsReserved, MovesByAll}
+use Rattle.srb.specs.Adapter.{AdapterView, TagInUse, IsInOrder, IsReserved, MovesByAll, NotesReset}
 use Rattle.miniport.specs.Calls.{Resets as AdapterResets, HasNoLabel, LeavesFirst, after_reset, fate_after_reset, has_done_nothing, is_fresh as is_fresh_use, fault_of as use_fault}
 use Rattle.device.specs.declared.Request.{Request}
 use Rattle.device.specs.Rules.{Rules}
-use Rattle.device.specs.State.{OpenRequest, Piece, State, IsSame}
+use Rattle.device.specs.State.{Piece, State, IsSame}
 use Rattle.device.specs.Sending.{with_fate}
 use Rattle.device.specs.Seen.{label_places}
-use Rattle.device.specs.Served.{Resets, Moves, HaveRisingTags, IsBelow, is_fresh_piece, fault_of, as_label}
+use Rattle.device.specs.Served.{Resets, HaveRisingTags, IsBelow, is_fresh_piece, fault_of, as_label}
 use Rattle.device.specs.Step.{Run}
-use Rattle.device.proofs.Same.{IsSame-refl, IsSame-trans, Run-same}
+use Rattle.device.proofs.Same.{IsSame-refl, Run-same}
 use Rattle.device.proofs.Numbers.{AreDistinct-Run}
 use Rattle.port.specs.declared.queues.Held.{Held}
 use Rattle.port.specs.Books.{Entry, Books}
-use Rattle.port.specs.Shown.{rules_of, waiting_open, done_open, open_on, piece_on, packet as packet_as, of_packets, of_waiting, of_tag, of_done, state_of, seen_of, requests_of}
-use Rattle.port.specs.Kept.{asked, IsKept, IsInHand, IsRoom, IsWaiting, IsAtWork, IsDoing}
+use Rattle.port.specs.Shown.{rules_of, waiting_open, done_open, open_on, piece_on, packet as packet_as, of_packets, of_waiting, of_tag, of_done, state_of, seen_of}
+use Rattle.port.specs.Kept.{asked, IsInHand, IsRoom, IsWaiting, IsAtWork, IsDoing}
 use Rattle.port.proofs.Tags.{tag_of, tags_fit}
 use Rattle.port.proofs.Starting.{room_moves, waiting_moves}
 use Rattle.port.proofs.Orderly.{in_hand, maps_are}
@@ -203,11 +202,11 @@ reset_all b v v' rooms k space h order =
     let d = k.kept.sizes.depth in
     let room : length v.labels + (v.depth - length v.tags) + v.depth ≤ 64 = omega arith in
     let faults : map fault_of (map (piece_on rules b.started) h.fresh) ≡ map use_fault h.fresh = maps_are (piece_on rules b.started) fault_of use_fault (λ u. refl) h.fresh in
-    let moves = subst (λ x. MovesByAll v (map use_fault h.fresh) x) h.after h.moves in
     subst (λ x. IsReset b v x) (sym h.after) (record {
       rooms = λ rs i. hand_reset b v h.tags h.fresh h.failures rs i h.in_use h.are_fresh room (subst IsInOrder h.after order);
       resets = record {
         fresh = map (piece_on rules b.started) h.fresh;
+        all_faulted = h.all_faulted;
         all_fresh = subst (λ ps. IsPermutation (map (piece_on rules b.started) h.fresh) ps) (filter_pieces rules b.started v.tags) (IsPermutation-map (piece_on rules b.started) _ _ (IsPermutation-sym _ _ h.are_fresh));
         rising = rising_pieces rules b.started h.fresh (AllPairs-from_increasing _ h.rising);
         moves = record {
@@ -216,8 +215,9 @@ reset_all b v v' rooms k space h order =
           same_submitted = refl;
           same_most = refl;
           run = reset_run b v h.tags h.fresh h.failures (map use_fault h.fresh) h.in_use h.are_fresh;
-          adapter = subst (λ ls. MovesByAll v ls (view_reset v h.tags h.failures (map use_fault h.fresh))) (sym faults) moves;
+          adapter = subst (λ ls. MovesByAll v ls h.all_faulted) (sym faults) h.moves;
         };
+        noted = subst (λ x. NotesReset h.all_faulted x) h.after h.noted;
       };
     })
 

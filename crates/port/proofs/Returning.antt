@@ -1,20 +1,19 @@
 -- The piece of a tag comes back, and its packet ends.
-use Rattle.std.proofs.Common.{◌≡◌, ◌≢◌, ◌<◌, ◌≤◌, ◌⊎◌, inl, inr, ℕ, ◌+◌, ◌-◌, Bool, true, false, List, [], ◌∷◌, ◌++◌, Option, Some, None, refl, sym, subst, ap, ◌∙◌, arith, map, length, get_or, set, replicate}
-use Rattle.std.specs.Prelude.{All, Contains, IsTrue, IsFalse, IsPermutation, slice_set, IsSome}
+use Rattle.std.proofs.Common.{◌≡◌, ◌<◌, ◌≤◌, inl, ℕ, ◌+◌, ◌-◌, Bool, true, List, [], ◌∷◌, ◌++◌, Option, Some, None, refl, sym, subst, ap, ◌∙◌, arith, map, length, replicate}
+use Rattle.std.specs.Prelude.{All, IsPermutation, slice_set, IsSome}
 use Rattle.std.specs.List.{concat}
 use Rattle.ntstatus.specs.declared.Sense.{Sense}
-use Rattle.std.proofs.lemmas.List.{length-replicate, length-set, length-append, length-map, map-append, get_or-set_other}
-use Rattle.std.proofs.lemmas.List.Elements.{All-map, All-nil, All-cons, All-append, All-push, All-weaker, All-head, All-tail}
-use Rattle.std.proofs.lemmas.List.Sorted.{IsPermutation-refl, IsPermutation-sym, IsPermutation-trans, IsPermutation-map, IsPermutation-append_left, IsPermutation-append_right, IsPermutation-middle, All-permutation, Contains-permutation, length_permutation}
+use Rattle.std.proofs.lemmas.List.{length-replicate, length-set, length-append, length-map, map-append}
+use Rattle.std.proofs.lemmas.List.Elements.{All-map, All-push, All-weaker, All-head, All-tail}
+use Rattle.std.proofs.lemmas.List.Sorted.{IsPermutation-sym, IsPermutation-trans, IsPermutation-map, IsPermutation-append_left, IsPermutation-append_right, All-permutation, Contains-permutation, length_permutation}
 use Rattle.sector.specs.Splice.{splice}
 use Rattle.srb.specs.declared.Srb.{Srb}
 use Rattle.srb.specs.declared.Completion.{Completion}
 use Rattle.srb.specs.declared.Class.{Class}
 use Rattle.srb.specs.declared.Class.TheVariants.{Good, Busy, Bad}
-use Rattle.srb.specs.declared.DeviceLabel.{DeviceLabel}
 use Rattle.srb.specs.declared.DeviceLabel.TheVariants.{Return}
-use Rattle.srb.specs.Fate.{Fate, Fresh, Acted, Faulted, class_of}
-use Rattle.srb.specs.Adapter.{AdapterView, TagInUse, IsInOrder, IsFree, IsOn, HasNotTag, MayReturn, ReturnsOn, IsReserved}
+use Rattle.srb.specs.Fate.{Acted, class_of}
+use Rattle.srb.specs.Adapter.{AdapterView, TagInUse, IsInOrder, IsOn, HasNotTag, MayReturn}
 use Rattle.miniport.specs.Calls.{Finishes as AdapterFinishes, FinishesNot as AdapterFinishesNot}
 use Rattle.irp.specs.declared.Payload.{Payload}
 use Rattle.irp.specs.declared.Payload.TheVariants.{Srb as Packed}
@@ -22,10 +21,10 @@ use Rattle.device.specs.declared.Kind.{Kind}
 use Rattle.device.specs.declared.Kind.TheVariants.{Read, Write, Flush}
 use Rattle.device.specs.declared.Request.{Request}
 use Rattle.device.specs.Rules.{Rules, as_client}
-use Rattle.device.specs.State.{Mark, Done, Out, OpenRequest, Piece, State, IsSame}
+use Rattle.device.specs.State.{Mark, Done, Out, OpenRequest}
 use Rattle.device.specs.Sending.{Leaves, Returns, given_back, one_if_busy, HasOtherTag}
-use Rattle.device.specs.Seen.{AsksFor, Carries, IsBounded, Packet, payload_bytes, sent_bytes, label_places, transfer_length}
-use Rattle.device.specs.Served.{Finishes, FinishesNot, IsStart, Moves}
+use Rattle.device.specs.Seen.{AsksFor, Carries, IsBounded, payload_bytes, sent_bytes, label_places, transfer_length}
+use Rattle.device.specs.Served.{Finishes, FinishesNot, Moves}
 use Rattle.device.proofs.Same.{IsSame-refl}
 use Rattle.device.proofs.Numbers.{AreDistinct-DeviceStep}
 use Rattle.port.specs.declared.queues.Held.{Held}
@@ -34,12 +33,12 @@ use Rattle.port.specs.declared.queues.Outcome.{Outcome}
 use Rattle.port.specs.declared.queues.Outcome.TheVariants.{Returned, Flushed, Gone}
 use Rattle.port.specs.Books.{Entry, Books, entry_of, ended_entry}
 use Rattle.port.specs.Turns.{held_on, EndsAs, Ends}
-use Rattle.port.specs.Shown.{rules_of, places_of, sectors_moved, marks_left, busy_left, open_as, waiting_open, done_open, out_open, out_piece, open_on, piece_on, entry_on, entry_or_nobody, packet as packet_as, of_packets, of_waiting, of_tag, of_done, state_of, seen_of, requests_of, packets_of}
-use Rattle.port.specs.Kept.{asked, IsKept, IsInHand, IsRoom, IsWaiting, IsAtWork, IsDoing, HasEnded, HasOutcome}
+use Rattle.port.specs.Shown.{rules_of, places_of, sectors_moved, marks_left, busy_left, open_as, waiting_open, done_open, out_open, out_piece, open_on, piece_on, entry_on, packet as packet_as, of_packets, of_waiting, of_tag, of_done, state_of, seen_of, requests_of}
+use Rattle.port.specs.Kept.{asked, IsKept, IsRoom, IsWaiting, IsAtWork, IsDoing, HasEnded, HasOutcome}
 use Rattle.port.specs.Releases.{Releases}
 use Rattle.port.proofs.Lists.{splice_whole, second_front, last_front, length-cut}
 use Rattle.port.proofs.Tags.{others_same, others_apart}
-use Rattle.port.proofs.Labels.{moves_one, moves_append}
+use Rattle.port.proofs.Labels.{moves_one}
 use Rattle.port.proofs.Starting.{work_beside, room_moves, waiting_moves, moves_then}
 
 abbrev pub books_returned : Books → ℕ → Ended → Books

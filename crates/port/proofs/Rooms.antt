@@ -1,20 +1,19 @@
 -- Places made, and given back.
-use Rattle.std.proofs.Common.{◌≡◌, ◌<◌, ◌≤◌, ◌⊎◌, inl, ℕ, ◌+◌, ◌-◌, List, [], ◌∷◌, refl, sym, subst, ap, ◌∙◌, arith, map, length}
+use Rattle.std.proofs.Common.{◌≡◌, ◌<◌, ◌≤◌, ◌⊎◌, ℕ, ◌+◌, ◌-◌, List, [], ◌∷◌, refl, sym, subst, ap, ◌∙◌, arith, map, length}
 use Rattle.std.specs.Prelude.{All, IsTrue}
 use Rattle.std.proofs.lemmas.List.Elements.{All-cons, All-tail, All-weaker}
-use Rattle.std.proofs.lemmas.List.Sorted.{IsPermutation-refl}
 use Rattle.std.specs.Prelude.{Result, Ok, Err, OnErr}
 use Rattle.sector.specs.declared.Extent.{Extent}
-use Rattle.srb.specs.Adapter.{AdapterView, IsInOrder, IsReserved, MovesByAll}
+use Rattle.srb.specs.Adapter.{AdapterView, IsInOrder, IsReserved}
 use Rattle.miniport.specs.Calls.{Reserves as AdapterReserves}
 use Rattle.device.specs.declared.Kind.TheVariants.{Write}
 use Rattle.device.specs.declared.Request.{Request}
 use Rattle.device.specs.Rules.{Rules}
-use Rattle.device.specs.Seen.{Seen, IsBounded}
+use Rattle.device.specs.Seen.{IsBounded}
 use Rattle.device.specs.Served.{Reserves}
 use Rattle.port.specs.Books.{Books}
 use Rattle.port.specs.Shown.{rules_of, seen_of, of_packets}
-use Rattle.port.specs.Kept.{asked, IsKept, IsBusy, IsInHand, IsRoom, IsWaiting}
+use Rattle.port.specs.Kept.{asked, IsKept, IsInHand, IsRoom, IsWaiting}
 use Rattle.port.proofs.Starting.{room_moves, waiting_moves}
 use Rattle.port.proofs.Orderly.{in_hand}
 
@@ -95,11 +94,7 @@ seen_reserved b b' v v' places h e =
     subst (λ x. Reserves (seen_of b v) (seen_of x v')) (sym e) (subst (λ x. Reserves (seen_of b v) (seen_of (with_places b places) x)) (sym h.after) (record {
       same = refl;
       adapter = record {
-        tags = v.tags;
-        failures = v.failures;
         reserved = h.reserved;
-        in_use = inl (IsPermutation-refl _);
-        counted = omega arith;
         after = refl;
         lasts = λ extent r. subst (λ x. IsReserved x extent) h.after (h.lasts extent r);
       };

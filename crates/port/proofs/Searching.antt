@@ -1,18 +1,16 @@
 -- Packets that are cancelled, or that wait at a removal: the queues.
-use Rattle.std.proofs.Common.{◌≡◌, ◌≢◌, ◌<◌, ◌≤◌, ◌⊎◌, inl, inr, ℕ, zero, suc, ◌+◌, Bool, true, false, List, [], ◌∷◌, ◌++◌, Option, Some, None, refl, sym, subst, ap, ◌∙◌, arith, map, length, get_or, take, drop}
-use Rattle.std.specs.Prelude.{All, IsTrue, IsFalse, position, remove}
+use Rattle.std.proofs.Common.{◌≡◌, ◌<◌, ℕ, suc, ◌+◌, Bool, true, false, List, [], ◌∷◌, ◌++◌, Some, None, refl, sym, ap, ◌∙◌, arith, map, length, get_or, take, drop}
+use Rattle.std.specs.Prelude.{All, position, remove}
 use Rattle.std.specs.List.{position_from}
-use Rattle.std.proofs.lemmas.List.{append-nil, nil_from_length, take-append-drop, drop_more, append_assoc}
+use Rattle.std.proofs.lemmas.List.{append-nil, nil_from_length, take-append-drop, drop_more}
 use Rattle.std.proofs.lemmas.List.Elements.{All-nil, All-cons}
 use Rattle.std.proofs.lemmas.List.Quantifiers.{position-Some}
 use Rattle.std.proofs.lemmas.Iterator.Adapters.{position_from-zero}
-use Rattle.irp.specs.declared.Payload.{Payload}
 use Rattle.port.specs.declared.queues.Held.{Held}
 use Rattle.port.specs.declared.queues.Ended.{Ended}
-use Rattle.port.specs.declared.queues.Outcome.{Outcome}
 use Rattle.port.specs.declared.queues.Outcome.TheVariants.{Flushed}
-use Rattle.port.specs.Books.{Entry, Books, entry_of, ended_entry}
-use Rattle.port.specs.Turns.{gone, drained, cancelled, can_cancel_held, can_cancel_ended, CannotCancelHeld, CannotCancelEnded, Flushes, FlushesNot, CancelsEnded, CancelsNoEnded}
+use Rattle.port.specs.Books.{Books, entry_of, ended_entry}
+use Rattle.port.specs.Turns.{gone, drained, cancelled, can_cancel_held, can_cancel_ended, Flushes, FlushesNot, CancelsEnded, CancelsNoEnded}
 
 pub drained_by : (b x : Books) (before after : List Held) → b.waiting ≡ before ++ x.waiting → x.done ≡ b.done ++ map gone before → x ≡ record b { waiting = x.waiting; done = x.done }
     → length x.waiting ≡ 0 → length after ≡ 0 → record x { waiting = after; removing = true } ≡ drained b

@@ -1,15 +1,12 @@
 -- A request of the port in numbers: its places, its command, and that it is not refused.
-use Rattle.std.proofs.Common.{◌≡◌, ◌≢◌, ◌<◌, ◌≤◌, ◌⊎◌, inl, inr, ℕ, zero, suc, ◌+◌, ◌*◌, ◌/◌, ◌%◌, ◌^◌, ◌==◌, ◌&&◌, Bool, true, false, not, nat_le, List, [], ◌∷◌, Option, Some, None, refl, sym, subst, ap, ◌∙◌, arith, length}
-use Rattle.std.specs.Prelude.{IsTrue, IsFalse, is_none, if◌then◌else◌, slice_get}
+use Rattle.std.proofs.Common.{◌≡◌, ◌<◌, ◌≤◌, ◌⊎◌, inl, inr, ℕ, zero, suc, ◌+◌, ◌*◌, ◌/◌, ◌%◌, ◌^◌, ◌==◌, ◌&&◌, Bool, true, false, nat_le, List, [], Some, None, refl, subst, ◌∙◌, arith, length}
 use Rattle.std.proofs.lemmas.Bool.Decides.{nat_tests}
 use Rattle.std.proofs.lemmas.Nat.{div-mul-add, mod-mul-add, mul-le}
-use Rattle.sector.specs.declared.Extent.{Extent}
-use Rattle.cdb.specs.declared.Cdb.{Cdb}
-use Rattle.cdb.specs.declared.Cdb.TheVariants.{Read10, Write10, Sync10}
+use Rattle.cdb.specs.declared.Cdb.TheVariants.{Write10}
 use Rattle.device.specs.declared.Kind.{Kind}
 use Rattle.device.specs.declared.Kind.TheVariants.{Read, Write, Flush}
 use Rattle.device.specs.declared.Request.{Request}
-use Rattle.device.specs.Rules.{Rules, is_transfer, as_client, place_count, first_sector, sectors_of, home, is_in_bounds}
+use Rattle.device.specs.Rules.{Rules, is_transfer, as_client, place_count, sectors_of, is_in_bounds}
 use Rattle.device.specs.State.{State}
 use Rattle.device.specs.Calling.{refusal, bytes_carried}
 use Rattle.device.specs.Sending.{command_for}

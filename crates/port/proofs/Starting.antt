@@ -1,11 +1,11 @@
 -- The packet that waited longest goes to a free tag.
-use Rattle.std.proofs.Common.{◌≡◌, ◌≢◌, ◌<◌, ◌≤◌, ◌⊎◌, inl, inr, ℕ, zero, suc, ◌+◌, Bool, true, false, not, List, [], ◌∷◌, ◌++◌, Option, Some, None, refl, sym, subst, ap, ◌∙◌, arith, add-one, map, length, get_or, set, replicate}
+use Rattle.std.proofs.Common.{◌≡◌, ◌≢◌, ◌<◌, ◌≤◌, ◌⊎◌, inl, inr, ℕ, ◌+◌, Bool, true, false, List, [], ◌∷◌, ◌++◌, Option, Some, None, refl, sym, subst, ap, ◌∙◌, arith, add-one, map, length, get_or, replicate}
 use Rattle.std.proofs.lemmas.Bool.{cases_lt}
 use Rattle.port.specs.Turns as Turn
-use Rattle.std.specs.Prelude.{All, Any, IsTrue, IsFalse, IsPermutation, slice_set, slice_index}
+use Rattle.std.specs.Prelude.{All, Any, IsTrue, IsPermutation, slice_set, slice_index}
 use Rattle.std.proofs.lemmas.List.{length-replicate, length-set, get_or-set_same, get_or-set_other, length-append, map-append}
 use Rattle.std.proofs.lemmas.List.Elements.{All-nil, All-cons, All-append, All-map, All-weaker, All-head, All-tail}
-use Rattle.std.proofs.lemmas.List.Sorted.{IsPermutation-refl, IsPermutation-sym, IsPermutation-trans, IsPermutation-map, IsPermutation-append_left, IsPermutation-append_right, IsPermutation-middle, All-permutation, length_permutation}
+use Rattle.std.proofs.lemmas.List.Sorted.{IsPermutation-refl, IsPermutation-sym, IsPermutation-trans, IsPermutation-map, All-permutation, length_permutation}
 use Rattle.srb.specs.declared.Srb.{Srb}
 use Rattle.srb.specs.declared.DeviceLabel.{DeviceLabel}
 use Rattle.srb.specs.declared.DeviceLabel.TheVariants.{Start}
@@ -22,8 +22,8 @@ use Rattle.device.specs.declared.Kind.TheVariants.{Read, Write, Flush}
 use Rattle.device.specs.declared.ClientRequest.{ClientRequest}
 use Rattle.device.specs.declared.Request.{Request}
 use Rattle.device.specs.Rules.{Rules, as_client}
-use Rattle.device.specs.State.{Mark, Untouched, Out, OpenRequest, Piece, State, IsSame}
-use Rattle.device.specs.Sending.{command_for, HasOtherTag, HasTag, IsLowestFreeTag, IsInTurn, MayStart, IsSendable, IsWhole, Starts, is_started, sent, new_piece}
+use Rattle.device.specs.State.{Mark, Untouched, Out, OpenRequest}
+use Rattle.device.specs.Sending.{command_for, HasOtherTag, HasTag, IsInTurn, Starts, is_started, sent}
 use Rattle.device.specs.Seen.{whole_command, AsksFor, Carries, IsBounded, Seen, sent_bytes}
 use Rattle.device.specs.Served.{IsStart, Moves, as_label}
 use Rattle.device.specs.Step.{Run}
@@ -36,7 +36,7 @@ use Rattle.port.specs.declared.queues.Outcome.TheVariants.{Flushed, Gone}
 use Rattle.port.specs.Books.{Entry, Books, entry_of}
 use Rattle.port.specs.Turns.{held_on, IsPacked}
 use Rattle.port.specs.declared.queues.Sizes.{Sizes}
-use Rattle.port.specs.Shown.{rules_of, places_of, open_as, waiting_open, done_open, out_open, out_piece, open_on, piece_on, entry_on, state_of, requests_of, packets_of, of_packets, of_waiting, of_tag, of_done, packet as packet_as}
+use Rattle.port.specs.Shown.{rules_of, places_of, open_as, waiting_open, done_open, out_open, out_piece, open_on, piece_on, entry_on, state_of, requests_of, of_packets, of_waiting, of_tag, of_done, packet as packet_as}
 use Rattle.port.specs.Kept.{asked, IsKept, IsRoom, IsWaiting, HasEnded, HasOutcome, IsAtWork, IsBefore, AreInTurn}
 use Rattle.port.specs.Releases.{Releases, AreLowerInUse}
 use Rattle.port.proofs.Lists.{splice_whole, second_front}

@@ -1,25 +1,23 @@
 -- A packet is taken in.
-use Rattle.std.proofs.Common.{◌≡◌, ◌≢◌, ◌<◌, ◌≤◌, ℕ, ◌+◌, Bool, true, false, List, [], ◌∷◌, ◌++◌, None, refl, sym, subst, ap, ◌∙◌, arith, map, length, length-append}
-use Rattle.std.specs.Prelude.{All, IsTrue, IsFalse, IsPermutation}
+use Rattle.std.proofs.Common.{◌≡◌, ◌<◌, ◌≤◌, ℕ, ◌+◌, Bool, true, List, [], ◌∷◌, ◌++◌, None, refl, sym, subst, ap, arith, map, length-append}
+use Rattle.std.specs.Prelude.{All, IsFalse, IsPermutation}
 use Rattle.std.proofs.lemmas.List.{map-append, append_assoc}
-use Rattle.std.proofs.lemmas.List.Elements.{All-nil, All-cons, All-append, All-push, All-head, All-tail, All-weaker}
+use Rattle.std.proofs.lemmas.List.Elements.{All-nil, All-cons, All-push, All-head, All-tail, All-weaker}
 use Rattle.std.proofs.lemmas.List.Sorted.{IsPermutation-refl, IsPermutation-sym, IsPermutation-trans, IsPermutation-middle, All-permutation}
-use Rattle.srb.specs.declared.DeviceLabel.{DeviceLabel}
 use Rattle.srb.specs.Adapter.{AdapterView}
 use Rattle.irp.specs.declared.Irp.{Irp}
-use Rattle.irp.specs.declared.Payload.{Payload}
 use Rattle.device.specs.declared.Request.{Request}
 use Rattle.device.specs.Rules.{Rules, as_client}
-use Rattle.device.specs.State.{OpenRequest, State, IsSame}
+use Rattle.device.specs.State.{OpenRequest}
 use Rattle.device.specs.Calling.{Opens, new_request}
 use Rattle.device.specs.Numbers.{IsGiven}
-use Rattle.device.specs.Seen.{Packet, Carries, sent_bytes, packet_of}
+use Rattle.device.specs.Seen.{Carries, sent_bytes, packet_of}
 use Rattle.device.specs.Served.{Submits}
 use Rattle.device.proofs.Numbers.{AreDistinct-Admits}
 use Rattle.port.specs.declared.queues.Held.{Held}
 use Rattle.port.specs.Books.{Entry, Books, entry}
 use Rattle.port.specs.Turns.{held_with, Queued}
-use Rattle.port.specs.Shown.{rules_of, most, waiting_open, open_on, done_open, packet as packet_as, of_packets, of_waiting, of_tag, of_done, state_of, seen_of, packets_of, requests_of}
+use Rattle.port.specs.Shown.{rules_of, most, waiting_open, open_on, done_open, packet as packet_as, of_packets, of_waiting, of_tag, of_done, state_of, seen_of}
 use Rattle.port.specs.Kept.{asked, IsKept, IsRoom, IsWaiting, IsBefore, AreInTurn}
 use Rattle.port.specs.Releases.{Releases}
 use Rattle.port.proofs.Sizing.{not_refused, carries_bytes}

@@ -1,24 +1,22 @@
 -- Tags in use: each is of one piece, and there are no more than the adapter has.
-use Rattle.std.proofs.Common.{◌≡◌, ◌≢◌, ◌<◌, ◌≤◌, ◌⊎◌, inl, inr, ℕ, zero, suc, ◌+◌, Bool, true, false, List, [], ◌∷◌, ◌++◌, refl, sym, subst, ap, ◌∙◌, arith, map, length, get_or, Option}
+use Rattle.std.proofs.Common.{◌≡◌, ◌≢◌, ◌<◌, ◌≤◌, ℕ, zero, suc, ◌+◌, true, List, [], ◌∷◌, refl, sym, subst, ap, ◌∙◌, arith, map, length, Option}
 use Rattle.std.specs.Prelude.{All, Any, AllPairs, Contains, IsPermutation, eqb, remove, slice_set}
-use Rattle.std.specs.List.{IsDistinct, range_with_len, list_any}
+use Rattle.std.specs.List.{IsDistinct, range_with_len}
 use Rattle.std.specs.Set.{is_member}
-use Rattle.std.proofs.lemmas.Bool.Decides.{nat_tests, Decides-eqb}
+use Rattle.std.proofs.lemmas.Bool.Decides.{Decides-eqb}
 use Rattle.std.proofs.lemmas.Cmp.{nat_eq_equiv}
-use Rattle.std.proofs.lemmas.List.{length-map, get_or-map, get_or-set_other, get_or-set_same, get_or_default}
-use Rattle.std.proofs.lemmas.List.Elements.{All-cons, All-head, All-tail, All-contains, All-map, Contains-from_at, Contains-get_or}
-use Rattle.std.proofs.lemmas.List.Sorted.{IsPermutation-remove, IsPermutation-map, Contains-permutation, length_permutation}
+use Rattle.std.proofs.lemmas.List.{length-map, get_or-map, get_or-set_other}
+use Rattle.std.proofs.lemmas.List.Elements.{All-cons, All-head, All-tail, All-contains, All-map}
+use Rattle.std.proofs.lemmas.List.Sorted.{IsPermutation-remove, length_permutation}
 use Rattle.std.proofs.lemmas.List.Kept.{AllPairs-cons}
 use Rattle.std.proofs.lemmas.List.FromFn.{length-range_with_len, get_or-range_with_len}
 use Rattle.std.proofs.lemmas.Map.Made.{length-le_from_is_member, is_member-Decides, IsDistinct-from_AllPairs}
-use Rattle.srb.specs.Adapter.{AdapterView, TagInUse, IsInOrder, IsFree, HasTag, HasNotTag, HaveOtherTags, IsBelow, IsOn}
+use Rattle.srb.specs.Adapter.{AdapterView, TagInUse, IsInOrder, IsFree, HasTag, HasNotTag, HaveOtherTags, IsOn}
 use Rattle.device.proofs.Same.{Any-permutation}
-use Rattle.device.proofs.Permuting.{distinct_first, first_unique}
+use Rattle.device.proofs.Permuting.{distinct_first}
 use Rattle.port.specs.declared.queues.Held.{Held}
 use Rattle.port.specs.Books.{Entry}
-use Rattle.port.specs.Turns.{held_on}
 use Rattle.port.specs.Shown.{entry_on}
-use Rattle.port.proofs.Lists.{map_same}
 
 abbrev pub tag_of : TagInUse → ℕ
 tag_of use' = use'.tag

@@ -1,6 +1,6 @@
 -- What a client knows, from call to call.
-use Rattle.std.proofs.Common.{◌≡◌, ◌<◌, ◌≤◌, ◌⊎◌, inl, inr, ℕ, ◌+◌, ◌-◌, Bool, true, false, List, [], ◌∷◌, Option, Some, None, refl, sym, subst, ap, ◌∙◌, arith, map, length}
-use Rattle.std.specs.Prelude.{MatchBool, MatchOption}
+use Rattle.std.proofs.Common.{◌≡◌, ◌≤◌, ◌⊎◌, inl, inr, ℕ, ◌+◌, Bool, true, false, List, [], ◌∷◌, Option, Some, None, refl, sym, subst, ap, ◌∙◌, arith, map, length}
+use Rattle.std.specs.Prelude.{MatchBool}
 use Rattle.srb.specs.declared.DeviceLabel.{DeviceLabel}
 use Rattle.srb.specs.declared.DeviceLabel.TheVariants.{Start, Act, Fault, Return}
 use Rattle.irp.specs.declared.Payload.{Payload}
@@ -12,6 +12,9 @@ use Rattle.device.specs.Holding.{Cancels}
 use Rattle.device.specs.Step.{Run, DeviceStep}
 use Rattle.device.specs.Seen.{Seen, Packet, label_places}
 use Rattle.device.specs.Served.{Moves, Reserves, Submits, ActsOn, ActsNot, Finishes, FinishesNot, Resets, CancelsIfOpen, DrainsAll, HandsUp, HandsUpNone, TakesLabel, IsBeside, NoneToCancel, as_label}
+use Rattle.srb.specs.Adapter.{AdapterView}
+use Rattle.port.specs.Shown.{rules_of}
+use Rattle.port.specs.Opening.{rules_over, opening_seen}
 use Rattle.port.specs.Client.{IsReady, four_sectors}
 
 step_keeps : (rules : Rules) (s : State) (label : DeviceLabel) (s' : State) → DeviceStep rules s label s' → (s'.next_request ≡ s.next_request) × (s'.removing ≡ s.removing)
@@ -66,7 +69,9 @@ ready_finishes v v' tag true rules next removed h r = ready_moves v v' _ rules n
 ready_finishes v v' tag false rules next removed h r = ready_same v v' rules next removed h.same r
 
 pub ready_resets : (v v' : Seen) (rules : Rules) (next : ℕ) (removed : Bool) → Resets v v' → IsReady v rules next removed → IsReady v' rules next removed
-ready_resets v v' rules next removed h r = ready_moves v v' _ rules next removed h.moves r
+ready_resets v v' rules next removed h r =
+    let k = ready_moves v (record v' { adapter = h.all_faulted }) _ rules next removed h.moves r in
+    record { rules_are = k.rules_are; most_is = k.most_is; numbers = k.numbers; submitted = k.submitted; removing = k.removing }
 
 pub ready_cancels : (v v' : Seen) (number : ℕ) (rules : Rules) (next : ℕ) (removed : Bool) → CancelsIfOpen v number v' → IsReady v rules next removed → IsReady v' rules next removed
 ready_cancels v v' number rules next removed h r = by_case h.one_of
@@ -111,3 +116,21 @@ ready_labels v v' (Some label) rules next removed (rest, first, same) r =
 -- with no label left there are places for what a call may record
 pub places_left : (v : Seen) (rules : Rules) (next : ℕ) (removed : Bool) (more : ℕ) → IsReady v rules next removed → length v.adapter.labels ≡ 0 → rules.depth + more ≤ 64 → label_places v + more ≤ 64
 places_left v rules next removed more r none few = let d = ap (λ (x : Rules). x.depth) r.rules_are in omega arith
+
+-- the rules of a port over four sectors of 512 bytes
+rules_four : (a : AdapterView) → a.sector_size ≡ 512 → length a.sectors ≡ 4 → a.max_transfer ≡ 2 → a.depth ≡ 2 → rules_over a ≡ four_sectors
+rules_four a size count transfer depth =
+    ap (λ (x : ℕ). rules_of (record { sector_size = x; sectors = length a.sectors; max_transfer = a.max_transfer; depth = a.depth })) size
+    ∙ ap (λ (x : ℕ). rules_of (record { sector_size = 512; sectors = x; max_transfer = a.max_transfer; depth = a.depth })) count
+    ∙ ap (λ (x : ℕ). rules_of (record { sector_size = 512; sectors = 4; max_transfer = x; depth = a.depth })) transfer
+    ∙ ap (λ (x : ℕ). rules_of (record { sector_size = 512; sectors = 4; max_transfer = 2; depth = x })) depth
+
+-- a client that gave no number yet knows a port of which nothing was asked
+pub ready_opened : (v : Seen) (a : AdapterView) → v ≡ opening_seen a → a.sector_size ≡ 512 → length a.sectors ≡ 4 → a.max_transfer ≡ 2 → a.depth ≡ 2 → IsReady v four_sectors 1 false
+ready_opened v a e size count transfer depth = subst (λ (x : Seen). IsReady x four_sectors 1 false) (sym e) (record {
+  rules_are = rules_four a size count transfer depth;
+  most_is = refl;
+  numbers = omega arith;
+  submitted = omega arith;
+  removing = refl;
+})

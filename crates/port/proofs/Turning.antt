@@ -1,40 +1,35 @@
 -- The piece of a tag acts or faults, and stays on its tag.
-use Rattle.std.proofs.Common.{◌≡◌, ◌≢◌, ◌<◌, ◌≤◌, ◌⊎◌, inl, inr, ℕ, zero, suc, ◌+◌, ◌-◌, Bool, true, false, List, [], ◌∷◌, ◌++◌, Option, Some, None, refl, sym, subst, ap, ◌∙◌, arith, map, length, get_or}
-use Rattle.std.specs.Prelude.{All, Contains, IsTrue, IsFalse, IsPermutation, MatchBool}
-use Rattle.std.specs.List.{concat}
+use Rattle.std.proofs.Common.{◌≡◌, ◌≤◌, ◌⊎◌, inl, inr, ℕ, zero, suc, ◌+◌, ◌-◌, Bool, true, false, List, [], ◌∷◌, ◌++◌, Some, refl, sym, subst, ap, ◌∙◌, arith, map, length}
+use Rattle.std.specs.Prelude.{All, Contains, IsPermutation, MatchBool}
 use Rattle.std.proofs.lemmas.List.{length-append, length-map}
-use Rattle.std.proofs.lemmas.List.Elements.{All-nil, All-cons, All-weaker, All-head, All-tail, All-contains}
+use Rattle.std.proofs.lemmas.List.Elements.{All-cons, All-weaker, All-tail}
 use Rattle.std.proofs.lemmas.List.Sorted.{IsPermutation-refl, IsPermutation-sym, IsPermutation-trans, IsPermutation-cons, IsPermutation-middle, IsPermutation-append_left, IsPermutation-append_right, All-permutation, Contains-permutation, length_permutation}
-use Rattle.sector.specs.declared.Extent.{Extent}
 use Rattle.sector.specs.Extents.{IsSector}
-use Rattle.srb.specs.declared.Srb.{Srb}
 use Rattle.srb.specs.declared.DeviceLabel.{DeviceLabel}
 use Rattle.srb.specs.declared.DeviceLabel.TheVariants.{Act, Fault}
-use Rattle.srb.specs.Fate.{Fate, Fresh, Acted, Faulted}
 use Rattle.srb.specs.Performing.{Performs}
-use Rattle.srb.specs.Adapter.{AdapterView, TagInUse, IsInOrder, IsOn, ActsOn as AdapterActsOn, FaultsOn as AdapterFaultsOn, IsReserved, acted, faulted}
+use Rattle.srb.specs.Adapter.{AdapterView, TagInUse, IsInOrder, IsOn, ActsOn as AdapterActsOn, FaultsOn as AdapterFaultsOn, acted, faulted}
 use Rattle.miniport.specs.Calls.{Acts as AdapterActs, ActsNot as AdapterActsNot}
-use Rattle.irp.specs.declared.Payload.TheVariants.{Srb as Packed}
 use Rattle.device.specs.declared.Request.{Request}
 use Rattle.device.specs.Rules.{Rules, as_client}
-use Rattle.device.specs.State.{OpenRequest, Piece, State, IsSame}
-use Rattle.device.specs.Sending.{Acts, Faults, with_fate}
-use Rattle.device.specs.Seen.{AsksFor, IsBounded, sent_bytes, label_places}
-use Rattle.device.specs.Served.{ActsOn, ActsNot, IsFreshOn, Moves}
+use Rattle.device.specs.State.{OpenRequest, Piece}
+use Rattle.device.specs.Sending.{Acts, Faults}
+use Rattle.device.specs.Seen.{AsksFor, label_places}
+use Rattle.device.specs.Served.{ActsOn, ActsNot}
 use Rattle.device.specs.Step.{DeviceStep}
 use Rattle.device.proofs.Same.{IsSame-refl}
 use Rattle.device.proofs.Numbers.{AreDistinct-DeviceStep}
 use Rattle.port.specs.declared.queues.Held.{Held}
 use Rattle.port.specs.Books.{Entry, Books, entry_of}
 use Rattle.port.specs.Turns.{held_on}
-use Rattle.port.specs.Shown.{rules_of, waiting_open, done_open, out_open, out_piece, open_on, piece_on, entry_on, packet as packet_as, of_packets, of_waiting, of_tag, of_done, state_of, seen_of, requests_of}
-use Rattle.port.specs.Kept.{asked, IsKept, IsInHand, IsBusy, IsRoom, IsWaiting, IsAtWork, IsDoing}
+use Rattle.port.specs.Shown.{rules_of, waiting_open, done_open, out_open, out_piece, open_on, piece_on, packet as packet_as, of_packets, of_waiting, of_done, state_of, seen_of, requests_of}
+use Rattle.port.specs.Kept.{asked, IsKept, IsInHand, IsRoom, IsWaiting, IsAtWork, IsDoing}
 use Rattle.port.proofs.Lists.{second_front}
 use Rattle.port.proofs.Labels.{moves_one}
 use Rattle.port.proofs.Starting.{room_moves, waiting_moves, kept_sector_some}
 use Rattle.port.proofs.Returning.{tags_on, on_tag_work, on_tag_some}
 use Rattle.port.proofs.Orderly.{in_hand}
-use Rattle.port.proofs.Acting.{IsCarried, carried, the_arrays, with_moved}
+use Rattle.port.proofs.Acting.{IsCarried, carried, the_arrays}
 
 -- the view with other sectors, tags and failures, and one label more
 abbrev pub view_turned : AdapterView → List (List ℕ) → List TagInUse → ℕ → DeviceLabel → AdapterView

@@ -1,5 +1,5 @@
 -- What a client of a layer knows that gives rising numbers.
-use Rattle.std.specs.Prelude.{◌≡◌, ◌≤◌, ◌^◌, ℕ, Bool, true, List, [], ◌∷◌, length, None}
+use Rattle.std.specs.Prelude.{◌≡◌, ◌≤◌, ℕ, Bool}
 use Rattle.device.specs.Rules.{Rules}
 use Rattle.device.specs.Seen.{Seen}
 use Rattle.port.specs.Shown.{rules_of, most}

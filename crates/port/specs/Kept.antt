@@ -1,11 +1,10 @@
 -- What the port keeps.
-use Rattle.std.specs.Prelude.{◌≡◌, ◌<◌, ◌≤◌, ℕ, ◌+◌, ◌-◌, Bool, true, List, [], ◌∷◌, length, Option, Some, IsTrue, IsFalse, All}
+use Rattle.std.specs.Prelude.{◌≡◌, ◌<◌, ◌≤◌, ◌+◌, ◌-◌, Bool, true, List, [], ◌∷◌, length, Option, Some, IsTrue, IsFalse, All}
 use Rattle.std.specs.List.{concat}
 use Rattle.srb.specs.declared.Srb.{Srb}
 use Rattle.srb.specs.declared.Class.TheVariants.{Good, Busy, Bad}
 use Rattle.srb.specs.Fate.{Fate, Fresh, Acted, Faulted, class_of}
 use Rattle.srb.specs.Adapter.{AdapterView, TagInUse, IsInOrder, IsReserved}
-use Rattle.irp.specs.declared.Payload.{Payload}
 use Rattle.irp.specs.declared.Payload.TheVariants.{Srb as Packed}
 use Rattle.device.specs.declared.Kind.TheVariants.{Read, Write}
 use Rattle.device.specs.declared.Request.{Request}
@@ -19,7 +18,7 @@ use Rattle.port.specs.declared.queues.Outcome.{Outcome}
 use Rattle.port.specs.declared.queues.Outcome.TheVariants.{Returned, Flushed, Gone}
 use Rattle.port.specs.Books.{Entry, Books}
 use Rattle.port.specs.Turns.{held_on}
-use Rattle.port.specs.Shown.{rules_of, of_packets, state_of, seen_of, places_of, sectors_moved, most}
+use Rattle.port.specs.Shown.{rules_of, of_packets, state_of, seen_of, sectors_moved, most}
 
 -- the sizes are the adapter's
 pub record AreSizes (sizes : Sizes) (v : AdapterView) : Type 0 where

@@ -1,7 +1,6 @@
 -- A port of which nothing was asked yet.
-use Rattle.std.specs.Prelude.{◌≡◌, ◌≤◌, ℕ, true, List, [], ◌∷◌, map, length, None}
-use Rattle.sector.specs.declared.Extent.{Extent}
-use Rattle.srb.specs.Adapter.{AdapterView, IsInOrder}
+use Rattle.std.specs.Prelude.{◌≡◌, ◌≤◌, true, [], ◌∷◌, map, length, None}
+use Rattle.srb.specs.Adapter.{AdapterView}
 use Rattle.device.specs.Rules.{Rules}
 use Rattle.device.specs.State.{opening}
 use Rattle.device.specs.Seen.{Seen, sectors_in}

@@ -14,6 +14,8 @@ ghost use Rattle.port.specs.Opening.{IsFresh, opening_seen};
 
 mod layer;
 mod queues;
+#[cfg(test)]
+mod tests;
 mod turns;
 
 use device::{Device, Request};

@@ -71,6 +71,9 @@ fn counts_bytes_in_sectors(rt: HostRuntime) {
 fn bytes_are_a_list(rt: HostRuntime) -> Result<(), Fail> {
     let bytes = Bytes::new(vec![in rt.alloc(); 1, 2]?);
     assert_eq!(rt; bytes.as_slice(), [1, 2].as_slice());
+    assert_eq!(rt; bytes.len(), 2);
+    let bytes = bytes.overwritten(&[3, 4]);
+    assert_eq!(rt; bytes.as_slice(), [3, 4].as_slice());
     let kept = bytes.emptied().into_vec();
     assert_eq!(rt; kept.len(), 0);
     assert_eq!(rt; kept.capacity(), 2);

@@ -27,6 +27,7 @@ pub record TagInUse : Type 0 where
   -- met by a reset
   pub was_reset : Bool
 
+-- what an adapter shows
 pub record AdapterView : Type 0 where
   -- bytes of a sector
   pub sector_size : ℕ
@@ -46,12 +47,15 @@ pub record AdapterView : Type 0 where
 
 -- WHAT HOLDS AT EVERY MOMENT
 
+-- the tag is one of the adapter's
 abbrev pub IsBelow : ℕ → TagInUse → Type 0
 IsBelow depth use' = use'.tag < depth
 
+-- the two are on different tags
 abbrev pub HaveOtherTags : TagInUse → TagInUse → Type 0
 HaveOtherTags use' other = use'.tag ≢ other.tag
 
+-- sizes in their ranges, sectors whole, tags below the depth and each once, failures and labels within their bounds
 pub record IsInOrder (view : AdapterView) : Type 0 where
   pub sector_size : (view.sector_size ≡ 512) ⊎ (view.sector_size ≡ 4096)
   pub sectors : (1 ≤ length view.sectors) × (length view.sectors < 2 ^ 32)
@@ -65,12 +69,15 @@ pub record IsInOrder (view : AdapterView) : Type 0 where
 
 -- TAGS
 
+-- its tag is this one
 abbrev pub HasTag : ℕ → TagInUse → Type 0
 HasTag tag use' = use'.tag ≡ tag
 
+-- its tag is another
 abbrev pub HasNotTag : ℕ → TagInUse → Type 0
 HasNotTag tag use' = use'.tag ≢ tag
 
+-- no piece is on the tag
 abbrev pub IsFree : AdapterView → ℕ → Type 0
 IsFree view tag = All (HasNotTag tag) view.tags
 
@@ -104,6 +111,7 @@ IsWritable view srb =
 
 -- ONE LABEL
 
+-- a tag as it takes a piece, which has done nothing yet
 abbrev pub in_use_from : AdapterView → ℕ → ℕ → Srb → TagInUse
 in_use_from view tag piece srb = record {
   tag = tag;
@@ -200,18 +208,23 @@ MovesBy old label new = (tag : ℕ) × MovesOn old tag label new
 
 -- MANY LABELS
 
+-- its piece will come back as BUS_RESET
 abbrev pub met_by_reset : TagInUse → TagInUse
 met_by_reset use' = record use' { was_reset = true }
 
--- what may change with no label: more is reserved, more failures are counted, a reset is noted at all tags in use
+-- what may change with no label: more is reserved
 pub record MovesUnseen (old new : AdapterView) : Type 0 where
+  pub reserved : List Extent
+  pub after : new ≡ record old { reserved = reserved }
+  pub lasts : (extent : Extent) → IsReserved old extent → IsReserved new extent
+
+-- a reset is noted at all tags in use, and may be counted at each
+pub record NotesReset (old new : AdapterView) : Type 0 where
   pub tags : List TagInUse
   pub failures : ℕ
-  pub reserved : List Extent
-  pub in_use : IsPermutation tags old.tags ⊎ IsPermutation tags (map met_by_reset old.tags)
+  pub in_use : IsPermutation tags (map met_by_reset old.tags)
   pub counted : old.failures ≤ failures
-  pub after : new ≡ record old { tags = tags; failures = failures; reserved = reserved }
-  pub lasts : (extent : Extent) → IsReserved old extent → IsReserved new extent
+  pub after : new ≡ record old { tags = tags; failures = failures }
 
 -- the view moves by just these labels, in this order
 abbrev pub MovesByAll : AdapterView → List DeviceLabel → AdapterView → Type 0

@@ -5,6 +5,7 @@ use Rattle.srb.specs.declared.status.SrbStatus.TheVariants.{Pending, Success, Ab
 use Rattle.srb.specs.declared.status.ScsiStatus.{ScsiStatus}
 use Rattle.srb.specs.declared.status.ScsiStatus.TheVariants.{Good as GoodStatus, CheckCondition, Busy as BusyStatus}
 
+-- the code of an SRB status, without the bits for autosense and a frozen queue
 abbrev pub code_of : SrbStatus → ℕ
 code_of Pending = 0x00
 code_of Success = 0x01
@@ -16,6 +17,7 @@ code_of NoDevice = 0x08
 code_of BusReset = 0x0E
 code_of RequestFlushed = 0x16
 
+-- the status byte of a SCSI target
 abbrev pub scsi_code_of : ScsiStatus → ℕ
 scsi_code_of GoodStatus = 0x00
 scsi_code_of CheckCondition = 0x02

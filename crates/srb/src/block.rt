@@ -16,12 +16,14 @@ impl Model for CommandBlock {
 }
 
 impl CommandBlock {
+    /// A block of these bytes, whatever they mean; an adapter fails one that asks for no command.
     pub fn new(bytes: ArrayVec<u8, 16>) -> CommandBlock
         ensures { result ≡ bytes.items }
     {
         CommandBlock { bytes }
     }
 
+    /// The bytes, at most 16.
     pub fn as_slice(&self) -> &[u8]
         ensures value { result.now ≡ self.now }
         ensures short { length self.now ≤ 16 }

@@ -51,6 +51,7 @@ pub enum ScsiStatus {
 }
 
 impl ScsiStatus {
+    /// The status byte: GOOD 00h, CHECK CONDITION 02h, BUSY 08h.
     pub fn code(self) -> u8
         ensures { result ≡ scsi_code_of self }
     {
@@ -74,7 +75,8 @@ impl Completion {
         }
     }
 
-    /// What the completion means to the packet's owner.
+    /// The status that the packet completes with: the first row of the status table that fits, as `NtStatus::from_device`
+    /// has it.
     pub fn status(&self) -> NtStatus
         ensures { result ≡ status_of self.now.srb_status self.now.scsi_status self.now.sense }
     {

@@ -1,5 +1,5 @@
 -- Answers that come too early, or with the wrong status.
-use Rattle.std.proofs.Common.{◌≡◌, [], ◌∷◌, refl, true, false, rules}
+use Rattle.std.proofs.Common.{[], ◌∷◌, refl, true, rules}
 use Rattle.std.specs.Prelude.{IsPermutation}
 use Rattle.std.proofs.lemmas.List.Sorted.{IsPermutation-refl}
 use Rattle.ntstatus.specs.declared.NtStatus.TheVariants.{Success, DeviceDataError, DeviceNotReady}
@@ -11,7 +11,7 @@ use Rattle.device.proofs.Same.{IsSame-refl}
 use Rattle.worked_runs.specs.Small.{small, zeros, full_of, read, write, read_block, write_block, error_of_key, opened, one_place, piece_of}
 use Rattle.worked_runs.specs.Impossible.{NeverAnswers, NeverAnswersAs, one_failed, ReachesOneFailed, one_waits, ReachesOneWaits, cancelled_out, ReachesCancelledOut, unsent, ReachesUnsent, unsent_cancelled, ReachesUnsentCancelled, both_failed, ReachesBothFailed}
 use Rattle.worked_runs.proofs.Steps.{called, started, acted, faulted, returned, cancelled, tag_0, tag_1}
-use Rattle.worked_runs.proofs.Refuting.{never_answered, out_ends_not, untouched_ends_not}
+use Rattle.worked_runs.proofs.Refuting.{never_answered, never_succeeds, out_ends_not, untouched_ends_not}
 
 pub reaches_one_failed : ReachesOneFailed
 reaches_one_failed =
@@ -97,8 +97,7 @@ pub reaches_unsent_cancelled : ReachesUnsentCancelled
 reaches_unsent_cancelled = (_, cancelled small _ (opened 1 (write 0 2 (full_of 165)) (Untouched ∷ [])) [] refl (IsPermutation-refl _) refl, IsSame-refl _)
 
 pub succeeds_not_unsent_cancelled : NeverAnswersAs small unsent_cancelled 1 Success
-succeeds_not_unsent_cancelled bytes =
-    never_answered small unsent_cancelled 1 Success bytes refl ((λ number ended success cause hands. let e : false ≡ true = success.0 refl in cc), tt)
+succeeds_not_unsent_cancelled = never_succeeds small unsent_cancelled 1 refl (refl, tt)
 
 pub reaches_both_failed : ReachesBothFailed
 reaches_both_failed =

@@ -1,57 +1,36 @@
 -- Runs of requests that are cut short or fail.
-use Rattle.std.proofs.Common.{ℕ, Bool, true, false, [], ◌∷◌, ◌++◌, refl, inl, inr, rules}
+use Rattle.std.proofs.Common.{ℕ, true, [], ◌∷◌, ◌++◌, refl, inl, inr, rules}
 use Rattle.std.proofs.lemmas.List.Sorted.{IsPermutation-refl}
 use Rattle.ntstatus.specs.declared.NtStatus.TheVariants.{Cancelled, DeviceBusy, DeviceDataError, DeviceNotReady, IoDeviceError}
 use Rattle.srb.specs.declared.Class.TheVariants.{Good, Busy, Bad}
 use Rattle.srb.specs.Fate.{Fate, Fresh, Acted, Faulted}
-use Rattle.device.specs.State.{OpenRequest, Piece, Mark, Untouched, Out, Done, Failed, Back}
-use Rattle.device.proofs.Commuting.{swapped}
-use Rattle.device.proofs.Same.{IsSame-refl}
-use Rattle.worked_runs.specs.Small.{small, full_of, sectors, read, write, read_block, write_block, bus_reset, error_of_key, opened, one_place, piece_of}
-use Rattle.worked_runs.specs.Failed.{IsCutShort, StaysBusy, IsResetBeforeAct, IsResetAfterAct, AnswersLowestFailure}
-use Rattle.worked_runs.proofs.Steps.{called, started, acted, faulted, returned, answered, cancelled, tag_0, tag_1}
+use Rattle.srb.specs.declared.DeviceLabel.TheVariants.{Act, Return}
+use Rattle.device.specs.declared.Label.TheVariants.{Device, Answer}
+use Rattle.device.specs.State.{OpenRequest, Piece, Mark, Untouched, Out, Done, Failed, Back, opening}
+use Rattle.device.proofs.Same.{IsSame-refl, Run-append}
+use Rattle.worked_runs.specs.Small.{small, zeros, full_of, sectors, idle, read, write, write_block, bus_reset, opened, one_place, piece_of}
+use Rattle.worked_runs.specs.Failed.{cancelled_in_three, IsCutShort, StaysBusy, IsResetBeforeAct, IsResetAfterAct, both_fail, AnswersLowestFailure}
+use Rattle.worked_runs.specs.Impossible.{cut, both_failed}
+use Rattle.worked_runs.proofs.Early.{reaches_both_failed}
+use Rattle.worked_runs.proofs.Losing.{reaches_cut}
+use Rattle.worked_runs.proofs.Steps.{called, started, acted, faulted, returned, answered, cancelled, tag_0}
 
 pub is_cut_short : IsCutShort
 is_cut_short =
-    let w : Bool → Mark → Mark → OpenRequest = λ marked a b. record (opened 1 (write 0 6 (full_of 165 ++ full_of 165 ++ full_of 165)) (a ∷ b ∷ Untouched ∷ [])) { cancelled = marked } in
-    let p : Fate → Piece = λ fate. piece_of 1 0 1 0 fate in
+    let w : Mark → Mark → OpenRequest = λ a b. record (opened 1 (write 0 6 (full_of 165 ++ full_of 165 ++ full_of 165)) (a ∷ b ∷ Untouched ∷ [])) { cancelled = true } in
     let k : Fate → Piece = λ fate. piece_of 2 1 1 1 fate in
     let sector = full_of 165 ∷ [] in
-    let d = Done (full_of 165) in (
+    let d = Done (full_of 165) in
+    Run-append small (opening zeros) cancelled_in_three cut (Device (Act 2 (full_of 165)) ∷ Device (Return 2 Good) ∷ Answer 1 Cancelled [] ∷ []) (idle (sectors 165 165 0) 2 3) reaches_cut (
       _,
-      called small _ (write 0 6 (full_of 165 ++ full_of 165 ++ full_of 165)) refl refl refl,
+      acted small _ (k Fresh) [] (w d Out) sector (sectors 165 165 0) (full_of 165) refl (search rules) (search rules) refl refl (search rules) refl,
       (
         _,
-        started small _ (w false Untouched Untouched) [] (one_place 0) 0 (write_block 2 1) refl tag_0 (IsPermutation-refl _) (search rules) (search rules) (search rules),
+        returned small _ (k (Acted sector)) [] (w d Out) [] Good (d ∷ []) refl (IsPermutation-refl _) (IsPermutation-refl _) refl (search rules),
         (
           _,
-          started small _ (w false Out Untouched) [] (one_place 1) 1 (write_block 3 1) refl (tag_1 (p Fresh) refl) (IsPermutation-refl _) (search rules) (search rules) (search rules),
-          (
-            _,
-            cancelled small _ (w false Out Out) [] refl (IsPermutation-refl _) refl,
-            (
-              _,
-              acted small _ (p Fresh) (k Fresh ∷ []) (w true Out Out) sector (sectors 165 0 0) (full_of 165)
-                  refl (record { is_out = swapped (k Fresh) (p Fresh) []; is_number = refl; is_fresh = refl }) (search rules) refl refl (search rules) refl,
-              (
-                _,
-                returned small _ (p (Acted sector)) (k Fresh ∷ []) (w true Out Out) [] Good (d ∷ []) refl (IsPermutation-refl _) (IsPermutation-refl _) refl (search rules),
-                (
-                  _,
-                  acted small _ (k Fresh) [] (w true d Out) sector (sectors 165 165 0) (full_of 165) refl (search rules) (search rules) refl refl (search rules) refl,
-                  (
-                    _,
-                    returned small _ (k (Acted sector)) [] (w true d Out) [] Good (d ∷ []) refl (IsPermutation-refl _) (IsPermutation-refl _) refl (search rules),
-                    (
-                      _,
-                      answered small _ (w true d d) [] Cancelled [] refl (IsPermutation-refl _) (inl refl, (inl refl, (inr (Cancelled, inl (refl, refl)), tt))) (search rules) (inl (refl, refl)) refl,
-                      IsSame-refl _,
-                    ),
-                  ),
-                ),
-              ),
-            ),
-          ),
+          answered small _ (w d d) [] Cancelled [] refl (IsPermutation-refl _) (inl refl, (inl refl, (inr (Cancelled, inl (refl, refl)), tt))) (search rules) (inl (refl, refl)) refl,
+          IsSame-refl _,
         ),
       ),
     )
@@ -138,40 +117,9 @@ is_reset_after_act =
 
 pub answers_lowest_failure : AnswersLowestFailure
 answers_lowest_failure =
-    let r : Mark → Mark → OpenRequest = λ a b. opened 1 (read 0 4) (a ∷ b ∷ []) in
-    let p : Fate → Piece = λ fate. piece_of 1 0 1 0 fate in
-    let k : Fate → Piece = λ fate. piece_of 2 1 1 1 fate in
-    let a = Failed DeviceDataError in
-    let b = Failed DeviceNotReady in (
+    let r : OpenRequest = opened 1 (read 0 4) (Failed DeviceDataError ∷ Failed DeviceNotReady ∷ []) in
+    Run-append small (opening zeros) both_fail both_failed (Answer 1 DeviceDataError [] ∷ []) (idle zeros 2 3) reaches_both_failed (
       _,
-      called small _ (read 0 4) refl refl refl,
-      (
-        _,
-        started small _ (r Untouched Untouched) [] (one_place 0) 0 (read_block 2 1) refl tag_0 (IsPermutation-refl _) (search rules) (search rules) (search rules),
-        (
-          _,
-          started small _ (r Out Untouched) [] (one_place 1) 1 (read_block 3 1) refl (tag_1 (p Fresh) refl) (IsPermutation-refl _) (search rules) (search rules) (search rules),
-          (
-            _,
-            faulted small _ (k Fresh) (p Fresh ∷ []) refl (search rules),
-            (
-              _,
-              returned small _ (k Faulted) (p Fresh ∷ []) (r Out Out) [] (Bad (error_of_key 2)) (b ∷ []) refl (IsPermutation-refl _) (IsPermutation-refl _) refl (search rules),
-              (
-                _,
-                faulted small _ (p Fresh) [] refl (search rules),
-                (
-                  _,
-                  returned small _ (p Faulted) [] (r Out b) [] (Bad (error_of_key 3)) (a ∷ []) refl (IsPermutation-refl _) (IsPermutation-refl _) refl (search rules),
-                  (
-                    _,
-                    answered small _ (r a b) [] DeviceDataError [] refl (IsPermutation-refl _) (inr (DeviceDataError, refl), (inr (DeviceNotReady, refl), tt)) (search rules) refl refl,
-                    IsSame-refl _,
-                  ),
-                ),
-              ),
-            ),
-          ),
-        ),
-      ),
+      answered small _ r [] DeviceDataError [] refl (IsPermutation-refl _) (inr (DeviceDataError, refl), (inr (DeviceNotReady, refl), tt)) (search rules) refl refl,
+      IsSame-refl _,
     )

@@ -9,13 +9,14 @@ use Rattle.sector.specs.declared.Extent.{Extent}
 use Rattle.device.specs.declared.Label.TheVariants.{Answer}
 use Rattle.device.specs.State.{OpenRequest, Piece, Mark, State, Untouched, Out, Done}
 use Rattle.device.specs.Settled.{Settled, WaitsIfCancelled, IsAllSent, HasGone, IsHeldBack, HasMore, IsAtWork}
+use Rattle.device.specs.Step.{Run}
 use Rattle.device.proofs.Commuting.{swapped}
 use Rattle.device.proofs.Same.{IsSame-refl, Step-same}
 use Rattle.worked_runs.specs.Small.{small, zeros, full_of, sectors, idle, read, write, read_block, write_block, opened, one_place, piece_of}
 use Rattle.worked_runs.specs.Served.{pairs}
-use Rattle.worked_runs.specs.Impossible.{Never, NeverAnswers, NeverAnswersAs, NeverStarts, cut, ReachesCut, AnswersOnce, NeverRefusesWithoutCause, last_unsent, ReachesLastUnsent, both_back, ReachesBothBack, one_of_two, ReachesOneOfTwo, one_below, waits_behind, ReachesWaitsBehind, left_behind, ReachesLeftBehind}
+use Rattle.worked_runs.specs.Impossible.{Never, NeverAnswers, NeverAnswersAs, NeverStarts, cut, ReachesCut, AnswersOnce, NeverRefusesWithoutCause, last_unsent, ReachesLastUnsent, both_back, ReachesBothBack, one_of_two, ReachesOneOfTwo, one_below, waits_behind, ReachesWaitsBehind, behind, alone, first_answered, left_behind, ReachesLeftBehind}
 use Rattle.worked_runs.proofs.Steps.{called, started, acted, returned, answered, cancelled, tag_0, tag_1}
-use Rattle.worked_runs.proofs.Refuting.{never_answered, never_started, untouched_ends_not}
+use Rattle.worked_runs.proofs.Refuting.{never_answered, never_succeeds, never_started, untouched_ends_not}
 
 pub reaches_cut : ReachesCut
 reaches_cut =
@@ -105,8 +106,7 @@ reaches_last_unsent =
     )
 
 pub succeeds_not_without_last : NeverAnswersAs pairs last_unsent 1 Success
-succeeds_not_without_last bytes =
-    never_answered pairs last_unsent 1 Success bytes refl ((λ number ended success cause hands. let e : false ≡ true = success.0 refl in cc), tt)
+succeeds_not_without_last = never_succeeds pairs last_unsent 1 refl (refl, tt)
 
 pub reaches_both_back : ReachesBothBack
 reaches_both_back =
@@ -224,10 +224,11 @@ settled_behind =
       within_window = search rules;
     }
 
-pub reaches_left_behind : ReachesLeftBehind
-reaches_left_behind =
+-- the first of the two is answered, with or without a pause
+pub reaches_alone : (held : Bool) → Run one_below (behind held) first_answered (alone held)
+reaches_alone held =
     let r : Mark → OpenRequest = λ mark. opened 1 (read 0 2) (mark ∷ []) in
-    let other : OpenRequest = opened 2 (read 2 2) (Untouched ∷ []) in
+    let other : OpenRequest = record (opened 2 (read 2 2) (Untouched ∷ [])) { late = held } in
     let p : Fate → Piece = λ fate. piece_of 1 0 1 0 fate in
     let sector = full_of 0 ∷ [] in (
       _,
@@ -242,6 +243,9 @@ reaches_left_behind =
         ),
       ),
     )
+
+pub reaches_left_behind : ReachesLeftBehind
+reaches_left_behind = reaches_alone false
 
 pub settled_not_left : Settled one_below left_behind → ⊥
 settled_not_left h = cc (h.idle_unpaused refl refl)

@@ -1,5 +1,5 @@
 -- What a step asks of the request that it names, for each open request.
-use Rattle.std.proofs.Common.{◌≡◌, ◌<◌, ◌+◌, ◌-◌, ℕ, List, ◌∷◌, true, ap, subst, inl, inr, zero, suc, take, drop, arith}
+use Rattle.std.proofs.Common.{◌≡◌, ◌<◌, ◌+◌, ◌-◌, ℕ, List, ◌∷◌, true, false, refl, ap, subst, inl, inr, zero, suc, take, drop, arith}
 use Rattle.std.specs.Prelude.{All, IsPermutation, IsNone, IsFalse, is_some, IsTrue, ◌↔◌}
 use Rattle.std.specs.List.{AllByRecursion, list_all}
 use Rattle.std.proofs.lemmas.List.Sorted.{All-permutation}
@@ -31,6 +31,16 @@ pub never_answered : (rules : Rules) (s : State) (number : ℕ) (status : NtStat
 never_answered rules s number status bytes none each s' (inl (free, h)) =
     of_each (IsNotAnswered rules s number status bytes) s.requests h.request h.others each h.is_open h.is_number (recursion_from_All _ _ h.ended) h.success h.cause h.hands_back
 never_answered rules s number status bytes none each s' (inr h) =
+    let some : is_some s.owed ≡ true = ap is_some h.is_owed in cc
+
+-- no request with a place that isn't done succeeds
+pub never_succeeds : (rules : Rules) (s : State) (number : ℕ) → IsNone s.owed → AllByRecursion (λ o. list_all is_done o.marks ≡ false) s.requests
+    → (bytes : List ℕ) (s' : State) → Step rules s (Answer number Success bytes) s' → ⊥
+never_succeeds rules s number none each bytes s' (inl (free, h)) =
+    let undone : list_all is_done h.request.marks ≡ false = of_each (λ o. list_all is_done o.marks ≡ false) s.requests h.request h.others each h.is_open in
+    let done : list_all is_done h.request.marks ≡ true = h.success.0 refl in
+    cc (undone, done)
+never_succeeds rules s number none each bytes s' (inr h) =
     let some : is_some s.owed ≡ true = ap is_some h.is_owed in cc
 
 -- the request can't have a piece started by this command

@@ -1,13 +1,17 @@
 -- Runs of requests that are carried out.
-use Rattle.std.proofs.Common.{true, [], ◌∷◌, ◌++◌, refl, rules}
+use Rattle.std.proofs.Common.{ℕ, ◌+◌, Bool, true, false, [], ◌∷◌, ◌++◌, refl, rules}
 use Rattle.std.proofs.lemmas.List.Sorted.{IsPermutation-refl}
 use Rattle.ntstatus.specs.declared.NtStatus.TheVariants.{Success}
 use Rattle.srb.specs.declared.Class.TheVariants.{Good, Busy}
 use Rattle.sector.specs.declared.Extent.{Extent}
 use Rattle.srb.specs.Fate.{Fate, Fresh, Acted}
+use Rattle.srb.specs.declared.DeviceLabel.TheVariants.{Act, Return}
+use Rattle.device.specs.declared.Label.TheVariants.{Device, Answer}
 use Rattle.device.specs.State.{OpenRequest, Piece, Mark, Untouched, Out, Done, Back}
+use Rattle.device.specs.Sending.{given_back}
+use Rattle.device.specs.Step.{Run}
 use Rattle.device.proofs.Same.{IsSame-refl}
-use Rattle.worked_runs.specs.Small.{small, zeros, full_of, sectors, read, write, flush, read_block, write_block, sync_block, opened, one_place, piece_of}
+use Rattle.worked_runs.specs.Small.{small, zeros, full_of, sectors, idle, read, write, flush, read_block, write_block, sync_block, opened, one_place, piece_of}
 use Rattle.worked_runs.specs.Served.{WritesThenReads, pairs, JoinsInOrder, Flushes, written_through, WritesThrough, SendsAgain, SucceedsThoughCancelled}
 use Rattle.worked_runs.proofs.Steps.{called, started, acted, returned, answered, cancelled, tag_0, tag_1}
 
@@ -129,63 +133,57 @@ flushes =
       ),
     )
 
-pub writes_through : WritesThrough
-writes_through =
-    let w : Mark → OpenRequest = λ mark. opened 1 written_through (mark ∷ []) in
-    let p : Fate → Piece = λ fate. piece_of 1 0 1 0 fate in
+-- a write of one sector that is at the adapter, whatever has become of it before
+abbrev at_adapter : ℕ → Bool → Bool → OpenRequest
+at_adapter times through marked = record (opened 1 (record (write 0 2 (full_of 165)) { through = through }) (Out ∷ [])) { cancelled = marked; busy_returns = times }
+
+-- it is carried out
+written : (number times : ℕ) (through marked : Bool)
+    → Run small (record (idle zeros 2 (number + 1)) { requests = at_adapter times through marked ∷ []; pieces = piece_of number 0 1 0 Fresh ∷ [] })
+    (Device (Act number (full_of 165)) ∷ Device (Return number Good) ∷ Answer 1 Success [] ∷ []) (idle (sectors 165 0 0) 2 (number + 1))
+written number times through marked =
+    let w : OpenRequest = at_adapter times through marked in
+    let p : Fate → Piece = λ fate. piece_of number 0 1 0 fate in
     let sector = full_of 165 ∷ [] in (
       _,
-      called small _ written_through refl refl refl,
+      acted small _ (p Fresh) [] w sector (sectors 165 0 0) (full_of 165) refl (search rules) (search rules) refl refl (search rules) refl,
       (
         _,
-        started small _ (w Untouched) [] (one_place 0) 0 _ refl tag_0 (IsPermutation-refl _) (search rules) (search rules) (search rules),
+        returned small _ (p (Acted sector)) [] w [] Good (Done (full_of 165) ∷ []) refl (IsPermutation-refl _) (IsPermutation-refl _) refl (search rules),
         (
           _,
-          acted small _ (p Fresh) [] (w Out) sector (sectors 165 0 0) (full_of 165) refl (search rules) (search rules) refl refl (search rules) refl,
-          (
-            _,
-            returned small _ (p (Acted sector)) [] (w Out) [] Good (Done (full_of 165) ∷ []) refl (IsPermutation-refl _) (IsPermutation-refl _) refl (search rules),
-            (
-              _,
-              answered small _ (w (Done (full_of 165))) [] Success [] refl (IsPermutation-refl _) (search rules) (search rules) (search rules) refl,
-              IsSame-refl _,
-            ),
-          ),
+          answered small _ (given_back (p (Acted sector)) Good (Done (full_of 165) ∷ []) w) [] Success [] refl (IsPermutation-refl _) (search rules) (search rules) (search rules) refl,
+          IsSame-refl _,
         ),
       ),
     )
 
+pub writes_through : WritesThrough
+writes_through = (
+  _,
+  called small _ written_through refl refl refl,
+  (
+    _,
+    started small _ (opened 1 written_through (Untouched ∷ [])) [] (one_place 0) 0 _ refl tag_0 (IsPermutation-refl _) (search rules) (search rules) (search rules),
+    written 1 0 true false,
+  ),
+)
+
 pub sends_again : SendsAgain
 sends_again =
-    let w : Mark → OpenRequest = λ mark. opened 1 (write 0 2 (full_of 165)) (mark ∷ []) in
-    let v : Mark → OpenRequest = λ mark. record (w mark) { busy_returns = 1 } in
-    let p : Fate → Piece = λ fate. piece_of 1 0 1 0 fate in
-    let k : Fate → Piece = λ fate. piece_of 2 0 1 0 fate in
-    let sector = full_of 165 ∷ [] in (
+    let w : ℕ → Mark → OpenRequest = λ times mark. record (opened 1 (write 0 2 (full_of 165)) (mark ∷ [])) { busy_returns = times } in (
       _,
       called small _ (write 0 2 (full_of 165)) refl refl refl,
       (
         _,
-        started small _ (w Untouched) [] (one_place 0) 0 (write_block 2 1) refl tag_0 (IsPermutation-refl _) (search rules) (search rules) (search rules),
+        started small _ (w 0 Untouched) [] (one_place 0) 0 (write_block 2 1) refl tag_0 (IsPermutation-refl _) (search rules) (search rules) (search rules),
         (
           _,
-          returned small _ (p Fresh) [] (w Out) [] Busy (Back ∷ []) refl (IsPermutation-refl _) (IsPermutation-refl _) refl (search rules),
+          returned small _ (piece_of 1 0 1 0 Fresh) [] (w 0 Out) [] Busy (Back ∷ []) refl (IsPermutation-refl _) (IsPermutation-refl _) refl (search rules),
           (
             _,
-            started small _ (v Back) [] (one_place 0) 0 (write_block 2 1) refl tag_0 (IsPermutation-refl _) (search rules) (search rules) (search rules),
-            (
-              _,
-              acted small _ (k Fresh) [] (v Out) sector (sectors 165 0 0) (full_of 165) refl (search rules) (search rules) refl refl (search rules) refl,
-              (
-                _,
-                returned small _ (k (Acted sector)) [] (v Out) [] Good (Done (full_of 165) ∷ []) refl (IsPermutation-refl _) (IsPermutation-refl _) refl (search rules),
-                (
-                  _,
-                  answered small _ (v (Done (full_of 165))) [] Success [] refl (IsPermutation-refl _) (search rules) (search rules) (search rules) refl,
-                  IsSame-refl _,
-                ),
-              ),
-            ),
+            started small _ (w 1 Back) [] (one_place 0) 0 (write_block 2 1) refl tag_0 (IsPermutation-refl _) (search rules) (search rules) (search rules),
+            written 2 1 false false,
           ),
         ),
       ),
@@ -193,10 +191,7 @@ sends_again =
 
 pub succeeds_though_cancelled : SucceedsThoughCancelled
 succeeds_though_cancelled =
-    let w : Mark → OpenRequest = λ mark. opened 1 (write 0 2 (full_of 165)) (mark ∷ []) in
-    let v : Mark → OpenRequest = λ mark. record (w mark) { cancelled = true } in
-    let p : Fate → Piece = λ fate. piece_of 1 0 1 0 fate in
-    let sector = full_of 165 ∷ [] in (
+    let w : Mark → OpenRequest = λ mark. opened 1 (write 0 2 (full_of 165)) (mark ∷ []) in (
       _,
       called small _ (write 0 2 (full_of 165)) refl refl refl,
       (
@@ -205,19 +200,7 @@ succeeds_though_cancelled =
         (
           _,
           cancelled small _ (w Out) [] refl (IsPermutation-refl _) refl,
-          (
-            _,
-            acted small _ (p Fresh) [] (v Out) sector (sectors 165 0 0) (full_of 165) refl (search rules) (search rules) refl refl (search rules) refl,
-            (
-              _,
-              returned small _ (p (Acted sector)) [] (v Out) [] Good (Done (full_of 165) ∷ []) refl (IsPermutation-refl _) (IsPermutation-refl _) refl (search rules),
-              (
-                _,
-                answered small _ (v (Done (full_of 165))) [] Success [] refl (IsPermutation-refl _) (search rules) (search rules) (search rules) refl,
-                IsSame-refl _,
-              ),
-            ),
-          ),
+          written 1 0 false true,
         ),
       ),
     )

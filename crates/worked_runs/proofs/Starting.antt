@@ -1,16 +1,16 @@
 -- Pieces that may not be started, and a removal that may not end.
 use Rattle.std.proofs.Common.{◌≡◌, ◌+◌, ◌≤◌, [], ◌∷◌, ◌++◌, refl, sym, ◌∙◌, inl, inr, true, false, arith, rules}
 use Rattle.std.proofs.lemmas.List.Sorted.{IsPermutation-refl}
-use Rattle.ntstatus.specs.declared.NtStatus.TheVariants.{Success, DeviceDataError}
+use Rattle.ntstatus.specs.declared.NtStatus.TheVariants.{DeviceDataError}
 use Rattle.srb.specs.declared.Class.TheVariants.{Good, Bad}
 use Rattle.srb.specs.Fate.{Fate, Fresh, Acted, Faulted}
-use Rattle.device.specs.declared.Label.TheVariants.{Removed}
-use Rattle.device.specs.State.{OpenRequest, Piece, Mark, Untouched, Out, Done, Failed}
-use Rattle.device.proofs.Commuting.{swapped}
-use Rattle.device.proofs.Same.{IsSame-refl}
+use Rattle.device.specs.declared.Label.TheVariants.{Pause, Removed}
+use Rattle.device.specs.State.{OpenRequest, Piece, Mark, Untouched, Out, Done, Failed, opening}
+use Rattle.device.proofs.Same.{IsSame-refl, Run-append}
 use Rattle.worked_runs.specs.Small.{small, zeros, full_of, sectors, read, write, read_block, write_block, error_of_key, opened, one_place, piece_of}
-use Rattle.worked_runs.specs.Impossible.{Never, NeverStarts, NeverWritesAt, NeverWritesBeyond, neighbours, NeverOpensPastEnd, last_sector, ReachesLastSector, first_bad, ReachesFirstBad, SendsTheOther, one_below, held_behind, ReachesHeldBehind, held_alone, ReachesHeldAlone, removing_out, ReachesRemovingOut}
+use Rattle.worked_runs.specs.Impossible.{Never, NeverStarts, NeverWritesAt, NeverWritesBeyond, neighbours, NeverOpensPastEnd, last_sector, ReachesLastSector, first_bad, ReachesFirstBad, SendsTheOther, one_below, two_reads, waits_behind, held_behind, ReachesHeldBehind, held_alone, ReachesHeldAlone, removing_out, ReachesRemovingOut}
 use Rattle.worked_runs.proofs.Steps.{called, started, acted, faulted, returned, answered, paused, removing, tag_0}
+use Rattle.worked_runs.proofs.Losing.{reaches_waits_behind, reaches_alone}
 use Rattle.worked_runs.proofs.Refuting.{never_started, first_waits}
 
 pub never_opens_past_end : NeverOpensPastEnd
@@ -88,24 +88,7 @@ sends_the_other =
     )
 
 pub reaches_held_behind : ReachesHeldBehind
-reaches_held_behind =
-    let r : Mark → OpenRequest = λ mark. opened 1 (read 0 2) (mark ∷ []) in (
-      _,
-      called one_below _ (read 0 2) refl refl refl,
-      (
-        _,
-        started one_below _ (r Untouched) [] (one_place 0) 0 (read_block 2 1) refl tag_0 (IsPermutation-refl _) (search rules) (search rules) (search rules),
-        (
-          _,
-          called one_below _ (read 2 2) refl refl refl,
-          (
-            _,
-            paused one_below _ refl refl refl,
-            IsSame-refl _,
-          ),
-        ),
-      ),
-    )
+reaches_held_behind = Run-append one_below (opening zeros) two_reads waits_behind (Pause ∷ []) held_behind reaches_waits_behind (_, paused one_below _ refl refl refl, IsSame-refl _)
 
 pub starts_not_behind : NeverStarts one_below held_behind
 starts_not_behind piece tag block =
@@ -122,23 +105,7 @@ starts_not_behind piece tag block =
     )
 
 pub reaches_held_alone : ReachesHeldAlone
-reaches_held_alone =
-    let r : Mark → OpenRequest = λ mark. opened 1 (read 0 2) (mark ∷ []) in
-    let held : OpenRequest = record (opened 2 (read 2 2) (Untouched ∷ [])) { late = true } in
-    let p : Fate → Piece = λ fate. piece_of 1 0 1 0 fate in
-    let sector = full_of 0 ∷ [] in (
-      _,
-      acted one_below _ (p Fresh) [] (r Out) sector zeros (full_of 0) refl (search rules) (search rules) refl refl (search rules) refl,
-      (
-        _,
-        returned one_below _ (p (Acted sector)) [] (r Out) (held ∷ []) Good (Done (full_of 0) ∷ []) refl (IsPermutation-refl _) (swapped held (r Out) []) refl (search rules),
-        (
-          _,
-          answered one_below _ (r (Done (full_of 0))) (held ∷ []) Success (full_of 0) refl (IsPermutation-refl _) (search rules) (search rules) (search rules) refl,
-          IsSame-refl _,
-        ),
-      ),
-    )
+reaches_held_alone = reaches_alone true
 
 pub starts_not_alone : NeverStarts one_below held_alone
 starts_not_alone piece tag block =

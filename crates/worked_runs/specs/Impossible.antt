@@ -1,5 +1,5 @@
 -- What a wrong body would do, and no state follows by it.
-use Rattle.std.specs.Prelude.{◌<◌, ◌+◌, ℕ, Bool, true, List, [], ◌∷◌, ◌++◌, Some}
+use Rattle.std.specs.Prelude.{◌<◌, ◌+◌, ℕ, Bool, true, false, List, [], ◌∷◌, ◌++◌, Some}
 use Rattle.ntstatus.specs.declared.NtStatus.{NtStatus}
 use Rattle.ntstatus.specs.declared.NtStatus.TheVariants.{Success, Cancelled, DeviceDataError, DeviceNotReady}
 use Rattle.cdb.specs.declared.Cdb.TheVariants.{Write10}
@@ -14,6 +14,7 @@ use Rattle.device.specs.State.{State, Untouched, Out, Done, Failed, opening}
 use Rattle.device.specs.Step.{Step, Run}
 use Rattle.worked_runs.specs.Small.{small, zeros, full_of, sectors, idle, read, write, read_block, write_block, error_of_key, opened, piece_of}
 use Rattle.worked_runs.specs.Served.{pairs}
+use Rattle.worked_runs.specs.Failed.{cancelled_in_three, both_fail}
 
 -- no state follows by this label
 abbrev pub Never : Rules → State → Label → Type 0
@@ -91,10 +92,7 @@ abbrev pub both_failed : State
 both_failed = record (idle zeros 2 3) { requests = opened 1 (read 0 4) (Failed DeviceDataError ∷ Failed DeviceNotReady ∷ []) ∷ [] }
 
 abbrev pub ReachesBothFailed : Type 0
-ReachesBothFailed = Run small (opening zeros) (
-    Call 1 (read 0 4) ∷ Device (Start 1 0 (read_block 2 1)) ∷ Device (Start 2 1 (read_block 3 1))
-    ∷ Device (Fault 2) ∷ Device (Return 2 (Bad (error_of_key 2))) ∷ Device (Fault 1) ∷ Device (Return 1 (Bad (error_of_key 3)))
-    ∷ []) both_failed
+ReachesBothFailed = Run small (opening zeros) both_fail both_failed
 
 -- STARTS WHAT IT MAY NOT
 
@@ -135,23 +133,39 @@ SendsTheOther = Run small first_bad (
 abbrev pub one_below : Rules
 one_below = record small { window = Some 1 }
 
--- a pause found one read at the adapter and one that waited behind it
-abbrev pub held_behind : State
-held_behind = record (idle zeros 3 2) {
-  requests = record (opened 2 (read 2 2) (Untouched ∷ [])) { late = true } ∷ opened 1 (read 0 2) (Out ∷ []) ∷ [];
+-- one read at the adapter and one behind it, held by a pause or not
+abbrev pub behind : Bool → State
+behind held = record (idle zeros 3 2) {
+  requests = record (opened 2 (read 2 2) (Untouched ∷ [])) { late = held } ∷ opened 1 (read 0 2) (Out ∷ []) ∷ [];
   pieces = piece_of 1 0 1 0 Fresh ∷ [];
-  paused = true;
+  paused = held;
 }
 
+-- two reads are called, and the first is started
+abbrev pub two_reads : List Label
+two_reads = Call 1 (read 0 2) ∷ Device (Start 1 0 (read_block 2 1)) ∷ Call 2 (read 2 2) ∷ []
+
+-- the same with the first answered
+abbrev pub alone : Bool → State
+alone held = record (idle zeros 3 2) { requests = record (opened 2 (read 2 2) (Untouched ∷ [])) { late = held } ∷ []; paused = held }
+
+-- the first is carried out and answered
+abbrev pub first_answered : List Label
+first_answered = Device (Act 1 (full_of 0)) ∷ Device (Return 1 Good) ∷ Answer 1 Success (full_of 0) ∷ []
+
+-- a pause found one read at the adapter and one that waited behind it
+abbrev pub held_behind : State
+held_behind = behind true
+
 abbrev pub ReachesHeldBehind : Type 0
-ReachesHeldBehind = Run one_below (opening zeros) (Call 1 (read 0 2) ∷ Device (Start 1 0 (read_block 2 1)) ∷ Call 2 (read 2 2) ∷ Pause ∷ []) held_behind
+ReachesHeldBehind = Run one_below (opening zeros) (two_reads ++ Pause ∷ []) held_behind
 
 -- the first has been answered, and the pause goes on
 abbrev pub held_alone : State
-held_alone = record (idle zeros 3 2) { requests = record (opened 2 (read 2 2) (Untouched ∷ [])) { late = true } ∷ []; paused = true }
+held_alone = alone true
 
 abbrev pub ReachesHeldAlone : Type 0
-ReachesHeldAlone = Run one_below held_behind (Device (Act 1 (full_of 0)) ∷ Device (Return 1 Good) ∷ Answer 1 Success (full_of 0) ∷ []) held_alone
+ReachesHeldAlone = Run one_below held_behind first_answered held_alone
 
 -- a removal found a piece out
 abbrev pub removing_out : State
@@ -168,10 +182,7 @@ cut = record (idle (sectors 165 0 0) 2 3) {
 }
 
 abbrev pub ReachesCut : Type 0
-ReachesCut = Run small (opening zeros) (
-    Call 1 (write 0 6 (full_of 165 ++ full_of 165 ++ full_of 165)) ∷ Device (Start 1 0 (write_block 2 1)) ∷ Device (Start 2 1 (write_block 3 1)) ∷ Cancel 1
-    ∷ Device (Act 1 (full_of 165)) ∷ Device (Return 1 Good)
-    ∷ []) cut
+ReachesCut = Run small (opening zeros) cancelled_in_three cut
 
 -- LOSES, REPEATS OR MIXES UP
 
@@ -213,13 +224,13 @@ ReachesOneOfTwo = Run small (opening (sectors 17 34 51)) (
 
 -- a read waits behind another for the one place below the hold, and then alone
 abbrev pub waits_behind : State
-waits_behind = record (idle zeros 3 2) { requests = opened 2 (read 2 2) (Untouched ∷ []) ∷ opened 1 (read 0 2) (Out ∷ []) ∷ []; pieces = piece_of 1 0 1 0 Fresh ∷ [] }
+waits_behind = behind false
 
 abbrev pub ReachesWaitsBehind : Type 0
-ReachesWaitsBehind = Run one_below (opening zeros) (Call 1 (read 0 2) ∷ Device (Start 1 0 (read_block 2 1)) ∷ Call 2 (read 2 2) ∷ []) waits_behind
+ReachesWaitsBehind = Run one_below (opening zeros) two_reads waits_behind
 
 abbrev pub left_behind : State
-left_behind = record (idle zeros 3 2) { requests = opened 2 (read 2 2) (Untouched ∷ []) ∷ [] }
+left_behind = alone false
 
 abbrev pub ReachesLeftBehind : Type 0
-ReachesLeftBehind = Run one_below waits_behind (Device (Act 1 (full_of 0)) ∷ Device (Return 1 Good) ∷ Answer 1 Success (full_of 0) ∷ []) left_behind
+ReachesLeftBehind = Run one_below waits_behind first_answered left_behind

@@ -6,7 +6,7 @@ use Rattle.srb.specs.declared.Completion.{Completion}
 use Rattle.device.specs.declared.Kind.TheVariants.{Read, Write, Flush}
 use Rattle.device.specs.declared.ClientRequest.{ClientRequest}
 use Rattle.device.specs.Rules.{Rules}
-use Rattle.device.specs.State.{Mark, OpenRequest, Piece, State}
+use Rattle.device.specs.State.{Mark, OpenRequest, Piece, State, opening}
 
 -- the partition is sectors 2 to 4 of the disk; a second busy return is the last
 abbrev pub small : Rules
@@ -35,17 +35,7 @@ zeros = sectors 0 0 0
 
 -- nothing open, nothing out, and these are the next numbers
 abbrev pub idle : List (List (List ℕ)) → ℕ → ℕ → State
-idle arrays next_request next_piece = record {
-  arrays = arrays;
-  next_request = next_request;
-  next_piece = next_piece;
-  requests = [];
-  pieces = [];
-  owed = None;
-  paused = false;
-  removing = false;
-  removed = false;
-}
+idle arrays next_request next_piece = record (opening arrays) { next_request = next_request; next_piece = next_piece }
 
 -- a request that is neither cancelled nor held, by its number and what has become of its places
 abbrev pub opened : ℕ → ClientRequest → List Mark → OpenRequest

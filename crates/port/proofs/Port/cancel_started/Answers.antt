@@ -1,4 +1,4 @@
-use Rattle.std.proofs.Common.{◌≡◌, ◌≤◌, ◌<◌, ◌∙◌, ap, refl, arith, length}
+use Rattle.std.proofs.Common.{◌∙◌, ap, refl, arith, length}
 use Rattle.port.specs.Books.{Books, books_of}
 use Rattle.port.proofs.Marking.{none_started, cancels_first, none_to_here}
 use Rattle.port.proofs.Port.cancel_started.Goals as goal

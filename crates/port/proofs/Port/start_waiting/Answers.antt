@@ -1,4 +1,4 @@
-use Rattle.std.proofs.Common.{◌≡◌, ◌<◌, ◌≤◌, ◌∙◌, ap, sym, arith, inr, refl}
+use Rattle.std.proofs.Common.{◌≡◌, ap, arith, inr, refl}
 use Rattle.device.specs.Rules.{Rules}
 use Rattle.port.specs.Books.{books_of}
 use Rattle.port.proofs.Starting.{releases_none, releases_then}

@@ -1,4 +1,4 @@
-use Rattle.std.proofs.Common.{[], ◌∷◌, true, false, sym, subst}
+use Rattle.std.proofs.Common.{[], ◌∷◌, sym, subst}
 use Rattle.std.specs.Prelude.{MatchBool}
 use Rattle.device.specs.Seen.{Seen, IsOrderly}
 use Rattle.device.specs.Served.{ActsOn, ActsNot}

@@ -1,5 +1,4 @@
 use Rattle.std.proofs.Common.{arith}
-use Rattle.port.specs.Books.{books_of}
 use Rattle.port.proofs.Draining.{hand_drained, drains_all}
 use Rattle.port.proofs.layer.PortDevice.drain.Goals as goal
 

@@ -1,4 +1,3 @@
-use Rattle.port.specs.Books.{books_of}
 use Rattle.port.proofs.Handing.{hands_up_none, hands_up, hand_left, moved_few}
 use Rattle.port.proofs.layer.PortDevice.take_done.Goals as goal
 

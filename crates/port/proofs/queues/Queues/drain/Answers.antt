@@ -1,4 +1,4 @@
-use Rattle.std.proofs.Common.{◌≡◌, ◌++◌, [], ◌∷◌, List, ap, sym, subst, refl, ◌∙◌, arith, length, map, length-append, append_assoc}
+use Rattle.std.proofs.Common.{◌++◌, [], ◌∷◌, List, ap, sym, refl, ◌∙◌, arith, length, map, length-append, append_assoc}
 use Rattle.std.proofs.lemmas.List.{append-nil, map-append}
 use Rattle.port.specs.declared.queues.Held.{Held}
 use Rattle.port.specs.declared.queues.Ended.{Ended}

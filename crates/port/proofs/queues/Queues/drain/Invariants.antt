@@ -1,4 +1,4 @@
-use Rattle.std.proofs.Common.{◌≡◌, ◌≤◌, ◌+◌, ℕ, List, ◌++◌, map, length}
+use Rattle.std.proofs.Common.{◌≡◌, ◌≤◌, ◌+◌, List, ◌++◌, map, length}
 use Rattle.port.specs.declared.queues.Held.{Held}
 use Rattle.port.specs.Books.{books_of}
 use Rattle.port.specs.Turns.{gone}
