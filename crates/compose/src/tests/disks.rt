@@ -6,7 +6,6 @@ ghost use Rattle.compose.specs.Start.{IsIdle};
 use crate::{Settings, Stack, StartFault};
 use disk::{Medium, NoMemory, VecDisk};
 use miniport::{Adapter, MemAdapter};
-use sector::Extent;
 use std::alloc::{AllocError, Global};
 use std::process::Abort;
 
@@ -43,27 +42,10 @@ fn no_memory(_refused: NoMemory) -> AllocError {
     AllocError
 }
 
-/// Writes the table.
-fn put<M: Medium>(rt: &impl Abort, medium: &mut M, table: &Table) -> Result<(), AllocError> {
-    let first = Extent { first: 0, count: 1 };
-    assert!(rt; first.is_within(medium.sectors()));
-    assert!(rt; medium.sector_size() == 512 && medium.failures() == 0);
-    medium.reserve(first).map_err(no_memory)?;
-    assert!(rt; medium.write(first, &table.sector()).is_ok());
-    Ok(())
-}
-
 /// A disk with this table, in which the sectors of the list are bad.
-pub(crate) fn disk(
-    rt: &impl Abort,
-    alloc: Global,
-    table: &Table,
-    bad: &[u64],
-) -> Result<VecDisk, AllocError> {
+pub(crate) fn disk(alloc: Global, table: &Table, bad: &[u64]) -> Result<VecDisk, AllocError> {
     let bad = Vec::from_slice(alloc, bad)?;
-    let mut disk = VecDisk::new(alloc, 512, 4096, bad).map_err(no_memory)?;
-    put(rt, &mut disk, table)?;
-    Ok(disk)
+    VecDisk::starting_with(alloc, 512, 4096, &table.sector(), bad).map_err(no_memory)
 }
 
 /// An adapter of two tags that moves 64 sectors at most.

@@ -13,7 +13,7 @@ const ELSEWHERE: Handle = Handle { slot: 7, number: 1 };
 #[test]
 fn refuses_wrong_calls(rt: HostRuntime) -> Result<(), Fail> {
     let alloc = rt.alloc();
-    let medium = disk(&rt, alloc, &MIDDLE, &[])?;
+    let medium = disk(alloc, &MIDDLE, &[])?;
     let mut stack = stack_over(&rt, alloc, medium, false)?;
     runs(
         &rt,
@@ -72,7 +72,7 @@ fn refuses_wrong_calls(rt: HostRuntime) -> Result<(), Fail> {
 #[test]
 fn opens_no_third_request(rt: HostRuntime) -> Result<(), Fail> {
     let alloc = rt.alloc();
-    let medium = disk(&rt, alloc, &MIDDLE, &[])?;
+    let medium = disk(alloc, &MIDDLE, &[])?;
     let mut stack = stack_over(&rt, alloc, medium, false)?;
     go(
         &rt,
@@ -117,7 +117,7 @@ fn opens_no_third_request(rt: HostRuntime) -> Result<(), Fail> {
 #[test]
 fn opens_sixty_four_handles(rt: HostRuntime) -> Result<(), Fail> {
     let alloc = rt.alloc();
-    let medium = disk(&rt, alloc, &MIDDLE, &[])?;
+    let medium = disk(alloc, &MIDDLE, &[])?;
     let mut stack = stack_over(&rt, alloc, medium, false)?;
     for number in 1..65 {
         let want = format!(in alloc; "handle {number}")?;
@@ -139,7 +139,7 @@ fn opens_sixty_four_handles(rt: HostRuntime) -> Result<(), Fail> {
 #[test]
 fn fails_and_ignores(rt: HostRuntime) -> Result<(), Fail> {
     let alloc = rt.alloc();
-    let medium = disk(&rt, alloc, &MIDDLE, &[2050])?;
+    let medium = disk(alloc, &MIDDLE, &[2050])?;
     let mut stack = stack_over(&rt, alloc, medium, false)?;
     runs(
         &rt,
@@ -200,7 +200,7 @@ fn fails_and_ignores(rt: HostRuntime) -> Result<(), Fail> {
 #[test]
 fn writes_nothing_on_a_protected_disk(rt: HostRuntime) -> Result<(), Fail> {
     let alloc = rt.alloc();
-    let medium = disk(&rt, alloc, &MIDDLE, &[])?;
+    let medium = disk(alloc, &MIDDLE, &[])?;
     let mut stack = stack_over(&rt, alloc, medium, true)?;
     runs(
         &rt,

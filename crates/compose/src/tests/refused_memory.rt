@@ -63,7 +63,7 @@ const REFUSED: &str = "refused InsufficientResources a5*512";
 fn refuses_a_write_twice(rt: HostRuntime) -> Result<(), Fail> {
     let alloc = rt.alloc();
     let medium = Reluctant {
-        medium: disk(&rt, alloc, &MIDDLE, &[])?,
+        medium: disk(alloc, &MIDDLE, &[])?,
         refusals: 2,
     };
     let mut stack = stack_over(&rt, alloc, medium, false)?;
@@ -141,7 +141,7 @@ fn run_again<A: Adapter>(
 
 /// A write and a read, which show the same where one allocation is refused.
 fn serve(rt: &impl Abort, alloc: Global) -> Result<(), AllocError> {
-    let medium = disk(rt, alloc, &MIDDLE, &[])?;
+    let medium = disk(alloc, &MIDDLE, &[])?;
     let mut stack = stack_over(rt, alloc, medium, false)?;
     let calls = [
         (Step::Open(0), "handle 1"),

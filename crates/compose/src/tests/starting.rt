@@ -98,19 +98,18 @@ fn takes_a_right_table(rt: HostRuntime) -> Result<(), Fail> {
         (entry(0, 0, 0), None),
         (entry(0, 4_294_967_295, 1), None),
     ] {
-        let medium = disk(&rt, alloc, &table, &[])?;
+        let medium = disk(alloc, &table, &[])?;
         let found = fault(&rt, alloc, medium, TWO)?;
         assert_eq!(rt; found, want.map(StartFault::Mbr), "{table:?}");
     }
     Ok(())
 }
 
+// A right table stands in a sector that can't be read.
 #[test]
 fn tells_why_sector_zero_is_not_read(rt: HostRuntime) -> Result<(), Fail> {
     let alloc = rt.alloc();
-    let medium = VecDisk::new(alloc, 512, 4096, vec![in alloc; 0]?)
-        .ok()
-        .ok_or("no memory")?;
+    let medium = disk(alloc, &MIDDLE, &[0])?;
     let want = Some(StartFault::Device(NtStatus::DeviceDataError));
     assert_eq!(rt; fault(&rt, alloc, medium, TWO)?, want);
     Ok(())
@@ -120,7 +119,7 @@ fn tells_why_sector_zero_is_not_read(rt: HostRuntime) -> Result<(), Fail> {
 #[test]
 fn starts_with_no_partition(rt: HostRuntime) -> Result<(), Fail> {
     let alloc = rt.alloc();
-    let medium = disk(&rt, alloc, &entry(0, 2048, 1024), &[])?;
+    let medium = disk(alloc, &entry(0, 2048, 1024), &[])?;
     let adapter = adapter(&rt, alloc, medium, false)?;
     let mut stack = start(&rt, alloc, adapter, TWO)?;
     go(

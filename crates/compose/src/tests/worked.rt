@@ -9,7 +9,7 @@ use std::test::Fail;
 #[test]
 fn writes_and_reads_a_sector(rt: HostRuntime) -> Result<(), Fail> {
     let alloc = rt.alloc();
-    let medium = disk(&rt, alloc, &MIDDLE, &[])?;
+    let medium = disk(alloc, &MIDDLE, &[])?;
     let mut stack = stack_over(&rt, alloc, medium, false)?;
     runs(
         &rt,
@@ -50,7 +50,7 @@ fn writes_and_reads_a_sector(rt: HostRuntime) -> Result<(), Fail> {
 #[test]
 fn two_tags_serve_three_reads(rt: HostRuntime) -> Result<(), Fail> {
     let alloc = rt.alloc();
-    let medium = disk(&rt, alloc, &MIDDLE, &[])?;
+    let medium = disk(alloc, &MIDDLE, &[])?;
     let adapter = adapter(&rt, alloc, medium, false)?;
     let four = Settings {
         window: 4,
