@@ -84,7 +84,8 @@ fn forget_labels<A: Adapter>(adapter: &mut A)
 ///
 /// [`AllocError`] where memory for one was refused.
 fn buffers(alloc: Global, count: usize) -> Result<(Bytes, Bytes), AllocError>
-    ensures { IfOk result (λ made. length made.0 ≡ length made.1) }
+    ensures bytes { IfOk result (λ made. length made.0 ≡ count) }
+    ensures for_label { IfOk result (λ made. length made.1 ≡ count) }
 {
     let bytes = Bytes::new(vec![in alloc; 0u8; count]?);
     let for_label = Bytes::new(vec![in alloc; 0u8; count]?);
