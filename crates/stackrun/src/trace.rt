@@ -1,6 +1,6 @@
 //! A script run through a stack, and its trace in print.
 
-ghost use Rattle.std.specs.Prelude.{◌≡◌, [], IfOk, OnOk};
+ghost use Rattle.std.specs.Prelude.{◌≡◌, ◌⊎◌, [], IfOk, OnOk};
 ghost use Rattle.toml.specs.Data.{Members};
 ghost use Rattle.stackrun.specs.Settings.{AreSettings};
 
@@ -34,7 +34,9 @@ pub fn trace<C: Read + Drop, S: Read + Drop, O: Write + Drop, F: Write + Drop>(
     script: S,
     out: O,
     mut faults: F,
-) -> u8 {
+) -> u8
+    ensures { (result ≡ 0) ⊎ (result ≡ 1) }
+{
     match run(alloc, config, script, out) {
         Ok(()) => 0,
         Err(fault) => {

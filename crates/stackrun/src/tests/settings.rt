@@ -3,6 +3,8 @@
 use crate::config::config;
 use crate::config::values::Partition;
 use crate::tests::given::run_texts;
+use std::alloc::Global;
+use std::process::Abort;
 use std::test::Fail;
 
 const GOOD: &str =
@@ -49,7 +51,7 @@ fn reads_defaults(rt: HostRuntime) -> Result<(), Fail> {
 }
 
 /// Changes of good settings, as a text, what replaces it, and the fault that comes.
-static DAMAGES: [(&str, &str, &str); 30] = [
+static DAMAGES: [(&str, &str, &str); 41] = [
     (
         "sector_size = 512\n",
         "sector_size = \n",
@@ -148,13 +150,58 @@ static DAMAGES: [(&str, &str, &str); 30] = [
         "sectors = 0\nsectors = 1",
         "config: not TOML",
     ),
+    ("sectors = 4096", "sectors = 4096\0", "config: not TOML"),
+    (
+        "sectors = 4096",
+        "sectors = 9223372036854775808",
+        "config: not TOML",
+    ),
+    (
+        "sectors = 4096",
+        "sectors = 1979-05-27",
+        "config: out of range",
+    ),
+    (
+        "max_transfer = 64",
+        "max_transfer = 0",
+        "config: out of range",
+    ),
+    ("window = 2", "window = 0", "config: out of range"),
+    ("[[partition]]", "[partition]", "config: out of range"),
+    (
+        "window = 2",
+        "window = 2\n\"\" = 1",
+        "config: unknown key",
+    ),
+    (
+        "count = 1024",
+        "count = 1024\ntype = 256",
+        "config: out of range",
+    ),
+    (
+        "count = 1024",
+        "count = 4294967296\n[[partition]]",
+        "config: too many partitions",
+    ),
+    (
+        "count = 1024",
+        "count = 1024\n[[partition]]\nspeed = 1",
+        "config: unknown key",
+    ),
+    (
+        "sectors = 4096",
+        "sectors = 1",
+        "mbr: past end",
+    ),
 ];
 
-#[test]
-fn refuses_damaged_settings(rt: HostRuntime) -> Result<(), Fail> {
-    let alloc = rt.alloc();
-    for (old, new, fault) in DAMAGES {
-        let (before, after) = GOOD.split_once(old).ok_or("the text that is replaced")?;
+fn refuses_settings(
+    rt: &impl Abort,
+    alloc: Global,
+    damages: &[(&str, &str, &str)],
+) -> Result<(), Fail> {
+    for (old, new, fault) in damages {
+        let (before, after) = GOOD.split_once(*old).ok_or("the text that is replaced")?;
         let text = format!(in alloc; "{before}{new}{after}")?;
         let wanted = format!(in alloc; "stackrun: {fault}\n")?;
         let got = run_texts(alloc, text.as_bytes(), b"open 0\n");
@@ -169,8 +216,13 @@ fn refuses_damaged_settings(rt: HostRuntime) -> Result<(), Fail> {
     Ok(())
 }
 
+#[test]
+fn refuses_damaged_settings(rt: HostRuntime) -> Result<(), Fail> {
+    refuses_settings(&rt, rt.alloc(), DAMAGES.as_slice())
+}
+
 /// Scripts, and the line that is bad.
-static SCRIPTS: [(&str, u8); 26] = [
+static SCRIPTS: [(&str, u8); 34] = [
     ("open\n", 1),
     ("open 0 0\n", 1),
     ("# a remark\n\n  \nopen zero\n", 4),
@@ -197,6 +249,14 @@ static SCRIPTS: [(&str, u8); 26] = [
     ("cancel 1\n", 1),
     ("reset\n", 1),
     ("open 0 # one\n", 1),
+    ("open 0\0\n", 1),
+    ("open 0\n\0\n", 2),
+    ("\u{feff}open 0\n", 1),
+    ("open\u{a0}0\n", 1),
+    ("act 99999999999999999999\n", 1),
+    ("open 0\ract 0\n", 1),
+    ("read 1 18446744073709551616 512\n", 1),
+    ("\topen 0\n", 1),
 ];
 
 #[test]
@@ -225,4 +285,19 @@ fn refuses_other_texts_than_utf8(rt: HostRuntime) {
         script.faults.as_slice(),
         b"stackrun: script line 1: bad line\n".as_slice()
     );
+}
+
+/// Brackets so deep that a reader by recursion would run out of stack.
+#[test]
+fn refuses_deep_settings(rt: HostRuntime) -> Result<(), Fail> {
+    let alloc = rt.alloc();
+    let brackets = vec![in alloc; b'['; 10_000]?;
+    let mut text = b"sectors = ".to_vec(alloc)?;
+    text.extend_from_slice(brackets.as_slice())?;
+    let got = run_texts(alloc, text.as_slice(), b"");
+    assert_eq!(rt;
+        got.faults.as_slice(),
+        b"stackrun: config: not TOML\n".as_slice()
+    );
+    Ok(())
 }

@@ -23,7 +23,7 @@ const FOUR: &str =
 const PARTITION: &str = "[[partition]]\nfirst = 2048\ncount = 1024\n";
 
 /// Settings before the partition, one more setting, a script and the trace.
-static ROWS: [(&str, &str, &str, &str); 10] = [
+static ROWS: [(&str, &str, &str, &str); 12] = [
     (ONE, "", WRITE_AND_READ, WRITTEN_AND_READ),
     (
         ONE,
@@ -48,6 +48,18 @@ static ROWS: [(&str, &str, &str, &str); 10] = [
         "",
         "open 0\nact 1\nfinish 1\nact 99\nfinish 18446744073709551615\n",
         "> open 0\nhandle 1\n> act 1\nignored\n> finish 1\nignored\n> act 99\nignored\n> finish 18446744073709551615\nignored\n",
+    ),
+    (
+        ONE,
+        "",
+        "# \0\u{a0}\n   # more\nopen 00000000000000000000\nread 18446744073709551615 18446744073709551615 512",
+        "> open 00000000000000000000\nhandle 1\n> read 18446744073709551615 18446744073709551615 512\nrefused E1\ncall 1 read 18446744073709551615 512\nanswer 1 INVALID_HANDLE 0\n",
+    ),
+    (
+        ONE,
+        "",
+        "open 0\nread 1 18446744073709551104 512\n",
+        "> open 0\nhandle 1\n> read 1 18446744073709551104 512\nrefused E2\ncall 1 read 18446744073709551104 512\nanswer 1 INVALID_PARAMETER 0\n",
     ),
     (
         ONE,
