@@ -10,13 +10,14 @@ use Rattle.device.specs.declared.Label.TheVariants.{Call, Answer}
 use Rattle.device.specs.Rules.{Rules, place_count}
 use Rattle.device.specs.State.{State}
 use Rattle.device.specs.Calling.{refusal}
-use Rattle.device.specs.Sending.{partition_number, sectors_at}
+use Rattle.device.specs.Sending.{sectors_at}
 use Rattle.device.specs.Settled.{Settled}
 use Rattle.device.specs.Step.{Step, Run}
 use Rattle.device.specs.Solo.{IsSolo, all_places}
+use Rattle.machine_laws.specs.SoloLaws.{WroteOrLeft}
 use Rattle.machine_laws.specs.Along.{Sometime}
 use Rattle.machine_laws.specs.Reached.{IsReached}
-use Rattle.machine_laws.specs.Sectors.{array_at, sector_at, sector_of, bytes_for, WritesPartition, WritesSector}
+use Rattle.machine_laws.specs.Sectors.{array_at, sector_at, WritesPartition, WritesSector}
 use Rattle.machine_laws.specs.WriteLaws.{IsWriteAt}
 use Rattle.compose.specs.declared.Event.{Event}
 use Rattle.compose.specs.declared.Shown.{Shown}
@@ -72,14 +73,6 @@ pub record IsOfRun (rules : Rules) (s : State) (labels : List Label) (s' : State
 abbrev pub IsSoloIn : (rules : Rules) (s : State) (labels : List Label) (s' : State) (number : ℕ) (q : ClientRequest) (status : NtStatus) (bytes : List ℕ) (before after : State)
     → IsOfRun rules s labels s' number q status bytes before after → Type 0
 IsSoloIn rules s labels s' number q status bytes before after h = IsSolo rules number q h.called h.between h.ended h.run
-
--- each place of a write is as it was before the call, or a piece of the write acted on it and its bytes stand there
-abbrev pub WroteOrLeft : (rules : Rules) (number : ℕ) (q : ClientRequest) (before called : State) (between : List Label) (ended : State) (after : State)
-    → Run rules called between ended → ℕ → Type 0
-WroteOrLeft rules number q before called between ended after run place =
-    (sector_at after (partition_number q) (sector_of rules q place) ≡ sector_at before (partition_number q) (sector_of rules q place))
-    ⊎ (Sometime (WritesSector rules number (partition_number q) (sector_of rules q place)) rules called between ended run
-    × (sector_at after (partition_number q) (sector_of rules q place) ≡ Some (bytes_for rules q place)))
 
 -- what is promised of the requests that a run calls and answers, and of its arrays
 pub record ObeysLaws (rules : Rules) (s : State) (labels : List Label) (s' : State) : Type 0 where

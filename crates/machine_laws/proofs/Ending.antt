@@ -24,7 +24,8 @@ use Rattle.device.proofs.Numbers.{Step-number, AreDistinct-same, requests_in_ord
 use Rattle.device.proofs.Places.{none_first}
 use Rattle.machine_laws.specs.Sectors.{WritesSector}
 use Rattle.machine_laws.specs.Along.{Sometime, Always}
-use Rattle.machine_laws.specs.EndLaws.{HasOtherNumber, HasOtherOwner, IsOver, IsNotOfDevice, IsEmpty, AnsweredAreOver, RemovedAreEmpty}
+use Rattle.device.specs.Laws.{IsNotOfDevice}
+use Rattle.machine_laws.specs.EndLaws.{HasOtherNumber, HasOtherOwner, IsOver, IsEmpty, AnsweredAreOver, RemovedAreEmpty}
 use Rattle.machine_laws.proofs.Serving.{Serves-FreeStep, others_differ}
 use Rattle.machine_laws.proofs.Sound.{Anything, nothing, act_anyhow, IsSound, IsSound-Step, IsSound-reached}
 use Rattle.machine_laws.proofs.Matching.{HasOwner, Matches, Matches-same, Matches-Answers, Matches-Step, Matches-reached}

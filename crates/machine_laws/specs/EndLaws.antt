@@ -2,11 +2,12 @@
 use Rattle.std.specs.Prelude.{◌≡◌, ◌≢◌, ℕ, List, [], All, IsTrue}
 use Rattle.ntstatus.specs.declared.NtStatus.{NtStatus}
 use Rattle.device.specs.declared.Label.{Label}
-use Rattle.device.specs.declared.Label.TheVariants.{Device, Removed}
+use Rattle.device.specs.declared.Label.TheVariants.{Removed}
 use Rattle.device.specs.Rules.{Rules}
 use Rattle.device.specs.State.{OpenRequest, Piece, State}
 use Rattle.device.specs.Answering.{Answers}
 use Rattle.device.specs.Step.{Step, Run}
+use Rattle.device.specs.Laws.{IsNotOfDevice}
 use Rattle.machine_laws.specs.Sectors.{WritesSector}
 use Rattle.machine_laws.specs.Along.{Sometime, Always}
 use Rattle.machine_laws.specs.Reached.{IsReached}
@@ -31,11 +32,6 @@ AnsweredAreOver = (rules : Rules) (s : State) (number : ℕ) (status : NtStatus)
 abbrev pub AnsweredWriteNoMore : Type 0
 AnsweredWriteNoMore = (rules : Rules) (s : State) (number : ℕ) (status : NtStatus) (bytes : List ℕ) (answered : State) (labels : List Label) (s' : State)
     → IsReached rules s → Answers rules s number status bytes answered → (run : Run rules answered labels s') (p i : ℕ) → Sometime (WritesSector rules number p i) rules answered labels s' run → ⊥
-
--- a label that is no start, act, fault or return
-abbrev pub IsNotOfDevice : Label → Type 0
-IsNotOfDevice (Device label) = ⊥
-IsNotOfDevice _ = Unit {0}
 
 -- nothing is open or out
 pub record IsEmpty (s : State) : Type 0 where

@@ -30,14 +30,19 @@ LabelsAreOfOne = (rules : Rules) (number : ℕ) (q : ClientRequest) (status : Nt
     → refusal rules before q ≡ None → Step rules before (Call number q) called → Run rules called labels ended → Step rules ended (Answer number status bytes) after
     → Opens rules before number q called × Answers rules ended number status bytes after
 
--- each place of a solo write, also of one that failed, is as it was before its call,
--- or a piece of the write acted on it before its answer, and the write's bytes stand there
+-- the place of a write is as it was before the call, or a piece of the write acted on it and its bytes stand there
+abbrev pub WroteOrLeft : (rules : Rules) (number : ℕ) (q : ClientRequest) (before called : State) (between : List Label) (ended : State) (after : State)
+    → Run rules called between ended → ℕ → Type 0
+WroteOrLeft rules number q before called between ended after run place =
+    (sector_at after (partition_number q) (sector_of rules q place) ≡ sector_at before (partition_number q) (sector_of rules q place))
+    ⊎ (Sometime (WritesSector rules number (partition_number q) (sector_of rules q place)) rules called between ended run
+    × (sector_at after (partition_number q) (sector_of rules q place) ≡ Some (bytes_for rules q place)))
+
+-- each place of a solo write, also of one that failed, is as it was or was written before its answer
 abbrev pub FailedWrites : Rules → State → Type 0
 FailedWrites rules before = (number : ℕ) (q : ClientRequest) (status : NtStatus) (bytes : List ℕ) (after : State)
     → q.kind ≡ Write → (answered : IsAnswered rules number q status bytes before after) → (place : ℕ) → place < place_count rules q
-    → (sector_at after (partition_number q) (sector_of rules q place) ≡ sector_at before (partition_number q) (sector_of rules q place))
-    ⊎ (Sometime (WritesSector rules number (partition_number q) (sector_of rules q place)) rules answered.called answered.labels answered.ended answered.run
-    × (sector_at after (partition_number q) (sector_of rules q place) ≡ Some (bytes_for rules q place)))
+    → WroteOrLeft rules number q before answered.called answered.labels answered.ended after answered.run place
 
 abbrev pub FailedWritesHold : Type 0
 FailedWritesHold = (rules : Rules) (before : State) → IsReached rules before → FailedWrites rules before
