@@ -168,11 +168,7 @@ static DAMAGES: [(&str, &str, &str); 41] = [
     ),
     ("window = 2", "window = 0", "config: out of range"),
     ("[[partition]]", "[partition]", "config: out of range"),
-    (
-        "window = 2",
-        "window = 2\n\"\" = 1",
-        "config: unknown key",
-    ),
+    ("window = 2", "window = 2\n\"\" = 1", "config: unknown key"),
     (
         "count = 1024",
         "count = 1024\ntype = 256",
@@ -188,11 +184,7 @@ static DAMAGES: [(&str, &str, &str); 41] = [
         "count = 1024\n[[partition]]\nspeed = 1",
         "config: unknown key",
     ),
-    (
-        "sectors = 4096",
-        "sectors = 1",
-        "mbr: past end",
-    ),
+    ("sectors = 4096", "sectors = 1", "mbr: past end"),
 ];
 
 fn refuses_settings(

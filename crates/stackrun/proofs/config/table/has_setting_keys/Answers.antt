@@ -9,5 +9,5 @@ use Rattle.stackrun.proofs.config.table.has_setting_keys.Goals as goal
 pub returns : goal.returns
 returns c =
     let by_call = cases_from_all _ _ _ (λ s. Contains setting_keys (string_bytes s)) (λ s. Unit {0}) c.all.ensures.ran
-        (YieldsList-from_rest (keys c.args.table.now) cc) (λ x q k. search (rules, tests)) (λ x q k. tt) in
+    (YieldsList-from_rest (keys c.args.table.now) cc) (λ x q k. search (rules, tests)) (λ x q k. tt) in
     λ t. all_keys (Contains setting_keys) c.args.table.now.entries (at_true _ _ _ by_call t)
