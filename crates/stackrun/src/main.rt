@@ -1,7 +1,9 @@
 //! The program: runs a script of events through a stack over a disk in memory, and prints the trace.
 //!
 //! It promises, by the contract of [`config::config`], that settings which were accepted are those of the document, each
-//! in its range, or its default. What is printed, and which fault comes first, is tested and not proved.
+//! in its range, or its default, and that a document with an unknown key is refused for it; by that of
+//! [`words::command`], that the two paths are those that the parser of the command line found under their names. What
+//! is printed, and which fault comes first else, is tested and not proved.
 #![tactic(auto)]
 
 mod config;
