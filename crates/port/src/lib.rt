@@ -37,7 +37,8 @@ pub struct Port<A: Adapter> {
 }
 
 impl<A: Adapter> Port<A> {
-    /// The port of an adapter that nothing was started on, but for two commands at most.
+    /// The port of an adapter whose tags are free and whose labels are all taken, and which accepted two commands at
+    /// most: those of a start that read its size and its partition table.
     ///
     /// # Errors
     ///
