@@ -43,23 +43,9 @@ fn moved(srb: Srb) -> Outcome
     requires { length srb.for_label ≡ length srb.data }
     ensures { result ≡ Outcome.Moved (emptied srb.data srb) srb.data }
 {
-    let Srb {
-        function,
-        flags,
-        block,
-        data: moved,
-        for_label,
-        sense,
-    } = srb;
-    let (bytes, for_label) = copied(&moved, for_label);
-    let srb = Srb {
-        function,
-        flags,
-        block,
-        data: moved,
-        for_label,
-        sense,
-    };
+    let place = srb.for_label;
+    let (bytes, for_label) = copied(&srb.data, place);
+    let srb = Srb { for_label, ..srb };
     Outcome::Moved { srb, bytes }
 }
 
@@ -71,23 +57,11 @@ fn read<M: Medium>(medium: &mut M, lba: u32, count: u16, srb: Srb) -> Outcome
     requires countable { (M.seen medium.old).failures < 2 ^ 120 }
     ensures { Reads (M.seen medium.old) (record { first = lba; count = count }) srb result (M.seen medium.new) }
 {
-    let Srb {
-        function,
-        flags,
-        block,
-        data: place,
-        for_label,
-        sense,
-    } = srb;
-    let mut bytes = place.into_vec();
+    let mut bytes = srb.data.into_vec();
     let read = medium.read(extent(lba, count), bytes.as_mut_slice());
     let srb = Srb {
-        function,
-        flags,
-        block,
         data: Bytes::new(bytes),
-        for_label,
-        sense,
+        ..srb
     };
     if read.is_err() {
         return Outcome::Failed {
@@ -122,24 +96,12 @@ fn tell_capacity(last: u32, sector_size: u32, srb: Srb) -> Outcome
     requires buffers { length srb.for_label ≡ length srb.data }
     ensures { let bytes = big_bytes 4 last ++ big_bytes 4 sector_size in result ≡ Outcome.Moved (emptied bytes srb) bytes }
 {
-    let Srb {
-        function,
-        flags,
-        block,
-        data: place,
-        for_label,
-        sense,
-    } = srb;
-    let mut bytes = place.into_vec();
+    let mut bytes = srb.data.into_vec();
     BigEndian::write_u32(bytes.as_mut_slice(), last);
     BigEndian::write_u32(&mut bytes.as_mut_slice()[4..], sector_size);
     moved(Srb {
-        function,
-        flags,
-        block,
         data: Bytes::new(bytes),
-        for_label,
-        sense,
+        ..srb
     })
 }
 

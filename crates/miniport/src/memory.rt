@@ -181,31 +181,20 @@ fn carry_on<M: Medium>(
     requires counted { table.old.failures < 2 ^ 127 }
     ensures { (outcome : Outcome) × PutsBack (M.seen medium.old) write_protected table.old tag on_tag outcome (M.seen medium.new) table.new }
 {
-    let OnTag {
-        piece,
-        srb,
-        progress: _,
-        failures_before,
-        was_reset,
-    } = on_tag;
-    match carry_out(medium, write_protected, srb) {
+    match carry_out(medium, write_protected, on_tag.srb) {
         Outcome::Moved { srb, bytes } => {
             let on_tag = OnTag {
-                piece,
                 srb,
                 progress: Progress::Moved,
-                failures_before,
-                was_reset,
+                ..on_tag
             };
             table.put_moved(tag, on_tag, bytes);
         }
         Outcome::Failed { srb, completion } => {
             let on_tag = OnTag {
-                piece,
                 srb,
                 progress: Progress::Failed(completion),
-                failures_before,
-                was_reset,
+                ..on_tag
             };
             table.put_failed(tag, on_tag);
         }

@@ -163,23 +163,8 @@ impl TagTable {
             piece,
             class: completion.class(),
         });
-        let Srb {
-            function,
-            flags,
-            block,
-            data: bytes,
-            for_label,
-            sense: _,
-        } = srb;
-        let srb = Srb {
-            function,
-            flags,
-            block,
-            data: bytes,
-            for_label,
-            sense: completion.sense,
-        };
-        Some((srb, completion))
+        let sense = completion.sense;
+        Some((Srb { sense, ..srb }, completion))
     }
 
     /// Fails each piece that has done nothing yet; all pieces have met a reset.
@@ -212,21 +197,12 @@ impl TagTable {
         ensures piece { Some result ≡ slot_after_reset (Some on_tag) }
         ensures after { self.new ≡ with_reset_counted (Some on_tag) self.old }
     {
-        let OnTag {
-            piece,
-            srb,
-            progress,
-            failures_before,
-            was_reset,
-        } = on_tag;
-        self.count_reset(was_reset);
-        let progress = self.fault_by(piece, progress);
+        self.count_reset(on_tag.was_reset);
+        let progress = self.fault_by(on_tag.piece, on_tag.progress);
         OnTag {
-            piece,
-            srb,
             progress,
-            failures_before,
             was_reset: true,
+            ..on_tag
         }
     }
 
