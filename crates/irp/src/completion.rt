@@ -10,11 +10,10 @@ use ntstatus::NtStatus;
 /// A completion routine that keeps its packet (WDK: STATUS_MORE_PROCESSING_REQUIRED) stores the `irp` of
 /// `Climb::Routine`, whose last location is that driver's own. Later the driver either calls `complete` with a status of
 /// its own choice, or `resume`, and the packet climbs on with the status that it has.
-pub fn complete(irp: Irp, status: NtStatus, information: u64) -> Climb
+pub fn complete(mut irp: Irp, status: NtStatus, information: u64) -> Climb
     ensures climbs { Climbs (above irp) irp.number irp.cancelled status information irp.payload result }
     ensures cancel_routine { KeepsCancelRoutine irp result }
 {
-    let mut irp = irp;
     irp.io_status = IoStatus {
         status,
         information,
@@ -24,21 +23,19 @@ pub fn complete(irp: Irp, status: NtStatus, information: u64) -> Climb
 
 /// The packet climbs on from the driver whose location is its last, with the status that it has. One with no location is
 /// finished.
-pub fn resume(irp: Irp) -> Climb
+pub fn resume(mut irp: Irp) -> Climb
     ensures climbs { Climbs (above irp) irp.number irp.cancelled irp.io_status.status irp.io_status.information irp.payload result }
     ensures cancel_routine { KeepsCancelRoutine irp result }
 {
-    let mut irp = irp;
     irp.locations.pop();
     climb(irp)
 }
 
 /// The packet goes to its last location that asks, and those below that one are taken off.
-fn climb(irp: Irp) -> Climb
+fn climb(mut irp: Irp) -> Climb
     ensures climbs { Climbs irp.locations.items irp.number irp.cancelled irp.io_status.status irp.io_status.information irp.payload result }
     ensures cancel_routine { KeepsCancelRoutine irp result }
 {
-    let mut irp = irp;
     let success = irp.io_status.status.is_success();
     while let Some(location) = irp.locations.last().copied() {
         if location.asks(success, irp.cancelled) {
