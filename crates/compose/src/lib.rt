@@ -25,6 +25,7 @@ use device::Label;
 use ntstatus::NtStatus;
 use sector::Bytes;
 pub use stack::Stack;
+use thiserror::Error;
 
 /// An open handle: its slot in the stack's table, and its number. Numbers rise from 1 to 2^62 - 1 and are never given
 /// twice; a slot is.
@@ -143,7 +144,8 @@ pub struct Shown {
 
 /// A run that stopped for want of memory for its own result, after just the first `done` events, with what each of
 /// these showed.
-#[derive(Debug, Drop)]
+#[derive(Debug, Drop, Error)]
+#[error("no memory for the result after {done} events")]
 pub struct RunStopped {
     pub shown: Vec<Shown>,
     pub done: usize,
@@ -151,31 +153,41 @@ pub struct RunStopped {
 
 /// What is wrong with the partition table in sector 0. Sectors have 512 or 4096 bytes and only the first entry is read,
 /// so no start gives `ShortSector` or `Overlap` yet.
-#[derive(Debug, Clone, Copy, PartialEq, Eq)]
+#[derive(Debug, Clone, Copy, PartialEq, Eq, Error)]
 pub enum MbrFault {
     /// There are fewer than 512 bytes.
+    #[error("short sector")]
     ShortSector,
     /// Bytes 510 and 511 are not 55h AAh.
+    #[error("no signature")]
     NoSignature,
     /// A used entry has 0 sectors.
+    #[error("empty entry")]
     EmptyEntry,
     /// A used entry begins at sector 0, where the table stands.
+    #[error("covers table")]
     CoversTable,
     /// A used entry ends past the disk.
+    #[error("past end")]
     PastEnd,
     /// Two entries share a sector.
+    #[error("overlap")]
     Overlap,
 }
 
 /// Why a stack could not be started; the adapter is spent.
-#[derive(Debug, Clone, Copy, PartialEq, Eq)]
+#[derive(Debug, Clone, Copy, PartialEq, Eq, Error)]
 pub enum StartFault {
     /// A setting is out of range; nothing was sent.
+    #[error("a setting is out of range")]
     Settings,
     /// The adapter failed READ CAPACITY(10) or the read of sector 0, with this status.
+    #[error("the device failed a command of the start: {0}")]
     Device(NtStatus),
     /// Sector 0 holds no partition table that is right.
+    #[error("the partition table is wrong: {0}")]
     Mbr(MbrFault),
     /// Memory was refused.
+    #[error("no memory")]
     NoMemory,
 }

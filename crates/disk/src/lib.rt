@@ -12,10 +12,12 @@ mod vec_disk;
 
 use sector::Extent;
 use std::alloc::AllocError;
+use thiserror::Error;
 pub use vec_disk::VecDisk;
 
 /// The memory for a reservation was refused.
-#[derive(Debug, Clone, Copy, PartialEq, Eq)]
+#[derive(Debug, Clone, Copy, PartialEq, Eq, Error)]
+#[error("no memory")]
 pub struct NoMemory;
 
 impl From<AllocError> for NoMemory {

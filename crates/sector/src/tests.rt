@@ -36,7 +36,7 @@ fn sees_shared_sectors(rt: HostRuntime) {
 }
 
 #[test]
-fn counts_bytes_in_sectors(rt: HostRuntime) {
+fn counts_bytes_in_sectors(rt: HostRuntime) -> Result<(), Fail> {
     let far = u64::MAX - 511;
     for (offset, length, size, sectors, want) in [
         (523_776, 512, 512, 1024, Some(extent(1023, 1))),
@@ -65,6 +65,12 @@ fn counts_bytes_in_sectors(rt: HostRuntime) {
             "{length} bytes from {offset}"
         );
     }
+    let text = format!(in rt.alloc(); "{}", InvalidParameter)?;
+    assert_eq!(rt;
+        text.as_str(),
+        "the bytes are not whole sectors of the disk"
+    );
+    Ok(())
 }
 
 #[test]

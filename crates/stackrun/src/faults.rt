@@ -20,26 +20,14 @@ pub enum Fault {
     #[error("stackrun: script line {0}: bad line")]
     BadLine(u64),
     /// The adapter failed a command of the start.
-    #[error("stackrun: start: {}", .0.name())]
+    #[error("stackrun: start: {0}")]
     Start(NtStatus),
-    #[error("stackrun: mbr: {}", words_of(.0))]
+    #[error("stackrun: mbr: {0}")]
     Mbr(MbrFault),
     #[error("stackrun: no memory")]
     NoMemory,
     #[error("stackrun: output failed")]
     OutputFailed,
-}
-
-/// What is wrong with a partition table, in words.
-fn words_of(fault: &MbrFault) -> &'static str {
-    match fault {
-        MbrFault::ShortSector => "short sector",
-        MbrFault::NoSignature => "no signature",
-        MbrFault::EmptyEntry => "empty entry",
-        MbrFault::CoversTable => "covers table",
-        MbrFault::PastEnd => "past end",
-        MbrFault::Overlap => "overlap",
-    }
 }
 
 impl From<StartFault> for Fault {

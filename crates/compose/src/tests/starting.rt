@@ -2,7 +2,7 @@
 
 use crate::tests::disks::{MIDDLE, Table, adapter, disk, start};
 use crate::tests::steps::{Step, go};
-use crate::{MbrFault, Settings, Stack, StartFault};
+use crate::{MbrFault, RunStopped, Settings, Stack, StartFault};
 use disk::VecDisk;
 use ntstatus::NtStatus;
 use std::alloc::{AllocError, Global};
@@ -128,5 +128,33 @@ fn starts_with_no_partition(rt: HostRuntime) -> Result<(), Fail> {
         &mut stack,
         &[(Step::Open(0), "refused InvalidParameter none")],
     )?;
+    Ok(())
+}
+
+// A fault of the start, and of the table within it, and a run that stopped.
+#[test]
+fn faults_are_told(rt: HostRuntime) -> Result<(), Fail> {
+    let alloc = rt.alloc();
+    for (fault, want) in [
+        (StartFault::Settings, "a setting is out of range"),
+        (
+            StartFault::Device(NtStatus::DeviceDataError),
+            "the device failed a command of the start: DEVICE_DATA_ERROR",
+        ),
+        (
+            StartFault::Mbr(MbrFault::NoSignature),
+            "the partition table is wrong: no signature",
+        ),
+        (StartFault::NoMemory, "no memory"),
+    ] {
+        let text = format!(in alloc; "{fault}")?;
+        assert_eq!(rt; text.as_str(), want);
+    }
+    let stopped = RunStopped {
+        shown: Vec::new(alloc),
+        done: 3,
+    };
+    let text = format!(in alloc; "{stopped}")?;
+    assert_eq!(rt; text.as_str(), "no memory for the result after 3 events");
     Ok(())
 }
