@@ -79,14 +79,17 @@ impl<D: Device> IoManager<D> {
         self.parts.tables.waiting.pop_front()
     }
 
-    /// Takes all labels of the last step, for an empty queue with places for those of the next.
+    /// Takes all labels of the last step, for an empty queue with places for those of the next. The places that they
+    /// don't use are given back.
     fn take_labels(&mut self, spare: VecDeque<Label>) -> Vec<Label>
         requires empty { spare.items ≡ [] }
         requires places { 192 ≤ deque_capacity spare }
         ensures labels { result.items ≡ self.old.labels }
         ensures taken { self.new ≡ record self.old { labels = [] } }
     {
-        mem::replace(&mut self.parts.tables.labels, spare).into_vec()
+        let mut labels = mem::replace(&mut self.parts.tables.labels, spare).into_vec();
+        labels.shrink_to_fit();
+        labels
     }
 
     /// Carries events out one after another, and gives the reply and the labels of each, which are then taken.
