@@ -1,9 +1,9 @@
 -- Moves of an adapter, one after another: they join, and record their labels.
-use Rattle.std.proofs.Common.{◌≡◌, ℕ, ◌+◌, List, [], ◌∷◌, ◌++◌, sym, ◌∙◌, ap, append_assoc}
+use Rattle.std.proofs.Common.{◌≡◌, ℕ, List, [], ◌∷◌, ◌++◌, sym, ◌∙◌, ap, append_assoc}
 use Rattle.std.proofs.lemmas.List.{append-nil}
 use Rattle.srb.specs.declared.DeviceLabel.{DeviceLabel}
 use Rattle.srb.specs.declared.DeviceLabel.TheVariants.{Start, Act, Fault, Return}
-use Rattle.srb.specs.Adapter.{AdapterView, MovesUnseen, MovesBy, MovesOn, MovesByAll}
+use Rattle.srb.specs.Adapter.{AdapterView, MovesUnseen, MovesOn, MovesByAll}
 use Rattle.compose.specs.Right.{AdapterMoves}
 
 pub unseen_joined : (old mid new : AdapterView) → MovesUnseen old mid → MovesUnseen mid new → MovesUnseen old new

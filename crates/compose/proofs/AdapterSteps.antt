@@ -1,5 +1,5 @@
 -- Acts and returns of the adapter as steps of the stack.
-use Rattle.std.proofs.Common.{◌≡◌, inl, inr, ℕ, List, [], ◌∷◌, ◌++◌, refl, sym, ap, subst}
+use Rattle.std.proofs.Common.{◌≡◌, inl, inr, ℕ, List, [], ◌∷◌, ◌++◌, refl, sym, ◌∙◌, ap, subst}
 use Rattle.std.specs.Prelude.{IsPermutation, All, IsTrue}
 use Rattle.std.proofs.lemmas.List.Sorted.{All-permutation, IsPermutation-sym}
 use Rattle.std.proofs.lemmas.List.Elements.{All-append, All-weaker}
@@ -17,10 +17,12 @@ use Rattle.compose.specs.declared.Event.TheVariants.{Act, Finish}
 use Rattle.compose.specs.declared.Reply.TheVariants.{Ok as OkReply, Ignored}
 use Rattle.compose.specs.declared.admission.Limits.{Limits}
 use Rattle.compose.specs.declared.tables.Tables.{Tables}
+use Rattle.compose.specs.Shown.{StackView}
 use Rattle.compose.specs.Right.{SameHandles, tells_nothing, IsRight}
-use Rattle.compose.specs.Sound.{view_of, IsSound, IsAtRest, Collects}
+use Rattle.compose.specs.Sound.{view_of, IsSound, IsAtRest, Collects, IsKept}
 use Rattle.compose.proofs.Quiet.{IsRightBy-unmoved}
 use Rattle.compose.proofs.Righting.{IsServed, told_by, rests, IsRightBy-served}
+use Rattle.compose.proofs.Stepping.{IsKept-collected}
 
 -- WHAT HAS NOT ENDED
 
@@ -81,7 +83,7 @@ module _ (limits : Limits) (below : Seen) (tables : Tables) where
   same_handles : (below1 below2 : Seen) (tables2 : Tables) → Collects below1 tables below2 tables2 → SameHandles (view_of limits below tables) (view_of limits below2 tables2)
   same_handles below1 below2 tables2 c = record { handles = ap (λ handles. handles.slots) c.same_handles; next_handle = c.same_next_handle }
 
-  pub IsRight-act : (tag : ℕ) (below1 below2 : Seen) (tables2 : Tables) → IsSound limits below tables → IsOrderly below → IsAtRest below
+  IsRight-act : (tag : ℕ) (below1 below2 : Seen) (tables2 : Tables) → IsSound limits below tables → IsOrderly below → IsAtRest below
       → (tables.labels.items ≡ []) × (below.adapter.labels ≡ []) → ActsOn below tag below1 → Collects below1 tables below2 tables2 → IsOrderly below2
       → IsRight (view_of limits below tables) (Act tag) OkReply (view_of limits below2 tables2) × IsAtRest below2
   IsRight-act tag below1 below2 tables2 sound orderly rest taken acts c orderly2 =
@@ -109,7 +111,7 @@ module _ (limits : Limits) (below : Seen) (tables : Tables) where
         rests limits below tables [] (acts.label ∷ []) below1 tables below2 tables2 h c,
       )
 
-  pub IsRight-act_ignored : (tag : ℕ) (below' : Seen) → (tables.labels.items ≡ []) × (below.adapter.labels ≡ []) → ActsNot below tag below'
+  IsRight-act_ignored : (tag : ℕ) (below' : Seen) → (tables.labels.items ≡ []) × (below.adapter.labels ≡ []) → ActsNot below tag below'
       → IsRight (view_of limits below tables) (Act tag) Ignored (view_of limits below' tables)
   IsRight-act_ignored tag below' taken h =
       subst (λ (seen : Seen). IsRight (view_of limits below tables) (Act tag) Ignored (view_of limits seen tables)) (sym h.same)
@@ -122,7 +124,7 @@ module _ (limits : Limits) (below : Seen) (tables : Tables) where
         by = IsRightBy-unmoved (view_of limits below tables) taken.0 taken.1;
       })
 
-  pub IsRight-finish : (tag : ℕ) (below1 below2 : Seen) (tables2 : Tables) → IsSound limits below tables → IsOrderly below → IsAtRest below
+  IsRight-finish : (tag : ℕ) (below1 below2 : Seen) (tables2 : Tables) → IsSound limits below tables → IsOrderly below → IsAtRest below
       → (tables.labels.items ≡ []) × (below.adapter.labels ≡ []) → Finishes below tag below1 → Collects below1 tables below2 tables2 → IsOrderly below2
       → IsRight (view_of limits below tables) (Finish tag) OkReply (view_of limits below2 tables2) × IsAtRest below2
   IsRight-finish tag below1 below2 tables2 sound orderly rest taken finishes c orderly2 =
@@ -150,7 +152,7 @@ module _ (limits : Limits) (below : Seen) (tables : Tables) where
         rests limits below tables [] (Return finishes.piece.number finishes.class ∷ finishes.starts) below1 tables below2 tables2 h c,
       )
 
-  pub IsRight-finish_ignored : (tag : ℕ) (below' : Seen) → (tables.labels.items ≡ []) × (below.adapter.labels ≡ []) → FinishesNot below tag below'
+  IsRight-finish_ignored : (tag : ℕ) (below' : Seen) → (tables.labels.items ≡ []) × (below.adapter.labels ≡ []) → FinishesNot below tag below'
       → IsRight (view_of limits below tables) (Finish tag) Ignored (view_of limits below' tables)
   IsRight-finish_ignored tag below' taken h =
       subst (λ (seen : Seen). IsRight (view_of limits below tables) (Finish tag) Ignored (view_of limits seen tables)) (sym h.same)
@@ -159,3 +161,35 @@ module _ (limits : Limits) (below : Seen) (tables : Tables) where
         replies = ((record { nothing = refl; same_state = refl }, h.free), record { handles = refl; next_handle = refl });
         by = IsRightBy-unmoved (view_of limits below tables) taken.0 taken.1;
       })
+
+-- AS IT IS SHOWN: what holds between two steps holds after it
+
+module _ (limits : Limits) (below : Seen) (tables : Tables) (old : StackView) (kept : IsKept limits below tables) (shown : view_of limits below tables ≡ old) (taken : old.labels ≡ []) where
+  untaken : (tables.labels.items ≡ []) × (below.adapter.labels ≡ [])
+  untaken = (ap (λ (v : StackView). v.labels) shown ∙ taken, kept.none_recorded)
+
+  pub act_kept : (tag : ℕ) (below1 : Seen) (limits' : Limits) (below2 : Seen) (tables2 : Tables) → IsOrderly below → ActsOn below tag below1 → limits' ≡ limits → IsSound limits' below2 tables2
+      → Collects below1 tables below2 tables2 → IsOrderly below2 → IsRight old (Act tag) OkReply (view_of limits' below2 tables2) × IsKept limits' below2 tables2
+  act_kept tag below1 limits' below2 tables2 orderly acts same sound collects orderly2 =
+      let right : IsRight (view_of limits below tables) (Act tag) OkReply (view_of limits below2 tables2) × IsAtRest below2 =
+      IsRight-act limits below tables tag below1 below2 tables2 kept.sound orderly kept.rest untaken acts collects orderly2 in (
+        subst (λ (l : Limits). IsRight old (Act tag) OkReply (view_of l below2 tables2)) (sym same)
+            (subst (λ v. IsRight v (Act tag) OkReply (view_of limits below2 tables2)) shown right.0),
+        IsKept-collected limits limits' below below1 below2 tables tables tables2 right.0.told same kept right.0.by sound right.1 collects,
+      )
+
+  pub act_ignored : (tag : ℕ) (below' : Seen) → ActsNot below tag below' → IsRight old (Act tag) Ignored (view_of limits below' tables)
+  act_ignored tag below' none = subst (λ v. IsRight v (Act tag) Ignored (view_of limits below' tables)) shown (IsRight-act_ignored limits below tables tag below' untaken none)
+
+  pub finish_kept : (tag : ℕ) (below1 : Seen) (limits' : Limits) (below2 : Seen) (tables2 : Tables) → IsOrderly below → Finishes below tag below1 → limits' ≡ limits → IsSound limits' below2 tables2
+      → Collects below1 tables below2 tables2 → IsOrderly below2 → IsRight old (Finish tag) OkReply (view_of limits' below2 tables2) × IsKept limits' below2 tables2
+  finish_kept tag below1 limits' below2 tables2 orderly finishes same sound collects orderly2 =
+      let right : IsRight (view_of limits below tables) (Finish tag) OkReply (view_of limits below2 tables2) × IsAtRest below2 =
+      IsRight-finish limits below tables tag below1 below2 tables2 kept.sound orderly kept.rest untaken finishes collects orderly2 in (
+        subst (λ (l : Limits). IsRight old (Finish tag) OkReply (view_of l below2 tables2)) (sym same)
+            (subst (λ v. IsRight v (Finish tag) OkReply (view_of limits below2 tables2)) shown right.0),
+        IsKept-collected limits limits' below below1 below2 tables tables tables2 right.0.told same kept right.0.by sound right.1 collects,
+      )
+
+  pub finish_ignored : (tag : ℕ) (below' : Seen) → FinishesNot below tag below' → IsRight old (Finish tag) Ignored (view_of limits below' tables)
+  finish_ignored tag below' none = subst (λ v. IsRight v (Finish tag) Ignored (view_of limits below' tables)) shown (IsRight-finish_ignored limits below tables tag below' untaken none)

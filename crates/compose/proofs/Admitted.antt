@@ -23,7 +23,7 @@ use Rattle.compose.specs.declared.tables.Tables.{Tables}
 use Rattle.compose.specs.Calls.{number_limit}
 use Rattle.compose.specs.OnDisk.{on_partition, IsOnDisk}
 use Rattle.compose.specs.Ordering.{HasOtherNumber}
-use Rattle.compose.specs.Sound.{partitions_of, rules_of, IsHeldAt, AreHeld, IsTopmost, WasGiven, AreApart, IsSound}
+use Rattle.compose.specs.Sound.{partitions_of, rules_of, view_of, IsHeldAt, AreHeld, IsTopmost, WasGiven, AreApart, IsSound}
 use Rattle.compose.specs.Admitting.{request_on_disk, HasBuffers, Admits, SendsDown, IsAdmissible}
 use Rattle.compose.proofs.OnDiskCalls.{Opens-over}
 use Rattle.compose.proofs.Askings.{KeepsAsked-same, AreHeld-along}
@@ -97,7 +97,7 @@ AreApart-more old new slot entry answers updates before h = λ other request the
   | inr (apart, still) ↦ h other request still
 ]
 
-module _ (limits : Limits) (below : Seen) (tables : Tables) (q : ClientRequest) (h : IsSound limits below tables) (k : IsAdmissible limits below tables q) where
+module _ (limits : Limits) (below : Seen) (tables : Tables) (q : ClientRequest) (h : IsSound limits below tables) (k : IsAdmissible (view_of limits below tables) q) where
   abbrev over : Rules
   over = rules_of limits below.rules
 

@@ -1,13 +1,16 @@
 -- Calls that end where they begin are right steps: those that are refused, those of no bytes, and those past the last number.
-use Rattle.std.proofs.Common.{◌≡◌, ◌<◌, inl, inr, ℕ, ◌+◌, Bool, true, false, List, [], ◌∷◌, ◌++◌, Option, Some, None, refl, sym, ◌∙◌, ap, subst, length}
-use Rattle.std.specs.Prelude.{◌==◌, if◌then◌else◌}
+use Rattle.std.proofs.Common.{◌≡◌, ◌<◌, ◌≤◌, inl, inr, ℕ, ◌+◌, Bool, true, false, List, [], ◌∷◌, ◌++◌, Option, Some, None, refl, sym, ◌∙◌, ap, subst, arith, length}
+use Rattle.std.specs.Prelude.{◌==◌, if◌then◌else◌, IsTrue, IsFalse}
 use Rattle.std.proofs.lemmas.List.{length-map}
+use Rattle.std.proofs.lemmas.List.Elements.{All-weaker}
 use Rattle.slab.specs.Slab.{Slab, get, slab_len}
 use Rattle.ntstatus.specs.declared.NtStatus.{NtStatus}
 use Rattle.device.specs.declared.Kind.{Kind}
 use Rattle.device.specs.declared.ClientRequest.{ClientRequest}
 use Rattle.device.specs.declared.Label.{Label}
 use Rattle.device.specs.declared.Label.TheVariants.{Call, Answer as AnswerLabel}
+use Rattle.device.specs.Rules.{Rules, is_transfer}
+use Rattle.device.specs.State.{State}
 use Rattle.device.specs.Calling.{refusal}
 use Rattle.device.specs.Step.{Run}
 use Rattle.device.specs.Seen.{Seen}
@@ -21,32 +24,63 @@ use Rattle.compose.specs.declared.admission.AtOnce.TheVariants.{Empty, Refused a
 use Rattle.compose.specs.declared.admission.Limits.{Limits}
 use Rattle.compose.specs.declared.tables.Tables.{Tables}
 use Rattle.compose.specs.Shown.{StackView}
-use Rattle.compose.specs.Calls.{are_used_up, partition_at, partition_of, call_on, without_bytes}
+use Rattle.compose.specs.Calls.{number_limit, are_used_up, partition_at, partition_of, call_on, without_bytes}
 use Rattle.compose.specs.OnDisk.{open_as_called, on_partition}
 use Rattle.compose.specs.Right.{tells_nothing, CallReplies, IsRightCall}
-use Rattle.compose.specs.Sound.{partitions_of, rules_of, view_of, IsOnMap, IsSound}
-use Rattle.compose.specs.Admitting.{status_at_once, IsKnown, HasSizes, AnswersAtOnce, reply_at_once}
+use Rattle.compose.specs.Sound.{partitions_of, rules_of, view_of, IsOnMap, WasGiven, IsSound, IsKept}
+use Rattle.compose.specs.Admitting.{status_at_once, IsKnown, HasSizes, AnswersAtOnce, reply_at_once, IsAdmissible}
 use Rattle.compose.proofs.OnDiskCalls.{Run-refused}
+use Rattle.compose.proofs.Handing.{numbers_last}
+use Rattle.compose.proofs.Stepping.{IsKept-still}
 use Rattle.compose.proofs.Quiet.{right_alone, nothing_moves, tells_own, IsRightBy-unmoved}
 
 -- the partition of an open handle is there
-pub known_handle : (limits : Limits) (handles : Slab OpenHandle) (handle : Handle) → IsOnMap limits handles → IsKnown limits (partition_of handles.slots handle)
+known_handle : (limits : Limits) (handles : Slab OpenHandle) (handle : Handle) → IsOnMap limits handles → IsKnown (partitions_of limits.partition) (partition_of handles.slots handle)
 known_handle limits handles handle on_map = at_slot (get handles handle.slot) handle.number (on_map handle.slot)
   where
-    at_slot : (slot : Option OpenHandle) (number : ℕ) → ((open' : OpenHandle) → slot ≡ Some open' → open'.partition < length (partitions_of limits.partition)) → IsKnown limits (partition_at slot number)
+    at_slot : (slot : Option OpenHandle) (number : ℕ) → ((open' : OpenHandle) → slot ≡ Some open' → open'.partition < length (partitions_of limits.partition)) → IsKnown (partitions_of limits.partition) (partition_at slot number)
     at_slot None number h = tt
     at_slot (Some open') number h = tested (open'.number == number)
       where
-        tested : (b : Bool) → IsKnown limits (if b then Some open'.partition else None)
+        tested : (b : Bool) → IsKnown (partitions_of limits.partition) (if b then Some open'.partition else None)
         tested true = h open' refl
         tested false = tt
 
-pub has_sizes : (limits : Limits) (below : Seen) (tables : Tables) → IsSound limits below tables → HasSizes limits below.rules
+has_sizes : (limits : Limits) (below : Seen) (tables : Tables) → IsSound limits below tables → HasSizes limits below.rules
 has_sizes limits below tables h = record { sector_size = h.fits.sector_size; longest = h.fits.longest }
 
 -- as many requests are open in the partition's machine as in the table
-pub open_count : (limits : Limits) (below : Seen) (tables : Tables) → IsSound limits below tables → length (view_of limits below tables).state.requests ≡ slab_len tables.requests
+open_count : (limits : Limits) (below : Seen) (tables : Tables) → IsSound limits below tables → length (view_of limits below tables).state.requests ≡ slab_len tables.requests
 open_count limits below tables h = length-map below.state.requests (open_as_called (rules_of limits below.rules)) ∙ sym h.held.counted
+
+at_once_sound : (limits : Limits) (below : Seen) (tables : Tables) (q : ClientRequest) (status : NtStatus) (tables1 : Tables) → IsSound limits below tables → are_used_up tables.next_request ≡ false
+    → AnswersAtOnce tables q status tables1 → IsSound limits below tables1
+at_once_sound limits below tables q status tables1 h last answers =
+    let low : tables.next_request < number_limit = numbers_last tables.next_request last in
+    let rising : below.state.next_request ≤ tables.next_request = h.numbers.rising in
+    let submitted : below.submitted ≤ tables.next_request = h.numbers.submitted in
+    subst (IsSound limits below) (sym answers.after) (record {
+      fits = h.fits;
+      numbers = record { requests = omega arith; handles = h.numbers.handles; rising = omega arith; submitted = omega arith };
+      held = h.held;
+      few = h.few;
+      places = record {
+        labels = subst (λ capacity. 192 ≤ capacity) (sym answers.label_places) h.places.labels;
+        answered = h.places.answered;
+        waiting = h.places.waiting;
+        handles = h.places.handles;
+        requests = h.places.requests;
+      };
+      on_map = h.on_map;
+      on_disk = h.on_disk;
+      topmost = h.topmost;
+      not_paused = h.not_paused;
+      not_removing = h.not_removing;
+      none_put_by = h.none_put_by;
+      rising = h.rising;
+      given = All-weaker (WasGiven tables.next_request) (WasGiven (tables.next_request + 1)) (λ answer low. omega arith) tables.waiting.items h.given;
+      apart = h.apart;
+    })
 
 module _ (limits : Limits) (below : Seen) (tables : Tables) (handle : Handle) (kind : Kind) (offset : ℕ) (buffer : List ℕ) (h : IsSound limits below tables)
     (taken : (tables.labels.items ≡ []) × (below.adapter.labels ≡ [])) where
@@ -56,7 +90,7 @@ module _ (limits : Limits) (below : Seen) (tables : Tables) (handle : Handle) (k
   abbrev called : ClientRequest
   called = call_on view handle kind offset buffer
 
-  pub used_up_right : (reply : Reply) → are_used_up tables.next_request ≡ true → reply ≡ Refused DeviceBusy buffer → IsRightCall view handle kind offset buffer reply view
+  used_up_right : (reply : Reply) → are_used_up tables.next_request ≡ true → reply ≡ Refused DeviceBusy buffer → IsRightCall view handle kind offset buffer reply view
   used_up_right reply used_up is_reply =
       subst (λ r. IsRightCall view handle kind offset buffer r view) (sym is_reply) (record {
         told = tells_nothing view;
@@ -73,7 +107,7 @@ module _ (limits : Limits) (below : Seen) (tables : Tables) (handle : Handle) (k
   replied Empty new last refused = (record { numbers_last = last; is_refused = refused; tells = refl }, refl)
   replied (RefusedFor reason) new last refused = (refl, inl (record { numbers_last = last; is_refused = refused; tells = refl }))
 
-  pub at_once_right : (q : ClientRequest) (at_once : AtOnce) (reply : Reply) (tables1 : Tables) → are_used_up tables.next_request ≡ false → q ≡ without_bytes called
+  at_once_right : (q : ClientRequest) (at_once : AtOnce) (reply : Reply) (tables1 : Tables) → are_used_up tables.next_request ≡ false → q ≡ without_bytes called
       → refusal view.rules view.state q ≡ Some (status_at_once at_once) → AnswersAtOnce tables q (status_at_once at_once) tables1 → reply ≡ reply_at_once tables.next_request buffer at_once
       → IsRightCall view handle kind offset buffer reply (view_of limits below tables1)
   at_once_right q at_once reply tables1 last is_call refused answers is_reply =
@@ -96,3 +130,44 @@ module _ (limits : Limits) (below : Seen) (tables : Tables) (handle : Handle) (k
       told =
           answers.tells ∙ ap (λ before. before ++ Call tables.next_request q ∷ AnswerLabel tables.next_request (status_at_once at_once) [] ∷ []) taken.0
           ∙ ap (λ r. Call tables.next_request r ∷ AnswerLabel tables.next_request (status_at_once at_once) [] ∷ []) is_call
+
+-- AS IT IS SHOWN: what holds between two steps holds after it
+
+module _ (limits : Limits) (below : Seen) (tables : Tables) (old : StackView) (handle : Handle) (kind : Kind) (offset : ℕ) (buffer : List ℕ) (kept : IsKept limits below tables)
+    (shown : view_of limits below tables ≡ old) (taken : old.labels ≡ []) where
+  untaken : (tables.labels.items ≡ []) × (below.adapter.labels ≡ [])
+  untaken = (ap (λ (v : StackView). v.labels) shown ∙ taken, kept.none_recorded)
+
+  -- what refuses a call, if anything, is what the test of its sizes says
+  pub refusal_shown : (q : ClientRequest) (count : ℕ) (status : Option NtStatus) → count ≡ slab_len tables.requests
+      → ((below' : Rules) (s : State) → HasSizes limits below' → IsFalse s.removing → length s.requests ≡ count → refusal (rules_of limits below') s q ≡ status)
+      → refusal old.rules old.state q ≡ status
+  refusal_shown q count status counted exact =
+      subst (λ (v : StackView). refusal v.rules v.state q ≡ status) shown
+      (exact below.rules (view_of limits below tables).state (has_sizes limits below tables kept.sound) kept.sound.not_removing (open_count limits below tables kept.sound ∙ sym counted))
+
+  pub admissible_shown : (q : ClientRequest) → IsTrue (is_transfer q.kind) → q.partition ≡ partition_of tables.handles.slots handle → are_used_up tables.next_request ≡ false
+      → refusal old.rules old.state q ≡ None → IsAdmissible old q
+  admissible_shown q transfer partition last not_refused =
+      subst (λ (v : StackView). refusal v.rules v.state q ≡ None → IsAdmissible v q) shown
+      (λ not_refused. record {
+        transfer = transfer;
+        known = subst (IsKnown (partitions_of limits.partition)) (sym partition) (known_handle limits tables.handles handle kept.sound.on_map);
+        numbers_last = last;
+        not_refused = not_refused;
+      }) not_refused
+
+  pub used_up_shown : (reply : Reply) → are_used_up tables.next_request ≡ true → reply ≡ Refused DeviceBusy buffer → IsRightCall old handle kind offset buffer reply old
+  used_up_shown reply used_up is_reply =
+      subst (λ v. IsRightCall v handle kind offset buffer reply v) shown (used_up_right limits below tables handle kind offset buffer kept.sound untaken reply used_up is_reply)
+
+  pub at_once_kept : (q : ClientRequest) (at_once : AtOnce) (reply : Reply) (tables1 : Tables) → are_used_up tables.next_request ≡ false → q ≡ without_bytes (call_on old handle kind offset buffer)
+      → refusal old.rules old.state q ≡ Some (status_at_once at_once) → AnswersAtOnce tables q (status_at_once at_once) tables1 → reply ≡ reply_at_once tables.next_request buffer at_once
+      → IsRightCall old handle kind offset buffer reply (view_of limits below tables1) × IsKept limits below tables1
+  at_once_kept q at_once reply tables1 last is_call refused answers is_reply =
+      let right : IsRightCall (view_of limits below tables) handle kind offset buffer reply (view_of limits below tables1) =
+      at_once_right limits below tables handle kind offset buffer kept.sound untaken q at_once reply tables1 last (subst (λ v. q ≡ without_bytes (call_on v handle kind offset buffer)) (sym shown) is_call)
+      (subst (λ (v : StackView). refusal v.rules v.state q ≡ Some (status_at_once at_once)) (sym shown) refused) answers is_reply in (
+        subst (λ v. IsRightCall v handle kind offset buffer reply (view_of limits below tables1)) shown right,
+        IsKept-still limits below tables tables1 right.told kept right.by (at_once_sound limits below tables q (status_at_once at_once) tables1 kept.sound last answers),
+      )

@@ -15,7 +15,7 @@ use Rattle.device.specs.declared.Label.TheVariants.{Call}
 use Rattle.device.specs.Rules.{Rules, as_client}
 use Rattle.device.specs.Calling.{refusal, Opens}
 use Rattle.device.specs.Step.{Run}
-use Rattle.device.specs.Seen.{Seen, IsRead, sent_bytes, payload_bytes}
+use Rattle.device.specs.Seen.{Seen, IsRead, IsOrderly, sent_bytes, payload_bytes}
 use Rattle.device.specs.Served.{IsStart, Reserves}
 use Rattle.device.proofs.Same.{IsSame-refl}
 use Rattle.compose.specs.declared.Handle.{Handle}
@@ -27,17 +27,18 @@ use Rattle.compose.specs.declared.Reply.TheVariants.{Request as Requested, Refus
 use Rattle.compose.specs.declared.admission.Limits.{Limits}
 use Rattle.compose.specs.declared.admission.Places.{Places}
 use Rattle.compose.specs.declared.tables.Tables.{Tables}
-use Rattle.compose.specs.Shown.{Holder}
+use Rattle.compose.specs.Shown.{StackView, Holder}
 use Rattle.compose.specs.Calls.{bytes_called, call_on, without_bytes}
 use Rattle.compose.specs.OnDisk.{on_partition, IsOnDisk}
 use Rattle.compose.specs.Right.{tells_nothing, IsRightCall}
-use Rattle.compose.specs.Sound.{rules_of, holder_of, view_of, WasGiven, AreApart, IsSound, IsAtRest, Collects}
+use Rattle.compose.specs.Sound.{rules_of, holder_of, view_of, WasGiven, AreApart, IsSound, IsAtRest, Collects, IsKept}
 use Rattle.compose.specs.Admitting.{request_on_disk, HasBuffers, Admits, KeepsAnswers, SendsDown, IsAdmissible}
 use Rattle.compose.proofs.OnDiskCalls.{Calls-opened}
 use Rattle.compose.proofs.AdapterJoins.{moves_joined}
 use Rattle.compose.proofs.Righting.{IsServed, told_by, rests, IsRightBy-served}
 use Rattle.compose.proofs.Quiet.{right_alone}
 use Rattle.compose.proofs.Admitted.{opened_above}
+use Rattle.compose.proofs.Stepping.{IsKept-reserved, IsKept-collected}
 
 -- PLACES ALONE ARE MADE
 
@@ -80,7 +81,7 @@ reserved_sound limits below tables below' tables' h reserves keeps =
       apart = subst (AreApart tables.requests) (sym keeps.same_waiting) h.apart;
     }))
 
-pub reserved_rest : (below below' : Seen) → IsAtRest below → Reserves below below' → IsAtRest below'
+reserved_rest : (below below' : Seen) → IsAtRest below → Reserves below below' → IsAtRest below'
 reserved_rest below below' h reserves = subst IsAtRest (sym reserves.same) (record { all_sectors = h.all_sectors; unfinished = h.unfinished })
 
 more_reserved : (below below' : Seen) → Reserves below below' → MovesUnseen below.adapter (record below.adapter { reserved = below'.adapter.reserved })
@@ -88,7 +89,7 @@ more_reserved below below' reserves = subst (MovesUnseen below.adapter) (ap (λ 
 
 -- A CALL
 
-module _ (limits : Limits) (below : Seen) (tables : Tables) (handle : Handle) (q : ClientRequest) (buffer : List ℕ) (h : IsSound limits below tables) (k : IsAdmissible limits below tables q)
+module _ (limits : Limits) (below : Seen) (tables : Tables) (handle : Handle) (q : ClientRequest) (buffer : List ℕ) (h : IsSound limits below tables) (k : IsAdmissible (view_of limits below tables) q)
     (taken : (tables.labels.items ≡ []) × (below.adapter.labels ≡ [])) (is_call : q ≡ without_bytes (call_on (view_of limits below tables) handle q.kind q.offset buffer)) where
   abbrev over : Rules
   over = rules_of limits below.rules
@@ -97,7 +98,7 @@ module _ (limits : Limits) (below : Seen) (tables : Tables) (handle : Handle) (q
   admitted = subst (λ r. refusal over (view_of limits below tables).state r ≡ None) is_call k.not_refused
 
   -- for want of memory nothing happens
-  pub turned_away : (below' : Seen) (tables' : Tables) (reply : Reply) → Reserves below below' → KeepsAnswers tables tables' → reply ≡ Refused InsufficientResources buffer
+  turned_away : (below' : Seen) (tables' : Tables) (reply : Reply) → Reserves below below' → KeepsAnswers tables tables' → reply ≡ Refused InsufficientResources buffer
       → IsRightCall (view_of limits below tables) handle q.kind q.offset buffer reply (view_of limits below' tables')
   turned_away below' tables' reply reserves keeps is_reply =
       subst (λ r. IsRightCall (view_of limits below tables) handle q.kind q.offset buffer r (view_of limits below' tables')) (sym is_reply)
@@ -165,7 +166,7 @@ module _ (limits : Limits) (below : Seen) (tables : Tables) (handle : Handle) (q
         admits.tells ∙ ap (λ before. before ++ Call tables.next_request (record q { bytes = places.call_bytes }) ∷ []) taken.0
         ∙ ap (λ bytes. Call tables.next_request (record q { bytes = bytes }) ∷ []) buffers.call_bytes
 
-    pub is_served : IsRead below.rules below.state below.adapter → IsAtRest below → IsServed limits below tables own sends.submits.starts below1 tables1
+    is_served : IsRead below.rules below.state below.adapter → IsAtRest below → IsServed limits below tables own sends.submits.starts below1 tables1
     is_served read rest = record {
       opened = sends.submits.opened;
       packets = sends.packet ∷ below.packets;
@@ -189,10 +190,10 @@ module _ (limits : Limits) (below : Seen) (tables : Tables) (handle : Handle) (q
       same_waiting = ap (λ (t : Tables). t.waiting.items) admits.after ∙ keeps.same_waiting;
     }
 
-    pub admitted_rest : IsRead below.rules below.state below.adapter → IsAtRest below → (below2 : Seen) (tables2 : Tables) → Collects below1 tables1 below2 tables2 → IsAtRest below2
+    admitted_rest : IsRead below.rules below.state below.adapter → IsAtRest below → (below2 : Seen) (tables2 : Tables) → Collects below1 tables1 below2 tables2 → IsAtRest below2
     admitted_rest read rest below2 tables2 collects = rests limits below tables own sends.submits.starts below1 tables1 below2 tables2 (is_served read rest) collects
 
-    pub admitted_right : (read : IsRead below.rules below.state below.adapter) (rest : IsAtRest below) (below2 : Seen) (tables2 : Tables) (id : Id) → id.slot ≡ slot → id.number ≡ tables'.next_request
+    admitted_right : (read : IsRead below.rules below.state below.adapter) (rest : IsAtRest below) (below2 : Seen) (tables2 : Tables) (id : Id) → id.slot ≡ slot → id.number ≡ tables'.next_request
         → Collects below1 tables1 below2 tables2 → IsRead below2.rules below2.state below2.adapter
         → IsRightCall (view_of limits below tables) handle q.kind q.offset buffer (Requested id) (view_of limits below2 tables2)
     admitted_right read rest below2 tables2 id same_slot same_number collects read2 = record {
@@ -224,3 +225,43 @@ module _ (limits : Limits) (below : Seen) (tables : Tables) (handle : Handle) (q
       where
         number_is : id.number ≡ tables.next_request
         number_is = same_number ∙ ap (λ (t : Tables). t.next_request) keeps.after
+
+-- AS IT IS SHOWN: what holds between two steps holds after it
+
+module _ (limits : Limits) (below : Seen) (tables : Tables) (old : StackView) (handle : Handle) (q : ClientRequest) (buffer : List ℕ) (kept : IsKept limits below tables)
+    (shown : view_of limits below tables ≡ old) (k : IsAdmissible old q) (taken : old.labels ≡ []) (is_call : q ≡ without_bytes (call_on old handle q.kind q.offset buffer)) where
+  admissible : IsAdmissible (view_of limits below tables) q
+  admissible = subst (λ v. IsAdmissible v q) (sym shown) k
+
+  untaken : (tables.labels.items ≡ []) × (below.adapter.labels ≡ [])
+  untaken = (ap (λ (v : StackView). v.labels) shown ∙ taken, kept.none_recorded)
+
+  called : q ≡ without_bytes (call_on (view_of limits below tables) handle q.kind q.offset buffer)
+  called = subst (λ v. q ≡ without_bytes (call_on v handle q.kind q.offset buffer)) (sym shown) is_call
+
+  pub turned_away_kept : (limits' : Limits) (below' : Seen) (tables' : Tables) (reply : Reply) → limits' ≡ limits → Reserves below below' → KeepsAnswers tables tables' → reply ≡ Refused InsufficientResources buffer
+      → IsRightCall old handle q.kind q.offset buffer reply (view_of limits' below' tables') × IsKept limits' below' tables'
+  turned_away_kept limits' below' tables' reply same reserves keeps is_reply =
+      let right : IsRightCall (view_of limits below tables) handle q.kind q.offset buffer reply (view_of limits below' tables') =
+      turned_away limits below tables handle q buffer kept.sound admissible untaken called below' tables' reply reserves keeps is_reply in
+      subst (λ (l : Limits). IsRightCall old handle q.kind q.offset buffer reply (view_of l below' tables') × IsKept l below' tables') (sym same) (
+        subst (λ v. IsRightCall v handle q.kind q.offset buffer reply (view_of limits below' tables')) shown right,
+        IsKept-reserved limits below below' tables tables' right.told kept right.by reserves (reserved_sound limits below tables below' tables' kept.sound reserves keeps) (reserved_rest below below' kept.rest reserves),
+      )
+
+  pub admitted_kept : (below1 : Seen) (tables1 : Tables) (places : Places) (below2 : Seen) (tables2 : Tables) (limits' : Limits) (below3 : Seen) (tables3 : Tables) (id : Id)
+      → Reserves below below1 → KeepsAnswers tables tables1 → HasBuffers q.kind buffer places → Admits tables1 handle q places id.slot tables2
+      → SendsDown below1 tables1.next_request (request_on_disk limits q) buffer below2 → id.number ≡ tables1.next_request → IsOrderly below
+      → limits' ≡ limits → IsSound limits' below3 tables3 → Collects below2 tables2 below3 tables3 → IsOrderly below3
+      → IsRightCall old handle q.kind q.offset buffer (Requested id) (view_of limits' below3 tables3) × IsKept limits' below3 tables3
+  admitted_kept below1 tables1 places below2 tables2 limits' below3 tables3 id reserves keeps buffers admits sends number orderly same sound collects orderly3 =
+      let right : IsRightCall (view_of limits below tables) handle q.kind q.offset buffer (Requested id) (view_of limits below3 tables3) =
+      admitted_right limits below tables handle q buffer kept.sound admissible untaken called below1 tables1 places id.slot below2 tables2 reserves keeps buffers admits sends orderly.read kept.rest
+      below3 tables3 id refl number collects orderly3.read in
+      let rest : IsAtRest below3 =
+      admitted_rest limits below tables handle q buffer kept.sound admissible untaken called below1 tables1 places id.slot below2 tables2 reserves keeps buffers admits sends orderly.read kept.rest
+      below3 tables3 collects in (
+        subst (λ (l : Limits). IsRightCall old handle q.kind q.offset buffer (Requested id) (view_of l below3 tables3)) (sym same)
+            (subst (λ v. IsRightCall v handle q.kind q.offset buffer (Requested id) (view_of limits below3 tables3)) shown right),
+        IsKept-collected limits limits' below below2 below3 tables tables2 tables3 right.told same kept right.by sound rest collects,
+      )

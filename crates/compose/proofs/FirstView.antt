@@ -18,7 +18,8 @@ use Rattle.compose.specs.Calls.{number_limit}
 use Rattle.compose.specs.Mbr.{is_signed, first_type, first_extent, checked, first_entry}
 use Rattle.compose.specs.Sound.{partitions_of, rules_of, holders_of, view_of}
 use Rattle.compose.specs.Start.{IsSameDisk, sector_zero, AreLimits}
-use Rattle.compose.specs.Opening.{IsUnasked, AreFor, AreEmpty, first_rules, IsFirstView}
+use Rattle.compose.specs.Shown.{StackView}
+use Rattle.compose.specs.Opening.{IsUnasked, AreFor, AreEmpty, first_rules, IsFirstView, ShowsEmpty}
 use Rattle.compose.proofs.Opened.{opening-view}
 
 -- THE FIRST ENTRY IS A MAP
@@ -134,7 +135,7 @@ module _ (disk v : AdapterView) (settings : Settings) (limits : Limits) (most : 
       ∙ ap (λ n. rules_with disk.sector_size disk.max_transfer n limits.open_requests limits.window) same.depth
       ∙ ap (λ (l : Limits). rules_with disk.sector_size disk.max_transfer disk.depth l.open_requests l.window) are.sizes
 
-  pub IsFirstView-whole_disk : (tables : Tables) → number_limit ≤ most → AreEmpty tables → IsFirstView disk settings (view_of limits (on_whole_disk v most) tables)
+  IsFirstView-whole_disk : (tables : Tables) → number_limit ≤ most → AreEmpty tables → IsFirstView disk settings (view_of limits (on_whole_disk v most) tables)
   IsFirstView-whole_disk tables many empty = record {
     in_range = are.in_range;
     partition = limits.partition;
@@ -152,8 +153,7 @@ module _ (disk v : AdapterView) (settings : Settings) (limits : Limits) (most : 
     no_answers = empty.no_answers;
   }
 
-  pub IsFirstView-over : (below : Seen) (limits' : Limits) (tables : Tables) → below ≡ on_whole_disk v most → limits' ≡ limits → number_limit ≤ most → AreEmpty tables
-      → IsFirstView disk settings (view_of limits' below tables)
-  IsFirstView-over below limits' tables whole sizes many empty =
-      subst (λ (l : Limits). IsFirstView disk settings (view_of l below tables)) (sym sizes)
+  pub IsFirstView-over : (below : Seen) (view : StackView) → below ≡ on_whole_disk v most → number_limit ≤ most → ShowsEmpty limits below view → IsFirstView disk settings view
+  IsFirstView-over below view whole many (tables, empty, shows) =
+      subst (IsFirstView disk settings) (sym shows)
       (subst (λ (b : Seen). IsFirstView disk settings (view_of limits b tables)) (sym whole) (IsFirstView-whole_disk tables many empty))

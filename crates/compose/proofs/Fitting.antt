@@ -60,7 +60,7 @@ end_is : (partitions : List Extent) (many window : ℕ) (below : Rules) → firs
 end_is [] many window below = omega arith
 end_is (extent ∷ extents) many window below = refl
 
-module _ (limits : Limits) (below : Seen) (tables : Tables) (q : ClientRequest) (h : IsSound limits below tables) (k : IsAdmissible limits below tables q) where
+module _ (limits : Limits) (below : Seen) (tables : Tables) (q : ClientRequest) (h : IsSound limits below tables) (k : IsAdmissible (view_of limits below tables) q) where
   abbrev over : Rules
   over = rules_of limits below.rules
 

@@ -16,10 +16,12 @@ use Rattle.compose.specs.declared.Reply.TheVariants.{Handle as HandleReply, Ok a
 use Rattle.compose.specs.declared.admission.Limits.{Limits}
 use Rattle.compose.specs.declared.tables.Tables.{Tables}
 use Rattle.compose.specs.Calls.{number_limit, are_used_up, handle_limit, open_refusal}
+use Rattle.compose.specs.Shown.{StackView}
 use Rattle.compose.specs.Right.{tells_nothing, IsRight}
-use Rattle.compose.specs.Sound.{partitions_of, view_of, IsOnMap, IsSound}
+use Rattle.compose.specs.Sound.{partitions_of, view_of, IsOnMap, IsSound, IsKept}
 use Rattle.compose.specs.Admitting.{handle_refusal, OpensHandle}
 use Rattle.compose.proofs.Quiet.{right_alone, nothing_moves, IsRightBy-unmoved}
+use Rattle.compose.proofs.Stepping.{IsKept-still}
 
 -- numbers that are not used up are below the limit
 pub numbers_last : (next : ℕ) → are_used_up next ≡ false → next < number_limit
@@ -76,7 +78,7 @@ given_sound limits below old handles partition slot number h admitted updates sl
       apart = h.apart;
     }
 
-pub opened_sound : (limits : Limits) (below : Seen) (old : Tables) (partition : ℕ) (reply : Reply) (new : Tables) → IsSound limits below old
+opened_sound : (limits : Limits) (below : Seen) (old : Tables) (partition : ℕ) (reply : Reply) (new : Tables) → IsSound limits below old
     → OpensHandle old partition (length (partitions_of limits.partition)) reply new → IsSound limits below new
 opened_sound limits below old partition (HandleReply handle) new h opens =
     subst (IsSound limits below) (sym opens.after) (given_sound limits below old new.handles partition handle.slot handle.number h opens.not_refused opens.opens opens.slots)
@@ -86,7 +88,7 @@ opened_sound limits below old partition (Requested id) new h opens = absurd open
 opened_sound limits below old partition (Answered answer) new h opens = absurd opens
 opened_sound limits below old partition Ignored new h opens = absurd opens
 
-pub opened_right : (limits : Limits) (below : Seen) (old : Tables) (partition : ℕ) (reply : Reply) (new : Tables) → IsSound limits below old
+opened_right : (limits : Limits) (below : Seen) (old : Tables) (partition : ℕ) (reply : Reply) (new : Tables) → IsSound limits below old
     → old.labels.items ≡ [] → below.adapter.labels ≡ [] → OpensHandle old partition (length (partitions_of limits.partition)) reply new
     → IsRight (view_of limits below old) (Open partition) reply (view_of limits below new)
 opened_right limits below old partition (HandleReply handle) new h none_told none_recorded opens =
@@ -121,3 +123,14 @@ opened_right limits below old partition OkReply new h none_told none_recorded op
 opened_right limits below old partition (Requested id) new h none_told none_recorded opens = absurd opens
 opened_right limits below old partition (Answered answer) new h none_told none_recorded opens = absurd opens
 opened_right limits below old partition Ignored new h none_told none_recorded opens = absurd opens
+
+-- as it is shown: what holds between two steps holds after it
+pub opened_kept : (limits : Limits) (below : Seen) (tables : Tables) (old : StackView) → IsKept limits below tables → view_of limits below tables ≡ old → old.labels ≡ []
+    → (partition : ℕ) (reply : Reply) (new : Tables) → OpensHandle tables partition (length (partitions_of limits.partition)) reply new
+    → IsRight old (Open partition) reply (view_of limits below new) × IsKept limits below new
+opened_kept limits below tables old kept shown taken partition reply new opens =
+    let right : IsRight (view_of limits below tables) (Open partition) reply (view_of limits below new) =
+    opened_right limits below tables partition reply new kept.sound (ap (λ (v : StackView). v.labels) shown ∙ taken) kept.none_recorded opens in (
+      subst (λ v. IsRight v (Open partition) reply (view_of limits below new)) shown right,
+      IsKept-still limits below tables new right.told kept right.by (opened_sound limits below tables partition reply new kept.sound opens),
+    )

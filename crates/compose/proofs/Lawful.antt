@@ -1,6 +1,7 @@
 -- The labels of events that were carried out are a run, which obeys the laws of runs.
-use Rattle.std.proofs.Common.{◌≡◌, ℕ, List, [], ◌∷◌, ◌++◌, refl, sym, ◌∙◌, subst}
-use Rattle.std.specs.Prelude.{Any}
+use Rattle.std.proofs.Common.{◌≡◌, ℕ, List, [], ◌∷◌, ◌++◌, refl, sym, ◌∙◌, subst, take}
+use Rattle.std.specs.Prelude.{Any, Result, Ok, Err, MatchResult}
+use Rattle.std.specs.Global.{Vec}
 use Rattle.sector.specs.Extents.{IsIn}
 use Rattle.ntstatus.specs.declared.NtStatus.{NtStatus}
 use Rattle.ntstatus.specs.declared.NtStatus.TheVariants.{Success}
@@ -18,10 +19,11 @@ use Rattle.machine_laws.specs.SoloLaws.{SoloReadsHold, SoloWritesHold, FailedWri
 use Rattle.machine_laws.specs.WriteLaws.{StepsKeepArrays, StepsKeepSectors}
 use Rattle.machine_laws.specs.EndLaws.{AnsweredWriteNoMore}
 use Rattle.compose.specs.declared.Event.{Event}
+use Rattle.compose.specs.declared.RunStopped.{RunStopped}
 use Rattle.compose.specs.declared.Shown.{Shown}
 use Rattle.compose.specs.Shown.{StackView}
 use Rattle.compose.specs.Right.{KeepsOutside}
-use Rattle.compose.specs.Runs.{Carries, CarriesAll, labels_shown, IsOfRun, IsLawful, RunsObeyLaws}
+use Rattle.compose.specs.Runs.{Carries, CarriesAll, StopsAfter, labels_shown, IsOfRun, IsLawful, RunsObeyLaws}
 
 -- THE LAWS
 
@@ -100,7 +102,14 @@ leads old (event ∷ events) (one ∷ shown) new all =
 leads old [] (one ∷ shown) new all = absurd all
 leads old (event ∷ events) [] new all = absurd all
 
-pub lawful : RunsObeyLaws → (old : StackView) (events : List Event) (shown : List Shown) (new : StackView) → IsReached old.rules old.state → CarriesAll old events shown new → IsLawful old shown new
+lawful : RunsObeyLaws → (old : StackView) (events : List Event) (shown : List Shown) (new : StackView) → IsReached old.rules old.state → CarriesAll old events shown new → IsLawful old shown new
 lawful obey' old events shown new reached all =
     let h : Leads old new (labels_shown shown) = leads old events shown new all in
     record { same_rules = h.same_rules; run = h.run; laws = obey' old.rules old.state (labels_shown shown) new.state reached; outside = h.outside }
+
+-- so does a run that stopped
+pub lawful_run : RunsObeyLaws → (old : StackView) (events : List Event) (result : Result (Vec Shown) RunStopped) (new : StackView) → IsReached old.rules old.state
+    → MatchResult result (λ shown. CarriesAll old events shown.items new) (λ stopped. StopsAfter old events stopped new)
+    → MatchResult result (λ shown. IsLawful old shown.items new) (λ stopped. IsLawful old stopped.shown.items new)
+lawful_run obey' old events (Ok shown) new reached carries = lawful obey' old events shown.items new reached carries
+lawful_run obey' old events (Err stopped) new reached carries = lawful obey' old (take stopped.done events) stopped.shown.items new reached carries.carries

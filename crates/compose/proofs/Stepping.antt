@@ -4,11 +4,13 @@ use Rattle.std.specs.Prelude.{Contains, option_map, slice_index_or}
 use Rattle.std.proofs.Math.ListN.{get_or-map}
 use Rattle.std.proofs.lemmas.List.Elements.{All-map, All-weaker}
 use Rattle.slab.specs.Slab.{Slab, get, slab_len}
+use Rattle.srb.specs.Adapter.{AdapterView}
 use Rattle.device.specs.Rules.{Rules}
 use Rattle.device.specs.State.{OpenRequest}
 use Rattle.device.specs.Numbers.{request_number}
 use Rattle.device.specs.Settled.{Settled}
 use Rattle.device.specs.Seen.{Seen, IsRead}
+use Rattle.device.specs.Served.{Reserves}
 use Rattle.device.proofs.Same.{Run-append}
 use Rattle.machine_laws.specs.Reached.{IsReached}
 use Rattle.compose.specs.declared.admission.Limits.{Limits}
@@ -17,7 +19,7 @@ use Rattle.compose.specs.declared.tables.Tables.{Tables}
 use Rattle.compose.specs.Shown.{StackView, Holder}
 use Rattle.compose.specs.OnDisk.{open_as_called}
 use Rattle.compose.specs.Right.{Told, HasSlot, IsRightBy, IsWhole}
-use Rattle.compose.specs.Sound.{partitions_of, rules_of, holder_of, holders_of, view_of, IsHeldAt, IsSound, IsAtRest, IsKept}
+use Rattle.compose.specs.Sound.{partitions_of, rules_of, holder_of, holders_of, view_of, IsHeldAt, IsSound, IsAtRest, Collects, IsKept}
 use Rattle.compose.proofs.OnDiskSettled.{Settled-over, IsRead-over}
 
 -- THE SLOTS OF OPEN REQUESTS
@@ -94,10 +96,23 @@ IsKept-step limits below below' tables tables' told kept by sound rest settled t
   reached = reached_on (view_of limits below tables) (view_of limits below' tables') told by kept.reached;
 }
 
--- the limits are the same
-pub IsKept-after : (limits limits' : Limits) (below below' : Seen) (tables tables' : Tables) (told : Told) → limits' ≡ limits → IsKept limits below tables
-    → IsRightBy told (view_of limits below tables) (view_of limits' below' tables') → IsSound limits' below' tables' → IsAtRest below'
-    → (Settled below.rules below.state → Settled below'.rules below'.state) → below'.adapter.labels ≡ [] → IsKept limits' below' tables'
-IsKept-after limits limits' below below' tables tables' told same kept by sound rest settled taken =
-    subst (λ (l : Limits). IsRightBy told (view_of limits below tables) (view_of l below' tables') → IsSound l below' tables' → IsKept l below' tables') (sym same)
-    (λ by sound. IsKept-step limits below below' tables tables' told kept by sound rest settled taken) by sound
+-- where the device is as it was
+pub IsKept-still : (limits : Limits) (below : Seen) (tables tables' : Tables) (told : Told) → IsKept limits below tables → IsRightBy told (view_of limits below tables) (view_of limits below tables')
+    → IsSound limits below tables' → IsKept limits below tables'
+IsKept-still limits below tables tables' told kept by sound = IsKept-step limits below below tables tables' told kept by sound kept.rest (λ settled. settled) kept.none_recorded
+
+-- where the device made room and no more
+pub IsKept-reserved : (limits : Limits) (below below' : Seen) (tables tables' : Tables) (told : Told) → IsKept limits below tables → IsRightBy told (view_of limits below tables) (view_of limits below' tables')
+    → Reserves below below' → IsSound limits below' tables' → IsAtRest below' → IsKept limits below' tables'
+IsKept-reserved limits below below' tables tables' told kept by reserves sound rest =
+    IsKept-step limits below below' tables tables' told kept by sound rest
+    (λ settled. subst (λ (b : Seen). Settled b.rules b.state) (sym reserves.same) settled)
+    (ap (λ (b : Seen). b.adapter.labels) reserves.same ∙ kept.none_recorded)
+
+-- where all that has ended is told; the limits are the same
+pub IsKept-collected : (limits limits' : Limits) (below below1 below' : Seen) (tables tables1 tables' : Tables) (told : Told) → limits' ≡ limits → IsKept limits below tables
+    → IsRightBy told (view_of limits below tables) (view_of limits below' tables') → IsSound limits' below' tables' → IsAtRest below' → Collects below1 tables1 below' tables' → IsKept limits' below' tables'
+IsKept-collected limits limits' below below1 below' tables tables1 tables' told same kept by sound rest collects =
+    subst (λ (l : Limits). IsKept l below' tables') (sym same)
+    (IsKept-step limits below below' tables tables' told kept by (subst (λ (l : Limits). IsSound l below' tables') same sound) rest (λ _. collects.settled)
+    (ap (λ (v : AdapterView). v.labels) collects.adapter.taken))

@@ -28,17 +28,18 @@ use Rattle.compose.specs.declared.admission.Limits.{Limits}
 use Rattle.compose.specs.declared.admission.Places.{Places}
 use Rattle.compose.specs.Calls.{status_of_refusal, bytes_called, are_used_up, handle_limit}
 use Rattle.compose.specs.OnDisk.{first_of}
-use Rattle.compose.specs.Sound.{partitions_of, rules_of, view_of, IsTopmost}
+use Rattle.compose.specs.Shown.{StackView}
+use Rattle.compose.specs.Sound.{partitions_of, IsTopmost}
 
 -- the status of a call that ends where it begins
 abbrev pub status_at_once : AtOnce → NtStatus
 status_at_once Empty = Success
 status_at_once (RefusedFor refusal) = status_of_refusal refusal
 
--- where a call has a partition, it is one that is there
-abbrev pub IsKnown : Limits → Option ℕ → Type 0
-IsKnown limits None = Unit {0}
-IsKnown limits (Some partition) = partition < length (partitions_of limits.partition)
+-- where a call has a partition, it is one of these
+abbrev pub IsKnown : List Extent → Option ℕ → Type 0
+IsKnown partitions None = Unit {0}
+IsKnown partitions (Some partition) = partition < length partitions
 
 -- the sizes that the stack keeps are those of the rules below
 pub record HasSizes (limits : Limits) (below : Rules) : Type 0 where
@@ -152,8 +153,8 @@ pub record SendsDown (old : Seen) (number : ℕ) (request : Request) (buffer : L
   pub submits : Submits old packet request payload new
 
 -- a call that nothing refuses, on a partition that is there, with a number and a free slot for it
-pub record IsAdmissible (limits : Limits) (below : Seen) (tables : Tables) (q : ClientRequest) : Type 0 where
+pub record IsAdmissible (v : StackView) (q : ClientRequest) : Type 0 where
   pub transfer : IsTrue (is_transfer q.kind)
-  pub known : IsKnown limits q.partition
-  pub numbers_last : are_used_up tables.next_request ≡ false
-  pub not_refused : refusal (rules_of limits below.rules) (view_of limits below tables).state q ≡ None
+  pub known : IsKnown v.rules.partitions q.partition
+  pub numbers_last : are_used_up v.state.next_request ≡ false
+  pub not_refused : refusal v.rules v.state q ≡ None

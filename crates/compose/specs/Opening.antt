@@ -11,7 +11,7 @@ use Rattle.compose.specs.declared.admission.Limits.{Limits}
 use Rattle.compose.specs.declared.tables.Tables.{Tables}
 use Rattle.compose.specs.Shown.{StackView}
 use Rattle.compose.specs.Calls.{number_limit}
-use Rattle.compose.specs.Sound.{partitions_of}
+use Rattle.compose.specs.Sound.{partitions_of, view_of}
 use Rattle.compose.specs.Start.{AreInRange, told_partition, IsSameDisk}
 
 -- the device below has the whole disk, and nothing was asked of it yet
@@ -41,6 +41,10 @@ pub record AreEmpty (tables : Tables) : Type 0 where
   pub no_labels : tables.labels.items ≡ []
   pub none_put_by : tables.answered.items ≡ []
   pub no_answers : tables.waiting.items ≡ []
+
+-- what a stack of these sizes over this device shows while its tables are empty
+abbrev pub ShowsEmpty : Limits → Seen → StackView → Type 0
+ShowsEmpty limits below view = (tables : Tables) × AreEmpty tables × (view ≡ view_of limits below tables)
 
 -- the rules of a stack over this disk
 abbrev pub first_rules : AdapterView → Settings → List Extent → Rules

@@ -83,7 +83,7 @@ impl Limits {
     /// Whether a request of the partition asks for whole sectors of it, no more than the longest may.
     fn holds(&self, request: &ClientRequest) -> bool
         requires some_bytes { 0 < self.now.sector_size }
-        requires known { IsKnown self.now request.now.partition }
+        requires known { IsKnown (partitions_of self.now.partition) request.now.partition }
         requires given { is_some request.now.partition ≡ true }
         ensures { (below : Rules) → HasSizes self.now below → result ≡ is_in_bounds (rules_of self.now below) request.now }
     {
@@ -129,7 +129,7 @@ pub(crate) fn refusal_of(
     open_count: usize,
 ) -> Option<AtOnce>
     requires some_bytes { 0 < limits.now.sector_size }
-    requires known { IsKnown limits.now request.now.partition }
+    requires known { IsKnown (partitions_of limits.now.partition) request.now.partition }
     requires transfer { IsTrue (is_transfer request.now.kind) }
     ensures exact { (below : Rules) (s : State) → HasSizes limits.now below → IsFalse s.removing → length s.requests ≡ open_count
         → refusal (rules_of limits.now below) s request.now ≡ option_map status_at_once result }

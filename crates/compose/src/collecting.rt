@@ -13,7 +13,7 @@ ghost use Rattle.compose.specs.Right.{as_answer};
 ghost use Rattle.compose.specs.Sound.{IsSound, IsSoundWith, Collects};
 
 use crate::Answer;
-use crate::io_manager::IoManager;
+use crate::parts::Parts;
 use crate::rising::insert_rising;
 use crate::tables::{OpenRequest, Tables};
 use device::{Device, Kind, Label};
@@ -145,7 +145,7 @@ fn move_labels<D: Device>(device: &mut D, labels: &mut VecDeque<Label>)
     }
 }
 
-impl<D: Device> IoManager<D> {
+impl<D: Device> Parts<D> {
     /// Takes a request that has ended and closes it; false where there is none.
     fn take_ended(&mut self) -> bool
         requires rooms { D.rooms_out self.old.device [] }

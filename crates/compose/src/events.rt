@@ -1,11 +1,11 @@
 //! Events carried out one by one over any device stack.
 
-ghost use Rattle.std.specs.Prelude.{◌≡◌, ◌≤◌, true, [], ◌∷◌, MatchResult};
+ghost use Rattle.std.specs.Prelude.{◌≡◌, ◌≤◌, [], MatchResult};
 ghost use Rattle.std.specs.VecDeque.{deque_capacity};
 ghost use Rattle.device.specs.Settled.{Settled};
+ghost use Rattle.machine_laws.specs.Reached.{IsReached};
 ghost use Rattle.compose.specs.Right.{IsRight, IsWhole, TakesAnswer, TakesLabel as TakesFirst};
 ghost use Rattle.compose.specs.Runs.{CarriesAll, IsLawful, RunsObeyLaws, StopsAfter};
-ghost use Rattle.compose.specs.Sound.{IsKept, rules_of, view_of};
 
 use crate::io_manager::IoManager;
 use crate::tables::LABEL_PLACES;
@@ -32,17 +32,12 @@ fn laws_of_runs()
 impl<D: Device> IoManager<D> {
     /// Carries one event out; its labels and answers then wait to be taken.
     pub(crate) fn step(&mut self, alloc: Global, event: Event) -> Reply
-        requires takes_srb { D.TAKES_SRB ≡ true }
-        requires locations { D.STACK_SIZE ≤ 4 }
-        requires rooms { D.rooms_out self.old.device [] }
-        requires kept { IsKept self.old.limits (D.seen self.old.device) self.old.tables }
-        requires taken { self.old.tables.labels.items ≡ [] }
-        ensures rooms { D.rooms_out self.new.device [] }
-        ensures limits { self.new.limits ≡ self.old.limits }
-        ensures kept { IsKept self.new.limits (D.seen self.new.device) self.new.tables }
-        ensures right { IsRight (view_of self.old.limits (D.seen self.old.device) self.old.tables) event result (view_of self.new.limits (D.seen self.new.device) self.new.tables) }
+        requires taken { self.old.labels ≡ [] }
+        ensures right { IsRight self.old event result self.new }
+        ensures settled { Settled self.new.rules self.new.state }
+        ensures whole { IsWhole self.new }
     {
-        match event {
+        let reply = match event {
             Event::Open { partition } => self.open(alloc, partition),
             Event::Read {
                 handle,
@@ -56,54 +51,45 @@ impl<D: Device> IoManager<D> {
             } => self.call(alloc, handle, Kind::Write, offset, bytes),
             Event::Act { tag } => self.act(tag),
             Event::Finish { tag } => self.finish(tag),
-        }
+        };
+        self.shows_whole();
+        reply
     }
 
-    /// What is shown between two steps is settled and whole, for who calls it.
-    pub(crate) fn shows_whole(&self)
-        requires rooms { D.rooms_out self.now.device [] }
-        requires kept { IsKept self.now.limits (D.seen self.now.device) self.now.tables }
-        ensures settled { Settled (rules_of self.now.limits (D.seen self.now.device).rules) (view_of self.now.limits (D.seen self.now.device) self.now.tables).state }
-        ensures whole { IsWhole (view_of self.now.limits (D.seen self.now.device) self.now.tables) }
-    {}
+    /// What is shown between two steps is settled and whole, and a run leads to it, for who calls it.
+    fn shows_whole(&self)
+        ensures settled { Settled self.now.rules self.now.state }
+        ensures whole { IsWhole self.now }
+        ensures reached { IsReached self.now.rules self.now.state }
+    {
+        let _parts = &self.parts;
+    }
 
     /// Takes the earliest label of the last step that was not taken yet.
     pub(crate) fn take_label(&mut self) -> Option<Label>
-        requires rooms { D.rooms_out self.old.device [] }
-        requires kept { IsKept self.old.limits (D.seen self.old.device) self.old.tables }
-        ensures rooms { D.rooms_out self.new.device [] }
-        ensures limits { self.new.limits ≡ self.old.limits }
-        ensures kept { IsKept self.new.limits (D.seen self.new.device) self.new.tables }
-        ensures takes { TakesFirst (view_of self.old.limits (D.seen self.old.device) self.old.tables) result (view_of self.new.limits (D.seen self.new.device) self.new.tables) }
+        ensures takes { TakesFirst self.old result self.new }
     {
-        self.tables.labels.pop_front()
+        self.parts.tables.labels.pop_front()
     }
 
     /// Takes the waiting answer with the lowest number.
     pub(crate) fn take_answer(&mut self) -> Option<Answer>
-        requires rooms { D.rooms_out self.old.device [] }
-        requires kept { IsKept self.old.limits (D.seen self.old.device) self.old.tables }
-        ensures rooms { D.rooms_out self.new.device [] }
-        ensures limits { self.new.limits ≡ self.old.limits }
-        ensures kept { IsKept self.new.limits (D.seen self.new.device) self.new.tables }
-        ensures takes { TakesAnswer (view_of self.old.limits (D.seen self.old.device) self.old.tables) result (view_of self.new.limits (D.seen self.new.device) self.new.tables) }
+        ensures takes { TakesAnswer self.old result self.new }
     {
-        self.tables.waiting.pop_front()
+        self.parts.tables.waiting.pop_front()
     }
 
-    /// Takes all labels of the last step, for an empty queue with places for those of the next.
+    /// Takes all labels of the last step, for an empty queue with places for those of the next. The places that they
+    /// don't use are given back.
     fn take_labels(&mut self, spare: VecDeque<Label>) -> Vec<Label>
-        requires rooms { D.rooms_out self.old.device [] }
-        requires kept { IsKept self.old.limits (D.seen self.old.device) self.old.tables }
         requires empty { spare.items ≡ [] }
         requires places { 192 ≤ deque_capacity spare }
-        ensures rooms { D.rooms_out self.new.device [] }
-        ensures limits { self.new.limits ≡ self.old.limits }
-        ensures kept { IsKept self.new.limits (D.seen self.new.device) self.new.tables }
-        ensures labels { result.items ≡ self.old.tables.labels.items }
-        ensures taken { view_of self.new.limits (D.seen self.new.device) self.new.tables ≡ record (view_of self.old.limits (D.seen self.old.device) self.old.tables) { labels = [] } }
+        ensures labels { result.items ≡ self.old.labels }
+        ensures taken { self.new ≡ record self.old { labels = [] } }
     {
-        mem::replace(&mut self.tables.labels, spare).into_vec()
+        let mut labels = mem::replace(&mut self.parts.tables.labels, spare).into_vec();
+        labels.shrink_to_fit();
+        labels
     }
 
     /// Carries events out one after another, and gives the reply and the labels of each, which are then taken.
@@ -116,23 +102,30 @@ impl<D: Device> IoManager<D> {
         alloc: Global,
         events: Vec<Event>,
     ) -> Result<Vec<Shown>, RunStopped>
-        requires takes_srb { D.TAKES_SRB ≡ true }
-        requires locations { D.STACK_SIZE ≤ 4 }
-        requires rooms { D.rooms_out self.old.device [] }
-        requires kept { IsKept self.old.limits (D.seen self.old.device) self.old.tables }
-        requires taken { self.old.tables.labels.items ≡ [] }
-        ensures rooms { D.rooms_out self.new.device [] }
-        ensures limits { self.new.limits ≡ self.old.limits }
-        ensures kept { IsKept self.new.limits (D.seen self.new.device) self.new.tables }
-        ensures taken { self.new.tables.labels.items ≡ [] }
-        ensures carries { MatchResult result
-            (λ shown. CarriesAll (view_of self.old.limits (D.seen self.old.device) self.old.tables) events.items shown.items (view_of self.new.limits (D.seen self.new.device) self.new.tables))
-            (λ stopped. StopsAfter (view_of self.old.limits (D.seen self.old.device) self.old.tables) events.items stopped (view_of self.new.limits (D.seen self.new.device) self.new.tables)) }
-        ensures lawful { MatchResult result
-            (λ shown. IsLawful (view_of self.old.limits (D.seen self.old.device) self.old.tables) shown.items (view_of self.new.limits (D.seen self.new.device) self.new.tables))
-            (λ stopped. IsLawful (view_of self.old.limits (D.seen self.old.device) self.old.tables) stopped.shown.items (view_of self.new.limits (D.seen self.new.device) self.new.tables)) }
+        requires taken { self.old.labels ≡ [] }
+        ensures carries { MatchResult result (λ shown. CarriesAll self.old events.items shown.items self.new) (λ stopped. StopsAfter self.old events.items stopped self.new) }
+        ensures lawful { MatchResult result (λ shown. IsLawful self.old shown.items self.new) (λ stopped. IsLawful self.old stopped.shown.items self.new) }
+        ensures taken { self.new.labels ≡ [] }
+        ensures settled { Settled self.new.rules self.new.state }
+        ensures whole { IsWhole self.new }
     {
         laws_of_runs();
+        self.shows_whole();
+        let result = self.carry_all(alloc, events);
+        self.shows_whole();
+        result
+    }
+
+    /// Carries events out one after another, as [`IoManager::run`].
+    ///
+    /// # Errors
+    ///
+    /// As that.
+    fn carry_all(&mut self, alloc: Global, events: Vec<Event>) -> Result<Vec<Shown>, RunStopped>
+        requires taken { self.old.labels ≡ [] }
+        ensures carries { MatchResult result (λ shown. CarriesAll self.old events.items shown.items self.new) (λ stopped. StopsAfter self.old events.items stopped self.new) }
+        ensures taken { self.new.labels ≡ [] }
+    {
         let Ok(mut shown) = Vec::with_capacity(alloc, events.len()) else {
             return Err(RunStopped {
                 shown: Vec::new(alloc),

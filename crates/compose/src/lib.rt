@@ -14,6 +14,7 @@ mod events;
 mod io_manager;
 mod mbr;
 mod opening;
+mod parts;
 mod rising;
 mod stack;
 mod start;

@@ -1,11 +1,12 @@
 //! A stack before its first event: its tables, empty, over a device of which nothing was asked yet.
 
-ghost use Rattle.std.specs.Prelude.{◌≡◌, ◌≤◌, ◌<◌, ◌^◌, [], IfOk};
-ghost use Rattle.compose.specs.Sound.{HasPlaces, IsKept};
-ghost use Rattle.compose.specs.Opening.{IsUnasked, AreFor, AreEmpty};
+ghost use Rattle.std.specs.Prelude.{◌≡◌, ◌≤◌, ◌<◌, ◌^◌, true, [], IfOk};
+ghost use Rattle.compose.specs.Sound.{HasPlaces};
+ghost use Rattle.compose.specs.Opening.{IsUnasked, AreFor, AreEmpty, ShowsEmpty};
 
 use crate::admission::Limits;
 use crate::io_manager::IoManager;
+use crate::parts::Parts;
 use crate::tables::{HANDLE_LIMIT, LABEL_PLACES, Tables};
 use device::Device;
 use slab::Slab;
@@ -61,20 +62,19 @@ impl<D: Device> IoManager<D> {
     ///
     /// [`AllocError`] where memory for the tables was refused.
     pub(crate) fn new(alloc: Global, device: D, limits: Limits) -> Result<IoManager<D>, AllocError>
+        requires takes_srb { D.TAKES_SRB ≡ true }
+        requires locations { D.STACK_SIZE ≤ 4 }
         requires rooms { D.rooms_out device [] }
         requires unasked { IsUnasked (D.seen device) }
         requires limits { AreFor (D.seen device) limits }
-        ensures rooms { IfOk result (λ manager. D.rooms_out manager.device []) }
-        ensures seen { IfOk result (λ manager. D.seen manager.device ≡ D.seen device) }
-        ensures limits { IfOk result (λ manager. manager.limits ≡ limits) }
-        ensures empty { IfOk result (λ manager. AreEmpty manager.tables) }
-        ensures kept { IfOk result (λ manager. IsKept manager.limits (D.seen manager.device) manager.tables) }
+        ensures view { IfOk result (ShowsEmpty limits (D.seen device)) }
     {
         let tables = Tables::new(alloc, &limits)?;
-        Ok(IoManager {
+        let parts = Parts {
             device,
             limits,
             tables,
-        })
+        };
+        Ok(IoManager { parts })
     }
 }

@@ -23,18 +23,11 @@ pub struct Stack<A: Adapter> {
 }
 
 impl<A: Adapter> Model for Stack<A> {
-    ghost use Rattle.std.specs.Prelude.{[]};
-    ghost use Rattle.port.specs.Books.{books_of};
-    ghost use Rattle.port.specs.Kept.{IsInHand};
-    ghost use Rattle.port.specs.Shown.{seen_of};
     ghost use Rattle.compose.specs.Shown.{StackView};
-    ghost use Rattle.compose.specs.Sound.{IsKept, view_of};
 
     ghost Value = { StackView };
 
-    ghost view = { λ s. view_of s.manager.limits (seen_of (books_of s.manager.device.queues) (A.view s.manager.device.adapter)) s.manager.tables };
-
-    ghost invariant = { λ s. IsInHand (books_of s.manager.device.queues) (A.view s.manager.device.adapter) [] × IsKept s.manager.limits (seen_of (books_of s.manager.device.queues) (A.view s.manager.device.adapter)) s.manager.tables };
+    ghost view = { λ s. s.manager };
 }
 
 impl<A: Adapter> Stack<A> {
@@ -66,9 +59,7 @@ impl<A: Adapter> Stack<A> {
         ensures settled { Settled self.new.rules self.new.state }
         ensures whole { IsWhole self.new }
     {
-        let reply = self.manager.step(alloc, event);
-        self.manager.shows_whole();
-        reply
+        self.manager.step(alloc, event)
     }
 
     /// Takes the earliest label of the last step that was not taken yet.
@@ -100,8 +91,6 @@ impl<A: Adapter> Stack<A> {
         ensures settled { Settled self.new.rules self.new.state }
         ensures whole { IsWhole self.new }
     {
-        let result = self.manager.run(alloc, events);
-        self.manager.shows_whole();
-        result
+        self.manager.run(alloc, events)
     }
 }

@@ -6,7 +6,6 @@ ghost use Rattle.cdb.specs.Meaning.{Means};
 ghost use Rattle.srb.specs.Adapter.{IsInOrder};
 ghost use Rattle.compose.specs.declared.StartFault.TheVariants.{NoMemory};
 ghost use Rattle.compose.specs.Start.{IsIdle, Looks, AsksOnce, bytes_brought, IsSameDisk, IsReadFault, IsCapacityOf, told_partition, AreInRange, AreLimits, IsStartFault, IsSpent};
-ghost use Rattle.compose.specs.Sound.{IsKept, view_of};
 ghost use Rattle.compose.specs.Opening.{IsFirstView};
 
 use crate::admission::Limits;
@@ -249,9 +248,7 @@ pub(crate) fn start<A: Adapter>(
 ) -> Result<IoManager<Port<A>>, StartFault>
     requires idle { IsIdle (A.view adapter) }
     requires unasked { (A.view adapter).accepted ≡ 0 }
-    ensures rooms { IfOk result (λ manager. ⟦<Port<A> as Device>⟧.rooms_out manager.device []) }
-    ensures kept { IfOk result (λ manager. IsKept manager.limits (⟦<Port<A> as Device>⟧.seen manager.device) manager.tables) }
-    ensures view { IfOk result (λ manager. IsFirstView (A.view adapter) settings (view_of manager.limits (⟦<Port<A> as Device>⟧.seen manager.device) manager.tables)) }
+    ensures view { IfOk result (IsFirstView (A.view adapter) settings) }
     ensures fault { IfErr result (λ fault. (spent : A) × IsSpent (A.view adapter) settings fault (A.view spent)) }
 {
     let limits = prepare(alloc, &mut adapter, settings)?;

@@ -1,8 +1,8 @@
-use Rattle.std.proofs.Common.{◌^◌, ◌∙◌, arith}
+use Rattle.std.proofs.Common.{◌^◌, arith}
 use Rattle.compose.proofs.FirstView.{IsFirstView-over}
 use Rattle.compose.proofs.start.start.Goals as goal
 
 pub returns-clause-view : goal.returns-clause-view
 returns-clause-view g c =
     IsFirstView-over (g.A.Adapter.view c.args.adapter) (g.A.Adapter.view c.prepare.new.adapter) c.args.settings c.in_ok-limits.limits (2 ^ 96) c.in_ok-limits.ensures.same c.in_ok-limits.ensures.limits
-    _ c.in_ok-new.field-0.limits c.in_ok-new.field-0.tables (c.in_ok-new.ensures.seen ∙ c.in_ok-port.ensures.opening) c.in_ok-new.ensures.limits (omega arith) c.in_ok-new.ensures.empty
+    _ c.in_ok-new.field-0 c.in_ok-port.ensures.opening (omega arith) c.in_ok-new.ensures.view

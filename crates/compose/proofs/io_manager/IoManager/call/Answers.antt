@@ -1,34 +1,51 @@
-use Rattle.std.proofs.Common.{rules, false, sym, ◌∙◌, subst}
+use Rattle.std.proofs.Common.{rules, false, None, Some}
 use Rattle.std.proofs.lemmas.Bool.{lt-leb, le-leb}
+use Rattle.device.specs.declared.ClientRequest.{ClientRequest}
 use Rattle.compose.specs.Calls.{number_limit}
-use Rattle.compose.specs.Sound.{view_of}
-use Rattle.compose.specs.Admitting.{IsKnown}
-use Rattle.compose.proofs.AnsweredAtOnce.{known_handle, has_sizes, open_count, used_up_right, at_once_right}
+use Rattle.compose.specs.Admitting.{status_at_once}
+use Rattle.compose.specs.Right.{IsRightCall}
+use Rattle.compose.specs.Sound.{view_of, IsKept}
+use Rattle.compose.proofs.AnsweredAtOnce.{refusal_shown, admissible_shown, used_up_shown, at_once_kept}
 use Rattle.compose.proofs.io_manager.IoManager.call.Goals as goal
 
-pub returns-then-self-ge-NUMBER_LIMIT-clause-right : goal.returns-then-self-ge-NUMBER_LIMIT-clause-right
-returns-then-self-ge-NUMBER_LIMIT-clause-right g c =
-    used_up_right c.args.self.now.limits (g.D.Device.seen c.args.self.now.device) c.args.self.now.tables c.args.handle c.args.kind c.args.offset c.args.buffer c.requires.sound c.requires.taken
-    c.refused.result (le-leb number_limit c.args.self.now.tables.next_request c.if-self-ge-NUMBER_LIMIT.true) c.refused.ensures
-
-pub admit-requires-clause-admissible : goal.admit-requires-clause-admissible
-admit-requires-clause-admissible g c = record {
-  transfer = c.requires.transfer;
-  known = subst (IsKnown c.args.self.now.limits) (sym c.partition_of.ensures) (known_handle c.args.self.now.limits c.args.self.now.tables.handles c.args.handle c.requires.sound.on_map);
-  numbers_last = lt-leb number_limit c.args.self.now.tables.next_request c.if-self-ge-NUMBER_LIMIT.false;
-  not_refused =
-      c.in-None.ensures.exact (g.D.Device.seen c.args.self.now.device).rules (view_of c.args.self.now.limits (g.D.Device.seen c.args.self.now.device) c.args.self.now.tables).state
-      (has_sizes c.args.self.now.limits (g.D.Device.seen c.args.self.now.device) c.args.self.now.tables c.requires.sound) c.requires.sound.not_removing
-      (open_count c.args.self.now.limits (g.D.Device.seen c.args.self.now.device) c.args.self.now.tables c.requires.sound ∙ sym c.len-2.ensures);
+pub returns-then-self-ge-NUMBER_LIMIT : goal.returns-then-self-ge-NUMBER_LIMIT
+returns-then-self-ge-NUMBER_LIMIT g c = record {
+  right =
+      used_up_shown c.self.inside.parts.limits (g.D.Device.seen c.self.inside.parts.device) c.self.inside.parts.tables c.args.self.now c.args.handle c.args.kind c.args.offset c.args.buffer
+      c.self.invariant.kept c.self.view_is c.requires.taken c.refused.result (le-leb number_limit c.self.inside.parts.tables.next_request c.if-self-ge-NUMBER_LIMIT.true) c.refused.ensures;
 }
 
-pub returns-in-Some-clause-right : goal.returns-in-Some-clause-right
-returns-in-Some-clause-right g c =
-    at_once_right c.args.self.now.limits (g.D.Device.seen c.args.self.now.device) c.args.self.now.tables c.args.handle c.args.kind c.args.offset c.args.buffer c.requires.sound c.requires.taken
+pub admit-requires-clause-admissible : goal.admit-requires-clause-admissible
+admit-requires-clause-admissible g c =
+    admissible_shown c.self.inside.parts.limits (g.D.Device.seen c.self.inside.parts.device) c.self.inside.parts.tables c.args.self.now c.args.handle c.args.kind c.args.offset c.args.buffer
+    c.self.invariant.kept c.self.view_is c.requires.taken
     (record { partition = c.partition_of.result; kind = c.args.kind; offset = c.args.offset; length = c.len.result; through = false; bytes = c.new-2.result })
-    c.in-Some.at_once c.answer_at_once.result c.answer_at_once.new.self
-    (lt-leb number_limit c.args.self.now.tables.next_request c.if-self-ge-NUMBER_LIMIT.false) (search rules)
-    (c.in-Some.ensures.exact (g.D.Device.seen c.args.self.now.device).rules (view_of c.args.self.now.limits (g.D.Device.seen c.args.self.now.device) c.args.self.now.tables).state
-    (has_sizes c.args.self.now.limits (g.D.Device.seen c.args.self.now.device) c.args.self.now.tables c.requires.sound) c.requires.sound.not_removing
-    (open_count c.args.self.now.limits (g.D.Device.seen c.args.self.now.device) c.args.self.now.tables c.requires.sound ∙ sym c.len-2.ensures))
+    c.requires.transfer c.partition_of.ensures (lt-leb number_limit c.self.inside.parts.tables.next_request c.if-self-ge-NUMBER_LIMIT.false)
+    (refusal_shown c.self.inside.parts.limits (g.D.Device.seen c.self.inside.parts.device) c.self.inside.parts.tables c.args.self.now c.args.handle c.args.kind c.args.offset c.args.buffer
+    c.self.invariant.kept c.self.view_is c.requires.taken
+    (record { partition = c.partition_of.result; kind = c.args.kind; offset = c.args.offset; length = c.len.result; through = false; bytes = c.new-2.result })
+    c.len-open_count.result None c.len-open_count.ensures c.in-None.ensures.exact)
+
+answered : (g : _) (c : goal.After-answer_at_once g)
+    → IsRightCall c.args.self.now c.args.handle c.args.kind c.args.offset c.args.buffer c.answer_at_once.result
+    (view_of c.self.inside.parts.limits (g.D.Device.seen c.self.inside.parts.device) c.answer_at_once.new.self)
+    × IsKept c.self.inside.parts.limits (g.D.Device.seen c.self.inside.parts.device) c.answer_at_once.new.self
+answered g c =
+    let called : ClientRequest = record { partition = c.partition_of.result; kind = c.args.kind; offset = c.args.offset; length = c.len.result; through = false; bytes = c.new-2.result } in
+    at_once_kept c.self.inside.parts.limits (g.D.Device.seen c.self.inside.parts.device) c.self.inside.parts.tables c.args.self.now c.args.handle c.args.kind c.args.offset c.args.buffer
+    c.self.invariant.kept c.self.view_is c.requires.taken called c.in-Some.at_once c.answer_at_once.result c.answer_at_once.new.self
+    (lt-leb number_limit c.self.inside.parts.tables.next_request c.if-self-ge-NUMBER_LIMIT.false) (search rules)
+    (refusal_shown c.self.inside.parts.limits (g.D.Device.seen c.self.inside.parts.device) c.self.inside.parts.tables c.args.self.now c.args.handle c.args.kind c.args.offset c.args.buffer
+    c.self.invariant.kept c.self.view_is c.requires.taken called c.len-open_count.result (Some (status_at_once c.in-Some.at_once)) c.len-open_count.ensures c.in-Some.ensures.exact)
     c.answer_at_once.ensures.tells c.answer_at_once.ensures.replies
+
+pub invariant_of-self : goal.invariant_of-self
+invariant_of-self g c = record {
+  takes_srb = c.self.invariant.takes_srb;
+  locations = c.self.invariant.locations;
+  rooms = c.self.invariant.rooms;
+  kept = (answered g c).1;
+}
+
+pub returns-in-Some : goal.returns-in-Some
+returns-in-Some g c = record { right = (answered g c).0 }

@@ -2,7 +2,12 @@ use Rattle.std.proofs.Common.{[]}
 use Rattle.compose.proofs.Opened.{IsKept-opening}
 use Rattle.compose.proofs.io_manager.IoManager.new.Goals as goal
 
-pub returns-clause-kept : goal.returns-clause-kept
-returns-clause-kept g c =
-    IsKept-opening c.args.limits (g.D.Device.seen c.args.device) c.in_ok-tables.tables (g.met.D.Device.in_order c.args.device [] c.requires.rooms) c.requires.unasked c.requires.limits
-    c.in_ok-tables.ensures.empty c.in_ok-tables.ensures.places
+pub invariant_of-result : goal.invariant_of-result
+invariant_of-result g c = record {
+  takes_srb = c.requires.takes_srb;
+  locations = c.requires.locations;
+  rooms = c.requires.rooms;
+  kept =
+      IsKept-opening c.args.limits (g.D.Device.seen c.args.device) c.in_ok-tables.tables (g.met.D.Device.in_order c.args.device [] c.requires.rooms) c.requires.unasked c.requires.limits
+      c.in_ok-tables.ensures.empty c.in_ok-tables.ensures.places;
+}

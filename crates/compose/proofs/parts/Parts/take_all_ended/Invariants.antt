@@ -3,7 +3,7 @@ use Rattle.std.specs.VecDeque.{deque_len}
 use Rattle.slab.specs.Slab.{slab_len}
 use Rattle.compose.specs.Collecting.{Gathers}
 use Rattle.compose.specs.Sound.{IsSoundWith}
-use Rattle.compose.proofs.io_manager.IoManager.take_all_ended.Given as goal
+use Rattle.compose.proofs.parts.Parts.take_all_ended.Given as goal
 
 abbrev pub invariant-ended : goal.invariant-ended
 invariant-ended g l = record {

@@ -5,7 +5,7 @@ use Rattle.device.specs.Seen.{Seen, IsOrderly}
 use Rattle.device.specs.Served.{IsUnfinished}
 use Rattle.compose.specs.Sound.{IsSoundWith}
 use Rattle.compose.proofs.Gathering.{gathers_none, gathers_more, few_open}
-use Rattle.compose.proofs.io_manager.IoManager.take_all_ended.Goals as goal
+use Rattle.compose.proofs.parts.Parts.take_all_ended.Goals as goal
 
 pub ended-init : goal.ended-init
 ended-init g c = record {

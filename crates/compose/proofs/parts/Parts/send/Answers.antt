@@ -5,7 +5,7 @@ use Rattle.device.specs.Served.{Submits}
 use Rattle.compose.specs.Admitting.{request_on_disk, FitsBlock, IsWholeDisk, SendsDown}
 use Rattle.compose.proofs.Fitting.{fits_block, is_whole_disk, transfer_is}
 use Rattle.compose.proofs.Admitted.{admitted_sound}
-use Rattle.compose.proofs.io_manager.IoManager.send.Goals as goal
+use Rattle.compose.proofs.parts.Parts.send.Goals as goal
 
 pub packet_for-requires : goal.packet_for-requires
 packet_for-requires g c =

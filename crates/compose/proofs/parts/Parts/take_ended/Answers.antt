@@ -3,7 +3,7 @@ use Rattle.std.proofs.Common.{◌<◌, ◌≤◌, ◌^◌, subst, arith, deque_l
 use Rattle.device.specs.Served.{HandsUp}
 use Rattle.compose.proofs.Closing.{no_routine, handed, is_at, is_given, are_filled, answered_place}
 use Rattle.compose.proofs.Gathering.{takes_ended, sound_after, few_after}
-use Rattle.compose.proofs.io_manager.IoManager.take_ended.Goals as goal
+use Rattle.compose.proofs.parts.Parts.take_ended.Goals as goal
 
 pub unreachable-requires : goal.unreachable-requires
 unreachable-requires g c =

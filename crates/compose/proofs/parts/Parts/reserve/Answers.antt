@@ -1,5 +1,5 @@
 use Rattle.compose.proofs.Quiet.{none_reserved}
-use Rattle.compose.proofs.io_manager.IoManager.reserve.Goals as goal
+use Rattle.compose.proofs.parts.Parts.reserve.Goals as goal
 
 pub returns-in_err-reserve-clause-device : goal.returns-in_err-reserve-clause-device
 returns-in_err-reserve-clause-device g c = none_reserved (g.D.Device.seen c.args.self.now.device)

@@ -2,7 +2,7 @@
 use Rattle.std.proofs.Common.{◌∙◌, refl, ap, map, ◌++◌}
 use Rattle.compose.specs.Right.{as_answer}
 use Rattle.compose.proofs.Gathering.{collects}
-use Rattle.compose.proofs.io_manager.IoManager.collect.Goals as goal
+use Rattle.compose.proofs.parts.Parts.collect.Goals as goal
 
 pub returns-clause-collects : goal.returns-clause-collects
 returns-clause-collects g c =

@@ -1,0 +1,52 @@
+-- What was carried out so far is just the events that were taken.
+use Rattle.std.proofs.Common.{◌≡◌, ◌<◌, ◌≤◌, ◌+◌, List, [], ◌∷◌, ◌++◌, sym, ◌∙◌, ap, subst, arith, length, length-append, take}
+use Rattle.std.specs.Vec.{vec_len}
+use Rattle.std.proofs.lemmas.List.{map-id}
+use Rattle.std.proofs.lemmas.Iterator.Adapters.{YieldsList-from_vec}
+use Rattle.std.proofs.lemmas.Iterator.Consumers.{YieldsList-so_far, YieldsList-turn}
+use Rattle.compose.specs.declared.Event.{Event}
+use Rattle.compose.specs.declared.Shown.{Shown}
+use Rattle.compose.specs.Shown.{StackView}
+use Rattle.compose.specs.Runs.{Carries, CarriesAll}
+use Rattle.compose.proofs.Lawful.{CarriesAll-more}
+use Rattle.compose.proofs.io_manager.IoManager.carry_all.Goals as goal
+
+pub returns-in_default-with_capacity-clause-carries : goal.returns-in_default-with_capacity-clause-carries
+returns-in_default-with_capacity-clause-carries g c =
+    let b = c.into_iter-event-iterator.ensures.into_iter_gives in
+    let road = YieldsList-from_vec {s = c.into_iter-event-iterator.result} c.args.events.items b.0 (b.1 ∙ c.args.events.ok.0) in
+    let so_far : c.loop-event.yielded ≡ take (length c.loop-event.yielded) c.args.events.items =
+    sym (map-id c.loop-event.yielded) ∙ YieldsList-so_far road c.loop-event.yielded c.loop-event.event-iterator c.loop-event.yielded_by in
+    let more : length c.loop-event.yielded < length c.args.events.items =
+    (YieldsList-turn road c.loop-event.yielded c.loop-event.event-iterator c.loop-event.yielded_by c.next.result c.next.new.self c.in-Some.event c.in-Some.is c.next.ensures.steps).0 in
+    let done : c.len-done.result ≡ length c.loop-event.yielded = c.len-done.ensures ∙ c.loop-event.invariant.counted in
+    record {
+      within = omega arith;
+      carries =
+          subst (λ (events : List Event). CarriesAll c.args.self.now events c.loop-event.shown.items c.loop-event.self) (so_far ∙ ap (λ n. take n c.args.events.items) (sym done))
+          c.loop-event.invariant.carries;
+    }
+
+pub loop-event-preserved : goal.loop-event-preserved
+loop-event-preserved g c =
+    let one : Shown = record { reply = c.step-reply.result; labels = c.take_labels-labels.result } in
+    let carries : Carries c.loop-event.self c.in-Some.event one c.take_labels-labels.new.self = record {
+      stepped = c.step-reply.new.self;
+      right = c.step-reply.ensures.right;
+      settled = c.step-reply.ensures.settled;
+      labels = c.take_labels-labels.ensures.labels;
+      taken = c.take_labels-labels.ensures.taken;
+    } in
+    let counted : vec_len c.loop-event.shown ≡ length c.loop-event.yielded = c.loop-event.invariant.counted in
+    let pushed : vec_len c.push_reserved.new.self ≡ vec_len c.loop-event.shown + 1 = c.push_reserved.ensures.len in
+    let longer : length (c.loop-event.yielded ++ c.in-Some.event ∷ []) ≡ length c.loop-event.yielded + 1 = length-append c.loop-event.yielded (c.in-Some.event ∷ []) in
+    let all : List Shown = c.loop-event.shown.items ++ one ∷ [] in
+    let shown : c.push_reserved.new.self.items ≡ all = c.push_reserved.ensures.items in
+    record {
+      taken = ap (λ (v : StackView). v.labels) c.take_labels-labels.ensures.taken;
+      counted = omega arith;
+      places = subst (λ n. length c.args.events.items ≤ n) (sym c.push_reserved.ensures.capacity) c.loop-event.invariant.places;
+      carries =
+          subst (λ (shown : List Shown). CarriesAll c.args.self.now (c.loop-event.yielded ++ c.in-Some.event ∷ []) shown c.take_labels-labels.new.self) (sym {A = List Shown} {a = c.push_reserved.new.self.items} {b = all} shown)
+          (CarriesAll-more c.args.self.now c.loop-event.yielded c.loop-event.shown.items c.loop-event.self c.in-Some.event one c.take_labels-labels.new.self c.loop-event.invariant.carries carries);
+    }

@@ -1,0 +1,90 @@
+//! The parts of a stack in the middle of a step, where a room may be out and answers not told yet.
+
+ghost use Rattle.std.specs.Prelude.{◌≡◌, ◌≤◌, ◌<◌, ◌+◌, ◌^◌, true, [], ◌∷◌, length, IfOk, OnOk, OnErr};
+ghost use Rattle.std.specs.VecDeque.{deque_len, deque_capacity};
+ghost use Rattle.slab.specs.Slab.{slab_len};
+ghost use Rattle.device.specs.Seen.{IsBounded};
+ghost use Rattle.device.specs.Served.{Reserves};
+ghost use Rattle.compose.specs.Admitting.{request_on_disk, HasBuffers, Admits, KeepsAnswers, SendsDown, IsAdmissible};
+ghost use Rattle.compose.specs.Sound.{IsSound, view_of};
+
+use crate::admission::{Limits, Places, packet_for, places_for};
+use crate::tables::Tables;
+use crate::{Handle, Id};
+use device::{ClientRequest, Device, Request};
+use sector::Bytes;
+use std::alloc::{AllocError, Global};
+
+/// The device below, the sizes of the stack, and its tables.
+#[derive(Drop)]
+pub(crate) struct Parts<D: Device> {
+    pub(crate) device: D,
+    pub(crate) limits: Limits,
+    pub(crate) tables: Tables,
+}
+
+impl<D: Device> Parts<D> {
+    /// Makes all places that a request needs, so that nothing after it takes memory.
+    ///
+    /// # Errors
+    ///
+    /// [`AllocError`] where memory for one was refused; those that were made stay.
+    pub(crate) fn reserve(
+        &mut self,
+        alloc: Global,
+        below: &Request,
+        buffer: &Bytes,
+    ) -> Result<(D::Room, Places), AllocError>
+        requires rooms { D.rooms_out self.old.device [] }
+        requires bounded { IsBounded (D.seen self.old.device).rules below.now }
+        requires few { slab_len self.old.tables.requests < 2 ^ 32 }
+        ensures limits { self.new.limits ≡ self.old.limits }
+        ensures device { Reserves (D.seen self.old.device) (D.seen self.new.device) }
+        ensures tables { KeepsAnswers self.old.tables self.new.tables }
+        ensures buffers { IfOk result (λ made. HasBuffers below.now.kind buffer.now made.1) }
+        ensures room { IfOk result (λ made. D.request_of made.0 ≡ below.now) }
+        ensures rooms { OnOk result (D.rooms_out self.new.device (below.now ∷ [])) }
+        ensures place { OnOk result (deque_len self.new.tables.waiting + (slab_len self.new.tables.requests + 1) ≤ deque_capacity self.new.tables.waiting) }
+        ensures refused { OnErr result (D.rooms_out self.new.device []) }
+    {
+        let most = self.tables.requests.len() + 1;
+        self.tables.waiting.reserve(most)?;
+        let places = places_for(alloc, below.kind, buffer)?;
+        let room = self.device.reserve(below)?;
+        Ok((room, places))
+    }
+
+    /// Opens a request, and sends its packet down.
+    pub(crate) fn send(
+        &mut self,
+        handle: Handle,
+        request: ClientRequest,
+        buffer: Bytes,
+        room: D::Room,
+        places: Places,
+    ) -> Id
+        requires takes_srb { D.TAKES_SRB ≡ true }
+        requires locations { D.STACK_SIZE ≤ 4 }
+        requires rooms { D.rooms_out self.old.device (D.request_of room ∷ []) }
+        requires sound { IsSound self.old.limits (D.seen self.old.device) self.old.tables }
+        requires untold { self.old.tables.labels.items ≡ [] }
+        requires admissible { IsAdmissible (view_of self.old.limits (D.seen self.old.device) self.old.tables) request }
+        requires room { D.request_of room ≡ request_on_disk self.old.limits request }
+        requires buffers { HasBuffers request.kind buffer places }
+        requires length { request.length ≡ length buffer }
+        requires place { deque_len self.old.tables.waiting + (slab_len self.old.tables.requests + 1) ≤ deque_capacity self.old.tables.waiting }
+        ensures rooms { D.rooms_out self.new.device [] }
+        ensures limits { self.new.limits ≡ self.old.limits }
+        ensures sound { IsSound self.new.limits (D.seen self.new.device) self.new.tables }
+        ensures number { result.number ≡ self.old.tables.next_request }
+        ensures admits { Admits self.old.tables handle request places result.slot self.new.tables }
+        ensures sends { SendsDown (D.seen self.old.device) self.old.tables.next_request (request_on_disk self.old.limits request) buffer (D.seen self.new.device) }
+    {
+        let below = self.limits.request_below(&request);
+        let number = self.tables.next_request;
+        let (slot, for_label) = self.tables.admit(handle, request, places);
+        self.device
+            .submit(packet_for(number, &below, buffer, for_label), room);
+        Id { slot, number }
+    }
+}
