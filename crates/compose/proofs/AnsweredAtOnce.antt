@@ -4,6 +4,7 @@ use Rattle.std.specs.Prelude.{◌==◌, if◌then◌else◌}
 use Rattle.std.proofs.lemmas.List.{length-map}
 use Rattle.slab.specs.Slab.{Slab, get, slab_len}
 use Rattle.ntstatus.specs.declared.NtStatus.{NtStatus}
+use Rattle.srb.proofs.Joining.{reserves_none}
 use Rattle.device.specs.declared.Kind.{Kind}
 use Rattle.device.specs.declared.ClientRequest.{ClientRequest}
 use Rattle.device.specs.declared.Label.{Label}
@@ -27,7 +28,7 @@ use Rattle.compose.specs.Right.{tells_nothing, CallReplies, IsRightCall}
 use Rattle.compose.specs.Sound.{partitions_of, rules_of, view_of, IsOnMap, IsSound}
 use Rattle.compose.specs.Admitting.{status_at_once, IsKnown, HasSizes, AnswersAtOnce, reply_at_once}
 use Rattle.compose.proofs.OnDiskCalls.{Run-refused}
-use Rattle.compose.proofs.Quiet.{right_alone, nothing_moves, tells_own, IsRightBy-unmoved}
+use Rattle.compose.proofs.Quiet.{right_alone, tells_own, IsRightBy-unmoved}
 
 -- the partition of an open handle is there
 pub known_handle : (limits : Limits) (handles : Slab OpenHandle) (handle : Handle) → IsOnMap limits handles → IsKnown limits (partition_of handles.slots handle)
@@ -84,7 +85,7 @@ module _ (limits : Limits) (below : Seen) (tables : Tables) (handle : Handle) (k
         handles = record { handles = refl; next_handle = refl };
         by =
             right_alone view (own (status_at_once at_once)) (on_partition view.rules (tables.next_request + 1) below.state) below.adapter.reserved tables.handles.slots tables.next_handle
-            tables1.labels.items tables.waiting.items run (nothing_moves below.adapter) taken.1 told refl;
+            tables1.labels.items tables.waiting.items run (reserves_none below.adapter) taken.1 told refl;
       }))
     where
       run : Run view.rules view.state (own (status_at_once at_once)) (on_partition view.rules (tables.next_request + 1) below.state)

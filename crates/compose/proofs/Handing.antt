@@ -5,6 +5,7 @@ use Rattle.std.proofs.lemmas.Bool.{cases_eq, leb-false}
 use Rattle.slab.specs.Slab.{Slab, get, slab_len, Updates as SlabUpdates}
 use Rattle.ntstatus.specs.declared.NtStatus.{NtStatus}
 use Rattle.ntstatus.specs.declared.NtStatus.TheVariants.{DeviceBusy as BusyStatus, DeletePending as PendingStatus, InvalidParameter as ParameterStatus}
+use Rattle.srb.proofs.Joining.{reserves_none}
 use Rattle.device.specs.Calling.{first_some, when}
 use Rattle.device.specs.Seen.{Seen}
 use Rattle.device.proofs.Same.{IsSame-refl}
@@ -19,7 +20,7 @@ use Rattle.compose.specs.Calls.{number_limit, are_used_up, handle_limit, open_re
 use Rattle.compose.specs.Right.{tells_nothing, IsRight}
 use Rattle.compose.specs.Sound.{partitions_of, view_of, IsOnMap, IsSound}
 use Rattle.compose.specs.Admitting.{handle_refusal, OpensHandle}
-use Rattle.compose.proofs.Quiet.{right_alone, nothing_moves, IsRightBy-unmoved}
+use Rattle.compose.proofs.Quiet.{right_alone, IsRightBy-unmoved}
 
 -- numbers that are not used up are below the limit
 pub numbers_last : (next : ℕ) → are_used_up next ≡ false → next < number_limit
@@ -104,7 +105,7 @@ opened_right limits below old partition (HandleReply handle) new h none_told non
       );
       by =
           right_alone (view_of limits below old) [] (view_of limits below old).state below.adapter.reserved new.handles.slots (old.next_handle + 1) old.labels.items old.waiting.items
-          (IsSame-refl _) (nothing_moves below.adapter) none_recorded none_told refl;
+          (IsSame-refl _) (reserves_none below.adapter) none_recorded none_told refl;
     })
 opened_right limits below old partition (Refused reason bytes) new h none_told none_recorded opens =
     subst (λ t. IsRight (view_of limits below old) (Open partition) (Refused reason bytes) (view_of limits below t)) (sym opens.2) (record {
