@@ -5,6 +5,7 @@ use Rattle.std.proofs.lemmas.List.Sorted.{IsPermutation-sym, length_permutation}
 use Rattle.std.proofs.lemmas.List.Elements.{All-nil, All-cons}
 use Rattle.ntstatus.specs.declared.NtStatus.{NtStatus}
 use Rattle.ntstatus.specs.declared.NtStatus.TheVariants.{DeletePending, InvalidHandle}
+use Rattle.ntstatus.proofs.First.{none_first}
 use Rattle.srb.specs.declared.DeviceLabel.{DeviceLabel}
 use Rattle.srb.specs.declared.DeviceLabel.TheVariants.{Start, Act, Fault, Return}
 use Rattle.device.specs.declared.ClientRequest.{ClientRequest}
@@ -21,7 +22,6 @@ use Rattle.device.specs.Laws.{IsNotOfDevice, IsQuietAfterRemoved}
 use Rattle.device.proofs.Same.{IsSame-sym}
 use Rattle.device.proofs.Numbers.{AreDistinct-opening, AreDistinct-same, AreDistinct-Step}
 use Rattle.device.proofs.Placed.{ArePlaced-opening, ArePlaced-same, ArePlaced-Step}
-use Rattle.device.proofs.Places.{none_first}
 
 none_left : {X : Type 0} (x : X) (xs ys : List X) → ys ≡ [] → IsPermutation ys (x ∷ xs) → ⊥
 none_left x xs ys none p = let n : length (x ∷ xs) ≡ length ys = length_permutation _ _ p in let m : length ys ≡ 0 = ap length none in absurd (omega arith)

@@ -7,6 +7,7 @@ use Rattle.std.proofs.lemmas.List.Sorted.{IsPermutation-sym, All-permutation, Co
 use Rattle.std.proofs.lemmas.List.Elements.{All-head, All-tail, All-cons, All-nil, All-weaker, All-map, All-contains}
 use Rattle.ntstatus.specs.declared.NtStatus.{NtStatus}
 use Rattle.ntstatus.specs.declared.NtStatus.TheVariants.{DeletePending, InvalidHandle}
+use Rattle.ntstatus.proofs.First.{none_first}
 use Rattle.srb.specs.declared.DeviceLabel.{DeviceLabel}
 use Rattle.srb.specs.declared.DeviceLabel.TheVariants.{Start, Act, Fault, Return}
 use Rattle.device.specs.declared.ClientRequest.{ClientRequest}
@@ -21,7 +22,6 @@ use Rattle.device.specs.Step.{DeviceStep, FreeStep, OwingStep, Step, Run}
 use Rattle.device.specs.Numbers.{request_number, IsGiven, AreDistinct}
 use Rattle.device.proofs.Same.{IsSame-sym, none_there}
 use Rattle.device.proofs.Numbers.{Step-number, AreDistinct-same, requests_in_order}
-use Rattle.device.proofs.Places.{none_first}
 use Rattle.machine_laws.specs.Sectors.{WritesSector}
 use Rattle.machine_laws.specs.Along.{Sometime, Always}
 use Rattle.device.specs.Laws.{IsNotOfDevice}
