@@ -15,11 +15,11 @@ use Rattle.device.specs.declared.Label.{Label}
 use Rattle.device.specs.declared.Label.TheVariants.{Call, Device, Answer, Cancel, Pause, Resume, Remove, Removed}
 use Rattle.device.specs.Rules.{Rules, first_sector, place_count, sectors_of}
 use Rattle.device.specs.State.{OpenRequest, Piece, State}
-use Rattle.device.specs.Sending.{Acts, Moves, partition_number, array_of}
+use Rattle.device.specs.Sending.{Acts, Moves, partition_number, array_of, array_at}
 use Rattle.ntstatus.specs.declared.NtStatus.{NtStatus}
 use Rattle.device.specs.Calling.{refusal, Admits}
 use Rattle.device.specs.Step.{FreeStep, OwingStep, Step}
-use Rattle.machine_laws.specs.Sectors.{array_at, sector_at, sector_of, bytes_for, IsAct, WritesSector}
+use Rattle.machine_laws.specs.Sectors.{sector_at, sector_of, bytes_for, IsAct, WritesSector}
 use Rattle.machine_laws.proofs.Splicing.{first_of, splice_inside}
 use Rattle.machine_laws.proofs.Chunks.{chunk, concat_chunk, range_chunk}
 use Rattle.machine_laws.proofs.Acted.{Moves-range}

@@ -21,7 +21,7 @@ use Rattle.device.specs.declared.Label.TheVariants.{Call, Device, Answer, Cancel
 use Rattle.device.specs.Rules.{Rules, first_sector, place_count, sectors_of}
 use Rattle.device.specs.State.{Mark, Untouched, Out, Done, Failed, Back, OpenRequest, Owed, Piece, State, IsSame}
 use Rattle.device.specs.Calling.{refusal, Admits, Opens, new_request}
-use Rattle.device.specs.Sending.{Starts, Acts, Leaves, status_of_completion, sent, given_back, new_piece, with_fate, partition_number, array_of}
+use Rattle.device.specs.Sending.{Starts, Acts, Leaves, status_of_completion, sent, given_back, new_piece, with_fate, partition_number, array_of, array_at}
 use Rattle.device.specs.Holding.{held_back, beyond, as_timely, as_cancelled}
 use Rattle.device.specs.Step.{DeviceStep, FreeStep, OwingStep, Step}
 use Rattle.device.specs.Numbers.{request_number, IsGiven, AreDistinct}
@@ -29,7 +29,6 @@ use Rattle.device.specs.Solo.{past}
 use Rattle.device.proofs.Numbers.{requests_in_order}
 use Rattle.device.proofs.Splicing.{AllAt, splice_at, length-splice}
 use Rattle.machine_laws.proofs.Bounds.{in_bounds}
-use Rattle.machine_laws.specs.Sectors.{array_at}
 use Rattle.machine_laws.specs.Reached.{AreWhole}
 use Rattle.machine_laws.proofs.Acted.{Moves-length}
 

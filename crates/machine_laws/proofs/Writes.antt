@@ -10,9 +10,9 @@ use Rattle.device.specs.declared.Label.{Label}
 use Rattle.device.specs.declared.Label.TheVariants.{Device}
 use Rattle.device.specs.Rules.{Rules}
 use Rattle.device.specs.State.{State}
-use Rattle.device.specs.Sending.{Acts, Moves, partition_number}
+use Rattle.device.specs.Sending.{Acts, Moves, partition_number, array_at}
 use Rattle.device.specs.Step.{Step, Run}
-use Rattle.machine_laws.specs.Sectors.{array_at, sector_at, WritesPartition}
+use Rattle.machine_laws.specs.Sectors.{sector_at, WritesPartition}
 use Rattle.machine_laws.specs.Along.{Sometime}
 use Rattle.machine_laws.specs.WriteLaws.{IsWriteOn, IsWriteAt, HaveSameLengths, StepsKeepArrays, RunsKeepArrays}
 use Rattle.machine_laws.proofs.Acted.{Moves-length}
