@@ -1,23 +1,11 @@
--- Moves of an adapter, one after another: they join, and record their labels.
+-- Moves of an adapter, one after another: they record their labels.
 use Rattle.std.proofs.Common.{◌≡◌, ℕ, List, [], ◌∷◌, ◌++◌, sym, ◌∙◌, ap, append_assoc}
 use Rattle.std.proofs.lemmas.List.{append-nil}
 use Rattle.srb.specs.declared.DeviceLabel.{DeviceLabel}
 use Rattle.srb.specs.declared.DeviceLabel.TheVariants.{Start, Act, Fault, Return}
-use Rattle.srb.specs.Adapter.{AdapterView, MovesUnseen, MovesOn, MovesByAll}
+use Rattle.srb.specs.Adapter.{AdapterView, MovesOn, MovesByAll}
+use Rattle.srb.proofs.Joining.{moves_joined}
 use Rattle.compose.specs.Right.{AdapterMoves}
-
-pub unseen_joined : (old mid new : AdapterView) → MovesUnseen old mid → MovesUnseen mid new → MovesUnseen old new
-unseen_joined old mid new a b = record {
-  reserved = b.reserved;
-  after = b.after ∙ ap (λ (v : AdapterView). record v { reserved = b.reserved }) a.after;
-  lasts = λ extent reserved. b.lasts extent (a.lasts extent reserved);
-}
-
-pub moves_joined : (old : AdapterView) (labels : List DeviceLabel) (mid : AdapterView) (more : List DeviceLabel) (new : AdapterView)
-    → MovesByAll old labels mid → MovesByAll mid more new → MovesByAll old (labels ++ more) new
-moves_joined old [] mid [] new a b = unseen_joined old mid new a b
-moves_joined old [] mid (label ∷ more) new a b = (b.0, b.1, unseen_joined old mid b.0 a b.2, b.3, b.4)
-moves_joined old (label ∷ labels) mid more new a b = (a.0, a.1, a.2, a.3, moves_joined a.1 labels mid more new a.4 b)
 
 label_moved : (tag : ℕ) (old : AdapterView) (label : DeviceLabel) (new : AdapterView) → MovesOn old tag label new → new.labels ≡ old.labels ++ label ∷ []
 label_moved tag old (Start piece started block) new h =

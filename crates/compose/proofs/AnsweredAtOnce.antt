@@ -5,6 +5,7 @@ use Rattle.std.proofs.lemmas.List.{length-map}
 use Rattle.std.proofs.lemmas.List.Elements.{All-weaker}
 use Rattle.slab.specs.Slab.{Slab, get, slab_len}
 use Rattle.ntstatus.specs.declared.NtStatus.{NtStatus}
+use Rattle.srb.proofs.Joining.{reserves_none}
 use Rattle.device.specs.declared.Kind.{Kind}
 use Rattle.device.specs.declared.ClientRequest.{ClientRequest}
 use Rattle.device.specs.declared.Label.{Label}
@@ -32,7 +33,7 @@ use Rattle.compose.specs.Admitting.{status_at_once, IsKnown, HasSizes, AnswersAt
 use Rattle.compose.proofs.OnDiskCalls.{Run-refused}
 use Rattle.compose.proofs.Handing.{numbers_last}
 use Rattle.compose.proofs.Stepping.{IsKept-still}
-use Rattle.compose.proofs.Quiet.{right_alone, nothing_moves, tells_own, IsRightBy-unmoved}
+use Rattle.compose.proofs.Quiet.{right_alone, tells_own, IsRightBy-unmoved}
 
 -- the partition of an open handle is there
 known_handle : (limits : Limits) (handles : Slab OpenHandle) (handle : Handle) → IsOnMap limits handles → IsKnown (partitions_of limits.partition) (partition_of handles.slots handle)
@@ -118,7 +119,7 @@ module _ (limits : Limits) (below : Seen) (tables : Tables) (handle : Handle) (k
         handles = record { handles = refl; next_handle = refl };
         by =
             right_alone view (own (status_at_once at_once)) (on_partition view.rules (tables.next_request + 1) below.state) below.adapter.reserved tables.handles.slots tables.next_handle
-            tables1.labels.items tables.waiting.items run (nothing_moves below.adapter) taken.1 told refl;
+            tables1.labels.items tables.waiting.items run (reserves_none below.adapter) taken.1 told refl;
       }))
     where
       run : Run view.rules view.state (own (status_at_once at_once)) (on_partition view.rules (tables.next_request + 1) below.state)

@@ -5,7 +5,8 @@ use Rattle.std.specs.VecDeque.{deque_len, deque_capacity}
 use Rattle.std.proofs.Math.ListN.{get_or-map}
 use Rattle.std.proofs.lemmas.List.Elements.{All-append}
 use Rattle.slab.specs.Slab.{Slab, get, slab_len}
-use Rattle.srb.specs.Adapter.{MovesUnseen}
+use Rattle.srb.specs.Adapter.{ReservesMore}
+use Rattle.srb.proofs.Joining.{moves_joined}
 use Rattle.irp.specs.declared.Payload.{Payload}
 use Rattle.device.specs.declared.Kind.{Kind}
 use Rattle.device.specs.declared.Kind.TheVariants.{Read, Write, Flush}
@@ -34,7 +35,6 @@ use Rattle.compose.specs.Right.{tells_nothing, IsRightCall}
 use Rattle.compose.specs.Sound.{rules_of, holder_of, view_of, WasGiven, AreApart, IsSound, IsAtRest, Collects, IsKept}
 use Rattle.compose.specs.Admitting.{request_on_disk, HasBuffers, Admits, KeepsAnswers, SendsDown, IsAdmissible}
 use Rattle.compose.proofs.OnDiskCalls.{Calls-opened}
-use Rattle.compose.proofs.AdapterJoins.{moves_joined}
 use Rattle.compose.proofs.Righting.{IsServed, told_by, rests, IsRightBy-served}
 use Rattle.compose.proofs.Quiet.{right_alone}
 use Rattle.compose.proofs.Admitted.{opened_above}
@@ -84,8 +84,8 @@ reserved_sound limits below tables below' tables' h reserves keeps =
 reserved_rest : (below below' : Seen) → IsAtRest below → Reserves below below' → IsAtRest below'
 reserved_rest below below' h reserves = subst IsAtRest (sym reserves.same) (record { all_sectors = h.all_sectors; unfinished = h.unfinished })
 
-more_reserved : (below below' : Seen) → Reserves below below' → MovesUnseen below.adapter (record below.adapter { reserved = below'.adapter.reserved })
-more_reserved below below' reserves = subst (MovesUnseen below.adapter) (ap (λ (b : Seen). b.adapter) reserves.same) reserves.adapter
+more_reserved : (below below' : Seen) → Reserves below below' → ReservesMore below.adapter (record below.adapter { reserved = below'.adapter.reserved })
+more_reserved below below' reserves = subst (ReservesMore below.adapter) (ap (λ (b : Seen). b.adapter) reserves.same) reserves.adapter
 
 -- A CALL
 

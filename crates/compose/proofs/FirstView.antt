@@ -1,5 +1,5 @@
 -- What a stack shows before its first event.
-use Rattle.std.proofs.Common.{◌≡◌, ◌≤◌, ℕ, ◌+◌, Bool, false, true, not, List, [], ◌∷◌, Option, Some, None, Ok, Err, refl, sym, ◌∙◌, ap, subst, map, length, arith}
+use Rattle.std.proofs.Common.{◌≡◌, ◌≤◌, ℕ, ◌+◌, Bool, false, true, not, List, [], ◌∷◌, Option, Some, None, Result, Ok, Err, refl, sym, ◌∙◌, ap, subst, map, length, arith}
 use Rattle.std.specs.Prelude.{◌==◌, nat_lt, if◌then◌else◌}
 use Rattle.std.proofs.lemmas.Bool.{eqb-false, ltb-false}
 use Rattle.std.proofs.lemmas.List.Elements.{All-nil, All-cons}
@@ -9,13 +9,15 @@ use Rattle.device.specs.Map.{IsMap, IsPartition}
 use Rattle.device.specs.Rules.{Rules}
 use Rattle.device.specs.State.{opening}
 use Rattle.device.specs.Seen.{Seen, sectors_in}
+use Rattle.compose.specs.declared.MbrFault.{MbrFault}
 use Rattle.compose.specs.declared.MbrFault.TheVariants.{NoSignature, EmptyEntry, CoversTable, PastEnd}
 use Rattle.compose.specs.declared.Settings.{Settings}
 use Rattle.compose.specs.declared.admission.Limits.{Limits}
 use Rattle.compose.specs.declared.tables.OpenRequest.{OpenRequest}
 use Rattle.compose.specs.declared.tables.Tables.{Tables}
 use Rattle.compose.specs.Calls.{number_limit}
-use Rattle.compose.specs.Mbr.{is_signed, first_type, first_extent, checked, first_entry}
+use Rattle.ntstatus.proofs.First.{none_first}
+use Rattle.compose.specs.Mbr.{is_signed, first_type, first_extent, extent_fault, checked, first_entry}
 use Rattle.compose.specs.Sound.{partitions_of, rules_of, holders_of, view_of}
 use Rattle.compose.specs.Start.{IsSameDisk, sector_zero, AreLimits}
 use Rattle.compose.specs.Shown.{StackView}
@@ -34,19 +36,19 @@ one_is_map sectors extent part = record {
 }
 
 checked_is_map : (sectors : ℕ) (extent : Extent) (partition : Option Extent) → checked sectors extent ≡ Ok partition → IsMap sectors (partitions_of partition)
-checked_is_map sectors extent partition told = by_tests (extent.count == 0) (extent.first == 0) (nat_lt sectors (extent.first + extent.count)) refl refl refl told
+checked_is_map sectors extent partition told = by_fault (extent_fault sectors extent) refl told
   where
-    by_tests : (none covers past : Bool) → (extent.count == 0) ≡ none → (extent.first == 0) ≡ covers → nat_lt sectors (extent.first + extent.count) ≡ past
-        → (if none then Err EmptyEntry else if covers then Err CoversTable else if past then Err PastEnd else Ok (Some extent)) ≡ Ok partition
+    by_fault : (fault : Option MbrFault) → extent_fault sectors extent ≡ fault → ◌≡◌ {A = Result (Option Extent) MbrFault} (elim fault [ None ↦ Ok (Some extent) | Some why ↦ Err why ]) (Ok partition)
         → IsMap sectors (partitions_of partition)
-    by_tests true covers past e f g told = cc (told)
-    by_tests false true past e f g told = cc (told)
-    by_tests false false true e f g told = cc (told)
-    by_tests false false false e f g told =
+    by_fault (Some why) is told = cc (told)
+    by_fault None is told =
         let same : Some extent ≡ partition = cc (told) in
-        let some : extent.count ≡ 0 → ⊥ = eqb-false extent.count 0 e in
-        let behind : extent.first ≡ 0 → ⊥ = eqb-false extent.first 0 f in
-        let inside : extent.first + extent.count ≤ sectors = ltb-false sectors (extent.first + extent.count) g in
+        let a : ((extent.count == 0) ≡ false) × _ = none_first (extent.count == 0) EmptyEntry _ is in
+        let b : ((extent.first == 0) ≡ false) × _ = none_first (extent.first == 0) CoversTable _ a.1 in
+        let c : (nat_lt sectors (extent.first + extent.count) ≡ false) × _ = none_first (nat_lt sectors (extent.first + extent.count)) PastEnd _ b.1 in
+        let some : extent.count ≡ 0 → ⊥ = eqb-false extent.count 0 a.0 in
+        let behind : extent.first ≡ 0 → ⊥ = eqb-false extent.first 0 b.0 in
+        let inside : extent.first + extent.count ≤ sectors = ltb-false sectors (extent.first + extent.count) c.0 in
         subst (λ (p : Option Extent). IsMap sectors (partitions_of p)) same
         (one_is_map sectors extent (record { behind_table = omega (arith, behind); some = omega (arith, some); inside = inside }))
 

@@ -12,7 +12,8 @@ use Rattle.device.specs.declared.ClientRequest.{ClientRequest}
 use Rattle.device.specs.Rules.{Rules, is_transfer, is_in_bounds, sectors_of}
 use Rattle.device.specs.State.{State}
 use Rattle.device.specs.Seen.{Seen, IsBounded, transfer_length}
-use Rattle.device.proofs.Places.{none_first, and_true}
+use Rattle.device.proofs.Places.{and_true}
+use Rattle.ntstatus.proofs.First.{none_first}
 use Rattle.compose.specs.declared.admission.Limits.{Limits}
 use Rattle.compose.specs.declared.tables.Tables.{Tables}
 use Rattle.compose.specs.OnDisk.{first_of, end_of, rules_over, open_as_called}

@@ -8,7 +8,8 @@ use Rattle.std.proofs.lemmas.List.Elements.{All-nil, All-head, All-tail, All-con
 use Rattle.slab.specs.Slab.{get, slab_len}
 use Rattle.ntstatus.specs.declared.NtStatus.{NtStatus}
 use Rattle.sector.specs.declared.Extent.{Extent}
-use Rattle.srb.specs.Adapter.{AdapterView, MovesUnseen}
+use Rattle.srb.specs.Adapter.{AdapterView}
+use Rattle.srb.proofs.Joining.{reserves_none, moves_joined}
 use Rattle.irp.specs.declared.Climb.TheVariants.{Finished}
 use Rattle.irp.specs.declared.Done.{Done}
 use Rattle.device.specs.declared.Request.{Request}
@@ -32,7 +33,7 @@ use Rattle.compose.specs.Ordering.{inserted, HasOtherNumber}
 use Rattle.compose.specs.Right.{as_answer, unless_answered}
 use Rattle.compose.specs.Sound.{HasPlaces, WasGiven, AreApart, AreHeld, IsTopmost, IsOnMap, IsSound, IsSoundWith, Collects, partitions_of, holder_of}
 use Rattle.compose.specs.Collecting.{Closes, TakesEnded, Gathers, brought, answer_for, unlabelled}
-use Rattle.compose.proofs.AdapterJoins.{moves_joined, labels_moved}
+use Rattle.compose.proofs.AdapterJoins.{labels_moved}
 use Rattle.compose.proofs.Askings.{KeepsAsked, KeepsAsked-same, KeepsAsked-trans, run_keeps, AreHeld-along}
 use Rattle.compose.proofs.Closing.{held_at, only_there, is_ended, is_given, brings, kept_slot, kept_number, AreHeld-less}
 use Rattle.compose.proofs.Inserting.{unless_one_more}
@@ -182,9 +183,6 @@ module _ (takes_srb : Bool) (old new : Seen) (request : Request) (done : Done) (
 
 -- ONE AFTER ANOTHER
 
-unseen_none : (view : AdapterView) → MovesUnseen view view
-unseen_none view = record { reserved = view.reserved; after = refl; lasts = λ extent reserved. reserved }
-
 -- none yet
 pub gathers_none : (below : Seen) (tables : Tables) → tables.answered.items ≡ [] → Gathers below tables below tables
 gathers_none below tables none = record {
@@ -193,7 +191,7 @@ gathers_none below tables none = record {
   rising = rw none tt;
   same_rules = refl;
   run = rw none (IsSame-refl below.state);
-  adapter = unseen_none below.adapter;
+  adapter = reserves_none below.adapter;
   waiting = rw none (IsPermutation-refl tables.waiting.items);
   holders = λ slot. rw none (sym (unless_none (option_map holder_of (get tables.requests slot))));
   same_labels = refl;

@@ -5,10 +5,11 @@ use Rattle.std.proofs.lemmas.Bool.{cases_eq, leb-false}
 use Rattle.slab.specs.Slab.{Slab, get, slab_len, Updates as SlabUpdates}
 use Rattle.ntstatus.specs.declared.NtStatus.{NtStatus}
 use Rattle.ntstatus.specs.declared.NtStatus.TheVariants.{DeviceBusy as BusyStatus, DeletePending as PendingStatus, InvalidParameter as ParameterStatus}
-use Rattle.device.specs.Calling.{first_some, when}
+use Rattle.srb.proofs.Joining.{reserves_none}
+use Rattle.ntstatus.specs.First.{when, first_some}
 use Rattle.device.specs.Seen.{Seen}
 use Rattle.device.proofs.Same.{IsSame-refl}
-use Rattle.device.proofs.Places.{none_first}
+use Rattle.ntstatus.proofs.First.{none_first}
 use Rattle.compose.specs.declared.OpenHandle.{OpenHandle}
 use Rattle.compose.specs.declared.Event.TheVariants.{Open}
 use Rattle.compose.specs.declared.Reply.{Reply}
@@ -20,7 +21,7 @@ use Rattle.compose.specs.Shown.{StackView}
 use Rattle.compose.specs.Right.{tells_nothing, IsRight}
 use Rattle.compose.specs.Sound.{partitions_of, view_of, IsOnMap, IsSound, IsKept}
 use Rattle.compose.specs.Admitting.{handle_refusal, OpensHandle}
-use Rattle.compose.proofs.Quiet.{right_alone, nothing_moves, IsRightBy-unmoved}
+use Rattle.compose.proofs.Quiet.{right_alone, IsRightBy-unmoved}
 use Rattle.compose.proofs.Stepping.{IsKept-still}
 
 -- numbers that are not used up are below the limit
@@ -106,7 +107,7 @@ opened_right limits below old partition (HandleReply handle) new h none_told non
       );
       by =
           right_alone (view_of limits below old) [] (view_of limits below old).state below.adapter.reserved new.handles.slots (old.next_handle + 1) old.labels.items old.waiting.items
-          (IsSame-refl _) (nothing_moves below.adapter) none_recorded none_told refl;
+          (IsSame-refl _) (reserves_none below.adapter) none_recorded none_told refl;
     })
 opened_right limits below old partition (Refused reason bytes) new h none_told none_recorded opens =
     subst (λ t. IsRight (view_of limits below old) (Open partition) (Refused reason bytes) (view_of limits below t)) (sym opens.2) (record {

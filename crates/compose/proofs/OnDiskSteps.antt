@@ -16,7 +16,7 @@ use Rattle.device.specs.declared.Kind.TheVariants.{Read, Write, Flush}
 use Rattle.device.specs.declared.ClientRequest.{ClientRequest}
 use Rattle.device.specs.Rules.{Rules, is_transfer, first_sector, place_count, home}
 use Rattle.device.specs.State.{Mark, Out, OpenRequest, Piece, State, IsSame}
-use Rattle.device.specs.Sending.{Starts, Acts, IsInTurn, IsFreshPiece, Moves, partition_number, command_for}
+use Rattle.device.specs.Sending.{Starts, Acts, IsInTurn, IsFreshPiece, Transfers, partition_number, command_for}
 use Rattle.device.specs.Step.{DeviceStep, Run}
 use Rattle.device.specs.Numbers.{AreDistinct}
 use Rattle.device.specs.Pieces.{IsPlaced, ArePlaced}
@@ -114,8 +114,8 @@ module _ (partitions : List Extent) (many window : ℕ) (below : Rules) where
 
   moves_is : (next : ℕ) (s : State) (disk_sectors : List (List ℕ)) (q : ClientRequest) (places : Extent) (kind : Kind) (sectors : List (List ℕ)) (arrays' : List (List (List ℕ)))
       → length partitions ≤ 1 → s.arrays ≡ disk_sectors ∷ [] → end_of partitions ≤ length disk_sectors → IsPart q places kind → length sectors ≡ places.count
-      → Moves below s q places kind sectors arrays'
-      → Moves over (on_partition over next s) (as_called over q) places kind sectors (map (sectors_in (get_or arrays' 0 [])) partitions)
+      → Transfers below s q places kind sectors arrays'
+      → Transfers over (on_partition over next s) (as_called over q) places kind sectors (map (sectors_in (get_or arrays' 0 [])) partitions)
   moves_is next s disk_sectors q places Read sectors arrays' single one inside mine covers h =
       let all : List (List ℕ) = get_or s.arrays 0 [] in
       let parts : List (List (List ℕ)) = map (sectors_in all) partitions in
@@ -153,7 +153,7 @@ module _ (partitions : List Extent) (many window : ℕ) (below : Rules) where
   -- the array after an act
   moves_keep : (s : State) (disk_sectors : List (List ℕ)) (q : ClientRequest) (places : Extent) (kind : Kind) (sectors : List (List ℕ)) (arrays' : List (List (List ℕ)))
       → length partitions ≤ 1 → s.arrays ≡ disk_sectors ∷ [] → end_of partitions ≤ length disk_sectors → IsPart q places kind → length sectors ≡ places.count
-      → Moves below s q places kind sectors arrays' → (new : List (List ℕ)) × (arrays' ≡ new ∷ []) × Keeps partitions disk_sectors new
+      → Transfers below s q places kind sectors arrays' → (new : List (List ℕ)) × (arrays' ≡ new ∷ []) × Keeps partitions disk_sectors new
   moves_keep s disk_sectors q places Read sectors arrays' single one inside mine covers h = (disk_sectors, h.1 ∙ one, Keeps-none partitions disk_sectors)
   moves_keep s disk_sectors q places Write sectors arrays' single one inside mine covers h =
       let from : first_of partitions ≤ first_sector below q + places.first = let e : _ ≡ _ = mine.sector in omega arith in

@@ -4,7 +4,8 @@ use Rattle.std.specs.Prelude.{IsPermutation}
 use Rattle.std.proofs.lemmas.List.{append-nil}
 use Rattle.std.proofs.lemmas.List.Sorted.{IsPermutation-refl}
 use Rattle.sector.specs.declared.Extent.{Extent}
-use Rattle.srb.specs.Adapter.{AdapterView, MovesUnseen}
+use Rattle.srb.specs.Adapter.{AdapterView, ReservesMore}
+use Rattle.srb.proofs.Joining.{reserves_none}
 use Rattle.device.specs.declared.Label.{Label}
 use Rattle.device.specs.State.{State}
 use Rattle.device.specs.Step.{Run}
@@ -20,16 +21,13 @@ none_answered : (holder : Option Holder) → holder ≡ unless_answered [] holde
 none_answered None = refl
 none_answered (Some holder) = refl
 
-pub nothing_moves : (v : AdapterView) → MovesUnseen v v
-nothing_moves v = record { reserved = v.reserved; after = refl; lasts = λ extent reserved. reserved }
-
 -- what a step tells that only has labels of its own
 abbrev pub tells_own : StackView → List Label → Told
 tells_own v own = record (tells_nothing v) { own = own }
 
 -- the machine, the labels and the handles may change, and more may be reserved
 pub right_alone : (v : StackView) (own : List Label) (s : State) (reserved : List Extent) (handles : List (Option OpenHandle)) (next_handle : ℕ) (labels : List Label) (answers : List Answer)
-    → Run v.rules v.state own s → MovesUnseen v.adapter (record v.adapter { reserved = reserved }) → v.adapter.labels ≡ [] → labels ≡ own → answers ≡ v.answers
+    → Run v.rules v.state own s → ReservesMore v.adapter (record v.adapter { reserved = reserved }) → v.adapter.labels ≡ [] → labels ≡ own → answers ≡ v.answers
     → IsRightBy (tells_own v own) v
     (record v { state = s; adapter = record v.adapter { reserved = reserved }; handles = handles; next_handle = next_handle; labels = labels; answers = answers })
 right_alone v own s reserved handles next_handle labels answers run moves none_recorded told waits = record {
@@ -50,7 +48,7 @@ right_alone v own s reserved handles next_handle labels answers run moves none_r
 -- nothing is told, and nothing changes
 pub IsRightBy-unmoved : (v : StackView) → v.labels ≡ [] → v.adapter.labels ≡ [] → IsRightBy (tells_nothing v) v v
 IsRightBy-unmoved v none_told none_recorded =
-    right_alone v [] v.state v.adapter.reserved v.handles v.next_handle v.labels v.answers (IsSame-refl v.state) (nothing_moves v.adapter) none_recorded none_told refl
+    right_alone v [] v.state v.adapter.reserved v.handles v.next_handle v.labels v.answers (IsSame-refl v.state) (reserves_none v.adapter) none_recorded none_told refl
 
 pub none_reserved : (v : Seen) → Reserves v v
-none_reserved v = record { same = refl; adapter = nothing_moves v.adapter }
+none_reserved v = record { same = refl; adapter = reserves_none v.adapter }

@@ -10,7 +10,8 @@ use Rattle.device.specs.declared.Request.{Request}
 use Rattle.device.specs.declared.ClientRequest.{ClientRequest}
 use Rattle.device.specs.declared.Label.TheVariants.{Call, Answer as AnswerLabel}
 use Rattle.device.specs.Rules.{Rules, is_transfer}
-use Rattle.device.specs.Calling.{first_some, when, refusal}
+use Rattle.ntstatus.specs.First.{when, first_some}
+use Rattle.device.specs.Calling.{refusal}
 use Rattle.device.specs.Seen.{Seen, Packet, payload_bytes}
 use Rattle.device.specs.Served.{Submits}
 use Rattle.compose.specs.declared.Handle.{Handle}

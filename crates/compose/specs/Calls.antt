@@ -5,7 +5,7 @@ use Rattle.ntstatus.specs.declared.NtStatus.TheVariants.{InvalidHandle as Handle
 use Rattle.device.specs.declared.Kind.{Kind}
 use Rattle.device.specs.declared.Kind.TheVariants.{Read, Write, Flush}
 use Rattle.device.specs.declared.ClientRequest.{ClientRequest}
-use Rattle.device.specs.Calling.{first_some, when}
+use Rattle.ntstatus.specs.First.{when, first_some}
 use Rattle.compose.specs.declared.Handle.{Handle}
 use Rattle.compose.specs.declared.Refusal.{Refusal}
 use Rattle.compose.specs.declared.Refusal.TheVariants.{InvalidHandle, InvalidParameter, DeletePending, DeviceBusy, InsufficientResources, InvalidDeviceRequest, NotFound}

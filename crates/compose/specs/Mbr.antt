@@ -1,6 +1,7 @@
 -- The first entry of the partition table in the first 512 bytes of sector 0.
-use Rattle.std.specs.Prelude.{ℕ, ◌+◌, ◌==◌, ◌&&◌, Bool, not, nat_lt, List, Option, Some, None, Result, Ok, Err, slice_index, if◌then◌else◌}
+use Rattle.std.specs.Prelude.{ℕ, ◌+◌, ◌==◌, ◌&&◌, Bool, not, nat_lt, List, [], ◌∷◌, Option, Some, None, Result, Ok, Err, slice_index, if◌then◌else◌}
 use Rattle.byteorder.specs.Endian.{little_from}
+use Rattle.ntstatus.specs.First.{when, first_some}
 use Rattle.sector.specs.declared.Extent.{Extent}
 use Rattle.compose.specs.declared.MbrFault.{MbrFault}
 use Rattle.compose.specs.declared.MbrFault.TheVariants.{NoSignature, EmptyEntry, CoversTable, PastEnd}
@@ -17,13 +18,17 @@ first_type table = slice_index table 450
 abbrev pub first_extent : List ℕ → Extent
 first_extent table = record { first = little_from 454 4 table; count = little_from 458 4 table }
 
--- what is wrong with the extent of an entry on a disk of so many sectors: the first that fits
+-- what is wrong with the extent of an entry on a disk of so many sectors, if anything: the first that fits
+abbrev pub extent_fault : ℕ → Extent → Option MbrFault
+extent_fault sectors extent = first_some (
+    when (extent.count == 0) EmptyEntry
+    ∷ when (extent.first == 0) CoversTable
+    ∷ when (nat_lt sectors (extent.first + extent.count)) PastEnd
+    ∷ [])
+
+-- the extent, or what is wrong with it
 abbrev pub checked : ℕ → Extent → Result (Option Extent) MbrFault
-checked sectors extent =
-    if extent.count == 0 then Err EmptyEntry
-    else if extent.first == 0 then Err CoversTable
-    else if nat_lt sectors (extent.first + extent.count) then Err PastEnd
-    else Ok (Some extent)
+checked sectors extent = elim (extent_fault sectors extent) [ None ↦ Ok (Some extent) | Some fault ↦ Err fault ]
 
 -- the partition of the first entry, none where it is unused, or the first fault
 abbrev pub first_entry : ℕ → List ℕ → Result (Option Extent) MbrFault

@@ -10,14 +10,14 @@ use Rattle.device.specs.declared.Label.TheVariants.{Call, Answer}
 use Rattle.device.specs.Rules.{Rules, place_count}
 use Rattle.device.specs.State.{State}
 use Rattle.device.specs.Calling.{refusal}
-use Rattle.device.specs.Sending.{sectors_at}
+use Rattle.device.specs.Sending.{sectors_at, array_at}
 use Rattle.device.specs.Settled.{Settled}
 use Rattle.device.specs.Step.{Step, Run}
 use Rattle.device.specs.Solo.{IsSolo, all_places}
 use Rattle.machine_laws.specs.SoloLaws.{WroteOrLeft}
 use Rattle.machine_laws.specs.Along.{Sometime}
 use Rattle.machine_laws.specs.Reached.{IsReached}
-use Rattle.machine_laws.specs.Sectors.{array_at, sector_at, WritesPartition, WritesSector}
+use Rattle.machine_laws.specs.Sectors.{sector_at, WritesPartition, WritesSector}
 use Rattle.machine_laws.specs.WriteLaws.{IsWriteAt}
 use Rattle.compose.specs.declared.Event.{Event}
 use Rattle.compose.specs.declared.Shown.{Shown}

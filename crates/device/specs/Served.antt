@@ -6,7 +6,7 @@ use Rattle.srb.specs.declared.Class.{Class}
 use Rattle.srb.specs.declared.DeviceLabel.{DeviceLabel}
 use Rattle.srb.specs.declared.DeviceLabel.TheVariants.{Start, Act, Fault, Return}
 use Rattle.srb.specs.Fate.{Fate, Fresh, Acted, Faulted}
-use Rattle.srb.specs.Adapter.{AdapterView, MovesByAll, NotesReset}
+use Rattle.srb.specs.Adapter.{AdapterView, ReservesMore, MovesByAll, NotesReset}
 use Rattle.irp.specs.declared.Payload.{Payload}
 use Rattle.irp.specs.declared.Climb.{Climb}
 use Rattle.irp.specs.Climb.{Climbs}
@@ -56,7 +56,7 @@ pub record IsBeside (old new : Seen) : Type 0 where
 -- places are made, and no more
 pub record Reserves (old new : Seen) : Type 0 where
   pub same : new ≡ record old { adapter = record old.adapter { reserved = new.adapter.reserved } }
-  pub adapter : MovesByAll old.adapter [] new.adapter
+  pub adapter : ReservesMore old.adapter new.adapter
 
 -- a packet is taken in: its request is opened, and then pieces are started
 pub record Submits (old : Seen) (packet : Packet) (request : Request) (payload : Payload) (new : Seen) : Type 0 where

@@ -8,10 +8,10 @@ use Rattle.device.specs.declared.ClientRequest.{ClientRequest}
 use Rattle.device.specs.declared.Label.{Label}
 use Rattle.device.specs.Rules.{Rules, first_sector, place_count}
 use Rattle.device.specs.State.{State}
-use Rattle.device.specs.Sending.{partition_number}
+use Rattle.device.specs.Sending.{partition_number, array_at}
 use Rattle.device.specs.Step.{Run}
 use Rattle.device.specs.Solo.{Meets, LeavesAlone, IsSoloAt, IsSolo}
-use Rattle.machine_laws.specs.Sectors.{array_at, sector_at, sector_of, bytes_for, WritesSector}
+use Rattle.machine_laws.specs.Sectors.{sector_at, sector_of, bytes_for, WritesSector}
 use Rattle.machine_laws.specs.Along.{Sometime}
 use Rattle.machine_laws.proofs.Serving.{HoldsPlaces, IsMine, PieceFits, Serves, Serves-Step}
 use Rattle.machine_laws.proofs.Sound.{Anything, IsSound, IsSound-Step, act_anyhow}

@@ -41,7 +41,7 @@ abbrev pub IsNotOwed : ℕ → Option Owed → Type 0
 IsNotOwed number None = Unit {0}
 IsNotOwed number (Some o) = o.number ≢ number
 
-none_owed : (number : ℕ) (owed : Option Owed) → IsNone owed → IsNotOwed number owed
+pub none_owed : (number : ℕ) (owed : Option Owed) → IsNone owed → IsNotOwed number owed
 none_owed number None free = tt
 none_owed number (Some o) free = cc (free)
 
@@ -52,7 +52,7 @@ admits_owed rules s number n q (Some status) s' free low h = rw h.after.owed (ab
     above : {a b : ℕ} → a < b → b ≢ a
     above low e = absurd (omega arith)
 
-device_owed : (rules : Rules) (s : State) (label : DeviceLabel) (s' : State) → FreeStep rules s (Device label) s' → s'.owed ≡ s.owed
+pub device_owed : (rules : Rules) (s : State) (label : DeviceLabel) (s' : State) → FreeStep rules s (Device label) s' → s'.owed ≡ s.owed
 device_owed rules s (Start n tag block) s' h = h.after.owed
 device_owed rules s (Act n bytes) s' h = h.after.owed
 device_owed rules s (Fault n) s' h = h.after.owed
@@ -72,7 +72,7 @@ owing_owed : (s : State) (number : ℕ) (label : Label) (s' : State) → OwingSt
 owing_owed s number (Answer n status bytes) s' h = rw h.after.owed tt
 owing_owed s number _ s' h = absurd h
 
-step_owed : (rules : Rules) (s : State) (number : ℕ) (label : Label) (s' : State) → number < s.next_request → Step rules s label s' → IsNotOwed number s'.owed
+pub step_owed : (rules : Rules) (s : State) (number : ℕ) (label : Label) (s' : State) → number < s.next_request → Step rules s label s' → IsNotOwed number s'.owed
 step_owed rules s number label s' low (inl h) = free_owed rules s number label s' h.0 low h.1
 step_owed rules s number label s' low (inr h) = owing_owed s number label s' h
 

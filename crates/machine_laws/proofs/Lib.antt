@@ -11,6 +11,7 @@ pub mod Served
 pub mod SoloRead
 pub mod SoloWrite
 pub mod Writes
-pub mod Matching
 pub mod Ending
+pub mod Removal
 pub mod Going
+pub mod Once

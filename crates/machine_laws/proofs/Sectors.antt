@@ -15,14 +15,14 @@ use Rattle.device.specs.declared.Label.{Label}
 use Rattle.device.specs.declared.Label.TheVariants.{Call, Device, Answer, Cancel, Pause, Resume, Remove, Removed}
 use Rattle.device.specs.Rules.{Rules, first_sector, place_count, sectors_of}
 use Rattle.device.specs.State.{OpenRequest, Piece, State}
-use Rattle.device.specs.Sending.{Acts, Moves, partition_number, array_of}
+use Rattle.device.specs.Sending.{Acts, Transfers, partition_number, array_of, array_at}
 use Rattle.ntstatus.specs.declared.NtStatus.{NtStatus}
 use Rattle.device.specs.Calling.{refusal, Admits}
 use Rattle.device.specs.Step.{FreeStep, OwingStep, Step}
-use Rattle.machine_laws.specs.Sectors.{array_at, sector_at, sector_of, bytes_for, IsAct, WritesSector}
+use Rattle.machine_laws.specs.Sectors.{sector_at, sector_of, bytes_for, IsAct, WritesSector}
 use Rattle.machine_laws.proofs.Splicing.{first_of, splice_inside}
 use Rattle.machine_laws.proofs.Chunks.{chunk, concat_chunk, range_chunk}
-use Rattle.machine_laws.proofs.Acted.{Moves-range}
+use Rattle.machine_laws.proofs.Acted.{Transfers-range}
 use Rattle.machine_laws.proofs.Serving.{IsSized, act_inside, act_fits}
 use Rattle.machine_laws.proofs.Sound.{Anything, nothing, IsSound}
 
@@ -49,7 +49,7 @@ module _ (rules : Rules) (s : State) (n : ℕ) (bytes : List ℕ) (s' : State) (
   pub act_writes : h.owner.request.kind ≡ Write → (k : ℕ) → k < h.piece.places.count
       → slice_get (array_at h.arrays' (partition_number h.owner.request)) (first_sector rules h.owner.request + h.piece.places.first + k) ≡ Some (bytes_for rules h.owner.request (h.piece.places.first + k))
   act_writes w k low =
-      let moves : Moves rules s h.owner.request h.piece.places Write h.sectors h.arrays' = subst (λ kind. Moves rules s h.owner.request h.piece.places kind h.sectors h.arrays') w h.moves in
+      let moves : Transfers rules s h.owner.request h.piece.places Write h.sectors h.arrays' = subst (λ kind. Transfers rules s h.owner.request h.piece.places kind h.sectors h.arrays') w h.moves in
       let low' : k < length h.sectors = rw h.covers low in
       let there : partition_number h.owner.request < length s.arrays = known (partition_number h.owner.request) s.arrays _ _ _ (fits w) low' in
       let array : array_at h.arrays' (partition_number h.owner.request) ≡ splice (array_of s h.owner.request) (first_sector rules h.owner.request + h.piece.places.first) h.sectors =
@@ -75,7 +75,7 @@ module _ (rules : Rules) (s : State) (n : ℕ) (bytes : List ℕ) (s' : State) (
       → slice_get (array_at h.arrays' p) i ≡ slice_get (array_at s.arrays p) i
   act_keeps p i apart =
       sym (first_of (array_at h.arrays' p) i)
-      ∙ ap (λ ys. slice_get ys 0) (Moves-range rules s h.owner.request h.piece.places h.owner.request.kind h.sectors h.arrays' p i 1 fits apart h.moves)
+      ∙ ap (λ ys. slice_get ys 0) (Transfers-range rules s h.owner.request h.piece.places h.owner.request.kind h.sectors h.arrays' p i 1 fits apart h.moves)
       ∙ first_of (array_at s.arrays p) i
 
   pub act_sector : (p i : ℕ) → (slice_get (array_at h.arrays' p) i ≡ slice_get (array_at s.arrays p) i) ⊎ Hits rules h.owner h.piece h.arrays' p i

@@ -21,7 +21,7 @@ use Rattle.device.specs.declared.Label.TheVariants.{Call, Device, Answer, Cancel
 use Rattle.device.specs.Rules.{Rules, first_sector, place_count, sectors_of}
 use Rattle.device.specs.State.{Mark, Untouched, Out, Done, Failed, Back, OpenRequest, Owed, Piece, State, IsSame}
 use Rattle.device.specs.Calling.{refusal, Admits, Opens, new_request}
-use Rattle.device.specs.Sending.{Starts, Acts, Leaves, status_of_completion, sent, given_back, new_piece, with_fate, partition_number, array_of}
+use Rattle.device.specs.Sending.{Starts, Acts, Leaves, status_of_completion, sent, given_back, new_piece, with_fate, partition_number, array_of, array_at}
 use Rattle.device.specs.Holding.{held_back, beyond, as_timely, as_cancelled}
 use Rattle.device.specs.Step.{DeviceStep, FreeStep, OwingStep, Step}
 use Rattle.device.specs.Numbers.{request_number, IsGiven, AreDistinct}
@@ -29,9 +29,8 @@ use Rattle.device.specs.Solo.{past}
 use Rattle.device.proofs.Numbers.{requests_in_order}
 use Rattle.device.proofs.Splicing.{AllAt, splice_at, length-splice}
 use Rattle.machine_laws.proofs.Bounds.{in_bounds}
-use Rattle.machine_laws.specs.Sectors.{array_at}
 use Rattle.machine_laws.specs.Reached.{AreWhole}
-use Rattle.machine_laws.proofs.Acted.{Moves-length}
+use Rattle.machine_laws.proofs.Acted.{Transfers-length}
 
 -- WHAT IS KEPT FROM THE CALL ON
 
@@ -287,7 +286,7 @@ module _ (rules : Rules) (number : ℕ) (q : ClientRequest) (Right : List (List 
       let p : Piece = h.piece in
       let o : OpenRequest = h.owner in
       let k1 : Serves rules number q Right (record s { arrays = h.arrays' }) =
-      with_arrays s h.arrays' k (λ i. Moves-length rules s o.request p.places o.request.kind h.sectors h.arrays' i (act_fits s n bytes s' k h) h.moves) rightly.keeps in
+      with_arrays s h.arrays' k (λ i. Transfers-length rules s o.request p.places o.request.kind h.sectors h.arrays' i (act_fits s n bytes s' k h) h.moves) rightly.keeps in
       Serves-same s' _ h.after (met (record s { arrays = h.arrays' }) p h.other_pieces (Acted h.sectors) h.fresh.is_out k1 h.covers rightly.leaves)
 
   -- RETURN

@@ -10,9 +10,9 @@ use Rattle.device.specs.declared.ClientRequest.{ClientRequest}
 use Rattle.device.specs.declared.Label.TheVariants.{Device}
 use Rattle.device.specs.Rules.{Rules, first_sector, place_count}
 use Rattle.device.specs.State.{Out, State}
-use Rattle.device.specs.Sending.{partition_number}
+use Rattle.device.specs.Sending.{partition_number, array_at}
 use Rattle.device.specs.Solo.{IsSoloAt, SoloWrites}
-use Rattle.machine_laws.specs.Sectors.{array_at, sector_at, sector_of, bytes_for}
+use Rattle.machine_laws.specs.Sectors.{sector_at, sector_of, bytes_for}
 use Rattle.machine_laws.specs.SoloLaws.{FailedWrites}
 use Rattle.machine_laws.proofs.Bounds.{write_length}
 use Rattle.machine_laws.proofs.Chunks.{chunks_join}

@@ -10,12 +10,12 @@ use Rattle.device.specs.declared.Label.{Label}
 use Rattle.device.specs.declared.Label.TheVariants.{Device}
 use Rattle.device.specs.Rules.{Rules}
 use Rattle.device.specs.State.{State}
-use Rattle.device.specs.Sending.{Acts, Moves, partition_number}
+use Rattle.device.specs.Sending.{Acts, Transfers, partition_number, array_at}
 use Rattle.device.specs.Step.{Step, Run}
-use Rattle.machine_laws.specs.Sectors.{array_at, sector_at, WritesPartition}
+use Rattle.machine_laws.specs.Sectors.{sector_at, WritesPartition}
 use Rattle.machine_laws.specs.Along.{Sometime}
 use Rattle.machine_laws.specs.WriteLaws.{IsWriteOn, IsWriteAt, HaveSameLengths, StepsKeepArrays, RunsKeepArrays}
-use Rattle.machine_laws.proofs.Acted.{Moves-length}
+use Rattle.machine_laws.proofs.Acted.{Transfers-length}
 use Rattle.machine_laws.proofs.Serving.{act_fits}
 use Rattle.machine_laws.proofs.Sound.{Anything, nothing, IsSound, IsSound-Step}
 use Rattle.machine_laws.proofs.Sectors.{Moved, step_arrays, is_act, step_sector}
@@ -31,13 +31,13 @@ act_partition rules s label s' n bytes e h p = by_kind h.owner.request.kind refl
 
     by_kind : (kind : Kind) → h.owner.request.kind ≡ kind → (array_at s'.arrays p ≡ array_at s.arrays p) ⊎ WritesPartition p s label
     by_kind Read k =
-        let moves : Moves rules s h.owner.request h.piece.places Read h.sectors h.arrays' = subst (λ kind. Moves rules s h.owner.request h.piece.places kind h.sectors h.arrays') k h.moves in
+        let moves : Transfers rules s h.owner.request h.piece.places Read h.sectors h.arrays' = subst (λ kind. Transfers rules s h.owner.request h.piece.places kind h.sectors h.arrays') k h.moves in
         inl (same_arrays moves.1)
     by_kind Flush k =
-        let moves : Moves rules s h.owner.request h.piece.places Flush h.sectors h.arrays' = subst (λ kind. Moves rules s h.owner.request h.piece.places kind h.sectors h.arrays') k h.moves in
+        let moves : Transfers rules s h.owner.request h.piece.places Flush h.sectors h.arrays' = subst (λ kind. Transfers rules s h.owner.request h.piece.places kind h.sectors h.arrays') k h.moves in
         inl (same_arrays moves.1)
     by_kind Write k =
-        let moves : Moves rules s h.owner.request h.piece.places Write h.sectors h.arrays' = subst (λ kind. Moves rules s h.owner.request h.piece.places kind h.sectors h.arrays') k h.moves in
+        let moves : Transfers rules s h.owner.request h.piece.places Write h.sectors h.arrays' = subst (λ kind. Transfers rules s h.owner.request h.piece.places kind h.sectors h.arrays') k h.moves in
         elim (cases_eq p (partition_number h.owner.request)) [
           | inl same ↦ inr (record { act = is_act rules s label s' n bytes e h; is_write = k; on_partition = sym same })
           | inr other ↦ inl (ap (λ arrays. array_at arrays p) (h.after.arrays ∙ moves.2) ∙ get_or-set_other s.arrays (partition_number h.owner.request) p _ [] other)
@@ -86,7 +86,7 @@ runs_keep_sectors rules s labels s' sound run p i =
 moves_count : (rules : Rules) (s : State) (n : ℕ) (bytes : List ℕ) (s' : State) → Acts rules s n bytes s' → length s'.arrays ≡ length s.arrays
 moves_count rules s n bytes s' h = by_kind h.owner.request.kind h.moves
   where
-    by_kind : (kind : Kind) → Moves rules s h.owner.request h.piece.places kind h.sectors h.arrays' → length s'.arrays ≡ length s.arrays
+    by_kind : (kind : Kind) → Transfers rules s h.owner.request h.piece.places kind h.sectors h.arrays' → length s'.arrays ≡ length s.arrays
     by_kind Read moves = ap length (h.after.arrays ∙ moves.1)
     by_kind Flush moves = ap length (h.after.arrays ∙ moves.1)
     by_kind Write moves = ap length (h.after.arrays ∙ moves.2) ∙ length-set s.arrays (partition_number h.owner.request) _
@@ -96,7 +96,7 @@ step_lengths rules s label s' sound (inl same) = record { arrays = ap length sam
 step_lengths rules s label s' sound (inr (n, bytes, e, h)) = record {
   arrays = moves_count rules s n bytes s' h;
   sectors = λ p. ap (λ arrays. length (array_at arrays p)) h.after.arrays
-      ∙ Moves-length rules s h.owner.request h.piece.places h.owner.request.kind h.sectors h.arrays' p (act_fits rules 0 nothing Anything s n bytes s' sound.1 h) h.moves;
+      ∙ Transfers-length rules s h.owner.request h.piece.places h.owner.request.kind h.sectors h.arrays' p (act_fits rules 0 nothing Anything s n bytes s' sound.1 h) h.moves;
 }
 
 pub runs_keep_lengths : (rules : Rules) (s : State) (labels : List Label) (s' : State) → IsSound rules s → Run rules s labels s' → HaveSameLengths s.arrays s'.arrays

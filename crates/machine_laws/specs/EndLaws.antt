@@ -2,12 +2,11 @@
 use Rattle.std.specs.Prelude.{◌≡◌, ◌≢◌, ℕ, List, [], All, IsTrue}
 use Rattle.ntstatus.specs.declared.NtStatus.{NtStatus}
 use Rattle.device.specs.declared.Label.{Label}
-use Rattle.device.specs.declared.Label.TheVariants.{Removed}
+use Rattle.device.specs.declared.Label.TheVariants.{Device, Removed}
 use Rattle.device.specs.Rules.{Rules}
-use Rattle.device.specs.State.{OpenRequest, Piece, State}
+use Rattle.device.specs.State.{OpenRequest, Piece, State, opening}
 use Rattle.device.specs.Answering.{Answers}
 use Rattle.device.specs.Step.{Step, Run}
-use Rattle.device.specs.Laws.{IsNotOfDevice}
 use Rattle.machine_laws.specs.Sectors.{WritesSector}
 use Rattle.machine_laws.specs.Along.{Sometime, Always}
 use Rattle.machine_laws.specs.Reached.{IsReached}
@@ -39,12 +38,17 @@ pub record IsEmpty (s : State) : Type 0 where
   pub none_open : s.requests ≡ []
   pub none_out : s.pieces ≡ []
 
--- after a removal has ended nothing is open or out any more
+-- after a removal has ended, in any run from an opening state, nothing is open or out any more
 abbrev pub RemovedAreEmpty : Type 0
-RemovedAreEmpty = (rules : Rules) (s removed : State) (labels : List Label) (s' : State)
-    → IsReached rules s → Step rules s Removed removed → (run : Run rules removed labels s') → Always IsEmpty rules removed labels s' run
+RemovedAreEmpty = (rules : Rules) (arrays : List (List (List ℕ))) (before : List Label) (s removed : State) (after : List Label) (s' : State)
+    → Run rules (opening arrays) before s → Step rules s Removed removed → (run : Run rules removed after s') → Always IsEmpty rules removed after s' run
 
--- and no start, act, fault or return comes
+-- no start, act, fault or return
+abbrev pub IsNotOfDevice : Label → Type 0
+IsNotOfDevice (Device label) = ⊥
+IsNotOfDevice _ = Unit {0}
+
+-- and the device is left alone
 abbrev pub RemovedIsLast : Type 0
-RemovedIsLast = (rules : Rules) (s removed : State) (labels : List Label) (s' : State)
-    → IsReached rules s → Step rules s Removed removed → Run rules removed labels s' → All IsNotOfDevice labels
+RemovedIsLast = (rules : Rules) (arrays : List (List (List ℕ))) (before : List Label) (s removed : State) (after : List Label) (s' : State)
+    → Run rules (opening arrays) before s → Step rules s Removed removed → Run rules removed after s' → All IsNotOfDevice after

@@ -4,3 +4,4 @@ pub mod Reached
 pub mod SoloLaws
 pub mod WriteLaws
 pub mod EndLaws
+pub mod NumberLaws

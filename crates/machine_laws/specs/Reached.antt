@@ -4,7 +4,7 @@ use Rattle.device.specs.declared.Label.{Label}
 use Rattle.device.specs.Rules.{Rules, sectors_of}
 use Rattle.device.specs.State.{State, opening}
 use Rattle.device.specs.Step.{Run}
-use Rattle.machine_laws.specs.Sectors.{array_at}
+use Rattle.device.specs.Sending.{array_at}
 
 -- each array has the sectors of its partition
 abbrev pub AreWhole : Rules → List (List (List ℕ)) → Type 0

@@ -4,7 +4,8 @@ use Rattle.device.specs.declared.Label.{Label}
 use Rattle.device.specs.Rules.{Rules}
 use Rattle.device.specs.State.{State}
 use Rattle.device.specs.Step.{Step, Run}
-use Rattle.machine_laws.specs.Sectors.{array_at, sector_at, WritesPartition, WritesSector}
+use Rattle.device.specs.Sending.{array_at}
+use Rattle.machine_laws.specs.Sectors.{sector_at, WritesPartition, WritesSector}
 use Rattle.machine_laws.specs.Along.{Sometime}
 use Rattle.machine_laws.specs.Reached.{IsReached}
 

@@ -2,11 +2,12 @@
 //! has the law.
 //!
 //! They hold at each state that a run reaches from an opening state whose arrays have the sectors of their
-//! partitions (`goes_on`), whoever made the run: the whole stack or one layer of it.
+//! partitions (`goes_on`), whoever made the run: the whole stack or one layer of it. `removed_is_last` holds whatever
+//! the arrays are, and `numbers_are_used_once` from other states too.
 //!
 //! - `solo_reads`, `solo_writes`, `failed_writes`: what a request that no other write meets has read or written.
 //! - `keeps_arrays`, `keeps_sectors`, `keeps_lengths`: what a label may change of the arrays, whoever else is at work.
-//! - `answered_are_over`, `removed_is_last`: what comes no more.
+//! - `answered_are_over`, `removed_is_last`, `numbers_are_used_once`: what comes no more.
 //! - `goes_on`, `labels_are_of_one`: how a run is taken apart, so that the laws fit its labels.
 //!
 //! Nothing is said of requests that overlap as to their order, nor that any request is ever answered.
@@ -18,6 +19,7 @@ ghost use Rattle.machine_laws.specs.EndLaws.{
   RemovedAreEmpty,
   RemovedIsLast,
 };
+ghost use Rattle.machine_laws.specs.NumberLaws.{AnswersOnce, CallsOnce};
 ghost use Rattle.machine_laws.specs.Reached.{OpeningsAreReached, RunsGoOn, RunsSplit};
 ghost use Rattle.machine_laws.specs.SoloLaws.{
   FailedWritesHold,
@@ -74,10 +76,18 @@ pub fn answered_are_over()
     ensures writes { AnsweredWriteNoMore }
 {}
 
-/// From the end of a removal on nothing is open or out, and no start, act, fault or return comes.
+/// From the end of a removal on nothing is open or out, and no start, act, fault or return comes, in every run from an
+/// opening state.
 pub fn removed_is_last()
     ensures empty { RemovedAreEmpty }
     ensures last { RemovedIsLast }
+{}
+
+/// In every run each number is given to one call; from a state where nothing is owed and the open requests have numbers
+/// of their own, no call is answered twice.
+pub fn numbers_are_used_once()
+    ensures calls { CallsOnce }
+    ensures answers { AnswersOnce }
 {}
 
 /// An opening state with whole arrays is reached, and so is each state that a run leads to from a reached one; with no

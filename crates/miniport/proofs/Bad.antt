@@ -7,7 +7,8 @@ use Rattle.srb.specs.declared.Srb.{Srb}
 use Rattle.srb.specs.declared.Completion.{Completion}
 use Rattle.srb.specs.declared.Class.TheVariants.{Bad}
 use Rattle.srb.specs.Fate.{class_of}
-use Rattle.miniport.specs.Faults.{Disk, error, invalid_request, fails, first_of, fault_of, fault_of_block, fault_of_medium, fault_of_command, fault_of_decoded, is_past_end, fits, is_write, is_read, names_bad, is_execute}
+use Rattle.ntstatus.specs.First.{when, first_some}
+use Rattle.miniport.specs.Faults.{Disk, error, invalid_request, fault_of, fault_of_block, fault_of_medium, fault_of_command, fault_of_decoded, is_past_end, fits, is_write, is_read, names_bad, is_execute}
 
 abbrev IsBad : Completion → Type 0
 IsBad c = class_of c ≡ Bad c
@@ -21,24 +22,24 @@ some_bad c bad d e = let k : c ≡ d = cc in subst (λ (x : Completion). IsBad x
 none_bad : OnlyBad None
 none_bad d e = absurd cc
 
-row : (test : Bool) (c : Completion) → IsBad c → OnlyBad (fails test c)
+row : (test : Bool) (c : Completion) → IsBad c → OnlyBad (when test c)
 row true c bad = some_bad c bad
 row false c bad = none_bad
 
-first : (x : Option Completion) (xs : List (Option Completion)) → OnlyBad x → OnlyBad (first_of xs) → OnlyBad (first_of (x ∷ xs))
+first : (x : Option Completion) (xs : List (Option Completion)) → OnlyBad x → OnlyBad (first_some xs) → OnlyBad (first_some (x ∷ xs))
 first (Some c) xs bad rest = bad
 first None xs bad rest = rest
 
 medium_bad : (disk : Disk) (command : Cdb) → OnlyBad (fault_of_medium disk command)
 medium_bad disk command =
-    first (fails (is_read command && names_bad disk command) (error 3 0x11 0)) _ (row _ (error 3 0x11 0) refl)
-    (first (fails (is_write command && names_bad disk command) (error 3 0x0C 0)) _ (row _ (error 3 0x0C 0) refl) none_bad)
+    first (when (is_read command && names_bad disk command) (error 3 0x11 0)) _ (row _ (error 3 0x11 0) refl)
+    (first (when (is_write command && names_bad disk command) (error 3 0x0C 0)) _ (row _ (error 3 0x0C 0) refl) none_bad)
 
 command_bad : (disk : Disk) (srb : Srb) (command : Cdb) → OnlyBad (fault_of_command disk srb command)
 command_bad disk srb command =
-    first (fails (is_past_end disk command) (error 5 0x21 0)) _ (row _ (error 5 0x21 0) refl)
-    (first (fails (not (fits disk srb command)) invalid_request) _ (row _ invalid_request refl)
-    (first (fails (is_write command && disk.write_protected) (error 7 0x27 0)) _ (row _ (error 7 0x27 0) refl)
+    first (when (is_past_end disk command) (error 5 0x21 0)) _ (row _ (error 5 0x21 0) refl)
+    (first (when (not (fits disk srb command)) invalid_request) _ (row _ invalid_request refl)
+    (first (when (is_write command && disk.write_protected) (error 7 0x27 0)) _ (row _ (error 7 0x27 0) refl)
     (first (fault_of_medium disk command) _ (medium_bad disk command) none_bad)))
 
 block_bad : (fault : CdbFault) → IsBad (fault_of_block fault)

@@ -11,7 +11,7 @@ use Rattle.srb.specs.declared.Completion.{Completion}
 use Rattle.srb.specs.declared.DeviceLabel.{DeviceLabel}
 use Rattle.srb.specs.declared.DeviceLabel.TheVariants.{Fault}
 use Rattle.srb.specs.Fate.{Fate, Fresh, Acted, Faulted}
-use Rattle.srb.specs.Adapter.{TagInUse, AdapterView, faulted, met_by_reset, MovesUnseen, MovesByAll, NotesReset, FaultsOn}
+use Rattle.srb.specs.Adapter.{TagInUse, AdapterView, faulted, met_by_reset, MovesByAll, NotesReset, FaultsOn}
 use Rattle.disk.specs.Medium.{MediumView}
 use Rattle.miniport.specs.declared.on_tag.OnTag.{OnTag}
 use Rattle.miniport.specs.declared.on_tag.Progress.{Progress}
@@ -20,15 +20,13 @@ use Rattle.miniport.specs.Calls.{Resets, after_reset, fate_after_reset, has_done
 use Rattle.miniport.specs.Slots.{Table, piece_at, in_use_of, fate_of, tags_of, labels_by, slot_completion, slot_after_reset, progress_after_reset, failures_of_reset, labels_of_reset, with_reset}
 use Rattle.miniport.specs.Memory.{shown_of, view_of, is_unmet, due_after_reset, ResetsAll}
 use Rattle.miniport.specs.Faults.{bus_reset}
+use Rattle.srb.proofs.Joining.{reserves_none}
 use Rattle.miniport.proofs.TagsInUse.{fresh_rise}
 
 -- THE FAULTS ARE MOVES
 
 abbrev pub IsFreshUse : TagInUse → Type 0
 IsFreshUse use' = use'.fate ≡ Fresh
-
-nothing_moves : (v : AdapterView) → MovesUnseen v v
-nothing_moves v = record { reserved = v.reserved; after = refl; lasts = λ extent h. h }
 
 -- faults, and then the note of a reset
 abbrev pub FaultsThenNotes : AdapterView → List DeviceLabel → AdapterView → Type 0
@@ -41,7 +39,7 @@ pub faults_move : (fresh others : List TagInUse) (old new : AdapterView) (tags :
     → new ≡ record old { tags = tags; failures = failures; labels = labels } → FaultsThenNotes old (map fault_of fresh) new
 faults_move [] others old new tags failures labels all before after counted are e = (
   old,
-  nothing_moves old,
+  reserves_none old,
   record {
     tags = tags;
     failures = failures;
@@ -71,7 +69,7 @@ faults_move (f ∷ fs) others old new tags failures labels all before after coun
     (omega (arith, counted))
     (are ∙ sym (append_assoc old.labels (Fault f.piece ∷ []) (map fault_of fs)))
     e in
-    (rest.0, (old, mid, nothing_moves old, (f.tag, fault), rest.1), rest.2)
+    (rest.0, (old, mid, reserves_none old, (f.tag, fault), rest.1), rest.2)
 
 -- THE TAGS
 

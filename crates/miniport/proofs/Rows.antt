@@ -5,12 +5,13 @@ use Rattle.cdb.specs.declared.Cdb.{Cdb}
 use Rattle.srb.specs.declared.Srb.{Srb}
 use Rattle.srb.specs.declared.Completion.{Completion}
 use Rattle.miniport.specs.declared.check.Sizes.{Sizes}
-use Rattle.miniport.specs.Faults.{fails, first_of, fits, is_write, lba_of, blocks_of, bytes_of, error, invalid_request}
+use Rattle.ntstatus.specs.First.{when, first_some}
+use Rattle.miniport.specs.Faults.{fits, is_write, lba_of, blocks_of, bytes_of, error, invalid_request}
 use Rattle.miniport.specs.Checking.{disk_with, Fits, IsMisfit}
 
 -- the rows of a command
 abbrev rows : Bool → Bool → Bool → Completion → Completion → Completion → Option Completion → Option Completion
-rows past fitting protected a b c rest = first_of (fails past a ∷ fails (not fitting) b ∷ fails protected c ∷ rest ∷ [])
+rows past fitting protected a b c rest = first_some (when past a ∷ when (not fitting) b ∷ when protected c ∷ rest ∷ [])
 
 first_row : (p f w : Bool) (a b c : Completion) (rest : Option Completion) → p ≡ true → rows p f w a b c rest ≡ Some a
 first_row true f w a b c rest e = refl

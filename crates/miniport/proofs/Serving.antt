@@ -4,11 +4,11 @@ use Rattle.std.specs.Prelude.{Any}
 use Rattle.srb.specs.declared.Srb.{Srb}
 use Rattle.srb.specs.declared.Completion.{Completion}
 use Rattle.srb.specs.declared.DeviceLabel.{DeviceLabel}
-use Rattle.srb.specs.Adapter.{AdapterView, IsInOrder, IsFree, HasTag, HasNotTag, IsWritable, Accepts}
+use Rattle.srb.specs.Adapter.{AdapterView, IsInOrder, IsFree, HasTag, HasNotTag, IsWritable, ReservesMore, Accepts}
 use Rattle.sector.specs.declared.Extent.{Extent}
 use Rattle.disk.specs.Medium.{MediumView, IsWhole, Reserves as MediumReserves, IsReserved as MediumReserved}
 use Rattle.miniport.specs.declared.on_tag.OnTag.{OnTag}
-use Rattle.miniport.specs.Calls.{Reserves, Acts, ActsNot, Finishes, FinishesNot, Resets}
+use Rattle.miniport.specs.Calls.{Acts, ActsNot, Finishes, FinishesNot, Resets}
 use Rattle.miniport.specs.Faults.{busy}
 use Rattle.miniport.specs.Slots.{Table, ComesBack, piece_at, tags_of, completion_of, with_new, with_returned, with_reset}
 use Rattle.miniport.specs.Memory.{MemView, IsKept, shown_of, view_of, Dues, SameDues, ActsByTable, ActsIn, ActsNotIn, ResetsAll}
@@ -213,7 +213,7 @@ more_reserved m longest t reserved lasts kept =
 
 reserved_along : (m : MediumView) (longest : ℕ) (p : Bool) (t : Table) (reserved : List Extent)
     → ((extent : Extent) → MediumReserved m extent → MediumReserved (record m { reserved = reserved }) extent) → IsWhole m → IsKept m longest t
-    → After (record m { reserved = reserved }) longest p t (Reserves (shown_of m longest t)) (SameDues (view_of m longest p t))
+    → After (record m { reserved = reserved }) longest p t (ReservesMore (shown_of m longest t)) (SameDues (view_of m longest p t))
 reserved_along m longest p t reserved lasts whole kept =
     let keeps : IsKept (record m { reserved = reserved }) longest t = more_reserved m longest t reserved lasts kept in
     record {
@@ -224,11 +224,11 @@ reserved_along m longest p t reserved lasts whole kept =
     }
 
 pub after_reserve : (m m' : MediumView) (longest : ℕ) (p : Bool) (t : Table) (v : MemView) → view_of m longest p t ≡ v → MediumReserves m m'
-    → IsWhole m → IsKept m longest t → After m' longest p t (Reserves v.shown) (SameDues v)
+    → IsWhole m → IsKept m longest t → After m' longest p t (ReservesMore v.shown) (SameDues v)
 after_reserve m m' longest p t v e reserves whole kept =
     let lasts : (extent : Extent) → MediumReserved m extent → MediumReserved (record m { reserved = m'.reserved }) extent = reserves.lasts in
-    subst (λ (u : MemView). After m' longest p t (Reserves u.shown) (SameDues u)) e
-    (subst (λ (n : MediumView). After n longest p t (Reserves (shown_of m longest t)) (SameDues (view_of m longest p t))) (sym reserves.after)
+    subst (λ (u : MemView). After m' longest p t (ReservesMore u.shown) (SameDues u)) e
+    (subst (λ (n : MediumView). After n longest p t (ReservesMore (shown_of m longest t)) (SameDues (view_of m longest p t))) (sym reserves.after)
     (reserved_along m longest p t m'.reserved lasts whole kept))
 
 -- TAKE A LABEL

@@ -2,19 +2,12 @@
 use Rattle.std.specs.Prelude.{◌≡◌, ◌≢◌, ◌⊎◌, ℕ, Bool, true, false, List, [], ◌∷◌, ◌++◌, map, filter, IsPermutation}
 use Rattle.std.specs.List.Sorted.{IsStrictlyIncreasing}
 use Rattle.std.specs.List.{concat}
-use Rattle.sector.specs.declared.Extent.{Extent}
 use Rattle.srb.specs.declared.Srb.{Srb}
 use Rattle.srb.specs.declared.Completion.{Completion}
 use Rattle.srb.specs.declared.DeviceLabel.{DeviceLabel}
 use Rattle.srb.specs.declared.DeviceLabel.TheVariants.{Fault}
 use Rattle.srb.specs.Fate.{Fate, Fresh, Acted, Faulted, class_of}
-use Rattle.srb.specs.Adapter.{TagInUse, AdapterView, IsFree, IsOn, IsReserved, ActsOn, FaultsOn, ReturnsOn, MovesByAll, NotesReset}
-
--- only what is reserved may differ, and what was reserved still is
-pub record Reserves (old new : AdapterView) : Type 0 where
-  pub reserved : List Extent
-  pub after : new ≡ record old { reserved = reserved }
-  pub lasts : (extent : Extent) → IsReserved old extent → IsReserved new extent
+use Rattle.srb.specs.Adapter.{TagInUse, AdapterView, IsFree, IsOn, ActsOn, FaultsOn, ReturnsOn, MovesByAll, NotesReset}
 
 -- the tag's piece, which had done nothing yet, acts or faults
 pub record Acts (old : AdapterView) (tag : ℕ) (new : AdapterView) : Type 0 where

@@ -7,6 +7,7 @@ use Rattle.cdb.specs.declared.CdbFault.{CdbFault}
 use Rattle.cdb.specs.declared.CdbFault.TheVariants.{ShortCdb, UnknownOpcode, InvalidField}
 use Rattle.cdb.specs.Meaning.{Means}
 use Rattle.cdb.specs.Faults.{HasFault}
+use Rattle.ntstatus.specs.First.{when, first_some}
 use Rattle.srb.specs.declared.Srb.{Srb}
 use Rattle.srb.specs.declared.Completion.{Completion}
 use Rattle.srb.specs.declared.SrbFunction.{SrbFunction}
@@ -110,14 +111,6 @@ names_bad disk command = list_any (is_one_of (lba_of command) (blocks_of command
 
 -- THE TABLE
 
-abbrev pub fails : Bool → Completion → Option Completion
-fails test completion = if test then Some completion else None
-
-abbrev pub first_of : List (Option Completion) → Option Completion
-first_of [] = None
-first_of (Some completion ∷ rest) = Some completion
-first_of (None ∷ rest) = first_of rest
-
 abbrev pub fault_of_block : CdbFault → Completion
 fault_of_block ShortCdb = error 5 0x24 0x00
 fault_of_block InvalidField = error 5 0x24 0x00
@@ -125,16 +118,16 @@ fault_of_block UnknownOpcode = error 5 0x20 0x00
 
 -- a bad sector under a transfer
 abbrev pub fault_of_medium : Disk → Cdb → Option Completion
-fault_of_medium disk command = first_of (
-    fails (is_read command && names_bad disk command) (error 3 0x11 0x00)
-    ∷ fails (is_write command && names_bad disk command) (error 3 0x0C 0x00)
+fault_of_medium disk command = first_some (
+    when (is_read command && names_bad disk command) (error 3 0x11 0x00)
+    ∷ when (is_write command && names_bad disk command) (error 3 0x0C 0x00)
     ∷ [])
 
 abbrev pub fault_of_command : Disk → Srb → Cdb → Option Completion
-fault_of_command disk srb command = first_of (
-    fails (is_past_end disk command) (error 5 0x21 0x00)
-    ∷ fails (not (fits disk srb command)) invalid_request
-    ∷ fails (is_write command && disk.write_protected) (error 7 0x27 0x00)
+fault_of_command disk srb command = first_some (
+    when (is_past_end disk command) (error 5 0x21 0x00)
+    ∷ when (not (fits disk srb command)) invalid_request
+    ∷ when (is_write command && disk.write_protected) (error 7 0x27 0x00)
     ∷ fault_of_medium disk command
     ∷ [])
 

@@ -10,8 +10,8 @@ use srb::{Completion, DeviceLabel, Srb};
 /// asks for.
 pub trait Adapter: Drop {
     ghost use Rattle.std.specs.Prelude.{◌≡◌, ◌⊎◌, ◌<◌, ◌≤◌, ◌^◌, ◌+◌, ℕ, length, Any, OnOk, MatchBool, MatchOption};
-    ghost use Rattle.srb.specs.Adapter.{AdapterView, HasTag, IsFree, IsInOrder, IsReserved, IsWritable, Accepts};
-    ghost use Rattle.miniport.specs.Calls.{Reserves, Acts, ActsNot, Finishes, FinishesNot, Resets, LeavesFirst, HasNoLabel};
+    ghost use Rattle.srb.specs.Adapter.{AdapterView, HasTag, IsFree, IsInOrder, IsReserved, IsWritable, ReservesMore, Accepts};
+    ghost use Rattle.miniport.specs.Calls.{Acts, ActsNot, Finishes, FinishesNot, Resets, LeavesFirst, HasNoLabel};
 
     ghost view: { Self → AdapterView };
 
@@ -45,7 +45,7 @@ pub trait Adapter: Drop {
     fn reserve(&mut self, extent: Extent) -> Result<(), NoMemory>
         requires { extent.first + extent.count ≤ length (view self.old).sectors }
         ensures reserved { OnOk result (IsReserved (view self.new) extent) }
-        ensures reserves { Reserves (view self.old) (view self.new) }
+        ensures reserves { ReservesMore (view self.old) (view self.new) }
         ensures order { IsInOrder (view self.new) };
 
     /// Whether a piece is on the tag.

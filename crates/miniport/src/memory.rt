@@ -66,8 +66,8 @@ impl<M: Medium> MemAdapter<M> {
 
 impl<M: Medium> Adapter for MemAdapter<M> {
     ghost use Rattle.std.specs.Prelude.{◌+◌, ◌*◌, Some, None, IfSome, get_or, Any, OnOk, MatchOption};
-    ghost use Rattle.srb.specs.Adapter.{HasTag, IsFree, IsInOrder, IsReserved, IsWritable, Accepts};
-    ghost use Rattle.miniport.specs.Calls.{Reserves, Acts, ActsNot, Finishes, FinishesNot, Resets, LeavesFirst, HasNoLabel};
+    ghost use Rattle.srb.specs.Adapter.{HasTag, IsFree, IsInOrder, IsReserved, IsWritable, ReservesMore, Accepts};
+    ghost use Rattle.miniport.specs.Calls.{Acts, ActsNot, Finishes, FinishesNot, Resets, LeavesFirst, HasNoLabel};
     ghost use Rattle.miniport.specs.Faults.{busy};
     ghost use Rattle.miniport.specs.Memory.{Dues, SameDues, ActsByTable, ResetsAll};
 
@@ -101,7 +101,7 @@ impl<M: Medium> Adapter for MemAdapter<M> {
     fn reserve(&mut self, extent: Extent) -> Result<(), NoMemory>
         requires { extent.first + extent.count ≤ length self.old.shown.sectors }
         ensures reserved { OnOk result (IsReserved self.new.shown extent) }
-        ensures reserves { Reserves self.old.shown self.new.shown }
+        ensures reserves { ReservesMore self.old.shown self.new.shown }
         ensures order { IsInOrder self.new.shown }
         ensures due { SameDues self.old self.new }
     {

@@ -1,14 +1,16 @@
 -- Which codes give a status that one code alone has.
-use Rattle.std.proofs.Common.{◌≡◌, ◌⊎◌, ℕ, Bool, true, false, ◌==◌, ◌&&◌, List, [], ◌∷◌, Option, if◌then◌else◌, bit_and, inl, inr, refl, ◌∙◌, rules}
+use Rattle.std.proofs.Common.{◌≡◌, ◌⊎◌, ℕ, Bool, true, false, ◌==◌, ◌&&◌, List, [], ◌∷◌, Option, map, unwrap_or, bit_and, inl, inr, refl, ◌∙◌, rules}
 use Rattle.std.proofs.lemmas.Bool.{eqb-true}
 use Rattle.ntstatus.specs.declared.NtStatus.{NtStatus}
 use Rattle.ntstatus.specs.declared.NtStatus.TheVariants.{Success, DeviceBusy, IoDeviceError}
 use Rattle.ntstatus.specs.declared.Sense.{Sense}
-use Rattle.ntstatus.specs.Table.{Row, rows, first_fit, status_of, used_sense}
+use Rattle.ntstatus.specs.First.{when, first_some}
+use Rattle.ntstatus.specs.Table.{Row, rows, status_by, first_fit, status_of, used_sense}
 
 -- a row that is chosen fits in its code
-choice : (same fits : Bool) (here after status : NtStatus) → (if same && fits then here else after) ≡ status
-    → ((same ≡ true) × (here ≡ status)) ⊎ (after ≡ status)
+choice : (same fits : Bool) (here : NtStatus) (after : List (Option NtStatus)) (status : NtStatus)
+    → unwrap_or (first_some (when (same && fits) here ∷ after)) IoDeviceError ≡ status
+    → ((same ≡ true) × (here ≡ status)) ⊎ (unwrap_or (first_some after) IoDeviceError ≡ status)
 choice true true here after status e = inl (refl, e)
 choice true false here after status e = inr e
 choice false fits here after status e = inr e
@@ -22,7 +24,7 @@ pub fits_only_at : (status : NtStatus) (only code : ℕ) (sense : Option Sense) 
     → HasStatusOnlyAt status only rs → first_fit code sense rs ≡ status → code ≡ only
 fits_only_at status only code sense [] other h e = absurd (other e)
 fits_only_at status only code sense (r ∷ rs) other h e =
-    elim (choice (code == r.code) (r.fits_sense sense) r.status (first_fit code sense rs) status e) [
+    elim (choice (code == r.code) (r.fits_sense sense) r.status (map (status_by code sense) rs) status e) [
       | inl w ↦ eqb-true code r.code w.0 ∙ h.0 w.1
       | inr w ↦ fits_only_at status only code sense rs other h.1 w
     ]

@@ -19,7 +19,7 @@ use Rattle.device.specs.declared.Kind.TheVariants.{Read, Write, Flush}
 use Rattle.device.specs.declared.Request.{Request}
 use Rattle.device.specs.Rules.{Rules, as_client, home, is_transfer}
 use Rattle.device.specs.State.{State}
-use Rattle.device.specs.Sending.{Moves as MovesSectors, command_for}
+use Rattle.device.specs.Sending.{Transfers, command_for}
 use Rattle.device.specs.Seen.{AsksFor, IsBounded, sent_bytes, sectors_in, transfer_length}
 use Rattle.port.specs.declared.queues.Sizes.{Sizes}
 use Rattle.port.specs.Shown.{rules_of, places_of, cut}
@@ -81,7 +81,7 @@ concat_sized size (x ∷ xs) sized =
 
 -- a piece of all places of a request, carried out
 pub record IsCarried (rules : Rules) (s : State) (r : Request) (kind : Kind) (srb : Srb) (sectors moved after : List (List ℕ)) (left : List ℕ) : Type 0 where
-  pub moves : MovesSectors rules s (as_client rules r (sent_bytes kind (Packed srb))) (record { first = 0; count = places_of rules r }) kind moved (the_arrays rules after)
+  pub moves : Transfers rules s (as_client rules r (sent_bytes kind (Packed srb))) (record { first = 0; count = places_of rules r }) kind moved (the_arrays rules after)
   pub covers : length moved ≡ places_of rules r
   pub parts : cut (places_of rules r) rules.sector_size (concat moved) ≡ moved
   pub sent : sent_bytes kind (Packed (with_moved srb moved left)) ≡ sent_bytes kind (Packed srb)

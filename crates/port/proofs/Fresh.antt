@@ -13,7 +13,7 @@ use Rattle.port.specs.Books.{Books}
 use Rattle.port.specs.Turns.{IsEmpty}
 use Rattle.port.specs.Shown.{rules_of, seen_of}
 use Rattle.port.specs.Kept.{IsInHand, IsRoom, IsWaiting, IsAtWork, HasEnded}
-use Rattle.port.specs.Opening.{IsFresh, opening_seen}
+use Rattle.port.specs.Opening.{IsFresh, sizes_of, opening_seen}
 use Rattle.port.proofs.Orderly.{in_hand}
 
 -- the books of empty queues over this adapter
@@ -40,14 +40,11 @@ fresh_is v h = ap (λ (x : List TagInUse). record v { tags = x }) h.tags ∙ ap 
 abbrev pub sizes_by : ℕ → ℕ → ℕ → ℕ → Sizes
 sizes_by sector_size sectors max_transfer depth = record { sector_size = sector_size; sectors = sectors; max_transfer = max_transfer; depth = depth }
 
-abbrev pub sizes_over : AdapterView → Sizes
-sizes_over v = record { sector_size = v.sector_size; sectors = length v.sectors; max_transfer = v.max_transfer; depth = v.depth }
-
-hand_empty : (b : Books) (v : AdapterView) → v.accepted ≤ 2 → length b.started ≡ v.depth → IsInOrder (view_fresh v) → IsInHand (books_empty b (sizes_over v)) (view_fresh v) []
+hand_empty : (b : Books) (v : AdapterView) → v.accepted ≤ 2 → length b.started ≡ v.depth → IsInOrder (view_fresh v) → IsInHand (books_empty b (sizes_of v)) (view_fresh v) []
 hand_empty b v few long order =
-    let rules : Rules = rules_of (sizes_over v) in
+    let rules : Rules = rules_of (sizes_of v) in
     let depth = order.depth.1 in
-    in_hand (books_empty b (sizes_over v)) (view_fresh v) [] (record {
+    in_hand (books_empty b (sizes_of v)) (view_fresh v) [] (record {
       adapter = order;
       sizes = record { sector_size = refl; sectors = refl; max_transfer = refl; depth = refl };
       started = long;
@@ -66,21 +63,21 @@ hand_empty b v few long order =
       labels = omega arith;
     }) (λ _. refl)
 
-pub opens_in_hand : (b : Books) (v : AdapterView) (sizes : Sizes) → sizes ≡ sizes_over v → IsEmpty sizes b → IsFresh v → IsInOrder v → IsInHand b v []
+pub opens_in_hand : (b : Books) (v : AdapterView) (sizes : Sizes) → sizes ≡ sizes_of v → IsEmpty sizes b → IsFresh v → IsInOrder v → IsInHand b v []
 opens_in_hand b v sizes e h f order =
-    let h' : IsEmpty (sizes_over v) b = subst (λ (x : Sizes). IsEmpty x b) e h in
+    let h' : IsEmpty (sizes_of v) b = subst (λ (x : Sizes). IsEmpty x b) e h in
     let v_is : v ≡ view_fresh v = fresh_is v f in
-    subst (λ x. IsInHand x v []) (sym (empty_is b (sizes_over v) h'))
-    (subst (λ x. IsInHand (books_empty b (sizes_over v)) x []) (sym v_is) (hand_empty b v f.accepted (h'.started) (subst IsInOrder v_is order)))
+    subst (λ x. IsInHand x v []) (sym (empty_is b (sizes_of v) h'))
+    (subst (λ x. IsInHand (books_empty b (sizes_of v)) x []) (sym v_is) (hand_empty b v f.accepted (h'.started) (subst IsInOrder v_is order)))
 
-pub opens_seen : (b : Books) (v : AdapterView) (sizes : Sizes) → sizes ≡ sizes_over v → IsEmpty sizes b → IsFresh v → seen_of b v ≡ opening_seen v
+pub opens_seen : (b : Books) (v : AdapterView) (sizes : Sizes) → sizes ≡ sizes_of v → IsEmpty sizes b → IsFresh v → seen_of b v ≡ opening_seen v
 opens_seen b v sizes e h f =
-    let h' : IsEmpty (sizes_over v) b = subst (λ (x : Sizes). IsEmpty x b) e h in
+    let h' : IsEmpty (sizes_of v) b = subst (λ (x : Sizes). IsEmpty x b) e h in
     let v_is : v ≡ view_fresh v = fresh_is v f in
-    ap (λ (x : Books). seen_of x v) (empty_is b (sizes_over v) h') ∙ ap (λ (x : AdapterView). seen_of (books_empty b (sizes_over v)) x) v_is ∙ ap (λ (x : AdapterView). opening_seen x) (sym v_is)
+    ap (λ (x : Books). seen_of x v) (empty_is b (sizes_of v) h') ∙ ap (λ (x : AdapterView). seen_of (books_empty b (sizes_of v)) x) v_is ∙ ap (λ (x : AdapterView). opening_seen x) (sym v_is)
 
 pub sizes_are : (v : AdapterView) (sector_size sectors max_transfer depth : ℕ) → sector_size ≡ v.sector_size → sectors ≡ length v.sectors → max_transfer ≡ v.max_transfer → depth ≡ v.depth
-    → sizes_by sector_size sectors max_transfer depth ≡ sizes_over v
+    → sizes_by sector_size sectors max_transfer depth ≡ sizes_of v
 sizes_are v sector_size sectors max_transfer depth a c d e =
     ap (λ (n : ℕ). sizes_by n sectors max_transfer depth) a ∙ ap (λ (n : ℕ). sizes_by v.sector_size n max_transfer depth) c
     ∙ ap (λ (n : ℕ). sizes_by v.sector_size (length v.sectors) n depth) d ∙ ap (λ (n : ℕ). sizes_by v.sector_size (length v.sectors) v.max_transfer n) e

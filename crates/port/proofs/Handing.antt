@@ -34,7 +34,7 @@ use Rattle.port.specs.Turns.{Leaves, LeavesNot}
 use Rattle.port.specs.Shown.{rules_of, places_of, sectors_moved, marks_left, busy_left, status_left, waiting_open, done_open, open_on, piece_on, entry_or_nobody, packet as packet_as, of_packets, of_waiting, of_tag, of_done, state_of, seen_of, requests_of}
 use Rattle.port.specs.Kept.{asked, IsKept, IsInHand, IsRoom, IsWaiting, HasOutcome, HasEnded as HasEndedBy, IsAtWork as IsOnTag}
 use Rattle.port.proofs.Lists.{all_done, bytes_done}
-use Rattle.port.proofs.Labels.{unseen_none}
+use Rattle.srb.proofs.Joining.{reserves_none}
 use Rattle.port.proofs.Sizing.{places_some, bytes_short}
 use Rattle.port.proofs.Opening.{untouched_all, started_by, out_by, true_false}
 use Rattle.port.proofs.Starting.{kept_sector_some}
@@ -289,7 +289,7 @@ hands_up b b' v rooms d status bytes_moved climb k h status_is moved_is climbs =
       climbs = subst (λ (st : NtStatus). Climbs (entry d.irp d.request).above d.irp.number d.irp.cancelled st (information (as_client rules d.request []) st) d.irp.payload climb) status_is
           (subst (λ (n : ℕ). Climbs (entry d.irp d.request).above d.irp.number d.irp.cancelled status n d.irp.payload climb) (subst (λ (y : Books). bytes_moved ≡ information (as_client (rules_of y.sizes) d.request []) status) h.after moved_is) climbs);
       only_starts = All-nil IsStart;
-      moves = record { same_rules = refl; same_packets = IsPermutation-refl _; same_submitted = refl; same_most = refl; run = IsSame-refl _; adapter = unseen_none v };
+      moves = record { same_rules = refl; same_packets = IsPermutation-refl _; same_submitted = refl; same_most = refl; run = IsSame-refl _; adapter = reserves_none v };
     })
 
 pub moved_few : (b b' : Books) (v : AdapterView) (rooms : List Request) (d : Ended) → IsInHand b v rooms → Leaves b d b' → d.request.extent.count * b'.sizes.sector_size < 2 ^ 64

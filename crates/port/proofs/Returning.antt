@@ -38,7 +38,7 @@ use Rattle.port.specs.Kept.{asked, IsKept, IsRoom, IsWaiting, IsAtWork, IsDoing,
 use Rattle.port.specs.Releases.{Releases}
 use Rattle.port.proofs.Lists.{splice_whole, second_front, last_front, length-cut}
 use Rattle.port.proofs.Tags.{others_same, others_apart}
-use Rattle.port.proofs.Labels.{moves_one}
+use Rattle.srb.proofs.Joining.{moves_one}
 use Rattle.port.proofs.Starting.{work_beside, room_moves, waiting_moves, moves_then}
 
 abbrev pub books_returned : Books → ℕ → Ended → Books

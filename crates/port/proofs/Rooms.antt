@@ -4,8 +4,7 @@ use Rattle.std.specs.Prelude.{All, IsTrue}
 use Rattle.std.proofs.lemmas.List.Elements.{All-cons, All-tail, All-weaker}
 use Rattle.std.specs.Prelude.{Result, Ok, Err, OnErr}
 use Rattle.sector.specs.declared.Extent.{Extent}
-use Rattle.srb.specs.Adapter.{AdapterView, IsInOrder, IsReserved}
-use Rattle.miniport.specs.Calls.{Reserves as AdapterReserves}
+use Rattle.srb.specs.Adapter.{AdapterView, IsInOrder, IsReserved, ReservesMore}
 use Rattle.device.specs.declared.Kind.TheVariants.{Write}
 use Rattle.device.specs.declared.Request.{Request}
 use Rattle.device.specs.Rules.{Rules}
@@ -69,7 +68,7 @@ kept_reserved b v reserved rooms order lasts k =
     }
 
 -- what the adapter reserves beside stays
-pub hand_reserved : (b : Books) (v v' : AdapterView) (rooms : List Request) → AdapterReserves v v' → IsInOrder v' → IsInHand b v rooms → IsInHand b v' rooms
+pub hand_reserved : (b : Books) (v v' : AdapterView) (rooms : List Request) → ReservesMore v v' → IsInOrder v' → IsInHand b v rooms → IsInHand b v' rooms
 hand_reserved b v v' rooms h order k =
     subst (λ x. IsInHand b x rooms) (sym h.after) (in_hand b (with_reserved v h.reserved) rooms
     (kept_reserved b v h.reserved rooms (subst IsInOrder h.after order) (λ extent r. subst (λ x. IsReserved x extent) h.after (h.lasts extent r)) k.kept) k.busy)
@@ -89,7 +88,7 @@ pub hand_same : (b b' : Books) (v : AdapterView) (rooms : List Request) → b' �
 hand_same b b' v rooms e k = subst (λ x. IsInHand x v rooms) (sym e) k
 
 -- what a reservation shows
-pub seen_reserved : (b b' : Books) (v v' : AdapterView) (places : ℕ) → AdapterReserves v v' → b' ≡ record b { places = places } → Reserves (seen_of b v) (seen_of b' v')
+pub seen_reserved : (b b' : Books) (v v' : AdapterView) (places : ℕ) → ReservesMore v v' → b' ≡ record b { places = places } → Reserves (seen_of b v) (seen_of b' v')
 seen_reserved b b' v v' places h e =
     subst (λ x. Reserves (seen_of b v) (seen_of x v')) (sym e) (subst (λ x. Reserves (seen_of b v) (seen_of (with_places b places) x)) (sym h.after) (record {
       same = refl;
@@ -104,14 +103,10 @@ pub on_err : {T E P : Type 0} (r : Result T E) → P → OnErr r P
 on_err (Ok x) p = tt
 on_err (Err x) p = p
 
--- an adapter that reserved nothing
-pub reserves_none : (v : AdapterView) → AdapterReserves v v
-reserves_none v = record { reserved = v.reserved; after = refl; lasts = λ extent h. h }
-
-pub hand_after : (b b' : Books) (v v' : AdapterView) (rooms : List Request) → b' ≡ b → AdapterReserves v v' → IsInOrder v' → IsInHand b v rooms → IsInHand b' v' rooms
+pub hand_after : (b b' : Books) (v v' : AdapterView) (rooms : List Request) → b' ≡ b → ReservesMore v v' → IsInOrder v' → IsInHand b v rooms → IsInHand b' v' rooms
 hand_after b b' v v' rooms e h order k = hand_same b b' v' rooms e (hand_reserved b v v' rooms h order k)
 
-pub hand_made : (b c d : Books) (v v' : AdapterView) (r : Request) (rooms : List Request) → c ≡ b → d ≡ record c { places = c.places + 1 } → AdapterReserves v v' → IsInOrder v'
+pub hand_made : (b c d : Books) (v v' : AdapterView) (r : Request) (rooms : List Request) → c ≡ b → d ≡ record c { places = c.places + 1 } → ReservesMore v v' → IsInOrder v'
     → IsBounded (rules_of b.sizes) r → (r.kind ≡ Write → IsReserved v' r.extent) → IsInHand b v rooms → IsInHand d v' (r ∷ rooms)
 hand_made b c d v v' r rooms e f h order bounded reserved k =
     let room : IsRoom (rules_of c.sizes) v' r = record { bounded = subst (λ (x : Books). IsBounded (rules_of x.sizes) r) (sym e) bounded; reserved = reserved } in

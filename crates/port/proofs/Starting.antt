@@ -41,7 +41,7 @@ use Rattle.port.specs.Kept.{asked, IsKept, IsRoom, IsWaiting, HasEnded, HasOutco
 use Rattle.port.specs.Releases.{Releases, AreLowerInUse}
 use Rattle.port.proofs.Lists.{splice_whole, second_front}
 use Rattle.port.proofs.Tags.{others_same, free_leaves}
-use Rattle.port.proofs.Labels.{moves_one, moves_append, unseen_none}
+use Rattle.srb.proofs.Joining.{moves_one, moves_joined, reserves_none}
 use Rattle.port.proofs.Sizing.{whole_write, places_some, places_short, same_command}
 use Rattle.port.proofs.Opening.{Any-map, untouched_all, all_unsent, started_by, ended_started, true_false}
 
@@ -340,7 +340,7 @@ pub releases_none : (b : Books) (v : AdapterView) → Releases b v b v
 releases_none b v = record {
   starts = [];
   only_starts = All-nil IsStart;
-  moves = record { same_rules = refl; same_packets = IsPermutation-refl _; same_submitted = refl; same_most = refl; run = IsSame-refl _; adapter = unseen_none v };
+  moves = record { same_rules = refl; same_packets = IsPermutation-refl _; same_submitted = refl; same_most = refl; run = IsSame-refl _; adapter = reserves_none v };
 }
 
 pub moves_then : (o m n : Seen) (xs ys : List DeviceLabel) → Moves o xs m → Moves m ys n → Moves o (xs ++ ys) n
@@ -350,7 +350,7 @@ moves_then o m n xs ys h k = record {
   same_submitted = k.same_submitted ∙ h.same_submitted;
   same_most = k.same_most ∙ h.same_most;
   run = subst (λ ls. Run o.rules o.state ls n.state) (sym (map-append as_label xs ys)) (Run-append o.rules o.state (map as_label xs) m.state (map as_label ys) n.state h.run (subst (λ r. Run r m.state (map as_label ys) n.state) h.same_rules k.run));
-  adapter = moves_append o.adapter m.adapter n.adapter xs ys h.adapter k.adapter;
+  adapter = moves_joined o.adapter xs m.adapter ys n.adapter h.adapter k.adapter;
 }
 
 pub releases_then : (b c d : Books) (u v w : AdapterView) → Releases b u c v → Releases c v d w → Releases b u d w

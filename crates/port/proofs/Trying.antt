@@ -15,6 +15,7 @@ use Rattle.device.specs.Served.{Moves, Reserves, Submits, ActsOn, ActsNot, Finis
 use Rattle.srb.specs.Adapter.{AdapterView}
 use Rattle.port.specs.Shown.{rules_of}
 use Rattle.port.specs.Opening.{rules_over, opening_seen}
+use Rattle.port.proofs.Fresh.{sizes_are}
 use Rattle.port.specs.Client.{IsReady, four_sectors}
 
 step_keeps : (rules : Rules) (s : State) (label : DeviceLabel) (s' : State) → DeviceStep rules s label s' → (s'.next_request ≡ s.next_request) × (s'.removing ≡ s.removing)
@@ -120,10 +121,7 @@ places_left v rules next removed more r none few = let d = ap (λ (x : Rules). x
 -- the rules of a port over four sectors of 512 bytes
 rules_four : (a : AdapterView) → a.sector_size ≡ 512 → length a.sectors ≡ 4 → a.max_transfer ≡ 2 → a.depth ≡ 2 → rules_over a ≡ four_sectors
 rules_four a size count transfer depth =
-    ap (λ (x : ℕ). rules_of (record { sector_size = x; sectors = length a.sectors; max_transfer = a.max_transfer; depth = a.depth })) size
-    ∙ ap (λ (x : ℕ). rules_of (record { sector_size = 512; sectors = x; max_transfer = a.max_transfer; depth = a.depth })) count
-    ∙ ap (λ (x : ℕ). rules_of (record { sector_size = 512; sectors = 4; max_transfer = x; depth = a.depth })) transfer
-    ∙ ap (λ (x : ℕ). rules_of (record { sector_size = 512; sectors = 4; max_transfer = 2; depth = x })) depth
+    sym (ap rules_of (sizes_are a 512 4 2 2 (sym size) (sym count) (sym transfer) (sym depth)))
 
 -- a client that gave no number yet knows a port of which nothing was asked
 pub ready_opened : (v : Seen) (a : AdapterView) → v ≡ opening_seen a → a.sector_size ≡ 512 → length a.sectors ≡ 4 → a.max_transfer ≡ 2 → a.depth ≡ 2 → IsReady v four_sectors 1 false

@@ -25,7 +25,7 @@ use Rattle.port.specs.Turns.{held_on}
 use Rattle.port.specs.Shown.{rules_of, waiting_open, done_open, out_open, out_piece, open_on, piece_on, packet as packet_as, of_packets, of_waiting, of_done, state_of, seen_of, requests_of}
 use Rattle.port.specs.Kept.{asked, IsKept, IsInHand, IsRoom, IsWaiting, IsAtWork, IsDoing}
 use Rattle.port.proofs.Lists.{second_front}
-use Rattle.port.proofs.Labels.{moves_one}
+use Rattle.srb.proofs.Joining.{moves_one}
 use Rattle.port.proofs.Starting.{room_moves, waiting_moves, kept_sector_some}
 use Rattle.port.proofs.Returning.{tags_on, on_tag_work, on_tag_some}
 use Rattle.port.proofs.Orderly.{in_hand}

@@ -1,10 +1,11 @@
 -- A port of which nothing was asked yet.
-use Rattle.std.specs.Prelude.{◌≡◌, ◌≤◌, true, [], ◌∷◌, map, length, None}
+use Rattle.std.specs.Prelude.{◌≡◌, ◌≤◌, [], map, length}
 use Rattle.srb.specs.Adapter.{AdapterView}
 use Rattle.device.specs.Rules.{Rules}
 use Rattle.device.specs.State.{opening}
 use Rattle.device.specs.Seen.{Seen, sectors_in}
-use Rattle.port.specs.Shown.{most}
+use Rattle.port.specs.declared.queues.Sizes.{Sizes}
+use Rattle.port.specs.Shown.{rules_of, most}
 
 -- an adapter with no piece on a tag and no label, which accepted two pieces at most
 pub record IsFresh (v : AdapterView) : Type 0 where
@@ -12,20 +13,15 @@ pub record IsFresh (v : AdapterView) : Type 0 where
   pub labels : v.labels ≡ []
   pub accepted : v.accepted ≤ 2
 
--- the rules of a port over this adapter: one volume, one piece a request, and no restarts
-abbrev pub rules_over : AdapterView → Rules
-rules_over v = record {
-  sector_size = v.sector_size;
-  partitions = record { first = 0; count = length v.sectors } ∷ [];
-  longest = v.max_transfer;
-  max_transfer = v.max_transfer;
-  depth = v.depth;
-  open_requests = None;
-  window = None;
-  one_piece = true;
-  busy_limit = 1;
-}
+-- the sizes of the adapter's disk
+abbrev pub sizes_of : AdapterView → Sizes
+sizes_of v = record { sector_size = v.sector_size; sectors = length v.sectors; max_transfer = v.max_transfer; depth = v.depth }
 
+-- the rules of a port over this adapter
+abbrev pub rules_over : AdapterView → Rules
+rules_over v = rules_of (sizes_of v)
+
+-- what it shows: the machine's opening, with all sectors of the adapter
 abbrev pub opening_seen : AdapterView → Seen
 opening_seen v = record {
   rules = rules_over v;

@@ -1,7 +1,6 @@
 // The port as a layer of the stack.
 ghost use Rattle.std.specs.Prelude.{◌≡◌, ◌≢◌, ◌<◌, ◌≤◌, ◌*◌, ◌+◌, ◌^◌, ℕ, Bool, true, List, [], ◌∷◌, length, OnOk, MatchBool};
-ghost use Rattle.srb.specs.Adapter.{IsInOrder, IsReserved};
-ghost use Rattle.miniport.specs.Calls.{Reserves};
+ghost use Rattle.srb.specs.Adapter.{IsInOrder, IsReserved, ReservesMore};
 ghost use Rattle.device.specs.declared.Kind.TheVariants.{Write};
 ghost use Rattle.device.specs.declared.Request.{Request};
 ghost use Rattle.port.specs.Books.{books_of};
@@ -60,7 +59,7 @@ impl<A: Adapter> Port<A> {
         requires order { IsInOrder (A.view self.old.adapter) }
         ensures queues { books_of self.new.queues ≡ books_of self.old.queues }
         ensures reserved { OnOk result (request.now.kind ≡ Write → IsReserved (A.view self.new.adapter) request.now.extent) }
-        ensures reserves { Reserves (A.view self.old.adapter) (A.view self.new.adapter) }
+        ensures reserves { ReservesMore (A.view self.old.adapter) (A.view self.new.adapter) }
         ensures order { IsInOrder (A.view self.new.adapter) }
     {
         if request.kind != Kind::Write {

@@ -212,8 +212,8 @@ MovesBy old label new = (tag : ℕ) × MovesOn old tag label new
 abbrev pub met_by_reset : TagInUse → TagInUse
 met_by_reset use' = record use' { was_reset = true }
 
--- what may change with no label: more is reserved
-pub record MovesUnseen (old new : AdapterView) : Type 0 where
+-- only what is reserved may differ, and what was reserved still is
+pub record ReservesMore (old new : AdapterView) : Type 0 where
   pub reserved : List Extent
   pub after : new ≡ record old { reserved = reserved }
   pub lasts : (extent : Extent) → IsReserved old extent → IsReserved new extent
@@ -226,8 +226,8 @@ pub record NotesReset (old new : AdapterView) : Type 0 where
   pub counted : old.failures ≤ failures
   pub after : new ≡ record old { tags = tags; failures = failures }
 
--- the view moves by just these labels, in this order
+-- the view moves by just these labels, in this order; before, between and behind them more may be reserved
 abbrev pub MovesByAll : AdapterView → List DeviceLabel → AdapterView → Type 0
-MovesByAll old [] new = MovesUnseen old new
+MovesByAll old [] new = ReservesMore old new
 MovesByAll old (label ∷ labels) new =
-    (before after : AdapterView) × MovesUnseen old before × MovesBy before label after × MovesByAll after labels new
+    (before after : AdapterView) × ReservesMore old before × MovesBy before label after × MovesByAll after labels new

@@ -15,7 +15,7 @@ use Rattle.device.specs.declared.Label.TheVariants.{Call, Device, Answer, Cancel
 use Rattle.device.specs.Rules.{Rules}
 use Rattle.device.specs.State.{OpenRequest, Piece, State, Mark}
 use Rattle.device.specs.Calling.{refusal, Opens, Refuses, Admits, bytes_carried, new_request}
-use Rattle.device.specs.Sending.{IsLowestFreeTag, HasOtherTag, MayStart, IsSendable, IsFreshPiece, Moves, Leaves, command_for, sent, new_piece, with_fate, given_back}
+use Rattle.device.specs.Sending.{IsLowestFreeTag, HasOtherTag, MayStart, IsSendable, IsFreshPiece, Transfers, Leaves, command_for, sent, new_piece, with_fate, given_back}
 use Rattle.device.specs.Answering.{HasEnded, HasCause, is_done, answer_bytes}
 use Rattle.device.specs.Holding.{as_cancelled, held_back, as_timely}
 use Rattle.device.specs.Step.{Step}
@@ -51,7 +51,7 @@ started rules s owner others places tag block free on_tag is_open may_start send
 
 pub acted : (rules : Rules) (s : State) (piece : Piece) (other_pieces : List Piece) (owner : OpenRequest) (sectors : List (List ℕ)) (arrays' : List (List (List ℕ))) (bytes : List ℕ)
     → IsNone s.owed → IsFreshPiece s piece.number piece other_pieces → Contains s.requests owner → owner.number ≡ piece.owner → length sectors ≡ piece.places.count
-    → Moves rules s owner.request piece.places owner.request.kind sectors arrays' → bytes ≡ concat sectors
+    → Transfers rules s owner.request piece.places owner.request.kind sectors arrays' → bytes ≡ concat sectors
     → Step rules s (Device (Act piece.number bytes)) (record s { arrays = arrays'; pieces = with_fate (Acted sectors) piece ∷ other_pieces })
 acted rules s piece other_pieces owner sectors arrays' bytes free fresh is_open is_owner covers moves hands_over = inl (
   free,
