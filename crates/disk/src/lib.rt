@@ -27,7 +27,8 @@ impl From<AllocError> for NoMemory {
 }
 
 /// The extent of the call holds a sector that can't be read or written.
-#[derive(Debug, Clone, Copy, PartialEq, Eq)]
+#[derive(Debug, Clone, Copy, PartialEq, Eq, Error)]
+#[error("bad sector")]
 pub struct BadSector;
 
 /// The sectors of a disk.

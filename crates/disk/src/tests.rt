@@ -96,8 +96,8 @@ fn starts_blank_or_refuses(rt: HostRuntime) -> Result<(), Fail> {
     assert!(rt; buffer == [0; 512]);
     let huge = VecDisk::new(alloc, 4096, 1 << 50, vec![in alloc; 1]?);
     assert!(rt; huge.is_err_and(|fault| fault == NoMemory));
-    let text = format!(in alloc; "{}", NoMemory)?;
-    assert_eq!(rt; text.as_str(), "no memory");
+    let texts = format!(in alloc; "{}, {}", NoMemory, BadSector)?;
+    assert_eq!(rt; texts.as_str(), "no memory, bad sector");
     Ok(())
 }
 
