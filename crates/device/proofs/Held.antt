@@ -2,6 +2,7 @@
 use Rattle.std.proofs.Common.{◌≡◌, ◌≢◌, ◌<◌, ◌≤◌, inl, inr, ℕ, ◌+◌, Bool, true, false, not, List, [], ◌∷◌, ◌++◌, None, refl, sym, ◌∙◌, subst, arith, map, length, get_or}
 use Rattle.std.specs.Prelude.{IsPermutation, All, IsFalse, if◌then◌else◌}
 use Rattle.std.specs.List.{list_all}
+use Rattle.std.proofs.lemmas.Bool.{not-false}
 use Rattle.std.proofs.lemmas.List.Sorted.{IsPermutation-refl, IsPermutation-sym, IsPermutation-trans, IsPermutation-append_right, IsPermutation-middle, All-permutation, length_permutation}
 use Rattle.std.proofs.lemmas.List.Elements.{All-nil, All-cons, All-tail, All-weaker, All-map}
 use Rattle.ntstatus.specs.declared.NtStatus.{NtStatus}
@@ -68,11 +69,7 @@ given_up_not_success s o status (inr (removing, is)) e = by_late o.late (sym is 
     by_late false h = cc (h)
 
 not_started : (marks : List Mark) → not (list_all is_untouched marks) ≡ false → list_all is_untouched marks ≡ true
-not_started marks h = back (list_all is_untouched marks) h
-  where
-    back : (b : Bool) → not b ≡ false → b ≡ true
-    back true h = refl
-    back false h = cc (h)
+not_started marks h = not-false (list_all is_untouched marks) h
 
 module _ (rules : Rules) (s : State) (o : OpenRequest) (status : NtStatus) (given_up : IsGivenUp s o status) where
   untouched_ended : (marks : List Mark) → list_all is_untouched marks ≡ true → All (HasEnded rules s o) marks

@@ -92,6 +92,9 @@ module _ {X : Type 0} where
 
 -- ITEMS WITH NUMBERS OF THEIR OWN
 
+pub flips : (m n : ℕ) → eqb m n ≡ eqb n m
+flips m n = grind (arith, nat_tests)
+
 module _ {X : Type 0} (key : X → ℕ) where
   -- with distinct numbers, the others have other numbers
   pub others_differ : (n : ℕ) (xs : List X) → AllByRecursion (λ m. eqb n m ≡ false) (map key xs) → All (λ x. key x ≢ n) xs
@@ -100,9 +103,6 @@ module _ {X : Type 0} (key : X → ℕ) where
     where
       not_self : (n m : ℕ) → eqb n m ≡ false → m ≡ n → ⊥
       not_self n m h e = grind (arith, nat_tests)
-
-  flips : (m n : ℕ) → eqb m n ≡ eqb n m
-  flips m n = grind (arith, nat_tests)
 
   pub distinct_first : (rs : List X) (x : X) (xs : List X) → IsDistinct eqb (map key rs) → IsPermutation rs (x ∷ xs) → All (λ y. key y ≢ key x) xs
   distinct_first rs x xs d p = others_differ (key x) xs (IsDistinct-head eqb _ _ (IsDistinct-IsPermutation eqb flips _ _ (IsPermutation-map key _ _ p) d))

@@ -1,11 +1,12 @@
 -- What each call does to what a layer shows.
-use Rattle.std.specs.Prelude.{◌≡◌, ◌<◌, ◌≤◌, ◌⊎◌, ℕ, ◌+◌, ◌*◌, Bool, true, false, List, [], ◌∷◌, Option, Some, None, map, filter, length, IsTrue, IsFalse, All, Contains, IsPermutation, if◌then◌else◌}
+use Rattle.std.specs.Prelude.{◌≡◌, ◌≤◌, ◌⊎◌, ℕ, ◌+◌, ◌*◌, Bool, List, [], ◌∷◌, Option, Some, None, map, filter, length, IsTrue, IsFalse, All, Contains, IsPermutation, if◌then◌else◌}
+use Rattle.std.specs.List.Sorted.{IsStrictlyIncreasing}
 use Rattle.ntstatus.specs.declared.NtStatus.{NtStatus}
 use Rattle.ntstatus.specs.declared.NtStatus.TheVariants.{Success, DeviceBusy}
 use Rattle.srb.specs.declared.Class.{Class}
 use Rattle.srb.specs.declared.DeviceLabel.{DeviceLabel}
 use Rattle.srb.specs.declared.DeviceLabel.TheVariants.{Start, Act, Fault, Return}
-use Rattle.srb.specs.Fate.{Fate, Fresh, Acted, Faulted}
+use Rattle.srb.specs.Fate.{Fresh, is_fresh}
 use Rattle.srb.specs.Adapter.{AdapterView, ReservesMore, MovesByAll, NotesReset}
 use Rattle.irp.specs.declared.Payload.{Payload}
 use Rattle.irp.specs.declared.Climb.{Climb}
@@ -107,12 +108,6 @@ pub record FinishesNot (old : Seen) (tag : ℕ) (new : Seen) : Type 0 where
   pub free : All (HasOtherTag tag) old.state.pieces
   pub same : new ≡ old
 
--- nothing is done yet
-abbrev pub is_fresh : Fate → Bool
-is_fresh Fresh = true
-is_fresh (Acted sectors) = false
-is_fresh Faulted = false
-
 -- the piece has done nothing yet
 abbrev pub is_fresh_piece : Piece → Bool
 is_fresh_piece piece = is_fresh piece.fate
@@ -121,21 +116,16 @@ is_fresh_piece piece = is_fresh piece.fate
 abbrev pub fault_of : Piece → DeviceLabel
 fault_of piece = Fault piece.number
 
--- the piece has a tag above this one
-abbrev pub IsBelow : ℕ → Piece → Type 0
-IsBelow tag piece = tag < piece.tag
-
--- each tag is above the one before
-abbrev pub HaveRisingTags : List Piece → Type 0
-HaveRisingTags [] = Unit {0}
-HaveRisingTags (piece ∷ pieces) = All (IsBelow piece.tag) pieces × HaveRisingTags pieces
+-- the tag of the piece
+abbrev pub piece_tag : Piece → ℕ
+piece_tag piece = piece.tag
 
 -- each fresh piece faults, by rising tags, and then the adapter notes the reset
 pub record Resets (old new : Seen) : Type 0 where
   pub fresh : List Piece
   pub all_faulted : AdapterView
   pub all_fresh : IsPermutation fresh (filter is_fresh_piece old.state.pieces)
-  pub rising : HaveRisingTags fresh
+  pub rising : IsStrictlyIncreasing (map piece_tag fresh)
   pub moves : Moves old (map fault_of fresh) (record new { adapter = all_faulted })
   pub noted : NotesReset all_faulted new.adapter
 

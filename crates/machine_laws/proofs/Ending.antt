@@ -1,8 +1,7 @@
 -- What comes no more after an answer.
-use Rattle.std.proofs.Common.{◌≡◌, ◌≢◌, ◌<◌, ◌≤◌, inl, inr, ℕ, List, [], ◌∷◌, Option, Some, None, refl, sym, ◌∙◌, arith, map}
+use Rattle.std.proofs.Common.{◌≡◌, ◌≢◌, ◌<◌, ◌≤◌, inl, inr, ℕ, List, [], ◌∷◌, Option, Some, None, refl, sym, ◌∙◌, arith}
 use Rattle.std.specs.Prelude.{IsPermutation, All, Any, eqb}
-use Rattle.std.specs.List.{IsDistinct}
-use Rattle.std.proofs.lemmas.Map.Keys.{IsDistinct-head, IsDistinct-tail}
+use Rattle.std.proofs.lemmas.Map.Keys.{IsDistinct-tail}
 use Rattle.std.proofs.lemmas.List.Sorted.{IsPermutation-sym, All-permutation}
 use Rattle.std.proofs.lemmas.List.Elements.{All-head, All-tail, All-cons, All-weaker, All-map, All-contains}
 use Rattle.ntstatus.specs.declared.NtStatus.{NtStatus}
@@ -21,10 +20,10 @@ use Rattle.device.specs.Numbers.{request_number, IsGiven, AreDistinct}
 use Rattle.device.specs.Pieces.{IsOwner, IsPlaced, ArePlaced}
 use Rattle.device.proofs.Numbers.{Step-number, AreDistinct-opening, AreDistinct-same, AreDistinct-Step, AreDistinct-Run, requests_in_order}
 use Rattle.device.proofs.Placed.{ArePlaced-opening, ArePlaced-Answers, ArePlaced-Step, ArePlaced-Run}
+use Rattle.device.proofs.Permuting.{distinct_first}
 use Rattle.machine_laws.specs.Sectors.{WritesSector}
 use Rattle.machine_laws.specs.Along.{Sometime, Always}
 use Rattle.machine_laws.specs.EndLaws.{HasOtherNumber, HasOtherOwner, IsOver, AnsweredAreOver}
-use Rattle.machine_laws.proofs.Serving.{others_differ}
 
 -- NO REQUEST OF THE NUMBER
 
@@ -112,8 +111,7 @@ module _ (number : ℕ) where
 -- an answered request is gone
 pub answered_gone : (rules : Rules) (s : State) (number : ℕ) (status : NtStatus) (bytes : List ℕ) (s' : State) → AreDistinct s → Answers rules s number status bytes s' → IsGone number s'
 answered_gone rules s number status bytes s' d h =
-    let distinct : IsDistinct eqb (map request_number (h.request ∷ h.others)) = requests_in_order _ _ h.is_open d.requests in
-    let differ : All (λ x. x.number ≢ h.request.number) h.others = others_differ h.request.number h.others (IsDistinct-head eqb _ _ distinct) in
+    let differ : All (λ x. x.number ≢ h.request.number) h.others = distinct_first request_number s.requests h.request h.others d.requests h.is_open in
     let given : h.request.number < s.next_request = All-head (IsGiven s.next_request) h.request h.others (All-permutation (IsGiven s.next_request) _ _ h.is_open d.given) in
     record {
       given = rw h.after.next_request (rw h.is_number at given);

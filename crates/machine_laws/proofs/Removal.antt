@@ -1,11 +1,9 @@
 -- After the end of a removal the device is empty, and left alone.
-use Rattle.std.proofs.Common.{◌≡◌, ◌<◌, inl, inr, ℕ, false, List, [], ◌∷◌, Option, Some, None, refl, ap, arith, map, length, is_none}
+use Rattle.std.proofs.Common.{◌≡◌, ◌<◌, inl, inr, ℕ, false, List, [], ◌∷◌, Option, Some, None, refl, ap, arith, map, length}
 use Rattle.std.specs.Prelude.{IsPermutation, All, IsTrue}
 use Rattle.std.proofs.lemmas.List.Sorted.{IsPermutation-sym}
 use Rattle.std.proofs.lemmas.List.Elements.{All-nil, All-cons}
 use Rattle.ntstatus.specs.declared.NtStatus.{NtStatus}
-use Rattle.ntstatus.specs.declared.NtStatus.TheVariants.{DeletePending, InvalidHandle}
-use Rattle.ntstatus.proofs.First.{none_first}
 use Rattle.srb.specs.declared.DeviceLabel.{DeviceLabel}
 use Rattle.srb.specs.declared.DeviceLabel.TheVariants.{Start, Act, Fault, Return}
 use Rattle.device.specs.declared.ClientRequest.{ClientRequest}
@@ -18,6 +16,7 @@ use Rattle.device.specs.Holding.{as_timely}
 use Rattle.device.specs.Step.{DeviceStep, FreeStep, OwingStep, Step, Run}
 use Rattle.device.specs.Pieces.{IsPlaced, ArePlaced}
 use Rattle.device.proofs.Same.{IsSame-sym, none_there}
+use Rattle.device.proofs.Places.{IsTakenIn, taken_in}
 use Rattle.device.proofs.Numbers.{AreDistinct-opening}
 use Rattle.device.proofs.Placed.{ArePlaced-opening, ArePlaced-Run}
 use Rattle.machine_laws.specs.Along.{Always}
@@ -38,9 +37,8 @@ IsEmpty-same s t h k = record {
 module _ (rules : Rules) where
   IsEmpty-Admits : (s : State) (number : ℕ) (q : ClientRequest) (answer : Option NtStatus) (s' : State) → answer ≡ refusal rules s q → IsEmpty s → Admits rules s number q answer s' → IsEmpty s'
   IsEmpty-Admits s number q None s' e k h =
-      let a : (is_none q.partition ≡ false) × _ = none_first (is_none q.partition) InvalidHandle _ h.not_refused in
-      let b : (s.removing ≡ false) × _ = none_first s.removing DeletePending _ a.1 in
-      cc (k.removing, b.0)
+      let taken : IsTakenIn rules s q = taken_in rules s q h.not_refused in
+      cc (k.removing, taken.staying)
   IsEmpty-Admits s number q (Some status) s' e k h = IsEmpty-same s' _ h.after (record { removing = k.removing; none_open = k.none_open; none_out = k.none_out })
 
   DeviceStep-empty : (s : State) (label : DeviceLabel) (s' : State) → IsEmpty s → DeviceStep rules s label s' → ⊥

@@ -1,9 +1,7 @@
 -- What is kept of a request from its call on, whatever is right for a place that is done.
 use Rattle.std.proofs.Common.{◌≡◌, ◌≢◌, ◌<◌, ◌≤◌, inl, inr, ℕ, ◌+◌, Bool, true, false, List, [], ◌∷◌, Option, Some, None, refl, sym, ◌∙◌, ap, subst, arith, map, length, get_or, replicate}
 use Rattle.std.specs.Prelude.{IsPermutation, All, eqb}
-use Rattle.std.specs.List.{IsDistinct, AllByRecursion}
 use Rattle.std.proofs.lemmas.Bool.Decides.{nat_tests}
-use Rattle.std.proofs.lemmas.Map.Keys.{IsDistinct-head}
 use Rattle.std.proofs.lemmas.List.{length-replicate, length-map, get_or-map, get_or-replicate}
 use Rattle.std.proofs.lemmas.List.Sorted.{IsPermutation-sym, All-permutation}
 use Rattle.std.proofs.lemmas.List.Elements.{All-head, All-tail, All-cons, All-nil, All-weaker, All-map, All-contains}
@@ -26,7 +24,7 @@ use Rattle.device.specs.Holding.{held_back, beyond, as_timely, as_cancelled}
 use Rattle.device.specs.Step.{DeviceStep, FreeStep, OwingStep, Step}
 use Rattle.device.specs.Numbers.{request_number, IsGiven, AreDistinct}
 use Rattle.device.specs.Solo.{past}
-use Rattle.device.proofs.Numbers.{requests_in_order}
+use Rattle.device.proofs.Permuting.{distinct_first}
 use Rattle.device.proofs.Splicing.{AllAt, splice_at, length-splice}
 use Rattle.machine_laws.proofs.Bounds.{in_bounds}
 use Rattle.machine_laws.specs.Reached.{AreWhole}
@@ -127,13 +125,6 @@ leaves_right right number p (Bad completion) marks fills is_right h = (
   rw h.1 (length-replicate p.places.count (Failed (status_of_completion completion))),
   λ e. replicated right p.places.first p.places.count (Failed (status_of_completion completion)) marks h.1 (λ k. tt),
 )
-
-pub others_differ : (n : ℕ) (others : List OpenRequest) → AllByRecursion (λ m. eqb n m ≡ false) (map request_number others) → All (λ o. o.number ≢ n) others
-others_differ n [] h = All-nil (λ o. o.number ≢ n)
-others_differ n (o ∷ os) h = All-cons (λ o. o.number ≢ n) o os (λ e. not_self n o.number h.0 e) (others_differ n os h.1)
-  where
-    not_self : (n m : ℕ) → eqb n m ≡ false → m ≡ n → ⊥
-    not_self n m h e = grind (arith, nat_tests)
 
 -- EACH STEP KEEPS IT
 
@@ -246,8 +237,7 @@ module _ (rules : Rules) (number : ℕ) (q : ClientRequest) (Right : List (List 
       let k1 : Serves rules number q Right (record s { requests = sent h.places o ∷ h.others }) =
       changed s o (sent h.places o) h.others h.is_open k refl refl (length-splice o.marks h.places.first outs fits) right in
       let given : All (IsGiven s.next_request) (o ∷ h.others) = All-permutation (IsGiven s.next_request) _ _ h.is_open d.given in
-      let distinct : IsDistinct eqb (map request_number (o ∷ h.others)) = requests_in_order _ _ h.is_open d.requests in
-      let differ : All (λ x. x.number ≢ o.number) h.others = others_differ o.number h.others (IsDistinct-head eqb _ _ distinct) in
+      let differ : All (λ x. x.number ≢ o.number) h.others = distinct_first request_number s.requests o h.others d.requests h.is_open in
       let piece : Piece = new_piece s tag o h.places in
       let inside : All (HoldsPlaces rules piece) (sent h.places o ∷ h.others) =
       All-cons (HoldsPlaces rules piece) (sent h.places o) h.others (λ e. rw (← (sized_first s o h.others h.is_open k).places) h.sendable.inside)

@@ -10,13 +10,13 @@ use Rattle.srb.specs.declared.Srb.{Srb}
 use Rattle.srb.specs.declared.Completion.{Completion}
 use Rattle.srb.specs.declared.DeviceLabel.{DeviceLabel}
 use Rattle.srb.specs.declared.DeviceLabel.TheVariants.{Fault}
-use Rattle.srb.specs.Fate.{Fate, Fresh, Acted, Faulted}
+use Rattle.srb.specs.Fate.{Fate, Fresh, Acted, Faulted, is_fresh}
 use Rattle.srb.specs.Adapter.{TagInUse, AdapterView, faulted, met_by_reset, MovesByAll, NotesReset, FaultsOn}
 use Rattle.disk.specs.Medium.{MediumView}
 use Rattle.miniport.specs.declared.on_tag.OnTag.{OnTag}
 use Rattle.miniport.specs.declared.on_tag.Progress.{Progress}
 use Rattle.miniport.specs.declared.on_tag.Progress.TheVariants.{Untouched, Moved, Failed}
-use Rattle.miniport.specs.Calls.{Resets, after_reset, fate_after_reset, has_done_nothing, is_fresh, fault_of}
+use Rattle.miniport.specs.Calls.{Resets, after_reset, fate_after_reset, is_fresh_use, fault_of}
 use Rattle.miniport.specs.Slots.{Table, piece_at, in_use_of, fate_of, tags_of, labels_by, slot_completion, slot_after_reset, progress_after_reset, failures_of_reset, labels_of_reset, with_reset}
 use Rattle.miniport.specs.Memory.{shown_of, view_of, is_unmet, due_after_reset, ResetsAll}
 use Rattle.miniport.specs.Faults.{bus_reset}
@@ -104,12 +104,12 @@ all_marked (x ∷ xs) all =
     let rest : map after_reset xs ≡ map met_by_reset xs = all_marked xs (All-tail IsSettled x xs all) in
     cc
 
-fresh_fate : (f : Fate) → has_done_nothing f ≡ true → f ≡ Fresh
+fresh_fate : (f : Fate) → is_fresh f ≡ true → f ≡ Fresh
 fresh_fate Fresh e = refl
 fresh_fate (Acted s) e = absurd cc
 fresh_fate Faulted e = absurd cc
 
-settled_fate : (f : Fate) → not (has_done_nothing f) ≡ true → fate_after_reset f ≡ f
+settled_fate : (f : Fate) → not (is_fresh f) ≡ true → fate_after_reset f ≡ f
 settled_fate Fresh e = absurd cc
 settled_fate (Acted s) e = refl
 settled_fate Faulted e = refl
@@ -124,21 +124,21 @@ passing p P tells [] = All-nil P
 passing p P tells (x ∷ xs) = passes p P x (filter p xs) (p x) (tells x) (passing p P tells xs)
 
 abbrev pub is_settled : TagInUse → Bool
-is_settled use' = not (is_fresh use')
+is_settled use' = not (is_fresh_use use')
 
-fresh_pass : (xs : List TagInUse) → All IsFreshUse (filter is_fresh xs)
-fresh_pass xs = passing is_fresh IsFreshUse (λ x e. fresh_fate x.fate e) xs
+fresh_pass : (xs : List TagInUse) → All IsFreshUse (filter is_fresh_use xs)
+fresh_pass xs = passing is_fresh_use IsFreshUse (λ x e. fresh_fate x.fate e) xs
 
 settled_pass : (xs : List TagInUse) → All IsSettled (filter is_settled xs)
 settled_pass xs = passing is_settled IsSettled (λ x e. settled_fate x.fate e) xs
 
 -- all tags after the reset: the fresh ones faulted, the others as they were, and all marked
-tags_after : (xs : List TagInUse) → IsPermutation (map after_reset xs) (map met_by_reset (map faulted (filter is_fresh xs) ++ filter is_settled xs))
+tags_after : (xs : List TagInUse) → IsPermutation (map after_reset xs) (map met_by_reset (map faulted (filter is_fresh_use xs) ++ filter is_settled xs))
 tags_after xs =
-    let fresh = filter is_fresh xs in
+    let fresh = filter is_fresh_use xs in
     let settled = filter is_settled xs in
     let moved : IsPermutation (map after_reset xs) (map after_reset (fresh ++ settled)) =
-    IsPermutation-map after_reset _ _ (IsPermutation-filter_both is_fresh is_settled (λ x. refl) xs) in
+    IsPermutation-map after_reset _ _ (IsPermutation-filter_both is_fresh_use is_settled (λ x. refl) xs) in
     let e : map after_reset (fresh ++ settled) ≡ map met_by_reset (map faulted fresh ++ settled) =
     map-append after_reset fresh settled
     ∙ ap (λ (l : List TagInUse). l ++ map after_reset settled) (all_faulted fresh (fresh_pass xs))
@@ -149,13 +149,13 @@ tags_after xs =
 -- THE LABELS AND THE COUNT
 
 labels_first : (size k : ℕ) (on : OnTag) (rest : List TagInUse) (q : Progress)
-    → labels_by on.piece q ++ map fault_of (filter is_fresh rest)
-    ≡ map fault_of (cond (has_done_nothing (fate_of size on.srb q)) (in_use_of size k on ∷ filter is_fresh rest) (filter is_fresh rest))
+    → labels_by on.piece q ++ map fault_of (filter is_fresh_use rest)
+    ≡ map fault_of (cond (is_fresh (fate_of size on.srb q)) (in_use_of size k on ∷ filter is_fresh_use rest) (filter is_fresh_use rest))
 labels_first size k on rest Untouched = refl
 labels_first size k on rest Moved = refl
 labels_first size k on rest (Failed c) = refl
 
-labels_shown : (size k : ℕ) (slots : List (Option OnTag)) → flat_map labels_of_reset slots ≡ map fault_of (filter is_fresh (tags_of size k slots))
+labels_shown : (size k : ℕ) (slots : List (Option OnTag)) → flat_map labels_of_reset slots ≡ map fault_of (filter is_fresh_use (tags_of size k slots))
 labels_shown size k [] = refl
 labels_shown size k (None ∷ slots) = labels_shown size (suc k) slots
 labels_shown size k (Some on ∷ slots) =
@@ -183,14 +183,14 @@ counted_shown size k (Some on ∷ slots) = omega (
 )
 
 first_few : (size : ℕ) (on : OnTag) (u : TagInUse) (xs : List TagInUse) (q : Progress) (b : Bool) → (b ≡ true → q ≡ Untouched → ⊥)
-    → length (cond (has_done_nothing (fate_of size on.srb q)) (u ∷ xs) xs) ≤ (if b then 0 else 1) + length xs
+    → length (cond (is_fresh (fate_of size on.srb q)) (u ∷ xs) xs) ≤ (if b then 0 else 1) + length xs
 first_few size on u xs Untouched true unmet = absurd (unmet refl refl)
 first_few size on u xs Untouched false unmet = omega arith
 first_few size on u xs Moved b unmet = omega arith
 first_few size on u xs (Failed c) b unmet = omega arith
 
 fresh_few : (size k : ℕ) (slots : List (Option OnTag)) → ((tag : ℕ) (on : OnTag) → piece_at slots tag ≡ Some on → on.was_reset ≡ true → on.progress ≡ Untouched → ⊥)
-    → length (filter is_fresh (tags_of size k slots)) ≤ sum_by failures_of_reset slots
+    → length (filter is_fresh_use (tags_of size k slots)) ≤ sum_by failures_of_reset slots
 fresh_few size k [] unmet = omega arith
 fresh_few size k (None ∷ slots) unmet =
     omega (arith, sum_by-cons failures_of_reset None slots, fresh_few size (suc k) slots (λ tag on there. unmet (suc tag) on there))
@@ -199,7 +199,7 @@ fresh_few size k (Some on ∷ slots) unmet =
       arith,
       sum_by-cons failures_of_reset (Some on) slots,
       fresh_few size (suc k) slots (λ tag p there. unmet (suc tag) p there),
-      first_few size on (in_use_of size k on) (filter is_fresh (tags_of size (suc k) slots)) on.progress on.was_reset (unmet 0 on refl),
+      first_few size on (in_use_of size k on) (filter is_fresh_use (tags_of size (suc k) slots)) on.progress on.was_reset (unmet 0 on refl),
     )
 
 due_met : (slots : List (Option OnTag)) → map slot_completion (map slot_after_reset slots) ≡ map due_after_reset (map slot_completion slots)
@@ -215,7 +215,7 @@ pub resets : (m : MediumView) (longest : ℕ) (t : Table)
 resets m longest t unmet =
     let old = shown_of m longest t in
     let new = shown_of m longest (with_reset t) in
-    let fresh = filter is_fresh old.tags in
+    let fresh = filter is_fresh_use old.tags in
     let failures = t.failures + sum_by failures_of_reset t.slots in
     let labels : new.labels ≡ t.labels ++ map fault_of fresh = ap (λ (l : List DeviceLabel). t.labels ++ l) (labels_shown m.sector_size 0 t.slots) in
     let same : new.tags ≡ map after_reset old.tags = tags_met m.sector_size 0 t.slots in
@@ -225,7 +225,7 @@ resets m longest t unmet =
     ap (λ (d : ℕ). record new { depth = d }) (length-map t.slots slot_after_reset) in
     let moved : FaultsThenNotes old (map fault_of fresh) new =
     faults_move fresh (filter is_settled old.tags) old new new.tags failures new.labels (fresh_pass old.tags)
-    (IsPermutation-filter_both is_fresh is_settled (λ x. refl) old.tags) marked
+    (IsPermutation-filter_both is_fresh_use is_settled (λ x. refl) old.tags) marked
     (omega (arith, fresh_few m.sector_size 0 t.slots unmet)) labels depth in
     record {
       fresh = fresh;

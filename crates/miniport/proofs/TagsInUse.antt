@@ -8,7 +8,7 @@ use Rattle.std.proofs.lemmas.List.Kept.{AllPairs-cons, AllPairs-filter}
 use Rattle.std.proofs.lemmas.List.Sorted.{IsPermutation-refl, IsPermutation-cons, IsPermutation-middle, IsPermutation-trans, IsPermutation-sym, Contains-permutation}
 use Rattle.srb.specs.Adapter.{TagInUse, HasTag, HasNotTag, HaveOtherTags, IsBelow}
 use Rattle.miniport.specs.declared.on_tag.OnTag.{OnTag}
-use Rattle.miniport.specs.Calls.{tag_of, is_fresh}
+use Rattle.miniport.specs.Calls.{tag_of, is_fresh_use}
 use Rattle.miniport.specs.Slots.{piece_at, in_use_of, tags_of}
 
 -- a piece among the tags in use, and the others
@@ -76,8 +76,8 @@ numbers_rise (x ∷ xs) all k below =
     let less = all k (k + 1) x (omega arith) (omega (arith, below, long)) in
     rw (first, next) less
 
-pub fresh_rise : (size : ℕ) (slots : List (Option OnTag)) → IsStrictlyIncreasing (map tag_of (filter is_fresh (tags_of size 0 slots)))
-fresh_rise size slots = numbers_rise _ (AllPairs-filter IsBefore is_fresh (tags_of size 0 slots) (rising size 0 slots))
+pub fresh_rise : (size : ℕ) (slots : List (Option OnTag)) → IsStrictlyIncreasing (map tag_of (filter is_fresh_use (tags_of size 0 slots)))
+fresh_rise size slots = numbers_rise _ (AllPairs-filter IsBefore is_fresh_use (tags_of size 0 slots) (rising size 0 slots))
 
 -- each tag is below the number of slots
 lift : (k n : ℕ) (use' : TagInUse) → IsBelow (suc k + n) use' → IsBelow (k + suc n) use'

@@ -1,12 +1,12 @@
 -- What each call of an adapter does to what the adapter shows.
-use Rattle.std.specs.Prelude.{◌≡◌, ◌≢◌, ◌⊎◌, ℕ, Bool, true, false, List, [], ◌∷◌, ◌++◌, map, filter, IsPermutation}
+use Rattle.std.specs.Prelude.{◌≡◌, ◌≢◌, ◌⊎◌, ℕ, Bool, true, List, [], ◌∷◌, ◌++◌, map, filter, IsPermutation}
 use Rattle.std.specs.List.Sorted.{IsStrictlyIncreasing}
 use Rattle.std.specs.List.{concat}
 use Rattle.srb.specs.declared.Srb.{Srb}
 use Rattle.srb.specs.declared.Completion.{Completion}
 use Rattle.srb.specs.declared.DeviceLabel.{DeviceLabel}
 use Rattle.srb.specs.declared.DeviceLabel.TheVariants.{Fault}
-use Rattle.srb.specs.Fate.{Fate, Fresh, Acted, Faulted, class_of}
+use Rattle.srb.specs.Fate.{Fate, Fresh, Acted, Faulted, is_fresh, class_of}
 use Rattle.srb.specs.Adapter.{TagInUse, AdapterView, IsFree, IsOn, ActsOn, FaultsOn, ReturnsOn, MovesByAll, NotesReset}
 
 -- the tag's piece, which had done nothing yet, acts or faults
@@ -39,13 +39,9 @@ fate_after_reset Faulted = Faulted
 abbrev pub after_reset : TagInUse → TagInUse
 after_reset use' = record use' { fate = fate_after_reset use'.fate; was_reset = true }
 
-abbrev pub has_done_nothing : Fate → Bool
-has_done_nothing Fresh = true
-has_done_nothing (Acted moved) = false
-has_done_nothing Faulted = false
-
-abbrev pub is_fresh : TagInUse → Bool
-is_fresh use' = has_done_nothing use'.fate
+-- the tag's piece has done nothing yet
+abbrev pub is_fresh_use : TagInUse → Bool
+is_fresh_use use' = is_fresh use'.fate
 
 abbrev pub tag_of : TagInUse → ℕ
 tag_of use' = use'.tag
@@ -58,7 +54,7 @@ pub record Resets (old new : AdapterView) : Type 0 where
   pub fresh : List TagInUse
   pub tags : List TagInUse
   pub failures : ℕ
-  pub are_fresh : IsPermutation (filter is_fresh old.tags) fresh
+  pub are_fresh : IsPermutation (filter is_fresh_use old.tags) fresh
   pub rising : IsStrictlyIncreasing (map tag_of fresh)
   pub in_use : IsPermutation tags (map after_reset old.tags)
   pub after : new ≡ record old { tags = tags; failures = failures; labels = old.labels ++ map fault_of fresh }

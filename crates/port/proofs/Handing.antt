@@ -25,6 +25,7 @@ use Rattle.device.proofs.Same.{IsSame-refl}
 use Rattle.device.specs.declared.Label.TheVariants.{Answer}
 use Rattle.device.proofs.Numbers.{AreDistinct-Step}
 use Rattle.device.proofs.Earned.{bad_status}
+use Rattle.device.proofs.Commuting.{out_ends_not, untouched_ends_not}
 use Rattle.port.specs.declared.queues.Held.{Held}
 use Rattle.port.specs.declared.queues.Ended.{Ended}
 use Rattle.port.specs.declared.queues.Outcome.{Outcome}
@@ -46,15 +47,6 @@ use Rattle.port.proofs.Orderly.{all_three, in_hand}
 unended : (rules : Rules) (s : State) (o : OpenRequest) (mark : Mark) (n : ℕ) → 0 < n → (HasEnded rules s o mark → ⊥) → All (HasEnded rules s o) (replicate n mark) → ⊥
 unended rules s o mark zero some h all = absurd (omega arith)
 unended rules s o mark (suc n) some h all = h (All-head (HasEnded rules s o) mark (replicate n mark) all)
-
-never_out : (rules : Rules) (s : State) (o : OpenRequest) → HasEnded rules s o Out → ⊥
-never_out rules s o (inl h) = absurd (cc (h))
-never_out rules s o (inr h) = absurd h.1
-
-never_waits : (rules : Rules) (s : State) (o : OpenRequest) → IsFalse o.cancelled → IsFalse s.removing → HasEnded rules s o Untouched → ⊥
-never_waits rules s o timely stays (inl h) = absurd (cc (h))
-never_waits rules s o timely stays (inr (status, inl h)) = true_false o.cancelled h.0 timely
-never_waits rules s o timely stays (inr (status, inr h)) = true_false s.removing h.0 stays
 
 -- while something waits the device stays
 stays_by : (removing : Bool) (waiting : List Held) (i : ℕ) → i < length waiting → (IsTrue removing → waiting ≡ []) → removing ≡ false
@@ -83,10 +75,10 @@ module _ (b : Books) (v : AdapterView) (rooms : List Request) (k : IsInHand b v 
       all_three b v (IsUnfinished rules s)
       (λ i d low all. let w : IsWaiting rules v (get_or b.waiting i d) = k.kept.waiting i d low in
       unended rules s (waiting_open rules (get_or b.waiting i d)) Untouched _ (places_some b.sizes (get_or b.waiting i d).request some w.room.bounded)
-      (never_waits rules s (waiting_open rules (get_or b.waiting i d)) w.not_cancelled (stays_by b.removing b.waiting i low k.kept.removing)) all)
+      (untouched_ends_not rules s (waiting_open rules (get_or b.waiting i d)) w.not_cancelled (stays_by b.removing b.waiting i low k.kept.removing)) all)
       (λ i d low all. let w : IsOnTag rules b.started (get_or v.tags i d) = k.kept.at_work i d low in
       unended rules s (open_on rules b.started (get_or v.tags i d)) Out _ (subst (λ (e : Entry). 0 < places_of rules e.request) (sym (ap entry_or_nobody w.on_tag)) (places_some b.sizes w.held.request some w.bounded))
-      (never_out rules s (open_on rules b.started (get_or v.tags i d))) all)
+      (out_ends_not rules s (open_on rules b.started (get_or v.tags i d))) all)
       (no_done (λ d. IsUnfinished rules s (done_open rules d)))
 
   no_pieces : map (piece_on (rules_of b.sizes) b.started) v.tags ≡ [] → (v.tags ≡ []) × (b.waiting ≡ [])

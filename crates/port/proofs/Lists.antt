@@ -21,9 +21,6 @@ splice_whole xs ys h =
     let z : 0 + length ys ≡ length ys = omega arith in
     rw (z, e) (append-nil ys)
 
-pub length-splice : {X : Type 0} (xs : List X) (first : ℕ) (more : List X) → first + length more ≤ length xs → length (splice xs first more) ≡ length xs
-length-splice xs first more fits = simp (length-append, length-take, length-drop) (omega arith)
-
 -- one item goes to the front from between two lists
 pub to_front : {X : Type 0} (before : List X) (x : X) (behind rest : List X) → IsPermutation ((before ++ x ∷ behind) ++ rest) (x ∷ ((before ++ behind) ++ rest))
 to_front before x behind rest = IsPermutation-append_left rest _ _ (IsPermutation-middle before x behind)

@@ -3,18 +3,18 @@ use Rattle.std.proofs.Common.{◌≡◌, ◌<◌, ◌≤◌, inl, ℕ, suc, ◌+
 use Rattle.std.specs.Prelude.{All, AllPairs, IsNone, IsPermutation, MatchOption, filter}
 use Rattle.std.proofs.lemmas.List.{length-append, length-map, map-append, get_or-map}
 use Rattle.std.proofs.lemmas.List.Elements.{All-nil, All-cons, All-weaker, All-head, All-tail, All-map}
-use Rattle.std.proofs.lemmas.List.Kept.{AllPairs-from_increasing}
+use Rattle.std.specs.List.Sorted.{IsStrictlyIncreasing}
 use Rattle.std.proofs.lemmas.List.Sorted.{IsPermutation-refl, IsPermutation-sym, IsPermutation-trans, IsPermutation-cons, IsPermutation-map, IsPermutation-middle, IsPermutation-append_left, IsPermutation-append_right, IsPermutation-filter_both, All-permutation, length_permutation}
 use Rattle.srb.specs.declared.DeviceLabel.{DeviceLabel}
-use Rattle.srb.specs.Fate.{Fate, Fresh, Acted, Faulted}
+use Rattle.srb.specs.Fate.{Fate, Fresh, Acted, Faulted, is_fresh}
 use Rattle.srb.specs.Adapter.{AdapterView, TagInUse, IsInOrder, IsReserved, MovesByAll, NotesReset}
-use Rattle.miniport.specs.Calls.{Resets as AdapterResets, HasNoLabel, LeavesFirst, after_reset, fate_after_reset, has_done_nothing, is_fresh as is_fresh_use, fault_of as use_fault}
+use Rattle.miniport.specs.Calls.{Resets as AdapterResets, HasNoLabel, LeavesFirst, after_reset, fate_after_reset, tag_of, is_fresh_use, fault_of as use_fault}
 use Rattle.device.specs.declared.Request.{Request}
 use Rattle.device.specs.Rules.{Rules}
 use Rattle.device.specs.State.{Piece, State, IsSame}
 use Rattle.device.specs.Sending.{with_fate}
 use Rattle.device.specs.Seen.{label_places}
-use Rattle.device.specs.Served.{Resets, HaveRisingTags, IsBelow, is_fresh_piece, fault_of, as_label}
+use Rattle.device.specs.Served.{Resets, piece_tag, is_fresh_piece, fault_of, as_label}
 use Rattle.device.specs.Step.{Run}
 use Rattle.device.proofs.Same.{IsSame-refl, Run-same}
 use Rattle.device.proofs.Numbers.{AreDistinct-Run}
@@ -22,7 +22,7 @@ use Rattle.port.specs.declared.queues.Held.{Held}
 use Rattle.port.specs.Books.{Entry, Books}
 use Rattle.port.specs.Shown.{rules_of, waiting_open, done_open, open_on, piece_on, packet as packet_as, of_packets, of_waiting, of_tag, of_done, state_of, seen_of}
 use Rattle.port.specs.Kept.{asked, IsInHand, IsRoom, IsWaiting, IsAtWork, IsDoing}
-use Rattle.port.proofs.Tags.{tag_of, tags_fit}
+use Rattle.port.proofs.Tags.{tags_fit}
 use Rattle.port.proofs.Starting.{room_moves, waiting_moves}
 use Rattle.port.proofs.Orderly.{in_hand, maps_are}
 
@@ -79,7 +79,7 @@ fresh_fates [] = All-nil (λ u. u.fate ≡ Fresh)
 fresh_fates (u ∷ us) = by_fate (fresh_fates us) u.fate refl
   where
     by_fate : All (λ x. x.fate ≡ Fresh) (filter is_fresh_use us) → (fate : Fate) → u.fate ≡ fate → All (λ x. x.fate ≡ Fresh) (filter is_fresh_use (u ∷ us))
-    by_fate h Fresh is = let e : has_done_nothing u.fate ≡ true = ap has_done_nothing is in rw e (All-cons (λ x. x.fate ≡ Fresh) u (filter is_fresh_use us) is h)
+    by_fate h Fresh is = let e : is_fresh u.fate ≡ true = ap is_fresh is in rw e (All-cons (λ x. x.fate ≡ Fresh) u (filter is_fresh_use us) is h)
     by_fate h (Acted moved) is = rw is h
     by_fate h Faulted is = rw is h
 
@@ -89,7 +89,7 @@ filter_pieces rules started (u ∷ us) = by_fate (filter_pieces rules started us
   where
     by_fate : map (piece_on rules started) (filter is_fresh_use us) ≡ filter is_fresh_piece (map (piece_on rules started) us) → (fate : Fate) → u.fate ≡ fate → map (piece_on rules started) (filter is_fresh_use (u ∷ us)) ≡ filter is_fresh_piece (map (piece_on rules started) (u ∷ us))
     by_fate h Fresh is =
-        let e : has_done_nothing u.fate ≡ true = ap has_done_nothing is in
+        let e : is_fresh u.fate ≡ true = ap is_fresh is in
         rw e (ap (λ ps. piece_on rules started u ∷ ps) h)
     by_fate h (Acted moved) is = rw is h
     by_fate h Faulted is = rw is h
@@ -106,13 +106,6 @@ reset_pieces rules started (u ∷ us) = by_fate (reset_pieces rules started us) 
     by_fate h Fresh is = rw is (IsPermutation-cons _ _ _ h)
     by_fate h (Acted moved) is = rw is (IsPermutation-trans _ _ _ (IsPermutation-cons _ _ _ h) (IsPermutation-sym _ _ (IsPermutation-middle (map faulted_piece (map (piece_on rules started) (filter is_fresh_use us))) _ (map (piece_on rules started) (filter is_other us)))))
     by_fate h Faulted is = rw is (IsPermutation-trans _ _ _ (IsPermutation-cons _ _ _ h) (IsPermutation-sym _ _ (IsPermutation-middle (map faulted_piece (map (piece_on rules started) (filter is_fresh_use us))) _ (map (piece_on rules started) (filter is_other us)))))
-
-rising_pieces : (rules : Rules) (started : List (Option Held)) (tags : List TagInUse) → AllPairs (λ x y. x < y) (map tag_of tags) → HaveRisingTags (map (piece_on rules started) tags)
-rising_pieces rules started [] h = tt
-rising_pieces rules started (u ∷ us) h = (
-  All-map (IsBelow u.tag) (piece_on rules started) us (λ k d low. rw (← get_or-map tag_of us k d u.tag low) (h 0 (suc k) u.tag (omega arith) (let l = length-map us tag_of in omega arith))),
-  rising_pieces rules started us (λ i j d before low. h (suc i) (suc j) d (omega arith) (omega arith)),
-)
 
 work_reset : (rules : Rules) (started : List (Option Held)) (u : TagInUse) → IsAtWork rules started u → IsAtWork rules started (after_reset u)
 work_reset rules started u w = record { held = w.held; on_tag = w.on_tag; bounded = w.bounded; doing = by_fate u.fate w.doing }
@@ -208,7 +201,7 @@ reset_all b v v' rooms k space h order =
         fresh = map (piece_on rules b.started) h.fresh;
         all_faulted = h.all_faulted;
         all_fresh = subst (λ ps. IsPermutation (map (piece_on rules b.started) h.fresh) ps) (filter_pieces rules b.started v.tags) (IsPermutation-map (piece_on rules b.started) _ _ (IsPermutation-sym _ _ h.are_fresh));
-        rising = rising_pieces rules b.started h.fresh (AllPairs-from_increasing _ h.rising);
+        rising = subst IsStrictlyIncreasing (sym (maps_are (piece_on rules b.started) piece_tag tag_of (λ u. refl) h.fresh)) h.rising;
         moves = record {
           same_rules = refl;
           same_packets = packets_reset packet_as b v h.tags h.failures (map use_fault h.fresh) h.in_use;

@@ -12,14 +12,12 @@ use Rattle.std.proofs.lemmas.List.Kept.{AllPairs-cons}
 use Rattle.std.proofs.lemmas.List.FromFn.{length-range_with_len, get_or-range_with_len}
 use Rattle.std.proofs.lemmas.Map.Made.{length-le_from_is_member, is_member-Decides, IsDistinct-from_AllPairs}
 use Rattle.srb.specs.Adapter.{AdapterView, TagInUse, IsInOrder, IsFree, HasTag, HasNotTag, HaveOtherTags, IsOn}
+use Rattle.miniport.specs.Calls.{tag_of}
 use Rattle.device.proofs.Same.{Any-permutation}
 use Rattle.device.proofs.Permuting.{distinct_first}
 use Rattle.port.specs.declared.queues.Held.{Held}
 use Rattle.port.specs.Books.{Entry}
 use Rattle.port.specs.Shown.{entry_on}
-
-abbrev pub tag_of : TagInUse → ℕ
-tag_of use' = use'.tag
 
 map_apart : (tags : List TagInUse) → AllPairs HaveOtherTags tags → AllPairs (λ x y. x ≢ y) (map tag_of tags)
 map_apart [] h i j d before low = absurd (omega arith)

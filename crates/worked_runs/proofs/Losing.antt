@@ -10,13 +10,13 @@ use Rattle.device.specs.declared.Label.TheVariants.{Answer}
 use Rattle.device.specs.State.{OpenRequest, Piece, Mark, State, Untouched, Out, Done}
 use Rattle.device.specs.Settled.{Settled, WaitsIfCancelled, IsAllSent, HasGone, IsHeldBack, HasMore, IsAtWork}
 use Rattle.device.specs.Step.{Run}
-use Rattle.device.proofs.Commuting.{swapped}
+use Rattle.device.proofs.Commuting.{swapped, untouched_ends_not}
 use Rattle.device.proofs.Same.{IsSame-refl, Step-same}
 use Rattle.worked_runs.specs.Small.{small, zeros, full_of, sectors, idle, read, write, read_block, write_block, opened, one_place, piece_of}
 use Rattle.worked_runs.specs.Served.{pairs}
 use Rattle.worked_runs.specs.Impossible.{Never, NeverAnswers, NeverAnswersAs, NeverStarts, cut, ReachesCut, AnswersOnce, NeverRefusesWithoutCause, last_unsent, ReachesLastUnsent, both_back, ReachesBothBack, one_of_two, ReachesOneOfTwo, one_below, waits_behind, ReachesWaitsBehind, behind, alone, first_answered, left_behind, ReachesLeftBehind}
 use Rattle.worked_runs.proofs.Steps.{called, started, acted, returned, answered, cancelled, tag_0, tag_1}
-use Rattle.worked_runs.proofs.Refuting.{never_answered, never_succeeds, never_started, untouched_ends_not}
+use Rattle.worked_runs.proofs.Refuting.{never_answered, never_succeeds, never_started}
 
 pub reaches_cut : ReachesCut
 reaches_cut =

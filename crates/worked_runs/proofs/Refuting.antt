@@ -53,15 +53,6 @@ never_started rules s number tag block each s' (inl (free, h)) =
     of_each (IsNotStarted rules s block) s.requests h.owner h.others each h.is_open h.places h.may_start h.sendable h.asks
 never_started rules s number tag block each s' (inr none) = none
 
-pub out_ends_not : (rules : Rules) (s : State) (o : OpenRequest) → HasEnded rules s o Out → ⊥
-out_ends_not rules s o (inl h) = cc (h)
-out_ends_not rules s o (inr (status, h)) = absurd h
-
-pub untouched_ends_not : (rules : Rules) (s : State) (o : OpenRequest) → IsFalse o.cancelled → IsFalse s.removing → HasEnded rules s o Untouched → ⊥
-untouched_ends_not rules s o timely stays (inl h) = cc (h)
-untouched_ends_not rules s o timely stays (inr (status, inl (h, k))) = cc (h, timely)
-untouched_ends_not rules s o timely stays (inr (status, inr (h, k))) = cc (h, stays)
-
 -- the first of the places of a piece waits
 pub first_waits : (rules : Rules) (o : OpenRequest) (places : Extent) (mark : Mark) (more : List Mark) → o.marks ≡ mark ∷ more → places.first ≡ 0 → IsSendable rules o places → IsUnsent mark
 first_waits rules o places mark more is from h =
