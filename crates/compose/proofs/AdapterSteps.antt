@@ -13,7 +13,9 @@ use Rattle.device.specs.Step.{Run}
 use Rattle.device.specs.Seen.{Seen, IsOrderly}
 use Rattle.device.specs.Served.{as_label, IsStart, IsActOrFault, Moves, ActsOn, ActsNot, Finishes, FinishesNot, IsUnfinished}
 use Rattle.device.proofs.Same.{IsSame-refl}
+use Rattle.compose.specs.declared.Event.{Event}
 use Rattle.compose.specs.declared.Event.TheVariants.{Act, Finish}
+use Rattle.compose.specs.declared.Reply.{Reply}
 use Rattle.compose.specs.declared.Reply.TheVariants.{Ok as OkReply, Ignored}
 use Rattle.compose.specs.declared.admission.Limits.{Limits}
 use Rattle.compose.specs.declared.tables.Tables.{Tables}
@@ -168,15 +170,19 @@ module _ (limits : Limits) (below : Seen) (tables : Tables) (old : StackView) (k
   untaken : (tables.labels.items ≡ []) × (below.adapter.labels ≡ [])
   untaken = (ap (λ (v : StackView). v.labels) shown ∙ taken, kept.none_recorded)
 
+  -- a right step after which all that has ended is told; the limits are the same
+  told_kept : (event : Event) (reply : Reply) (below1 : Seen) (limits' : Limits) (below2 : Seen) (tables2 : Tables)
+      → IsRight (view_of limits below tables) event reply (view_of limits below2 tables2) × IsAtRest below2 → limits' ≡ limits → IsSound limits' below2 tables2 → Collects below1 tables below2 tables2
+      → IsRight old event reply (view_of limits' below2 tables2) × IsKept limits' below2 tables2
+  told_kept event reply below1 limits' below2 tables2 (right, rest) same sound collects = (
+    subst (λ (l : Limits). IsRight old event reply (view_of l below2 tables2)) (sym same) (subst (λ v. IsRight v event reply (view_of limits below2 tables2)) shown right),
+    IsKept-collected limits limits' below below1 below2 tables tables tables2 right.told same kept right.by sound rest collects,
+  )
+
   pub act_kept : (tag : ℕ) (below1 : Seen) (limits' : Limits) (below2 : Seen) (tables2 : Tables) → IsOrderly below → ActsOn below tag below1 → limits' ≡ limits → IsSound limits' below2 tables2
       → Collects below1 tables below2 tables2 → IsOrderly below2 → IsRight old (Act tag) OkReply (view_of limits' below2 tables2) × IsKept limits' below2 tables2
   act_kept tag below1 limits' below2 tables2 orderly acts same sound collects orderly2 =
-      let right : IsRight (view_of limits below tables) (Act tag) OkReply (view_of limits below2 tables2) × IsAtRest below2 =
-      IsRight-act limits below tables tag below1 below2 tables2 kept.sound orderly kept.rest untaken acts collects orderly2 in (
-        subst (λ (l : Limits). IsRight old (Act tag) OkReply (view_of l below2 tables2)) (sym same)
-            (subst (λ v. IsRight v (Act tag) OkReply (view_of limits below2 tables2)) shown right.0),
-        IsKept-collected limits limits' below below1 below2 tables tables tables2 right.0.told same kept right.0.by sound right.1 collects,
-      )
+      told_kept (Act tag) OkReply below1 limits' below2 tables2 (IsRight-act limits below tables tag below1 below2 tables2 kept.sound orderly kept.rest untaken acts collects orderly2) same sound collects
 
   pub act_ignored : (tag : ℕ) (below' : Seen) → ActsNot below tag below' → IsRight old (Act tag) Ignored (view_of limits below' tables)
   act_ignored tag below' none = subst (λ v. IsRight v (Act tag) Ignored (view_of limits below' tables)) shown (IsRight-act_ignored limits below tables tag below' untaken none)
@@ -184,12 +190,7 @@ module _ (limits : Limits) (below : Seen) (tables : Tables) (old : StackView) (k
   pub finish_kept : (tag : ℕ) (below1 : Seen) (limits' : Limits) (below2 : Seen) (tables2 : Tables) → IsOrderly below → Finishes below tag below1 → limits' ≡ limits → IsSound limits' below2 tables2
       → Collects below1 tables below2 tables2 → IsOrderly below2 → IsRight old (Finish tag) OkReply (view_of limits' below2 tables2) × IsKept limits' below2 tables2
   finish_kept tag below1 limits' below2 tables2 orderly finishes same sound collects orderly2 =
-      let right : IsRight (view_of limits below tables) (Finish tag) OkReply (view_of limits below2 tables2) × IsAtRest below2 =
-      IsRight-finish limits below tables tag below1 below2 tables2 kept.sound orderly kept.rest untaken finishes collects orderly2 in (
-        subst (λ (l : Limits). IsRight old (Finish tag) OkReply (view_of l below2 tables2)) (sym same)
-            (subst (λ v. IsRight v (Finish tag) OkReply (view_of limits below2 tables2)) shown right.0),
-        IsKept-collected limits limits' below below1 below2 tables tables tables2 right.0.told same kept right.0.by sound right.1 collects,
-      )
+      told_kept (Finish tag) OkReply below1 limits' below2 tables2 (IsRight-finish limits below tables tag below1 below2 tables2 kept.sound orderly kept.rest untaken finishes collects orderly2) same sound collects
 
   pub finish_ignored : (tag : ℕ) (below' : Seen) → FinishesNot below tag below' → IsRight old (Finish tag) Ignored (view_of limits below' tables)
   finish_ignored tag below' none = subst (λ v. IsRight v (Finish tag) Ignored (view_of limits below' tables)) shown (IsRight-finish_ignored limits below tables tag below' untaken none)

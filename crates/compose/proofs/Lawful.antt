@@ -66,12 +66,17 @@ module _ (reads : SoloReadsHold) (writes : SoloWritesHold) (failed : FailedWrite
 -- EVENTS, ONE AFTER ANOTHER
 
 -- one event more
-pub CarriesAll-more : (old : StackView) (events : List Event) (shown : List Shown) (mid : StackView) (event : Event) (one : Shown) (new : StackView)
+CarriesAll-more : (old : StackView) (events : List Event) (shown : List Shown) (mid : StackView) (event : Event) (one : Shown) (new : StackView)
     → CarriesAll old events shown mid → Carries mid event one new → CarriesAll old (events ++ event ∷ []) (shown ++ one ∷ []) new
 CarriesAll-more old [] [] mid event one new all more = (new, subst (λ (v : StackView). Carries v event one new) all more, refl)
 CarriesAll-more old (first ∷ events) (its ∷ shown) mid event one new all more = (all.0, all.1, CarriesAll-more all.0 events shown mid event one new all.2 more)
 CarriesAll-more old [] (its ∷ shown) mid event one new all more = absurd all
 CarriesAll-more old (first ∷ events) [] mid event one new all more = absurd all
+
+pub CarriesAll-pushed : (old : StackView) (events : List Event) (shown more : List Shown) (mid : StackView) (event : Event) (one : Shown) (new : StackView) → more ≡ shown ++ one ∷ []
+    → CarriesAll old events shown mid → Carries mid event one new → CarriesAll old (events ++ event ∷ []) more new
+CarriesAll-pushed old events shown more mid event one new pushed all carries =
+    subst (λ (s : List Shown). CarriesAll old (events ++ event ∷ []) s new) (sym pushed) (CarriesAll-more old events shown mid event one new all carries)
 
 -- a run and sectors that stay
 record Leads (old new : StackView) (labels : List Label) : Type 0 where

@@ -62,6 +62,7 @@ impl<D: Device> IoManager<D> {
         ensures whole { IsWhole self.now }
         ensures reached { IsReached self.now.rules self.now.state }
     {
+        // The invariant is known where a field is used.
         let _parts = &self.parts;
     }
 

@@ -1,4 +1,4 @@
-//! Client calls and adapter steps over any device stack.
+//! Client calls and adapter steps over any device stack. Each leaves it as it has to be between two steps.
 
 ghost use Rattle.std.specs.Prelude.{◌≡◌, [], IsTrue};
 ghost use Rattle.device.specs.Rules.{is_transfer};
@@ -16,7 +16,8 @@ use sector::Bytes;
 use std::alloc::Global;
 use std::marker::Model;
 
-/// A device stack with the handles and requests that are open on it.
+/// A device stack with the handles and requests that are open on it, between two steps: no room is out, and the device
+/// and the tables fit together.
 #[derive(Drop)]
 pub(crate) struct IoManager<D: Device> {
     pub(crate) parts: Parts<D>,
@@ -31,7 +32,12 @@ impl<D: Device> Model for IoManager<D> {
 
     ghost view = { λ s. view_of s.parts.limits (D.seen s.parts.device) s.parts.tables };
 
-    ghost invariant = { λ s. record { takes_srb : D.TAKES_SRB ≡ true; locations : D.STACK_SIZE ≤ 4; rooms : D.rooms_out s.parts.device []; kept : IsKept s.parts.limits (D.seen s.parts.device) s.parts.tables } };
+    ghost invariant = { λ s. record {
+      takes_srb : D.TAKES_SRB ≡ true;
+      locations : D.STACK_SIZE ≤ 4;
+      rooms : D.rooms_out s.parts.device [];
+      kept : IsKept s.parts.limits (D.seen s.parts.device) s.parts.tables;
+    } };
 }
 
 impl<D: Device> IoManager<D> {

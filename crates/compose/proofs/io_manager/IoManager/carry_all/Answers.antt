@@ -1,6 +1,6 @@
 -- What was carried out so far is just the events that were taken.
 use Rattle.std.proofs.Common.{◌≡◌, ◌<◌, ◌≤◌, ◌+◌, List, [], ◌∷◌, ◌++◌, sym, ◌∙◌, ap, subst, arith, length, length-append, take}
-use Rattle.std.specs.Vec.{vec_len}
+use Rattle.std.specs.Vec.{vec_len, vec_capacity}
 use Rattle.std.proofs.lemmas.List.{map-id}
 use Rattle.std.proofs.lemmas.Iterator.Adapters.{YieldsList-from_vec}
 use Rattle.std.proofs.lemmas.Iterator.Consumers.{YieldsList-so_far, YieldsList-turn}
@@ -8,8 +8,11 @@ use Rattle.compose.specs.declared.Event.{Event}
 use Rattle.compose.specs.declared.Shown.{Shown}
 use Rattle.compose.specs.Shown.{StackView}
 use Rattle.compose.specs.Runs.{Carries, CarriesAll}
-use Rattle.compose.proofs.Lawful.{CarriesAll-more}
+use Rattle.compose.proofs.Lawful.{CarriesAll-pushed}
 use Rattle.compose.proofs.io_manager.IoManager.carry_all.Goals as goal
+
+none_left : (stepped new : StackView) → new ≡ record stepped { labels = [] } → new.labels ≡ []
+none_left stepped new e = ap (λ (v : StackView). v.labels) e
 
 pub returns-in_default-with_capacity-clause-carries : goal.returns-in_default-with_capacity-clause-carries
 returns-in_default-with_capacity-clause-carries g c =
@@ -40,13 +43,13 @@ loop-event-preserved g c =
     let counted : vec_len c.loop-event.shown ≡ length c.loop-event.yielded = c.loop-event.invariant.counted in
     let pushed : vec_len c.push_reserved.new.self ≡ vec_len c.loop-event.shown + 1 = c.push_reserved.ensures.len in
     let longer : length (c.loop-event.yielded ++ c.in-Some.event ∷ []) ≡ length c.loop-event.yielded + 1 = length-append c.loop-event.yielded (c.in-Some.event ∷ []) in
-    let all : List Shown = c.loop-event.shown.items ++ one ∷ [] in
-    let shown : c.push_reserved.new.self.items ≡ all = c.push_reserved.ensures.items in
+    let places : length c.args.events.items ≤ vec_capacity c.loop-event.shown = c.loop-event.invariant.places in
+    let same : vec_capacity c.push_reserved.new.self ≡ vec_capacity c.loop-event.shown = c.push_reserved.ensures.capacity in
     record {
-      taken = ap (λ (v : StackView). v.labels) c.take_labels-labels.ensures.taken;
+      taken = none_left c.step-reply.new.self c.take_labels-labels.new.self c.take_labels-labels.ensures.taken;
       counted = omega arith;
-      places = subst (λ n. length c.args.events.items ≤ n) (sym c.push_reserved.ensures.capacity) c.loop-event.invariant.places;
+      places = omega arith;
       carries =
-          subst (λ (shown : List Shown). CarriesAll c.args.self.now (c.loop-event.yielded ++ c.in-Some.event ∷ []) shown c.take_labels-labels.new.self) (sym {A = List Shown} {a = c.push_reserved.new.self.items} {b = all} shown)
-          (CarriesAll-more c.args.self.now c.loop-event.yielded c.loop-event.shown.items c.loop-event.self c.in-Some.event one c.take_labels-labels.new.self c.loop-event.invariant.carries carries);
+          CarriesAll-pushed c.args.self.now c.loop-event.yielded c.loop-event.shown.items c.push_reserved.new.self.items c.loop-event.self c.in-Some.event one c.take_labels-labels.new.self
+          c.push_reserved.ensures.items c.loop-event.invariant.carries carries;
     }
