@@ -27,10 +27,6 @@ use Rattle.port.specs.Shown.{rules_of, places_of, cut}
 use Rattle.port.proofs.Lists.{cut-concat}
 use Rattle.port.proofs.Sizing.{volume_zero, sectors_are, places_transfer, places_flush}
 
--- the view with other tags, other sectors, failures and one label more
-abbrev pub view_acted : AdapterView → List (List ℕ) → List TagInUse → ℕ → DeviceLabel → AdapterView
-view_acted v sectors tags failures label = record v { sectors = sectors; tags = tags; failures = failures; labels = v.labels ++ label ∷ [] }
-
 -- the one array is the disk
 pub whole_disk : (sectors : List (List ℕ)) (count : ℕ) → count ≡ length sectors → slice_range sectors 0 (0 + count) ≡ sectors
 whole_disk sectors count e = take_all (0 + count - 0) sectors (omega arith)
