@@ -1,5 +1,5 @@
 -- From an opening state on, and from a call to its answer.
-use Rattle.std.proofs.Common.{◌≡◌, ◌≢◌, ◌<◌, ◌≤◌, inl, inr, ℕ, List, [], ◌∷◌, ◌++◌, Option, Some, None, refl, subst, arith}
+use Rattle.std.proofs.Common.{◌≡◌, ◌≢◌, ◌<◌, inl, inr, ℕ, List, [], ◌∷◌, ◌++◌, Option, Some, None, refl, subst, arith}
 use Rattle.std.specs.Prelude.{IsNone}
 use Rattle.std.proofs.Math.Nat.{lt_of_lt_of_le}
 use Rattle.ntstatus.specs.declared.NtStatus.{NtStatus}

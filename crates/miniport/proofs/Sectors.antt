@@ -1,5 +1,5 @@
 -- Sectors read and written on a medium are those that the command moves.
-use Rattle.std.proofs.Common.{◌≡◌, ◌≤◌, ℕ, ◌+◌, ◌-◌, ◌&&◌, Bool, true, false, List, [], ◌∷◌, ◌++◌, length, take, drop, slice_range, slice_index, Some, None, Ok, All, refl, sym, ap, ◌∙◌, ◌⊎◌, inl, inr, arith, length-drop}
+use Rattle.std.proofs.Common.{◌≡◌, ◌≤◌, ℕ, ◌+◌, ◌-◌, Bool, true, false, List, [], ◌∷◌, ◌++◌, length, take, drop, slice_range, slice_index, Some, None, Ok, All, refl, sym, ap, ◌∙◌, ◌⊎◌, inl, inr, arith, length-drop}
 use Rattle.std.specs.Prelude.{Any}
 use Rattle.std.specs.List.{concat, list_any}
 use Rattle.std.specs.Simd.{first_chunks}
