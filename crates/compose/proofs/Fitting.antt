@@ -1,28 +1,22 @@
 -- A request that nothing refuses fits the disk below and a ten-byte command block.
 use Rattle.std.proofs.Common.{◌≡◌, ◌<◌, ◌≤◌, ℕ, zero, suc, ◌+◌, ◌*◌, ◌/◌, ◌%◌, ◌^◌, Bool, true, false, List, [], ◌∷◌, Option, Some, None, refl, sym, ◌∙◌, ap, subst, arith, length, map}
-use Rattle.std.specs.Prelude.{IsTrue, IsFalse, is_none, ◌&&◌, ◌==◌, not, nat_le, if◌then◌else◌}
-use Rattle.std.proofs.lemmas.Bool.{leb-false, leb-true}
+use Rattle.std.specs.Prelude.{IsTrue, IsFalse, is_none, ◌&&◌, ◌==◌, if◌then◌else◌}
+use Rattle.std.proofs.lemmas.Bool.{leb-false, leb-true, not-false, and_parts}
 use Rattle.std.proofs.lemmas.Bool.Decides.{nat_tests}
 use Rattle.std.proofs.Math.Nat.{mod-add-div', zero-mul}
 use Rattle.std.proofs.lemmas.List.{length-map}
 use Rattle.sector.specs.declared.Extent.{Extent}
 use Rattle.slab.specs.Slab.{slab_len}
-use Rattle.ntstatus.specs.declared.NtStatus.TheVariants.{Success, DeviceBusy, DeletePending, InvalidHandle, InvalidParameter}
 use Rattle.device.specs.declared.ClientRequest.{ClientRequest}
 use Rattle.device.specs.Rules.{Rules, is_transfer, is_in_bounds, sectors_of}
 use Rattle.device.specs.State.{State}
 use Rattle.device.specs.Seen.{Seen, IsBounded, transfer_length}
-use Rattle.device.proofs.Places.{and_true}
-use Rattle.ntstatus.proofs.First.{none_first}
+use Rattle.device.proofs.Places.{IsTakenIn, taken_in}
 use Rattle.compose.specs.declared.admission.Limits.{Limits}
 use Rattle.compose.specs.declared.tables.Tables.{Tables}
 use Rattle.compose.specs.OnDisk.{first_of, end_of, rules_over, open_as_called}
 use Rattle.compose.specs.Sound.{partitions_of, rules_of, view_of, IsSound}
 use Rattle.compose.specs.Admitting.{request_on_disk, IsWholeDisk, FitsBlock, IsAdmissible}
-
-not_false : (b : Bool) → not b ≡ false → b ≡ true
-not_false true h = refl
-not_false false h = cc (h)
 
 after_true : (b c : Bool) → b ≡ true → (b && c) ≡ false → c ≡ false
 after_true true c h e = e
@@ -70,17 +64,14 @@ module _ (limits : Limits) (below : Seen) (tables : Tables) (q : ClientRequest) 
 
   pub asks_whole : AsksBy over below.rules q limits.sector_size
   asks_whole =
-      let a : (is_none q.partition ≡ false) × _ = none_first (is_none q.partition) InvalidHandle _ k.not_refused in
-      let b : (state.removing ≡ false) × _ = none_first state.removing DeletePending _ a.1 in
-      let c : ((is_transfer q.kind && not (is_in_bounds over q)) ≡ false) × _ = none_first (is_transfer q.kind && not (is_in_bounds over q)) InvalidParameter _ b.1 in
-      let d : ((is_transfer q.kind && (q.length == 0)) ≡ false) × _ = none_first (is_transfer q.kind && (q.length == 0)) Success _ c.1 in
-      let bounds : is_in_bounds over q ≡ true = not_false _ (after_true (is_transfer q.kind) _ k.transfer c.0) in
-      let not_empty : (q.length == 0) ≡ false = after_true (is_transfer q.kind) _ k.transfer d.0 in
-      let parts : _ × _ = and_true _ _ bounds in
-      let aligned : _ × _ = and_true _ _ parts.0 in
-      let limited : _ × _ = and_true _ _ parts.1 in
+      let taken : IsTakenIn over state q = taken_in over state q k.not_refused in
+      let bounds : is_in_bounds over q ≡ true = not-false _ (after_true (is_transfer q.kind) _ k.transfer taken.in_bounds) in
+      let not_empty : (q.length == 0) ≡ false = after_true (is_transfer q.kind) _ k.transfer taken.some in
+      let parts : _ × _ = and_parts _ _ bounds in
+      let aligned : _ × _ = and_parts _ _ parts.0 in
+      let limited : _ × _ = and_parts _ _ parts.1 in
       let same : limits.sector_size ≡ below.rules.sector_size = h.fits.sector_size in
-      let first : q.partition ≡ Some 0 = known_first limits.partition q.partition a.0 k.known in
+      let first : q.partition ≡ Some 0 = known_first limits.partition q.partition taken.known k.known in
       let size : q.length ≡ q.length / below.rules.sector_size * below.rules.sector_size = whole below.rules.sector_size q.length h.on_disk.some_bytes (eq_true _ 0 aligned.1) in
       at_size (sym same) (record {
         on_first = first;
@@ -96,12 +87,8 @@ module _ (limits : Limits) (below : Seen) (tables : Tables) (q : ClientRequest) 
 
   pub free_place : slab_len tables.requests < limits.open_requests
   free_place =
-      let a : _ × _ = none_first (is_none q.partition) InvalidHandle _ k.not_refused in
-      let b : _ × _ = none_first state.removing DeletePending _ a.1 in
-      let c : _ × _ = none_first (is_transfer q.kind && not (is_in_bounds over q)) InvalidParameter _ b.1 in
-      let d : _ × _ = none_first (is_transfer q.kind && (q.length == 0)) Success _ c.1 in
-      let e : (nat_le limits.open_requests (length (map (open_as_called over) below.state.requests)) ≡ false) × _ = none_first (nat_le limits.open_requests (length (map (open_as_called over) below.state.requests))) DeviceBusy _ d.1 in
-      let few : length (map (open_as_called over) below.state.requests) < limits.open_requests = leb-false limits.open_requests _ e.0 in
+      let taken : IsTakenIn over state q = taken_in over state q k.not_refused in
+      let few : length (map (open_as_called over) below.state.requests) < limits.open_requests = leb-false limits.open_requests _ taken.room in
       let same : length (map (open_as_called over) below.state.requests) ≡ length below.state.requests = length-map below.state.requests (open_as_called over) in
       let counted : slab_len tables.requests ≡ length below.state.requests = h.held.counted in
       omega arith

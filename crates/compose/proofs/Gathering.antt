@@ -8,7 +8,6 @@ use Rattle.std.proofs.lemmas.List.Elements.{All-nil, All-head, All-tail, All-con
 use Rattle.slab.specs.Slab.{get, slab_len}
 use Rattle.ntstatus.specs.declared.NtStatus.{NtStatus}
 use Rattle.sector.specs.declared.Extent.{Extent}
-use Rattle.srb.specs.Adapter.{AdapterView}
 use Rattle.srb.proofs.Joining.{reserves_none, moves_joined}
 use Rattle.irp.specs.declared.Climb.TheVariants.{Finished}
 use Rattle.irp.specs.declared.Done.{Done}

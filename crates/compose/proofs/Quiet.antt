@@ -4,7 +4,7 @@ use Rattle.std.specs.Prelude.{IsPermutation}
 use Rattle.std.proofs.lemmas.List.{append-nil}
 use Rattle.std.proofs.lemmas.List.Sorted.{IsPermutation-refl}
 use Rattle.sector.specs.declared.Extent.{Extent}
-use Rattle.srb.specs.Adapter.{AdapterView, ReservesMore}
+use Rattle.srb.specs.Adapter.{ReservesMore}
 use Rattle.srb.proofs.Joining.{reserves_none}
 use Rattle.device.specs.declared.Label.{Label}
 use Rattle.device.specs.State.{State}

@@ -1,5 +1,5 @@
 -- What a layer shows of itself.
-use Rattle.std.specs.Prelude.{◌≡◌, ◌<◌, ◌≤◌, ℕ, ◌+◌, ◌-◌, ◌*◌, Bool, true, false, List, [], ◌∷◌, Option, Some, None, map, length, slice_range, IsNone, IsTrue, IsFalse, All, IsPermutation, if◌then◌else◌}
+use Rattle.std.specs.Prelude.{◌≡◌, ◌<◌, ◌≤◌, ℕ, ◌+◌, ◌-◌, ◌*◌, Bool, true, false, List, [], Some, None, map, length, slice_range, IsNone, IsTrue, IsFalse, All, IsPermutation, if◌then◌else◌}
 use Rattle.sector.specs.declared.Extent.{Extent}
 use Rattle.cdb.specs.declared.Cdb.{Cdb}
 use Rattle.cdb.specs.Meaning.{Means}
@@ -15,7 +15,6 @@ use Rattle.irp.specs.declared.Payload.TheVariants.{Buffer, Srb as Packed, Sent a
 use Rattle.device.specs.declared.Kind.{Kind}
 use Rattle.device.specs.declared.Kind.TheVariants.{Read, Write, Flush}
 use Rattle.device.specs.declared.Request.{Request}
-use Rattle.device.specs.declared.ClientRequest.{ClientRequest}
 use Rattle.device.specs.Rules.{Rules, is_transfer, sectors_of, as_client}
 use Rattle.device.specs.State.{OpenRequest, Piece, State}
 use Rattle.device.specs.Sending.{command_for}

@@ -4,13 +4,11 @@ use Rattle.std.specs.Prelude.{All, slice_get, slice_range}
 use Rattle.std.specs.List.{concat}
 use Rattle.std.proofs.lemmas.List.{drop-drop, drop-take, take-take, take_at, drop_at, take-append-drop}
 use Rattle.std.proofs.lemmas.List.Elements.{All-head, All-tail}
+use Rattle.sector.specs.Extents.{IsSector}
 
 -- the sector at a place of bytes laid end to end
 abbrev pub chunk : ℕ → ℕ → List ℕ → List ℕ
 chunk size k bytes = take size (drop (k * size) bytes)
-
-abbrev pub Has : ℕ → List ℕ → Type 0
-Has size sector = length sector ≡ size
 
 chunk_next : (size k : ℕ) (bytes : List ℕ) → chunk size k (drop size bytes) ≡ chunk size (suc k) bytes
 chunk_next size k bytes =
@@ -21,14 +19,14 @@ chunk_first : (size : ℕ) (bytes : List ℕ) → chunk size 0 bytes ≡ take si
 chunk_first size bytes = let n : 0 * size ≡ 0 = omega arith in ap (λ m. take size (drop m bytes)) n
 
 -- sectors of one size are the chunks of what they join to
-pub concat_chunk : (size : ℕ) (sectors : List (List ℕ)) (k : ℕ) (d : List ℕ) → All (Has size) sectors → k < length sectors → get_or sectors k d ≡ chunk size k (concat sectors)
+pub concat_chunk : (size : ℕ) (sectors : List (List ℕ)) (k : ℕ) (d : List ℕ) → All (IsSector size) sectors → k < length sectors → get_or sectors k d ≡ chunk size k (concat sectors)
 concat_chunk size [] k d sized low = absurd (omega arith)
 concat_chunk size (x ∷ xs) zero d sized low =
-    let e : length x ≡ size = All-head (Has size) x xs sized in
+    let e : length x ≡ size = All-head (IsSector size) x xs sized in
     sym (chunk_first size (x ++ concat xs) ∙ take_at x (concat xs) size e)
 concat_chunk size (x ∷ xs) (suc k) d sized low =
-    let e : length x ≡ size = All-head (Has size) x xs sized in
-    let rest : get_or xs k d ≡ chunk size k (concat xs) = concat_chunk size xs k d (All-tail (Has size) x xs sized) (fewer low) in
+    let e : length x ≡ size = All-head (IsSector size) x xs sized in
+    let rest : get_or xs k d ≡ chunk size k (concat xs) = concat_chunk size xs k d (All-tail (IsSector size) x xs sized) (fewer low) in
     rest ∙ ap (λ ys. chunk size k ys) (sym (drop_at x (concat xs) size e)) ∙ chunk_next size k (x ++ concat xs)
   where
     fewer : suc k < length (x ∷ xs) → k < length xs

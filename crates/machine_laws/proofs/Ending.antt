@@ -1,6 +1,7 @@
 -- What comes no more after an answer.
 use Rattle.std.proofs.Common.{◌≡◌, ◌≢◌, ◌<◌, ◌≤◌, inl, inr, ℕ, List, [], ◌∷◌, Option, Some, None, refl, sym, ◌∙◌, arith}
 use Rattle.std.specs.Prelude.{IsPermutation, All, Any, eqb}
+use Rattle.std.proofs.Math.Nat.{lt_of_lt_of_le}
 use Rattle.std.proofs.lemmas.Map.Keys.{IsDistinct-tail}
 use Rattle.std.proofs.lemmas.List.Sorted.{IsPermutation-sym, All-permutation}
 use Rattle.std.proofs.lemmas.List.Elements.{All-head, All-tail, All-cons, All-weaker, All-map, All-contains}
@@ -75,11 +76,8 @@ module _ (number : ℕ) where
   by_owing s _ s' g h = absurd h
 
   pub IsGone-Step : (rules : Rules) (s : State) (label : Label) (s' : State) → IsGone number s → Step rules s label s' → IsGone number s'
-  IsGone-Step rules s label s' g h = record { given = later g.given (Step-number rules s label s' h); not_open = by_side h }
+  IsGone-Step rules s label s' g h = record { given = lt_of_lt_of_le g.given (Step-number rules s label s' h); not_open = by_side h }
     where
-      later : {a b c : ℕ} → a < b → b ≤ c → a < c
-      later x y = omega arith
-
       by_side : Step rules s label s' → All (HasOtherNumber number) s'.requests
       by_side (inl h') = by_label rules s label s' g h'.1
       by_side (inr h') = by_owing s label s' g h'

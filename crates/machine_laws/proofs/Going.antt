@@ -1,6 +1,7 @@
 -- From an opening state on, and from a call to its answer.
-use Rattle.std.proofs.Common.{◌≡◌, ◌≢◌, ◌<◌, ◌≤◌, inl, inr, ℕ, List, [], ◌∷◌, ◌++◌, Option, Some, None, refl, subst, arith}
+use Rattle.std.proofs.Common.{◌≡◌, ◌≢◌, ◌<◌, inl, inr, ℕ, List, [], ◌∷◌, ◌++◌, Option, Some, None, refl, subst, arith}
 use Rattle.std.specs.Prelude.{IsNone}
+use Rattle.std.proofs.Math.Nat.{lt_of_lt_of_le}
 use Rattle.ntstatus.specs.declared.NtStatus.{NtStatus}
 use Rattle.srb.specs.declared.DeviceLabel.{DeviceLabel}
 use Rattle.srb.specs.declared.DeviceLabel.TheVariants.{Start, Act, Fault, Return}
@@ -79,10 +80,7 @@ step_owed rules s number label s' low (inr h) = owing_owed s number label s' h
 run_owed : (rules : Rules) (s : State) (number : ℕ) (labels : List Label) (s' : State) → number < s.next_request → IsNotOwed number s.owed → Run rules s labels s' → IsNotOwed number s'.owed
 run_owed rules s number [] s' low owed run = rw (← run.owed) owed
 run_owed rules s number (label ∷ labels) s' low owed run =
-    run_owed rules run.0 number labels s' (later low (Step-number rules s label run.0 run.1)) (step_owed rules s number label run.0 low run.1) run.2
-  where
-    later : {a b c : ℕ} → a < b → b ≤ c → a < c
-    later x y = omega arith
+    run_owed rules run.0 number labels s' (lt_of_lt_of_le low (Step-number rules s label run.0 run.1)) (step_owed rules s number label run.0 low run.1) run.2
 
 -- FROM A CALL TO ITS ANSWER
 

@@ -1,6 +1,6 @@
 -- After the end of a removal the device is empty, and left alone.
-use Rattle.std.proofs.Common.{◌≡◌, ◌<◌, inl, inr, ℕ, false, List, [], ◌∷◌, Option, Some, None, refl, ap, arith, map, length}
-use Rattle.std.specs.Prelude.{IsPermutation, All, IsTrue}
+use Rattle.std.proofs.Common.{◌≡◌, ◌<◌, inl, inr, ℕ, List, [], ◌∷◌, Option, Some, None, refl, ap, arith, map, length}
+use Rattle.std.specs.Prelude.{IsPermutation, All}
 use Rattle.std.proofs.lemmas.List.Sorted.{IsPermutation-sym}
 use Rattle.std.proofs.lemmas.List.Elements.{All-nil, All-cons}
 use Rattle.ntstatus.specs.declared.NtStatus.{NtStatus}

@@ -1,6 +1,7 @@
 -- What a step does to one sector of the arrays.
 use Rattle.std.proofs.Common.{◌≡◌, ◌<◌, ◌≤◌, ◌⊎◌, inl, inr, ℕ, ◌+◌, ◌-◌, ◌*◌, List, [], ◌∷◌, Option, Some, None, refl, sym, ◌∙◌, ap, subst, arith, length, take, drop}
 use Rattle.std.specs.Prelude.{slice_get}
+use Rattle.std.proofs.Math.Nat.{lt_of_lt_of_le}
 use Rattle.std.proofs.lemmas.Bool.{cases_lt, cases_eq}
 use Rattle.std.proofs.lemmas.List.{get_or-set_same, get_or_past}
 use Rattle.std.proofs.lemmas.List.Elements.{All-contains}
@@ -175,7 +176,7 @@ step_sector rules s label s' sound moved p i = by_arrays moved
     by_hit : (n : ℕ) (bytes : List ℕ) → label ≡ Device (Act n bytes) → (a : Acts rules s n bytes s') → Hits rules a.owner a.piece a.arrays' p i → (r : ℕ) × WritesSector rules r p i s label s'
     by_hit n bytes e a hit =
         let sized : IsSized rules a.owner = All-contains (IsSized rules) s.requests a.owner sound.1.sized a.is_open in
-        let inside : hit.place < place_count rules a.owner.request = lower hit.below (act_inside rules 0 nothing Anything s n bytes s' sound.1 a) in
+        let inside : hit.place < place_count rules a.owner.request = lt_of_lt_of_le hit.below (act_inside rules 0 nothing Anything s n bytes s' sound.1 a) in
         let under : i < sectors_of rules (Some (partition_number a.owner.request)) = reach _ _ _ _ hit.is_sector inside (sized.inside hit.is_write) in
         let w : WritesSector rules a.owner.number p i s label s' = record {
           act = is_act rules s label s' n bytes e a;
@@ -192,9 +193,6 @@ step_sector rules s label s' sound moved p i = by_arrays moved
         } in
         (a.owner.number, w)
       where
-        lower : {x y z : ℕ} → x < y → y ≤ z → x < z
-        lower a b = omega arith
-
         reach : (first place count sectors : ℕ) → first + place ≡ i → place < count → first + count ≤ sectors → i < sectors
         reach first place count sectors e a b = omega arith
 

@@ -1,5 +1,5 @@
 -- No number is given twice, and none is answered twice.
-use Rattle.std.specs.Prelude.{◌≡◌, ◌≢◌, ℕ, List, ◌∷◌, ◌++◌, All, IsNone}
+use Rattle.std.specs.Prelude.{◌≢◌, ℕ, List, ◌∷◌, ◌++◌, All, IsNone}
 use Rattle.ntstatus.specs.declared.NtStatus.{NtStatus}
 use Rattle.device.specs.declared.ClientRequest.{ClientRequest}
 use Rattle.device.specs.declared.Label.{Label}

@@ -1,6 +1,6 @@
 -- The first row of the table that fits decides.
 use Rattle.std.proofs.Common.{◌≡◌, ◌<◌, ◌≤◌, ℕ, ◌+◌, ◌&&◌, Bool, true, false, not, List, [], ◌∷◌, length, Option, Some, None, refl, sym, ◌∙◌}
-use Rattle.std.proofs.lemmas.Bool.{lt-ltb, le-ltb, eqb-true}
+use Rattle.std.proofs.lemmas.Bool.{lt-ltb, le-ltb, eqb-true, and_parts}
 use Rattle.cdb.specs.declared.Cdb.{Cdb}
 use Rattle.srb.specs.declared.Srb.{Srb}
 use Rattle.srb.specs.declared.Completion.{Completion}
@@ -54,12 +54,8 @@ pub is_write_refused : (sizes : Sizes) (srb : Srb) (command : Cdb) (fitting refu
 is_write_refused sizes srb command fitting refused found e f r bad =
     third_row _ _ _ _ _ _ _ (le-ltb _ _ found.within) (sym (found.tells bad) ∙ e) (sym f ∙ r)
 
-both_right : (a b : Bool) → (a && b) ≡ true → b ≡ true
-both_right true b e = e
-both_right false b e = absurd cc
-
 as_long : (sizes : Sizes) (srb : Srb) (command : Cdb) → fits (disk_with sizes []) srb command ≡ true → length srb.data ≡ bytes_of sizes.sector_size command
-as_long sizes srb command e = eqb-true _ _ (both_right _ _ e)
+as_long sizes srb command e = eqb-true _ _ (and_parts _ _ e).1
 
 pub is_left : (sizes : Sizes) (srb : Srb) (command : Cdb) (fitting refused : Bool) → Found sizes srb command fitting → fitting ≡ true
     → refused ≡ (is_write command && sizes.write_protected) → refused ≡ false → Fits sizes srb command

@@ -1,12 +1,12 @@
 -- Sectors read and written on a medium are those that the command moves.
-use Rattle.std.proofs.Common.{◌≡◌, ◌≤◌, ℕ, ◌+◌, ◌-◌, ◌&&◌, Bool, true, false, List, [], ◌∷◌, ◌++◌, length, take, drop, slice_range, slice_index, Some, None, Ok, All, refl, sym, ap, ◌∙◌, ◌⊎◌, inl, inr, arith, length-drop}
+use Rattle.std.proofs.Common.{◌≡◌, ◌≤◌, ℕ, ◌+◌, ◌-◌, Bool, true, false, List, [], ◌∷◌, ◌++◌, length, take, drop, slice_range, slice_index, Some, None, Ok, All, refl, sym, ap, ◌∙◌, ◌⊎◌, inl, inr, arith, length-drop}
 use Rattle.std.specs.Prelude.{Any}
 use Rattle.std.specs.List.{concat, list_any}
 use Rattle.std.specs.Simd.{first_chunks}
 use Rattle.std.proofs.lemmas.List.{take_at, drop_at, length-take-le, nil_from_length, append-nil}
 use Rattle.std.proofs.lemmas.List.Elements.{All-head, All-tail, All-take, All-drop}
 use Rattle.std.proofs.lemmas.List.Folds.{Any-from_list_any, list_any-from_Any}
-use Rattle.std.proofs.lemmas.Bool.{lt-ltb, ltb-true, le-leb, leb-true}
+use Rattle.std.proofs.lemmas.Bool.{lt-ltb, ltb-true, le-leb, leb-true, and_parts}
 use Rattle.std.specs.Cmp.Derive.{both_true}
 use Rattle.byteorder.specs.Endian.{big_from}
 use Rattle.sector.specs.Extents.{IsSector}
@@ -57,17 +57,13 @@ bad_named : (medium : MediumView) (first count : ℕ) → HasBad medium (record 
 bad_named medium first count bad = list_any-from_Any (is_one_of first count) medium.bad
     (bad.1.0, bad.0, bad.1.1, bad.1.2, both_true (le-leb _ _ bad.2.0) (lt-ltb _ _ bad.2.1))
 
-both_of : (a b : Bool) → (a && b) ≡ true → (a ≡ true) × (b ≡ true)
-both_of true b e = (refl, e)
-both_of false b e = absurd cc
-
 -- none is, where the medium didn't refuse
 none_named : (medium : MediumView) (first count : ℕ) → (¬ HasBad medium (record { first = first; count = count })) → (b : Bool)
     → list_any (is_one_of first count) medium.bad ≡ b → b ≡ false
 none_named medium first count none false e = refl
 none_named medium first count none true e =
     let found : Any (λ (s : ℕ). is_one_of first count s ≡ true) medium.bad = Any-from_list_any (is_one_of first count) medium.bad e in
-    let both = both_of _ _ found.4 in
+    let both = and_parts _ _ found.4 in
     absurd (none (found.1, (found.0, found.2, found.3), (leb-true _ _ both.0, ltb-true _ _ both.1)))
 
 no_fault_of_read : (disk : Disk) (lba count : ℕ) (fua : Bool) → list_any (is_one_of lba count) disk.bad ≡ false → fault_of_medium disk (Read10 lba count fua) ≡ None

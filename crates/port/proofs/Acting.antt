@@ -1,5 +1,5 @@
 -- A piece is carried out, or faults.
-use Rattle.std.proofs.Common.{◌≡◌, ◌<◌, ◌⊎◌, inl, inr, ℕ, ◌+◌, ◌-◌, ◌*◌, ◌/◌, Bool, List, [], ◌∷◌, ◌++◌, Some, refl, sym, subst, ap, ◌∙◌, arith, map, length, take, get_or}
+use Rattle.std.proofs.Common.{◌≡◌, ◌<◌, ◌⊎◌, inl, inr, ℕ, ◌+◌, ◌-◌, ◌*◌, ◌/◌, Bool, List, [], ◌∷◌, Some, refl, sym, subst, ap, ◌∙◌, arith, map, length, take, get_or}
 use Rattle.std.specs.Prelude.{All, slice_set, slice_index, if◌then◌else◌}
 use Rattle.std.specs.List.{concat, slice_range}
 use Rattle.std.proofs.lemmas.List.{length-append, take_all, length-take, length-drop}
@@ -10,9 +10,7 @@ use Rattle.cdb.specs.declared.Cdb.{Cdb}
 use Rattle.cdb.specs.declared.Cdb.TheVariants.{Read10, Write10, Sync10, ReadCapacity10}
 use Rattle.cdb.specs.Meaning.{Means}
 use Rattle.srb.specs.declared.Srb.{Srb}
-use Rattle.srb.specs.declared.DeviceLabel.{DeviceLabel}
 use Rattle.srb.specs.Performing.{Performs}
-use Rattle.srb.specs.Adapter.{AdapterView, TagInUse}
 use Rattle.irp.specs.declared.Payload.TheVariants.{Srb as Packed}
 use Rattle.device.specs.declared.Kind.{Kind}
 use Rattle.device.specs.declared.Kind.TheVariants.{Read, Write, Flush}
@@ -26,10 +24,6 @@ use Rattle.port.specs.declared.queues.Sizes.{Sizes}
 use Rattle.port.specs.Shown.{rules_of, places_of, cut}
 use Rattle.port.proofs.Lists.{cut-concat}
 use Rattle.port.proofs.Sizing.{volume_zero, sectors_are, places_transfer, places_flush}
-
--- the view with other tags, other sectors, failures and one label more
-abbrev pub view_acted : AdapterView → List (List ℕ) → List TagInUse → ℕ → DeviceLabel → AdapterView
-view_acted v sectors tags failures label = record v { sectors = sectors; tags = tags; failures = failures; labels = v.labels ++ label ∷ [] }
 
 -- the one array is the disk
 pub whole_disk : (sectors : List (List ℕ)) (count : ℕ) → count ≡ length sectors → slice_range sectors 0 (0 + count) ≡ sectors

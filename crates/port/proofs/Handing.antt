@@ -1,6 +1,6 @@
 -- A packet that has ended is handed up; where there is none, the port is settled.
 use Rattle.std.proofs.Common.{◌≡◌, ◌≢◌, ◌<◌, ◌≤◌, inl, inr, ℕ, zero, suc, ◌*◌, ◌^◌, Bool, true, false, List, [], ◌∷◌, ◌++◌, refl, sym, subst, ap, ◌∙◌, arith, map, length, get_or, replicate}
-use Rattle.std.specs.Prelude.{◌↔◌, if◌then◌else◌, All, IsTrue, IsFalse, IsPermutation}
+use Rattle.std.specs.Prelude.{◌↔◌, if◌then◌else◌, All, IsTrue, IsPermutation}
 use Rattle.std.specs.List.{list_all}
 use Rattle.std.proofs.lemmas.List.{length-map, nil_from_length}
 use Rattle.std.proofs.lemmas.List.Elements.{All-nil, All-cons, All-map, All-replicate, All-head, All-tail}

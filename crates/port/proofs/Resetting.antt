@@ -1,13 +1,13 @@
 -- A reset, and labels that are taken.
-use Rattle.std.proofs.Common.{◌≡◌, ◌<◌, ◌≤◌, inl, ℕ, suc, ◌+◌, ◌-◌, Bool, true, not, List, [], ◌∷◌, ◌++◌, Option, Some, None, refl, sym, subst, ap, arith, map, length}
-use Rattle.std.specs.Prelude.{All, AllPairs, IsNone, IsPermutation, MatchOption, filter}
-use Rattle.std.proofs.lemmas.List.{length-append, length-map, map-append, get_or-map}
+use Rattle.std.proofs.Common.{◌≡◌, ◌≤◌, inl, ℕ, ◌+◌, ◌-◌, Bool, true, not, List, [], ◌∷◌, ◌++◌, Option, Some, None, refl, sym, subst, ap, arith, map, length}
+use Rattle.std.specs.Prelude.{All, IsNone, IsPermutation, MatchOption, filter}
+use Rattle.std.proofs.lemmas.List.{length-append, length-map, map-append}
 use Rattle.std.proofs.lemmas.List.Elements.{All-nil, All-cons, All-weaker, All-head, All-tail, All-map}
 use Rattle.std.specs.List.Sorted.{IsStrictlyIncreasing}
 use Rattle.std.proofs.lemmas.List.Sorted.{IsPermutation-refl, IsPermutation-sym, IsPermutation-trans, IsPermutation-cons, IsPermutation-map, IsPermutation-middle, IsPermutation-append_left, IsPermutation-append_right, IsPermutation-filter_both, All-permutation, length_permutation}
 use Rattle.srb.specs.declared.DeviceLabel.{DeviceLabel}
 use Rattle.srb.specs.Fate.{Fate, Fresh, Acted, Faulted, is_fresh}
-use Rattle.srb.specs.Adapter.{AdapterView, TagInUse, IsInOrder, IsReserved, MovesByAll, NotesReset}
+use Rattle.srb.specs.Adapter.{AdapterView, TagInUse, IsInOrder, MovesByAll, NotesReset}
 use Rattle.miniport.specs.Calls.{Resets as AdapterResets, HasNoLabel, LeavesFirst, after_reset, fate_after_reset, tag_of, is_fresh_use, fault_of as use_fault}
 use Rattle.device.specs.declared.Request.{Request}
 use Rattle.device.specs.Rules.{Rules}

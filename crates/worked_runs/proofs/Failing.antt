@@ -13,7 +13,7 @@ use Rattle.worked_runs.specs.Failed.{cancelled_in_three, IsCutShort, StaysBusy, 
 use Rattle.worked_runs.specs.Impossible.{cut, both_failed}
 use Rattle.worked_runs.proofs.Early.{reaches_both_failed}
 use Rattle.worked_runs.proofs.Losing.{reaches_cut}
-use Rattle.worked_runs.proofs.Steps.{called, started, acted, faulted, returned, answered, cancelled, tag_0}
+use Rattle.worked_runs.proofs.Steps.{called, started, acted, faulted, returned, answered, tag_0}
 
 pub is_cut_short : IsCutShort
 is_cut_short =

@@ -1,6 +1,6 @@
 -- What a step asks of the request that it names, for each open request.
 use Rattle.std.proofs.Common.{◌≡◌, ◌<◌, ◌+◌, ◌-◌, ℕ, List, ◌∷◌, true, false, refl, ap, subst, inl, inr, zero, suc, take, drop, arith}
-use Rattle.std.specs.Prelude.{All, IsPermutation, IsNone, IsFalse, is_some, IsTrue, ◌↔◌}
+use Rattle.std.specs.Prelude.{All, IsPermutation, IsNone, is_some, IsTrue, ◌↔◌}
 use Rattle.std.specs.List.{AllByRecursion, list_all}
 use Rattle.std.proofs.lemmas.List.Sorted.{All-permutation}
 use Rattle.std.proofs.lemmas.List.Elements.{All-head, All-from_recursion, recursion_from_All}
@@ -11,7 +11,7 @@ use Rattle.cdb.specs.Meaning.{Means}
 use Rattle.srb.specs.declared.DeviceLabel.TheVariants.{Start}
 use Rattle.device.specs.declared.Label.TheVariants.{Device, Answer}
 use Rattle.device.specs.Rules.{Rules}
-use Rattle.device.specs.State.{Mark, Untouched, Out, OpenRequest, State}
+use Rattle.device.specs.State.{Mark, OpenRequest, State}
 use Rattle.device.specs.Sending.{MayStart, IsSendable, IsUnsent, command_for}
 use Rattle.device.specs.Answering.{HasEnded, HasCause, is_done, answer_bytes}
 use Rattle.device.specs.Step.{Step}
