@@ -1,2 +1,3 @@
 mod Keys
+mod Spelled
 mod Zipped

@@ -1,5 +1,7 @@
 //! The words of a line, which spaces separate.
 
+ghost use Rattle.stackrun.specs.Script.{Finds, IsByte, IsNumber};
+
 /// What is left of a line.
 #[derive(Debug, Clone, Copy, PartialEq, Eq)]
 pub struct Words<'a> {
@@ -39,16 +41,20 @@ impl<'a> Words<'a> {
 }
 
 /// A number of 1 to 20 decimal digits, below 2^64.
-fn number(word: &str) -> Option<u64> {
-    if word.len() > 20 || !word.bytes().all(|digit| digit.is_ascii_digit()) {
+fn number(word: &str) -> Option<u64>
+    ensures { Finds (IsNumber word.now) result }
+{
+    if word.len() > 20 || word.starts_with('+') {
         return None;
     }
     word.parse().ok()
 }
 
 /// A byte of two hexadecimal digits, of either case.
-fn byte(word: &str) -> Option<u8> {
-    if word.len() != 2 || !word.bytes().all(|digit| digit.is_ascii_hexdigit()) {
+fn byte(word: &str) -> Option<u8>
+    ensures { Finds (IsByte word.now) result }
+{
+    if word.len() != 2 || word.starts_with('+') {
         return None;
     }
     u8::from_str_radix(word, 16).ok()
