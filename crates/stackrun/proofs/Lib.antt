@@ -1,3 +1,4 @@
 mod Keys
+mod Parted
 mod Spelled
 mod Zipped

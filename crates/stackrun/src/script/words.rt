@@ -1,27 +1,49 @@
 //! The words of a line, which spaces separate.
 
-ghost use Rattle.stackrun.specs.Script.{Finds, IsByte, IsNumber};
+ghost use Rattle.std.specs.Prelude.{◌≡◌, ◌≤◌, ℕ, List, drop, option_copied, slice_get};
+ghost use Rattle.stackrun.specs.Script.{Finds, FirstIs, IsByte, IsNumber, words_of};
 
-/// What is left of a line.
-#[derive(Debug, Clone, Copy, PartialEq, Eq)]
+use std::marker::Model;
+
+/// What is left of a line. Contracts see the words in it.
+#[derive(Drop)]
 pub struct Words<'a> {
     rest: &'a str,
 }
 
+impl<'a> Model for Words<'a> {
+    ghost Value = { List (List ℕ) };
+
+    ghost view = { λ words. words_of words.rest.now };
+}
+
 impl<'a> Words<'a> {
-    pub fn new(line: &'a str) -> Words<'a> {
+    pub fn new(line: &'a str) -> Words<'a>
+        ensures { result ≡ words_of line.entry.now }
+    {
         Words { rest: line }
     }
 
     /// The next word.
-    pub fn word(&mut self) -> Option<&'a str> {
+    pub fn word(&mut self) -> Option<&'a str>
+        ensures first { option_copied result ≡ slice_get self.old 0 }
+        ensures rest { self.new ≡ drop 1 self.old }
+    {
         let rest = self.rest.trim_start_matches(' ');
         if rest.is_empty() {
+            self.rest = rest;
             return None;
         }
-        let (word, after) = rest.split_once(' ').unwrap_or((rest, ""));
-        self.rest = after;
-        Some(word)
+        match rest.split_once(' ') {
+            Some((word, after)) => {
+                self.rest = after;
+                Some(word)
+            }
+            None => {
+                self.rest = "";
+                Some(rest)
+            }
+        }
     }
 
     /// The next word, where it is a number.
