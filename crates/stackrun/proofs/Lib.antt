@@ -1,3 +1,4 @@
+mod Asked
 mod Keys
 mod Parted
 mod Spelled

@@ -1,7 +1,9 @@
 -- What the lines of a script mean. Bytes of the text: 32 is a space, 35 a '#'.
-use Rattle.std.specs.Prelude.{◌≡◌, ℕ, ◌^◌, ◌<◌, ◌≤◌, List, Option, length, slice_get, not, ◌==◌, filter, IsSomeAnd, MatchOption}
-use Rattle.std.specs.List.{slice_split}
+use Rattle.std.specs.Prelude.{◌≡◌, ◌^◌, ◌<◌, ◌≤◌, ◌==◌, ℕ, List, [], ◌∷◌, Option, IsSomeAnd, MatchOption, codes, filter, length, not, slice_get}
+use Rattle.std.specs.List.{AllZip, slice_split}
 use Rattle.std.specs.Str.Parse.{IsNumeral, digits_value}
+use Rattle.stackrun.specs.declared.script.Order.{Order}
+use Rattle.stackrun.specs.declared.script.Order.TheVariants.{Open, Read, Write, Act, Finish}
 
 -- what was found has the property, and nothing has it where nothing was found
 abbrev pub Finds : {A : Type 0} → (A → Type 0) → Option A → Type 0
@@ -24,6 +26,39 @@ pub record IsByte (word : List ℕ) (n : ℕ) : Type 0 where
 abbrev pub words_of : List ℕ → List (List ℕ)
 words_of line = filter (λ word. not (length word == 0)) (slice_split (λ b. b == 32) line)
 
--- the first of some words has a property
-abbrev pub FirstIs : List (List ℕ) → (List ℕ → Type 0) → Type 0
-FirstIs words P = IsSomeAnd (slice_get words 0) P
+-- an argument of an order
+pub data Argument : Type 0 where
+  Number : ℕ → Argument
+  Length : ℕ → Argument
+  Byte : ℕ → Argument
+
+-- a word spells an argument; a length is at most 65,537 sectors of 4,096 bytes
+abbrev pub Spells : List ℕ → Argument → Type 0
+Spells word (Number n) = IsNumber word n
+Spells word (Length n) = IsNumber word n × (n ≤ 268439552)
+Spells word (Byte n) = IsByte word n
+
+-- the first of some words spells an argument
+abbrev pub FirstSpells : List (List ℕ) → Argument → Type 0
+FirstSpells words argument = IsSomeAnd (slice_get words 0) (λ word. Spells word argument)
+
+-- the word that an order begins with
+abbrev pub verb_of : Order → List ℕ
+verb_of (Open partition) = codes "open"
+verb_of (Read handle offset count) = codes "read"
+verb_of (Write handle offset count byte) = codes "write"
+verb_of (Act tag) = codes "act"
+verb_of (Finish tag) = codes "finish"
+
+-- what follows it
+abbrev pub arguments_of : Order → List Argument
+arguments_of (Open partition) = Number partition ∷ []
+arguments_of (Read handle offset count) = Number handle ∷ Number offset ∷ Length count ∷ []
+arguments_of (Write handle offset count byte) = Number handle ∷ Number offset ∷ Length count ∷ Byte byte ∷ []
+arguments_of (Act tag) = Number tag ∷ []
+arguments_of (Finish tag) = Number tag ∷ []
+
+-- words ask for an order: its verb, and then its arguments one by one
+abbrev pub Asks : List (List ℕ) → Order → Type 0
+Asks [] order = ⊥
+Asks (verb ∷ words) order = (verb ≡ verb_of order) × AllZip Spells words (arguments_of order)

@@ -2,12 +2,13 @@
 
 pub mod words;
 
+ghost use Rattle.std.specs.Prelude.{◌≡◌, [], ◌∷◌, codes};
+ghost use Rattle.std.specs.List.{AllZip};
+ghost use Rattle.stackrun.specs.Script.{Asks, Finds, Number, Spells, words_of};
+
 use crate::faults::Fault;
 use crate::script::words::Words;
 use std::alloc::Global;
-
-/// The longest request that a script may ask for, in bytes: 65,537 sectors of 4,096.
-const LONGEST: u64 = 268_439_552;
 
 /// What a line asks for. Handles, partitions and tags are numbers as they were written, there or not.
 #[derive(Debug, Clone, Copy, PartialEq, Eq)]
@@ -67,38 +68,55 @@ pub fn lines(alloc: Global, text: &str) -> Result<Vec<Line<'_>>, Fault> {
 }
 
 /// What a line asks for; none where it is no event.
-fn order_of(text: &str) -> Option<Order> {
+fn order_of(text: &str) -> Option<Order>
+    ensures { Finds (Asks (words_of text.now)) result }
+{
     let mut words = Words::new(text);
-    let order = order_at(&mut words)?;
-    match words.word() {
-        None => Some(order),
-        Some(_) => None,
-    }
-}
-
-/// The order that some words begin with.
-fn order_at(words: &mut Words<'_>) -> Option<Order> {
     match words.word()? {
         "open" => Some(Order::Open {
-            partition: words.number()?,
+            partition: last_number(words)?,
         }),
-        "read" => Some(Order::Read {
-            handle: words.number()?,
-            offset: words.number()?,
-            length: words.number_up_to(LONGEST)?,
-        }),
-        "write" => Some(Order::Write {
-            handle: words.number()?,
-            offset: words.number()?,
-            length: words.number_up_to(LONGEST)?,
-            byte: words.byte()?,
-        }),
+        "read" => read(words),
+        "write" => write(words),
         "act" => Some(Order::Act {
-            tag: words.number()?,
+            tag: last_number(words)?,
         }),
         "finish" => Some(Order::Finish {
-            tag: words.number()?,
+            tag: last_number(words)?,
         }),
         _ => None,
     }
+}
+
+/// The number that is the one word left.
+fn last_number(mut words: Words<'_>) -> Option<u64>
+    ensures { Finds (λ n. AllZip Spells words.entry (Number n ∷ [])) result }
+{
+    let number = words.number()?;
+    words.is_at_end().then_some(number)
+}
+
+/// What the words after `read` ask for.
+fn read(mut words: Words<'_>) -> Option<Order>
+    ensures { Finds (Asks (codes "read" ∷ words.entry)) result }
+{
+    let order = Order::Read {
+        handle: words.number()?,
+        offset: words.number()?,
+        length: words.length()?,
+    };
+    words.is_at_end().then_some(order)
+}
+
+/// What the words after `write` ask for.
+fn write(mut words: Words<'_>) -> Option<Order>
+    ensures { Finds (Asks (codes "write" ∷ words.entry)) result }
+{
+    let order = Order::Write {
+        handle: words.number()?,
+        offset: words.number()?,
+        length: words.length()?,
+        byte: words.byte()?,
+    };
+    words.is_at_end().then_some(order)
 }

@@ -1,9 +1,12 @@
 //! The words of a line, which spaces separate.
 
-ghost use Rattle.std.specs.Prelude.{◌≡◌, ◌≤◌, ℕ, List, drop, option_copied, slice_get};
-ghost use Rattle.stackrun.specs.Script.{Finds, FirstIs, IsByte, IsNumber, words_of};
+ghost use Rattle.std.specs.Prelude.{◌≡◌, ◌↔◌, ℕ, List, [], IsTrue, drop, option_copied, slice_get};
+ghost use Rattle.stackrun.specs.Script.{Byte, Finds, FirstSpells, IsByte, IsNumber, Length, Number, words_of};
 
 use std::marker::Model;
+
+/// The longest request that a script may ask for, in bytes: 65,537 sectors of 4,096.
+const LONGEST: u64 = 268_439_552;
 
 /// What is left of a line. Contracts see the words in it.
 #[derive(Drop)]
@@ -47,18 +50,39 @@ impl<'a> Words<'a> {
     }
 
     /// The next word, where it is a number.
-    pub fn number(&mut self) -> Option<u64> {
+    pub fn number(&mut self) -> Option<u64>
+        ensures value { Finds (λ n. FirstSpells self.old (Number n)) result }
+        ensures rest { self.new ≡ drop 1 self.old }
+    {
         number(self.word()?)
     }
 
-    /// The next word, where it is a number up to `most`.
-    pub fn number_up_to(&mut self, most: u64) -> Option<u64> {
-        self.number().filter(|number| *number <= most)
+    /// The next word, where it is the length of a request, in bytes.
+    pub fn length(&mut self) -> Option<u64>
+        ensures value { Finds (λ n. FirstSpells self.old (Length n)) result }
+        ensures rest { self.new ≡ drop 1 self.old }
+    {
+        let length = self.number()?;
+        if length <= LONGEST {
+            Some(length)
+        } else {
+            None
+        }
     }
 
     /// The next word, where it is a byte.
-    pub fn byte(&mut self) -> Option<u8> {
+    pub fn byte(&mut self) -> Option<u8>
+        ensures value { Finds (λ n. FirstSpells self.old (Byte n)) result }
+        ensures rest { self.new ≡ drop 1 self.old }
+    {
         byte(self.word()?)
+    }
+
+    /// Whether no word is left.
+    pub fn is_at_end(mut self) -> bool
+        ensures { IsTrue result ↔ (self.entry ≡ []) }
+    {
+        self.word().is_none()
     }
 }
 
