@@ -1,7 +1,11 @@
--- What the lines of a script mean. Bytes of the text: 32 is a space, 35 a '#'.
-use Rattle.std.specs.Prelude.{◌≡◌, ◌^◌, ◌<◌, ◌≤◌, ◌==◌, ℕ, List, [], ◌∷◌, Option, IsSomeAnd, MatchOption, codes, filter, length, not, slice_get}
+-- What the lines of a script mean. A text is its bytes, of which 32 is a space and 35 a '#'.
+use Rattle.std.specs.Prelude.{◌≡◌, ◌^◌, ◌<◌, ◌≤◌, ◌==◌, ◌+◌, ◌++◌, ℕ, Bool, false, true, if◌then◌else◌, All, map, reverse, List, [], ◌∷◌, Option, IsSomeAnd, MatchOption, codes, filter, length, not, slice_get}
 use Rattle.std.specs.List.{AllZip, slice_split}
+use Rattle.std.specs.Str.Lines.{lines}
 use Rattle.std.specs.Str.Parse.{IsNumeral, digits_value}
+use Rattle.stackrun.specs.declared.faults.Fault.{Fault}
+use Rattle.stackrun.specs.declared.faults.Fault.TheVariants.{BadLine, NoMemory}
+use Rattle.stackrun.specs.declared.script.Line.{Line}
 use Rattle.stackrun.specs.declared.script.Order.{Order}
 use Rattle.stackrun.specs.declared.script.Order.TheVariants.{Open, Read, Write, Act, Finish}
 
@@ -26,7 +30,7 @@ pub record IsByte (word : List ℕ) (n : ℕ) : Type 0 where
 abbrev pub words_of : List ℕ → List (List ℕ)
 words_of line = filter (λ word. not (length word == 0)) (slice_split (λ b. b == 32) line)
 
--- an argument of an order
+-- an argument of an order: a number, the length of a request in bytes, or a byte
 pub data Argument : Type 0 where
   Number : ℕ → Argument
   Length : ℕ → Argument
@@ -50,7 +54,7 @@ verb_of (Write handle offset count byte) = codes "write"
 verb_of (Act tag) = codes "act"
 verb_of (Finish tag) = codes "finish"
 
--- what follows it
+-- and the arguments that follow it
 abbrev pub arguments_of : Order → List Argument
 arguments_of (Open partition) = Number partition ∷ []
 arguments_of (Read handle offset count) = Number handle ∷ Number offset ∷ Length count ∷ []
@@ -62,3 +66,50 @@ arguments_of (Finish tag) = Number tag ∷ []
 abbrev pub Asks : List (List ℕ) → Order → Type 0
 Asks [] order = ⊥
 Asks (verb ∷ words) order = (verb ≡ verb_of order) × AllZip Spells words (arguments_of order)
+
+-- a text without the spaces at its start
+abbrev pub without_spaces : List ℕ → List ℕ
+without_spaces [] = []
+without_spaces (b ∷ bs) = if b == 32 then without_spaces bs else b ∷ bs
+
+-- a text without the spaces at its ends
+abbrev pub trimmed : List ℕ → List ℕ
+trimmed text = reverse (without_spaces (reverse (without_spaces text)))
+
+-- the lines of a script, trimmed: a line feed ends a line, and a carriage return before it is dropped
+abbrev pub lines_of : List ℕ → List (List ℕ)
+lines_of script = map trimmed (lines script)
+
+-- a line, trimmed, is to be an event: it is neither empty nor a remark
+abbrev pub is_event : List ℕ → Bool
+is_event [] = false
+is_event (b ∷ bs) = not (b == 35)
+
+-- a line as it was read: its text, and the order that its words ask for
+pub record IsLine (text : List ℕ) (line : Line) : Type 0 where
+  pub same_text : line.text.now ≡ text
+  pub asked : Asks (words_of text) line.order
+
+-- the lines that are to be events were read, in order, each in its place
+abbrev pub AreEvents : List (List ℕ) → List Line → Type 0
+AreEvents texts read = AllZip IsLine (filter is_event texts) read
+
+-- a line is bad: it is to be an event, and asks for no order
+abbrev pub IsBad : List ℕ → Type 0
+IsBad text = (is_event text ≡ true) × ((order : Order) → ¬ (Asks (words_of text) order))
+
+-- the first bad line of a script has this number, from 1
+pub record IsFirstBad (script : List ℕ) (number : ℕ) : Type 0 where
+  pub before : List (List ℕ)
+  pub bad : List ℕ
+  pub after : List (List ℕ)
+  pub split : lines_of script ≡ before ++ bad ∷ after
+  pub counted : number ≡ length before + 1
+  pub good : All (λ text. ¬ (IsBad text)) before
+  pub is_bad : IsBad bad
+
+-- why a script is refused: its first bad line, or want of memory
+abbrev pub IsFaultOf : List ℕ → Fault → Type 0
+IsFaultOf script (BadLine number) = IsFirstBad script number
+IsFaultOf script NoMemory = Unit {0}
+IsFaultOf script _ = ⊥

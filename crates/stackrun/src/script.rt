@@ -2,9 +2,9 @@
 
 pub mod words;
 
-ghost use Rattle.std.specs.Prelude.{◌≡◌, [], ◌∷◌, codes};
+ghost use Rattle.std.specs.Prelude.{◌≡◌, [], ◌∷◌, IfErr, IfOk, codes};
 ghost use Rattle.std.specs.List.{AllZip};
-ghost use Rattle.stackrun.specs.Script.{Asks, Finds, Number, Spells, words_of};
+ghost use Rattle.stackrun.specs.Script.{AreEvents, Asks, Finds, IsFaultOf, Number, Spells, is_event, lines_of, trimmed, words_of};
 
 use crate::faults::Fault;
 use crate::script::words::Words;
@@ -50,21 +50,40 @@ pub struct Line<'a> {
 ///
 /// [`Fault::BadLine`] with the number of the first line, from 1, that is neither empty, nor a remark, nor an event;
 /// [`Fault::NoMemory`].
-pub fn lines(alloc: Global, text: &str) -> Result<Vec<Line<'_>>, Fault> {
+pub fn lines(alloc: Global, text: &str) -> Result<Vec<Line<'_>>, Fault>
+    ensures events { IfOk result (λ lines. AreEvents (lines_of text.now) lines.items) }
+    ensures fault { IfErr result (IsFaultOf text.now) }
+{
     let mut lines = Vec::new(alloc);
     let mut number: u64 = 0;
     for line in text.lines() {
         number = number.saturating_add(1);
-        let text = line.trim_matches(' ');
-        if text.is_empty() || text.starts_with('#') {
+        let text = trimmed(line);
+        if !is_event(text) {
             continue;
         }
-        let order = order_of(text).ok_or(Fault::BadLine(number))?;
-        lines
-            .push(Line { text, order })
-            .map_err(|_| Fault::NoMemory)?;
+        let Some(order) = order_of(text) else {
+            return Err(Fault::BadLine(number));
+        };
+        let Ok(()) = lines.push(Line { text, order }) else {
+            return Err(Fault::NoMemory);
+        };
     }
     Ok(lines)
+}
+
+/// A text without the spaces at its ends.
+fn trimmed(text: &str) -> &str
+    ensures { result.now ≡ trimmed text.now }
+{
+    text.trim_start_matches(' ').trim_end_matches(' ')
+}
+
+/// Whether a line is to be an event: it is neither empty nor a remark.
+fn is_event(text: &str) -> bool
+    ensures { result ≡ is_event text.now }
+{
+    !text.is_empty() && !text.starts_with('#')
 }
 
 /// What a line asks for; none where it is no event.
