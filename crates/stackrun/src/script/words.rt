@@ -8,6 +8,9 @@ use std::marker::Model;
 /// The longest request that a script may ask for, in bytes: 65,537 sectors of 4,096.
 const LONGEST: u64 = 268_439_552;
 
+/// The most digits of a number: those of 2^64 - 1.
+const MOST_DIGITS: usize = 20;
+
 /// What is left of a line. Contracts see the words in it.
 #[derive(Drop)]
 pub struct Words<'a> {
@@ -90,7 +93,7 @@ impl<'a> Words<'a> {
 fn number(word: &str) -> Option<u64>
     ensures { Finds (IsNumber word.now) result }
 {
-    if word.len() > 20 || word.starts_with('+') {
+    if word.len() > MOST_DIGITS || word.starts_with('+') {
         return None;
     }
     word.parse().ok()
