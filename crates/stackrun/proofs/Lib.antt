@@ -1,2 +1,7 @@
+mod Asked
 mod Keys
+mod Parted
+mod Reading
+mod Spelled
+mod Trims
 mod Zipped

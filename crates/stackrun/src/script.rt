@@ -2,12 +2,13 @@
 
 pub mod words;
 
+ghost use Rattle.std.specs.Prelude.{◌≡◌, [], ◌∷◌, IfErr, IfOk, codes};
+ghost use Rattle.std.specs.List.{AllZip};
+ghost use Rattle.stackrun.specs.Script.{AreEvents, Asks, Finds, IsFaultOf, Number, Spells, is_event, lines_of, trimmed, words_of};
+
 use crate::faults::Fault;
 use crate::script::words::Words;
 use std::alloc::Global;
-
-/// The longest request that a script may ask for, in bytes: 65,537 sectors of 4,096.
-const LONGEST: u64 = 268_439_552;
 
 /// What a line asks for. Handles, partitions and tags are numbers as they were written, there or not.
 #[derive(Debug, Clone, Copy, PartialEq, Eq)]
@@ -49,56 +50,92 @@ pub struct Line<'a> {
 ///
 /// [`Fault::BadLine`] with the number of the first line, from 1, that is neither empty, nor a remark, nor an event;
 /// [`Fault::NoMemory`].
-pub fn lines(alloc: Global, text: &str) -> Result<Vec<Line<'_>>, Fault> {
+pub fn lines(alloc: Global, text: &str) -> Result<Vec<Line<'_>>, Fault>
+    ensures events { IfOk result (λ lines. AreEvents (lines_of text.now) lines.items) }
+    ensures fault { IfErr result (IsFaultOf text.now) }
+{
     let mut lines = Vec::new(alloc);
     let mut number: u64 = 0;
     for line in text.lines() {
         number = number.saturating_add(1);
-        let text = line.trim_matches(' ');
-        if text.is_empty() || text.starts_with('#') {
+        let text = trimmed(line);
+        if !is_event(text) {
             continue;
         }
-        let order = order_of(text).ok_or(Fault::BadLine(number))?;
-        lines
-            .push(Line { text, order })
-            .map_err(|_| Fault::NoMemory)?;
+        let Some(order) = order_of(text) else {
+            return Err(Fault::BadLine(number));
+        };
+        let Ok(()) = lines.push(Line { text, order }) else {
+            return Err(Fault::NoMemory);
+        };
     }
     Ok(lines)
 }
 
-/// What a line asks for; none where it is no event.
-fn order_of(text: &str) -> Option<Order> {
-    let mut words = Words::new(text);
-    let order = order_at(&mut words)?;
-    match words.word() {
-        None => Some(order),
-        Some(_) => None,
-    }
+/// A text without the spaces at its ends.
+fn trimmed(text: &str) -> &str
+    ensures { result.now ≡ trimmed text.now }
+{
+    text.trim_start_matches(' ').trim_end_matches(' ')
 }
 
-/// The order that some words begin with.
-fn order_at(words: &mut Words<'_>) -> Option<Order> {
+/// Whether a line is to be an event: it is neither empty nor a remark.
+fn is_event(text: &str) -> bool
+    ensures { result ≡ is_event text.now }
+{
+    !text.is_empty() && !text.starts_with('#')
+}
+
+/// What a line asks for; none where it is no event.
+fn order_of(text: &str) -> Option<Order>
+    ensures { Finds (Asks (words_of text.now)) result }
+{
+    let mut words = Words::new(text);
     match words.word()? {
         "open" => Some(Order::Open {
-            partition: words.number()?,
+            partition: last_number(words)?,
         }),
-        "read" => Some(Order::Read {
-            handle: words.number()?,
-            offset: words.number()?,
-            length: words.number_up_to(LONGEST)?,
-        }),
-        "write" => Some(Order::Write {
-            handle: words.number()?,
-            offset: words.number()?,
-            length: words.number_up_to(LONGEST)?,
-            byte: words.byte()?,
-        }),
+        "read" => read(words),
+        "write" => write(words),
         "act" => Some(Order::Act {
-            tag: words.number()?,
+            tag: last_number(words)?,
         }),
         "finish" => Some(Order::Finish {
-            tag: words.number()?,
+            tag: last_number(words)?,
         }),
         _ => None,
     }
+}
+
+/// The number that is the one word left.
+fn last_number(mut words: Words<'_>) -> Option<u64>
+    ensures { Finds (λ n. AllZip Spells words.entry (Number n ∷ [])) result }
+{
+    let number = words.number()?;
+    words.is_at_end().then_some(number)
+}
+
+/// What the words after `read` ask for.
+fn read(mut words: Words<'_>) -> Option<Order>
+    ensures { Finds (Asks (codes "read" ∷ words.entry)) result }
+{
+    let order = Order::Read {
+        handle: words.number()?,
+        offset: words.number()?,
+        length: words.length()?,
+    };
+    words.is_at_end().then_some(order)
+}
+
+/// What the words after `write` ask for.
+fn write(mut words: Words<'_>) -> Option<Order>
+    ensures { Finds (Asks (codes "write" ∷ words.entry)) result }
+{
+    let order = Order::Write {
+        handle: words.number()?,
+        offset: words.number()?,
+        length: words.length()?,
+        byte: words.byte()?,
+    };
+    words.is_at_end().then_some(order)
 }
