@@ -1,4 +1,4 @@
--- Moves of an adapter, one after another: they record their labels.
+-- Moves of an adapter, one after another: they join, and record their labels.
 use Rattle.std.proofs.Common.{◌≡◌, ℕ, List, [], ◌∷◌, ◌++◌, sym, ◌∙◌, ap, append_assoc}
 use Rattle.std.proofs.lemmas.List.{append-nil}
 use Rattle.srb.specs.declared.DeviceLabel.{DeviceLabel}
