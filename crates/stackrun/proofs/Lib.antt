@@ -1,2 +1,5 @@
+mod FirstFault
+mod FoundLists
 mod Keys
+mod SettingFaults
 mod Zipped
