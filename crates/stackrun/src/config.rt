@@ -19,9 +19,9 @@ use toml::Table;
 /// # Errors
 ///
 /// The first of these that fits: [`ConfigFault::NotToml`]; [`ConfigFault::UnknownKey`], at the top or in a partition;
-/// [`ConfigFault::TooManyPartitions`]; then key by key, in the order of [`Config`], [`ConfigFault::MissingKey`] or
-/// [`ConfigFault::OutOfRange`], which a value of another kind is too. [`ConfigFault::NoMemory`] in place of any of them,
-/// where memory was refused.
+/// [`ConfigFault::TooManyPartitions`]; then key by key, in the order of [`Config`] and in a partition `first`, `count`,
+/// `type`, [`ConfigFault::MissingKey`] or [`ConfigFault::OutOfRange`], which a value of another kind is too.
+/// [`ConfigFault::NoMemory`] in place of any of them, where memory was refused.
 pub fn config(alloc: Global, text: &str) -> Result<Config, ConfigFault>
     ensures settings { IfOk result (λ config. (document : Members) × (parse_document text.now ≡ Some document) × AreSettings document config) }
     ensures fault { IsRefusedFor (text_fault text.now) result }
