@@ -1,12 +1,12 @@
--- The keys of a map beside those of the members that it stands for.
-use Rattle.std.proofs.Common.{◌≡◌, ℕ, Bool, true, false, MatchBool, IsTrue, List, [], ◌∷◌, Option, MatchOption, map, length, All, String, Global, string_bytes, refl, ap, subst}
-use Rattle.std.specs.List.{AllWithin}
-use Rattle.std.proofs.lemmas.Bool.{false≢true}
-use Rattle.std.proofs.lemmas.List.Elements.{All-map, All-head, All-tail, All-from_all_within}
+-- The keys of a map and the values of a list, beside the members and items that they stand for.
+use Rattle.std.proofs.Common.{◌≡◌, ℕ, Bool, Option, Some, List, [], ◌∷◌, map, String, Vec, Global, string_bytes, refl, ap, sym, ◌∙◌}
+use Rattle.std.specs.List.{list_all}
+use Rattle.std.proofs.lemmas.List.Folds.{list_all-map}
 use Rattle.toml.specs.Data.{Data}
-use Rattle.toml.specs.declared.value.Value.{Value}
+use Rattle.toml.specs.declared.value.Value.{Value, Array}
 use Rattle.toml.specs.View.{view, items_of, members_view}
-use Rattle.stackrun.specs.Settings.{keys_of, AllItems}
+use Rattle.toml.proofs.Views.{view-Array}
+use Rattle.stackrun.specs.Settings.{keys_of, list_of, values_of}
 
 abbrev pub names : List (String Global × Value) → List (String Global)
 names es = map (λ e. e.0) es
@@ -15,23 +15,16 @@ keys_of_view : (es : List (String Global × Value)) → keys_of (members_view es
 keys_of_view [] = refl
 keys_of_view (e ∷ es) = ap (λ ks. string_bytes e.0 ∷ ks) (keys_of_view es)
 
--- each key of the map has the property, as the members show them
-pub all_keys : (P : List ℕ → Type 0) (es : List (String Global × Value)) → AllWithin (λ s. P (string_bytes s)) (names es) 0 (length (names es))
-    → All P (keys_of (members_view es))
-all_keys P es h = rw (keys_of_view es) (All-map P string_bytes (names es) (All-from_all_within (λ s. P (string_bytes s)) (names es) h))
+-- a test of each key of the map is the test of each key that the members show
+pub all_keys : (test : List ℕ → Bool) (es : List (String Global × Value)) → list_all (λ s. test (string_bytes s)) (names es) ≡ list_all test (keys_of (members_view es))
+all_keys test es = sym (ap (list_all test) (keys_of_view es) ∙ list_all-map test string_bytes (names es))
 
--- each value of a list has the property, as its items show them
-all_items : (P : Data → Type 0) (vs : List Value) → All (λ v. P (view v)) vs → AllItems P (items_of (map view vs))
-all_items P [] h = tt
-all_items P (v ∷ vs) h = (All-head (λ x. P (view x)) v vs h, all_items P vs (All-tail (λ x. P (view x)) v vs h))
+-- the values of a list are those of its items
+pub list_of_items : (ds : List Data) → list_of (items_of ds) ≡ ds
+list_of_items [] = refl
+list_of_items (d ∷ ds) = ap (λ rest. d ∷ rest) (list_of_items ds)
 
-pub all_items_within : (P : Data → Type 0) (vs : List Value) → AllWithin (λ v. P (view v)) vs 0 (length vs) → AllItems P (items_of (map view vs))
-all_items_within P vs h = all_items P vs (All-from_all_within (λ v. P (view v)) vs h)
-
-pub at_true : (r : Bool) (P Q : Type 0) → MatchBool r P Q → IsTrue r → P
-at_true true P Q h t = h
-at_true false P Q h t = absurd (false≢true t)
-
--- what holds of a value holds of one that was found
-pub of_found : (P : Data → Type 0) (given found : Option Data) → given ≡ found → MatchOption given (Unit {0}) P → MatchOption found (Unit {0}) P
-of_found P given found same h = subst (λ o. MatchOption o (Unit {0}) P) same h
+-- the values of a list that was found, as a slice of them shows
+pub values_of_found : (value : Value) (list : Vec Value Global) (shown : List Value) (found : Option Data) → Some (view value) ≡ found → value ≡ Array list → shown ≡ list.items
+    → map view shown ≡ values_of found
+values_of_found value list shown found same is_list is_shown = rw (is_shown, ← same, is_list, view-Array) (sym (list_of_items (map view list.items)))

@@ -1,7 +1,10 @@
 mod Asked
+mod FirstFault
+mod FoundLists
 mod Keys
 mod Parted
 mod Reading
+mod SettingFaults
 mod Spelled
 mod Trims
 mod Zipped

@@ -1,3 +1,4 @@
 pub mod CommandLine
 pub mod Script
 pub mod Settings
+pub mod SettingsFaults

@@ -1,6 +1,7 @@
 -- What a TOML document says of the settings.
-use Rattle.std.specs.Prelude.{◌≡◌, ◌≤◌, ◌<◌, ◌⊎◌, ℕ, pos, List, [], ◌∷◌, map, Bool, false, Option, Some, MatchOption, All, Contains, codes}
-use Rattle.std.specs.List.{AllZip}
+use Rattle.std.specs.Prelude.{◌≡◌, ◌≤◌, ◌<◌, ◌⊎◌, ℕ, pos, List, [], ◌∷◌, map, Bool, true, false, ◌&&◌, IsTrue, Option, Some, MatchOption, All, codes}
+use Rattle.std.specs.List.{AllZip, list_all, list_any}
+use Rattle.std.specs.Str.{bytes_eq}
 use Rattle.toml.specs.Data.{Data, integer, boolean, array, table, Items, no_items, item, Members, no_members, member, get_member}
 use Rattle.toml.specs.View.{items_of}
 use Rattle.stackrun.specs.declared.config.values.Config.{Config}
@@ -60,31 +61,31 @@ abbrev pub partition_keys : List (List ℕ)
 partition_keys = codes "first" ∷ codes "count" ∷ codes "type" ∷ []
 
 -- a table has no other keys than these
-abbrev pub HasOnly : List (List ℕ) → Members → Type 0
-HasOnly keys settings = All (Contains keys) (keys_of settings)
+abbrev pub has_only : List (List ℕ) → Members → Bool
+has_only keys settings = list_all (λ key. list_any (bytes_eq key) keys) (keys_of settings)
 
 -- a value that is a table has no other keys than those of a partition
-abbrev pub HasPartitionKeys : Data → Type 0
-HasPartitionKeys (table settings) = HasOnly partition_keys settings
-HasPartitionKeys _ = Unit {0}
+abbrev pub has_partition_keys : Data → Bool
+has_partition_keys (table settings) = has_only partition_keys settings
+has_partition_keys _ = true
 
--- each value of a list, if it is one, has a property
-abbrev pub AllItems : (Data → Type 0) → Items → Type 0
-AllItems P no_items = Unit {0}
-AllItems P (item d rest) = P d × AllItems P rest
+-- the values of a list
+abbrev pub list_of : Items → List Data
+list_of no_items = []
+list_of (item d rest) = d ∷ list_of rest
 
-abbrev pub AllOfList : (Data → Type 0) → Data → Type 0
-AllOfList P (array items) = AllItems P items
-AllOfList P _ = Unit {0}
+-- the values of the list that is found, none where no list is
+abbrev pub values_of : Option Data → List Data
+values_of (Some (array items)) = list_of items
+values_of _ = []
 
 -- all keys, at the top and in partitions, are those that there are
-pub record HasKnownKeys (document : Members) : Type 0 where
-  pub at_top : HasOnly setting_keys document
-  pub in_partitions : MatchOption (get_member (codes "partition") document) (Unit {0}) (AllOfList HasPartitionKeys)
+abbrev pub has_known_keys : Members → Bool
+has_known_keys document = has_only setting_keys document && list_all has_partition_keys (values_of (get_member (codes "partition") document))
 
 -- the settings of a document are these: each is the value at its key, in its range, or its default
 pub record AreSettings (document : Members) (c : Config) : Type 0 where
-  pub known_keys : HasKnownKeys document
+  pub known_keys : IsTrue (has_known_keys document)
   pub sector_size : IsNumber (get_member (codes "sector_size") document) c.sector_size
   pub sector_sizes : (c.sector_size ≡ 512) ⊎ (c.sector_size ≡ 4096)
   pub sectors : IsNumber (get_member (codes "sectors") document) c.sectors

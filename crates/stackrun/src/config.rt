@@ -3,12 +3,12 @@
 mod table;
 pub mod values;
 
-ghost use Rattle.std.specs.Prelude.{◌≡◌, ◌⊎◌, Some, Err, IfOk};
+ghost use Rattle.std.specs.Prelude.{◌≡◌, Some, IfOk};
 ghost use Rattle.toml.specs.Data.{Members};
 ghost use Rattle.toml.specs.Parse.{parse_document};
 ghost use Rattle.toml.specs.View.{table_view};
-ghost use Rattle.stackrun.specs.declared.config.values.ConfigFault.TheVariants.{UnknownKey, NoMemory};
-ghost use Rattle.stackrun.specs.Settings.{AreSettings, HasKnownKeys};
+ghost use Rattle.stackrun.specs.Settings.{AreSettings};
+ghost use Rattle.stackrun.specs.SettingsFaults.{first_of, setting_faults, text_fault, IsRefusedFor};
 
 use crate::config::values::{Config, ConfigFault};
 use std::alloc::Global;
@@ -19,13 +19,12 @@ use toml::Table;
 /// # Errors
 ///
 /// The first of these that fits: [`ConfigFault::NotToml`]; [`ConfigFault::UnknownKey`], at the top or in a partition;
-/// [`ConfigFault::TooManyPartitions`]; then key by key, in the order of [`Config`], [`ConfigFault::MissingKey`] or
-/// [`ConfigFault::OutOfRange`], which a value of another kind is too. [`ConfigFault::NoMemory`] in place of any of them,
-/// where memory was refused.
+/// [`ConfigFault::TooManyPartitions`]; then key by key, in the order of [`Config`] and in a partition `first`, `count`,
+/// `type`, [`ConfigFault::MissingKey`] or [`ConfigFault::OutOfRange`], which a value of another kind is too.
+/// [`ConfigFault::NoMemory`] in place of any of them, where memory was refused.
 pub fn config(alloc: Global, text: &str) -> Result<Config, ConfigFault>
     ensures settings { IfOk result (λ config. (document : Members) × (parse_document text.now ≡ Some document) × AreSettings document config) }
-    ensures unknown { (document : Members) → parse_document text.now ≡ Some document
-        → HasKnownKeys document ⊎ ((result ≡ Err UnknownKey) ⊎ (result ≡ Err NoMemory)) }
+    ensures fault { IsRefusedFor (text_fault text.now) result }
 {
     match toml::table_from_str(alloc, text) {
         Ok(table) => of_table(alloc, &table),
@@ -37,12 +36,12 @@ pub fn config(alloc: Global, text: &str) -> Result<Config, ConfigFault>
 /// The settings of a table.
 fn of_table(alloc: Global, table: &Table) -> Result<Config, ConfigFault>
     ensures settings { IfOk result (AreSettings (table_view table.now)) }
-    ensures unknown { HasKnownKeys (table_view table.now) ⊎ (result ≡ Err UnknownKey) }
+    ensures fault { IsRefusedFor (first_of (setting_faults (table_view table.now))) result }
 {
     if !table::has_known_keys(table) {
         return Err(ConfigFault::UnknownKey);
     }
-    if table::has_too_many_partitions(table) {
+    if !table::has_few_partitions(table) {
         return Err(ConfigFault::TooManyPartitions);
     }
     let sector_size = table::sector_size(table)?;

@@ -1,10 +1,14 @@
 //! The values at the keys of the settings.
 
-ghost use Rattle.std.specs.Prelude.{◌≡◌, ◌<◌, ◌⊎◌, IfOk, IsTrue, option_map, All, Contains, codes, map};
-ghost use Rattle.std.specs.List.{AllZip};
-ghost use Rattle.toml.specs.Data.{array, get_member};
+ghost use Rattle.std.specs.Prelude.{◌≡◌, ◌<◌, ◌-◌, ◌⊎◌, Some, IfOk, nat_le, false, true, length, option_map, All, codes, map};
+ghost use Rattle.std.specs.List.{AllZip, list_all, list_any};
+ghost use Rattle.std.specs.Result.{result_err};
+ghost use Rattle.std.specs.Str.{bytes_eq};
+ghost use Rattle.toml.specs.Data.{array, boolean, no_items, get_member, table};
 ghost use Rattle.toml.specs.View.{items_of, view, table_view};
-ghost use Rattle.stackrun.specs.Settings.{setting_keys, partition_keys, HasOnly, HasPartitionKeys, AllItems, AllOfList, HasKnownKeys, whole, IsFrom, IsNumber, IsNumberOr, IsTruthOrFalse, AreNumbers, IsPartition, GivesPartition, ArePartitions};
+ghost use Rattle.stackrun.specs.declared.config.values.ConfigFault.TheVariants.{OutOfRange};
+ghost use Rattle.stackrun.specs.Settings.{setting_keys, partition_keys, has_only, has_partition_keys, values_of, has_known_keys, whole, IsFrom, IsNumber, IsNumberOr, IsTruthOrFalse, AreNumbers, IsPartition, GivesPartition, ArePartitions};
+ghost use Rattle.stackrun.specs.SettingsFaults.{is_from, is_sector_size, is_number, is_truth, is_list, is_list_of, unless, needed_fault, optional_fault, first_of, partition_fault, partition_faults, IsRefusedFor};
 
 use crate::config::values::{ConfigFault, Partition};
 use std::alloc::Global;
@@ -19,8 +23,9 @@ fn value_at<'a>(table: &'a Table, key: &str) -> Option<&'a Value>
 
 /// The items of the list at a key, if anything is there.
 fn list_at<'a>(table: &'a Table, key: &str) -> Result<Option<&'a [Value]>, ConfigFault>
-    ensures { IfOk result (λ found. option_map (λ items. array (items_of (map view items.now))) found
+    ensures value { IfOk result (λ found. option_map (λ items. array (items_of (map view items.now))) found
         ≡ get_member key.now (table_view table.now)) }
+    ensures fault { result_err result ≡ optional_fault (array no_items) is_list (get_member key.now (table_view table.now)) }
 {
     match value_at(table, key) {
         Some(Value::Array(items)) => Ok(Some(items.as_slice())),
@@ -29,36 +34,39 @@ fn list_at<'a>(table: &'a Table, key: &str) -> Result<Option<&'a [Value]>, Confi
     }
 }
 
-/// Whether all keys, at the top and in partitions, are those of the settings.
-pub fn has_known_keys(table: &Table) -> bool
-    ensures { IsTrue result → HasKnownKeys (table_view table.now) }
+/// The items of the list at a key, none where no list is.
+fn items_at<'a>(table: &'a Table, key: &str) -> &'a [Value]
+    ensures { map view result.now ≡ values_of (get_member key.now (table_view table.now)) }
 {
-    if !has_setting_keys(table) {
-        return false;
-    }
-    match value_at(table, "partition") {
-        Some(value) => has_known_partitions(value),
-        None => true,
+    match value_at(table, key) {
+        Some(Value::Array(items)) => items.as_slice(),
+        _ => &[],
     }
 }
 
-/// Whether there are more partitions than one.
-pub fn has_too_many_partitions(table: &Table) -> bool {
-    match value_at(table, "partition") {
-        Some(Value::Array(items)) => items.len() > 1,
-        _ => false,
-    }
+/// Whether all keys, at the top and in partitions, are those of the settings.
+pub fn has_known_keys(table: &Table) -> bool
+    ensures { result ≡ has_known_keys (table_view table.now) }
+{
+    has_setting_keys(table) && have_partition_keys(items_at(table, "partition"))
+}
+
+/// Whether there is at most one partition.
+pub fn has_few_partitions(table: &Table) -> bool
+    ensures { result ≡ nat_le (length (values_of (get_member (codes "partition") (table_view table.now)))) 1 }
+{
+    items_at(table, "partition").len() <= 1
 }
 
 /// Whether a table has no other keys than those of the settings.
 fn has_setting_keys(table: &Table) -> bool
-    ensures { IsTrue result → HasOnly setting_keys (table_view table.now) }
+    ensures { result ≡ has_only setting_keys (table_view table.now) }
 {
     table.keys().all(|key| is_setting_key(key.as_str()))
 }
 
 fn is_setting_key(key: &str) -> bool
-    ensures { IsTrue result → Contains setting_keys key.now }
+    ensures { result ≡ list_any (bytes_eq key.now) setting_keys }
 {
     matches!(
         key,
@@ -74,25 +82,16 @@ fn is_setting_key(key: &str) -> bool
     )
 }
 
-/// Whether the tables of a value, where it is a list, have no other keys than those of a partition.
-fn has_known_partitions(value: &Value) -> bool
-    ensures { IsTrue result → AllOfList HasPartitionKeys (view value.now) }
-{
-    match value {
-        Value::Array(items) => have_partition_keys(items.as_slice()),
-        _ => true,
-    }
-}
-
+/// Whether the tables of a list have no other keys than those of a partition.
 fn have_partition_keys(items: &[Value]) -> bool
-    ensures { IsTrue result → AllItems HasPartitionKeys (items_of (map view items.now)) }
+    ensures { result ≡ list_all has_partition_keys (map view items.now) }
 {
     items.iter().all(|item| is_known_partition(item))
 }
 
 /// Whether a value, where it is a table, has no other keys than those of a partition.
 fn is_known_partition(item: &Value) -> bool
-    ensures { IsTrue result → HasPartitionKeys (view item.now) }
+    ensures { result ≡ has_partition_keys (view item.now) }
 {
     match item {
         Value::Table(table) => has_partition_keys(table),
@@ -101,13 +100,13 @@ fn is_known_partition(item: &Value) -> bool
 }
 
 fn has_partition_keys(table: &Table) -> bool
-    ensures { IsTrue result → HasOnly partition_keys (table_view table.now) }
+    ensures { result ≡ has_only partition_keys (table_view table.now) }
 {
     table.keys().all(|key| is_partition_key(key.as_str()))
 }
 
 fn is_partition_key(key: &str) -> bool
-    ensures { IsTrue result → Contains partition_keys key.now }
+    ensures { result ≡ list_any (bytes_eq key.now) partition_keys }
 {
     matches!(key, "first" | "count" | "type")
 }
@@ -116,6 +115,7 @@ fn is_partition_key(key: &str) -> bool
 fn in_range(value: &Value, least: u32, most: u32) -> Result<u32, ConfigFault>
     ensures value { IfOk result (λ n. view value.now ≡ whole n) }
     ensures range { IfOk result (IsFrom least most) }
+    ensures fault { result_err result ≡ unless (is_number (is_from least most) (view value.now)) OutOfRange }
 {
     let Value::Integer(number) = value else {
         return Err(ConfigFault::OutOfRange);
@@ -130,6 +130,7 @@ fn in_range(value: &Value, least: u32, most: u32) -> Result<u32, ConfigFault>
 pub fn number(table: &Table, key: &str, least: u32, most: u32) -> Result<u32, ConfigFault>
     ensures value { IfOk result (IsNumber (get_member key.now (table_view table.now))) }
     ensures range { IfOk result (IsFrom least most) }
+    ensures fault { result_err result ≡ needed_fault (is_number (is_from least most)) (get_member key.now (table_view table.now)) }
 {
     match value_at(table, key) {
         Some(value) => in_range(value, least, most),
@@ -147,6 +148,7 @@ pub fn number_or(
 ) -> Result<u32, ConfigFault>
     ensures value { IfOk result (IsNumberOr default (get_member key.now (table_view table.now))) }
     ensures range { IfOk result (IsFrom least most) }
+    ensures fault { result_err result ≡ optional_fault (whole default) (is_number (is_from least most)) (get_member key.now (table_view table.now)) }
 {
     match value_at(table, key) {
         Some(value) => in_range(value, least, most),
@@ -158,6 +160,7 @@ pub fn number_or(
 pub fn sector_size(table: &Table) -> Result<u32, ConfigFault>
     ensures value { IfOk result (IsNumber (get_member (codes "sector_size") (table_view table.now))) }
     ensures sizes { IfOk result (λ size. (size ≡ 512) ⊎ (size ≡ 4096)) }
+    ensures fault { result_err result ≡ needed_fault (is_number is_sector_size) (get_member (codes "sector_size") (table_view table.now)) }
 {
     match number(table, "sector_size", 512, 4096)? {
         size @ (512 | 4096) => Ok(size),
@@ -166,7 +169,8 @@ pub fn sector_size(table: &Table) -> Result<u32, ConfigFault>
 }
 
 pub fn write_protected(table: &Table) -> Result<bool, ConfigFault>
-    ensures { IfOk result (IsTruthOrFalse (get_member (codes "write_protected") (table_view table.now))) }
+    ensures value { IfOk result (IsTruthOrFalse (get_member (codes "write_protected") (table_view table.now))) }
+    ensures fault { result_err result ≡ optional_fault (boolean false) is_truth (get_member (codes "write_protected") (table_view table.now)) }
 {
     match value_at(table, "write_protected") {
         Some(Value::Boolean(protected)) => Ok(*protected),
@@ -180,6 +184,8 @@ pub fn bad_sectors(alloc: Global, table: &Table, sectors: u32) -> Result<Vec<u64
     requires { 0 < sectors }
     ensures value { IfOk result (λ bad. AreNumbers (get_member (codes "bad_sectors") (table_view table.now)) bad.items) }
     ensures range { IfOk result (λ bad. All (λ sector. sector < sectors) bad.items) }
+    ensures fault { IsRefusedFor (optional_fault (array no_items) (is_list_of (is_number (is_from 0 (sectors - 1))))
+        (get_member (codes "bad_sectors") (table_view table.now))) result }
 {
     match list_at(table, "bad_sectors")? {
         Some(items) => sectors_of(alloc, items, sectors),
@@ -191,6 +197,7 @@ fn sectors_of(alloc: Global, items: &[Value], sectors: u32) -> Result<Vec<u64>, 
     requires { 0 < sectors }
     ensures value { IfOk result (λ bad. map view items.now ≡ map whole bad.items) }
     ensures range { IfOk result (λ bad. All (λ sector. sector < sectors) bad.items) }
+    ensures fault { IsRefusedFor (unless (list_all (λ item. is_number (is_from 0 (sectors - 1)) (view item)) items.now) OutOfRange) result }
 {
     let mut bad = Vec::new(alloc);
     for item in items {
@@ -204,6 +211,7 @@ fn sectors_of(alloc: Global, items: &[Value], sectors: u32) -> Result<Vec<u64>, 
 /// The partitions, in the order of the document.
 pub fn partitions(alloc: Global, table: &Table) -> Result<Vec<Partition>, ConfigFault>
     ensures value { IfOk result (λ found. ArePartitions (get_member (codes "partition") (table_view table.now)) found.items) }
+    ensures fault { IsRefusedFor (first_of (partition_faults (get_member (codes "partition") (table_view table.now)))) result }
 {
     match list_at(table, "partition")? {
         Some(items) => partitions_of(alloc, items),
@@ -213,6 +221,7 @@ pub fn partitions(alloc: Global, table: &Table) -> Result<Vec<Partition>, Config
 
 fn partitions_of(alloc: Global, items: &[Value]) -> Result<Vec<Partition>, ConfigFault>
     ensures value { IfOk result (λ found. AllZip GivesPartition (map view items.now) found.items) }
+    ensures fault { IsRefusedFor (first_of (map (λ item. partition_fault (view item)) items.now)) result }
 {
     let mut partitions = Vec::new(alloc);
     for item in items {
@@ -225,7 +234,8 @@ fn partitions_of(alloc: Global, items: &[Value]) -> Result<Vec<Partition>, Confi
 }
 
 fn partition(item: &Value) -> Result<Partition, ConfigFault>
-    ensures { IfOk result (GivesPartition (view item.now)) }
+    ensures value { IfOk result (GivesPartition (view item.now)) }
+    ensures fault { result_err result ≡ partition_fault (view item.now) }
 {
     match item {
         Value::Table(table) => partition_of(table),
@@ -233,12 +243,13 @@ fn partition(item: &Value) -> Result<Partition, ConfigFault>
     }
 }
 
-fn partition_of(table: &Table) -> Result<Partition, ConfigFault>
-    ensures { IfOk result (IsPartition (table_view table.now)) }
+fn partition_of(settings: &Table) -> Result<Partition, ConfigFault>
+    ensures value { IfOk result (IsPartition (table_view settings.now)) }
+    ensures fault { result_err result ≡ partition_fault (table (table_view settings.now)) }
 {
-    let first = number(table, "first", 0, u32::MAX)?;
-    let count = number(table, "count", 0, u32::MAX)?;
-    let kind = number_or(table, "type", 1, 255, 7)?;
+    let first = number(settings, "first", 0, u32::MAX)?;
+    let count = number(settings, "count", 0, u32::MAX)?;
+    let kind = number_or(settings, "type", 1, 255, 7)?;
     Ok(Partition {
         kind: kind as u8,
         first,

@@ -1,13 +1,14 @@
-use Rattle.std.proofs.Common.{Contains, rules, tests, string_bytes}
+use Rattle.std.proofs.Common.{rules, tests, string_bytes, bytes_eq, ◌∙◌}
 use Rattle.std.specs.BTreeMap.{keys}
-use Rattle.std.proofs.lemmas.Iterator.{cases_from_all}
+use Rattle.std.specs.List.{list_any}
+use Rattle.std.proofs.lemmas.Iterator.Search.{all_from_yields_List}
 use Rattle.std.proofs.lemmas.Iterator.Consumers.{YieldsList-from_rest}
 use Rattle.stackrun.specs.Settings.{setting_keys}
-use Rattle.stackrun.proofs.Keys.{all_keys, at_true}
+use Rattle.stackrun.proofs.Keys.{all_keys}
 use Rattle.stackrun.proofs.config.table.has_setting_keys.Goals as goal
 
 pub returns : goal.returns
 returns c =
-    let by_call = cases_from_all _ _ _ (λ s. Contains setting_keys (string_bytes s)) (λ s. Unit {0}) c.all.ensures.ran
-    (YieldsList-from_rest (keys c.args.table.now) cc) (λ x q k. search (rules, tests)) (λ x q k. tt) in
-    λ t. all_keys (Contains setting_keys) c.args.table.now.entries (at_true _ _ _ by_call t)
+    all_from_yields_List (λ s. list_any (bytes_eq (string_bytes s)) setting_keys) _ _ c.all.result c.all.ensures.ran
+    (YieldsList-from_rest (keys c.args.table.now) cc) (λ x b q k. search (rules, tests))
+    ∙ all_keys (λ key. list_any (bytes_eq key) setting_keys) c.args.table.now.entries
