@@ -1,2 +1,5 @@
 mod Keys
+mod Opening
+mod Starting
+mod WholeSectors
 mod Zipped

@@ -1,2 +1,5 @@
 pub mod CommandLine
+pub mod Faults
+pub mod PartitionTable
 pub mod Settings
+pub mod Started
