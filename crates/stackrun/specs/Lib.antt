@@ -1,4 +1,5 @@
 pub mod CommandLine
+pub mod Events
 pub mod Faults
 pub mod PartitionTable
 pub mod Settings
