@@ -1,5 +1,7 @@
+mod EqualBytes
 mod Keys
 mod Opening
+mod Printed
 mod Starting
 mod WholeSectors
 mod Zipped
