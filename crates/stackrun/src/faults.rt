@@ -2,6 +2,7 @@
 
 ghost use Rattle.std.specs.Prelude.{◌≡◌};
 ghost use Rattle.stackrun.specs.declared.faults.Fault.TheVariants.{NoMemory, OutputFailed};
+ghost use Rattle.stackrun.specs.Faults.{words_of};
 
 use crate::config::values::ConfigFault;
 use compose::{MbrFault, StartFault};
@@ -34,7 +35,9 @@ pub enum Fault {
 }
 
 /// What is wrong with a partition table, in words.
-fn words_of(fault: &MbrFault) -> &'static str {
+fn words_of(fault: &MbrFault) -> &'static str
+    ensures { result.now ≡ words_of fault.now }
+{
     match fault {
         MbrFault::ShortSector => "short sector",
         MbrFault::NoSignature => "no signature",
