@@ -1,10 +1,15 @@
 mod Asked
+mod EqualBytes
 mod FirstFault
 mod FoundLists
 mod Keys
+mod Opening
 mod Parted
+mod Printed
 mod Reading
 mod SettingFaults
 mod Spelled
+mod Starting
 mod Trims
+mod WholeSectors
 mod Zipped

@@ -1,5 +1,8 @@
 //! Why a trace ends early.
 
+ghost use Rattle.std.specs.Prelude.{◌≡◌};
+ghost use Rattle.stackrun.specs.declared.faults.Fault.TheVariants.{NoMemory, OutputFailed};
+
 use crate::config::values::ConfigFault;
 use compose::{MbrFault, StartFault};
 use ntstatus::NtStatus;
@@ -31,6 +34,10 @@ pub enum Fault {
 }
 
 impl From<StartFault> for Fault {
+    ghost use Rattle.stackrun.specs.Faults.{of_start};
+
+    ghost from_gives = { λ start fault. fault ≡ of_start start };
+
     fn from(fault: StartFault) -> Fault {
         match fault {
             StartFault::Settings => Fault::Config(ConfigFault::OutOfRange),
@@ -42,12 +49,16 @@ impl From<StartFault> for Fault {
 }
 
 impl From<AllocError> for Fault {
+    ghost from_gives = { λ _ fault. fault ≡ NoMemory };
+
     fn from(_error: AllocError) -> Fault {
         Fault::NoMemory
     }
 }
 
 impl<T: Drop> From<AllocFailed<T>> for Fault {
+    ghost from_gives = { λ _ fault. fault ≡ NoMemory };
+
     fn from(_error: AllocFailed<T>) -> Fault {
         Fault::NoMemory
     }
@@ -55,6 +66,8 @@ impl<T: Drop> From<AllocFailed<T>> for Fault {
 
 /// What a failed write means.
 impl From<io::Error> for Fault {
+    ghost from_gives = { λ _ fault. fault ≡ OutputFailed };
+
     fn from(_error: io::Error) -> Fault {
         Fault::OutputFailed
     }

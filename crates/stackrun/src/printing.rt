@@ -1,5 +1,9 @@
 //! Replies and labels in print, one a line.
 
+ghost use Rattle.std.specs.Prelude.{◌≡◌, OnOk};
+ghost use Rattle.std.specs.Io.KnownBytes.{Appends};
+ghost use Rattle.stackrun.specs.Printing.{answer_line, call_line, device_line, hex_bytes, hex_of, label_line, number_of, reply_line, waiting_after, word_of};
+
 use crate::faults::Fault;
 use crate::lengths::Lengths;
 use crate::runs::write_runs;
@@ -11,7 +15,9 @@ use std::io;
 use std::io::Write;
 
 /// Writes the line of a reply.
-pub fn write_reply<W: Write>(out: &mut W, reply: &Reply) -> io::Result<()> {
+pub fn write_reply<W: Write>(out: &mut W, reply: &Reply) -> io::Result<()>
+    ensures { OnOk result (Appends (W.contents out.old) (W.contents out.new) (reply_line reply.now)) }
+{
     match reply {
         Reply::Handle(handle) => writeln!(out, "handle {}", handle.number),
         Reply::Ok => out.write_all(b"ok\n"),
@@ -23,7 +29,9 @@ pub fn write_reply<W: Write>(out: &mut W, reply: &Reply) -> io::Result<()> {
 }
 
 /// The number of a refusal, as it is printed after its E.
-fn number_of(refusal: Refusal) -> u8 {
+fn number_of(refusal: Refusal) -> u8
+    ensures { result ≡ number_of refusal }
+{
     match refusal {
         Refusal::InvalidHandle => 1,
         Refusal::InvalidParameter => 2,
@@ -36,11 +44,10 @@ fn number_of(refusal: Refusal) -> u8 {
 }
 
 /// Writes the line of a label, and keeps the lengths of the writes that are open.
-pub fn write_label<W: Write>(
-    out: &mut W,
-    label: &Label,
-    lengths: &mut Lengths,
-) -> Result<(), Fault> {
+pub fn write_label<W: Write>(out: &mut W, label: &Label, lengths: &mut Lengths) -> Result<(), Fault>
+    ensures line { OnOk result (Appends (W.contents out.old) (W.contents out.new) (label_line lengths.old label.now)) }
+    ensures waiting { OnOk result (lengths.new ≡ waiting_after lengths.old label.now) }
+{
     match label {
         Label::Call { number, request } => {
             if request.kind == Kind::Write {
@@ -67,7 +74,9 @@ pub fn write_label<W: Write>(
 }
 
 /// Writes a call, without the bytes of a write.
-fn write_call<W: Write>(out: &mut W, number: u64, request: &ClientRequest) -> io::Result<()> {
+fn write_call<W: Write>(out: &mut W, number: u64, request: &ClientRequest) -> io::Result<()>
+    ensures { OnOk result (Appends (W.contents out.old) (W.contents out.new) (call_line number request.now)) }
+{
     let offset = request.offset;
     let length = request.length;
     match request.kind {
@@ -80,13 +89,13 @@ fn write_call<W: Write>(out: &mut W, number: u64, request: &ClientRequest) -> io
     }
 }
 
-fn write_device_label<W: Write>(out: &mut W, label: &DeviceLabel) -> io::Result<()> {
+fn write_device_label<W: Write>(out: &mut W, label: &DeviceLabel) -> io::Result<()>
+    ensures { OnOk result (Appends (W.contents out.old) (W.contents out.new) (device_line label.now)) }
+{
     match label {
         DeviceLabel::Start { piece, tag, block } => {
             write!(out, "start {piece} tag {tag} ")?;
-            for byte in block.as_slice() {
-                write!(out, "{byte:02x}")?;
-            }
+            write_hex(out, block.as_slice())?;
             out.write_all(b"\n")
         }
         DeviceLabel::Act { piece, .. } => writeln!(out, "act {piece}"),
@@ -97,7 +106,26 @@ fn write_device_label<W: Write>(out: &mut W, label: &DeviceLabel) -> io::Result<
     }
 }
 
-fn word_of(class: &Class) -> &'static str {
+/// Writes bytes as hexadecimal digits.
+fn write_hex<W: Write>(out: &mut W, bytes: &[u8]) -> io::Result<()>
+    ensures { OnOk result (Appends (W.contents out.old) (W.contents out.new) (hex_bytes bytes.now)) }
+{
+    for byte in bytes {
+        write_byte(out, *byte)?;
+    }
+    Ok(())
+}
+
+/// Writes a byte as two hexadecimal digits.
+pub fn write_byte<W: Write>(out: &mut W, byte: u8) -> io::Result<()>
+    ensures { OnOk result (Appends (W.contents out.old) (W.contents out.new) (hex_of byte)) }
+{
+    write!(out, "{byte:02x}")
+}
+
+fn word_of(class: &Class) -> &'static str
+    ensures { result.now ≡ word_of class.now }
+{
     match class {
         Class::Good => "good",
         Class::Busy => "busy",
@@ -112,7 +140,9 @@ fn write_answer<W: Write>(
     status: NtStatus,
     written: u64,
     bytes: &[u8],
-) -> io::Result<()> {
+) -> io::Result<()>
+    ensures { OnOk result (Appends (W.contents out.old) (W.contents out.new) (answer_line number status written bytes.now)) }
+{
     write!(out, "answer {number} {} ", status.name())?;
     if status != NtStatus::Success {
         return out.write_all(b"0\n");

@@ -1,6 +1,8 @@
 //! Bytes in print: each run of equal bytes as `BYTE*COUNT`, the runs joined by commas.
 
-ghost use Rattle.std.specs.Prelude.{◌≡◌, ◌≢◌, ◌<◌, ◌≤◌, All, length, take, slice_index};
+ghost use Rattle.std.specs.Prelude.{◌≡◌, ◌≢◌, ◌<◌, ◌≤◌, ◌++◌, All, OnOk, length, take, slice_index};
+ghost use Rattle.std.specs.Io.KnownBytes.{Appends};
+ghost use Rattle.stackrun.specs.Printing.{comma, run_text, runs_of, runs_text};
 
 use std::io;
 use std::io::Write;
@@ -21,16 +23,27 @@ fn first_run(bytes: &[u8]) -> usize
 }
 
 /// Writes bytes as runs.
-pub fn write_runs<W: Write>(out: &mut W, bytes: &[u8]) -> io::Result<()> {
+pub fn write_runs<W: Write>(out: &mut W, bytes: &[u8]) -> io::Result<()>
+    ensures { OnOk result (Appends (W.contents out.old) (W.contents out.new) (runs_text (runs_of bytes.now))) }
+{
     let mut rest = bytes;
     while !rest.is_empty() {
-        let count = first_run(rest);
         let byte = rest[0];
-        write!(out, "{byte:02x}*{count}")?;
-        rest = &rest[count..];
-        if !rest.is_empty() {
-            out.write_all(b",")?;
-        }
+        let count = first_run(rest);
+        let (_, behind) = rest.split_at(count);
+        write_run(out, byte, count, behind.is_empty())?;
+        rest = behind;
     }
     Ok(())
+}
+
+/// Writes a run, and a comma behind it unless it is the last.
+fn write_run<W: Write>(out: &mut W, byte: u8, count: usize, is_last: bool) -> io::Result<()>
+    ensures { OnOk result (Appends (W.contents out.old) (W.contents out.new) (run_text (byte, count) ++ comma is_last)) }
+{
+    write!(out, "{byte:02x}*{count}")?;
+    if is_last {
+        return Ok(());
+    }
+    out.write_all(b",")
 }

@@ -1,7 +1,10 @@
 //! A script run through a stack, and its trace in print.
 
-ghost use Rattle.std.specs.Prelude.{◌≡◌, ◌⊎◌, [], IfOk, OnOk};
+ghost use Rattle.std.specs.Prelude.{◌≡◌, ◌⊎◌, [], IfOk, OnOk, MatchResult, replicate};
 ghost use Rattle.toml.specs.Data.{Members};
+ghost use Rattle.compose.specs.declared.Refusal.TheVariants.{InsufficientResources};
+ghost use Rattle.compose.specs.declared.Reply.TheVariants.{Refused};
+ghost use Rattle.stackrun.specs.Events.{AreNamed, IsEventOf, IsReplyTo, Keeps, KeepsHandle, handle_of};
 ghost use Rattle.stackrun.specs.Settings.{AreSettings};
 
 use crate::config::config;
@@ -15,7 +18,7 @@ use compose::{Event, Handle, Refusal, Reply, Stack};
 use device::Label;
 use miniport::Adapter;
 use sector::Bytes;
-use std::alloc::Global;
+use std::alloc::{AllocError, Global};
 use std::collections::BTreeMap;
 use std::io::{BufWriter, Read, Write};
 
@@ -109,9 +112,7 @@ fn play<A: Adapter, W: Write>(
         };
         writeln!(out, "> {}", line.text)?;
         write_reply(out, &reply)?;
-        if let Reply::Handle(handle) = reply {
-            handles.insert(handle.number, handle)?;
-        }
+        keep_given(&mut handles, &reply)?;
         write_labels(stack, out, &mut lengths)?;
     }
     Ok(())
@@ -135,7 +136,10 @@ fn write_labels<A: Adapter, W: Write>(
 }
 
 /// The event of an order, or the reply to one that can't be made.
-fn event(alloc: Global, order: Order, handles: &BTreeMap<u64, Handle>) -> Result<Event, Reply> {
+fn event(alloc: Global, order: Order, handles: &BTreeMap<u64, Handle>) -> Result<Event, Reply>
+    requires { AreNamed handles.now }
+    ensures { MatchResult result (IsEventOf handles.now order) (IsReplyTo order) }
+{
     match order {
         Order::Open { partition } => Ok(Event::Open {
             partition: u8::try_from(partition).unwrap_or(u8::MAX),
@@ -165,8 +169,34 @@ fn event(alloc: Global, order: Order, handles: &BTreeMap<u64, Handle>) -> Result
     }
 }
 
+/// Keeps the handle that a reply gives, if it gives one.
+fn keep_given(handles: &mut BTreeMap<u64, Handle>, reply: &Reply) -> Result<(), AllocError>
+    requires { AreNamed handles.old }
+    ensures named { OnOk result (AreNamed handles.new) }
+    ensures given { OnOk result (Keeps reply.now handles.old handles.new) }
+{
+    match reply {
+        Reply::Handle(handle) => keep_handle(handles, *handle),
+        _ => Ok(()),
+    }
+}
+
+/// Keeps a handle under its number.
+fn keep_handle(handles: &mut BTreeMap<u64, Handle>, handle: Handle) -> Result<(), AllocError>
+    requires { AreNamed handles.old }
+    ensures named { OnOk result (AreNamed handles.new) }
+    ensures kept { OnOk result (KeepsHandle handle handles.old handles.new) }
+{
+    handles.insert(handle.number, handle)?;
+    Ok(())
+}
+
 /// The handle of a number; one that isn't there, where the number was not given out.
-fn handle_of(number: u64, handles: &BTreeMap<u64, Handle>) -> Handle {
+fn handle_of(number: u64, handles: &BTreeMap<u64, Handle>) -> Handle
+    requires { AreNamed handles.now }
+    ensures handle { result ≡ handle_of handles.now number }
+    ensures number { result.number ≡ number }
+{
     match handles.get(&number) {
         Some(handle) => *handle,
         None => Handle { slot: 0, number },
@@ -174,7 +204,9 @@ fn handle_of(number: u64, handles: &BTreeMap<u64, Handle>) -> Handle {
 }
 
 /// So many equal bytes, or the reply where memory for them is refused.
-fn filled(alloc: Global, byte: u8, length: u64) -> Result<Bytes, Reply> {
+fn filled(alloc: Global, byte: u8, length: u64) -> Result<Bytes, Reply>
+    ensures { MatchResult result (λ bytes. bytes ≡ replicate length byte) (λ reply. reply ≡ Refused InsufficientResources []) }
+{
     match vec![in alloc; byte; length as usize] {
         Ok(bytes) => Ok(Bytes::new(bytes)),
         Err(_) => Err(Reply::Refused {

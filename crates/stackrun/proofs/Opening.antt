@@ -1,0 +1,88 @@
+-- The stack that is started over the adapter of some settings.
+use Rattle.std.proofs.Common.{◌≡◌, ℕ, ◌+◌, ◌-◌, ◌≤◌, ◌<◌, Bool, true, false, List, [], ◌∷◌, Option, Some, None, Result, Ok, Err, IfOk, map, length, replicate, cond, refl, sym, ap, ◌∙◌, subst, arith}
+use Rattle.std.proofs.lemmas.List.{length-replicate}
+use Rattle.std.proofs.lemmas.List.Elements.{All-head}
+use Rattle.toml.specs.Data.{Members}
+use Rattle.sector.specs.declared.Extent.{Extent}
+use Rattle.srb.specs.Adapter.{AdapterView}
+use Rattle.miniport.specs.Memory.{MemView}
+use Rattle.device.specs.Map.{IsMap, IsPartition}
+use Rattle.device.specs.State.{opening}
+use Rattle.device.specs.Seen.{sectors_in}
+use Rattle.compose.specs.declared.MbrFault.{MbrFault}
+use Rattle.compose.specs.declared.MbrFault.TheVariants.{EmptyEntry, CoversTable, PastEnd}
+use Rattle.compose.specs.declared.Settings.{Settings}
+use Rattle.compose.specs.Opening.{IsFirstView, first_rules}
+use Rattle.compose.specs.Shown.{StackView}
+use Rattle.compose.specs.Sound.{partitions_of}
+use Rattle.compose.specs.Start.{told_partition}
+use Rattle.stackrun.specs.declared.config.values.Config.{Config}
+use Rattle.stackrun.specs.declared.config.values.Partition.{Partition}
+use Rattle.stackrun.specs.PartitionTable.{extent_of, said_of, table_of}
+use Rattle.stackrun.specs.Started.{partition_of, extents_of, zeros, disk_of, rules_of, IsNewAdapter, IsStartOf}
+use Rattle.stackrun.specs.Settings.{AreSettings}
+use Rattle.stackrun.proofs.Starting.{count_of_disk}
+use Rattle.stackrun.proofs.WholeSectors.{zeros_in}
+
+unfaulted : (empty covers past : Bool) (extent : Extent) (partition : Option Extent)
+    → cond empty (Err EmptyEntry) (cond covers (Err CoversTable) (cond past (Err PastEnd) (Ok (Some extent)))) ≡ Ok partition → partition ≡ Some extent
+unfaulted true covers past extent partition e = cc
+unfaulted false true past extent partition e = cc
+unfaulted false false true extent partition e = cc
+unfaulted false false false extent partition e = cc
+
+-- a partition that was told is that of the settings
+same_extents : (sectors : ℕ) (given : Option Partition) (partition : Option Extent) → said_of sectors given ≡ Ok partition → partitions_of partition ≡ extents_of given
+same_extents sectors None partition e = ap partitions_of (let k : partition ≡ None = cc in k)
+same_extents sectors (Some p) partition e = ap partitions_of (unfaulted _ _ _ (extent_of p) partition e)
+
+-- its sectors are zeros
+zero_sectors : (c : Config) (given : Option Partition) (first : List ℕ) → IsMap c.sectors (extents_of given)
+    → map (sectors_in (first ∷ zeros c (c.sectors - 1))) (extents_of given) ≡ map (λ extent. zeros c extent.count) (extents_of given)
+zero_sectors c None first is_map = refl
+zero_sectors c (Some p) first is_map =
+    let on_disk = All-head (IsPartition c.sectors) (extent_of p) [] is_map.each in
+    ap (λ (xs : List (List ℕ)). xs ∷ []) (zeros_in c.sector_size c.sectors p.first p.count first on_disk.behind_table on_disk.inside)
+
+-- the partitions of a stack over the adapter of the settings
+extents_told : (c : Config) (view : MemView) (partition : Option Extent) → told_partition view.shown ≡ said_of c.sectors (partition_of c)
+    → told_partition view.shown ≡ Ok partition → partitions_of partition ≡ extents_of (partition_of c)
+extents_told c view partition says told = same_extents c.sectors (partition_of c) partition (sym says ∙ told)
+
+rules_started : (c : Config) (view : MemView) (partitions : List Extent) → IsNewAdapter c view → partitions ≡ extents_of (partition_of c)
+    → first_rules view.shown (record { window = c.window; open_requests = c.open_requests }) partitions ≡ rules_of c
+rules_started c view partitions new same =
+    let sector_size = new.sector_size in
+    let max_transfer = new.max_transfer in
+    let depth = new.depth in
+    cc
+
+-- such a stack is the one of the settings
+pub started : (document : Members) (c : Config) (view : MemView) (stack : StackView) → AreSettings document c → IsNewAdapter c view
+    → told_partition view.shown ≡ said_of c.sectors (partition_of c)
+    → IsFirstView view.shown (record { window = c.window; open_requests = c.open_requests }) stack → IsStartOf c stack
+started document c view stack settings new says first =
+    let same : partitions_of first.partition ≡ extents_of (partition_of c) = extents_told c view first.partition says first.told in
+    let count : length view.shown.sectors ≡ c.sectors = ap length new.sectors ∙ count_of_disk c settings.sectors_range.0 in
+    let is_map : IsMap c.sectors (extents_of (partition_of c)) =
+    subst (λ (n : ℕ). IsMap n (extents_of (partition_of c))) count (subst (IsMap (length view.shown.sectors)) same first.is_map) in
+    let arrays : map (sectors_in view.shown.sectors) (partitions_of first.partition) ≡ map (λ (extent : Extent). zeros c extent.count) (extents_of (partition_of c)) =
+    ap (λ (xs : List (List ℕ)). map (sectors_in xs) (partitions_of first.partition)) new.sectors
+    ∙ (ap (map (sectors_in (disk_of c))) same ∙ zero_sectors c (partition_of c) (table_of c.sector_size (partition_of c)) is_map) in
+    record {
+      rules = first.rules ∙ rules_started c view (partitions_of first.partition) new same;
+      is_map = is_map;
+      state = first.state ∙ ap opening arrays;
+      adapter = record {
+        sector_size = first.same_disk.sector_size ∙ new.sector_size;
+        sectors = first.same_disk.sectors ∙ new.sectors;
+        max_transfer = first.same_disk.max_transfer ∙ new.max_transfer;
+        depth = first.same_disk.depth ∙ new.depth;
+        idle = first.same_disk.idle;
+      };
+      no_handles = first.no_handles;
+      first_handle = first.first_handle;
+      no_requests = first.no_requests;
+      no_labels = first.no_labels;
+      no_answers = first.no_answers;
+    }
