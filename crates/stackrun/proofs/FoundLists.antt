@@ -7,7 +7,8 @@ use Rattle.toml.specs.Data.{Data, array, no_items}
 use Rattle.toml.specs.declared.value.Value.{Value}
 use Rattle.toml.specs.View.{view, items_of}
 use Rattle.stackrun.specs.declared.config.values.ConfigFault.TheVariants.{OutOfRange}
-use Rattle.stackrun.specs.SettingsFaults.{unless, optional_fault, is_list_of, first_of, partition_fault, partition_faults}
+use Rattle.ntstatus.specs.First.{first_some}
+use Rattle.stackrun.specs.SettingsFaults.{unless, optional_fault, is_list_of, partition_fault, partition_faults}
 use Rattle.stackrun.proofs.Keys.{list_of_items}
 
 -- a list is right where each value in it is
@@ -17,5 +18,5 @@ list_fault test values found same = rw (← same, list_of_items (map view values
 
 -- the first fault of partitions is that of the tables in their list
 pub partitions_fault : (values : List Value) (found : Option Data) → Some (array (items_of (map view values))) ≡ found
-    → first_of (map (λ value. partition_fault (view value)) values) ≡ first_of (partition_faults found)
+    → first_some (map (λ value. partition_fault (view value)) values) ≡ first_some (partition_faults found)
 partitions_fault values found same = rw (← same, list_of_items (map view values), map-map)

@@ -1,5 +1,5 @@
 -- The stack that is started over the adapter of some settings.
-use Rattle.std.proofs.Common.{◌≡◌, ℕ, ◌+◌, ◌-◌, ◌≤◌, ◌<◌, Bool, true, false, List, [], ◌∷◌, Option, Some, None, Result, Ok, Err, IfOk, map, length, replicate, cond, refl, sym, ap, ◌∙◌, subst, arith}
+use Rattle.std.proofs.Common.{◌≡◌, ℕ, ◌+◌, ◌-◌, ◌≤◌, ◌<◌, List, [], ◌∷◌, Option, Some, None, Result, Ok, Err, IfOk, map, length, replicate, refl, sym, ap, ◌∙◌, subst, arith}
 use Rattle.std.proofs.lemmas.List.{length-replicate}
 use Rattle.std.proofs.lemmas.List.Elements.{All-head}
 use Rattle.toml.specs.Data.{Members}
@@ -10,8 +10,8 @@ use Rattle.device.specs.Map.{IsMap, IsPartition}
 use Rattle.device.specs.State.{opening}
 use Rattle.device.specs.Seen.{sectors_in}
 use Rattle.compose.specs.declared.MbrFault.{MbrFault}
-use Rattle.compose.specs.declared.MbrFault.TheVariants.{EmptyEntry, CoversTable, PastEnd}
 use Rattle.compose.specs.declared.Settings.{Settings}
+use Rattle.compose.specs.Mbr.{extent_fault}
 use Rattle.compose.specs.Opening.{IsFirstView, first_rules}
 use Rattle.compose.specs.Shown.{StackView}
 use Rattle.compose.specs.Sound.{partitions_of}
@@ -24,17 +24,16 @@ use Rattle.stackrun.specs.Settings.{AreSettings}
 use Rattle.stackrun.proofs.Starting.{count_of_disk}
 use Rattle.stackrun.proofs.WholeSectors.{zeros_in}
 
-unfaulted : (empty covers past : Bool) (extent : Extent) (partition : Option Extent)
-    → cond empty (Err EmptyEntry) (cond covers (Err CoversTable) (cond past (Err PastEnd) (Ok (Some extent)))) ≡ Ok partition → partition ≡ Some extent
-unfaulted true covers past extent partition e = cc
-unfaulted false true past extent partition e = cc
-unfaulted false false true extent partition e = cc
-unfaulted false false false extent partition e = cc
+-- where there is no fault, the extent is told
+unfaulted : (fault : Option MbrFault) (extent : Extent) (partition : Option Extent)
+    → ◌≡◌ {A = Result (Option Extent) MbrFault} (elim fault [ None ↦ Ok (Some extent) | Some why ↦ Err why ]) (Ok partition) → partition ≡ Some extent
+unfaulted None extent partition e = cc
+unfaulted (Some why) extent partition e = cc
 
 -- a partition that was told is that of the settings
 same_extents : (sectors : ℕ) (given : Option Partition) (partition : Option Extent) → said_of sectors given ≡ Ok partition → partitions_of partition ≡ extents_of given
 same_extents sectors None partition e = ap partitions_of (let k : partition ≡ None = cc in k)
-same_extents sectors (Some p) partition e = ap partitions_of (unfaulted _ _ _ (extent_of p) partition e)
+same_extents sectors (Some p) partition e = ap partitions_of (unfaulted (extent_fault sectors (extent_of p)) (extent_of p) partition e)
 
 -- its sectors are zeros
 zero_sectors : (c : Config) (given : Option Partition) (first : List ℕ) → IsMap c.sectors (extents_of given)

@@ -4,7 +4,8 @@ use Rattle.std.specs.Result.{result_err}
 use Rattle.toml.specs.Data.{Members, array, boolean, no_items, get_member}
 use Rattle.stackrun.specs.declared.config.values.ConfigFault.{ConfigFault}
 use Rattle.stackrun.specs.Settings.{whole, IsNumber, values_of, has_known_keys}
-use Rattle.stackrun.specs.SettingsFaults.{is_from, is_sector_size, is_number, is_truth, is_list_of, number_of, needed_fault, optional_fault, first_of, partition_faults, setting_faults, IsRefusedFor}
+use Rattle.ntstatus.specs.First.{first_some}
+use Rattle.stackrun.specs.SettingsFaults.{is_from, is_sector_size, is_number, is_truth, is_list_of, number_of, needed_fault, optional_fault, partition_faults, setting_faults, IsRefusedFor}
 use Rattle.stackrun.proofs.FirstFault.{ends}
 
 -- what stands before the lists has no fault
@@ -22,8 +23,8 @@ pub record HasNumbers (document : Members) (end many : ℕ) : Type 0 where
   pub write_protected : None ≡ optional_fault (boolean false) is_truth (get_member (codes "write_protected") document)
 
 -- the first fault is then one of the lists
-pub at_lists : (document : Members) (sectors window : ℕ) → HasNumbers document sectors window → first_of (setting_faults document)
-    ≡ first_of (optional_fault (array no_items) (is_list_of (is_number (is_from 0 (sectors - 1)))) (get_member (codes "bad_sectors") document) ∷ partition_faults (get_member (codes "partition") document))
+pub at_lists : (document : Members) (sectors window : ℕ) → HasNumbers document sectors window → first_some (setting_faults document)
+    ≡ first_some (optional_fault (array no_items) (is_list_of (is_number (is_from 0 (sectors - 1)))) (get_member (codes "bad_sectors") document) ∷ partition_faults (get_member (codes "partition") document))
 at_lists document sectors window h =
     rw (h.known_keys, h.one_partition, ← h.sector_size, ← h.sectors, ← h.max_transfer, ← h.depth, ← h.window, ap number_of h.window_is, ← h.open_requests, ← h.write_protected, ap number_of h.sectors_is)
 
@@ -35,7 +36,7 @@ refused fault call result error was is (inr memory) = inr (ap result_err is ∙ 
 
 -- what a call was refused for is the first of the faults that begin with the call's
 pub refused_here : {A B : Type 0} (fault : Option ConfigFault) (rest : List (Option ConfigFault)) (call : Result A ConfigFault) (result : Result B ConfigFault) (error : ConfigFault)
-    → call ≡ Err error → result ≡ Err error → IsRefusedFor fault call → IsRefusedFor (first_of (fault ∷ rest)) result
+    → call ≡ Err error → result ≡ Err error → IsRefusedFor fault call → IsRefusedFor (first_some (fault ∷ rest)) result
 refused_here fault rest call result error was is (inl there) = inl (ap result_err is ∙ sym (ends fault rest error (sym there ∙ ap result_err was)))
 refused_here fault rest call result error was is (inr memory) = inr (ap result_err is ∙ sym (ap result_err was) ∙ memory)
 

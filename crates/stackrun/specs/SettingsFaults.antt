@@ -5,6 +5,7 @@ use Rattle.std.specs.Option.{option_map_or}
 use Rattle.std.specs.Result.{result_err}
 use Rattle.toml.specs.Data.{Data, integer, boolean, array, table, no_items, Members, get_member}
 use Rattle.toml.specs.Parse.{parse_document}
+use Rattle.ntstatus.specs.First.{first_some}
 use Rattle.stackrun.specs.declared.config.values.ConfigFault.{ConfigFault}
 use Rattle.stackrun.specs.declared.config.values.ConfigFault.TheVariants.{NotToml, UnknownKey, MissingKey, OutOfRange, TooManyPartitions, NoMemory}
 use Rattle.stackrun.specs.Settings.{whole, list_of, values_of, has_known_keys}
@@ -55,15 +56,9 @@ needed_fault test (Some d) = unless (test d) OutOfRange
 abbrev pub optional_fault : Data → (Data → Bool) → Option Data → Option ConfigFault
 optional_fault default test found = unless (test (unwrap_or found default)) OutOfRange
 
--- the first fault that is there
-abbrev pub first_of : List (Option ConfigFault) → Option ConfigFault
-first_of [] = None
-first_of (Some fault ∷ rest) = Some fault
-first_of (None ∷ rest) = first_of rest
-
 -- what is wrong with a partition
 abbrev pub partition_fault : Data → Option ConfigFault
-partition_fault (table settings) = first_of (
+partition_fault (table settings) = first_some (
     needed_fault (is_number (is_from 0 4294967295)) (get_member (codes "first") settings)
     ∷ needed_fault (is_number (is_from 0 4294967295)) (get_member (codes "count") settings)
     ∷ optional_fault (whole 7) (is_number (is_from 1 255)) (get_member (codes "type") settings)
@@ -93,7 +88,7 @@ setting_faults document =
 
 -- the first fault of a text that is to give settings
 abbrev pub text_fault : List ℕ → Option ConfigFault
-text_fault text = option_map_or (λ document. first_of (setting_faults document)) (parse_document text) (Some NotToml)
+text_fault text = option_map_or (λ document. first_some (setting_faults document)) (parse_document text) (Some NotToml)
 
 -- a result is refused for a fault, where there is one, and may be refused for want of memory
 abbrev pub IsRefusedFor : {A : Type 0} → Option ConfigFault → Result A ConfigFault → Type 0

@@ -8,7 +8,8 @@ ghost use Rattle.toml.specs.Data.{Members};
 ghost use Rattle.toml.specs.Parse.{parse_document};
 ghost use Rattle.toml.specs.View.{table_view};
 ghost use Rattle.stackrun.specs.Settings.{AreSettings};
-ghost use Rattle.stackrun.specs.SettingsFaults.{first_of, setting_faults, text_fault, IsRefusedFor};
+ghost use Rattle.ntstatus.specs.First.{first_some};
+ghost use Rattle.stackrun.specs.SettingsFaults.{setting_faults, text_fault, IsRefusedFor};
 
 use crate::config::values::{Config, ConfigFault};
 use std::alloc::Global;
@@ -36,7 +37,7 @@ pub fn config(alloc: Global, text: &str) -> Result<Config, ConfigFault>
 /// The settings of a table.
 fn of_table(alloc: Global, table: &Table) -> Result<Config, ConfigFault>
     ensures settings { IfOk result (AreSettings (table_view table.now)) }
-    ensures fault { IsRefusedFor (first_of (setting_faults (table_view table.now))) result }
+    ensures fault { IsRefusedFor (first_some (setting_faults (table_view table.now))) result }
 {
     if !table::has_known_keys(table) {
         return Err(ConfigFault::UnknownKey);

@@ -8,7 +8,8 @@ ghost use Rattle.toml.specs.Data.{array, boolean, no_items, get_member, table};
 ghost use Rattle.toml.specs.View.{items_of, view, table_view};
 ghost use Rattle.stackrun.specs.declared.config.values.ConfigFault.TheVariants.{OutOfRange};
 ghost use Rattle.stackrun.specs.Settings.{setting_keys, partition_keys, has_only, has_partition_keys, values_of, has_known_keys, whole, IsFrom, IsNumber, IsNumberOr, IsTruthOrFalse, AreNumbers, IsPartition, GivesPartition, ArePartitions};
-ghost use Rattle.stackrun.specs.SettingsFaults.{is_from, is_sector_size, is_number, is_truth, is_list, is_list_of, unless, needed_fault, optional_fault, first_of, partition_fault, partition_faults, IsRefusedFor};
+ghost use Rattle.ntstatus.specs.First.{first_some};
+ghost use Rattle.stackrun.specs.SettingsFaults.{is_from, is_sector_size, is_number, is_truth, is_list, is_list_of, unless, needed_fault, optional_fault, partition_fault, partition_faults, IsRefusedFor};
 
 use crate::config::values::{ConfigFault, Partition};
 use std::alloc::Global;
@@ -211,7 +212,7 @@ fn sectors_of(alloc: Global, items: &[Value], sectors: u32) -> Result<Vec<u64>, 
 /// The partitions, in the order of the document.
 pub fn partitions(alloc: Global, table: &Table) -> Result<Vec<Partition>, ConfigFault>
     ensures value { IfOk result (λ found. ArePartitions (get_member (codes "partition") (table_view table.now)) found.items) }
-    ensures fault { IsRefusedFor (first_of (partition_faults (get_member (codes "partition") (table_view table.now)))) result }
+    ensures fault { IsRefusedFor (first_some (partition_faults (get_member (codes "partition") (table_view table.now)))) result }
 {
     match list_at(table, "partition")? {
         Some(items) => partitions_of(alloc, items),
@@ -221,7 +222,7 @@ pub fn partitions(alloc: Global, table: &Table) -> Result<Vec<Partition>, Config
 
 fn partitions_of(alloc: Global, items: &[Value]) -> Result<Vec<Partition>, ConfigFault>
     ensures value { IfOk result (λ found. AllZip GivesPartition (map view items.now) found.items) }
-    ensures fault { IsRefusedFor (first_of (map (λ item. partition_fault (view item)) items.now)) result }
+    ensures fault { IsRefusedFor (first_some (map (λ item. partition_fault (view item)) items.now)) result }
 {
     let mut partitions = Vec::new(alloc);
     for item in items {
