@@ -6,6 +6,7 @@ mod Keys
 mod Opening
 mod Parted
 mod Printed
+mod PrintedLabels
 mod Reading
 mod SettingFaults
 mod Spelled

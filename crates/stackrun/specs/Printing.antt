@@ -125,3 +125,8 @@ abbrev pub waiting_after : Waiting → Label → Waiting
 waiting_after waiting (Call number request) = elim request.kind [ Write ↦ waiting ++ (number, request.length) ∷ [] | Read ↦ waiting | Flush ↦ waiting ]
 waiting_after waiting (Answer number status bytes) = without number waiting
 waiting_after waiting _ = waiting
+
+-- the lines of labels, one after the other
+abbrev pub labels_text : Waiting → List Label → List ℕ
+labels_text waiting [] = []
+labels_text waiting (label ∷ labels) = label_line waiting label ++ labels_text (waiting_after waiting label) labels

@@ -1,10 +1,12 @@
 //! A script run through a stack, and its trace in print.
 
 ghost use Rattle.std.specs.Prelude.{◌≡◌, ◌⊎◌, [], IfOk, OnOk, MatchResult, replicate};
+ghost use Rattle.std.specs.Io.KnownBytes.{Appends};
 ghost use Rattle.toml.specs.Data.{Members};
 ghost use Rattle.compose.specs.declared.Refusal.TheVariants.{InsufficientResources};
 ghost use Rattle.compose.specs.declared.Reply.TheVariants.{Refused};
 ghost use Rattle.stackrun.specs.Events.{AreNamed, IsEventOf, IsReplyTo, Keeps, KeepsHandle, handle_of};
+ghost use Rattle.stackrun.specs.Printing.{labels_text};
 ghost use Rattle.stackrun.specs.Settings.{AreSettings};
 
 use crate::config::config;
@@ -124,15 +126,23 @@ fn write_labels<A: Adapter, W: Write>(
     out: &mut W,
     lengths: &mut Lengths,
 ) -> Result<(), Fault>
-    ensures { OnOk result (stack.new.labels ≡ []) }
+    ensures taken { OnOk result (stack.new.labels ≡ []) }
+    ensures text { OnOk result (Appends (W.contents out.old) (W.contents out.new) (labels_text lengths.old stack.old.labels)) }
 {
     while let Some(label) = stack.take_label() {
         write_label(out, &label, lengths)?;
-        if let Label::Answer { .. } = label {
-            let _ = stack.take_answer();
-        }
+        take_answer_of(stack, label);
     }
     Ok(())
+}
+
+/// Takes the answer that goes with a label, if one does.
+fn take_answer_of<A: Adapter>(stack: &mut Stack<A>, label: Label)
+    ensures { stack.new.labels ≡ stack.old.labels }
+{
+    if let Label::Answer { .. } = label {
+        let _ = stack.take_answer();
+    }
 }
 
 /// The event of an order, or the reply to one that can't be made.
