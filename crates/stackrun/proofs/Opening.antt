@@ -1,16 +1,13 @@
 -- The stack that is started over the adapter of some settings.
-use Rattle.std.proofs.Common.{◌≡◌, ℕ, ◌+◌, ◌-◌, ◌≤◌, ◌<◌, List, [], ◌∷◌, Option, Some, None, Result, Ok, Err, IfOk, map, length, replicate, refl, sym, ap, ◌∙◌, subst, arith}
-use Rattle.std.proofs.lemmas.List.{length-replicate}
+use Rattle.std.proofs.Common.{◌≡◌, ℕ, ◌-◌, List, [], ◌∷◌, Option, Some, None, Result, Ok, Err, map, length, refl, sym, ap, ◌∙◌, subst}
 use Rattle.std.proofs.lemmas.List.Elements.{All-head}
 use Rattle.toml.specs.Data.{Members}
 use Rattle.sector.specs.declared.Extent.{Extent}
-use Rattle.srb.specs.Adapter.{AdapterView}
 use Rattle.miniport.specs.Memory.{MemView}
 use Rattle.device.specs.Map.{IsMap, IsPartition}
 use Rattle.device.specs.State.{opening}
 use Rattle.device.specs.Seen.{sectors_in}
 use Rattle.compose.specs.declared.MbrFault.{MbrFault}
-use Rattle.compose.specs.declared.Settings.{Settings}
 use Rattle.compose.specs.Mbr.{extent_fault}
 use Rattle.compose.specs.Opening.{IsFirstView, first_rules}
 use Rattle.compose.specs.Shown.{StackView}

@@ -1,7 +1,7 @@
 -- The disk, the adapter and the stack of some settings.
-use Rattle.std.proofs.Common.{◌≡◌, ℕ, zero, suc, ◌+◌, ◌-◌, ◌*◌, ◌≤◌, ◌<◌, List, [], ◌∷◌, ◌++◌, Option, Some, None, MatchOption, Result, Ok, Err, IfOk, length, replicate, slice_get, get_or, Contains, ◌↔◌, arith, refl, sym, ap, ◌∙◌, subst, length-append}
+use Rattle.std.proofs.Common.{◌≡◌, ℕ, ◌-◌, ◌≤◌, ◌<◌, List, [], ◌∷◌, Option, Some, None, MatchOption, Result, Ok, Err, IfOk, length, replicate, slice_get, get_or, Contains, ◌↔◌, arith, refl, sym, ap, ◌∙◌, subst}
 use Rattle.std.proofs.lemmas.List.{length-replicate}
-use Rattle.std.specs.List.{AllZip, concat}
+use Rattle.std.specs.List.{AllZip}
 use Rattle.toml.specs.Data.{Data, Members}
 use Rattle.disk.specs.Medium.{MediumView, StartsWith, IsWhole}
 use Rattle.disk.specs.declared.NoMemory.{NoMemory}

@@ -1,5 +1,5 @@
 -- Sector 0 of a disk, with the partition table of a master boot record, and what it says.
-use Rattle.std.specs.Prelude.{◌≡◌, ℕ, ◌+◌, ◌-◌, List, ◌∷◌, ◌++◌, replicate, Option, Some, None, Result, Ok}
+use Rattle.std.specs.Prelude.{ℕ, ◌-◌, List, ◌∷◌, ◌++◌, replicate, Option, Some, None, Result, Ok}
 use Rattle.std.specs.Int.{to_le_bytes, w32}
 use Rattle.sector.specs.declared.Extent.{Extent}
 use Rattle.compose.specs.declared.MbrFault.{MbrFault}
