@@ -8,14 +8,15 @@ use Rattle.sector.specs.Extents.{IsSector}
 use Rattle.srb.specs.declared.DeviceLabel.{DeviceLabel}
 use Rattle.srb.specs.declared.DeviceLabel.TheVariants.{Act, Fault}
 use Rattle.srb.specs.Performing.{Performs}
-use Rattle.srb.specs.Adapter.{AdapterView, TagInUse, IsInOrder, IsOn, ActsOn as AdapterActsOn, FaultsOn as AdapterFaultsOn, acted, faulted}
+use Rattle.srb.specs.Fate.{Fresh}
+use Rattle.srb.specs.Adapter.{AdapterView, TagInUse, IsInOrder, IsOn, ActsOn as AdapterActsOn, FaultsOn as AdapterFaultsOn, MovesOn, acted, faulted}
 use Rattle.miniport.specs.Calls.{Acts as AdapterActs, ActsNot as AdapterActsNot}
 use Rattle.device.specs.declared.Request.{Request}
 use Rattle.device.specs.Rules.{Rules, as_client}
 use Rattle.device.specs.State.{OpenRequest, Piece}
 use Rattle.device.specs.Sending.{Acts, Faults}
 use Rattle.device.specs.Seen.{AsksFor, label_places}
-use Rattle.device.specs.Served.{ActsOn, ActsNot}
+use Rattle.device.specs.Served.{IsActOrFault, ActsOn, ActsNot}
 use Rattle.device.specs.Step.{DeviceStep}
 use Rattle.device.proofs.Same.{IsSame-refl}
 use Rattle.device.proofs.Numbers.{AreDistinct-DeviceStep}
@@ -43,6 +44,11 @@ record Turned (b : Books) (v : AdapterView) (tag : ℕ) (use' use'' : TagInUse) 
   same_open : out_open (rules_of b.sizes) (entry_of held) use'' ≡ out_open (rules_of b.sizes) (entry_of held) use'
   doing : IsDoing (rules_of b.sizes) held.request use''.fate use''.srb
   long : length sectors ≡ length v.sectors
+
+-- all of it, of an act or a fault
+pub record IsTurned (b : Books) (v : AdapterView) (tag : ℕ) (v' : AdapterView) : Type 0 where
+  pub rooms : (rooms : List Request) → IsInHand b v rooms → IsInHand b v' rooms
+  pub acts : ActsOn (seen_of b v) tag (seen_of b v')
 
 module _ (b : Books) (v : AdapterView) (tag : ℕ) (use' use'' : TagInUse) (others tags' : List TagInUse) (sectors : List (List ℕ)) (held : Held) (failures : ℕ) (label : DeviceLabel) where
   -- before and after, the tag's and the others'
@@ -111,6 +117,28 @@ module _ (b : Books) (v : AdapterView) (tag : ℕ) (use' use'' : TagInUse) (othe
       let t' = length_permutation _ _ h.in_use in
       in_hand b (view_turned v sectors tags' failures label) rooms (kept_turned rooms k.kept h space order step) (λ free. k.busy (omega arith))
 
+  -- all of it, by the machine's step and the adapter's move of the label
+  shown_turned : Turned b v tag use' use'' others tags' sectors held → use'.fate ≡ Fresh → IsActOrFault use'.piece label → length v.labels + (v.depth - length v.tags) + 1 ≤ 64
+      → IsInOrder (view_turned v sectors tags' failures label) → DeviceStep (rules_of b.sizes) (state_of b v) label (state_of b (view_turned v sectors tags' failures label))
+      → MovesOn v tag label (view_turned v sectors tags' failures label) → IsTurned b v tag (view_turned v sectors tags' failures label)
+  shown_turned h fresh told space order step moved = record {
+    rooms = λ rs i. hand_turned rs i h space order step;
+    acts = record {
+      piece = out_piece (rules_of b.sizes) (entry_of held) use';
+      label = label;
+      fresh = record { is_out = Contains-permutation _ _ _ (IsPermutation-sym _ _ (is_out h)) (0, omega arith, refl); is_tag = h.on.has_tag; is_fresh = fresh };
+      told = told;
+      moves = record {
+        same_rules = refl;
+        same_packets = packets_turned packet_as h;
+        same_submitted = refl;
+        same_most = refl;
+        run = (state_of b (view_turned v sectors tags' failures label), inl (refl, step), IsSame-refl _);
+        adapter = moves_one v (view_turned v sectors tags' failures label) tag label moved;
+      };
+    };
+  }
+
 -- AN ACT
 
 turned_act : (b : Books) (v v' : AdapterView) (rooms : List Request) (tag piece : ℕ) (bytes : List ℕ) (a : AdapterActsOn v tag piece bytes v') (held : Held) → IsKept b v rooms → held_on b.started tag ≡ Some held
@@ -123,11 +151,6 @@ turned_act b v v' rooms tag piece bytes a held k on =
     carried b.sizes (state_of b v) held.request a.use'.srb v.sectors a.moved a.sectors a.left a.command (kept_sector_some b v rooms k) work.0 k.sizes.sectors
     (subst (λ n. All (IsSector n) v.sectors) (sym size) k.adapter.whole_sectors) refl held.request.kind refl asks a.means
     (subst (λ n. Performs n v.sectors a.use'.srb.data a.command a.moved a.sectors) (sym size) a.performs)
-
--- all of it, of an act or a fault
-pub record IsTurned (b : Books) (v : AdapterView) (tag : ℕ) (v' : AdapterView) : Type 0 where
-  pub rooms : (rooms : List Request) → IsInHand b v rooms → IsInHand b v' rooms
-  pub acts : ActsOn (seen_of b v) tag (seen_of b v')
 
 acted_all : (b : Books) (v v' : AdapterView) (rooms : List Request) (tag piece : ℕ) (bytes : List ℕ) → IsKept b v rooms → length v.labels + (v.depth - length v.tags) + 1 ≤ 64
     → AdapterActsOn v tag piece bytes v' → IsInOrder v' → IsTurned b v tag v'
@@ -174,39 +197,8 @@ acted_all b v v' rooms tag piece bytes k space a order =
         removed = refl;
       };
     } in
-    subst (λ y. IsTurned b v tag y) (sym a.after) (record {
-      rooms = λ rs i. hand_turned b v tag a.use' u a.others a.tags a.sectors held v.failures label rs i h space (subst IsInOrder a.after order) step;
-      acts = record {
-        piece = out_piece rules e a.use';
-        label = label;
-        fresh = record { is_out = Contains-permutation _ _ _ (IsPermutation-sym _ _ (is_out b v tag a.use' u a.others a.tags a.sectors held v.failures label h)) (0, omega arith, refl); is_tag = a.is_on.has_tag; is_fresh = a.is_fresh };
-        told = sym a.is_piece;
-        moves = record {
-          same_rules = refl;
-          same_packets = packets_turned b v tag a.use' u a.others a.tags a.sectors held v.failures label packet_as h;
-          same_submitted = refl;
-          same_most = refl;
-          run = (state_of b x, inl (refl, step), IsSame-refl _);
-          adapter = moves_one v x tag label (record {
-            use' = a.use';
-            others = a.others;
-            command = a.command;
-            moved = a.moved;
-            sectors = a.sectors;
-            left = a.left;
-            tags = a.tags;
-            is_on = a.is_on;
-            is_piece = a.is_piece;
-            is_fresh = a.is_fresh;
-            means = a.means;
-            performs = a.performs;
-            hands_over = a.hands_over;
-            in_use = a.in_use;
-            after = refl;
-          });
-        };
-      };
-    })
+    subst (λ y. IsTurned b v tag y) (sym a.after) (shown_turned b v tag a.use' u a.others a.tags a.sectors held v.failures label h a.is_fresh (sym a.is_piece) space
+        (subst IsInOrder a.after order) step (subst (AdapterActsOn v tag piece bytes) a.after a))
 
 -- A FAULT
 
@@ -245,34 +237,8 @@ faulted_all b v v' rooms tag piece k space a order =
         removed = refl;
       };
     } in
-    subst (λ y. IsTurned b v tag y) (sym a.after) (record {
-      rooms = λ rs i. hand_turned b v tag a.use' u a.others a.tags v.sectors held a.failures label rs i h space (subst IsInOrder a.after order) step;
-      acts = record {
-        piece = out_piece rules e a.use';
-        label = label;
-        fresh = record { is_out = Contains-permutation _ _ _ (IsPermutation-sym _ _ (is_out b v tag a.use' u a.others a.tags v.sectors held a.failures label h)) (0, omega arith, refl); is_tag = a.is_on.has_tag; is_fresh = a.is_fresh };
-        told = sym a.is_piece;
-        moves = record {
-          same_rules = refl;
-          same_packets = packets_turned b v tag a.use' u a.others a.tags v.sectors held a.failures label packet_as h;
-          same_submitted = refl;
-          same_most = refl;
-          run = (state_of b x, inl (refl, step), IsSame-refl _);
-          adapter = moves_one v x tag label (record {
-            use' = a.use';
-            others = a.others;
-            tags = a.tags;
-            failures = a.failures;
-            is_on = a.is_on;
-            is_piece = a.is_piece;
-            is_fresh = a.is_fresh;
-            counted = a.counted;
-            in_use = a.in_use;
-            after = refl;
-          });
-        };
-      };
-    })
+    subst (λ y. IsTurned b v tag y) (sym a.after) (shown_turned b v tag a.use' u a.others a.tags v.sectors held a.failures label h a.is_fresh (sym a.is_piece) space
+        (subst IsInOrder a.after order) step (subst (AdapterFaultsOn v tag piece) a.after a))
 
 label_space : (b : Books) (v : AdapterView) (rooms : List Request) → IsKept b v rooms → label_places (seen_of b v) + 1 ≤ 64 → length v.labels + (v.depth - length v.tags) + 1 ≤ 64
 label_space b v rooms k space =
