@@ -14,9 +14,10 @@ use Rattle.device.specs.Seen.{Seen, IsBounded, transfer_length}
 use Rattle.device.proofs.Places.{IsTakenIn, taken_in}
 use Rattle.compose.specs.declared.admission.Limits.{Limits}
 use Rattle.compose.specs.declared.tables.Tables.{Tables}
-use Rattle.compose.specs.OnDisk.{first_of, end_of, rules_over, open_as_called}
+use Rattle.compose.specs.OnDisk.{first_of, end_of, open_as_called}
 use Rattle.compose.specs.Sound.{partitions_of, rules_of, view_of, IsSound}
 use Rattle.compose.specs.Admitting.{request_on_disk, IsWholeDisk, FitsBlock, IsAdmissible}
+use Rattle.compose.proofs.OnDisk.{end_is}
 
 after_true : (b c : Bool) → b ≡ true → (b && c) ≡ false → c ≡ false
 after_true true c h e = e
@@ -50,10 +51,6 @@ some_sectors : (size n : ℕ) → 0 < size → n ≡ n / size * size → (n == 0
 some_sectors size n some whole' not_empty =
     let n_some : 0 < n = grind (arith, nat_tests) in
     positive size (n / size) n whole' n_some
-
-end_is : (partitions : List Extent) (many window : ℕ) (below : Rules) → first_of partitions + sectors_of (rules_over partitions many window below) (Some 0) ≡ end_of partitions
-end_is [] many window below = omega arith
-end_is (extent ∷ extents) many window below = refl
 
 module _ (limits : Limits) (below : Seen) (tables : Tables) (q : ClientRequest) (h : IsSound limits below tables) (k : IsAdmissible (view_of limits below tables) q) where
   abbrev over : Rules
