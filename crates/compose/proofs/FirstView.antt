@@ -4,7 +4,7 @@ use Rattle.std.specs.Prelude.{◌==◌, nat_lt, if◌then◌else◌}
 use Rattle.std.proofs.lemmas.Bool.{eqb-false, ltb-false}
 use Rattle.std.proofs.lemmas.List.Elements.{All-nil, All-cons}
 use Rattle.sector.specs.declared.Extent.{Extent}
-use Rattle.srb.specs.Adapter.{AdapterView, IsInOrder}
+use Rattle.srb.specs.Adapter.{AdapterView}
 use Rattle.device.specs.Map.{IsMap, IsPartition}
 use Rattle.device.specs.Rules.{Rules}
 use Rattle.device.specs.State.{opening}
@@ -21,7 +21,7 @@ use Rattle.compose.specs.Mbr.{is_signed, first_type, first_extent, extent_fault,
 use Rattle.compose.specs.Sound.{partitions_of, rules_of, holders_of, view_of}
 use Rattle.compose.specs.Start.{IsSameDisk, sector_zero, AreLimits}
 use Rattle.compose.specs.Shown.{StackView}
-use Rattle.compose.specs.Opening.{IsUnasked, AreFor, AreEmpty, first_rules, IsFirstView, ShowsEmpty}
+use Rattle.compose.specs.Opening.{IsUnasked, AreEmpty, first_rules, IsFirstView, ShowsEmpty}
 use Rattle.compose.proofs.Opened.{opening-view}
 
 -- THE FIRST ENTRY IS A MAP
@@ -98,23 +98,6 @@ IsUnasked-whole_disk v most many none = record {
 module _ (disk v : AdapterView) (settings : Settings) (limits : Limits) (most : ℕ) (same : IsSameDisk 2 disk v) (are : AreLimits disk settings limits) where
   is_map : IsMap (length disk.sectors) (partitions_of limits.partition)
   is_map = IsMap-first_entry (length disk.sectors) (sector_zero disk) limits.partition are.partition
-
-  pub AreFor-whole_disk : IsInOrder v → AreFor (on_whole_disk v most) limits
-  AreFor-whole_disk order =
-      let open' : limits.open_requests ≡ settings.open_requests = ap (λ (l : Limits). l.open_requests) are.sizes in
-      let window' : limits.window ≡ settings.window = ap (λ (l : Limits). l.window) are.sizes in
-      let longest' : limits.longest ≡ v.max_transfer = ap (λ (l : Limits). l.longest) are.sizes ∙ sym same.max_transfer in
-      record {
-        sector_size = ap (λ (l : Limits). l.sector_size) are.sizes ∙ sym same.sector_size;
-        longest = longest';
-        short = let few = order.max_transfer.1 in omega (arith, longest', few);
-        some_open =
-            let some = are.in_range.open_requests.0 in
-            let within = are.in_range.open_requests.1 in
-            let few = are.in_range.window.1 in
-            (omega (arith, open', some), omega (arith, open', window', within), omega (arith, window', few));
-        is_map = subst (λ (xs : List (List ℕ)). IsMap (length xs) (partitions_of limits.partition)) (sym same.sectors) is_map;
-      }
 
   rules_with : ℕ → ℕ → ℕ → ℕ → ℕ → Rules
   rules_with size transfer depth open' window' = record {
