@@ -6,7 +6,7 @@ use Rattle.srb.specs.declared.DeviceLabel.{DeviceLabel}
 use Rattle.srb.specs.declared.DeviceLabel.TheVariants.{Start, Act, Fault, Return}
 use Rattle.srb.specs.Adapter.{AdapterView, MovesOn, MovesByAll}
 use Rattle.srb.specs.Performing.{Performs}
-use Rattle.device.proofs.Splicing.{length-splice}
+use Rattle.sector.proofs.Splicing.{length-splice}
 
 Performs-length : (size : ℕ) (sectors : List (List ℕ)) (bytes : List ℕ) (command : Cdb) (moved after : List (List ℕ)) → Performs size sectors bytes command moved after → length after ≡ length sectors
 Performs-length size sectors bytes (Read10 lba count fua) moved after h = ap length h.2

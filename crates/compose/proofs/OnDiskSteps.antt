@@ -25,7 +25,7 @@ use Rattle.device.proofs.Same.{IsSame-sym}
 use Rattle.device.proofs.Numbers.{AreDistinct-same, AreDistinct-DeviceStep}
 use Rattle.device.proofs.Placed.{ArePlaced-same, ArePlaced-DeviceStep, leaves}
 use Rattle.device.proofs.Owners.{Owns, owns}
-use Rattle.device.proofs.Splicing.{length-splice}
+use Rattle.sector.proofs.Splicing.{length-splice}
 use Rattle.compose.specs.OnDisk.{first_of, end_of, rules_over, as_called, open_as_called, on_partition, LiesInside, IsOnDisk}
 use Rattle.compose.proofs.PartSlices.{slice_of_partition, write_of_partition, Keeps, Keeps-none, Keeps-splice, sector_of_offset}
 use Rattle.compose.proofs.OnDisk.{IsSame-on_partition}
