@@ -1,14 +1,12 @@
 -- Acts and returns of the adapter as steps of the stack.
 use Rattle.std.proofs.Common.{◌≡◌, inl, inr, ℕ, List, [], ◌∷◌, ◌++◌, refl, sym, ◌∙◌, ap, subst}
-use Rattle.std.specs.Prelude.{IsPermutation, All, IsTrue}
-use Rattle.std.proofs.lemmas.List.Sorted.{All-permutation, IsPermutation-sym}
-use Rattle.std.proofs.lemmas.List.Elements.{All-append, All-weaker}
-use Rattle.ntstatus.specs.declared.NtStatus.{NtStatus}
+use Rattle.std.specs.Prelude.{All}
+use Rattle.std.proofs.lemmas.List.Sorted.{IsPermutation-sym}
+use Rattle.std.proofs.lemmas.List.Elements.{All-append}
 use Rattle.srb.specs.declared.DeviceLabel.{DeviceLabel}
 use Rattle.srb.specs.declared.DeviceLabel.TheVariants.{Start, Act as ActLabel, Fault, Return}
 use Rattle.device.specs.Rules.{Rules}
-use Rattle.device.specs.State.{Mark, Untouched, Out, Done, Failed, Back, OpenRequest, State}
-use Rattle.device.specs.Answering.{IsGivenUp, HasEnded}
+use Rattle.device.specs.State.{State}
 use Rattle.device.specs.Step.{Run}
 use Rattle.device.specs.Seen.{Seen, IsOrderly}
 use Rattle.device.specs.Served.{as_label, IsStart, IsActOrFault, Moves, ActsOn, ActsNot, Finishes, FinishesNot, IsUnfinished}
@@ -22,29 +20,12 @@ use Rattle.compose.specs.declared.tables.Tables.{Tables}
 use Rattle.compose.specs.Shown.{StackView}
 use Rattle.compose.specs.Right.{SameHandles, tells_nothing, IsRight}
 use Rattle.compose.specs.Sound.{view_of, IsSound, IsAtRest, Collects, IsKept}
+use Rattle.compose.proofs.Unfinished.{IsUnfinished-same}
 use Rattle.compose.proofs.Quiet.{IsRightBy-unmoved}
 use Rattle.compose.proofs.Righting.{IsServed, told_by, rests, IsRightBy-served}
 use Rattle.compose.proofs.Stepping.{IsKept-collected}
 
 -- WHAT HAS NOT ENDED
-
-given_up : (s t : State) → s.removing ≡ t.removing → (o : OpenRequest) (status : NtStatus) → IsGivenUp s o status → IsGivenUp t o status
-given_up s t same o status (inl cancelled) = inl cancelled
-given_up s t same o status (inr removed) = inr (subst (λ r. IsTrue r) same removed.0, removed.1)
-
-ended : (rules : Rules) (s t : State) → s.removing ≡ t.removing → (o : OpenRequest) (mark : Mark) → HasEnded rules s o mark → HasEnded rules t o mark
-ended rules s t same o mark (inl done) = inl done
-ended rules s t same o (Failed failure) (inr h) = inr h
-ended rules s t same o Untouched (inr h) = inr (h.0, given_up s t same o h.0 h.1)
-ended rules s t same o Back (inr h) = inr (h.0, elim h.1 [ inl gone ↦ inl (given_up s t same o h.0 gone) | inr busy ↦ inr busy ])
-ended rules s t same o Out (inr h) = absurd h.1
-ended rules s t same o (Done sector) (inr h) = absurd h.1
-
-pub IsUnfinished-same : (rules : Rules) (s t : State) → s.removing ≡ t.removing → IsPermutation s.requests t.requests → All (IsUnfinished rules s) s.requests → All (IsUnfinished rules t) t.requests
-IsUnfinished-same rules s t same requests h =
-    All-weaker (IsUnfinished rules s) (IsUnfinished rules t)
-    (λ o unfinished over. unfinished (All-weaker (HasEnded rules t o) (HasEnded rules s o) (ended rules t s (sym same) o) o.marks over))
-    t.requests (All-permutation (IsUnfinished rules s) _ _ requests h)
 
 -- an act or a fault ends no request
 unfinished_after : (rules : Rules) (number : ℕ) (label : DeviceLabel) (s s' : State) → IsActOrFault number label → Run rules s (as_label label ∷ []) s'

@@ -4,24 +4,23 @@ use Rattle.std.specs.Prelude.{◌==◌, nat_lt, if◌then◌else◌}
 use Rattle.std.proofs.lemmas.Bool.{eqb-false, ltb-false}
 use Rattle.std.proofs.lemmas.List.Elements.{All-nil, All-cons}
 use Rattle.sector.specs.declared.Extent.{Extent}
-use Rattle.srb.specs.Adapter.{AdapterView, IsInOrder}
+use Rattle.srb.specs.Adapter.{AdapterView}
 use Rattle.device.specs.Map.{IsMap, IsPartition}
-use Rattle.device.specs.Rules.{Rules}
 use Rattle.device.specs.State.{opening}
 use Rattle.device.specs.Seen.{Seen, sectors_in}
+use Rattle.port.specs.Opening.{rules_over, opening_seen}
 use Rattle.compose.specs.declared.MbrFault.{MbrFault}
 use Rattle.compose.specs.declared.MbrFault.TheVariants.{NoSignature, EmptyEntry, CoversTable, PastEnd}
 use Rattle.compose.specs.declared.Settings.{Settings}
 use Rattle.compose.specs.declared.admission.Limits.{Limits}
 use Rattle.compose.specs.declared.tables.OpenRequest.{OpenRequest}
 use Rattle.compose.specs.declared.tables.Tables.{Tables}
-use Rattle.compose.specs.Calls.{number_limit}
 use Rattle.ntstatus.proofs.First.{none_first}
 use Rattle.compose.specs.Mbr.{is_signed, first_type, first_extent, extent_fault, checked, first_entry}
 use Rattle.compose.specs.Sound.{partitions_of, rules_of, holders_of, view_of}
 use Rattle.compose.specs.Start.{IsSameDisk, sector_zero, AreLimits}
 use Rattle.compose.specs.Shown.{StackView}
-use Rattle.compose.specs.Opening.{IsUnasked, AreFor, AreEmpty, first_rules, IsFirstView, ShowsEmpty}
+use Rattle.compose.specs.Opening.{IsUnasked, AreEmpty, first_rules, IsFirstView, ShowsEmpty}
 use Rattle.compose.proofs.Opened.{opening-view}
 
 -- THE FIRST ENTRY IS A MAP
@@ -61,91 +60,40 @@ IsMap-first_entry sectors table partition told = by_tests (is_signed table) (fir
     by_tests true true told = let same : None ≡ partition = cc (told) in subst (λ (p : Option Extent). IsMap sectors (partitions_of p)) same (none_is_map sectors)
     by_tests true false told = checked_is_map sectors (first_extent table) partition told
 
--- A DEVICE OF THE WHOLE DISK
+-- A PORT OF THE WHOLE DISK
 
--- what a layer over an adapter shows that has the whole disk, one piece a request and no restarts
-abbrev pub on_whole_disk : AdapterView → ℕ → Seen
-on_whole_disk v most = record {
-  rules = record {
-    sector_size = v.sector_size;
-    partitions = record { first = 0; count = length v.sectors } ∷ [];
-    longest = v.max_transfer;
-    max_transfer = v.max_transfer;
-    depth = v.depth;
-    open_requests = None;
-    window = None;
-    one_piece = true;
-    busy_limit = 1;
-  };
-  state = opening (map (sectors_in v.sectors) (record { first = 0; count = length v.sectors } ∷ []));
-  packets = [];
-  submitted = 0;
-  most = most;
-  adapter = v;
-}
-
-pub IsUnasked-whole_disk : (v : AdapterView) (most : ℕ) → number_limit ≤ most → v.labels ≡ [] → IsUnasked (on_whole_disk v most)
-IsUnasked-whole_disk v most many none = record {
+IsUnasked-opening : (v : AdapterView) → v.labels ≡ [] → IsUnasked (opening_seen v)
+IsUnasked-opening v none = record {
   whole_disk = refl;
   state = refl;
   no_window = refl;
   no_packets = refl;
   none_submitted = refl;
-  many = many;
+  many = omega arith;
   no_labels = none;
 }
 
-module _ (disk v : AdapterView) (settings : Settings) (limits : Limits) (most : ℕ) (same : IsSameDisk 2 disk v) (are : AreLimits disk settings limits) where
+module _ (disk v : AdapterView) (settings : Settings) (limits : Limits) (same : IsSameDisk 2 disk v) (are : AreLimits disk settings limits) where
   is_map : IsMap (length disk.sectors) (partitions_of limits.partition)
   is_map = IsMap-first_entry (length disk.sectors) (sector_zero disk) limits.partition are.partition
 
-  pub AreFor-whole_disk : IsInOrder v → AreFor (on_whole_disk v most) limits
-  AreFor-whole_disk order =
-      let open' : limits.open_requests ≡ settings.open_requests = ap (λ (l : Limits). l.open_requests) are.sizes in
-      let window' : limits.window ≡ settings.window = ap (λ (l : Limits). l.window) are.sizes in
-      let longest' : limits.longest ≡ v.max_transfer = ap (λ (l : Limits). l.longest) are.sizes ∙ sym same.max_transfer in
-      record {
-        sector_size = ap (λ (l : Limits). l.sector_size) are.sizes ∙ sym same.sector_size;
-        longest = longest';
-        short = let few = order.max_transfer.1 in omega (arith, longest', few);
-        some_open =
-            let some = are.in_range.open_requests.0 in
-            let within = are.in_range.open_requests.1 in
-            let few = are.in_range.window.1 in
-            (omega (arith, open', some), omega (arith, open', window', within), omega (arith, window', few));
-        is_map = subst (λ (xs : List (List ℕ)). IsMap (length xs) (partitions_of limits.partition)) (sym same.sectors) is_map;
-      }
-
-  rules_with : ℕ → ℕ → ℕ → ℕ → ℕ → Rules
-  rules_with size transfer depth open' window' = record {
-    sector_size = size;
-    partitions = partitions_of limits.partition;
-    longest = transfer;
-    max_transfer = transfer;
-    depth = depth;
-    open_requests = Some open';
-    window = Some window';
-    one_piece = false;
-    busy_limit = 1;
-  }
-
-  rules_are : rules_of limits (on_whole_disk v most).rules ≡ first_rules disk settings (partitions_of limits.partition)
-  unfolding rules_with
+  rules_are : rules_of limits (rules_over v) ≡ first_rules disk settings (partitions_of limits.partition)
   rules_are =
-      ap (λ n. rules_with n v.max_transfer v.depth limits.open_requests limits.window) same.sector_size
-      ∙ ap (λ n. rules_with disk.sector_size n v.depth limits.open_requests limits.window) same.max_transfer
-      ∙ ap (λ n. rules_with disk.sector_size disk.max_transfer n limits.open_requests limits.window) same.depth
-      ∙ ap (λ (l : Limits). rules_with disk.sector_size disk.max_transfer disk.depth l.open_requests l.window) are.sizes
+      let sizes = are.sizes in
+      let sector_size = same.sector_size in
+      let max_transfer = same.max_transfer in
+      let depth = same.depth in
+      cc
 
-  IsFirstView-whole_disk : (tables : Tables) → number_limit ≤ most → AreEmpty tables → IsFirstView disk settings (view_of limits (on_whole_disk v most) tables)
-  IsFirstView-whole_disk tables many empty = record {
+  IsFirstView-opening : (tables : Tables) → AreEmpty tables → IsFirstView disk settings (view_of limits (opening_seen v) tables)
+  IsFirstView-opening tables empty = record {
     in_range = are.in_range;
     partition = limits.partition;
     told = are.partition;
     is_map = is_map;
     rules = rules_are;
     state =
-        opening-view limits (on_whole_disk v most) tables (IsUnasked-whole_disk v most many same.idle.no_labels) empty
+        opening-view limits (opening_seen v) tables (IsUnasked-opening v same.idle.no_labels) empty
         ∙ ap (λ (xs : List (List ℕ)). opening (map (sectors_in xs) (partitions_of limits.partition))) same.sectors;
     same_disk = same;
     no_handles = empty.no_handles;
@@ -155,7 +103,7 @@ module _ (disk v : AdapterView) (settings : Settings) (limits : Limits) (most : 
     no_answers = empty.no_answers;
   }
 
-  pub IsFirstView-over : (below : Seen) (view : StackView) → below ≡ on_whole_disk v most → number_limit ≤ most → ShowsEmpty limits below view → IsFirstView disk settings view
-  IsFirstView-over below view whole many (tables, empty, shows) =
+  pub IsFirstView-over : (below : Seen) (view : StackView) → below ≡ opening_seen v → ShowsEmpty limits below view → IsFirstView disk settings view
+  IsFirstView-over below view whole (tables, empty, shows) =
       subst (IsFirstView disk settings) (sym shows)
-      (subst (λ (b : Seen). IsFirstView disk settings (view_of limits b tables)) (sym whole) (IsFirstView-whole_disk tables many empty))
+      (subst (λ (b : Seen). IsFirstView disk settings (view_of limits b tables)) (sym whole) (IsFirstView-opening tables empty))

@@ -1,6 +1,6 @@
 -- A request that nothing refuses fits the disk below and a ten-byte command block.
-use Rattle.std.proofs.Common.{◌≡◌, ◌<◌, ◌≤◌, ℕ, zero, suc, ◌+◌, ◌*◌, ◌/◌, ◌%◌, ◌^◌, Bool, true, false, List, [], ◌∷◌, Option, Some, None, refl, sym, ◌∙◌, ap, subst, arith, length, map}
-use Rattle.std.specs.Prelude.{IsTrue, IsFalse, is_none, ◌&&◌, ◌==◌, if◌then◌else◌}
+use Rattle.std.proofs.Common.{◌≡◌, ◌<◌, ◌≤◌, ℕ, zero, suc, ◌+◌, ◌*◌, ◌/◌, ◌%◌, ◌^◌, Bool, true, false, Option, Some, None, refl, sym, ◌∙◌, ap, subst, arith, length, map}
+use Rattle.std.specs.Prelude.{is_none, ◌&&◌, ◌==◌, if◌then◌else◌}
 use Rattle.std.proofs.lemmas.Bool.{leb-false, leb-true, not-false, and_parts}
 use Rattle.std.proofs.lemmas.Bool.Decides.{nat_tests}
 use Rattle.std.proofs.Math.Nat.{mod-add-div', zero-mul}
@@ -10,13 +10,14 @@ use Rattle.slab.specs.Slab.{slab_len}
 use Rattle.device.specs.declared.ClientRequest.{ClientRequest}
 use Rattle.device.specs.Rules.{Rules, is_transfer, is_in_bounds, sectors_of}
 use Rattle.device.specs.State.{State}
-use Rattle.device.specs.Seen.{Seen, IsBounded, transfer_length}
+use Rattle.device.specs.Seen.{Seen, transfer_length}
 use Rattle.device.proofs.Places.{IsTakenIn, taken_in}
 use Rattle.compose.specs.declared.admission.Limits.{Limits}
 use Rattle.compose.specs.declared.tables.Tables.{Tables}
-use Rattle.compose.specs.OnDisk.{first_of, end_of, rules_over, open_as_called}
+use Rattle.compose.specs.OnDisk.{first_of, end_of, open_as_called}
 use Rattle.compose.specs.Sound.{partitions_of, rules_of, view_of, IsSound}
 use Rattle.compose.specs.Admitting.{request_on_disk, IsWholeDisk, FitsBlock, IsAdmissible}
+use Rattle.compose.proofs.OnDisk.{end_is}
 
 after_true : (b c : Bool) → b ≡ true → (b && c) ≡ false → c ≡ false
 after_true true c h e = e
@@ -50,10 +51,6 @@ some_sectors : (size n : ℕ) → 0 < size → n ≡ n / size * size → (n == 0
 some_sectors size n some whole' not_empty =
     let n_some : 0 < n = grind (arith, nat_tests) in
     positive size (n / size) n whole' n_some
-
-end_is : (partitions : List Extent) (many window : ℕ) (below : Rules) → first_of partitions + sectors_of (rules_over partitions many window below) (Some 0) ≡ end_of partitions
-end_is [] many window below = omega arith
-end_is (extent ∷ extents) many window below = refl
 
 module _ (limits : Limits) (below : Seen) (tables : Tables) (q : ClientRequest) (h : IsSound limits below tables) (k : IsAdmissible (view_of limits below tables) q) where
   abbrev over : Rules
@@ -107,29 +104,6 @@ module _ (limits : Limits) (below : Seen) (tables : Tables) (q : ClientRequest) 
       let longest : limits.longest ≡ below.rules.longest = h.fits.longest in
       let few : limits.longest < 2 ^ 16 = h.fits.short in
       record { volume = refl; first = omega arith; count = omega arith }
-
-  pub bounded : IsBounded below.rules (request_on_disk limits q)
-  bounded =
-      let asks : AsksBy over below.rules q limits.sector_size = asks_whole in
-      let ends : first_of (partitions_of limits.partition) + sectors_of over (Some 0) ≡ end_of (partitions_of limits.partition) = end_is (partitions_of limits.partition) limits.open_requests limits.window below.rules in
-      let inside : q.offset / limits.sector_size + q.length / limits.sector_size ≤ sectors_of over (Some 0) = asks.inside in
-      let disk : end_of (partitions_of limits.partition) ≤ length h.on_disk.sectors = h.on_disk.partition in
-      let covers : h.on_disk.disk.count ≡ length h.on_disk.sectors = h.on_disk.covers in
-      let within : first_of (partitions_of limits.partition) + q.offset / limits.sector_size + q.length / limits.sector_size ≤ h.on_disk.disk.count = omega arith in
-      record {
-        known = subst (λ (extents : List Extent). 0 < length extents) (sym h.on_disk.one_array) (omega arith);
-        some = λ transfer. asks.some;
-        none = λ other. absurd (both (is_transfer q.kind) k.transfer other);
-        inside = sectors_from below.rules.partitions h.on_disk.disk _ h.on_disk.one_array within;
-        short = asks.short;
-      }
-    where
-      both : (b : Bool) → IsTrue b → IsFalse b → ⊥
-      both true h fails = cc (fails)
-      both false h fails = cc (h)
-
-      sectors_from : (extents : List Extent) (disk : Extent) (n : ℕ) → extents ≡ disk ∷ [] → n ≤ disk.count → n ≤ sectors_of (record below.rules { partitions = extents }) (Some 0)
-      sectors_from extents disk n one few = subst (λ es. n ≤ sectors_of (record below.rules { partitions = es }) (Some 0)) (sym one) few
 
   pub transfer_is : transfer_length below.rules (request_on_disk limits q) ≡ q.length
   transfer_is = ap (λ b. if b then q.length / limits.sector_size * below.rules.sector_size else 0) k.transfer ∙ sym asks_whole.length_is

@@ -39,6 +39,7 @@ use Rattle.compose.proofs.Inserting.{unless_one_more}
 use Rattle.compose.proofs.OnDiskCalls.{Answers-over}
 use Rattle.compose.proofs.OnDiskSteps.{Run-over}
 use Rattle.compose.proofs.Righting.{FitsBelow-same}
+use Rattle.compose.proofs.Unfinished.{none_answered}
 use Rattle.compose.proofs.Ordering.{Run-collected, inserted_is, inserted_rises}
 
 module _ (takes_srb : Bool) (old new : Seen) (request : Request) (done : Done) (t t' : Tables) (h : HandsUp takes_srb old request (Finished done) new) (k : AreHeld t.requests old.state.requests) (c : Closes t done t') where
@@ -283,8 +284,7 @@ module _ (below mid new : Seen) (first t t' : Tables) (g : Gathers below first m
     where
       -- the request that was taken had ended
       not_quiet : All (IsUnfinished mid.rules mid.state) mid.state.requests → ⊥
-      not_quiet unfinished =
-          All-head (IsUnfinished mid.rules mid.state) e.answers.request e.answers.others (All-permutation (IsUnfinished mid.rules mid.state) _ _ e.answers.is_open unfinished) e.answers.ended
+      not_quiet unfinished = none_answered mid.rules mid.state _ _ _ _ unfinished e.answers
 
 -- then the device's labels are told, and the answers
 pub collects : (below mid new : Seen) (first t t' : Tables) → Gathers below first mid t → new ≡ unlabelled mid → Settled mid.rules mid.state → All (IsUnfinished mid.rules mid.state) mid.state.requests → t' ≡ record t { labels = t'.labels; answered = t'.answered }

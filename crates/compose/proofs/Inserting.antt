@@ -1,7 +1,8 @@
 -- Answers put in their place by number.
-use Rattle.std.proofs.Common.{◌≡◌, ◌≤◌, ℕ, suc, Bool, true, false, List, [], ◌∷◌, Option, Some, None, refl, ◌∙◌, ap, arith, length}
+use Rattle.std.proofs.Common.{◌≡◌, ◌≤◌, ℕ, suc, true, false, List, [], ◌∷◌, Option, Some, None, refl, ◌∙◌, ap, arith, length}
 use Rattle.std.specs.Prelude.{IsPermutation, nat_lt, ◌==◌, ◌||◌, if◌then◌else◌}
 use Rattle.std.specs.List.{insert, list_any}
+use Rattle.std.proofs.Math.Bool.{or-true}
 use Rattle.std.proofs.lemmas.List.Sorted.{list_any-IsPermutation}
 use Rattle.compose.specs.declared.Answer.{Answer}
 use Rattle.compose.specs.Shown.{Holder}
@@ -22,10 +23,6 @@ inserted_at answer (first ∷ rest) =
       | false ↦ refl
     ]
 
-or_true : (b : Bool) → (b || true) ≡ true
-or_true true = refl
-or_true false = refl
-
 -- one more answer takes its holder away
 pub unless_one_more : (answer : Answer) (answers more : List Answer) (slot : Option Holder) → IsPermutation more (answer ∷ answers)
     → unless_answered more slot ≡ unless_answered (answer ∷ []) (unless_answered answers slot)
@@ -33,6 +30,6 @@ unless_one_more answer answers more None p = refl
 unless_one_more answer answers more (Some holder) p =
     ap (λ b. if b then None else Some holder) (list_any-IsPermutation (is_answer_of holder) more (answer ∷ answers) p)
     ∙ elim (list_any (is_answer_of holder) answers) as (λ b. (if (answer.number == holder.number) || b then None else Some holder) ≡ unless_answered (answer ∷ []) (if b then None else Some holder)) [
-      | true ↦ ap (λ b. if b then None else Some holder) (or_true (answer.number == holder.number))
+      | true ↦ ap (λ b. if b then None else Some holder) (or-true (answer.number == holder.number))
       | false ↦ refl
     ]

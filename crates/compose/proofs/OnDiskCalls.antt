@@ -19,7 +19,7 @@ use Rattle.device.proofs.Same.{IsSame-refl}
 use Rattle.device.proofs.Numbers.{AreDistinct-Step, AreDistinct-Admits}
 use Rattle.device.proofs.Placed.{ArePlaced-Answers, ArePlaced-Opens}
 use Rattle.compose.specs.OnDisk.{first_of, end_of, rules_over, as_called, open_as_called, on_partition, LiesInside, IsOnDisk}
-use Rattle.compose.proofs.OnDisk.{IsSame-on_partition}
+use Rattle.compose.proofs.OnDisk.{IsSame-on_partition, end_is}
 use Rattle.compose.proofs.OnDiskSteps.{moved, only_array}
 
 none_is : {X : Type 0} (o : Option X) → IsNone o → o ≡ None
@@ -54,11 +54,6 @@ Run-refused rules next s q status free no_bytes refused =
         IsSame-refl (on_partition rules (next + 1) s),
       ),
     )
-
--- the partition ends its number of sectors after its first
-end_is : (partitions : List Extent) (many window : ℕ) (below : Rules) → first_of partitions + sectors_of (rules_over partitions many window below) (Some 0) ≡ end_of partitions
-end_is [] many window below = omega arith
-end_is (extent ∷ extents) many window below = refl
 
 -- offsets from the disk's first byte and from the partition's
 offset_is : (first from size : ℕ) → (first + from) * size - first * size ≡ from * size

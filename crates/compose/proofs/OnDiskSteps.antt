@@ -1,11 +1,10 @@
 -- Each step of a piece at the disk is one of the partition's machine.
 use Rattle.std.proofs.Common.{◌≡◌, ◌<◌, ◌≤◌, inl, inr, ℕ, ◌+◌, List, [], ◌∷◌, Some, refl, sym, ◌∙◌, ap, subst, arith, map, length, get_or, set, replicate}
-use Rattle.std.specs.Prelude.{IsPermutation, IsTrue, IsNone, All, Any, Contains, unwrap_or, slice_get, slice_range, slice_set}
+use Rattle.std.specs.Prelude.{IsPermutation, IsTrue, IsNone, All, Contains, unwrap_or, slice_range, slice_set}
 use Rattle.std.proofs.lemmas.List.{length-map, length-replicate, get_or-map}
 use Rattle.std.proofs.lemmas.List.Sorted.{IsPermutation-sym, IsPermutation-map, All-permutation, Contains-permutation}
 use Rattle.std.proofs.lemmas.List.Elements.{All-head, All-tail, All-cons, All-map, All-contains}
 use Rattle.sector.specs.declared.Extent.{Extent}
-use Rattle.sector.specs.Extents.{IsIn}
 use Rattle.sector.specs.Splice.{splice}
 use Rattle.cdb.specs.declared.Cdb.TheVariants.{Read10, Write10}
 use Rattle.cdb.specs.Meaning.{Means}
@@ -26,7 +25,7 @@ use Rattle.device.proofs.Same.{IsSame-sym}
 use Rattle.device.proofs.Numbers.{AreDistinct-same, AreDistinct-DeviceStep}
 use Rattle.device.proofs.Placed.{ArePlaced-same, ArePlaced-DeviceStep, leaves}
 use Rattle.device.proofs.Owners.{Owns, owns}
-use Rattle.device.proofs.Splicing.{length-splice}
+use Rattle.sector.proofs.Splicing.{length-splice}
 use Rattle.compose.specs.OnDisk.{first_of, end_of, rules_over, as_called, open_as_called, on_partition, LiesInside, IsOnDisk}
 use Rattle.compose.proofs.PartSlices.{slice_of_partition, write_of_partition, Keeps, Keeps-none, Keeps-splice, sector_of_offset}
 use Rattle.compose.proofs.OnDisk.{IsSame-on_partition}
@@ -329,14 +328,3 @@ module _ (partitions : List Extent) (many window : ℕ) (below : Rules) where
       Run-over next labels mid s' (IsOnDisk-DeviceStep s label mid k step) run in
       ((on_partition over next mid, inl (free, DeviceStep-over next s label mid k step), rest.0), rest.1)
   Run-over next (label ∷ labels) s s' k (mid, inr none, run) = absurd none
-
-  -- the sectors of no partition stay
-  pub Run-keeps : (labels : List DeviceLabel) (s s' : State) → IsOnDisk over below s → Run below s (map as_label labels) s'
-      → (i : ℕ) → (Any (IsIn i) partitions → ⊥) → slice_get (get_or s'.arrays 0 []) i ≡ slice_get (get_or s.arrays 0 []) i
-  Run-keeps [] s s' k run i apart = ap (λ ys. slice_get (get_or ys 0 []) i) (sym run.arrays)
-  Run-keeps (label ∷ labels) s s' k (mid, inl (free, step), run) i apart =
-      let a : (new : List (List ℕ)) × (mid.arrays ≡ new ∷ []) × Keeps partitions (get_or s.arrays 0 []) new = DeviceStep-keeps s label mid k step in
-      Run-keeps labels mid s' (IsOnDisk-DeviceStep s label mid k step) run i apart
-      ∙ ap (λ ys. slice_get (get_or ys 0 []) i) a.1
-      ∙ a.2.outside i apart
-  Run-keeps (label ∷ labels) s s' k (mid, inr none, run) i apart = absurd none

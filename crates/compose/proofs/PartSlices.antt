@@ -9,7 +9,7 @@ use Rattle.sector.specs.declared.Extent.{Extent}
 use Rattle.sector.specs.Extents.{IsIn}
 use Rattle.sector.specs.Splice.{splice}
 use Rattle.device.specs.Seen.{sectors_in}
-use Rattle.device.proofs.Splicing.{length-splice}
+use Rattle.sector.proofs.Splicing.{length-splice}
 use Rattle.device.proofs.Placed.{get_or-splice_inside, get_or-splice_below, get_or-splice_above}
 use Rattle.compose.specs.OnDisk.{first_of, end_of}
 

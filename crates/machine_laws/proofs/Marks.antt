@@ -4,7 +4,7 @@ use Rattle.std.specs.Prelude.{slice_get}
 use Rattle.std.specs.List.{list_all}
 use Rattle.device.specs.State.{Mark, Untouched, Out, Done, Failed, Back}
 use Rattle.device.specs.Answering.{is_done, bytes_of_mark}
-use Rattle.device.proofs.Splicing.{AllAt}
+use Rattle.sector.proofs.Splicing.{AllAt}
 use Rattle.machine_laws.proofs.Chunks.{drop_is}
 use Rattle.machine_laws.proofs.Serving.{IsRightMark}
 

@@ -24,7 +24,7 @@ use Rattle.device.specs.Step.{DeviceStep, FreeStep, OwingStep, Step}
 use Rattle.device.specs.Numbers.{request_number, IsGiven, AreDistinct}
 use Rattle.device.specs.Solo.{past}
 use Rattle.device.proofs.Permuting.{distinct_first}
-use Rattle.device.proofs.Splicing.{AllAt, splice_at, length-splice}
+use Rattle.sector.proofs.Splicing.{AllAt, splice_at, length-splice}
 use Rattle.machine_laws.proofs.Bounds.{in_bounds}
 use Rattle.machine_laws.specs.Reached.{AreWhole}
 use Rattle.machine_laws.proofs.Acted.{Transfers-length}

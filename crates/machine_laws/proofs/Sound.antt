@@ -15,7 +15,7 @@ use Rattle.device.specs.Step.{Step, Run}
 use Rattle.device.specs.Numbers.{IsGiven, IsSent, AreDistinct}
 use Rattle.device.proofs.Same.{IsSame-sym}
 use Rattle.device.proofs.Numbers.{AreDistinct-Admits, AreDistinct-Step, AreDistinct-Run}
-use Rattle.device.proofs.Splicing.{AllAt}
+use Rattle.sector.proofs.Splicing.{AllAt}
 use Rattle.machine_laws.specs.Reached.{AreWhole, IsReached}
 use Rattle.machine_laws.proofs.Serving.{IsRightMark, IsSized, IsMine, PieceFits, Serves, AllActRightly, Serves-same, Serves-Opens, Serves-Step}
 

@@ -22,7 +22,8 @@ use Rattle.miniport.specs.Moving.{moved_by}
 use Rattle.miniport.specs.Slots.{Table, HasNoneUntouched, piece_at, in_use_of, fate_of, tags_of, with_slot, with_moved, with_failed}
 use Rattle.miniport.specs.Memory.{IsKept, shown_of, view_of, ActsByTable, PutsBack, ActsIn, ActsNotIn}
 use Rattle.miniport.proofs.Bad.{fault_is_bad}
-use Rattle.miniport.proofs.Keeping.{moved_piece, failed_piece, as_many, move_kept, fail_kept}
+use Rattle.miniport.proofs.Keeping.{moved_piece, failed_piece, move_kept, fail_kept}
+use Rattle.miniport.proofs.Performing.{Performs-length}
 use Rattle.miniport.proofs.Showing.{acts, faults, acts_by_table, faults_by_table}
 
 -- a tag with a piece is one of the slots
@@ -66,7 +67,7 @@ put_back : (m : MediumView) (longest : ℕ) (p : Bool) (t : Table) (tag : ℕ) (
     → PutsBack m p (with_slot tag None t) tag on outcome m' t' → Leaves m longest p t tag m' t'
 put_back m longest p t tag on (Moved srb bytes) m' t' kept place there untouched (carries, e) =
     let below : tag < length t.slots = is_below t.slots tag on there in
-    let long : length carries.sectors ≡ length m.sectors = as_many m.sector_size m.sectors on.srb.data carries.command carries.moved carries.sectors carries.performs in
+    let long : length carries.sectors ≡ length m.sectors = Performs-length m.sector_size m.sectors on.srb.data carries.command carries.moved carries.sectors carries.performs in
     let act = acts m longest t tag on carries.command bytes carries.moved carries.sectors below there untouched carries.means carries.performs carries.bytes_are carries.moved_is in
     leaves_along m longest p t tag (record m { sectors = carries.sectors }) m' (with_moved tag (moved_piece on bytes) bytes t) t' carries.after
     (table_moved t t' tag on srb bytes carries.comes_back e)

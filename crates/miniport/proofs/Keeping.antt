@@ -1,17 +1,13 @@
 -- What the adapter in memory keeps, call by call: it stays in order as any adapter is.
-use Rattle.std.proofs.Common.{◌≡◌, ◌<◌, ◌≤◌, ◌^◌, ℕ, ◌+◌, Bool, true, false, List, [], ◌∷◌, ◌++◌, length, slice_set, sum_by, Option, Some, None, refl, ap, ◌∙◌, subst, arith, length-append, length-take, length-drop, length-set, if◌then◌else◌}
+use Rattle.std.proofs.Common.{◌≡◌, ◌<◌, ◌≤◌, ◌^◌, ℕ, ◌+◌, Bool, true, false, List, [], ◌∷◌, ◌++◌, length, slice_set, sum_by, Option, Some, None, refl, ap, ◌∙◌, subst, arith, length-append, length-set, if◌then◌else◌}
 use Rattle.std.proofs.lemmas.List.{length-map}
 use Rattle.std.specs.List.{concat, flat_map}
-use Rattle.sector.specs.Splice.{splice}
-use Rattle.cdb.specs.declared.Cdb.{Cdb}
-use Rattle.cdb.specs.declared.Cdb.TheVariants.{Read10, Write10, Sync10, ReadCapacity10}
 use Rattle.srb.specs.declared.Srb.{Srb}
 use Rattle.srb.specs.declared.Completion.{Completion}
 use Rattle.srb.specs.declared.DeviceLabel.{DeviceLabel}
 use Rattle.srb.specs.declared.Class.TheVariants.{Bad}
 use Rattle.srb.specs.Fate.{class_of}
 use Rattle.srb.specs.Adapter.{IsInOrder, IsFree}
-use Rattle.srb.specs.Performing.{Performs}
 use Rattle.disk.specs.Medium.{MediumView, IsWhole}
 use Rattle.miniport.specs.declared.on_tag.OnTag.{OnTag}
 use Rattle.miniport.specs.declared.on_tag.Progress.{Progress}
@@ -93,18 +89,6 @@ at_most_one true p touched = omega arith
 at_most_one false Untouched touched = absurd (touched refl)
 at_most_one false Moved touched = omega arith
 at_most_one false (Failed c) touched = omega arith
-
--- the length of the disk stays
-length-splice : (xs : List (List ℕ)) (first : ℕ) (more : List (List ℕ)) → first + length more ≤ length xs → length (splice xs first more) ≡ length xs
-length-splice xs first more fits = simp (length-append, length-take, length-drop) (omega arith)
-
-pub as_many : (size : ℕ) (sectors : List (List ℕ)) (bytes : List ℕ) (command : Cdb) (moved after : List (List ℕ))
-    → Performs size sectors bytes command moved after → length after ≡ length sectors
-as_many size sectors bytes (Read10 lba count fua) moved after h = ap length h.2
-as_many size sectors bytes (Write10 lba count fua) moved after (within, same, covers, whole, is) =
-    ap length is ∙ length-splice sectors lba moved (omega (arith, within, covers))
-as_many size sectors bytes (Sync10 lba blocks) moved after h = ap length h.1
-as_many size sectors bytes ReadCapacity10 moved after h = ap length h.1
 
 -- the piece that is on the tag after it acted, and the table that it is put back to
 abbrev pub moved_piece : OnTag → List ℕ → OnTag

@@ -19,7 +19,7 @@ use Rattle.device.specs.Rules.{Rules, as_client, home, is_transfer}
 use Rattle.device.specs.State.{State}
 use Rattle.device.specs.Sending.{Transfers, command_for}
 use Rattle.device.specs.Seen.{AsksFor, IsBounded, sent_bytes, sectors_in, transfer_length}
-use Rattle.device.proofs.Splicing.{length-splice}
+use Rattle.sector.proofs.Splicing.{length-splice}
 use Rattle.port.specs.declared.queues.Sizes.{Sizes}
 use Rattle.port.specs.Shown.{rules_of, places_of, cut}
 use Rattle.port.proofs.Lists.{cut-concat}

@@ -1,1 +1,2 @@
+pub mod Splicing
 mod WholeSectors

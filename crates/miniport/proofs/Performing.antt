@@ -1,0 +1,14 @@
+-- No command changes how many sectors a disk has.
+use Rattle.std.proofs.Common.{◌≡◌, ℕ, List, ◌∙◌, ap, arith, length}
+use Rattle.cdb.specs.declared.Cdb.{Cdb}
+use Rattle.cdb.specs.declared.Cdb.TheVariants.{Read10, Write10, Sync10, ReadCapacity10}
+use Rattle.srb.specs.Performing.{Performs}
+use Rattle.sector.proofs.Splicing.{length-splice}
+
+pub Performs-length : (size : ℕ) (sectors : List (List ℕ)) (bytes : List ℕ) (command : Cdb) (moved after : List (List ℕ))
+    → Performs size sectors bytes command moved after → length after ≡ length sectors
+Performs-length size sectors bytes (Read10 lba count fua) moved after h = ap length h.2
+Performs-length size sectors bytes (Write10 lba count fua) moved after (within, same, covers, whole, is) =
+    ap length is ∙ length-splice sectors lba moved (omega (arith, within, covers))
+Performs-length size sectors bytes (Sync10 lba blocks) moved after h = ap length h.1
+Performs-length size sectors bytes ReadCapacity10 moved after h = ap length h.1
