@@ -1,20 +1,13 @@
 -- What the calls of any medium give, one after the other.
-use Rattle.std.proofs.Common.{◌≡◌, ℕ, ◌+◌, ◌-◌, ◌≤◌, ◌<◌, ◌⊎◌, inl, inr, List, ◌++◌, length, get_or, take, drop, slice_range, arith, ap, sym, ◌∙◌, length-append, length-drop}
+use Rattle.std.proofs.Common.{◌≡◌, ℕ, ◌+◌, ◌-◌, ◌≤◌, ◌<◌, ◌⊎◌, inl, inr, List, ◌++◌, length, get_or, take, drop, slice_range, arith, ap, sym, ◌∙◌, length-append}
 use Rattle.std.proofs.lemmas.Bool.{cases_lt}
 use Rattle.std.proofs.lemmas.List.{length-take-le, take_at, drop_at, get_or_append_left, get_or-append_right, get_or-take, get_or-drop, append_assoc}
 use Rattle.std.specs.List.{concat}
 use Rattle.sector.specs.declared.Extent.{Extent}
 use Rattle.sector.specs.Extents.{IsIn}
 use Rattle.sector.specs.Splice.{splice}
+use Rattle.sector.proofs.Splicing.{length-splice}
 use Rattle.disk.specs.Medium.{MediumView, IsWithin, Writes, bytes_at}
-
-length-splice : {X : Type 0} → (xs others : List X) (first : ℕ) → first + length others ≤ length xs → length (splice xs first others) ≡ length xs
-length-splice xs others first within =
-    let one = length-append (take first xs) (others ++ drop (first + length others) xs) in
-    let two = length-append others (drop (first + length others) xs) in
-    let head = length-take-le first xs (omega arith) in
-    let tail = length-drop (first + length others) xs in
-    omega arith
 
 middle-splice : {X : Type 0} → (xs others : List X) (first count : ℕ) → first ≤ length xs → length others ≡ count
     → slice_range (splice xs first others) first (first + count) ≡ others
@@ -43,7 +36,7 @@ others-splice {X} xs others first k d within place = elim place [
 pub as_many : (old new : MediumView) (extent : Extent) (bytes : List ℕ) → IsWithin old extent → Writes old extent bytes new
     → length new.sectors ≡ length old.sectors
 as_many old new extent bytes within w =
-    ap (λ (view : MediumView). length view.sectors) w.after ∙ length-splice old.sectors w.moved extent.first (omega (arith, within, w.covers))
+    ap (λ (view : MediumView). length view.sectors) w.after ∙ length-splice old.sectors extent.first w.moved (omega (arith, within, w.covers))
 
 -- what was written is read
 pub read_back : (old new : MediumView) (extent : Extent) (bytes : List ℕ) → IsWithin old extent → Writes old extent bytes new

@@ -198,7 +198,7 @@ acted_all b v v' rooms tag piece bytes k space a order =
       };
     } in
     subst (λ y. IsTurned b v tag y) (sym a.after) (shown_turned b v tag a.use' u a.others a.tags a.sectors held v.failures label h a.is_fresh (sym a.is_piece) space
-        (subst IsInOrder a.after order) step (subst (AdapterActsOn v tag piece bytes) a.after a))
+    (subst IsInOrder a.after order) step (subst (AdapterActsOn v tag piece bytes) a.after a))
 
 -- A FAULT
 
@@ -238,7 +238,7 @@ faulted_all b v v' rooms tag piece k space a order =
       };
     } in
     subst (λ y. IsTurned b v tag y) (sym a.after) (shown_turned b v tag a.use' u a.others a.tags v.sectors held a.failures label h a.is_fresh (sym a.is_piece) space
-        (subst IsInOrder a.after order) step (subst (AdapterFaultsOn v tag piece) a.after a))
+    (subst IsInOrder a.after order) step (subst (AdapterFaultsOn v tag piece) a.after a))
 
 label_space : (b : Books) (v : AdapterView) (rooms : List Request) → IsKept b v rooms → label_places (seen_of b v) + 1 ≤ 64 → length v.labels + (v.depth - length v.tags) + 1 ≤ 64
 label_space b v rooms k space =
