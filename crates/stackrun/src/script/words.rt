@@ -93,6 +93,7 @@ impl<'a> Words<'a> {
 fn number(word: &str) -> Option<u64>
     ensures { Finds (IsNumber word.now) result }
 {
+    // A plus sign would be taken by `parse`.
     if word.len() > MOST_DIGITS || word.starts_with('+') {
         return None;
     }
@@ -103,6 +104,7 @@ fn number(word: &str) -> Option<u64>
 fn byte(word: &str) -> Option<u8>
     ensures { Finds (IsByte word.now) result }
 {
+    // A plus sign would be taken by `from_str_radix`.
     if word.len() != 2 || word.starts_with('+') {
         return None;
     }
