@@ -1,6 +1,6 @@
 //! A script run through a stack, and its trace in print.
 
-ghost use Rattle.std.specs.Prelude.{◌≡◌, ◌⊎◌, [], IfOk, OnOk, MatchResult, replicate};
+ghost use Rattle.std.specs.Prelude.{◌≡◌, ◌⊎◌, [], IfErr, IfOk, OnOk, MatchResult, replicate};
 ghost use Rattle.std.specs.Io.KnownBytes.{Appends};
 ghost use Rattle.toml.specs.Data.{Members};
 ghost use Rattle.compose.specs.declared.Refusal.TheVariants.{InsufficientResources};
@@ -8,6 +8,7 @@ ghost use Rattle.compose.specs.declared.Reply.TheVariants.{Refused};
 ghost use Rattle.stackrun.specs.Events.{AreNamed, IsEventOf, IsReplyTo, Keeps, KeepsHandle, handle_of};
 ghost use Rattle.stackrun.specs.Printing.{labels_text};
 ghost use Rattle.stackrun.specs.Settings.{AreSettings};
+ghost use Rattle.stackrun.specs.Trace.{IsPrintFault};
 
 use crate::config::config;
 use crate::config::values::{Config, ConfigFault};
@@ -128,6 +129,7 @@ fn write_labels<A: Adapter, W: Write>(
 ) -> Result<(), Fault>
     ensures taken { OnOk result (stack.new.labels ≡ []) }
     ensures text { OnOk result (Appends (W.contents out.old) (W.contents out.new) (labels_text lengths.old stack.old.labels)) }
+    ensures fault { IfErr result IsPrintFault }
 {
     while let Some(label) = stack.take_label() {
         write_label(out, &label, lengths)?;
