@@ -5,6 +5,7 @@ mod FoundLists
 mod Keys
 mod Opening
 mod Parted
+mod Playing
 mod Printed
 mod PrintedLabels
 mod Reading
