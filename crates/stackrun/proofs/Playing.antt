@@ -1,24 +1,23 @@
 -- The lines of a script, played one after the other.
-use Rattle.std.proofs.Common.{◌≡◌, ◌≤◌, ◌<◌, ◌+◌, ◌-◌, ◌⊎◌, inl, inr, ℕ, suc, List, [], ◌∷◌, ◌++◌, Option, Some, None, ap, subst, sym, refl, ◌∙◌, drop, take, map, length, get_or, arith}
+use Rattle.std.proofs.Common.{◌≡◌, ◌≤◌, ◌<◌, ◌+◌, ◌-◌, inl, inr, ℕ, suc, List, [], ◌∷◌, ◌++◌, Option, ap, subst, sym, refl, ◌∙◌, drop, take, map, length, get_or, arith}
 use Rattle.std.specs.Prelude.{codes, IsPermutation}
-use Rattle.std.proofs.lemmas.List.{append_assoc, append-nil, drop_all, length-drop, length-map, take_more}
+use Rattle.std.proofs.lemmas.List.{append_assoc, append-nil, drop_all, length-drop, take_more}
 use Rattle.std.proofs.lemmas.List.Sorted.{length_permutation}
 use Rattle.std.specs.Io.KnownBytes.{Appends}
 use Rattle.device.specs.declared.Label.{Label}
 use Rattle.device.specs.declared.Label.TheVariants.{Call, Device, Answer as AnswerLabel, Cancel, Pause, Resume, Remove, Removed}
-use Rattle.srb.specs.declared.DeviceLabel.{DeviceLabel}
 use Rattle.device.specs.Served.{as_label}
 use Rattle.compose.specs.declared.Answer.{Answer}
 use Rattle.compose.specs.declared.Event.{Event}
 use Rattle.compose.specs.declared.Reply.{Reply}
-use Rattle.compose.specs.Right.{IsRight, Told, as_answer}
+use Rattle.compose.specs.Right.{IsRight, as_answer}
 use Rattle.compose.specs.Shown.{StackView}
 use Rattle.stackrun.specs.declared.script.Line.{Line}
 use Rattle.stackrun.specs.declared.script.Order.{Order}
-use Rattle.stackrun.specs.Events.{Handles, Keeps, IsReplyTo}
+use Rattle.stackrun.specs.Events.{Handles, Keeps}
 use Rattle.stackrun.specs.Lengths.{Waiting}
 use Rattle.stackrun.specs.Printing.{labels_text, line_end, reply_line}
-use Rattle.stackrun.specs.Trace.{left_by, left_by_all, waiting_after_all, without_labels, Between, IsAllTaken, IsCarriedOut, IsLinePlayed, IsPlayed, IsStepOf, IsTrace, IsTraceTo, Prints, line_text}
+use Rattle.stackrun.specs.Trace.{left_by, left_by_all, waiting_after_all, without_labels, Between, IsAllTaken, IsCarriedOut, IsLinePlayed, IsPlayed, IsTrace, IsTraceTo, Prints, line_text}
 use Rattle.std.specs.BTreeMap.{IsEmpty}
 use Rattle.stackrun.proofs.Printed.{both, nothing}
 
