@@ -1,4 +1,5 @@
 mod Asked
+mod Emitted
 mod EqualBytes
 mod FirstFault
 mod FoundLists

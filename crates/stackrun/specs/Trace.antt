@@ -1,5 +1,5 @@
 -- A script run through a stack, and what is printed of it.
-use Rattle.std.specs.Prelude.{◌≡◌, ◌⊎◌, ℕ, List, [], ◌∷◌, ◌++◌, Option, codes, drop}
+use Rattle.std.specs.Prelude.{◌≡◌, ◌⊎◌, ℕ, List, [], ◌∷◌, ◌++◌, Option, Some, IfSome, codes, drop}
 use Rattle.std.specs.Io.KnownBytes.{Appends}
 use Rattle.std.specs.BTreeMap.{IsEmpty}
 use Rattle.device.specs.declared.Label.{Label}
@@ -13,9 +13,15 @@ use Rattle.stackrun.specs.declared.faults.Fault.{Fault}
 use Rattle.stackrun.specs.declared.faults.Fault.TheVariants.{NoMemory, OutputFailed}
 use Rattle.stackrun.specs.declared.script.Line.{Line}
 use Rattle.stackrun.specs.declared.script.Order.{Order}
+use Rattle.stackrun.specs.declared.config.values.Config.{Config}
 use Rattle.stackrun.specs.Events.{Handles, IsEventOf, IsReplyTo, Keeps}
 use Rattle.stackrun.specs.Lengths.{Waiting}
 use Rattle.stackrun.specs.Printing.{labels_text, line_end, reply_line, waiting_after}
+use Rattle.stackrun.specs.Script.{AreEvents, lines_of}
+use Rattle.stackrun.specs.Settings.{AreSettings}
+use Rattle.stackrun.specs.Started.{IsStartOf}
+use Rattle.toml.specs.Data.{Members}
+use Rattle.toml.specs.Parse.{parse_document}
 
 -- why a text was not printed whole: memory was refused, or the output failed
 abbrev pub IsPrintFault : Fault → Type 0
@@ -103,3 +109,32 @@ pub record Prints (old new : Option (List ℕ)) (Is : List ℕ → Type 0) : Typ
   pub text : List ℕ
   pub is : Is text
   pub appends : Appends old new text
+
+-- a text is all that an input has, where that is known
+abbrev pub IsAllOf : Option (List ℕ) → List ℕ → Type 0
+IsAllOf known text = IfSome known (λ bytes. text ≡ bytes)
+
+-- the settings of a text
+pub record AreSettingsOf (text : List ℕ) (settings : Config) : Type 0 where
+  pub document : Members
+  pub parsed : parse_document text ≡ Some document
+  pub are_settings : AreSettings document settings
+
+-- the settings that an input gives
+pub record AreRead (input : Option (List ℕ)) (settings : Config) : Type 0 where
+  pub text : List ℕ
+  pub all : IsAllOf input text
+  pub of_text : AreSettingsOf text settings
+
+-- what is printed of a script: the trace of its lines, from the stack that its settings start
+pub record IsPrintOf (config script : Option (List ℕ)) (text : List ℕ) : Type 0 where
+  pub settings : Config
+  pub are_read : AreRead config settings
+  pub script_text : List ℕ
+  pub all : IsAllOf script script_text
+  pub lines : List Line
+  pub events : AreEvents (lines_of script_text) lines
+  pub start : StackView
+  pub starts : IsStartOf settings start
+  pub last : StackView
+  pub trace : IsTrace start lines text last

@@ -8,7 +8,7 @@ ghost use Rattle.compose.specs.declared.Reply.TheVariants.{Refused};
 ghost use Rattle.stackrun.specs.Events.{AreNamed, IsEventOf, IsReplyTo, Keeps, KeepsHandle, handle_of};
 ghost use Rattle.stackrun.specs.Printing.{labels_text, line_end};
 ghost use Rattle.stackrun.specs.Settings.{AreSettings};
-ghost use Rattle.stackrun.specs.Trace.{IsAllTaken, IsCarriedOut, IsLinePlayed, IsPrintFault, IsTrace, Prints, left_by, waiting_after_all, without_labels};
+ghost use Rattle.stackrun.specs.Trace.{AreRead, IsAllOf, IsAllTaken, IsCarriedOut, IsLinePlayed, IsPrintFault, IsPrintOf, IsTrace, Prints, left_by, waiting_after_all, without_labels};
 
 use crate::config::config;
 use crate::config::values::{Config, ConfigFault};
@@ -42,10 +42,11 @@ pub fn trace<C: Read + Drop, S: Read + Drop, O: Write + Drop, F: Write + Drop>(
     out: O,
     mut faults: F,
 ) -> u8
-    ensures { (result ≡ 0) ⊎ (result ≡ 1) }
+    ensures status { (result ≡ 0) ⊎ (result ≡ 1) }
+    ensures text { result ≡ 0 → (last : O) × Prints (O.contents out) (O.contents last) (IsPrintOf (C.remaining config) (S.remaining script)) }
 {
     match run(alloc, config, script, out) {
-        Ok(()) => 0,
+        Ok(_) => 0,
         Err(fault) => {
             // Nobody is left to hear of a fault of this writer.
             let _ = writeln!(faults, "{fault}");
@@ -60,7 +61,9 @@ fn run<C: Read + Drop, S: Read + Drop, O: Write + Drop>(
     config: C,
     script: S,
     out: O,
-) -> Result<(), Fault> {
+) -> Result<O, Fault>
+    ensures text { IfOk result (λ last. Prints (O.contents out) (O.contents last) (IsPrintOf (C.remaining config) (S.remaining script))) }
+{
     let config = settings(alloc, config)?;
     let script = contents(alloc, script, Fault::ScriptUnreadable)?;
     let Ok(text) = std::str::from_utf8(script.as_slice()) else {
@@ -72,7 +75,11 @@ fn run<C: Read + Drop, S: Read + Drop, O: Write + Drop>(
         return Err(Fault::NoMemory);
     };
     play(alloc, &mut stack, lines.as_slice(), &mut out)?;
-    Ok(out.flush()?)
+    let Ok(mut out) = out.into_inner() else {
+        return Err(Fault::OutputFailed);
+    };
+    out.flush()?;
+    Ok(out)
 }
 
 /// All bytes of an input.
@@ -80,7 +87,9 @@ fn contents<R: Read + Drop>(
     alloc: Global,
     mut input: R,
     unreadable: Fault,
-) -> Result<Vec<u8>, Fault> {
+) -> Result<Vec<u8>, Fault>
+    ensures { IfOk result (λ bytes. IsAllOf (R.remaining input) bytes.items) }
+{
     let mut bytes = Vec::new(alloc);
     match input.read_to_end(&mut bytes) {
         Ok(_) => Ok(bytes),
@@ -89,7 +98,8 @@ fn contents<R: Read + Drop>(
 }
 
 fn settings<R: Read + Drop>(alloc: Global, input: R) -> Result<Config, Fault>
-    ensures { IfOk result (λ config. (document : Members) × AreSettings document config) }
+    ensures settings { IfOk result (λ config. (document : Members) × AreSettings document config) }
+    ensures read { IfOk result (AreRead (R.remaining input)) }
 {
     let bytes = contents(alloc, input, Fault::ConfigUnreadable)?;
     match std::str::from_utf8(bytes.as_slice()) {
