@@ -1,10 +1,12 @@
 mod Asked
+mod Emitted
 mod EqualBytes
 mod FirstFault
 mod FoundLists
 mod Keys
 mod Opening
 mod Parted
+mod Playing
 mod Printed
 mod PrintedLabels
 mod Reading

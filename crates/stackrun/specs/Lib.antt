@@ -8,3 +8,4 @@ pub mod Script
 pub mod Settings
 pub mod SettingsFaults
 pub mod Started
+pub mod Trace

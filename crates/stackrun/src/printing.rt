@@ -1,8 +1,9 @@
 //! Replies and labels in print, one a line.
 
-ghost use Rattle.std.specs.Prelude.{◌≡◌, OnOk};
+ghost use Rattle.std.specs.Prelude.{◌≡◌, IfErr, OnOk};
 ghost use Rattle.std.specs.Io.KnownBytes.{Appends};
 ghost use Rattle.stackrun.specs.Printing.{answer_line, call_line, device_line, hex_bytes, hex_of, label_line, number_of, reply_line, waiting_after, word_of};
+ghost use Rattle.stackrun.specs.Trace.{IsPrintFault};
 
 use crate::faults::Fault;
 use crate::lengths::Lengths;
@@ -47,6 +48,7 @@ fn number_of(refusal: Refusal) -> u8
 pub fn write_label<W: Write>(out: &mut W, label: &Label, lengths: &mut Lengths) -> Result<(), Fault>
     ensures line { OnOk result (Appends (W.contents out.old) (W.contents out.new) (label_line lengths.old label.now)) }
     ensures waiting { OnOk result (lengths.new ≡ waiting_after lengths.old label.now) }
+    ensures fault { IfErr result IsPrintFault }
 {
     match label {
         Label::Call { number, request } => {

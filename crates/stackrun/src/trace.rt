@@ -1,13 +1,14 @@
 //! A script run through a stack, and its trace in print.
 
-ghost use Rattle.std.specs.Prelude.{◌≡◌, ◌⊎◌, [], IfOk, OnOk, MatchResult, replicate};
+ghost use Rattle.std.specs.Prelude.{◌≡◌, ◌⊎◌, ◌++◌, [], IfErr, IfOk, OnOk, MatchResult, codes, replicate};
 ghost use Rattle.std.specs.Io.KnownBytes.{Appends};
 ghost use Rattle.toml.specs.Data.{Members};
 ghost use Rattle.compose.specs.declared.Refusal.TheVariants.{InsufficientResources};
 ghost use Rattle.compose.specs.declared.Reply.TheVariants.{Refused};
 ghost use Rattle.stackrun.specs.Events.{AreNamed, IsEventOf, IsReplyTo, Keeps, KeepsHandle, handle_of};
-ghost use Rattle.stackrun.specs.Printing.{labels_text};
+ghost use Rattle.stackrun.specs.Printing.{labels_text, line_end};
 ghost use Rattle.stackrun.specs.Settings.{AreSettings};
+ghost use Rattle.stackrun.specs.Trace.{AreRead, IsAllOf, IsAllTaken, IsCarriedOut, IsLinePlayed, IsPrintFault, IsPrintOf, IsTrace, Prints, left_by, waiting_after_all, without_labels};
 
 use crate::config::config;
 use crate::config::values::{Config, ConfigFault};
@@ -22,6 +23,7 @@ use miniport::Adapter;
 use sector::Bytes;
 use std::alloc::{AllocError, Global};
 use std::collections::BTreeMap;
+use std::io;
 use std::io::{BufWriter, Read, Write};
 
 /// Bytes of output that are written at once.
@@ -40,10 +42,11 @@ pub fn trace<C: Read + Drop, S: Read + Drop, O: Write + Drop, F: Write + Drop>(
     out: O,
     mut faults: F,
 ) -> u8
-    ensures { (result ≡ 0) ⊎ (result ≡ 1) }
+    ensures status { (result ≡ 0) ⊎ (result ≡ 1) }
+    ensures text { result ≡ 0 → (last : O) × Prints (O.contents out) (O.contents last) (IsPrintOf (C.remaining config) (S.remaining script)) }
 {
     match run(alloc, config, script, out) {
-        Ok(()) => 0,
+        Ok(_) => 0,
         Err(fault) => {
             // Nobody is left to hear of a fault of this writer.
             let _ = writeln!(faults, "{fault}");
@@ -58,7 +61,9 @@ fn run<C: Read + Drop, S: Read + Drop, O: Write + Drop>(
     config: C,
     script: S,
     out: O,
-) -> Result<(), Fault> {
+) -> Result<O, Fault>
+    ensures text { IfOk result (λ last. Prints (O.contents out) (O.contents last) (IsPrintOf (C.remaining config) (S.remaining script))) }
+{
     let config = settings(alloc, config)?;
     let script = contents(alloc, script, Fault::ScriptUnreadable)?;
     let Ok(text) = std::str::from_utf8(script.as_slice()) else {
@@ -70,7 +75,11 @@ fn run<C: Read + Drop, S: Read + Drop, O: Write + Drop>(
         return Err(Fault::NoMemory);
     };
     play(alloc, &mut stack, lines.as_slice(), &mut out)?;
-    Ok(out.flush()?)
+    let Ok(mut out) = out.into_inner() else {
+        return Err(Fault::OutputFailed);
+    };
+    out.flush()?;
+    Ok(out)
 }
 
 /// All bytes of an input.
@@ -78,7 +87,9 @@ fn contents<R: Read + Drop>(
     alloc: Global,
     mut input: R,
     unreadable: Fault,
-) -> Result<Vec<u8>, Fault> {
+) -> Result<Vec<u8>, Fault>
+    ensures { IfOk result (λ bytes. IsAllOf (R.remaining input) bytes.items) }
+{
     let mut bytes = Vec::new(alloc);
     match input.read_to_end(&mut bytes) {
         Ok(_) => Ok(bytes),
@@ -87,7 +98,8 @@ fn contents<R: Read + Drop>(
 }
 
 fn settings<R: Read + Drop>(alloc: Global, input: R) -> Result<Config, Fault>
-    ensures { IfOk result (λ config. (document : Members) × AreSettings document config) }
+    ensures settings { IfOk result (λ config. (document : Members) × AreSettings document config) }
+    ensures read { IfOk result (AreRead (R.remaining input)) }
 {
     let bytes = contents(alloc, input, Fault::ConfigUnreadable)?;
     match std::str::from_utf8(bytes.as_slice()) {
@@ -103,21 +115,63 @@ fn play<A: Adapter, W: Write>(
     lines: &[Line<'_>],
     out: &mut W,
 ) -> Result<(), Fault>
-    requires { stack.old.labels ≡ [] }
+    requires taken { IsAllTaken stack.old }
+    ensures text { OnOk result (Prints (W.contents out.old) (W.contents out.new) (λ text. IsTrace stack.old lines.now text stack.new)) }
+    ensures fault { IfErr result IsPrintFault }
 {
     let mut handles = BTreeMap::new(alloc);
     let mut lengths = Lengths::new(alloc)?;
     for line in lines {
-        let reply = match event(alloc, line.order, &handles) {
-            Ok(event) => stack.step(alloc, event),
-            Err(reply) => reply,
-        };
-        writeln!(out, "> {}", line.text)?;
-        write_reply(out, &reply)?;
-        keep_given(&mut handles, &reply)?;
-        write_labels(stack, out, &mut lengths)?;
+        play_line(alloc, stack, line, &mut handles, &mut lengths, out)?;
     }
     Ok(())
+}
+
+/// Carries out what a line asks for, and writes the line, the reply and the labels.
+fn play_line<A: Adapter, W: Write>(
+    alloc: Global,
+    stack: &mut Stack<A>,
+    line: &Line<'_>,
+    handles: &mut BTreeMap<u64, Handle>,
+    lengths: &mut Lengths,
+    out: &mut W,
+) -> Result<(), Fault>
+    requires taken { IsAllTaken stack.old }
+    requires named { AreNamed handles.old }
+    ensures named { OnOk result (AreNamed handles.new) }
+    ensures text { OnOk result (Prints (W.contents out.old) (W.contents out.new) (λ text. IsLinePlayed (record { stack = stack.old; handles = handles.old; waiting = lengths.old }) line.now text (record { stack = stack.new; handles = handles.new; waiting = lengths.new }))) }
+    ensures fault { IfErr result IsPrintFault }
+{
+    let reply = carry_out(alloc, stack, line.order, handles);
+    write_line(out, line.text)?;
+    write_reply(out, &reply)?;
+    keep_given(handles, &reply)?;
+    write_labels(stack, out, lengths)?;
+    Ok(())
+}
+
+/// Writes a line of the script.
+fn write_line<W: Write>(out: &mut W, text: &str) -> io::Result<()>
+    ensures { OnOk result (Appends (W.contents out.old) (W.contents out.new) (codes "> " ++ (text.now ++ line_end))) }
+{
+    writeln!(out, "> {text}")
+}
+
+/// Carries out what a line asks for.
+fn carry_out<A: Adapter>(
+    alloc: Global,
+    stack: &mut Stack<A>,
+    order: Order,
+    handles: &BTreeMap<u64, Handle>,
+) -> Reply
+    requires taken { IsAllTaken stack.old }
+    requires named { AreNamed handles.now }
+    ensures { IsCarriedOut handles.now order stack.old result stack.new }
+{
+    match event(alloc, order, handles) {
+        Ok(event) => stack.step(alloc, event),
+        Err(reply) => reply,
+    }
 }
 
 /// Writes all labels that a stack has not given yet, and takes the answers that go with them.
@@ -126,8 +180,10 @@ fn write_labels<A: Adapter, W: Write>(
     out: &mut W,
     lengths: &mut Lengths,
 ) -> Result<(), Fault>
-    ensures taken { OnOk result (stack.new.labels ≡ []) }
+    ensures taken { OnOk result (stack.new ≡ without_labels stack.old) }
     ensures text { OnOk result (Appends (W.contents out.old) (W.contents out.new) (labels_text lengths.old stack.old.labels)) }
+    ensures waiting { OnOk result (lengths.new ≡ waiting_after_all lengths.old stack.old.labels) }
+    ensures fault { IfErr result IsPrintFault }
 {
     while let Some(label) = stack.take_label() {
         write_label(out, &label, lengths)?;
@@ -137,8 +193,9 @@ fn write_labels<A: Adapter, W: Write>(
 }
 
 /// Takes the answer that goes with a label, if one does.
+#[tactic(auto, using(crate::proofs::PrintedLabels::answer_taken))]
 fn take_answer_of<A: Adapter>(stack: &mut Stack<A>, label: Label)
-    ensures { stack.new.labels ≡ stack.old.labels }
+    ensures { stack.new ≡ record stack.old { answers = left_by label stack.old.answers } }
 {
     if let Label::Answer { .. } = label {
         let _ = stack.take_answer();

@@ -1,7 +1,13 @@
-use Rattle.std.proofs.Common.{◌≡◌, []}
+use Rattle.std.proofs.Common.{take}
 use Rattle.stackrun.specs.Events.{AreNamed}
+use Rattle.stackrun.specs.Trace.{IsAllTaken, IsTraceTo, Prints}
 use Rattle.stackrun.proofs.trace.play.Given as goal
 
--- all labels were taken, and each handle stands under its number
+-- the lines so far are played, and each handle stands under its number
 abbrev pub invariant-loop-line : goal.invariant-loop-line
-invariant-loop-line g l = (l.stack.labels ≡ []) × AreNamed l.handles
+invariant-loop-line g l = record {
+  taken : IsAllTaken l.stack;
+  named : AreNamed l.handles;
+  text : Prints (g.W.Write.contents l.initial.out) (g.W.Write.contents l.out)
+      (λ text. IsTraceTo l.initial.stack (take l.line-index l.lines) text (record { stack = l.stack; handles = l.handles; waiting = l.lengths }));
+}

@@ -5,7 +5,7 @@ use Rattle.stackrun.proofs.trace.write_labels.Given as goal
 -- the labels before those that are left are written
 abbrev pub invariant-loop-label : goal.invariant-loop-label
 invariant-loop-label g l =
-    AreWritten (g.W.Write.contents l.initial.out) l.initial.lengths l.initial.stack.labels l.lengths l.stack.labels (g.W.Write.contents l.out)
+    AreWritten (g.W.Write.contents l.initial.out) l.initial.lengths l.initial.stack l.lengths l.stack (g.W.Write.contents l.out)
 
 abbrev pub decreases-loop-label : goal.decreases-loop-label
 decreases-loop-label g l = length l.stack.labels
