@@ -1,12 +1,13 @@
 //! The program: runs a script of events through a stack over a disk in memory, and prints the trace.
 //!
-//! It promises, by the contract of [`config::config`] (`settings`, `fault`), that settings which were accepted are those
-//! of the document, each in its range, or its default, and that a document is refused for its first fault, or for want
-//! of memory; by that of [`script::lines`] (`events`, `fault`), that the lines of a script are read as the events that
-//! they ask for, or that the first bad one is named; by that of [`start::start`] (`view`, `fault`), that the stack is the
-//! one of the settings; by those of [`printing`], what is printed of each reply and label; by that of
-//! [`words::command`], that the two paths are those that the parser of the command line found under their names. Which
-//! of several inputs is blamed first, and the texts of faults, are tested and not proved.
+//! It promises, by the contract of [`trace::trace`] (`text`), that a run which ends with status 0 has printed just the
+//! text of its script's run over the stack that its settings start. Below that: by [`config::config`] (`settings`,
+//! `fault`), that settings which were accepted are those of the document, each in its range, or its default, and that a
+//! document is refused for its first fault, or for want of memory; by [`script::lines`] (`events`, `fault`), that the
+//! lines of a script are read as the events that they ask for, or that the first bad one is named; by [`start::start`]
+//! (`view`, `fault`), that the stack is the one of the settings; by [`words::command`], that the two paths are those
+//! that the parser of the command line found under their names. Which of several inputs is blamed first, and the texts
+//! of faults, are tested and not proved.
 #![tactic(auto)]
 
 mod config;
