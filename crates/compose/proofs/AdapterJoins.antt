@@ -3,8 +3,8 @@ use Rattle.std.proofs.Common.{◌≡◌, ℕ, List, [], ◌∷◌, ◌++◌, sym
 use Rattle.std.proofs.lemmas.List.{append-nil}
 use Rattle.srb.specs.declared.DeviceLabel.{DeviceLabel}
 use Rattle.srb.specs.declared.DeviceLabel.TheVariants.{Start, Act, Fault, Return}
-use Rattle.srb.specs.Adapter.{AdapterView, MovesOn, MovesByAll}
-use Rattle.srb.proofs.Joining.{moves_joined}
+use Rattle.adapter.specs.View.{AdapterView, MovesOn, MovesByAll}
+use Rattle.adapter.proofs.Joining.{moves_joined}
 use Rattle.compose.specs.Right.{AdapterMoves}
 
 label_moved : (tag : ℕ) (old : AdapterView) (label : DeviceLabel) (new : AdapterView) → MovesOn old tag label new → new.labels ≡ old.labels ++ label ∷ []

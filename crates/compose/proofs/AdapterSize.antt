@@ -2,13 +2,13 @@
 use Rattle.std.proofs.Common.{◌≡◌, ℕ, List, [], ◌∷◌, ◌∙◌, ap, length}
 use Rattle.srb.specs.declared.DeviceLabel.{DeviceLabel}
 use Rattle.srb.specs.declared.DeviceLabel.TheVariants.{Start, Act, Fault, Return}
-use Rattle.srb.specs.Adapter.{AdapterView, MovesOn, MovesByAll}
-use Rattle.miniport.proofs.Performing.{Performs-length}
+use Rattle.adapter.specs.View.{AdapterView, MovesOn, MovesByAll}
+use Rattle.miniport.proofs.Performing.{CarriesOut-length}
 
 MovesOn-length : (old : AdapterView) (tag : ℕ) (label : DeviceLabel) (new : AdapterView) → MovesOn old tag label new → length new.sectors ≡ length old.sectors
 MovesOn-length old tag (Start piece started block) new h = ap (λ v. length v.sectors) h.1.accepts.after
 MovesOn-length old tag (Act piece bytes) new h =
-    ap (λ v. length v.sectors) h.after ∙ Performs-length old.sector_size old.sectors h.use'.srb.data h.command h.moved h.sectors h.performs
+    ap (λ v. length v.sectors) h.after ∙ CarriesOut-length old.faithful _ old.sector_size old.sectors h.use'.srb.data h.command h.moved h.sectors h.performs
 MovesOn-length old tag (Fault piece) new h = ap (λ v. length v.sectors) h.after
 MovesOn-length old tag (Return piece class) new h = ap (λ v. length v.sectors) h.after
 

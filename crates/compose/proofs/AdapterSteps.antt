@@ -5,12 +5,13 @@ use Rattle.std.proofs.lemmas.List.Sorted.{IsPermutation-sym}
 use Rattle.std.proofs.lemmas.List.Elements.{All-append}
 use Rattle.srb.specs.declared.DeviceLabel.{DeviceLabel}
 use Rattle.srb.specs.declared.DeviceLabel.TheVariants.{Start, Act as ActLabel, Fault, Return}
-use Rattle.device.specs.Rules.{Rules}
-use Rattle.device.specs.State.{State}
-use Rattle.device.specs.Step.{Run}
-use Rattle.device.specs.Seen.{Seen, IsOrderly}
-use Rattle.device.specs.Served.{as_label, IsStart, IsActOrFault, Moves, ActsOn, ActsNot, Finishes, FinishesNot, IsUnfinished}
-use Rattle.device.proofs.Same.{IsSame-refl}
+use Rattle.machine.specs.Rules.{Rules}
+use Rattle.machine.specs.State.{State}
+use Rattle.machine.specs.Step.{Run, as_label}
+use Rattle.device.specs.Seen.{Seen, Iuse Rattle.machine.specs.Sending.{IsStart}
+sOrderly}
+use Rattle.device.specs.Served.{IsActOrFault, Moves, ActsOn, ActsNot, Finishes, FinishesNot, IsUnfinished}
+use Rattle.machine.proofs.Same.{IsSame-refl}
 use Rattle.compose.specs.declared.Event.{Event}
 use Rattle.compose.specs.declared.Event.TheVariants.{Act, Finish}
 use Rattle.compose.specs.declared.Reply.{Reply}

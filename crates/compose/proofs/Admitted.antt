@@ -6,14 +6,14 @@ use Rattle.std.proofs.lemmas.Bool.{cases_eq}
 use Rattle.std.proofs.lemmas.List.Elements.{All-cons, All-weaker, All-contains, All-map}
 use Rattle.slab.proofs.SlabLemmas.{Contains-cons}
 use Rattle.slab.specs.Slab.{Slab, get, slab_len, Updates as SlabUpdates}
-use Rattle.device.specs.declared.Kind.TheVariants.{Read}
-use Rattle.device.specs.declared.ClientRequest.{ClientRequest}
-use Rattle.device.specs.Rules.{Rules, as_client}
-use Rattle.device.specs.State.{OpenRequest as OpenBelow, State}
-use Rattle.device.specs.Calling.{Opens, new_request}
-use Rattle.device.specs.Numbers.{request_number, IsGiven}
+use Rattle.machine.specs.declared.Kind.TheVariants.{Read}
+use Rattle.machine.specs.declared.ClientRequest.{ClientRequest}
+use Rattle.machine.specs.Rules.{Rules, as_client}
+use Rattle.machine.specs.State.{OpenRequest as OpenBelow, State}
+use Rattle.machine.specs.Calling.{Opens, new_request}
+use Rattle.machine.specs.Numbers.{request_number, IsGiven}
 use Rattle.device.specs.Seen.{Seen, sent_bytes}
-use Rattle.device.proofs.Same.{IsSame-sym}
+use Rattle.machine.proofs.Same.{IsSame-sym}
 use Rattle.compose.specs.declared.Answer.{Answer}
 use Rattle.compose.specs.declared.Handle.{Handle}
 use Rattle.compose.specs.declared.admission.Limits.{Limits}

@@ -5,15 +5,15 @@ use Rattle.std.proofs.lemmas.List.{length-map}
 use Rattle.std.proofs.lemmas.List.Elements.{All-weaker}
 use Rattle.slab.specs.Slab.{Slab, get, slab_len}
 use Rattle.ntstatus.specs.declared.NtStatus.{NtStatus}
-use Rattle.srb.proofs.Joining.{reserves_none}
-use Rattle.device.specs.declared.Kind.{Kind}
-use Rattle.device.specs.declared.ClientRequest.{ClientRequest}
-use Rattle.device.specs.declared.Label.{Label}
-use Rattle.device.specs.declared.Label.TheVariants.{Call, Answer as AnswerLabel}
-use Rattle.device.specs.Rules.{Rules, is_transfer}
-use Rattle.device.specs.State.{State}
-use Rattle.device.specs.Calling.{refusal}
-use Rattle.device.specs.Step.{Run}
+use Rattle.adapter.proofs.Joining.{reserves_none}
+use Rattle.machine.specs.declared.Kind.{Kind}
+use Rattle.machine.specs.declared.ClientRequest.{ClientRequest}
+use Rattle.machine.specs.declared.Label.{Label}
+use Rattle.machine.specs.declared.Label.TheVariants.{Call, Answer as AnswerLabel}
+use Rattle.machine.specs.Rules.{Rules, is_transfer}
+use Rattle.machine.specs.State.{State}
+use Rattle.machine.specs.Calling.{refusal}
+use Rattle.machine.specs.Step.{Run}
 use Rattle.device.specs.Seen.{Seen}
 use Rattle.compose.specs.declared.Handle.{Handle}
 use Rattle.compose.specs.declared.OpenHandle.{OpenHandle}

@@ -8,12 +8,12 @@ use Rattle.cdb.specs.Meaning.{Means}
 use Rattle.srb.specs.declared.Srb.{Srb}
 use Rattle.srb.specs.declared.SrbFunction.TheVariants.{ExecuteScsi}
 use Rattle.irp.specs.declared.Payload.TheVariants.{Srb as Packed}
-use Rattle.device.specs.declared.Kind.{Kind}
-use Rattle.device.specs.declared.Kind.TheVariants.{Read, Write, Flush}
-use Rattle.device.specs.declared.Request.{Request}
-use Rattle.device.specs.Rules.{Rules, home, as_client, is_transfer, place_count}
-use Rattle.device.specs.Sending.{command_for}
-use Rattle.device.specs.Solo.{all_places}
+use Rattle.machine.specs.declared.Kind.{Kind}
+use Rattle.machine.specs.declared.Kind.TheVariants.{Read, Write, Flush}
+use Rattle.machine.specs.declared.Request.{Request}
+use Rattle.machine.specs.Rules.{Rules, home, as_client, is_transfer, place_count}
+use Rattle.machine.specs.Sending.{command_for}
+use Rattle.machine.specs.Solo.{all_places}
 use Rattle.device.specs.Seen.{Carries, transfer_length, direction}
 use Rattle.compose.specs.Admitting.{IsWholeDisk, disk_command}
 

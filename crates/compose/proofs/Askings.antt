@@ -7,12 +7,11 @@ use Rattle.std.proofs.lemmas.List.{length-map}
 use Rattle.slab.specs.Slab.{Slab}
 use Rattle.srb.specs.declared.DeviceLabel.{DeviceLabel}
 use Rattle.srb.specs.declared.DeviceLabel.TheVariants.{Start, Act, Fault, Return}
-use Rattle.device.specs.Rules.{Rules}
-use Rattle.device.specs.State.{OpenRequest, State, IsSame}
-use Rattle.device.specs.Sending.{sent, given_back}
-use Rattle.device.specs.Numbers.{request_number}
-use Rattle.device.specs.Step.{DeviceStep, Run}
-use Rattle.device.specs.Served.{as_label}
+use Rattle.machine.specs.Rules.{Rules}
+use Rattle.machine.specs.State.{OpenRequest, State, IsSame}
+use Rattle.machine.specs.Sending.{sent, given_back}
+use Rattle.machine.specs.Numbers.{request_number}
+use Rattle.machine.specs.Step.{DeviceStep, Run, as_label}
 use Rattle.compose.specs.declared.tables.OpenRequest.{OpenRequest as OpenEntry}
 use Rattle.compose.specs.Sound.{IsHeldAt, AreHeld}
 

@@ -5,20 +5,21 @@ use Rattle.std.specs.VecDeque.{deque_len, deque_capacity}
 use Rattle.std.proofs.Math.ListN.{get_or-map}
 use Rattle.std.proofs.lemmas.List.Elements.{All-append}
 use Rattle.slab.specs.Slab.{Slab, get, slab_len}
-use Rattle.srb.specs.Adapter.{ReservesMore}
-use Rattle.srb.proofs.Joining.{moves_joined}
+use Rattle.adapter.specs.View.{ReservesMore}
+use Rattle.adapter.proofs.Joining.{moves_joined}
 use Rattle.irp.specs.declared.Payload.{Payload}
-use Rattle.device.specs.declared.Kind.{Kind}
-use Rattle.device.specs.declared.Kind.TheVariants.{Read, Write, Flush}
-use Rattle.device.specs.declared.ClientRequest.{ClientRequest}
-use Rattle.device.specs.declared.Label.{Label}
-use Rattle.device.specs.declared.Label.TheVariants.{Call}
-use Rattle.device.specs.Rules.{Rules, as_client}
-use Rattle.device.specs.Calling.{refusal, Opens}
-use Rattle.device.specs.Step.{Run}
+use Rattle.machine.specs.declared.Kind.{Kind}
+use Rattle.machine.specs.declared.Kind.TheVariants.{Read, Write, Flush}
+use Rattle.machine.specs.declared.ClientRequest.{ClientRequest}
+use Rattle.machine.specs.declared.Label.{Label}
+use Rattle.machine.specs.declared.Label.TheVariants.{Call}
+use Rattle.machine.specs.Rules.{Rules, as_client}
+use Rattle.machine.specs.Calling.{refusal, Opens}
+use Rattle.machine.specs.Step.{Run}
 use Rattle.device.specs.Seen.{Seen, IsRead, IsOrderly, sent_bytes, payload_bytes}
-use Rattle.device.specs.Served.{IsStart, Reserves}
-use Rattle.device.proofs.Same.{IsSame-refl}
+use Rattle.machine.specs.Sending.{IsStart}
+use Rattle.device.specs.Served.{Reserves}
+use Rattle.machine.proofs.Same.{IsSame-refl}
 use Rattle.compose.specs.declared.Handle.{Handle}
 use Rattle.compose.specs.declared.Id.{Id}
 use Rattle.compose.specs.declared.OpenHandle.{OpenHandle}

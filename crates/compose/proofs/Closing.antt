@@ -12,12 +12,12 @@ use Rattle.irp.specs.declared.Climb.TheVariants.{Routine, Finished}
 use Rattle.irp.specs.declared.Done.{Done}
 use Rattle.irp.specs.declared.Driver.{Driver}
 use Rattle.irp.specs.declared.Irp.{Irp}
-use Rattle.device.specs.declared.Kind.{Kind}
-use Rattle.device.specs.declared.Kind.TheVariants.{Read, Write, Flush}
-use Rattle.device.specs.declared.Request.{Request}
-use Rattle.device.specs.State.{Mark, OpenRequest as OpenBelow}
-use Rattle.device.specs.Answering.{answer_bytes, is_done}
-use Rattle.device.specs.Numbers.{AreDistinct, IsGiven, request_number}
+use Rattle.machine.specs.declared.Kind.{Kind}
+use Rattle.machine.specs.declared.Kind.TheVariants.{Read, Write, Flush}
+use Rattle.machine.specs.declared.Request.{Request}
+use Rattle.machine.specs.State.{Mark, OpenRequest as OpenBelow}
+use Rattle.machine.specs.Answering.{answer_bytes, is_done}
+use Rattle.machine.specs.Numbers.{AreDistinct, IsGiven, request_number}
 use Rattle.device.specs.Seen.{Seen, payload_bytes}
 use Rattle.device.specs.Served.{HandsUp}
 use Rattle.compose.specs.declared.tables.OpenRequest.{OpenRequest}

@@ -1,5 +1,5 @@
 -- A command sent to an idle adapter, and its way back.
-use Rattle.std.proofs.Common.{append-nil, ◌≡◌, ◌≤◌, ℕ, ◌+◌, List, [], ◌∷◌, All, refl, sym, ◌∙◌, ap, subst, length, arith, inl, inr, IsPermutation, rules}
+use Rattle.std.proofs.Common.{append-nil, ◌≡◌, ◌≤◌, ℕ, ◌==◌, false, true, Bool, ◌+◌, List, [], ◌∷◌, All, refl, sym, ◌∙◌, ap, subst, length, arith, inl, inr, IsPermutation, rules}
 use Rattle.std.specs.List.{concat}
 use Rattle.std.proofs.lemmas.List.Sorted.{length_permutation, All-permutation, IsPermutation-sym, IsPermutation-trans}
 use Rattle.std.proofs.lemmas.List.Elements.{All-head, All-cons}
@@ -12,9 +12,9 @@ use Rattle.srb.specs.declared.Completion.{Completion}
 use Rattle.srb.specs.declared.Class.{Class}
 use Rattle.srb.specs.declared.Class.TheVariants.{Good, Busy, Bad}
 use Rattle.srb.specs.Fate.{Fresh, Acted, class_of}
-use Rattle.srb.specs.Adapter.{AdapterView, TagInUse, HasNotTag, IsFree, Accepts, in_use_from, acted, faulted, MayReturn}
-use Rattle.srb.specs.Performing.{Performs}
-use Rattle.miniport.specs.Calls.{Acts, ActsNot, Finishes, FinishesNot}
+use Rattle.adapter.specs.View.{AdapterView, TagInUse, HasNotTag, IsFree, Accepts, in_use_from, acted, faulted, MayReturn}
+use Rattle.adapter.specs.Performing.{Performs, CarriesOut}
+use Rattle.adapter.specs.Calls.{Acts, ActsNot, Finishes, FinishesNot}
 use Rattle.compose.specs.Start.{IsIdle, Looks, bytes_brought, Brings, AsksOnce}
 
 -- a list in which one item stands is just that item
@@ -42,6 +42,15 @@ looked view bytes (Write10 lba count fua) moved after looks h = absurd looks
 looked view bytes (Sync10 lba blocks) moved after looks h = (h.1, ap concat h.0)
 looked view bytes ReadCapacity10 moved after looks h = (h.1, ap concat h.0 ∙ append-nil _)
 
+-- also where the adapter's sectors stand elsewhere
+looked_at : (faithful : Bool) (view : AdapterView) (bytes : List ℕ) (command : Cdb) (moved after : List (List ℕ)) → Looks command
+    → CarriesOut faithful true view.sector_size view.sectors bytes command moved after → (after ≡ view.sectors) × (concat moved ≡ bytes_brought view command)
+looked_at true view bytes command moved after looks h = looked view bytes command moved after looks h
+looked_at false view bytes (Read10 lba count fua) moved after looks h = (h.1, ap concat (h.0.3 refl))
+looked_at false view bytes (Write10 lba count fua) moved after looks h = absurd looks
+looked_at false view bytes (Sync10 lba blocks) moved after looks h = (h.1, ap concat h.0)
+looked_at false view bytes ReadCapacity10 moved after looks h = (h.1, ap concat h.0 ∙ append-nil _)
+
 -- what a class of return says of a piece that acted or faulted
 brings_by : (old new : AdapterView) (command : Cdb) (use' : TagInUse) (bytes : List ℕ) (last : AdapterView) (class : Class)
     → (use'.fate ≡ Fresh → ⊥) → ((moved : List (List ℕ)) → use'.fate ≡ Acted moved → bytes ≡ bytes_brought old command)
@@ -55,10 +64,10 @@ came_back : (old view : AdapterView) (command : Cdb) (use' : TagInUse) (srb : Sr
     → IsPermutation view.tags (use' ∷ [])
     → (use'.fate ≡ Fresh → ⊥) → ((moved : List (List ℕ)) → use'.fate ≡ Acted moved → concat moved ≡ bytes_brought old command)
     → use'.failures_before ≡ old.failures
-    → view.sector_size ≡ old.sector_size → view.sectors ≡ old.sectors → view.max_transfer ≡ old.max_transfer → view.depth ≡ old.depth
+    → view.sector_size ≡ old.sector_size → view.sectors ≡ old.sectors → view.faithful ≡ old.faithful → view.max_transfer ≡ old.max_transfer → view.depth ≡ old.depth
     → view.accepted ≡ old.accepted + 1 → old.failures ≤ view.failures
     → Finishes view 0 srb completion last → AsksOnce old command srb completion last
-came_back old view command use' srb completion last one acts good before size sectors most depth counted fails h =
+came_back old view command use' srb completion last one acts good before size sectors faith most depth counted fails h =
     let alone = just_one use' h.returns.use' view.tags h.returns.others one h.returns.is_on.in_use in
     let tags : h.returns.tags ≡ [] = none_left _ (subst (λ (os : List TagInUse). IsPermutation h.returns.tags os) alone.1 h.returns.in_use) in
     let after = h.returns.after in
@@ -67,6 +76,7 @@ came_back old view command use' srb completion last one acts good before size se
       same = record {
         sector_size = ap (λ (v : AdapterView). v.sector_size) after ∙ size;
         sectors = ap (λ (v : AdapterView). v.sectors) after ∙ sectors;
+        faithful = ap (λ (v : AdapterView). v.faithful) after ∙ faith;
         max_transfer = ap (λ (v : AdapterView). v.max_transfer) after ∙ most;
         depth = ap (λ (v : AdapterView). v.depth) after ∙ depth;
         idle = record { no_tags = ap (λ (v : AdapterView). v.tags) after ∙ tags; no_labels = refl };
@@ -95,15 +105,18 @@ asks_once old first second last command sent srb completion idle means looks acc
           let same_srb : sent ≡ h.1.use'.srb = ap (λ (u : TagInUse). u.srb) alone.0 in
           let is_command : h.1.command ≡ command =
           means_once sent.block h.1.command command (subst (λ (s : Srb). Means s.block h.1.command) (sym same_srb) h.1.means) means in
-          let seen = looked old h.1.use'.srb.data command h.1.moved h.1.sectors looks
-          (subst (λ (c : Cdb). Performs old.sector_size old.sectors h.1.use'.srb.data c h.1.moved h.1.sectors) is_command h.1.performs) in
+          let none : acts'.piece ≡ 0 = sym h.1.is_piece ∙ sym (ap (λ (u : TagInUse). u.piece) alone.0) in
+          let told : (acts'.piece == 0) ≡ true = ap (λ (n : ℕ). n == 0) none in
+          let seen = looked_at old.faithful old h.1.use'.srb.data command h.1.moved h.1.sectors looks
+          (subst (λ (b : Bool). CarriesOut old.faithful b old.sector_size old.sectors h.1.use'.srb.data command h.1.moved h.1.sectors) told
+          (subst (λ (c : Cdb). CarriesOut old.faithful (acts'.piece == 0) old.sector_size old.sectors h.1.use'.srb.data c h.1.moved h.1.sectors) is_command h.1.performs)) in
           let finishes' = subst (λ (v : AdapterView). Finishes v 0 srb completion last) h.1.after finishes in
           came_back old _ command (acted h.1.moved h.1.left h.1.use') srb completion last
           (subst (λ (os : List TagInUse). IsPermutation h.1.tags (acted h.1.moved h.1.left h.1.use' ∷ os)) alone.1 h.1.in_use)
           (λ fresh. cc (fresh))
           (λ moved e. let same : h.1.moved ≡ moved = cc (e) in ap concat (sym same) ∙ seen.1)
           (sym (ap (λ (u : TagInUse). u.failures_before) alone.0))
-          refl seen.0 refl refl refl (omega arith)
+          refl seen.0 refl refl refl refl (omega arith)
           finishes'
       | inr h ↦
           let alone = just_one (in_use_from old 0 0 sent) h.use' accepts.tags h.others one h.is_on.in_use in
@@ -114,7 +127,7 @@ asks_once old first second last command sent srb completion idle means looks acc
           (λ fresh. cc (fresh))
           (λ moved e. cc (e))
           (sym (ap (λ (u : TagInUse). u.failures_before) alone.0))
-          refl refl refl refl refl (omega (arith, counted))
+          refl refl refl refl refl refl (omega (arith, counted))
           finishes'
     ]
 

@@ -4,10 +4,10 @@ use Rattle.std.specs.Prelude.{◌==◌, nat_lt, if◌then◌else◌}
 use Rattle.std.proofs.lemmas.Bool.{eqb-false, ltb-false}
 use Rattle.std.proofs.lemmas.List.Elements.{All-nil, All-cons}
 use Rattle.sector.specs.declared.Extent.{Extent}
-use Rattle.srb.specs.Adapter.{AdapterView}
-use Rattle.device.specs.Map.{IsMap, IsPartition}
-use Rattle.device.specs.State.{opening}
-use Rattle.device.specs.Seen.{Seen, sectors_in}
+use Rattle.adapter.specs.View.{AdapterView}
+use Rattle.machine.specs.Map.{IsMap, IsPartition, sectors_in}
+use Rattle.machine.specs.State.{opening}
+use Rattle.device.specs.Seen.{Seen}
 use Rattle.port.specs.Opening.{rules_over, opening_seen}
 use Rattle.compose.specs.declared.MbrFault.{MbrFault}
 use Rattle.compose.specs.declared.MbrFault.TheVariants.{NoSignature, EmptyEntry, CoversTable, PastEnd}
@@ -83,6 +83,7 @@ module _ (disk v : AdapterView) (settings : Settings) (limits : Limits) (same : 
       let sector_size = same.sector_size in
       let max_transfer = same.max_transfer in
       let depth = same.depth in
+      let faithful = same.faithful in
       cc
 
   IsFirstView-opening : (tables : Tables) → AreEmpty tables → IsFirstView disk settings (view_of limits (opening_seen v) tables)

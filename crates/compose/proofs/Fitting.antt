@@ -7,11 +7,11 @@ use Rattle.std.proofs.Math.Nat.{mod-add-div', zero-mul}
 use Rattle.std.proofs.lemmas.List.{length-map}
 use Rattle.sector.specs.declared.Extent.{Extent}
 use Rattle.slab.specs.Slab.{slab_len}
-use Rattle.device.specs.declared.ClientRequest.{ClientRequest}
-use Rattle.device.specs.Rules.{Rules, is_transfer, is_in_bounds, sectors_of}
-use Rattle.device.specs.State.{State}
+use Rattle.machine.specs.declared.ClientRequest.{ClientRequest}
+use Rattle.machine.specs.Rules.{Rules, is_transfer, is_in_bounds, sectors_of}
+use Rattle.machine.specs.State.{State}
 use Rattle.device.specs.Seen.{Seen, transfer_length}
-use Rattle.device.proofs.Places.{IsTakenIn, taken_in}
+use Rattle.machine.proofs.Places.{IsTakenIn, taken_in}
 use Rattle.compose.specs.declared.admission.Limits.{Limits}
 use Rattle.compose.specs.declared.tables.Tables.{Tables}
 use Rattle.compose.specs.OnDisk.{first_of, end_of, open_as_called}

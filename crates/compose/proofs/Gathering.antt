@@ -8,20 +8,21 @@ use Rattle.std.proofs.lemmas.List.Elements.{All-nil, All-head, All-tail, All-con
 use Rattle.slab.specs.Slab.{get, slab_len}
 use Rattle.ntstatus.specs.declared.NtStatus.{NtStatus}
 use Rattle.sector.specs.declared.Extent.{Extent}
-use Rattle.srb.proofs.Joining.{reserves_none, moves_joined}
+use Rattle.adapter.proofs.Joining.{reserves_none, moves_joined}
 use Rattle.irp.specs.declared.Climb.TheVariants.{Finished}
 use Rattle.irp.specs.declared.Done.{Done}
-use Rattle.device.specs.declared.Request.{Request}
-use Rattle.device.specs.Rules.{Rules}
-use Rattle.device.specs.State.{OpenRequest as OpenBelow}
-use Rattle.device.specs.Answering.{Answers}
-use Rattle.device.specs.Numbers.{AreDistinct, HavePlaces, request_number}
+use Rattle.machine.specs.declared.Request.{Request}
+use Rattle.machine.specs.Rules.{Rules}
+use Rattle.machine.specs.State.{OpenRequest as OpenBelow}
+use Rattle.machine.specs.Answering.{Answers}
+use Rattle.machine.specs.Numbers.{AreDistinct, HavePlaces, request_number}
 use Rattle.device.specs.Seen.{Seen, payload_bytes}
-use Rattle.device.specs.Served.{HandsUp, as_label, IsStart, IsUnfinished}
-use Rattle.device.specs.Settled.{Settled}
-use Rattle.device.specs.Step.{Run}
-use Rattle.device.proofs.Permuting.{distinct_first}
-use Rattle.device.proofs.Same.{IsSame-refl, IsSame-sym}
+use Rattle.machine.specs.Sending.{IsStart}
+use Rattle.device.specs.Served.{HandsUp, IsUnfinished}
+use Rattle.machine.specs.Settled.{Settled}
+use Rattle.machine.specs.Step.{Run, as_label}
+use Rattle.machine.proofs.Permuting.{distinct_first}
+use Rattle.machine.proofs.Same.{IsSame-refl, IsSame-sym}
 use Rattle.compose.specs.declared.Answer.{Answer}
 use Rattle.compose.specs.declared.admission.Limits.{Limits}
 use Rattle.compose.specs.declared.tables.OpenRequest.{OpenRequest}

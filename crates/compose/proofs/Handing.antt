@@ -5,10 +5,10 @@ use Rattle.std.proofs.lemmas.Bool.{cases_eq, leb-false}
 use Rattle.slab.specs.Slab.{Slab, get, slab_len, Updates as SlabUpdates}
 use Rattle.ntstatus.specs.declared.NtStatus.{NtStatus}
 use Rattle.ntstatus.specs.declared.NtStatus.TheVariants.{DeviceBusy as BusyStatus, DeletePending as PendingStatus, InvalidParameter as ParameterStatus}
-use Rattle.srb.proofs.Joining.{reserves_none}
+use Rattle.adapter.proofs.Joining.{reserves_none}
 use Rattle.ntstatus.specs.First.{when, first_some}
 use Rattle.device.specs.Seen.{Seen}
-use Rattle.device.proofs.Same.{IsSame-refl}
+use Rattle.machine.proofs.Same.{IsSame-refl}
 use Rattle.ntstatus.proofs.First.{none_first}
 use Rattle.compose.specs.declared.OpenHandle.{OpenHandle}
 use Rattle.compose.specs.declared.Event.TheVariants.{Open}

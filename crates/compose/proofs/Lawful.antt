@@ -5,15 +5,15 @@ use Rattle.std.specs.Global.{Vec}
 use Rattle.sector.specs.Extents.{IsIn}
 use Rattle.ntstatus.specs.declared.NtStatus.{NtStatus}
 use Rattle.ntstatus.specs.declared.NtStatus.TheVariants.{Success}
-use Rattle.device.specs.declared.ClientRequest.{ClientRequest}
-use Rattle.device.specs.declared.Label.{Label}
-use Rattle.device.specs.declared.Label.TheVariants.{Call}
-use Rattle.device.specs.Rules.{Rules}
-use Rattle.device.specs.State.{State}
-use Rattle.device.specs.Calling.{Opens}
-use Rattle.device.specs.Answering.{Answers}
-use Rattle.device.specs.Step.{Run}
-use Rattle.device.proofs.Same.{IsSame-refl, Run-append}
+use Rattle.machine.specs.declared.ClientRequest.{ClientRequest}
+use Rattle.machine.specs.declared.Label.{Label}
+use Rattle.machine.specs.declared.Label.TheVariants.{Call}
+use Rattle.machine.specs.Rules.{Rules}
+use Rattle.machine.specs.State.{State}
+use Rattle.machine.specs.Calling.{Opens}
+use Rattle.machine.specs.Answering.{Answers}
+use Rattle.machine.specs.Step.{Run}
+use Rattle.machine.proofs.Same.{IsSame-refl, Run-append}
 use Rattle.machine_laws.specs.Reached.{IsReached, RunsGoOn}
 use Rattle.machine_laws.specs.SoloLaws.{SoloReadsHold, SoloWritesHold, FailedWritesHold, LabelsAreOfOne}
 use Rattle.machine_laws.specs.WriteLaws.{StepsKeepArrays, StepsKeepSectors}
@@ -44,13 +44,13 @@ module _ (reads : SoloReadsHold) (writes : SoloWritesHold) (failed : FailedWrite
 
   pub obey : RunsObeyLaws
   obey rules s labels s' reached = record {
-    solo_reads = λ number q bytes before after h is_read solo.
+    solo_reads = λ number q bytes before after h faithful is_read solo.
         let both : Opens rules before number q h.called × Answers rules h.ended number Success bytes after = of_one rules s labels s' number q Success bytes before after h in
-        reads rules before (on rules s h.first before reached h.comes) number q bytes after is_read
+        reads rules before faithful (on rules s h.first before reached h.comes) number q bytes after is_read
         (record { called = h.called; labels = h.between; ended = h.ended; opens = both.0; run = h.run; solo = solo; answers = both.1 });
-    solo_writes = λ number q bytes before after h is_write solo.
+    solo_writes = λ number q bytes before after h faithful is_write solo.
         let both : Opens rules before number q h.called × Answers rules h.ended number Success bytes after = of_one rules s labels s' number q Success bytes before after h in
-        writes rules before (on rules s h.first before reached h.comes) number q bytes after is_write
+        writes rules before faithful (on rules s h.first before reached h.comes) number q bytes after is_write
         (record { called = h.called; labels = h.between; ended = h.ended; opens = both.0; run = h.run; solo = solo; answers = both.1 });
     failed_writes = λ number q status bytes before after h is_write solo place inside.
         let both : Opens rules before number q h.called × Answers rules h.ended number status bytes after = of_one rules s labels s' number q status bytes before after h in

@@ -2,9 +2,9 @@
 use Rattle.std.proofs.Common.{◌≡◌, ℕ, ◌+◌, List, [], ◌∷◌, Some, refl, ap, arith, map, get_or}
 use Rattle.std.proofs.lemmas.List.Sorted.{IsPermutation-map}
 use Rattle.sector.specs.declared.Extent.{Extent}
-use Rattle.device.specs.Rules.{Rules, sectors_of}
-use Rattle.device.specs.State.{State, IsSame}
-use Rattle.device.specs.Seen.{sectors_in}
+use Rattle.machine.specs.Rules.{Rules, sectors_of}
+use Rattle.machine.specs.State.{State, IsSame}
+use Rattle.machine.specs.Map.{sectors_in}
 use Rattle.compose.specs.OnDisk.{first_of, end_of, rules_over, on_partition, open_as_called}
 
 pub IsSame-on_partition : (rules : Rules) (next : ℕ) (s t : State) → IsSame s t → IsSame (on_partition rules next s) (on_partition rules next t)

@@ -7,17 +7,17 @@ use Rattle.std.proofs.lemmas.List.Sorted.{IsPermutation-refl, IsPermutation-sym,
 use Rattle.std.proofs.lemmas.List.Elements.{All-tail, All-cons, All-weaker}
 use Rattle.ntstatus.specs.declared.NtStatus.{NtStatus}
 use Rattle.sector.specs.declared.Extent.{Extent}
-use Rattle.device.specs.declared.Request.{Request}
-use Rattle.device.specs.declared.ClientRequest.{ClientRequest}
-use Rattle.device.specs.declared.Label.TheVariants.{Call, Answer}
-use Rattle.device.specs.Rules.{Rules, is_transfer, place_count, sectors_of, as_client}
-use Rattle.device.specs.State.{Mark, Untouched, Out, Done, Failed, Back, OpenRequest, State, IsSame}
-use Rattle.device.specs.Calling.{refusal, Opens, Admits, Calls, new_request}
-use Rattle.device.specs.Answering.{Answers, Cause, HasEnded, HasCause}
-use Rattle.device.specs.Step.{Run}
-use Rattle.device.proofs.Same.{IsSame-refl}
-use Rattle.device.proofs.Numbers.{AreDistinct-Step, AreDistinct-Admits}
-use Rattle.device.proofs.Placed.{ArePlaced-Answers, ArePlaced-Opens}
+use Rattle.machine.specs.declared.Request.{Request}
+use Rattle.machine.specs.declared.ClientRequest.{ClientRequest}
+use Rattle.machine.specs.declared.Label.TheVariants.{Call, Answer}
+use Rattle.machine.specs.Rules.{Rules, is_transfer, place_count, sectors_of, as_client}
+use Rattle.machine.specs.State.{Mark, Untouched, Out, Done, Failed, Back, OpenRequest, State, IsSame}
+use Rattle.machine.specs.Calling.{refusal, Opens, Admits, Calls, new_request}
+use Rattle.machine.specs.Answering.{Answers, Cause, HasEnded, HasCause}
+use Rattle.machine.specs.Step.{Run}
+use Rattle.machine.proofs.Same.{IsSame-refl}
+use Rattle.machine.proofs.Numbers.{AreDistinct-Step, AreDistinct-Admits}
+use Rattle.machine.proofs.Placed.{ArePlaced-Answers, ArePlaced-Opens}
 use Rattle.compose.specs.OnDisk.{first_of, end_of, rules_over, as_called, open_as_called, on_partition, LiesInside, IsOnDisk}
 use Rattle.compose.proofs.OnDisk.{IsSame-on_partition, end_is}
 use Rattle.compose.proofs.OnDiskSteps.{moved, only_array}

@@ -2,11 +2,11 @@
 use Rattle.std.proofs.Common.{◌≡◌, ◌<◌, ◌≤◌, ℕ, List, [], ◌∷◌, refl, sym, ◌∙◌, ap, arith, map, length}
 use Rattle.std.proofs.lemmas.List.Elements.{All-nil}
 use Rattle.sector.specs.declared.Extent.{Extent}
-use Rattle.device.specs.Rules.{Rules}
-use Rattle.device.specs.State.{opening}
-use Rattle.device.specs.Seen.{sectors_in}
-use Rattle.device.proofs.Numbers.{AreDistinct-opening}
-use Rattle.device.proofs.Placed.{ArePlaced-opening}
+use Rattle.machine.specs.Rules.{Rules}
+use Rattle.machine.specs.State.{opening}
+use Rattle.machine.specs.Map.{sectors_in}
+use Rattle.machine.proofs.Numbers.{AreDistinct-opening}
+use Rattle.machine.proofs.Placed.{ArePlaced-opening}
 use Rattle.compose.specs.OnDisk.{end_of, rules_over, LiesInside, IsOnDisk}
 use Rattle.compose.proofs.PartSlices.{slice_is_part, length-part}
 

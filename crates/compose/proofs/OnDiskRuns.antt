@@ -5,16 +5,15 @@ use Rattle.std.proofs.lemmas.List.{take_all}
 use Rattle.std.proofs.lemmas.List.Elements.{All-nil, All-head, All-tail, All-cons}
 use Rattle.sector.specs.declared.Extent.{Extent}
 use Rattle.sector.specs.Extents.{IsIn}
-use Rattle.srb.specs.Adapter.{AdapterView}
+use Rattle.adapter.specs.View.{AdapterView}
 use Rattle.srb.specs.declared.DeviceLabel.{DeviceLabel}
-use Rattle.device.specs.declared.Label.{Label}
-use Rattle.device.specs.declared.Label.TheVariants.{Call, Device, Answer as AnswerLabel, Cancel, Pause, Resume, Remove, Removed}
-use Rattle.device.specs.Rules.{Rules}
-use Rattle.device.specs.State.{State}
-use Rattle.device.specs.Answering.{Answers}
+use Rattle.machine.specs.declared.Label.{Label}
+use Rattle.machine.specs.declared.Label.TheVariants.{Call, Device, Answer as AnswerLabel, Cancel, Pause, Resume, Remove, Removed}
+use Rattle.machine.specs.Rules.{Rules}
+use Rattle.machine.specs.State.{State}
+use Rattle.machine.specs.Answering.{Answers}
 use Rattle.device.specs.Seen.{IsRead}
-use Rattle.device.specs.Served.{as_label}
-use Rattle.device.specs.Step.{Run}
+use Rattle.machine.specs.Step.{Run, as_label}
 use Rattle.compose.specs.declared.Answer.{Answer}
 use Rattle.compose.specs.OnDisk.{end_of, rules_over, open_as_called, on_partition, IsOnDisk}
 use Rattle.compose.specs.Right.{as_answer, KeepsOutside}

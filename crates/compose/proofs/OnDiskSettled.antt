@@ -5,12 +5,13 @@ use Rattle.std.proofs.lemmas.List.{length-map}
 use Rattle.std.proofs.lemmas.List.Sums.{count_by-le-length}
 use Rattle.std.proofs.lemmas.List.Elements.{All-map, All-weaker}
 use Rattle.sector.specs.declared.Extent.{Extent}
-use Rattle.srb.specs.Adapter.{AdapterView}
-use Rattle.device.specs.Rules.{Rules}
-use Rattle.device.specs.State.{Mark, Untouched, Out, Done, Failed, Back, OpenRequest, State}
-use Rattle.device.specs.Sending.{is_started}
-use Rattle.device.specs.Settled.{Settled, IsHeld, HasGone, WaitsIfCancelled, Waits, IsAllSent, IsHeldBack, HasMore, IsAtWork, IsFull, started_count}
-use Rattle.device.specs.Seen.{IsRead, sectors_in}
+use Rattle.adapter.specs.View.{AdapterView}
+use Rattle.machine.specs.Rules.{Rules}
+use Rattle.machine.specs.State.{Mark, Untouched, Out, Done, Failed, Back, OpenRequest, State}
+use Rattle.machine.specs.Sending.{is_started}
+use Rattle.machine.specs.Settled.{Settled, IsHeld, HasGone, WaitsIfCancelled, Waits, IsAllSent, IsHeldBack, HasMore, IsAtWork, IsFull, started_count}
+use Rattle.machine.specs.Map.{sectors_in}
+use Rattle.device.specs.Seen.{IsRead}
 use Rattle.compose.specs.OnDisk.{rules_over, open_as_called, on_partition, IsOnDisk}
 use Rattle.compose.proofs.PartSlices.{part, sectors_of_front}
 

@@ -1,6 +1,6 @@
 -- Each step of a piece at the disk is one of the partition's machine.
-use Rattle.std.proofs.Common.{◌≡◌, ◌<◌, ◌≤◌, inl, inr, ℕ, ◌+◌, List, [], ◌∷◌, Some, refl, sym, ◌∙◌, ap, subst, arith, map, length, get_or, set, replicate}
-use Rattle.std.specs.Prelude.{IsPermutation, IsTrue, IsNone, All, Contains, unwrap_or, slice_range, slice_set}
+use Rattle.std.proofs.Common.{◌≡◌, ◌<◌, ◌≤◌, inl, inr, ℕ, ◌+◌, Bool, true, false, List, [], ◌∷◌, Some, refl, sym, ◌∙◌, ap, subst, arith, map, length, get_or, set, replicate}
+use Rattle.std.specs.Prelude.{if◌then◌else◌, IsPermutation, IsTrue, IsNone, All, Contains, unwrap_or, slice_range, slice_set}
 use Rattle.std.proofs.lemmas.List.{length-map, length-replicate, get_or-map}
 use Rattle.std.proofs.lemmas.List.Sorted.{IsPermutation-sym, IsPermutation-map, All-permutation, Contains-permutation}
 use Rattle.std.proofs.lemmas.List.Elements.{All-head, All-tail, All-cons, All-map, All-contains}
@@ -10,21 +10,20 @@ use Rattle.cdb.specs.declared.Cdb.TheVariants.{Read10, Write10}
 use Rattle.cdb.specs.Meaning.{Means}
 use Rattle.srb.specs.declared.DeviceLabel.{DeviceLabel}
 use Rattle.srb.specs.declared.DeviceLabel.TheVariants.{Start, Act, Fault, Return}
-use Rattle.device.specs.declared.Kind.{Kind}
-use Rattle.device.specs.declared.Kind.TheVariants.{Read, Write, Flush}
-use Rattle.device.specs.declared.ClientRequest.{ClientRequest}
-use Rattle.device.specs.Rules.{Rules, is_transfer, first_sector, place_count, home}
-use Rattle.device.specs.State.{Mark, Out, OpenRequest, Piece, State, IsSame}
-use Rattle.device.specs.Sending.{Starts, Acts, IsInTurn, IsFreshPiece, Transfers, partition_number, command_for}
-use Rattle.device.specs.Step.{DeviceStep, Run}
-use Rattle.device.specs.Numbers.{AreDistinct}
-use Rattle.device.specs.Pieces.{IsPlaced, ArePlaced}
-use Rattle.device.specs.Seen.{sectors_in}
-use Rattle.device.specs.Served.{as_label}
-use Rattle.device.proofs.Same.{IsSame-sym}
-use Rattle.device.proofs.Numbers.{AreDistinct-same, AreDistinct-DeviceStep}
-use Rattle.device.proofs.Placed.{ArePlaced-same, ArePlaced-DeviceStep, leaves}
-use Rattle.device.proofs.Owners.{Owns, owns}
+use Rattle.machine.specs.declared.Kind.{Kind}
+use Rattle.machine.specs.declared.Kind.TheVariants.{Read, Write, Flush}
+use Rattle.machine.specs.declared.ClientRequest.{ClientRequest}
+use Rattle.machine.specs.Rules.{Rules, is_transfer, first_sector, place_count, home}
+use Rattle.machine.specs.State.{Mark, Out, OpenRequest, Piece, State, IsSame}
+use Rattle.machine.specs.Sending.{Starts, Acts, IsInTurn, IsFreshPiece, Transfers, partition_number, written, command_for}
+use Rattle.machine.specs.Step.{DeviceStep, Run, as_label}
+use Rattle.machine.specs.Numbers.{AreDistinct}
+use Rattle.machine.specs.Pieces.{IsPlaced, ArePlaced}
+use Rattle.machine.specs.Map.{sectors_in}
+use Rattle.machine.proofs.Same.{IsSame-sym}
+use Rattle.machine.proofs.Numbers.{AreDistinct-same, AreDistinct-DeviceStep}
+use Rattle.machine.proofs.Placed.{ArePlaced-same, ArePlaced-DeviceStep, leaves}
+use Rattle.machine.proofs.Owners.{Owns, owns}
 use Rattle.sector.proofs.Splicing.{length-splice}
 use Rattle.compose.specs.OnDisk.{first_of, end_of, rules_over, as_called, open_as_called, on_partition, LiesInside, IsOnDisk}
 use Rattle.compose.proofs.PartSlices.{slice_of_partition, write_of_partition, Keeps, Keeps-none, Keeps-splice, sector_of_offset}
@@ -111,6 +110,27 @@ module _ (partitions : List Extent) (many window : ℕ) (below : Rules) where
 
   -- WHAT AN ACT MOVES
 
+  written_over : (next : ℕ) (s : State) (disk_sectors : List (List ℕ)) (q : ClientRequest) (places : Extent) (sectors : List (List ℕ)) (arrays' : List (List (List ℕ)))
+      → length partitions ≤ 1 → s.arrays ≡ disk_sectors ∷ [] → end_of partitions ≤ length disk_sectors → IsPart q places Write → length sectors ≡ places.count
+      → (faithful : Bool) → arrays' ≡ (if faithful then written below s q places sectors else s.arrays)
+      → map (sectors_in (get_or arrays' 0 [])) partitions ≡ (if faithful then written over (on_partition over next s) (as_called over q) places sectors else (on_partition over next s).arrays)
+  written_over next s disk_sectors q places sectors arrays' single one inside mine covers false e = ap (λ arrays. map (sectors_in (get_or arrays 0 [])) partitions) e
+  written_over next s disk_sectors q places sectors arrays' single one inside mine covers true e =
+      let all : List (List ℕ) = get_or s.arrays 0 [] in
+      let parts : List (List (List ℕ)) = map (sectors_in all) partitions in
+      let from : ℕ = first_sector over (as_called over q) + places.first in
+      let at : first_sector below q + places.first ≡ first_of partitions + from = let e : _ ≡ _ = mine.sector in omega arith in
+      let fits : first_of partitions + from + length sectors ≤ end_of partitions = let f : _ ≤ _ = mine.fits refl in omega arith in
+      let some : 0 < length sectors = let n : _ < _ = mine.some in omega arith in
+      let same_all : all ≡ disk_sectors = ap (λ ys. get_or ys 0 []) one in
+      let inside' : end_of partitions ≤ length all = rw same_all inside in
+      let new : arrays' ≡ splice all (first_sector below q + places.first) sectors ∷ [] =
+      e ∙ ap (λ i. set s.arrays i (splice (get_or s.arrays i []) (first_sector below q + places.first) sectors)) mine.number ∙ set_only s.arrays disk_sectors _ one in
+        ap (λ arrays. map (sectors_in (get_or arrays 0 [])) partitions) new
+            ∙ ap (λ m. map (sectors_in (splice all m sectors)) partitions) at
+            ∙ sym (write_of_partition partitions all from sectors single some fits inside')
+            ∙ sym (ap (λ i. set parts i (splice (get_or parts i []) from sectors)) mine.number)
+
   moves_is : (next : ℕ) (s : State) (disk_sectors : List (List ℕ)) (q : ClientRequest) (places : Extent) (kind : Kind) (sectors : List (List ℕ)) (arrays' : List (List (List ℕ)))
       → length partitions ≤ 1 → s.arrays ≡ disk_sectors ∷ [] → end_of partitions ≤ length disk_sectors → IsPart q places kind → length sectors ≡ places.count
       → Transfers below s q places kind sectors arrays'
@@ -121,49 +141,40 @@ module _ (partitions : List Extent) (many window : ℕ) (below : Rules) where
       let from : ℕ = first_sector over (as_called over q) + places.first in
       let at : first_sector below q + places.first ≡ first_of partitions + from = let e : _ ≡ _ = mine.sector in omega arith in
       let fits : first_of partitions + from + places.count ≤ end_of partitions = let f : _ ≤ _ = mine.fits refl in omega arith in (
-        h.0
+        λ faithful. h.0 faithful
             ∙ ap (λ i. slice_range (get_or s.arrays i []) (first_sector below q + places.first) (first_sector below q + places.first + places.count)) mine.number
             ∙ ap (λ m. slice_range all m (m + places.count)) at
             ∙ sym (slice_of_partition partitions all from places.count single mine.some fits)
             ∙ sym (ap (λ i. slice_range (get_or parts i []) from (from + places.count)) mine.number),
-        ap (λ arrays. map (sectors_in (get_or arrays 0 [])) partitions) h.1,
+        h.1,
+        ap (λ arrays. map (sectors_in (get_or arrays 0 [])) partitions) h.2,
       )
   moves_is next s disk_sectors q places Write sectors arrays' single one inside mine covers h =
-      let all : List (List ℕ) = get_or s.arrays 0 [] in
-      let parts : List (List (List ℕ)) = map (sectors_in all) partitions in
-      let from : ℕ = first_sector over (as_called over q) + places.first in
-      let at : first_sector below q + places.first ≡ first_of partitions + from = let e : _ ≡ _ = mine.sector in omega arith in
-      let fits : first_of partitions + from + length sectors ≤ end_of partitions = let f : _ ≤ _ = mine.fits refl in omega arith in
-      let some : 0 < length sectors = let n : _ < _ = mine.some in omega arith in
-      let same_all : all ≡ disk_sectors = ap (λ ys. get_or ys 0 []) one in
-      let inside' : end_of partitions ≤ length all = rw same_all inside in
-      let new : arrays' ≡ splice all (first_sector below q + places.first) sectors ∷ [] =
-      h.2 ∙ ap (λ i. set s.arrays i (splice (get_or s.arrays i []) (first_sector below q + places.first) sectors)) mine.number ∙ set_only s.arrays disk_sectors _ one in (
-        h.0,
-        h.1,
-        ap (λ arrays. map (sectors_in (get_or arrays 0 [])) partitions) new
-            ∙ ap (λ m. map (sectors_in (splice all m sectors)) partitions) at
-            ∙ sym (write_of_partition partitions all from sectors single some fits inside')
-            ∙ sym (ap (λ i. set parts i (splice (get_or parts i []) from sectors)) mine.number),
-      )
+      (h.0, h.1, written_over next s disk_sectors q places sectors arrays' single one inside mine covers below.faithful h.2)
   moves_is next s disk_sectors q places Flush sectors arrays' single one inside mine covers h =
       (h.0, ap (λ arrays. map (sectors_in (get_or arrays 0 [])) partitions) h.1)
 
-  -- the array after an act
-  moves_keep : (s : State) (disk_sectors : List (List ℕ)) (q : ClientRequest) (places : Extent) (kind : Kind) (sectors : List (List ℕ)) (arrays' : List (List (List ℕ)))
-      → length partitions ≤ 1 → s.arrays ≡ disk_sectors ∷ [] → end_of partitions ≤ length disk_sectors → IsPart q places kind → length sectors ≡ places.count
-      → Transfers below s q places kind sectors arrays' → (new : List (List ℕ)) × (arrays' ≡ new ∷ []) × Keeps partitions disk_sectors new
-  moves_keep s disk_sectors q places Read sectors arrays' single one inside mine covers h = (disk_sectors, h.1 ∙ one, Keeps-none partitions disk_sectors)
-  moves_keep s disk_sectors q places Write sectors arrays' single one inside mine covers h =
+  written_keeps : (s : State) (disk_sectors : List (List ℕ)) (q : ClientRequest) (places : Extent) (sectors : List (List ℕ)) (arrays' : List (List (List ℕ)))
+      → length partitions ≤ 1 → s.arrays ≡ disk_sectors ∷ [] → end_of partitions ≤ length disk_sectors → IsPart q places Write → length sectors ≡ places.count
+      → (faithful : Bool) → arrays' ≡ (if faithful then written below s q places sectors else s.arrays) → (new : List (List ℕ)) × (arrays' ≡ new ∷ []) × Keeps partitions disk_sectors new
+  written_keeps s disk_sectors q places sectors arrays' single one inside mine covers false e = (disk_sectors, e ∙ one, Keeps-none partitions disk_sectors)
+  written_keeps s disk_sectors q places sectors arrays' single one inside mine covers true e =
       let from : first_of partitions ≤ first_sector below q + places.first = let e : _ ≡ _ = mine.sector in omega arith in
       let fits : first_sector below q + places.first + length sectors ≤ end_of partitions = let f : _ ≤ _ = mine.fits refl in omega arith in (
         splice disk_sectors (first_sector below q + places.first) sectors,
-        h.2
+        e
             ∙ ap (λ i. set s.arrays i (splice (get_or s.arrays i []) (first_sector below q + places.first) sectors)) mine.number
             ∙ set_only s.arrays disk_sectors _ one
             ∙ ap (λ ys. splice (get_or ys 0 []) (first_sector below q + places.first) sectors ∷ []) one,
         Keeps-splice partitions disk_sectors (first_sector below q + places.first) sectors single from fits inside,
       )
+
+  -- the array after an act
+  moves_keep : (s : State) (disk_sectors : List (List ℕ)) (q : ClientRequest) (places : Extent) (kind : Kind) (sectors : List (List ℕ)) (arrays' : List (List (List ℕ)))
+      → length partitions ≤ 1 → s.arrays ≡ disk_sectors ∷ [] → end_of partitions ≤ length disk_sectors → IsPart q places kind → length sectors ≡ places.count
+      → Transfers below s q places kind sectors arrays' → (new : List (List ℕ)) × (arrays' ≡ new ∷ []) × Keeps partitions disk_sectors new
+  moves_keep s disk_sectors q places Read sectors arrays' single one inside mine covers h = (disk_sectors, h.2 ∙ one, Keeps-none partitions disk_sectors)
+  moves_keep s disk_sectors q places Write sectors arrays' single one inside mine covers h = written_keeps s disk_sectors q places sectors arrays' single one inside mine covers below.faithful h.2
   moves_keep s disk_sectors q places Flush sectors arrays' single one inside mine covers h = (disk_sectors, h.1 ∙ one, Keeps-none partitions disk_sectors)
 
   -- WHAT THE STEPS KEEP

@@ -3,13 +3,13 @@ use Rattle.std.proofs.Common.{◌≡◌, ◌≤◌, ℕ, zero, suc, false, List,
 use Rattle.std.proofs.lemmas.List.Elements.{All-nil, All-head}
 use Rattle.slab.specs.Slab.{Slab, get, slab_len}
 use Rattle.sector.specs.declared.Extent.{Extent}
-use Rattle.device.specs.Map.{IsMap, IsPartition}
-use Rattle.device.specs.Rules.{Rules}
-use Rattle.device.specs.State.{State, opening}
-use Rattle.device.specs.Settled.{Settled, IsHeld, WaitsIfCancelled, Waits, IsAllSent, IsHeldBack, HasMore, IsAtWork, IsWithin}
-use Rattle.device.specs.Seen.{Seen, IsOrderly, sectors_in}
+use Rattle.machine.specs.Map.{IsMap, IsPartition, sectors_in}
+use Rattle.machine.specs.Rules.{Rules}
+use Rattle.machine.specs.State.{State, opening}
+use Rattle.machine.specs.Settled.{Settled, IsHeld, WaitsIfCancelled, Waits, IsAllSent, IsHeldBack, HasMore, IsAtWork, IsWithin}
+use Rattle.device.specs.Seen.{Seen, IsOrderly}
 use Rattle.device.specs.Served.{IsUnfinished}
-use Rattle.device.proofs.Same.{IsSame-refl}
+use Rattle.machine.proofs.Same.{IsSame-refl}
 use Rattle.machine_laws.specs.Reached.{AreWhole, IsReached}
 use Rattle.compose.specs.declared.admission.Limits.{Limits}
 use Rattle.compose.specs.declared.tables.Tables.{Tables}

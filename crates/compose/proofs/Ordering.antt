@@ -8,17 +8,16 @@ use Rattle.std.proofs.lemmas.List.Elements.{All-nil, All-head, All-tail, All-con
 use Rattle.ntstatus.specs.declared.NtStatus.{NtStatus}
 use Rattle.srb.specs.declared.DeviceLabel.{DeviceLabel}
 use Rattle.srb.specs.declared.DeviceLabel.TheVariants.{Start, Act, Fault, Return}
-use Rattle.device.specs.declared.Label.{Label}
-use Rattle.device.specs.Rules.{Rules}
-use Rattle.device.specs.State.{State}
-use Rattle.device.specs.Calling.{AnswersRefused}
-use Rattle.device.specs.Sending.{Starts, sent}
-use Rattle.device.specs.Answering.{Answers}
-use Rattle.device.specs.Numbers.{HasPlaces, HavePlaces}
-use Rattle.device.specs.Served.{as_label, IsStart}
-use Rattle.device.specs.Step.{Run}
-use Rattle.device.proofs.Same.{IsSame-refl, IsSame-sym, Answers-same, Run-same, Run-append}
-use Rattle.device.proofs.Commuting.{swapped, Start-first, Answers-swap, HasPlaces-with_marks}
+use Rattle.machine.specs.declared.Label.{Label}
+use Rattle.machine.specs.Rules.{Rules}
+use Rattle.machine.specs.State.{State}
+use Rattle.machine.specs.Calling.{AnswersRefused}
+use Rattle.machine.specs.Sending.{Starts, sent, IsStart}
+use Rattle.machine.specs.Answering.{Answers}
+use Rattle.machine.specs.Numbers.{HasPlaces, HavePlaces}
+use Rattle.machine.specs.Step.{Run, as_label}
+use Rattle.machine.proofs.Same.{IsSame-refl, IsSame-sym, Answers-same, Run-same, Run-append}
+use Rattle.machine.proofs.Commuting.{swapped, Start-first, Answers-swap, HasPlaces-with_marks}
 use Rattle.compose.specs.declared.Answer.{Answer}
 use Rattle.compose.specs.Right.{as_answer, answer_number, IsAbove, AreRising}
 use Rattle.compose.specs.Ordering.{inserted, HasOtherNumber}

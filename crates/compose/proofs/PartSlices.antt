@@ -8,9 +8,9 @@ use Rattle.std.proofs.Math.Nat.{mul-add-div_right}
 use Rattle.sector.specs.declared.Extent.{Extent}
 use Rattle.sector.specs.Extents.{IsIn}
 use Rattle.sector.specs.Splice.{splice}
-use Rattle.device.specs.Seen.{sectors_in}
+use Rattle.machine.specs.Map.{sectors_in}
 use Rattle.sector.proofs.Splicing.{length-splice}
-use Rattle.device.proofs.Placed.{get_or-splice_inside, get_or-splice_below, get_or-splice_above}
+use Rattle.machine.proofs.Placed.{get_or-splice_inside, get_or-splice_below, get_or-splice_above}
 use Rattle.compose.specs.OnDisk.{first_of, end_of}
 
 -- the part of so many items from a place on

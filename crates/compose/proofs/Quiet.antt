@@ -4,14 +4,14 @@ use Rattle.std.specs.Prelude.{IsPermutation}
 use Rattle.std.proofs.lemmas.List.{append-nil}
 use Rattle.std.proofs.lemmas.List.Sorted.{IsPermutation-refl}
 use Rattle.sector.specs.declared.Extent.{Extent}
-use Rattle.srb.specs.Adapter.{ReservesMore}
-use Rattle.srb.proofs.Joining.{reserves_none}
-use Rattle.device.specs.declared.Label.{Label}
-use Rattle.device.specs.State.{State}
-use Rattle.device.specs.Step.{Run}
+use Rattle.adapter.specs.View.{ReservesMore}
+use Rattle.adapter.proofs.Joining.{reserves_none}
+use Rattle.machine.specs.declared.Label.{Label}
+use Rattle.machine.specs.State.{State}
+use Rattle.machine.specs.Step.{Run}
 use Rattle.device.specs.Seen.{Seen}
 use Rattle.device.specs.Served.{Reserves}
-use Rattle.device.proofs.Same.{IsSame-refl}
+use Rattle.machine.proofs.Same.{IsSame-refl}
 use Rattle.compose.specs.declared.Answer.{Answer}
 use Rattle.compose.specs.declared.OpenHandle.{OpenHandle}
 use Rattle.compose.specs.Shown.{StackView, Holder}

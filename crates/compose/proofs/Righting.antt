@@ -5,14 +5,14 @@ use Rattle.std.proofs.Math.ListN.{get_or-map}
 use Rattle.std.proofs.lemmas.List.{map-append}
 use Rattle.std.proofs.lemmas.List.Sorted.{All-permutation, IsPermutation-sym}
 use Rattle.srb.specs.declared.DeviceLabel.{DeviceLabel}
-use Rattle.srb.specs.Adapter.{AdapterView}
-use Rattle.device.specs.declared.Label.{Label}
-use Rattle.device.specs.Rules.{Rules}
-use Rattle.device.specs.State.{State}
-use Rattle.device.specs.Step.{Run}
+use Rattle.adapter.specs.View.{AdapterView}
+use Rattle.machine.specs.declared.Label.{Label}
+use Rattle.machine.specs.Rules.{Rules}
+use Rattle.machine.specs.State.{State}
+use Rattle.machine.specs.Step.{Run, as_label}
 use Rattle.device.specs.Seen.{Seen, Packet, IsRead}
-use Rattle.device.specs.Served.{as_label, Moves}
-use Rattle.device.proofs.Same.{Run-append}
+use Rattle.device.specs.Served.{Moves}
+use Rattle.machine.proofs.Same.{Run-append}
 use Rattle.compose.specs.declared.Answer.{Answer}
 use Rattle.compose.specs.declared.admission.Limits.{Limits}
 use Rattle.compose.specs.declared.tables.Tables.{Tables}

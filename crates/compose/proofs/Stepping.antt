@@ -4,14 +4,14 @@ use Rattle.std.specs.Prelude.{Contains, option_map, slice_index_or}
 use Rattle.std.proofs.Math.ListN.{get_or-map}
 use Rattle.std.proofs.lemmas.List.Elements.{All-map, All-weaker}
 use Rattle.slab.specs.Slab.{Slab, get, slab_len}
-use Rattle.srb.specs.Adapter.{AdapterView}
-use Rattle.device.specs.Rules.{Rules}
-use Rattle.device.specs.State.{OpenRequest}
-use Rattle.device.specs.Numbers.{request_number}
-use Rattle.device.specs.Settled.{Settled}
+use Rattle.adapter.specs.View.{AdapterView}
+use Rattle.machine.specs.Rules.{Rules}
+use Rattle.machine.specs.State.{OpenRequest}
+use Rattle.machine.specs.Numbers.{request_number}
+use Rattle.machine.specs.Settled.{Settled}
 use Rattle.device.specs.Seen.{Seen, IsRead}
 use Rattle.device.specs.Served.{Reserves}
-use Rattle.device.proofs.Same.{Run-append}
+use Rattle.machine.proofs.Same.{Run-append}
 use Rattle.machine_laws.specs.Reached.{IsReached}
 use Rattle.compose.specs.declared.admission.Limits.{Limits}
 use Rattle.compose.specs.declared.tables.OpenRequest.{OpenRequest as OpenEntry}

@@ -4,9 +4,9 @@ use Rattle.std.specs.Prelude.{IsPermutation, All, IsTrue}
 use Rattle.std.proofs.lemmas.List.Sorted.{All-permutation}
 use Rattle.std.proofs.lemmas.List.Elements.{All-head, All-weaker}
 use Rattle.ntstatus.specs.declared.NtStatus.{NtStatus}
-use Rattle.device.specs.Rules.{Rules}
-use Rattle.device.specs.State.{Mark, Untouched, Out, Done, Failed, Back, OpenRequest, State}
-use Rattle.device.specs.Answering.{IsGivenUp, HasEnded, Answers}
+use Rattle.machine.specs.Rules.{Rules}
+use Rattle.machine.specs.State.{Mark, Untouched, Out, Done, Failed, Back, OpenRequest, State}
+use Rattle.machine.specs.Answering.{IsGivenUp, HasEnded, Answers}
 use Rattle.device.specs.Served.{IsUnfinished}
 
 given_up : (s t : State) → s.removing ≡ t.removing → (o : OpenRequest) (status : NtStatus) → IsGivenUp s o status → IsGivenUp t o status

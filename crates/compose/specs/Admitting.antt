@@ -4,14 +4,14 @@ use Rattle.std.specs.VecDeque.{deque_len, deque_capacity}
 use Rattle.slab.specs.Slab.{get, slab_len, Updates}
 use Rattle.ntstatus.specs.declared.NtStatus.{NtStatus}
 use Rattle.ntstatus.specs.declared.NtStatus.TheVariants.{Success, DeviceBusy as BusyStatus, InvalidParameter as ParameterStatus}
-use Rattle.device.specs.declared.Kind.{Kind}
-use Rattle.device.specs.declared.Kind.TheVariants.{Read, Write, Flush}
-use Rattle.device.specs.declared.Request.{Request}
-use Rattle.device.specs.declared.ClientRequest.{ClientRequest}
-use Rattle.device.specs.declared.Label.TheVariants.{Call, Answer as AnswerLabel}
-use Rattle.device.specs.Rules.{Rules, is_transfer}
+use Rattle.machine.specs.declared.Kind.{Kind}
+use Rattle.machine.specs.declared.Kind.TheVariants.{Read, Write, Flush}
+use Rattle.machine.specs.declared.Request.{Request}
+use Rattle.machine.specs.declared.ClientRequest.{ClientRequest}
+use Rattle.machine.specs.declared.Label.TheVariants.{Call, Answer as AnswerLabel}
+use Rattle.machine.specs.Rules.{Rules, is_transfer}
 use Rattle.ntstatus.specs.First.{when, first_some}
-use Rattle.device.specs.Calling.{refusal}
+use Rattle.machine.specs.Calling.{refusal}
 use Rattle.device.specs.Seen.{Seen, Packet, payload_bytes}
 use Rattle.device.specs.Served.{Submits}
 use Rattle.compose.specs.declared.Handle.{Handle}

@@ -5,15 +5,16 @@ use Rattle.slab.specs.Slab.{Slab, get, slab_len, Updates}
 use Rattle.ntstatus.specs.declared.NtStatus.{NtStatus}
 use Rattle.ntstatus.specs.declared.NtStatus.TheVariants.{Success}
 use Rattle.srb.specs.declared.DeviceLabel.{DeviceLabel}
-use Rattle.srb.specs.Adapter.{MovesByAll}
+use Rattle.adapter.specs.View.{MovesByAll}
 use Rattle.irp.specs.declared.Done.{Done}
-use Rattle.device.specs.declared.Kind.{Kind}
-use Rattle.device.specs.declared.Kind.TheVariants.{Read}
-use Rattle.device.specs.State.{State}
-use Rattle.device.specs.Answering.{Answers}
-use Rattle.device.specs.Step.{Run}
-use Rattle.device.specs.Seen.{Seen, payload_bytes}
-use Rattle.device.specs.Served.{as_label, IsStart, IsUnfinished}
+use Rattle.machine.specs.declared.Kind.{Kind}
+use Rattle.machine.specs.declared.Kind.TheVariants.{Read}
+use Rattle.machine.specs.State.{State}
+use Rattle.machine.specs.Answering.{Answers}
+use Rattle.machine.specs.Step.{Run, as_label}
+use Rattle.device.specs.Seen.{Seen, paylouse Rattle.machine.specs.Sending.{IsStart}
+ad_bytes}
+use Rattle.device.specs.Served.{IsUnfinished}
 use Rattle.compose.specs.declared.Answer.{Answer}
 use Rattle.compose.specs.declared.tables.OpenRequest.{OpenRequest}
 use Rattle.compose.specs.declared.tables.Tables.{Tables}

@@ -1,12 +1,12 @@
 -- The stack's machine over partition 0, from the machine of the whole disk below it.
 use Rattle.std.specs.Prelude.{◌≡◌, ◌<◌, ◌≤◌, ℕ, ◌+◌, ◌-◌, ◌*◌, ◌%◌, false, List, [], ◌∷◌, Some, map, length, get_or, IsNone, IsTrue, All}
 use Rattle.sector.specs.declared.Extent.{Extent}
-use Rattle.device.specs.declared.ClientRequest.{ClientRequest}
-use Rattle.device.specs.Rules.{Rules, is_transfer, first_sector, place_count}
-use Rattle.device.specs.State.{OpenRequest, State}
-use Rattle.device.specs.Numbers.{AreDistinct}
-use Rattle.device.specs.Pieces.{ArePlaced}
-use Rattle.device.specs.Seen.{sectors_in}
+use Rattle.machine.specs.declared.ClientRequest.{ClientRequest}
+use Rattle.machine.specs.Rules.{Rules, is_transfer, first_sector, place_count}
+use Rattle.machine.specs.State.{OpenRequest, State}
+use Rattle.machine.specs.Numbers.{AreDistinct}
+use Rattle.machine.specs.Pieces.{ArePlaced}
+use Rattle.machine.specs.Map.{sectors_in}
 
 -- the first sector of the partition; with none, 0
 abbrev pub first_of : List Extent → ℕ

@@ -1,11 +1,11 @@
 -- A stack before its first event.
 use Rattle.std.specs.Prelude.{◌≡◌, ◌<◌, ◌≤◌, ◌^◌, false, List, [], ◌∷◌, Option, Some, None, Ok, map, length}
 use Rattle.sector.specs.declared.Extent.{Extent}
-use Rattle.srb.specs.Adapter.{AdapterView}
-use Rattle.device.specs.Map.{IsMap}
-use Rattle.device.specs.Rules.{Rules}
-use Rattle.device.specs.State.{opening}
-use Rattle.device.specs.Seen.{Seen, sectors_in}
+use Rattle.adapter.specs.View.{AdapterView}
+use Rattle.machine.specs.Map.{IsMap, sectors_in}
+use Rattle.machine.specs.Rules.{Rules}
+use Rattle.machine.specs.State.{opening}
+use Rattle.device.specs.Seen.{Seen}
 use Rattle.compose.specs.declared.Settings.{Settings}
 use Rattle.compose.specs.declared.admission.Limits.{Limits}
 use Rattle.compose.specs.declared.tables.Tables.{Tables}
@@ -58,6 +58,7 @@ first_rules disk settings partitions = record {
   window = Some settings.window;
   one_piece = false;
   busy_limit = 1;
+  faithful = disk.faithful;
 }
 
 -- what a stack over this disk shows before its first event

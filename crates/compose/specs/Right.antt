@@ -8,19 +8,19 @@ use Rattle.sector.specs.Extents.{IsIn}
 use Rattle.srb.specs.declared.Class.{Class}
 use Rattle.srb.specs.declared.DeviceLabel.{DeviceLabel}
 use Rattle.srb.specs.declared.DeviceLabel.TheVariants.{Return}
-use Rattle.srb.specs.Adapter.{AdapterView, MovesByAll}
-use Rattle.device.specs.declared.Kind.{Kind}
-use Rattle.device.specs.declared.Kind.TheVariants.{Read, Write}
-use Rattle.device.specs.declared.ClientRequest.{ClientRequest}
-use Rattle.device.specs.declared.Label.{Label}
-use Rattle.device.specs.declared.Label.TheVariants.{Call, Answer as AnswerLabel}
-use Rattle.device.specs.State.{OpenRequest, Piece}
-use Rattle.device.specs.Calling.{refusal}
-use Rattle.device.specs.Sending.{HasOtherTag}
-use Rattle.device.specs.Step.{Run}
-use Rattle.device.specs.Numbers.{request_number}
+use Rattle.adapter.specs.View.{AdapterView, MovesByAll}
+use Rattle.machine.specs.declared.Kind.{Kind}
+use Rattle.machine.specs.declared.Kind.TheVariants.{Read, Write}
+use Rattle.machine.specs.declared.ClientRequest.{ClientRequest}
+use Rattle.machine.specs.declared.Label.{Label}
+use Rattle.machine.specs.declared.Label.TheVariants.{Call, Answer as AnswerLabel}
+use Rattle.machine.specs.State.{OpenRequest, Piece}
+use Rattle.machine.specs.Calling.{refusal}
+use Rattle.machine.specs.Sending.{HasOtherTag, IsStart}
+use Rattle.machine.specs.Step.{Run, as_label}
+use Rattle.machine.specs.Numbers.{request_number}
 use Rattle.device.specs.Seen.{IsRead}
-use Rattle.device.specs.Served.{as_label, IsStart, IsFreshOn, IsActOrFault}
+use Rattle.device.specs.Served.{IsFreshOn, IsActOrFault}
 use Rattle.compose.specs.declared.Answer.{Answer}
 use Rattle.compose.specs.declared.Handle.{Handle}
 use Rattle.compose.specs.declared.Event.{Event}

@@ -1,19 +1,19 @@
 -- Events carried out one after another, and what is promised of the labels that they show.
-use Rattle.std.specs.Prelude.{◌≡◌, ◌<◌, ◌≤◌, ◌⊎◌, ℕ, List, [], ◌∷◌, ◌++◌, None, length, take}
+use Rattle.std.specs.Prelude.{◌≡◌, ◌<◌, ◌≤◌, ◌⊎◌, ℕ, List, [], ◌∷◌, ◌++◌, None, length, take, IsTrue}
 use Rattle.std.specs.List.{concat}
 use Rattle.ntstatus.specs.declared.NtStatus.{NtStatus}
 use Rattle.ntstatus.specs.declared.NtStatus.TheVariants.{Success}
-use Rattle.device.specs.declared.Kind.TheVariants.{Read, Write}
-use Rattle.device.specs.declared.ClientRequest.{ClientRequest}
-use Rattle.device.specs.declared.Label.{Label}
-use Rattle.device.specs.declared.Label.TheVariants.{Call, Answer}
-use Rattle.device.specs.Rules.{Rules, place_count}
-use Rattle.device.specs.State.{State}
-use Rattle.device.specs.Calling.{refusal}
-use Rattle.device.specs.Sending.{sectors_at, array_at}
-use Rattle.device.specs.Settled.{Settled}
-use Rattle.device.specs.Step.{Step, Run}
-use Rattle.device.specs.Solo.{IsSolo, all_places}
+use Rattle.machine.specs.declared.Kind.TheVariants.{Read, Write}
+use Rattle.machine.specs.declared.ClientRequest.{ClientRequest}
+use Rattle.machine.specs.declared.Label.{Label}
+use Rattle.machine.specs.declared.Label.TheVariants.{Call, Answer}
+use Rattle.machine.specs.Rules.{Rules, place_count}
+use Rattle.machine.specs.State.{State}
+use Rattle.machine.specs.Calling.{refusal}
+use Rattle.machine.specs.Sending.{sectors_at, array_at}
+use Rattle.machine.specs.Settled.{Settled}
+use Rattle.machine.specs.Step.{Step, Run}
+use Rattle.machine.specs.Solo.{IsSolo, all_places}
 use Rattle.machine_laws.specs.SoloLaws.{WroteOrLeft}
 use Rattle.machine_laws.specs.Along.{Sometime}
 use Rattle.machine_laws.specs.Reached.{IsReached}
@@ -76,12 +76,12 @@ IsSoloIn rules s labels s' number q status bytes before after h = IsSolo rules n
 
 -- what is promised of the requests that a run calls and answers, and of its arrays
 pub record ObeysLaws (rules : Rules) (s : State) (labels : List Label) (s' : State) : Type 0 where
-  -- a solo read that succeeds gives the bytes of the array at its call
+  -- where acts read and write the arrays, a solo read that succeeds gives the bytes of the array at its call
   pub solo_reads : (number : ℕ) (q : ClientRequest) (bytes : List ℕ) (before after : State) (h : IsOfRun rules s labels s' number q Success bytes before after)
-      → q.kind ≡ Read → IsSoloIn rules s labels s' number q Success bytes before after h → bytes ≡ concat (sectors_at rules before q (all_places rules q))
-  -- a solo write that succeeds stands in the array at its answer
+      → IsTrue rules.faithful → q.kind ≡ Read → IsSoloIn rules s labels s' number q Success bytes before after h → bytes ≡ concat (sectors_at rules before q (all_places rules q))
+  -- and a solo write that succeeds stands in the array at its answer
   pub solo_writes : (number : ℕ) (q : ClientRequest) (bytes : List ℕ) (before after : State) (h : IsOfRun rules s labels s' number q Success bytes before after)
-      → q.kind ≡ Write → IsSoloIn rules s labels s' number q Success bytes before after h → q.bytes ≡ concat (sectors_at rules after q (all_places rules q))
+      → IsTrue rules.faithful → q.kind ≡ Write → IsSoloIn rules s labels s' number q Success bytes before after h → q.bytes ≡ concat (sectors_at rules after q (all_places rules q))
   -- a solo write, also one that failed, changed only places on which a piece of it acted before its answer
   pub failed_writes : (number : ℕ) (q : ClientRequest) (status : NtStatus) (bytes : List ℕ) (before after : State) (h : IsOfRun rules s labels s' number q status bytes before after)
       → q.kind ≡ Write → IsSoloIn rules s labels s' number q status bytes before after h

@@ -1,9 +1,9 @@
 -- What a stack shows of itself.
 use Rattle.std.specs.Prelude.{ℕ, List, Option}
-use Rattle.srb.specs.Adapter.{AdapterView}
-use Rattle.device.specs.declared.Label.{Label}
-use Rattle.device.specs.Rules.{Rules}
-use Rattle.device.specs.State.{State}
+use Rattle.adapter.specs.View.{AdapterView}
+use Rattle.machine.specs.declared.Label.{Label}
+use Rattle.machine.specs.Rules.{Rules}
+use Rattle.machine.specs.State.{State}
 use Rattle.compose.specs.declared.Answer.{Answer}
 use Rattle.compose.specs.declared.OpenHandle.{OpenHandle}
 

@@ -4,14 +4,15 @@ use Rattle.std.specs.VecDeque.{deque_len, deque_capacity}
 use Rattle.slab.specs.Slab.{Slab, get, slab_len}
 use Rattle.sector.specs.declared.Extent.{Extent}
 use Rattle.srb.specs.declared.DeviceLabel.{DeviceLabel}
-use Rattle.device.specs.declared.Kind.TheVariants.{Read}
-use Rattle.device.specs.Rules.{Rules}
-use Rattle.device.specs.State.{OpenRequest as OpenBelow}
-use Rattle.device.specs.Numbers.{request_number}
-use Rattle.device.specs.Settled.{Settled}
-use Rattle.device.specs.Step.{Run}
-use Rattle.device.specs.Seen.{Seen, Packet}
-use Rattle.device.specs.Served.{as_label, IsStart, IsUnfinished}
+use Rattle.machine.specs.declared.Kind.TheVariants.{Read}
+use Rattle.machine.specs.Rules.{Rules}
+use Rattle.machine.specs.State.{OpenRequest as OpenBelow}
+use Rattle.machine.specs.Numbers.{request_number}
+use Rattle.machine.specs.Settled.{Settled}
+use Rattle.machine.specs.Step.{Run, as_label}
+use Rattle.device.specs.Seen.{Seenuse Rattle.machine.specs.Sending.{IsStart}
+, Packet}
+use Rattle.device.specs.Served.{IsUnfinished}
 use Rattle.machine_laws.specs.Reached.{IsReached}
 use Rattle.compose.specs.declared.Answer.{Answer}
 use Rattle.compose.specs.declared.OpenHandle.{OpenHandle}

@@ -11,7 +11,7 @@ use Rattle.srb.specs.declared.Completion.{Completion}
 use Rattle.srb.specs.declared.Class.{Class}
 use Rattle.srb.specs.declared.Class.TheVariants.{Good, Busy, Bad}
 use Rattle.srb.specs.Fate.{class_of}
-use Rattle.srb.specs.Adapter.{AdapterView}
+use Rattle.adapter.specs.View.{AdapterView}
 use Rattle.compose.specs.declared.StartFault.{StartFault}
 use Rattle.compose.specs.declared.StartFault.TheVariants.{NoMemory, Device as DeviceFault, Mbr as TableFault, Settings as SettingsFault}
 use Rattle.compose.specs.declared.MbrFault.{MbrFault}
@@ -19,7 +19,7 @@ use Rattle.compose.specs.declared.Settings.{Settings}
 use Rattle.compose.specs.declared.admission.Limits.{Limits}
 use Rattle.compose.specs.declared.start.Capacity.{Capacity}
 use Rattle.compose.specs.Mbr.{first_entry}
-use Rattle.srb.specs.Performing.{capacity_data}
+use Rattle.adapter.specs.Performing.{capacity_data}
 
 -- an adapter with nothing on its tags, whose labels were all taken
 pub record IsIdle (view : AdapterView) : Type 0 where
@@ -44,6 +44,7 @@ Looks (Sync10 lba blocks) = Unit {0}
 pub record IsSameDisk (asked : ℕ) (old new : AdapterView) : Type 0 where
   pub sector_size : new.sector_size ≡ old.sector_size
   pub sectors : new.sectors ≡ old.sectors
+  pub faithful : new.faithful ≡ old.faithful
   pub max_transfer : new.max_transfer ≡ old.max_transfer
   pub depth : new.depth ≡ old.depth
   pub idle : IsIdle new

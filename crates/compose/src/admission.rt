@@ -1,9 +1,9 @@
 //! What a call is answered at once, and the packet of one that is admitted.
 
 ghost use Rattle.std.specs.Prelude.{◌≡◌, ◌<◌, ◌≤◌, ℕ, ◌+◌, ◌/◌, ◌^◌, Some, true, length, option_map, is_some, IsTrue, IsFalse, IfOk};
-ghost use Rattle.device.specs.Rules.{Rules, is_transfer, is_in_bounds};
-ghost use Rattle.device.specs.State.{State};
-ghost use Rattle.device.specs.Calling.{refusal};
+ghost use Rattle.machine.specs.Rules.{Rules, is_transfer, is_in_bounds};
+ghost use Rattle.machine.specs.State.{State};
+ghost use Rattle.machine.specs.Calling.{refusal};
 ghost use Rattle.device.specs.Seen.{Carries, payload_bytes, transfer_length, direction};
 ghost use Rattle.compose.specs.Calls.{status_of_refusal};
 ghost use Rattle.compose.specs.OnDisk.{first_of};

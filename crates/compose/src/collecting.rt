@@ -4,10 +4,11 @@ ghost use Rattle.std.specs.Prelude.{◌≡◌, ◌<◌, ◌≤◌, ◌+◌, ◌^
 ghost use Rattle.std.specs.VecDeque.{deque_len, deque_capacity};
 ghost use Rattle.slab.specs.Slab.{slab_len};
 ghost use Rattle.ntstatus.specs.declared.NtStatus.TheVariants.{Success};
-ghost use Rattle.device.specs.declared.Kind.TheVariants.{Read};
+ghost use Rattle.machine.specs.declared.Kind.TheVariants.{Read};
 ghost use Rattle.device.specs.Seen.{payload_bytes};
-ghost use Rattle.device.specs.Served.{HandsUpNone, IsUnfinished, as_label};
-ghost use Rattle.device.specs.Settled.{Settled};
+ghost use Rattle.machine.specs.Step.{as_label};
+ghost use Rattle.device.specs.Served.{HandsUpNone, IsUnfinished};
+ghost use Rattle.machine.specs.Settled.{Settled};
 ghost use Rattle.compose.specs.Collecting.{IsAt, HasNone, AreFilled, Closes, TakesEnded, Gathers, brought, unlabelled};
 ghost use Rattle.compose.specs.Right.{as_answer};
 ghost use Rattle.compose.specs.Sound.{IsSound, IsSoundWith, Collects};

@@ -2,7 +2,7 @@
 
 ghost use Rattle.std.specs.Prelude.{◌≡◌, ◌≤◌, [], MatchResult};
 ghost use Rattle.std.specs.VecDeque.{deque_capacity};
-ghost use Rattle.device.specs.Settled.{Settled};
+ghost use Rattle.machine.specs.Settled.{Settled};
 ghost use Rattle.machine_laws.specs.Reached.{IsReached};
 ghost use Rattle.compose.specs.Right.{IsRight, IsWhole, TakesAnswer, TakesLabel as TakesFirst};
 ghost use Rattle.compose.specs.Runs.{CarriesAll, IsLawful, RunsObeyLaws, StopsAfter};

@@ -1,7 +1,7 @@
 //! Client calls and adapter steps over any device stack. Each leaves it as it has to be between two steps.
 
 ghost use Rattle.std.specs.Prelude.{◌≡◌, [], IsTrue};
-ghost use Rattle.device.specs.Rules.{is_transfer};
+ghost use Rattle.machine.specs.Rules.{is_transfer};
 ghost use Rattle.compose.specs.Calls.{call_on, without_bytes};
 ghost use Rattle.compose.specs.Admitting.{IsAdmissible};
 ghost use Rattle.compose.specs.declared.Event.TheVariants.{Open as OpenEvent, Act as ActEvent, Finish as FinishEvent};

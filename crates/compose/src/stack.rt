@@ -1,7 +1,7 @@
 //! The stack over an adapter: what its user calls.
 
 ghost use Rattle.std.specs.Prelude.{◌≡◌, [], IfOk, IfErr, MatchResult};
-ghost use Rattle.device.specs.Settled.{Settled};
+ghost use Rattle.machine.specs.Settled.{Settled};
 ghost use Rattle.compose.specs.Right.{IsRight, IsWhole, TakesAnswer, TakesLabel as TakesFirst};
 ghost use Rattle.compose.specs.Opening.{IsFirstView};
 ghost use Rattle.compose.specs.Runs.{CarriesAll, IsLawful, StopsAfter};

@@ -3,7 +3,7 @@
 ghost use Rattle.std.specs.Prelude.{◌≡◌, ◌<◌, ◌^◌, ◌+◌, ◌≤◌, ◌↔◌, [], Ok, IsTrue, IfOk, IfErr, OnOk, length, drop};
 ghost use Rattle.byteorder.specs.Endian.{big_number};
 ghost use Rattle.cdb.specs.Meaning.{Means};
-ghost use Rattle.srb.specs.Adapter.{IsInOrder};
+ghost use Rattle.adapter.specs.View.{IsInOrder};
 ghost use Rattle.compose.specs.declared.StartFault.TheVariants.{NoMemory};
 ghost use Rattle.compose.specs.Start.{IsIdle, Looks, AsksOnce, bytes_brought, IsSameDisk, IsReadFault, IsCapacityOf, told_partition, AreInRange, AreLimits, IsStartFault, IsSpent};
 ghost use Rattle.compose.specs.Opening.{IsFirstView};

@@ -6,25 +6,28 @@ use Rattle.cdb.specs.Meaning.{Means}
 use Rattle.srb.specs.declared.Srb.{Srb}
 use Rattle.srb.specs.declared.SrbFunction.TheVariants.{ExecuteScsi}
 use Rattle.srb.specs.Fate.{Fate}
-use Rattle.srb.specs.Adapter.{AdapterView, TagInUse, IsInOrder}
+use Rattle.adapter.specs.View.{AdapterView, TagInUse, IsInOrder}
 use Rattle.irp.specs.declared.StackLocation.{StackLocation}
 use Rattle.irp.specs.declared.Irp.{Irp}
 use Rattle.irp.specs.Climb.{above as locations_above}
 use Rattle.irp.specs.declared.Payload.{Payload}
 use Rattle.irp.specs.declared.Payload.TheVariants.{Buffer, Srb as Packed, Sent as AtAdapter}
-use Rattle.device.specs.declared.Kind.{Kind}
-use Rattle.device.specs.declared.Kind.TheVariants.{Read, Write, Flush}
-use Rattle.device.specs.declared.Request.{Request}
-use Rattle.device.specs.Rules.{Rules, is_transfer, sectors_of, as_client}
-use Rattle.device.specs.State.{OpenRequest, Piece, State}
-use Rattle.device.specs.Sending.{command_for}
-use Rattle.device.specs.Settled.{IsAllSent, IsHeldBack, IsWithin, started_count}
-use Rattle.device.specs.Numbers.{AreDistinct, HavePlaces, request_number}
-use Rattle.device.specs.Solo.{all_places}
+use Rattle.machine.specs.declared.Kind.{Kind}
+use Rattle.machine.specs.declared.Kind.TheVariants.{Read, Write, Flush}
+use Rattle.machine.specs.declared.Request.{Request}
+use Rattle.machine.specs.Rules.{Rules, is_transfer, sectors_of, as_client}
+use Rattle.machine.specs.Map.{sectors_in}
+use Rattle.machine.specs.State.{OpenRequest, Piece, State}
+use Rattle.machine.specs.Sending.{command_for}
+use Rattle.machine.specs.Settled.{IsAllSent, IsHeldBack, IsWithin, started_count}
+use Rattle.machine.specs.Numbers.{AreDistinct, HavePlaces, request_number}
+use Rattle.machine.specs.Solo.{all_places}
 
--- a packet that the layer has: its number, and the stack locations above the layer's own, the topmost driver's first
+-- a packet that the layer has: its number, the spot that its `submit` answered, and the stack locations above the
+-- layer's own, the topmost driver's first
 pub record Packet : Type 0 where
   pub number : ℕ
+  pub spot : ℕ
   pub above : List StackLocation
 
 -- the number of a packet
@@ -32,8 +35,8 @@ abbrev pub packet_number : Packet → ℕ
 packet_number packet = packet.number
 
 -- a packet as the layer that takes it in has it
-abbrev pub packet_of : Irp → Packet
-packet_of irp = record { number = irp.number; above = locations_above irp }
+abbrev pub packet_of : Irp → ℕ → Packet
+packet_of irp spot = record { number = irp.number; spot = spot; above = locations_above irp }
 
 -- what a layer shows: its machine, its packets and the adapter below
 pub record Seen : Type 0 where
@@ -101,10 +104,6 @@ pub record IsBounded (rules : Rules) (r : Request) : Type 0 where
   pub short : r.extent.count ≤ rules.longest
 
 -- WHAT HOLDS OF A LAYER IN ORDER, BETWEEN ITS CALLS
-
--- the sectors of a partition
-abbrev pub sectors_in : List (List ℕ) → Extent → List (List ℕ)
-sectors_in sectors extent = slice_range sectors extent.first (extent.first + extent.count)
 
 -- what the adapter knows of a piece
 pub record OnTag : Type 0 where

@@ -1,5 +1,5 @@
 -- What each call does to what a layer shows.
-use Rattle.std.specs.Prelude.{◌≡◌, ◌⊎◌, ℕ, ◌+◌, ◌*◌, Bool, List, [], ◌∷◌, Option, Some, None, map, filter, length, All, Contains, IsPermutation, if◌then◌else◌}
+use Rattle.std.specs.Prelude.{◌≡◌, ◌≢◌, ◌⊎◌, ℕ, zero, suc, ◌+◌, ◌*◌, Bool, List, [], ◌∷◌, Option, Some, None, map, filter, take, drop, length, IsTrue, All, Any, Contains, IsPermutation, if◌then◌else◌}
 use Rattle.std.specs.List.Sorted.{IsStrictlyIncreasing}
 use Rattle.ntstatus.specs.declared.NtStatus.{NtStatus}
 use Rattle.ntstatus.specs.declared.NtStatus.TheVariants.{Success, DeviceBusy}
@@ -7,28 +7,24 @@ use Rattle.srb.specs.declared.Class.{Class}
 use Rattle.srb.specs.declared.DeviceLabel.{DeviceLabel}
 use Rattle.srb.specs.declared.DeviceLabel.TheVariants.{Start, Act, Fault, Return}
 use Rattle.srb.specs.Fate.{Fresh, is_fresh}
-use Rattle.srb.specs.Adapter.{AdapterView, ReservesMore, MovesByAll, NotesReset}
+use Rattle.adapter.specs.View.{AdapterView, ReservesMore, MovesByAll, NotesReset}
 use Rattle.irp.specs.declared.Payload.{Payload}
 use Rattle.irp.specs.declared.Climb.{Climb}
 use Rattle.irp.specs.Climb.{Climbs}
-use Rattle.device.specs.declared.Kind.TheVariants.{Read}
-use Rattle.device.specs.declared.Request.{Request}
-use Rattle.device.specs.declared.ClientRequest.{ClientRequest}
-use Rattle.device.specs.declared.Label.{Label}
-use Rattle.device.specs.declared.Label.TheVariants.{Device}
-use Rattle.device.specs.Rules.{Rules, is_transfer, as_client}
-use Rattle.device.specs.State.{OpenRequest, Piece, State}
-use Rattle.device.specs.Calling.{Opens}
-use Rattle.device.specs.Sending.{HasOtherTag}
-use Rattle.device.specs.Answering.{HasEnded, Answers}
-use Rattle.device.specs.Holding.{Cancels, Drains}
-use Rattle.device.specs.Settled.{Settled}
-use Rattle.device.specs.Step.{Run}
+use Rattle.machine.specs.declared.Kind.TheVariants.{Read}
+use Rattle.machine.specs.declared.Request.{Request}
+use Rattle.machine.specs.declared.ClientRequest.{ClientRequest}
+use Rattle.machine.specs.declared.Label.{Label}
+use Rattle.machine.specs.declared.Label.TheVariants.{Device}
+use Rattle.machine.specs.Rules.{Rules, is_transfer, place_count, as_client}
+use Rattle.machine.specs.State.{Mark, Done, Back, OpenRequest, Piece, State}
+use Rattle.machine.specs.Calling.{Opens}
+use Rattle.machine.specs.Sending.{IsStart, HasOtherTag}
+use Rattle.machine.specs.Answering.{HasEnded, Answers}
+use Rattle.machine.specs.Holding.{Cancels, Drains}
+use Rattle.machine.specs.Settled.{Settled}
+use Rattle.machine.specs.Step.{as_label, Run}
 use Rattle.device.specs.Seen.{Seen, Packet, Carries, payload_bytes, sent_bytes}
-
--- a label of the adapter as one of the machine
-abbrev pub as_label : DeviceLabel → Label
-as_label label = Device label
 
 -- the machine and the adapter move by just these labels
 pub record Moves (old : Seen) (labels : List DeviceLabel) (new : Seen) : Type 0 where
@@ -38,13 +34,6 @@ pub record Moves (old : Seen) (labels : List DeviceLabel) (new : Seen) : Type 0 
   pub same_most : new.most ≡ old.most
   pub run : Run old.rules old.state (map as_label labels) new.state
   pub adapter : MovesByAll old.adapter labels new.adapter
-
--- the label is a start
-abbrev pub IsStart : DeviceLabel → Type 0
-IsStart (Start piece tag block) = Unit {0}
-IsStart (Act piece bytes) = ⊥
-IsStart (Fault piece) = ⊥
-IsStart (Return piece class) = ⊥
 
 -- all but the machine stays
 pub record IsBeside (old new : Seen) : Type 0 where
@@ -137,6 +126,20 @@ NoneToCancel s number = (s' : State) → Cancels s number s' → ⊥
 pub record CancelsIfOpen (old : Seen) (number : ℕ) (new : Seen) : Type 0 where
   pub one_of : (Cancels old.state number new.state × IsBeside old new) ⊎ (NoneToCancel old.state number × (new ≡ old))
 
+-- the packet with this spot and this number
+pub record IsAt (spot number : ℕ) (packet : Packet) : Type 0 where
+  pub is_spot : packet.spot ≡ spot
+  pub is_number : packet.number ≡ number
+
+-- the packet has another number
+abbrev pub HasOtherNumber : ℕ → Packet → Type 0
+HasOtherNumber number packet = packet.number ≢ number
+
+-- a packet is cancelled by its spot as by its number; where no packet has the number, nothing changes
+pub record CancelsAt (old : Seen) (spot number : ℕ) (new : Seen) : Type 0 where
+  pub there : Any (IsAt spot number) old.packets → CancelsIfOpen old number new
+  pub gone : All (HasOtherNumber number) old.packets → new ≡ old
+
 -- the layer's removal, and no label is recorded
 pub record DrainsAll (old new : Seen) : Type 0 where
   pub drains : Drains old.rules old.state new.state
@@ -146,6 +149,19 @@ pub record DrainsAll (old new : Seen) : Type 0 where
 abbrev pub information : ClientRequest → NtStatus → ℕ
 information q Success = if is_transfer q.kind then q.length else 0
 information q status = 0
+
+-- the place came back busy
+abbrev pub IsBack : Mark → Type 0
+IsBack mark = mark ≡ Back
+
+-- as many parts of one length
+abbrev pub cut : ℕ → ℕ → List ℕ → List (List ℕ)
+cut zero size bytes = []
+cut (suc count) size bytes = take size bytes ∷ cut count size (drop size bytes)
+
+-- the sectors that the bytes of a request's packet are
+abbrev pub sectors_moved : Rules → Request → Payload → List (List ℕ)
+sectors_moved rules r payload = cut (place_count rules (as_client rules r [])) rules.sector_size (payload_bytes payload)
 
 -- the request of a packet is answered, the packet climbs with its room, and then pieces of others are started
 pub record HandsUp (takes_srb : Bool) (old : Seen) (request : Request) (climb : Climb) (new : Seen) : Type 0 where
@@ -159,6 +175,10 @@ pub record HandsUp (takes_srb : Bool) (old : Seen) (request : Request) (climb : 
   pub is_in : IsPermutation old.packets (packet ∷ others)
   pub answers : Answers old.rules old.state packet.number status bytes answered
   pub is_request : answers.request.request ≡ as_client old.rules request (sent_bytes request.kind payload)
+  -- a read or a write that succeeded moved the sectors that its packet's bytes are
+  pub moved : status ≡ Success → answers.request.marks ≡ map Done (sectors_moved old.rules request payload)
+  -- one that went as a whole and came back busy is answered as busy
+  pub busy : IsTrue old.rules.one_piece → All IsBack answers.request.marks → status ≡ DeviceBusy
   -- a packet that came back busy can be sent again as it is, and a read that succeeded holds its bytes
   pub carries : status ≡ DeviceBusy → Carries takes_srb old.rules request payload
   pub brings : request.kind ≡ Read → status ≡ Success → payload_bytes payload ≡ bytes

@@ -1,8 +1,8 @@
-ghost use Rattle.std.specs.Prelude.{◌≡◌, ◌<◌, ◌≤◌, ◌+◌, ◌∷◌, ℕ, Bool, List, length, Some, IsFalse, IfOk, IfSome, OnOk, OnErr, IfNone, MatchBool, MatchOption, IsPermutation};
-ghost use Rattle.device.specs.declared.Request.{Request};
-ghost use Rattle.device.specs.Rules.{sectors_of};
+ghost use Rattle.std.specs.Prelude.{◌≡◌, ◌<◌, ◌≤◌, ◌+◌, ◌∷◌, ℕ, Bool, true, List, length, Some, IsFalse, IfOk, IfSome, OnErr, IfNone, MatchBool, MatchOption, IsPermutation};
+ghost use Rattle.machine.specs.declared.Request.{Request};
+ghost use Rattle.machine.specs.Rules.{sectors_of};
 ghost use Rattle.device.specs.Seen.{Seen, IsBounded, IsOrderly, Carries, label_places, packet_of};
-ghost use Rattle.device.specs.Served.{Reserves, Submits, ActsOn, ActsNot, Finishes, FinishesNot, Resets, CancelsIfOpen, DrainsAll, HandsUp, HandsUpNone, TakesLabel};
+ghost use Rattle.device.specs.Served.{Reserves, Submits, ActsOn, ActsNot, Finishes, FinishesNot, Resets, CancelsIfOpen, CancelsAt, DrainsAll, HandsUp, HandsUpNone, TakesLabel};
 
 use crate::Request;
 use irp::{Climb, Irp};
@@ -36,27 +36,30 @@ pub trait Device: Drop {
     /// The request that a room is for.
     ghost request_of: { Self.Room → Request };
 
-    /// The layer is in order, and these are the requests of the rooms that are out, in any order.
-    ghost rooms_out: { Self → List Request → Type 0 };
+    /// The room has all that its request needs. One that a packet left behind may lack what went out with its labels.
+    ghost ready: { Self.Room → Type 0 };
+
+    /// The layer is in order, and these are the rooms that are out, in any order.
+    ghost rooms_out: { Self → List Self.Room → Type 0 };
 
     /// The number of volumes, which are numbered from 0.
     fn volumes(&self) -> u8
-        requires { (rooms : List Request) × rooms_out self.now rooms }
+        requires { (rooms : List Self.Room) × rooms_out self.now rooms }
         ensures { result ≡ length (seen self.now).rules.partitions };
 
     /// Sectors of a volume; 0 where there is none of that number.
     fn sectors(&self, volume: u8) -> u64
-        requires { (rooms : List Request) × rooms_out self.now rooms }
+        requires { (rooms : List Self.Room) × rooms_out self.now rooms }
         ensures { result ≡ sectors_of (seen self.now).rules (Some volume) };
 
     /// Sectors of the longest request that the layer takes.
     fn longest(&self) -> u64
-        requires { (rooms : List Request) × rooms_out self.now rooms }
+        requires { (rooms : List Self.Room) × rooms_out self.now rooms }
         ensures { result ≡ (seen self.now).rules.longest };
 
     /// Requests that may be submitted in all.
     fn most(&self) -> u128
-        requires { (rooms : List Request) × rooms_out self.now rooms }
+        requires { (rooms : List Self.Room) × rooms_out self.now rooms }
         ensures { result ≡ (seen self.now).most };
 
     /// Makes all places that the request will need, down to the adapter; no other call takes memory.
@@ -65,17 +68,21 @@ pub trait Device: Drop {
     ///
     /// [`AllocError`] where memory was refused. The adapter may then have made room for a part, and nothing else changed.
     fn reserve(&mut self, request: &Request) -> Result<Self::Room, AllocError>
-        requires in_order { (rooms : List Request) × rooms_out self.old rooms }
+        requires in_order { (rooms : List Self.Room) × rooms_out self.old rooms }
         requires bounded { IsBounded (seen self.old).rules request.now }
         ensures reserves { Reserves (seen self.old) (seen self.new) }
         ensures room { IfOk result (λ room. request_of room ≡ request.now) }
-        ensures rooms { OnOk result ((rooms : List Request) → rooms_out self.old rooms → rooms_out self.new (request.now ∷ rooms)) }
-        ensures refused { OnErr result ((rooms : List Request) → rooms_out self.old rooms → rooms_out self.new rooms) };
+        ensures ready { IfOk result (λ room. ready room) }
+        ensures rooms { IfOk result (λ room. (rooms : List Self.Room) → rooms_out self.old rooms → rooms_out self.new (room ∷ rooms)) }
+        ensures refused { OnErr result ((rooms : List Self.Room) → rooms_out self.old rooms → rooms_out self.new rooms) };
 
     /// Takes a packet in (WDK: IoCallDriver). Its last stack location is the layer's own, and with the others that the
     /// layer and those below need it has four at most. Its number is above all submitted before.
-    fn submit(&mut self, irp: Irp, room: Self::Room)
-        requires in_order { (rooms : List Request) × rooms_out self.old (request_of room ∷ rooms) }
+    ///
+    /// The answer is the packet's spot, by which `cancel_at` finds it.
+    fn submit(&mut self, irp: Irp, room: Self::Room) -> usize
+        requires in_order { (rooms : List Self.Room) × rooms_out self.old (room ∷ rooms) }
+        requires ready { ready room }
         requires not_removing { IsFalse (seen self.old).state.removing }
         requires number { (seen self.old).state.next_request ≤ irp.number }
         requires few { (seen self.old).submitted < (seen self.old).most }
@@ -83,68 +90,76 @@ pub trait Device: Drop {
         requires locations { length irp.locations.items + STACK_SIZE ≤ 5 }
         requires not_cancelled { IsFalse irp.cancelled }
         requires carries { Carries TAKES_SRB (seen self.old).rules (request_of room) irp.payload }
-        ensures rooms { (rooms : List Request) → rooms_out self.old (request_of room ∷ rooms) → rooms_out self.new rooms }
-        ensures submits { Submits (seen self.old) (packet_of irp) (request_of room) irp.payload (seen self.new) };
+        ensures rooms { (rooms : List Self.Room) → rooms_out self.old (room ∷ rooms) → rooms_out self.new rooms }
+        ensures submits { Submits (seen self.old) (packet_of irp result) (request_of room) irp.payload (seen self.new) };
 
     /// Gives a room back unused.
     fn free(&mut self, room: Self::Room)
-        requires { (rooms : List Request) × rooms_out self.old (request_of room ∷ rooms) }
-        ensures rooms { (rooms : List Request) → rooms_out self.old (request_of room ∷ rooms) → rooms_out self.new rooms }
+        requires { (rooms : List Self.Room) × rooms_out self.old (room ∷ rooms) }
+        ensures rooms { (rooms : List Self.Room) → rooms_out self.old (room ∷ rooms) → rooms_out self.new rooms }
         ensures same { seen self.new ≡ seen self.old };
 
     /// Has the adapter carry out the command on a tag, or fail it; true where the tag had a piece that had done neither.
     /// On any other tag, also one that the adapter doesn't have, nothing changes.
     fn act(&mut self, tag: u8) -> bool
-        requires in_order { (rooms : List Request) × rooms_out self.old rooms }
+        requires in_order { (rooms : List Self.Room) × rooms_out self.old rooms }
         requires label_place { label_places (seen self.old) + 1 ≤ 64 }
-        ensures rooms { (rooms : List Request) → rooms_out self.old rooms → rooms_out self.new rooms }
+        ensures rooms { (rooms : List Self.Room) → rooms_out self.old rooms → rooms_out self.new rooms }
         ensures acts { MatchBool result (ActsOn (seen self.old) tag (seen self.new)) (ActsNot (seen self.old) tag (seen self.new)) };
 
     /// Takes the piece of a tag back; true where the tag was in use. Else nothing changes.
     fn finish(&mut self, tag: u8) -> bool
-        requires in_order { (rooms : List Request) × rooms_out self.old rooms }
+        requires in_order { (rooms : List Self.Room) × rooms_out self.old rooms }
         requires label_place { label_places (seen self.old) + 2 ≤ 64 }
-        ensures rooms { (rooms : List Request) → rooms_out self.old rooms → rooms_out self.new rooms }
+        ensures rooms { (rooms : List Self.Room) → rooms_out self.old rooms → rooms_out self.new rooms }
         ensures finishes { MatchBool result (Finishes (seen self.old) tag (seen self.new)) (FinishesNot (seen self.old) tag (seen self.new)) };
 
     /// Resets the adapter: each piece that has done nothing fails, and each piece out will come back as bad.
     fn reset(&mut self)
-        requires in_order { (rooms : List Request) × rooms_out self.old rooms }
+        requires in_order { (rooms : List Self.Room) × rooms_out self.old rooms }
         requires label_place { label_places (seen self.old) + (seen self.old).rules.depth ≤ 64 }
-        ensures rooms { (rooms : List Request) → rooms_out self.old rooms → rooms_out self.new rooms }
+        ensures rooms { (rooms : List Self.Room) → rooms_out self.old rooms → rooms_out self.new rooms }
         ensures resets { Resets (seen self.old) (seen self.new) };
 
     /// Cancels the packet of a number, also one that has ended and was not taken yet; with no such packet, or one that is
     /// cancelled already, nothing changes (WDK: IoCancelIrp).
     fn cancel(&mut self, number: u128)
-        requires { (rooms : List Request) × rooms_out self.old rooms }
-        ensures rooms { (rooms : List Request) → rooms_out self.old rooms → rooms_out self.new rooms }
+        requires { (rooms : List Self.Room) × rooms_out self.old rooms }
+        ensures rooms { (rooms : List Self.Room) → rooms_out self.old rooms → rooms_out self.new rooms }
         ensures cancels { CancelsIfOpen (seen self.old) number (seen self.new) };
+
+    /// Cancels the packet of a number by the spot that `submit` answered for it, as `cancel` does; where the packet is gone,
+    /// also if a later one has its spot, nothing changes.
+    fn cancel_at(&mut self, spot: usize, number: u128)
+        requires { (rooms : List Self.Room) × rooms_out self.old rooms }
+        ensures rooms { (rooms : List Self.Room) → rooms_out self.old rooms → rooms_out self.new rooms }
+        ensures cancels { CancelsAt (seen self.old) spot number (seen self.new) };
 
     /// Removal: what waits ends, nothing starts any more, and what is at the adapter will still come back
     /// (WDK: IRP_MN_REMOVE_DEVICE).
     fn drain(&mut self)
-        requires { (rooms : List Request) × rooms_out self.old rooms }
-        ensures rooms { (rooms : List Request) → rooms_out self.old rooms → rooms_out self.new rooms }
+        requires { (rooms : List Self.Room) × rooms_out self.old rooms }
+        ensures rooms { (rooms : List Self.Room) → rooms_out self.old rooms → rooms_out self.new rooms }
         ensures drains { DrainsAll (seen self.old) (seen self.new) };
 
     /// A packet that has ended, on its way up, with its room, which is out again. None where none has; the layer is then
     /// settled.
     fn take_done(&mut self) -> Option<(Climb, Self::Room)>
-        requires { (rooms : List Request) × rooms_out self.old rooms }
-        ensures rooms { IfSome result (λ done. (rooms : List Request) → rooms_out self.old rooms → rooms_out self.new (request_of done.1 ∷ rooms)) }
-        ensures none_rooms { IfNone result ((rooms : List Request) → rooms_out self.old rooms → rooms_out self.new rooms) }
+        requires { (rooms : List Self.Room) × rooms_out self.old rooms }
+        ensures rooms { IfSome result (λ done. (rooms : List Self.Room) → rooms_out self.old rooms → rooms_out self.new (done.1 ∷ rooms)) }
+        ensures ready { IfSome result (λ done. TAKES_SRB ≡ true → ready done.1) }
+        ensures none_rooms { IfNone result ((rooms : List Self.Room) → rooms_out self.old rooms → rooms_out self.new rooms) }
         ensures hands_up { MatchOption result (HandsUpNone (seen self.old) (seen self.new)) (λ done. HandsUp TAKES_SRB (seen self.old) (request_of done.1) done.0 (seen self.new)) };
 
     /// The earliest label that the adapter recorded and that nobody took yet.
     fn take_label(&mut self) -> Option<DeviceLabel>
-        requires { (rooms : List Request) × rooms_out self.old rooms }
-        ensures rooms { (rooms : List Request) → rooms_out self.old rooms → rooms_out self.new rooms }
+        requires { (rooms : List Self.Room) × rooms_out self.old rooms }
+        ensures rooms { (rooms : List Self.Room) → rooms_out self.old rooms → rooms_out self.new rooms }
         ensures takes { TakesLabel (seen self.old) result (seen self.new) };
 
     /// The order of a list of rooms says nothing.
-    ghost any_order: { (device : Self) (some others : List Request) → IsPermutation some others → rooms_out device some → rooms_out device others };
+    ghost any_order: { (device : Self) (some others : List Self.Room) → IsPermutation some others → rooms_out device some → rooms_out device others };
 
     /// What a layer in order shows.
-    ghost in_order: { (device : Self) (rooms : List Request) → rooms_out device rooms → IsOrderly (seen device) };
+    ghost in_order: { (device : Self) (rooms : List Self.Room) → rooms_out device rooms → IsOrderly (seen device) };
 }

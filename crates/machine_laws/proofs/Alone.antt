@@ -3,14 +3,14 @@ use Rattle.std.proofs.Common.{◌≡◌, ◌<◌, ◌≤◌, ◌⊎◌, inl, inr
 use Rattle.std.specs.Prelude.{slice_get}
 use Rattle.std.proofs.lemmas.Bool.{cases_eq}
 use Rattle.std.proofs.lemmas.List.Elements.{All-contains}
-use Rattle.device.specs.declared.Kind.TheVariants.{Write}
-use Rattle.device.specs.declared.ClientRequest.{ClientRequest}
-use Rattle.device.specs.declared.Label.{Label}
-use Rattle.device.specs.Rules.{Rules, first_sector, place_count}
-use Rattle.device.specs.State.{State}
-use Rattle.device.specs.Sending.{partition_number, array_at}
-use Rattle.device.specs.Step.{Run}
-use Rattle.device.specs.Solo.{Meets, LeavesAlone, IsSoloAt, IsSolo}
+use Rattle.machine.specs.declared.Kind.TheVariants.{Write}
+use Rattle.machine.specs.declared.ClientRequest.{ClientRequest}
+use Rattle.machine.specs.declared.Label.{Label}
+use Rattle.machine.specs.Rules.{Rules, first_sector, place_count}
+use Rattle.machine.specs.State.{State}
+use Rattle.machine.specs.Sending.{partition_number, array_at}
+use Rattle.machine.specs.Step.{Run}
+use Rattle.machine.specs.Solo.{Meets, LeavesAlone, IsSoloAt, IsSolo}
 use Rattle.machine_laws.specs.Sectors.{sector_at, sector_of, bytes_for, WritesSector}
 use Rattle.machine_laws.specs.Along.{Sometime}
 use Rattle.machine_laws.proofs.Serving.{HoldsPlaces, IsMine, PieceFits, Serves, Serves-Step}

@@ -8,20 +8,20 @@ use Rattle.std.proofs.lemmas.List.Elements.{All-head, All-tail, All-cons, All-we
 use Rattle.ntstatus.specs.declared.NtStatus.{NtStatus}
 use Rattle.srb.specs.declared.DeviceLabel.{DeviceLabel}
 use Rattle.srb.specs.declared.DeviceLabel.TheVariants.{Start, Act, Fault, Return}
-use Rattle.device.specs.declared.ClientRequest.{ClientRequest}
-use Rattle.device.specs.declared.Label.{Label}
-use Rattle.device.specs.declared.Label.TheVariants.{Call, Device, Answer, Cancel, Pause, Resume, Remove, Removed}
-use Rattle.device.specs.Rules.{Rules}
-use Rattle.device.specs.State.{OpenRequest, Piece, State, IsSame, opening}
-use Rattle.device.specs.Calling.{refusal, Admits}
-use Rattle.device.specs.Answering.{Answers}
-use Rattle.device.specs.Holding.{held_back, beyond, as_timely}
-use Rattle.device.specs.Step.{DeviceStep, FreeStep, OwingStep, Step, Run}
-use Rattle.device.specs.Numbers.{request_number, IsGiven, AreDistinct}
-use Rattle.device.specs.Pieces.{IsOwner, IsPlaced, ArePlaced}
-use Rattle.device.proofs.Numbers.{Step-number, AreDistinct-opening, AreDistinct-same, AreDistinct-Step, AreDistinct-Run, requests_in_order}
-use Rattle.device.proofs.Placed.{ArePlaced-opening, ArePlaced-Answers, ArePlaced-Step, ArePlaced-Run}
-use Rattle.device.proofs.Permuting.{distinct_first}
+use Rattle.machine.specs.declared.ClientRequest.{ClientRequest}
+use Rattle.machine.specs.declared.Label.{Label}
+use Rattle.machine.specs.declared.Label.TheVariants.{Call, Device, Answer, Cancel, Pause, Resume, Remove, Removed}
+use Rattle.machine.specs.Rules.{Rules}
+use Rattle.machine.specs.State.{OpenRequest, Piece, State, IsSame, opening}
+use Rattle.machine.specs.Calling.{refusal, Admits}
+use Rattle.machine.specs.Answering.{Answers}
+use Rattle.machine.specs.Holding.{held_back, beyond, as_timely}
+use Rattle.machine.specs.Step.{DeviceStep, FreeStep, OwingStep, Step, Run}
+use Rattle.machine.specs.Numbers.{request_number, IsGiven, AreDistinct}
+use Rattle.machine.specs.Pieces.{IsOwner, IsPlaced, ArePlaced}
+use Rattle.machine.proofs.Numbers.{Step-number, AreDistinct-opening, AreDistinct-same, AreDistinct-Step, AreDistinct-Run, requests_in_order}
+use Rattle.machine.proofs.Placed.{ArePlaced-opening, ArePlaced-Answers, ArePlaced-Step, ArePlaced-Run}
+use Rattle.machine.proofs.Permuting.{distinct_first}
 use Rattle.machine_laws.specs.Sectors.{WritesSector}
 use Rattle.machine_laws.specs.Along.{Sometime, Always}
 use Rattle.machine_laws.specs.EndLaws.{HasOtherNumber, HasOtherOwner, IsOver, AnsweredAreOver}

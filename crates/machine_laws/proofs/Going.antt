@@ -5,16 +5,16 @@ use Rattle.std.proofs.Math.Nat.{lt_of_lt_of_le}
 use Rattle.ntstatus.specs.declared.NtStatus.{NtStatus}
 use Rattle.srb.specs.declared.DeviceLabel.{DeviceLabel}
 use Rattle.srb.specs.declared.DeviceLabel.TheVariants.{Start, Act, Fault, Return}
-use Rattle.device.specs.declared.ClientRequest.{ClientRequest}
-use Rattle.device.specs.declared.Label.{Label}
-use Rattle.device.specs.declared.Label.TheVariants.{Call, Device, Answer, Cancel, Pause, Resume, Remove, Removed}
-use Rattle.device.specs.Rules.{Rules}
-use Rattle.device.specs.State.{opening, Owed, State}
-use Rattle.device.specs.Calling.{refusal, Admits, Opens}
-use Rattle.device.specs.Answering.{Answers}
-use Rattle.device.specs.Step.{FreeStep, OwingStep, Step, Run}
-use Rattle.device.proofs.Same.{IsSame-refl, Run-append}
-use Rattle.device.proofs.Numbers.{Step-number}
+use Rattle.machine.specs.declared.ClientRequest.{ClientRequest}
+use Rattle.machine.specs.declared.Label.{Label}
+use Rattle.machine.specs.declared.Label.TheVariants.{Call, Device, Answer, Cancel, Pause, Resume, Remove, Removed}
+use Rattle.machine.specs.Rules.{Rules}
+use Rattle.machine.specs.State.{opening, Owed, State}
+use Rattle.machine.specs.Calling.{refusal, Admits, Opens}
+use Rattle.machine.specs.Answering.{Answers}
+use Rattle.machine.specs.Step.{FreeStep, OwingStep, Step, Run}
+use Rattle.machine.proofs.Same.{IsSame-refl, Run-append}
+use Rattle.machine.proofs.Numbers.{Step-number}
 use Rattle.machine_laws.specs.Reached.{OpeningsAreReached, RunsGoOn, RunsSplit}
 use Rattle.machine_laws.specs.SoloLaws.{LabelsAreOfOne}
 

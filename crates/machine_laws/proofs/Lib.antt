@@ -6,6 +6,9 @@ pub mod Serving
 pub mod Sound
 pub mod Sectors
 pub mod Alone
+pub mod Lifting
+pub mod DiskMap
+pub mod Lifted
 pub mod Marks
 pub mod Served
 pub mod SoloRead

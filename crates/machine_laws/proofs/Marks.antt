@@ -2,8 +2,8 @@
 use Rattle.std.proofs.Common.{◌≡◌, ◌<◌, ℕ, zero, suc, ◌+◌, true, List, [], ◌∷◌, Some, refl, ap, subst, arith, map, length, take, drop, get_or}
 use Rattle.std.specs.Prelude.{slice_get}
 use Rattle.std.specs.List.{list_all}
-use Rattle.device.specs.State.{Mark, Untouched, Out, Done, Failed, Back}
-use Rattle.device.specs.Answering.{is_done, bytes_of_mark}
+use Rattle.machine.specs.State.{Mark, Untouched, Out, Done, Failed, Back}
+use Rattle.machine.specs.Answering.{is_done, bytes_of_mark}
 use Rattle.sector.proofs.Splicing.{AllAt}
 use Rattle.machine_laws.proofs.Chunks.{drop_is}
 use Rattle.machine_laws.proofs.Serving.{IsRightMark}

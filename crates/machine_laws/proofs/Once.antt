@@ -4,16 +4,16 @@ use Rattle.std.specs.Prelude.{IsNone, All}
 use Rattle.std.proofs.lemmas.List.Sorted.{IsPermutation-sym, All-permutation}
 use Rattle.std.proofs.lemmas.List.Elements.{All-nil, All-cons, All-head, All-weaker}
 use Rattle.ntstatus.specs.declared.NtStatus.{NtStatus}
-use Rattle.device.specs.declared.ClientRequest.{ClientRequest}
-use Rattle.device.specs.declared.Label.{Label}
-use Rattle.device.specs.declared.Label.TheVariants.{Call, Device, Answer, Cancel, Pause, Resume, Remove, Removed}
-use Rattle.device.specs.Rules.{Rules}
-use Rattle.device.specs.State.{Owed, State}
-use Rattle.device.specs.Calling.{refusal, Admits}
-use Rattle.device.specs.Step.{FreeStep, OwingStep, Step, Run}
-use Rattle.device.specs.Numbers.{IsGiven, AreDistinct}
+use Rattle.machine.specs.declared.ClientRequest.{ClientRequest}
+use Rattle.machine.specs.declared.Label.{Label}
+use Rattle.machine.specs.declared.Label.TheVariants.{Call, Device, Answer, Cancel, Pause, Resume, Remove, Removed}
+use Rattle.machine.specs.Rules.{Rules}
+use Rattle.machine.specs.State.{Owed, State}
+use Rattle.machine.specs.Calling.{refusal, Admits}
+use Rattle.machine.specs.Step.{FreeStep, OwingStep, Step, Run}
+use Rattle.machine.specs.Numbers.{IsGiven, AreDistinct}
 use Rattle.machine_laws.specs.NumberLaws.{IsNoCallOf, IsNoAnswerOf, CallsOnce, AnswersOnce}
-use Rattle.device.proofs.Numbers.{Step-number, AreDistinct-Step}
+use Rattle.machine.proofs.Numbers.{Step-number, AreDistinct-Step}
 use Rattle.machine_laws.specs.EndLaws.{HasOtherNumber}
 use Rattle.machine_laws.proofs.Ending.{IsGone, IsGone-Step, answered_gone}
 use Rattle.machine_laws.proofs.Going.{IsNotOwed, none_owed, device_owed, step_owed}

@@ -6,19 +6,19 @@ use Rattle.std.proofs.lemmas.List.Elements.{All-nil, All-cons}
 use Rattle.ntstatus.specs.declared.NtStatus.{NtStatus}
 use Rattle.srb.specs.declared.DeviceLabel.{DeviceLabel}
 use Rattle.srb.specs.declared.DeviceLabel.TheVariants.{Start, Act, Fault, Return}
-use Rattle.device.specs.declared.ClientRequest.{ClientRequest}
-use Rattle.device.specs.declared.Label.{Label}
-use Rattle.device.specs.declared.Label.TheVariants.{Call, Device, Answer, Cancel, Pause, Resume, Remove, Removed}
-use Rattle.device.specs.Rules.{Rules}
-use Rattle.device.specs.State.{Piece, State, IsSame, opening}
-use Rattle.device.specs.Calling.{refusal, Admits}
-use Rattle.device.specs.Holding.{as_timely}
-use Rattle.device.specs.Step.{DeviceStep, FreeStep, OwingStep, Step, Run}
-use Rattle.device.specs.Pieces.{IsPlaced, ArePlaced}
-use Rattle.device.proofs.Same.{IsSame-sym, none_there}
-use Rattle.device.proofs.Places.{IsTakenIn, taken_in}
-use Rattle.device.proofs.Numbers.{AreDistinct-opening}
-use Rattle.device.proofs.Placed.{ArePlaced-opening, ArePlaced-Run}
+use Rattle.machine.specs.declared.ClientRequest.{ClientRequest}
+use Rattle.machine.specs.declared.Label.{Label}
+use Rattle.machine.specs.declared.Label.TheVariants.{Call, Device, Answer, Cancel, Pause, Resume, Remove, Removed}
+use Rattle.machine.specs.Rules.{Rules}
+use Rattle.machine.specs.State.{Piece, State, IsSame, opening}
+use Rattle.machine.specs.Calling.{refusal, Admits}
+use Rattle.machine.specs.Holding.{as_timely}
+use Rattle.machine.specs.Step.{DeviceStep, FreeStep, OwingStep, Step, Run}
+use Rattle.machine.specs.Pieces.{IsPlaced, ArePlaced}
+use Rattle.machine.proofs.Same.{IsSame-sym, none_there}
+use Rattle.machine.proofs.Places.{IsTakenIn, taken_in}
+use Rattle.machine.proofs.Numbers.{AreDistinct-opening}
+use Rattle.machine.proofs.Placed.{ArePlaced-opening, ArePlaced-Run}
 use Rattle.machine_laws.specs.Along.{Always}
 use Rattle.machine_laws.specs.EndLaws.{IsEmpty, RemovedAreEmpty, IsNotOfDevice, RemovedIsLast}
 

@@ -9,21 +9,21 @@ use Rattle.std.proofs.lemmas.List.Sorted.{IsPermutation-sym, Contains-permutatio
 use Rattle.std.proofs.lemmas.Option.{slice_get-get_or}
 use Rattle.sector.specs.Splice.{splice}
 use Rattle.srb.specs.declared.DeviceLabel.TheVariants.{Start, Act, Fault, Return}
-use Rattle.device.specs.declared.Kind.{Kind}
-use Rattle.device.specs.declared.Kind.TheVariants.{Read, Write, Flush}
-use Rattle.device.specs.declared.ClientRequest.{ClientRequest}
-use Rattle.device.specs.declared.Label.{Label}
-use Rattle.device.specs.declared.Label.TheVariants.{Call, Device, Answer, Cancel, Pause, Resume, Remove, Removed}
-use Rattle.device.specs.Rules.{Rules, first_sector, place_count, sectors_of}
-use Rattle.device.specs.State.{OpenRequest, Piece, State}
-use Rattle.device.specs.Sending.{Acts, Transfers, partition_number, array_of, array_at}
+use Rattle.machine.specs.declared.Kind.{Kind}
+use Rattle.machine.specs.declared.Kind.TheVariants.{Read, Write, Flush}
+use Rattle.machine.specs.declared.ClientRequest.{ClientRequest}
+use Rattle.machine.specs.declared.Label.{Label}
+use Rattle.machine.specs.declared.Label.TheVariants.{Call, Device, Answer, Cancel, Pause, Resume, Remove, Removed}
+use Rattle.machine.specs.Rules.{Rules, as_faithful, is_transfer, first_sector, place_count, sectors_of}
+use Rattle.machine.specs.State.{OpenRequest, Piece, State}
+use Rattle.machine.specs.Sending.{Acts, Transfers, partition_number, array_of, array_at}
 use Rattle.ntstatus.specs.declared.NtStatus.{NtStatus}
-use Rattle.device.specs.Calling.{refusal, Admits}
-use Rattle.device.specs.Step.{FreeStep, OwingStep, Step}
+use Rattle.machine.specs.Calling.{refusal, Admits}
+use Rattle.machine.specs.Step.{FreeStep, OwingStep, Step}
 use Rattle.machine_laws.specs.Sectors.{sector_at, sector_of, bytes_for, IsAct, WritesSector}
 use Rattle.machine_laws.proofs.Splicing.{first_of, splice_inside}
 use Rattle.machine_laws.proofs.Chunks.{chunk, concat_chunk, range_chunk}
-use Rattle.machine_laws.proofs.Acted.{Transfers-range}
+use Rattle.machine_laws.proofs.Acted.{moves_or_leaves, Transfers-range}
 use Rattle.machine_laws.proofs.Serving.{IsSized, act_inside, act_fits}
 use Rattle.machine_laws.proofs.Sound.{Anything, nothing, IsSound}
 
@@ -47,10 +47,10 @@ module _ (rules : Rules) (s : State) (n : ℕ) (bytes : List ℕ) (s' : State) (
   fits w = act_fits rules 0 nothing Anything s n bytes s' sound.1 h w
 
   -- a write leaves its bytes there
-  pub act_writes : h.owner.request.kind ≡ Write → (k : ℕ) → k < h.piece.places.count
+  pub act_writes : Transfers (as_faithful rules) s h.owner.request h.piece.places h.owner.request.kind h.sectors h.arrays' → h.owner.request.kind ≡ Write → (k : ℕ) → k < h.piece.places.count
       → slice_get (array_at h.arrays' (partition_number h.owner.request)) (first_sector rules h.owner.request + h.piece.places.first + k) ≡ Some (bytes_for rules h.owner.request (h.piece.places.first + k))
-  act_writes w k low =
-      let moves : Transfers rules s h.owner.request h.piece.places Write h.sectors h.arrays' = subst (λ kind. Transfers rules s h.owner.request h.piece.places kind h.sectors h.arrays') w h.moves in
+  act_writes transfers w k low =
+      let moves : Transfers (as_faithful rules) s h.owner.request h.piece.places Write h.sectors h.arrays' = subst (λ kind. Transfers (as_faithful rules) s h.owner.request h.piece.places kind h.sectors h.arrays') w transfers in
       let low' : k < length h.sectors = rw h.covers low in
       let there : partition_number h.owner.request < length s.arrays = known (partition_number h.owner.request) s.arrays _ _ _ (fits w) low' in
       let array : array_at h.arrays' (partition_number h.owner.request) ≡ splice (array_of s h.owner.request) (first_sector rules h.owner.request + h.piece.places.first) h.sectors =
@@ -80,15 +80,19 @@ module _ (rules : Rules) (s : State) (n : ℕ) (bytes : List ℕ) (s' : State) (
       ∙ first_of (array_at s.arrays p) i
 
   pub act_sector : (p i : ℕ) → (slice_get (array_at h.arrays' p) i ≡ slice_get (array_at s.arrays p) i) ⊎ Hits rules h.owner h.piece h.arrays' p i
-  act_sector p i = by_kind h.owner.request.kind refl
+  act_sector p i =
+      elim (moves_or_leaves rules s h.owner.request h.piece.places h.owner.request.kind h.sectors h.arrays' h.moves) [
+        | inl moves ↦ by_kind moves h.owner.request.kind refl
+        | inr same ↦ inl (ap (λ arrays. slice_get (array_at arrays p) i) same)
+      ]
     where
-      hits : h.owner.request.kind ≡ Write → p ≡ partition_number h.owner.request → first_sector rules h.owner.request + h.piece.places.first ≤ i → i < first_sector rules h.owner.request + h.piece.places.first + h.piece.places.count
+      hits : Transfers (as_faithful rules) s h.owner.request h.piece.places h.owner.request.kind h.sectors h.arrays' → h.owner.request.kind ≡ Write → p ≡ partition_number h.owner.request → first_sector rules h.owner.request + h.piece.places.first ≤ i → i < first_sector rules h.owner.request + h.piece.places.first + h.piece.places.count
           → Hits rules h.owner h.piece h.arrays' p i
-      hits w e from below =
+      hits moves w e from below =
           let k : ℕ = i - (first_sector rules h.owner.request + h.piece.places.first) in
           let is : first_sector rules h.owner.request + h.piece.places.first + k ≡ i = omega arith in
           let low : k < h.piece.places.count = omega arith in
-          let there : slice_get (array_at h.arrays' (partition_number h.owner.request)) (first_sector rules h.owner.request + h.piece.places.first + k) ≡ Some (bytes_for rules h.owner.request (h.piece.places.first + k)) = act_writes w k low in
+          let there : slice_get (array_at h.arrays' (partition_number h.owner.request)) (first_sector rules h.owner.request + h.piece.places.first + k) ≡ Some (bytes_for rules h.owner.request (h.piece.places.first + k)) = act_writes moves w k low in
           record {
             is_write = w;
             on_partition = sym e;
@@ -99,16 +103,16 @@ module _ (rules : Rules) (s : State) (n : ℕ) (bytes : List ℕ) (s' : State) (
             stands = ap (λ m. slice_get (array_at h.arrays' m) i) e ∙ ap (λ m. slice_get (array_at h.arrays' (partition_number h.owner.request)) m) (sym is) ∙ there;
           }
 
-      by_kind : (kind : Kind) → h.owner.request.kind ≡ kind → (slice_get (array_at h.arrays' p) i ≡ slice_get (array_at s.arrays p) i) ⊎ Hits rules h.owner h.piece h.arrays' p i
-      by_kind Read e = inl (act_keeps p i (λ w. cc (e, w)))
-      by_kind Flush e = inl (act_keeps p i (λ w. cc (e, w)))
-      by_kind Write w =
+      by_kind : Transfers (as_faithful rules) s h.owner.request h.piece.places h.owner.request.kind h.sectors h.arrays' → (kind : Kind) → h.owner.request.kind ≡ kind → (slice_get (array_at h.arrays' p) i ≡ slice_get (array_at s.arrays p) i) ⊎ Hits rules h.owner h.piece h.arrays' p i
+      by_kind moves Read e = inl (act_keeps p i (λ w. cc (e, w)))
+      by_kind moves Flush e = inl (act_keeps p i (λ w. cc (e, w)))
+      by_kind moves Write w =
           elim (cases_eq p (partition_number h.owner.request)) [
             | inr other ↦ inl (act_keeps p i (λ w' e. absurd (other e)))
             | inl e ↦ elim (cases_lt i (first_sector rules h.owner.request + h.piece.places.first)) [
               | inl before ↦ inl (act_keeps p i (λ w' e'. inr (before_it before)))
               | inr from ↦ elim (cases_lt i (first_sector rules h.owner.request + h.piece.places.first + h.piece.places.count)) [
-                | inl below ↦ inr (hits w e from below)
+                | inl below ↦ inr (hits moves w e from below)
                 | inr past ↦ inl (act_keeps p i (λ w' e'. inl (rw h.covers past)))
               ]
             ]
@@ -177,7 +181,7 @@ step_sector rules s label s' sound moved p i = by_arrays moved
     by_hit n bytes e a hit =
         let sized : IsSized rules a.owner = All-contains (IsSized rules) s.requests a.owner sound.1.sized a.is_open in
         let inside : hit.place < place_count rules a.owner.request = lt_of_lt_of_le hit.below (act_inside rules 0 nothing Anything s n bytes s' sound.1 a) in
-        let under : i < sectors_of rules (Some (partition_number a.owner.request)) = reach _ _ _ _ hit.is_sector inside (sized.inside hit.is_write) in
+        let under : i < sectors_of rules (Some (partition_number a.owner.request)) = reach _ _ _ _ hit.is_sector inside (sized.inside (ap is_transfer hit.is_write)) in
         let w : WritesSector rules a.owner.number p i s label s' = record {
           act = is_act rules s label s' n bytes e a;
           is_request = refl;

@@ -3,14 +3,14 @@ use Rattle.std.proofs.Common.{◌≡◌, ◌<◌, ℕ, ◌+◌, ◌-◌, true, L
 use Rattle.std.specs.Prelude.{slice_range}
 use Rattle.std.specs.List.{list_all}
 use Rattle.ntstatus.specs.declared.NtStatus.TheVariants.{Success}
-use Rattle.device.specs.declared.ClientRequest.{ClientRequest}
-use Rattle.device.specs.declared.Label.{Label}
-use Rattle.device.specs.Rules.{Rules, place_count}
-use Rattle.device.specs.State.{Mark, OpenRequest, State}
-use Rattle.device.specs.Answering.{Answers, is_done, bytes_of_mark}
-use Rattle.device.specs.Step.{Run}
-use Rattle.device.specs.Solo.{IsSoloAt, IsSolo, IsServed}
-use Rattle.device.proofs.Same.{IsSame-sym}
+use Rattle.machine.specs.declared.ClientRequest.{ClientRequest}
+use Rattle.machine.specs.declared.Label.{Label}
+use Rattle.machine.specs.Rules.{Rules, place_count}
+use Rattle.machine.specs.State.{Mark, OpenRequest, State}
+use Rattle.machine.specs.Answering.{Answers, is_done, bytes_of_mark}
+use Rattle.machine.specs.Step.{Run}
+use Rattle.machine.specs.Solo.{IsSoloAt, IsSolo, IsServed}
+use Rattle.machine.proofs.Same.{IsSame-sym}
 use Rattle.machine_laws.proofs.Marks.{all_right}
 use Rattle.machine_laws.proofs.Serving.{Mine, Serves, AllActRightly, Serves-same, Serves-Step, sized_first, mine_first}
 use Rattle.machine_laws.proofs.Sound.{IsSound, IsSound-Step, called_sound, called_serves}

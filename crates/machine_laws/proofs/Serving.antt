@@ -11,19 +11,19 @@ use Rattle.srb.specs.declared.DeviceLabel.TheVariants.{Start, Act, Fault, Return
 use Rattle.srb.specs.declared.Class.{Class}
 use Rattle.srb.specs.declared.Class.TheVariants.{Good, Busy, Bad}
 use Rattle.srb.specs.Fate.{Fate, Fresh, Acted, Faulted}
-use Rattle.device.specs.declared.Kind.TheVariants.{Write}
-use Rattle.device.specs.declared.ClientRequest.{ClientRequest}
-use Rattle.device.specs.declared.Label.{Label}
-use Rattle.device.specs.declared.Label.TheVariants.{Call, Device, Answer, Cancel, Pause, Resume, Remove, Removed}
-use Rattle.device.specs.Rules.{Rules, first_sector, place_count, sectors_of}
-use Rattle.device.specs.State.{Mark, Untouched, Out, Done, Failed, Back, OpenRequest, Owed, Piece, State, IsSame}
-use Rattle.device.specs.Calling.{refusal, Admits, Opens, new_request}
-use Rattle.device.specs.Sending.{Starts, Acts, Leaves, status_of_completion, sent, given_back, new_piece, with_fate, partition_number, array_of, array_at}
-use Rattle.device.specs.Holding.{held_back, beyond, as_timely, as_cancelled}
-use Rattle.device.specs.Step.{DeviceStep, FreeStep, OwingStep, Step}
-use Rattle.device.specs.Numbers.{request_number, IsGiven, AreDistinct}
-use Rattle.device.specs.Solo.{past}
-use Rattle.device.proofs.Permuting.{distinct_first}
+use Rattle.machine.specs.declared.Kind.TheVariants.{Write}
+use Rattle.machine.specs.declared.ClientRequest.{ClientRequest}
+use Rattle.machine.specs.declared.Label.{Label}
+use Rattle.machine.specs.declared.Label.TheVariants.{Call, Device, Answer, Cancel, Pause, Resume, Remove, Removed}
+use Rattle.machine.specs.Rules.{Rules, is_transfer, first_sector, place_count, sectors_of}
+use Rattle.machine.specs.State.{Mark, Untouched, Out, Done, Failed, Back, OpenRequest, Owed, Piece, State, IsSame}
+use Rattle.machine.specs.Calling.{refusal, Admits, Opens, new_request}
+use Rattle.machine.specs.Sending.{Starts, Acts, Leaves, status_of_completion, sent, given_back, new_piece, with_fate, partition_number, array_of, array_at}
+use Rattle.machine.specs.Holding.{held_back, beyond, as_timely, as_cancelled}
+use Rattle.machine.specs.Step.{DeviceStep, FreeStep, OwingStep, Step}
+use Rattle.machine.specs.Numbers.{request_number, IsGiven, AreDistinct}
+use Rattle.machine.specs.Solo.{past}
+use Rattle.machine.proofs.Permuting.{distinct_first}
 use Rattle.sector.proofs.Splicing.{AllAt, splice_at, length-splice}
 use Rattle.machine_laws.proofs.Bounds.{in_bounds}
 use Rattle.machine_laws.specs.Reached.{AreWhole}
@@ -49,7 +49,7 @@ Fills count _ = Unit {0}
 -- a request with a mark for each place, in its partition
 pub record IsSized (rules : Rules) (o : OpenRequest) : Type 0 where
   pub places : length o.marks ≡ place_count rules o.request
-  pub inside : o.request.kind ≡ Write → past rules o.request ≤ sectors_of rules (Some (partition_number o.request))
+  pub inside : is_transfer o.request.kind ≡ true → past rules o.request ≤ sectors_of rules (Some (partition_number o.request))
 
 -- the request that is served
 pub record Mine (q : ClientRequest) (Right : ℕ → List ℕ → Type 0) (o : OpenRequest) : Type 0 where
@@ -264,7 +264,7 @@ module _ (rules : Rules) (number : ℕ) (q : ClientRequest) (Right : List (List 
       → first_sector rules h.owner.request + h.piece.places.first + length h.sectors ≤ length (array_of s h.owner.request)
   act_fits s n bytes s' k h w =
       let sized : IsSized rules h.owner = All-contains (IsSized rules) s.requests h.owner k.sized h.is_open in
-      within (sized.inside w) (act_inside s n bytes s' k h) (k.whole (partition_number h.owner.request))
+      within (sized.inside (ap is_transfer w)) (act_inside s n bytes s' k h) (k.whole (partition_number h.owner.request))
     where
       within : {sectors length' : ℕ} → past rules h.owner.request ≤ sectors → h.piece.places.first + h.piece.places.count ≤ place_count rules h.owner.request → sectors ≤ length'
           → first_sector rules h.owner.request + h.piece.places.first + length h.sectors ≤ length'

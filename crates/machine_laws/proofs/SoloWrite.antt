@@ -1,21 +1,22 @@
 -- A solo write that succeeds stands in the array at its answer.
 use Rattle.std.proofs.Common.{◌≡◌, ◌<◌, ◌≤◌, inl, inr, ℕ, ◌+◌, ◌*◌, List, Some, refl, sym, ◌∙◌, ap, subst, arith, length, take, drop}
-use Rattle.std.specs.Prelude.{slice_range, slice_get}
+use Rattle.std.specs.Prelude.{slice_range, slice_get, IsTrue}
 use Rattle.std.specs.List.{concat}
 use Rattle.std.proofs.lemmas.List.Elements.{All-contains}
 use Rattle.srb.specs.Fate.{Acted}
 use Rattle.srb.specs.declared.DeviceLabel.TheVariants.{Act}
-use Rattle.device.specs.declared.Kind.TheVariants.{Write}
-use Rattle.device.specs.declared.ClientRequest.{ClientRequest}
-use Rattle.device.specs.declared.Label.TheVariants.{Device}
-use Rattle.device.specs.Rules.{Rules, first_sector, place_count}
-use Rattle.device.specs.State.{Out, State}
-use Rattle.device.specs.Sending.{partition_number, array_at}
-use Rattle.device.specs.Solo.{IsSoloAt, SoloWrites}
+use Rattle.machine.specs.declared.Kind.TheVariants.{Write}
+use Rattle.machine.specs.declared.ClientRequest.{ClientRequest}
+use Rattle.machine.specs.declared.Label.TheVariants.{Device}
+use Rattle.machine.specs.Rules.{Rules, first_sector, place_count}
+use Rattle.machine.specs.State.{Out, State}
+use Rattle.machine.specs.Sending.{partition_number, array_at}
+use Rattle.machine.specs.Solo.{IsSoloAt, SoloWrites}
 use Rattle.machine_laws.specs.Sectors.{sector_at, sector_of, bytes_for}
 use Rattle.machine_laws.specs.SoloLaws.{FailedWrites}
 use Rattle.machine_laws.proofs.Bounds.{write_length}
 use Rattle.machine_laws.proofs.Chunks.{chunks_join}
+use Rattle.machine_laws.proofs.Acted.{moves_faithfully}
 use Rattle.machine_laws.proofs.Serving.{IsRightFate, IsMine, Serves, AllActRightly, act_inside}
 use Rattle.machine_laws.proofs.Sound.{Anything, IsSound, called_sound, called_serves}
 use Rattle.machine_laws.proofs.Sectors.{act_writes, bytes_are}
@@ -26,7 +27,7 @@ use Rattle.machine_laws.proofs.Served.{IsDoneRightly, done_rightly, whole_range}
 abbrev pub IsWritten : Rules → ClientRequest → List (List (List ℕ)) → ℕ → List ℕ → Type 0
 IsWritten rules q arrays k sector = (k < place_count rules q) × (slice_get (array_at arrays (partition_number q)) (sector_of rules q k) ≡ Some (bytes_for rules q k))
 
-module _ (rules : Rules) (number : ℕ) (q : ClientRequest) (is_write : q.kind ≡ Write) where
+module _ (rules : Rules) (number : ℕ) (q : ClientRequest) (is_faithful : IsTrue rules.faithful) (is_write : q.kind ≡ Write) where
   write_acts : (s : State) (s' : State) → IsSound rules s → Serves rules number q (IsWritten rules q) s → IsSoloAt rules number q s → AllActRightly rules number (IsWritten rules q) s s'
   write_acts s s' sound k solo n bytes h = record { keeps = λ j sector right. (right.0, kept j right.0 right.1); leaves = leaves }
     where
@@ -44,15 +45,16 @@ module _ (rules : Rules) (number : ℕ) (q : ClientRequest) (is_write : q.kind �
           let inside : h.piece.places.first + h.piece.places.count ≤ place_count rules q = subst (λ r. h.piece.places.first + h.piece.places.count ≤ place_count rules r) same (act_inside rules number q (IsWritten rules q) s n bytes s' k h) in
           let low : j < h.piece.places.count = rw (← h.covers) within in
           let w : h.owner.request.kind ≡ Write = ap (λ r. r.kind) same ∙ is_write in
+          let moves = moves_faithfully rules s h.owner.request h.piece.places h.owner.request.kind h.sectors h.arrays' is_faithful h.moves in
           let there : slice_get (array_at h.arrays' (partition_number q)) (first_sector rules q + h.piece.places.first + j) ≡ Some (bytes_for rules q (h.piece.places.first + j)) =
-          subst (λ r. slice_get (array_at h.arrays' (partition_number r)) (first_sector rules r + h.piece.places.first + j) ≡ Some (bytes_for rules r (h.piece.places.first + j))) same (act_writes rules s n bytes s' sound h w j low) in
+          subst (λ r. slice_get (array_at h.arrays' (partition_number r)) (first_sector rules r + h.piece.places.first + j) ≡ Some (bytes_for rules r (h.piece.places.first + j))) same (act_writes rules s n bytes s' sound h moves w j low) in
           let sum : sector_of rules q (h.piece.places.first + j) ≡ first_sector rules q + h.piece.places.first + j = omega arith in
           (omega arith, ap (λ i. slice_get (array_at h.arrays' (partition_number q)) i) sum ∙ there)
 
-pub solo_writes : (rules : Rules) (before : State) → IsSound rules before → SoloWrites rules before
-solo_writes rules before sound number q bytes after is_write served =
+pub solo_writes : (rules : Rules) (before : State) → IsTrue rules.faithful → IsSound rules before → SoloWrites rules before
+solo_writes rules before is_faithful sound number q bytes after is_write served =
     let h : IsDoneRightly rules q (IsWritten rules q served.ended.arrays) served.answers.request =
-    done_rightly rules number q (IsWritten rules q) (write_acts rules number q is_write) before bytes after sound served in
+    done_rightly rules number q (IsWritten rules q) (write_acts rules number q is_faithful is_write) before bytes after sound served in
     let long : length q.bytes ≡ place_count rules q * rules.sector_size = write_length rules before q is_write served.opens.not_refused served.opens.carries in
     let joined : concat (take (place_count rules q) (drop (first_sector rules q) (array_at served.ended.arrays (partition_number q)))) ≡ q.bytes =
     chunks_join rules.sector_size (place_count rules q) (first_sector rules q) (array_at served.ended.arrays (partition_number q)) q.bytes long

@@ -5,16 +5,16 @@ use Rattle.std.specs.List.{IsDistinct}
 use Rattle.std.proofs.lemmas.List.{length-replicate, get_or-replicate}
 use Rattle.std.proofs.lemmas.List.Sorted.{IsPermutation-sym, All-permutation}
 use Rattle.std.proofs.lemmas.List.Elements.{All-cons, All-nil, All-weaker}
-use Rattle.device.specs.declared.Kind.TheVariants.{Read}
-use Rattle.device.specs.declared.ClientRequest.{ClientRequest}
-use Rattle.device.specs.declared.Label.{Label}
-use Rattle.device.specs.Rules.{Rules, place_count}
-use Rattle.device.specs.State.{opening, Untouched, OpenRequest, State, IsSame}
-use Rattle.device.specs.Calling.{Opens, new_request}
-use Rattle.device.specs.Step.{Step, Run}
-use Rattle.device.specs.Numbers.{IsGiven, IsSent, AreDistinct}
-use Rattle.device.proofs.Same.{IsSame-sym}
-use Rattle.device.proofs.Numbers.{AreDistinct-Admits, AreDistinct-Step, AreDistinct-Run}
+use Rattle.machine.specs.declared.Kind.TheVariants.{Read}
+use Rattle.machine.specs.declared.ClientRequest.{ClientRequest}
+use Rattle.machine.specs.declared.Label.{Label}
+use Rattle.machine.specs.Rules.{Rules, place_count}
+use Rattle.machine.specs.State.{opening, Untouched, OpenRequest, State, IsSame}
+use Rattle.machine.specs.Calling.{Opens, new_request}
+use Rattle.machine.specs.Step.{Step, Run}
+use Rattle.machine.specs.Numbers.{IsGiven, IsSent, AreDistinct}
+use Rattle.machine.proofs.Same.{IsSame-sym}
+use Rattle.machine.proofs.Numbers.{AreDistinct-Admits, AreDistinct-Step, AreDistinct-Run}
 use Rattle.sector.proofs.Splicing.{AllAt}
 use Rattle.machine_laws.specs.Reached.{AreWhole, IsReached}
 use Rattle.machine_laws.proofs.Serving.{IsRightMark, IsSized, IsMine, PieceFits, Serves, AllActRightly, Serves-same, Serves-Opens, Serves-Step}

@@ -1,21 +1,21 @@
 -- What the labels of a run may change of the arrays.
-use Rattle.std.proofs.Common.{◌≡◌, ◌⊎◌, inl, inr, ℕ, List, [], ◌∷◌, refl, sym, ◌∙◌, ap, subst, length}
+use Rattle.std.proofs.Common.{◌≡◌, ◌⊎◌, inl, inr, ℕ, List, [], ◌∷◌, refl, sym, ◌∙◌, ap, length}
 use Rattle.std.specs.Prelude.{slice_get}
 use Rattle.std.proofs.lemmas.Bool.{cases_eq}
 use Rattle.std.proofs.lemmas.List.{length-set, get_or-set_other}
 use Rattle.srb.specs.declared.DeviceLabel.TheVariants.{Act}
-use Rattle.device.specs.declared.Kind.{Kind}
-use Rattle.device.specs.declared.Kind.TheVariants.{Read, Write, Flush}
-use Rattle.device.specs.declared.Label.{Label}
-use Rattle.device.specs.declared.Label.TheVariants.{Device}
-use Rattle.device.specs.Rules.{Rules}
-use Rattle.device.specs.State.{State}
-use Rattle.device.specs.Sending.{Acts, Transfers, partition_number, array_at}
-use Rattle.device.specs.Step.{Step, Run}
+use Rattle.machine.specs.declared.Kind.{Kind}
+use Rattle.machine.specs.declared.Kind.TheVariants.{Read, Write, Flush}
+use Rattle.machine.specs.declared.Label.{Label}
+use Rattle.machine.specs.declared.Label.TheVariants.{Device}
+use Rattle.machine.specs.Rules.{Rules, as_faithful}
+use Rattle.machine.specs.State.{State}
+use Rattle.machine.specs.Sending.{Acts, Transfers, partition_number, array_at}
+use Rattle.machine.specs.Step.{Step, Run}
 use Rattle.machine_laws.specs.Sectors.{sector_at, WritesPartition}
 use Rattle.machine_laws.specs.Along.{Sometime}
 use Rattle.machine_laws.specs.WriteLaws.{IsWriteOn, IsWriteAt, HaveSameLengths, StepsKeepArrays, RunsKeepArrays}
-use Rattle.machine_laws.proofs.Acted.{Transfers-length}
+use Rattle.machine_laws.proofs.Acted.{moves_or_leaves, Transfers-length}
 use Rattle.machine_laws.proofs.Serving.{act_fits}
 use Rattle.machine_laws.proofs.Sound.{Anything, nothing, IsSound, IsSound-Step}
 use Rattle.machine_laws.proofs.Sectors.{Moved, step_arrays, is_act, step_sector}
@@ -24,20 +24,19 @@ use Rattle.machine_laws.proofs.Sectors.{Moved, step_arrays, is_act, step_sector}
 
 act_partition : (rules : Rules) (s : State) (label : Label) (s' : State) (n : ℕ) (bytes : List ℕ) → label ≡ Device (Act n bytes) → Acts rules s n bytes s' → (p : ℕ)
     → (array_at s'.arrays p ≡ array_at s.arrays p) ⊎ WritesPartition p s label
-act_partition rules s label s' n bytes e h p = by_kind h.owner.request.kind refl
+act_partition rules s label s' n bytes e h p =
+    elim (moves_or_leaves rules s h.owner.request h.piece.places h.owner.request.kind h.sectors h.arrays' h.moves) [
+      | inl moves ↦ by_kind h.owner.request.kind refl moves
+      | inr same ↦ inl (same_arrays same)
+    ]
   where
     same_arrays : h.arrays' ≡ s.arrays → array_at s'.arrays p ≡ array_at s.arrays p
     same_arrays same = ap (λ arrays. array_at arrays p) (h.after.arrays ∙ same)
 
-    by_kind : (kind : Kind) → h.owner.request.kind ≡ kind → (array_at s'.arrays p ≡ array_at s.arrays p) ⊎ WritesPartition p s label
-    by_kind Read k =
-        let moves : Transfers rules s h.owner.request h.piece.places Read h.sectors h.arrays' = subst (λ kind. Transfers rules s h.owner.request h.piece.places kind h.sectors h.arrays') k h.moves in
-        inl (same_arrays moves.1)
-    by_kind Flush k =
-        let moves : Transfers rules s h.owner.request h.piece.places Flush h.sectors h.arrays' = subst (λ kind. Transfers rules s h.owner.request h.piece.places kind h.sectors h.arrays') k h.moves in
-        inl (same_arrays moves.1)
-    by_kind Write k =
-        let moves : Transfers rules s h.owner.request h.piece.places Write h.sectors h.arrays' = subst (λ kind. Transfers rules s h.owner.request h.piece.places kind h.sectors h.arrays') k h.moves in
+    by_kind : (kind : Kind) → h.owner.request.kind ≡ kind → Transfers (as_faithful rules) s h.owner.request h.piece.places kind h.sectors h.arrays' → (array_at s'.arrays p ≡ array_at s.arrays p) ⊎ WritesPartition p s label
+    by_kind Read k moves = inl (same_arrays moves.2)
+    by_kind Flush k moves = inl (same_arrays moves.1)
+    by_kind Write k moves =
         elim (cases_eq p (partition_number h.owner.request)) [
           | inl same ↦ inr (record { act = is_act rules s label s' n bytes e h; is_write = k; on_partition = sym same })
           | inr other ↦ inl (ap (λ arrays. array_at arrays p) (h.after.arrays ∙ moves.2) ∙ get_or-set_other s.arrays (partition_number h.owner.request) p _ [] other)
@@ -84,10 +83,14 @@ runs_keep_sectors rules s labels s' sound run p i =
 -- LENGTHS
 
 moves_count : (rules : Rules) (s : State) (n : ℕ) (bytes : List ℕ) (s' : State) → Acts rules s n bytes s' → length s'.arrays ≡ length s.arrays
-moves_count rules s n bytes s' h = by_kind h.owner.request.kind h.moves
+moves_count rules s n bytes s' h =
+    elim (moves_or_leaves rules s h.owner.request h.piece.places h.owner.request.kind h.sectors h.arrays' h.moves) [
+      | inl moves ↦ by_kind h.owner.request.kind moves
+      | inr same ↦ ap length (h.after.arrays ∙ same)
+    ]
   where
-    by_kind : (kind : Kind) → Transfers rules s h.owner.request h.piece.places kind h.sectors h.arrays' → length s'.arrays ≡ length s.arrays
-    by_kind Read moves = ap length (h.after.arrays ∙ moves.1)
+    by_kind : (kind : Kind) → Transfers (as_faithful rules) s h.owner.request h.piece.places kind h.sectors h.arrays' → length s'.arrays ≡ length s.arrays
+    by_kind Read moves = ap length (h.after.arrays ∙ moves.2)
     by_kind Flush moves = ap length (h.after.arrays ∙ moves.1)
     by_kind Write moves = ap length (h.after.arrays ∙ moves.2) ∙ length-set s.arrays (partition_number h.owner.request) _
 

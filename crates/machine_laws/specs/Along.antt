@@ -1,9 +1,9 @@
 -- What happens once, or holds always, along a run.
 use Rattle.std.specs.Prelude.{◌⊎◌, List, [], ◌∷◌}
-use Rattle.device.specs.declared.Label.{Label}
-use Rattle.device.specs.Rules.{Rules}
-use Rattle.device.specs.State.{State}
-use Rattle.device.specs.Step.{Run}
+use Rattle.machine.specs.declared.Label.{Label}
+use Rattle.machine.specs.Rules.{Rules}
+use Rattle.machine.specs.State.{State}
+use Rattle.machine.specs.Step.{Run}
 
 -- at one of its steps, from a state by a label to a state
 abbrev pub Sometime : (State → Label → State → Type 0) → (rules : Rules) (s : State) (labels : List Label) (s' : State) → Run rules s labels s' → Type 0

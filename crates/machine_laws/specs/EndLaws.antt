@@ -1,12 +1,12 @@
 -- What comes no more after an answer, and after the end of a removal.
 use Rattle.std.specs.Prelude.{◌≡◌, ◌≢◌, ℕ, List, [], All, IsTrue}
 use Rattle.ntstatus.specs.declared.NtStatus.{NtStatus}
-use Rattle.device.specs.declared.Label.{Label}
-use Rattle.device.specs.declared.Label.TheVariants.{Device, Removed}
-use Rattle.device.specs.Rules.{Rules}
-use Rattle.device.specs.State.{OpenRequest, Piece, State, opening}
-use Rattle.device.specs.Answering.{Answers}
-use Rattle.device.specs.Step.{Step, Run}
+use Rattle.machine.specs.declared.Label.{Label}
+use Rattle.machine.specs.declared.Label.TheVariants.{Device, Removed}
+use Rattle.machine.specs.Rules.{Rules}
+use Rattle.machine.specs.State.{OpenRequest, Piece, State, opening}
+use Rattle.machine.specs.Answering.{Answers}
+use Rattle.machine.specs.Step.{Step, Run}
 use Rattle.machine_laws.specs.Sectors.{WritesSector}
 use Rattle.machine_laws.specs.Along.{Sometime, Always}
 use Rattle.machine_laws.specs.Reached.{IsReached}

@@ -4,4 +4,5 @@ pub mod Reached
 pub mod SoloLaws
 pub mod WriteLaws
 pub mod EndLaws
+pub mod Lifting
 pub mod NumberLaws

@@ -1,10 +1,10 @@
 -- The moments of runs from an opening state.
 use Rattle.std.specs.Prelude.{◌≤◌, ℕ, List, ◌++◌, Some, length}
-use Rattle.device.specs.declared.Label.{Label}
-use Rattle.device.specs.Rules.{Rules, sectors_of}
-use Rattle.device.specs.State.{State, opening}
-use Rattle.device.specs.Step.{Run}
-use Rattle.device.specs.Sending.{array_at}
+use Rattle.machine.specs.declared.Label.{Label}
+use Rattle.machine.specs.Rules.{Rules, sectors_of}
+use Rattle.machine.specs.State.{State, opening}
+use Rattle.machine.specs.Step.{Run}
+use Rattle.machine.specs.Sending.{array_at}
 
 -- each array has the sectors of its partition
 abbrev pub AreWhole : Rules → List (List (List ℕ)) → Type 0

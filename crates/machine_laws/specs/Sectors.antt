@@ -1,13 +1,13 @@
 -- The sectors of the arrays, and the labels that write them.
 use Rattle.std.specs.Prelude.{◌≡◌, ◌<◌, ◌≤◌, ℕ, ◌+◌, ◌*◌, List, Option, Some, slice_get, slice_range, Contains}
 use Rattle.srb.specs.declared.DeviceLabel.TheVariants.{Act}
-use Rattle.device.specs.declared.Kind.TheVariants.{Write}
-use Rattle.device.specs.declared.ClientRequest.{ClientRequest}
-use Rattle.device.specs.declared.Label.{Label}
-use Rattle.device.specs.declared.Label.TheVariants.{Device}
-use Rattle.device.specs.Rules.{Rules, first_sector, place_count, sectors_of}
-use Rattle.device.specs.State.{OpenRequest, Piece, State}
-use Rattle.device.specs.Sending.{partition_number, array_at}
+use Rattle.machine.specs.declared.Kind.TheVariants.{Write}
+use Rattle.machine.specs.declared.ClientRequest.{ClientRequest}
+use Rattle.machine.specs.declared.Label.{Label}
+use Rattle.machine.specs.declared.Label.TheVariants.{Device}
+use Rattle.machine.specs.Rules.{Rules, first_sector, place_count, sectors_of}
+use Rattle.machine.specs.State.{OpenRequest, Piece, State}
+use Rattle.machine.specs.Sending.{partition_number, array_at}
 
 -- sector i of a partition, if there is one
 abbrev pub sector_at : State → ℕ → ℕ → Option (List ℕ)

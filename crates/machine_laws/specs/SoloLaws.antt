@@ -1,28 +1,28 @@
 -- The laws of a request that no other write meets, at each moment that a run reaches.
-use Rattle.std.specs.Prelude.{◌≡◌, ◌<◌, ◌⊎◌, ℕ, List, Some, None}
+use Rattle.std.specs.Prelude.{◌≡◌, ◌<◌, ◌⊎◌, ℕ, List, Some, None, IsTrue}
 use Rattle.ntstatus.specs.declared.NtStatus.{NtStatus}
-use Rattle.device.specs.declared.Kind.TheVariants.{Write}
-use Rattle.device.specs.declared.ClientRequest.{ClientRequest}
-use Rattle.device.specs.declared.Label.{Label}
-use Rattle.device.specs.declared.Label.TheVariants.{Call, Answer}
-use Rattle.device.specs.Rules.{Rules, place_count}
-use Rattle.device.specs.State.{State}
-use Rattle.device.specs.Calling.{refusal, Opens}
-use Rattle.device.specs.Sending.{partition_number}
-use Rattle.device.specs.Answering.{Answers}
-use Rattle.device.specs.Step.{Step, Run}
-use Rattle.device.specs.Solo.{IsAnswered, SoloReads, SoloWrites}
+use Rattle.machine.specs.declared.Kind.TheVariants.{Write}
+use Rattle.machine.specs.declared.ClientRequest.{ClientRequest}
+use Rattle.machine.specs.declared.Label.{Label}
+use Rattle.machine.specs.declared.Label.TheVariants.{Call, Answer}
+use Rattle.machine.specs.Rules.{Rules, place_count}
+use Rattle.machine.specs.State.{State}
+use Rattle.machine.specs.Calling.{refusal, Opens}
+use Rattle.machine.specs.Sending.{partition_number}
+use Rattle.machine.specs.Answering.{Answers}
+use Rattle.machine.specs.Step.{Step, Run}
+use Rattle.machine.specs.Solo.{IsAnswered, SoloReads, SoloWrites}
 use Rattle.machine_laws.specs.Sectors.{sector_at, sector_of, bytes_for, WritesSector}
 use Rattle.machine_laws.specs.Along.{Sometime}
 use Rattle.machine_laws.specs.Reached.{IsReached}
 
--- a solo read that succeeds gives the bytes of the array at its call
+-- where acts move the arrays, a solo read that succeeds gives the bytes of the array at its call
 abbrev pub SoloReadsHold : Type 0
-SoloReadsHold = (rules : Rules) (before : State) → IsReached rules before → SoloReads rules before
+SoloReadsHold = (rules : Rules) (before : State) → IsTrue rules.faithful → IsReached rules before → SoloReads rules before
 
--- a solo write that succeeds stands in the array at its answer
+-- and a solo write that succeeds stands in the array at its answer
 abbrev pub SoloWritesHold : Type 0
-SoloWritesHold = (rules : Rules) (before : State) → IsReached rules before → SoloWrites rules before
+SoloWritesHold = (rules : Rules) (before : State) → IsTrue rules.faithful → IsReached rules before → SoloWrites rules before
 
 -- a call that is not refused opens its request, and an answer of that number after it is the open request's
 abbrev pub LabelsAreOfOne : Type 0

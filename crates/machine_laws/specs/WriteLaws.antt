@@ -1,10 +1,10 @@
 -- What a label may change of the arrays.
 use Rattle.std.specs.Prelude.{◌≡◌, ◌⊎◌, ℕ, List, length}
-use Rattle.device.specs.declared.Label.{Label}
-use Rattle.device.specs.Rules.{Rules}
-use Rattle.device.specs.State.{State}
-use Rattle.device.specs.Step.{Step, Run}
-use Rattle.device.specs.Sending.{array_at}
+use Rattle.machine.specs.declared.Label.{Label}
+use Rattle.machine.specs.Rules.{Rules}
+use Rattle.machine.specs.State.{State}
+use Rattle.machine.specs.Step.{Step, Run}
+use Rattle.machine.specs.Sending.{array_at}
 use Rattle.machine_laws.specs.Sectors.{sector_at, WritesPartition, WritesSector}
 use Rattle.machine_laws.specs.Along.{Sometime}
 use Rattle.machine_laws.specs.Reached.{IsReached}

@@ -19,6 +19,7 @@ ghost use Rattle.machine_laws.specs.EndLaws.{
   RemovedAreEmpty,
   RemovedIsLast,
 };
+ghost use Rattle.machine_laws.specs.Lifting.{RunsLift};
 ghost use Rattle.machine_laws.specs.NumberLaws.{AnswersOnce, CallsOnce};
 ghost use Rattle.machine_laws.specs.Reached.{OpeningsAreReached, RunsGoOn, RunsSplit};
 ghost use Rattle.machine_laws.specs.SoloLaws.{
@@ -102,4 +103,10 @@ pub fn goes_on()
 /// that a refused call was owed.
 pub fn labels_are_of_one()
     ensures { LabelsAreOfOne }
+{}
+
+/// Where the sectors stand elsewhere, a run whose acts are a journal's entries, in order, is a run of the faithful
+/// machine from the sectors before the journal to those after it.
+pub fn runs_lift()
+    ensures { RunsLift }
 {}

@@ -9,14 +9,14 @@ use Rattle.std.proofs.lemmas.Bool.{cases_lt}
 use Rattle.srb.specs.declared.Srb.{Srb}
 use Rattle.srb.specs.declared.Completion.{Completion}
 use Rattle.srb.specs.Fate.{Fresh}
-use Rattle.srb.specs.Adapter.{TagInUse, IsOn}
+use Rattle.adapter.specs.View.{TagInUse, IsOn}
 use Rattle.disk.specs.Medium.{MediumView}
 use Rattle.miniport.specs.declared.on_tag.OnTag.{OnTag}
 use Rattle.miniport.specs.declared.on_tag.Progress.{Progress}
 use Rattle.miniport.specs.declared.on_tag.Progress.TheVariants.{Untouched, Moved as Done, Failed as Refused}
 use Rattle.miniport.specs.declared.carrying.Outcome.{Outcome}
 use Rattle.miniport.specs.declared.carrying.Outcome.TheVariants.{Moved, Failed}
-use Rattle.miniport.specs.Calls.{Acts, ActsNot}
+use Rattle.adapter.specs.Calls.{Acts, ActsNot}
 use Rattle.miniport.specs.Carrying.{disk_of, emptied}
 use Rattle.miniport.specs.Moving.{moved_by}
 use Rattle.miniport.specs.Slots.{Table, HasNoneUntouched, piece_at, in_use_of, fate_of, tags_of, with_slot, with_moved, with_failed}

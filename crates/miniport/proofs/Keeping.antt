@@ -7,7 +7,7 @@ use Rattle.srb.specs.declared.Completion.{Completion}
 use Rattle.srb.specs.declared.DeviceLabel.{DeviceLabel}
 use Rattle.srb.specs.declared.Class.TheVariants.{Bad}
 use Rattle.srb.specs.Fate.{class_of}
-use Rattle.srb.specs.Adapter.{IsInOrder, IsFree}
+use Rattle.adapter.specs.View.{IsInOrder, IsFree}
 use Rattle.disk.specs.Medium.{MediumView, IsWhole}
 use Rattle.miniport.specs.declared.on_tag.OnTag.{OnTag}
 use Rattle.miniport.specs.declared.on_tag.Progress.{Progress}

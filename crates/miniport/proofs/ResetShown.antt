@@ -11,16 +11,16 @@ use Rattle.srb.specs.declared.Completion.{Completion}
 use Rattle.srb.specs.declared.DeviceLabel.{DeviceLabel}
 use Rattle.srb.specs.declared.DeviceLabel.TheVariants.{Fault}
 use Rattle.srb.specs.Fate.{Fate, Fresh, Acted, Faulted, is_fresh}
-use Rattle.srb.specs.Adapter.{TagInUse, AdapterView, faulted, met_by_reset, MovesByAll, NotesReset, FaultsOn}
+use Rattle.adapter.specs.View.{TagInUse, AdapterView, faulted, met_by_reset, MovesByAll, NotesReset, FaultsOn}
 use Rattle.disk.specs.Medium.{MediumView}
 use Rattle.miniport.specs.declared.on_tag.OnTag.{OnTag}
 use Rattle.miniport.specs.declared.on_tag.Progress.{Progress}
 use Rattle.miniport.specs.declared.on_tag.Progress.TheVariants.{Untouched, Moved, Failed}
-use Rattle.miniport.specs.Calls.{Resets, after_reset, fate_after_reset, is_fresh_use, fault_of}
+use Rattle.adapter.specs.Calls.{Resets, after_reset, fate_after_reset, is_fresh_use, fault_of}
 use Rattle.miniport.specs.Slots.{Table, piece_at, in_use_of, fate_of, tags_of, labels_by, slot_completion, slot_after_reset, progress_after_reset, failures_of_reset, labels_of_reset, with_reset}
 use Rattle.miniport.specs.Memory.{shown_of, view_of, is_unmet, due_after_reset, ResetsAll}
 use Rattle.miniport.specs.Faults.{bus_reset}
-use Rattle.srb.proofs.Joining.{reserves_none}
+use Rattle.adapter.proofs.Joining.{reserves_none}
 use Rattle.miniport.proofs.TagsInUse.{fresh_rise}
 
 -- THE FAULTS ARE MOVES

@@ -4,11 +4,11 @@ use Rattle.std.specs.Prelude.{Any}
 use Rattle.srb.specs.declared.Srb.{Srb}
 use Rattle.srb.specs.declared.Completion.{Completion}
 use Rattle.srb.specs.declared.DeviceLabel.{DeviceLabel}
-use Rattle.srb.specs.Adapter.{AdapterView, IsInOrder, IsFree, HasTag, HasNotTag, IsWritable, ReservesMore, Accepts}
+use Rattle.adapter.specs.View.{AdapterView, IsInOrder, IsFree, HasTag, HasNotTag, IsWritable, ReservesMore, Accepts}
 use Rattle.sector.specs.declared.Extent.{Extent}
 use Rattle.disk.specs.Medium.{MediumView, IsWhole, Reserves as MediumReserves, IsReserved as MediumReserved}
 use Rattle.miniport.specs.declared.on_tag.OnTag.{OnTag}
-use Rattle.miniport.specs.Calls.{Acts, ActsNot, Finishes, FinishesNot, Resets}
+use Rattle.adapter.specs.Calls.{Acts, ActsNot, Finishes, FinishesNot, Resets}
 use Rattle.miniport.specs.Faults.{busy}
 use Rattle.miniport.specs.Slots.{Table, ComesBack, piece_at, tags_of, completion_of, with_new, with_returned, with_reset}
 use Rattle.miniport.specs.Memory.{MemView, IsKept, shown_of, view_of, Dues, SameDues, ActsByTable, ActsIn, ActsNotIn, ResetsAll}

@@ -10,13 +10,13 @@ use Rattle.srb.specs.declared.Srb.{Srb}
 use Rattle.srb.specs.declared.Completion.{Completion}
 use Rattle.srb.specs.declared.Class.TheVariants.{Bad}
 use Rattle.srb.specs.Fate.{Fresh, Acted, class_of}
-use Rattle.srb.specs.Performing.{Performs}
-use Rattle.srb.specs.Adapter.{TagInUse, AdapterView, IsFree, Accepts, ActsOn, FaultsOn, ReturnsOn, MayReturn, acted}
+use Rattle.adapter.specs.Performing.{Performs}
+use Rattle.adapter.specs.View.{TagInUse, AdapterView, IsFree, Accepts, ActsOn, FaultsOn, ReturnsOn, MayReturn, acted}
 use Rattle.disk.specs.Medium.{MediumView}
 use Rattle.miniport.specs.declared.on_tag.OnTag.{OnTag}
 use Rattle.miniport.specs.declared.on_tag.Progress.{Progress}
 use Rattle.miniport.specs.declared.on_tag.Progress.TheVariants.{Untouched, Moved, Failed}
-use Rattle.miniport.specs.Calls.{Finishes}
+use Rattle.adapter.specs.Calls.{Finishes}
 use Rattle.miniport.specs.Carrying.{emptied, disk_of}
 use Rattle.miniport.specs.Faults.{fault_of, Decodes, success, busy, bus_reset}
 use Rattle.miniport.specs.Moving.{moved_by}

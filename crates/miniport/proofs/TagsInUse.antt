@@ -6,9 +6,9 @@ use Rattle.std.proofs.lemmas.List.{get_or-set_same, get_or-map, length-map}
 use Rattle.std.proofs.lemmas.List.Elements.{All-nil, All-cons, All-weaker}
 use Rattle.std.proofs.lemmas.List.Kept.{AllPairs-cons, AllPairs-filter}
 use Rattle.std.proofs.lemmas.List.Sorted.{IsPermutation-refl, IsPermutation-cons, IsPermutation-middle, IsPermutation-trans, IsPermutation-sym, Contains-permutation}
-use Rattle.srb.specs.Adapter.{TagInUse, HasTag, HasNotTag, HaveOtherTags, IsBelow}
+use Rattle.adapter.specs.View.{TagInUse, HasTag, HasNotTag, HaveOtherTags, IsBelow}
 use Rattle.miniport.specs.declared.on_tag.OnTag.{OnTag}
-use Rattle.miniport.specs.Calls.{tag_of, is_fresh_use}
+use Rattle.adapter.specs.Calls.{tag_of, is_fresh_use}
 use Rattle.miniport.specs.Slots.{piece_at, in_use_of, tags_of}
 
 -- a piece among the tags in use, and the others

@@ -8,7 +8,7 @@ use Rattle.cdb.specs.declared.CdbFault.{CdbFault}
 use Rattle.cdb.specs.Meaning.{Means}
 use Rattle.srb.specs.declared.Srb.{Srb}
 use Rattle.srb.specs.declared.Completion.{Completion}
-use Rattle.srb.specs.Performing.{Performs}
+use Rattle.adapter.specs.Performing.{Performs}
 use Rattle.disk.specs.Medium.{MediumView, IsReserved, HasBad, bytes_at, failed, Writes as Rewrites}
 use Rattle.miniport.specs.declared.check.Sizes.{Sizes}
 use Rattle.miniport.specs.declared.carrying.Outcome.{Outcome}

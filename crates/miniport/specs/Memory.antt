@@ -6,7 +6,7 @@ use Rattle.cdb.specs.declared.CdbFault.{CdbFault}
 use Rattle.srb.specs.declared.Completion.{Completion}
 use Rattle.srb.specs.declared.Class.TheVariants.{Bad}
 use Rattle.srb.specs.Fate.{class_of}
-use Rattle.srb.specs.Adapter.{TagInUse, AdapterView, IsOn, ActsOn, FaultsOn}
+use Rattle.adapter.specs.View.{TagInUse, AdapterView, IsOn, ActsOn, FaultsOn}
 use Rattle.disk.specs.Medium.{MediumView}
 use Rattle.miniport.specs.declared.on_tag.OnTag.{OnTag}
 use Rattle.miniport.specs.declared.on_tag.Progress.{Progress}
@@ -40,6 +40,7 @@ abbrev pub shown_of : MediumView → ℕ → Table → AdapterView
 shown_of medium max_transfer table = record {
   sector_size = medium.sector_size;
   sectors = medium.sectors;
+  faithful = true;
   max_transfer = max_transfer;
   depth = length table.slots;
   tags = tags_of medium.sector_size 0 table.slots;
@@ -63,6 +64,7 @@ new_view medium max_transfer depth write_protected = record {
   shown = record {
     sector_size = medium.sector_size;
     sectors = medium.sectors;
+    faithful = true;
     max_transfer = max_transfer;
     depth = depth;
     tags = [];

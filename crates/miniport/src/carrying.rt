@@ -5,7 +5,7 @@ ghost use Rattle.byteorder.specs.Endian.{big_bytes};
 ghost use Rattle.cdb.specs.declared.Cdb.{Cdb};
 ghost use Rattle.cdb.specs.declared.Cdb.TheVariants.{Read10, Write10, ReadCapacity10};
 ghost use Rattle.cdb.specs.Meaning.{Means};
-ghost use Rattle.srb.specs.Performing.{capacity_data};
+ghost use Rattle.adapter.specs.Performing.{capacity_data};
 ghost use Rattle.disk.specs.Medium.{IsWithin, IsReserved, HasBad, bytes_at, failed};
 ghost use Rattle.miniport.specs.Checking.{Passes, IsRefused};
 ghost use Rattle.miniport.specs.Carrying.{emptied, disk_of, sizes_of, IsReady, Ends, Reads, Writes};

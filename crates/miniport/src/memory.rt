@@ -6,14 +6,14 @@ ghost use Rattle.miniport.specs.declared.on_tag.Progress.TheVariants.{Untouched}
 ghost use Rattle.miniport.specs.Carrying.{IsReady};
 ghost use Rattle.miniport.specs.Memory.{MemView, view_of, new_view, IsKept, PutsBack, ActsIn, ActsNotIn};
 
-use crate::adapter::Adapter;
 use crate::carrying::{Outcome, carry_out};
 use crate::on_tag::{OnTag, Progress};
 use crate::table::TagTable;
+use adapter::Adapter;
 use disk::{Medium, NoMemory};
 use sector::Extent;
 use srb::{Completion, DeviceLabel, Srb};
-use std::alloc::Global;
+use std::alloc::{AllocError, Global};
 use std::marker::Model;
 
 /// An adapter over a medium. A command fails exactly where a sector of its extent is bad, the SRB doesn't fit it, the disk
@@ -66,8 +66,8 @@ impl<M: Medium> MemAdapter<M> {
 
 impl<M: Medium> Adapter for MemAdapter<M> {
     ghost use Rattle.std.specs.Prelude.{◌+◌, ◌*◌, Some, None, IfSome, get_or, Any, OnOk, MatchOption};
-    ghost use Rattle.srb.specs.Adapter.{HasTag, IsFree, IsInOrder, IsReserved, IsWritable, ReservesMore, Accepts};
-    ghost use Rattle.miniport.specs.Calls.{Acts, ActsNot, Finishes, FinishesNot, Resets, LeavesFirst, HasNoLabel};
+    ghost use Rattle.adapter.specs.View.{HasTag, IsFree, IsInOrder, IsReserved, IsWritable, ReservesMore, Accepts};
+    ghost use Rattle.adapter.specs.Calls.{Acts, ActsNot, Finishes, FinishesNot, Resets, LeavesFirst, HasNoLabel};
     ghost use Rattle.miniport.specs.Faults.{busy};
     ghost use Rattle.miniport.specs.Memory.{Dues, SameDues, ActsByTable, ResetsAll};
 
@@ -89,6 +89,11 @@ impl<M: Medium> Adapter for MemAdapter<M> {
         self.table.depth()
     }
 
+    fn is_faithful(&self) -> bool {
+        let _table = &self.table;
+        true
+    }
+
     /// The failures counted so far, at most twice the pieces accepted.
     fn failures(&self) -> u128
         ensures exact { result ≡ self.now.shown.failures }
@@ -98,14 +103,14 @@ impl<M: Medium> Adapter for MemAdapter<M> {
         self.table.failures()
     }
 
-    fn reserve(&mut self, extent: Extent) -> Result<(), NoMemory>
+    fn reserve(&mut self, extent: Extent) -> Result<(), AllocError>
         requires { extent.first + extent.count ≤ length self.old.shown.sectors }
         ensures reserved { OnOk result (IsReserved self.new.shown extent) }
         ensures reserves { ReservesMore self.old.shown self.new.shown }
         ensures order { IsInOrder self.new.shown }
         ensures due { SameDues self.old self.new }
     {
-        self.medium.reserve(extent)
+        self.medium.reserve(extent).map_err(|_| AllocError)
     }
 
     fn in_use(&self, tag: u8) -> bool {

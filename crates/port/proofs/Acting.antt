@@ -1,6 +1,6 @@
 -- A piece is carried out, or faults.
-use Rattle.std.proofs.Common.{◌≡◌, ◌<◌, ◌⊎◌, inl, inr, ℕ, ◌+◌, ◌-◌, ◌*◌, ◌/◌, Bool, List, [], ◌∷◌, Some, refl, sym, subst, ap, ◌∙◌, arith, map, length, take, get_or}
-use Rattle.std.specs.Prelude.{All, slice_set, slice_index, if◌then◌else◌}
+use Rattle.std.proofs.Common.{◌≡◌, ◌<◌, ◌≤◌, ◌⊎◌, inl, inr, ℕ, ◌+◌, ◌-◌, ◌*◌, ◌/◌, Bool, true, false, List, [], ◌∷◌, Some, refl, sym, subst, ap, ◌∙◌, arith, map, length, take, get_or}
+use Rattle.std.specs.Prelude.{All, IsTrue, slice_set, slice_index, if◌then◌else◌}
 use Rattle.std.specs.List.{concat, slice_range}
 use Rattle.std.proofs.lemmas.List.{length-append, take_all, length-take, length-drop}
 use Rattle.std.proofs.lemmas.List.Elements.{All-head, All-tail, All-take, All-drop}
@@ -10,18 +10,20 @@ use Rattle.cdb.specs.declared.Cdb.{Cdb}
 use Rattle.cdb.specs.declared.Cdb.TheVariants.{Read10, Write10, Sync10, ReadCapacity10}
 use Rattle.cdb.specs.Meaning.{Means}
 use Rattle.srb.specs.declared.Srb.{Srb}
-use Rattle.srb.specs.Performing.{Performs}
+use Rattle.adapter.specs.Performing.{CarriesOut}
 use Rattle.irp.specs.declared.Payload.TheVariants.{Srb as Packed}
-use Rattle.device.specs.declared.Kind.{Kind}
-use Rattle.device.specs.declared.Kind.TheVariants.{Read, Write, Flush}
-use Rattle.device.specs.declared.Request.{Request}
-use Rattle.device.specs.Rules.{Rules, as_client, home, is_transfer}
-use Rattle.device.specs.State.{State}
-use Rattle.device.specs.Sending.{Transfers, command_for}
-use Rattle.device.specs.Seen.{AsksFor, IsBounded, sent_bytes, sectors_in, transfer_length}
+use Rattle.machine.specs.declared.Kind.{Kind}
+use Rattle.machine.specs.declared.Kind.TheVariants.{Read, Write, Flush}
+use Rattle.machine.specs.declared.Request.{Request}
+use Rattle.machine.specs.Rules.{Rules, as_client, home, is_transfer}
+use Rattle.machine.specs.State.{State}
+use Rattle.machine.specs.Sending.{Transfers, command_for}
+use Rattle.machine.specs.Map.{sectors_in}
+use Rattle.device.specs.Seen.{AsksFor, IsBounded, sent_bytes, transfer_length}
 use Rattle.sector.proofs.Splicing.{length-splice}
 use Rattle.port.specs.declared.queues.Sizes.{Sizes}
-use Rattle.port.specs.Shown.{rules_of, places_of, cut}
+use Rattle.port.specs.Shown.{rules_of, places_of}
+use Rattle.device.specs.Served.{cut}
 use Rattle.port.proofs.Lists.{cut-concat}
 use Rattle.port.proofs.Sizing.{volume_zero, sectors_are, places_transfer, places_flush}
 
@@ -35,28 +37,70 @@ clash : (code a b : ℕ) → code ≡ a → code ≡ b → (a < b) ⊎ (b < a) �
 clash code a b h k (inl low) = absurd (omega arith)
 clash code a b h k (inr low) = absurd (omega arith)
 
-as_read : (block : List ℕ) (size : ℕ) (sectors : List (List ℕ)) (bytes : List ℕ) (command : Cdb) (moved after : List (List ℕ)) (first count : ℕ) (through : Bool)
-    → Means block (Read10 first count through) → Means block command → Performs size sectors bytes command moved after → Performs size sectors bytes (Read10 first count through) moved after
-as_read block size sectors bytes (Read10 lba blocks fua) moved after first count through m w p =
-    subst (λ x. Performs size sectors bytes (Read10 x count through) moved after) (sym w.1.address ∙ m.1.address) (subst (λ x. Performs size sectors bytes (Read10 lba x through) moved after) (sym w.1.blocks ∙ m.1.blocks) p)
-as_read block size sectors bytes (Write10 lba blocks fua) moved after first count through m w p = absurd (clash (slice_index block 0) 40 42 m.0.operation w.0.operation (inl (omega arith)))
-as_read block size sectors bytes (Sync10 lba blocks) moved after first count through m w p = absurd (clash (slice_index block 0) 40 53 m.0.operation w.0.operation (inl (omega arith)))
-as_read block size sectors bytes ReadCapacity10 moved after first count through m w p = absurd (clash (slice_index block 0) 40 37 m.0.operation w.operation (inr (omega arith)))
+as_read : (faithful told : Bool) (block : List ℕ) (size : ℕ) (sectors : List (List ℕ)) (bytes : List ℕ) (command : Cdb) (moved after : List (List ℕ)) (first count : ℕ) (through : Bool)
+    → Means block (Read10 first count through) → Means block command → CarriesOut faithful told size sectors bytes command moved after → CarriesOut faithful told size sectors bytes (Read10 first count through) moved after
+as_read true told block size sectors bytes (Read10 lba blocks fua) moved after first count through m w p =
+    subst (λ x. CarriesOut true told size sectors bytes (Read10 x count through) moved after) (sym w.1.address ∙ m.1.address) (subst (λ x. CarriesOut true told size sectors bytes (Read10 lba x through) moved after) (sym w.1.blocks ∙ m.1.blocks) p)
+as_read false told block size sectors bytes (Read10 lba blocks fua) moved after first count through m w p =
+    subst (λ x. CarriesOut false told size sectors bytes (Read10 x count through) moved after) (sym w.1.address ∙ m.1.address) (subst (λ x. CarriesOut false told size sectors bytes (Read10 lba x through) moved after) (sym w.1.blocks ∙ m.1.blocks) p)
+as_read faithful told block size sectors bytes (Write10 lba blocks fua) moved after first count through m w p = absurd (clash (slice_index block 0) 40 42 m.0.operation w.0.operation (inl (omega arith)))
+as_read faithful told block size sectors bytes (Sync10 lba blocks) moved after first count through m w p = absurd (clash (slice_index block 0) 40 53 m.0.operation w.0.operation (inl (omega arith)))
+as_read faithful told block size sectors bytes ReadCapacity10 moved after first count through m w p = absurd (clash (slice_index block 0) 40 37 m.0.operation w.operation (inr (omega arith)))
 
-as_write : (block : List ℕ) (size : ℕ) (sectors : List (List ℕ)) (bytes : List ℕ) (command : Cdb) (moved after : List (List ℕ)) (first count : ℕ) (through : Bool)
-    → Means block (Write10 first count through) → Means block command → Performs size sectors bytes command moved after → Performs size sectors bytes (Write10 first count through) moved after
-as_write block size sectors bytes (Write10 lba blocks fua) moved after first count through m w p =
-    subst (λ x. Performs size sectors bytes (Write10 x count through) moved after) (sym w.1.address ∙ m.1.address) (subst (λ x. Performs size sectors bytes (Write10 lba x through) moved after) (sym w.1.blocks ∙ m.1.blocks) p)
-as_write block size sectors bytes (Read10 lba blocks fua) moved after first count through m w p = absurd (clash (slice_index block 0) 42 40 m.0.operation w.0.operation (inr (omega arith)))
-as_write block size sectors bytes (Sync10 lba blocks) moved after first count through m w p = absurd (clash (slice_index block 0) 42 53 m.0.operation w.0.operation (inl (omega arith)))
-as_write block size sectors bytes ReadCapacity10 moved after first count through m w p = absurd (clash (slice_index block 0) 42 37 m.0.operation w.operation (inr (omega arith)))
+as_write : (faithful told : Bool) (block : List ℕ) (size : ℕ) (sectors : List (List ℕ)) (bytes : List ℕ) (command : Cdb) (moved after : List (List ℕ)) (first count : ℕ) (through : Bool)
+    → Means block (Write10 first count through) → Means block command → CarriesOut faithful told size sectors bytes command moved after → CarriesOut faithful told size sectors bytes (Write10 first count through) moved after
+as_write true told block size sectors bytes (Write10 lba blocks fua) moved after first count through m w p =
+    subst (λ x. CarriesOut true told size sectors bytes (Write10 x count through) moved after) (sym w.1.address ∙ m.1.address) (subst (λ x. CarriesOut true told size sectors bytes (Write10 lba x through) moved after) (sym w.1.blocks ∙ m.1.blocks) p)
+as_write false told block size sectors bytes (Write10 lba blocks fua) moved after first count through m w p =
+    subst (λ x. CarriesOut false told size sectors bytes (Write10 x count through) moved after) (sym w.1.address ∙ m.1.address) (subst (λ x. CarriesOut false told size sectors bytes (Write10 lba x through) moved after) (sym w.1.blocks ∙ m.1.blocks) p)
+as_write faithful told block size sectors bytes (Read10 lba blocks fua) moved after first count through m w p = absurd (clash (slice_index block 0) 42 40 m.0.operation w.0.operation (inr (omega arith)))
+as_write faithful told block size sectors bytes (Sync10 lba blocks) moved after first count through m w p = absurd (clash (slice_index block 0) 42 53 m.0.operation w.0.operation (inl (omega arith)))
+as_write faithful told block size sectors bytes ReadCapacity10 moved after first count through m w p = absurd (clash (slice_index block 0) 42 37 m.0.operation w.operation (inr (omega arith)))
 
-as_flush : (block : List ℕ) (size : ℕ) (sectors : List (List ℕ)) (bytes : List ℕ) (command : Cdb) (moved after : List (List ℕ)) (first count : ℕ)
-    → Means block (Sync10 first count) → Means block command → Performs size sectors bytes command moved after → Performs size sectors bytes (Sync10 first count) moved after
-as_flush block size sectors bytes (Sync10 lba blocks) moved after first count m w p = p
-as_flush block size sectors bytes (Read10 lba blocks fua) moved after first count m w p = absurd (clash (slice_index block 0) 53 40 m.0.operation w.0.operation (inr (omega arith)))
-as_flush block size sectors bytes (Write10 lba blocks fua) moved after first count m w p = absurd (clash (slice_index block 0) 53 42 m.0.operation w.0.operation (inr (omega arith)))
-as_flush block size sectors bytes ReadCapacity10 moved after first count m w p = absurd (clash (slice_index block 0) 53 37 m.0.operation w.operation (inr (omega arith)))
+as_flush : (faithful told : Bool) (block : List ℕ) (size : ℕ) (sectors : List (List ℕ)) (bytes : List ℕ) (command : Cdb) (moved after : List (List ℕ)) (first count : ℕ)
+    → Means block (Sync10 first count) → Means block command → CarriesOut faithful told size sectors bytes command moved after → CarriesOut faithful told size sectors bytes (Sync10 first count) moved after
+as_flush true told block size sectors bytes (Sync10 lba blocks) moved after first count m w p = p
+as_flush false told block size sectors bytes (Sync10 lba blocks) moved after first count m w p = p
+as_flush faithful told block size sectors bytes (Read10 lba blocks fua) moved after first count m w p = absurd (clash (slice_index block 0) 53 40 m.0.operation w.0.operation (inr (omega arith)))
+as_flush faithful told block size sectors bytes (Write10 lba blocks fua) moved after first count m w p = absurd (clash (slice_index block 0) 53 42 m.0.operation w.0.operation (inr (omega arith)))
+as_flush faithful told block size sectors bytes ReadCapacity10 moved after first count m w p = absurd (clash (slice_index block 0) 53 37 m.0.operation w.operation (inr (omega arith)))
+
+-- WHAT IT SAYS OF THE SECTORS, WHERE THE ADAPTER IS FAITHFUL TO THEM AND WHERE IT ISN'T
+
+record IsReadOut (faithful : Bool) (size : ℕ) (sectors : List (List ℕ)) (first count : ℕ) (moved after : List (List ℕ)) : Type 0 where
+  covers : length moved ≡ count
+  whole : All (IsSector size) moved
+  same : IsTrue faithful → moved ≡ slice_range sectors first (first + count)
+  stays : after ≡ sectors
+
+read_out : (faithful told : Bool) (size : ℕ) (sectors : List (List ℕ)) (bytes : List ℕ) (first count : ℕ) (through : Bool) (moved after : List (List ℕ)) → All (IsSector size) sectors
+    → CarriesOut faithful told size sectors bytes (Read10 first count through) moved after → IsReadOut faithful size sectors first count moved after
+read_out true told size sectors bytes first count through moved after sized p =
+    let fits = p.0 in
+    record {
+      covers = ap (λ xs. length xs) p.1 ∙ simp (length-take, length-drop) (omega arith);
+      whole = subst (All (IsSector size)) (sym p.1) (All-take (IsSector size) _ _ (All-drop (IsSector size) first sectors sized));
+      same = λ _. p.1;
+      stays = p.2;
+    }
+read_out false told size sectors bytes first count through moved after sized p = record { covers = p.0.1; whole = p.0.2; same = λ is. cc (is); stays = p.1 }
+
+record IsWrittenOut (faithful : Bool) (size : ℕ) (sectors : List (List ℕ)) (bytes : List ℕ) (first count : ℕ) (moved after : List (List ℕ)) : Type 0 where
+  inside : first + count ≤ length sectors
+  sent : concat moved ≡ bytes
+  covers : length moved ≡ count
+  whole : All (IsSector size) moved
+  leaves : after ≡ (if faithful then splice sectors first moved else sectors)
+
+written_out : (faithful told : Bool) (size : ℕ) (sectors : List (List ℕ)) (bytes : List ℕ) (first count : ℕ) (through : Bool) (moved after : List (List ℕ))
+    → CarriesOut faithful told size sectors bytes (Write10 first count through) moved after → IsWrittenOut faithful size sectors bytes first count moved after
+written_out true told size sectors bytes first count through moved after p = record { inside = p.0; sent = p.1; covers = p.2; whole = p.3; leaves = p.4 }
+written_out false told size sectors bytes first count through moved after p = record { inside = p.0.0; sent = p.0.1; covers = p.0.2; whole = p.0.3; leaves = p.1 }
+
+flushed_out : (faithful told : Bool) (size : ℕ) (sectors : List (List ℕ)) (bytes : List ℕ) (first count : ℕ) (moved after : List (List ℕ))
+    → CarriesOut faithful told size sectors bytes (Sync10 first count) moved after → (moved ≡ [] ∷ []) × (after ≡ sectors)
+flushed_out true told size sectors bytes first count moved after p = p
+flushed_out false told size sectors bytes first count moved after p = p
 
 -- WHAT IT MOVES
 
@@ -83,7 +127,7 @@ pub record IsCarried (rules : Rules) (s : State) (r : Request) (kind : Kind) (sr
   pub long : length after ≡ length sectors
   pub filled : r.kind ≡ Read → length (concat moved) ≡ transfer_length rules r
 
-module _ (sizes : Sizes) (s : State) (r : Request) (srb : Srb) (sectors moved after : List (List ℕ)) (left : List ℕ) (command : Cdb)
+module _ (sizes : Sizes) (faithful told : Bool) (same_faith : sizes.faithful ≡ faithful) (s : State) (r : Request) (srb : Srb) (sectors moved after : List (List ℕ)) (left : List ℕ) (command : Cdb)
     (some : 0 < sizes.sector_size) (bounded : IsBounded (rules_of sizes) r) (count_is : sizes.sectors ≡ length sectors) (sized : All (IsSector sizes.sector_size) sectors)
     (arrays_are : s.arrays ≡ the_arrays (rules_of sizes) sectors) where
   array_is : get_or s.arrays r.volume [] ≡ sectors
@@ -100,24 +144,24 @@ module _ (sizes : Sizes) (s : State) (r : Request) (srb : Srb) (sectors moved af
       let z : 0 + (r.extent.first * sizes.sector_size / sizes.sector_size + 0) ≡ r.extent.first * sizes.sector_size / sizes.sector_size + 0 = omega arith in
       ap (λ n. home (rules_of sizes) (Some n) (r.extent.first * sizes.sector_size / sizes.sector_size + 0)) (volume_zero sizes r bounded) ∙ z
 
-  carried_read : r.kind ≡ Read → AsksFor (rules_of sizes) r srb → Means srb.block command → Performs sizes.sector_size sectors srb.data command moved after
+  carried_read : r.kind ≡ Read → AsksFor (rules_of sizes) r srb → Means srb.block command → CarriesOut faithful told sizes.sector_size sectors srb.data command moved after
       → IsCarried (rules_of sizes) s r Read srb sectors moved after left
   carried_read is asks means performs =
       let rules : Rules = rules_of sizes in
       let n : ℕ = places_of rules r in
       let x : ℕ = r.extent.first * sizes.sector_size / sizes.sector_size + 0 in
       let m : Means srb.block (Read10 (home rules (Some r.volume) x) n r.through) = subst (λ k. Means srb.block (command_for rules (as_client rules r []) (record { first = 0; count = n }) k)) is asks.asks in
-      let p : Performs sizes.sector_size sectors srb.data (Read10 (home rules (Some r.volume) x) n r.through) moved after = as_read srb.block _ sectors srb.data command moved after _ n r.through m means performs in
-      let p' : Performs sizes.sector_size sectors srb.data (Read10 x n r.through) moved after = subst (λ y. Performs sizes.sector_size sectors srb.data (Read10 y n r.through) moved after) home_is p in
-      let within : All (IsSector sizes.sector_size) moved = subst (All (IsSector sizes.sector_size)) (sym p'.1) (All-take (IsSector sizes.sector_size) _ _ (All-drop (IsSector sizes.sector_size) x sectors sized)) in
-      let fits = p'.0 in
-      let long : length moved ≡ n = ap (λ xs. length xs) p'.1 ∙ simp (length-take, length-drop) (omega arith) in
+      let p : CarriesOut faithful told sizes.sector_size sectors srb.data (Read10 (home rules (Some r.volume) x) n r.through) moved after = as_read faithful told srb.block _ sectors srb.data command moved after _ n r.through m means performs in
+      let p' : CarriesOut faithful told sizes.sector_size sectors srb.data (Read10 x n r.through) moved after = subst (λ y. CarriesOut faithful told sizes.sector_size sectors srb.data (Read10 y n r.through) moved after) home_is p in
+      let out : IsReadOut faithful sizes.sector_size sectors x n moved after = read_out faithful told sizes.sector_size sectors srb.data x n r.through moved after sized p' in
+      let within : All (IsSector sizes.sector_size) moved = out.whole in
+      let long : length moved ≡ n = out.covers in
       record {
-        moves = (subst (λ array. moved ≡ slice_range array x (x + n)) (sym array_is) p'.1, ap (λ xs. the_arrays rules xs) p'.2 ∙ sym arrays_are);
+        moves = (λ is. subst (λ array. moved ≡ slice_range array x (x + n)) (sym array_is) (out.same (sym same_faith ∙ is)), within, ap (λ xs. the_arrays rules xs) out.stays ∙ sym arrays_are);
         covers = long;
         parts = subst (λ k. cut k sizes.sector_size (concat moved) ≡ moved) long (cut-concat sizes.sector_size moved within);
         sent = refl;
-        long = ap (λ xs. length xs) p'.2;
+        long = ap (λ xs. length xs) out.stays;
         filled = λ _.
             let sized' : length (concat moved) ≡ length moved * sizes.sector_size = concat_sized sizes.sector_size moved within in
             let whole : transfer_length rules r ≡ r.extent.count * sizes.sector_size = rw is refl in
@@ -125,25 +169,26 @@ module _ (sizes : Sizes) (s : State) (r : Request) (srb : Srb) (sectors moved af
             sized' ∙ ap (λ k. k * sizes.sector_size) (long ∙ places) ∙ sym whole;
       }
 
-  carried_write : r.kind ≡ Write → AsksFor (rules_of sizes) r srb → Means srb.block command → Performs sizes.sector_size sectors srb.data command moved after
+  carried_write : r.kind ≡ Write → AsksFor (rules_of sizes) r srb → Means srb.block command → CarriesOut faithful told sizes.sector_size sectors srb.data command moved after
       → IsCarried (rules_of sizes) s r Write srb sectors moved after left
   carried_write is asks means performs =
       let rules : Rules = rules_of sizes in
       let n : ℕ = places_of rules r in
       let x : ℕ = r.extent.first * sizes.sector_size / sizes.sector_size + 0 in
       let m : Means srb.block (Write10 (home rules (Some r.volume) x) n r.through) = subst (λ k. Means srb.block (command_for rules (as_client rules r []) (record { first = 0; count = n }) k)) is asks.asks in
-      let p : Performs sizes.sector_size sectors srb.data (Write10 (home rules (Some r.volume) x) n r.through) moved after = as_write srb.block _ sectors srb.data command moved after _ n r.through m means performs in
-      let p' : Performs sizes.sector_size sectors srb.data (Write10 x n r.through) moved after = subst (λ y. Performs sizes.sector_size sectors srb.data (Write10 y n r.through) moved after) home_is p in
-      let fits = p'.0 in
-      let covers = p'.2 in
-      let long : length after ≡ length sectors = ap (λ xs. length xs) p'.4 ∙ length-splice sectors x moved (omega arith) in
+      let p : CarriesOut faithful told sizes.sector_size sectors srb.data (Write10 (home rules (Some r.volume) x) n r.through) moved after = as_write faithful told srb.block _ sectors srb.data command moved after _ n r.through m means performs in
+      let p' : CarriesOut faithful told sizes.sector_size sectors srb.data (Write10 x n r.through) moved after = subst (λ y. CarriesOut faithful told sizes.sector_size sectors srb.data (Write10 y n r.through) moved after) home_is p in
+      let out : IsWrittenOut faithful sizes.sector_size sectors srb.data x n moved after = written_out faithful told sizes.sector_size sectors srb.data x n r.through moved after p' in
+      let fits = out.inside in
+      let covers = out.covers in
+      let long : length after ≡ length sectors = long_by faithful x out.leaves (omega arith) in
       let bytes_long : length srb.data ≡ n * sizes.sector_size = asks.data_length ∙ transfer ∙ ap (λ k. k * sizes.sector_size) (sym (places_transfer sizes r some (ap is_transfer is))) in
       let all_bytes : slice_range srb.data (0 * sizes.sector_size) ((0 + n) * sizes.sector_size) ≡ srb.data = whole_bytes srb.data n sizes.sector_size bytes_long in
       record {
-        moves = (p'.1 ∙ sym all_bytes, p'.3, written_is x p'.4 long);
+        moves = (out.sent ∙ sym all_bytes, out.whole, left_by faithful same_faith x out.leaves long);
         covers = covers;
-        parts = subst (λ k. cut k sizes.sector_size (concat moved) ≡ moved) covers (cut-concat sizes.sector_size moved p'.3);
-        sent = p'.1;
+        parts = subst (λ k. cut k sizes.sector_size (concat moved) ≡ moved) covers (cut-concat sizes.sector_size moved out.whole);
+        sent = out.sent;
         long = long;
         filled = λ e. absurd (cc (e, is));
       }
@@ -171,24 +216,34 @@ module _ (sizes : Sizes) (s : State) (r : Request) (srb : Srb) (sectors moved af
           ∙ ap (λ k. slice_set (the_arrays (rules_of sizes) sectors) k (splice (get_or s.arrays r.volume []) x moved)) (sym (volume_zero sizes r bounded))
           ∙ ap (λ arrays. slice_set arrays r.volume (splice (get_or s.arrays r.volume []) x moved)) (sym arrays_are)
 
-  carried_flush : r.kind ≡ Flush → AsksFor (rules_of sizes) r srb → Means srb.block command → Performs sizes.sector_size sectors srb.data command moved after
+      long_by : (f : Bool) (x : ℕ) → after ≡ (if f then splice sectors x moved else sectors) → x + length moved ≤ length sectors → length after ≡ length sectors
+      long_by true x e fits = ap (λ xs. length xs) e ∙ length-splice sectors x moved fits
+      long_by false x e fits = ap (λ xs. length xs) e
+
+      left_by : (f : Bool) → sizes.faithful ≡ f → (x : ℕ) → after ≡ (if f then splice sectors x moved else sectors) → length after ≡ length sectors
+          → the_arrays (rules_of sizes) after ≡ (if sizes.faithful then slice_set s.arrays r.volume (splice (get_or s.arrays r.volume []) x moved) else s.arrays)
+      left_by true is x e long = rw is (written_is x e long)
+      left_by false is x e long = rw is (ap (λ xs. the_arrays (rules_of sizes) xs) e ∙ sym arrays_are)
+
+  carried_flush : r.kind ≡ Flush → AsksFor (rules_of sizes) r srb → Means srb.block command → CarriesOut faithful told sizes.sector_size sectors srb.data command moved after
       → IsCarried (rules_of sizes) s r Flush srb sectors moved after left
   carried_flush is asks means performs =
       let rules : Rules = rules_of sizes in
       let m : Means srb.block (Sync10 0 0) = subst (λ k. Means srb.block (command_for rules (as_client rules r []) (record { first = 0; count = places_of rules r }) k)) is asks.asks in
-      let p : Performs sizes.sector_size sectors srb.data (Sync10 0 0) moved after = as_flush srb.block _ sectors srb.data command moved after 0 0 m means performs in
+      let p : CarriesOut faithful told sizes.sector_size sectors srb.data (Sync10 0 0) moved after = as_flush faithful told srb.block _ sectors srb.data command moved after 0 0 m means performs in
+      let out = flushed_out faithful told sizes.sector_size sectors srb.data 0 0 moved after p in
       let one : places_of rules r ≡ 1 = places_flush sizes r (ap is_transfer is) in
       let none : take sizes.sector_size [] ≡ [] = take_all sizes.sector_size [] (omega arith) in
       record {
-        moves = (p.0, ap (λ xs. the_arrays rules xs) p.1 ∙ sym arrays_are);
-        covers = ap (λ xs. length xs) p.0 ∙ sym one;
-        parts = rw (one, p.0) (ap (λ part. part ∷ []) none);
+        moves = (out.0, ap (λ xs. the_arrays rules xs) out.1 ∙ sym arrays_are);
+        covers = ap (λ xs. length xs) out.0 ∙ sym one;
+        parts = rw (one, out.0) (ap (λ part. part ∷ []) none);
         sent = refl;
-        long = ap (λ xs. length xs) p.1;
+        long = ap (λ xs. length xs) out.1;
         filled = λ e. absurd (cc (e, is));
       }
 
-  pub carried : (kind : Kind) → r.kind ≡ kind → AsksFor (rules_of sizes) r srb → Means srb.block command → Performs sizes.sector_size sectors srb.data command moved after
+  pub carried : (kind : Kind) → r.kind ≡ kind → AsksFor (rules_of sizes) r srb → Means srb.block command → CarriesOut faithful told sizes.sector_size sectors srb.data command moved after
       → IsCarried (rules_of sizes) s r kind srb sectors moved after left
   carried Read is asks means performs = carried_read is asks means performs
   carried Write is asks means performs = carried_write is asks means performs

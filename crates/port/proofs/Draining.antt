@@ -6,15 +6,15 @@ use Rattle.std.proofs.lemmas.List.{length-append, length-map, map-append, append
 use Rattle.std.proofs.lemmas.List.Elements.{All-nil, All-append, All-push, All-map, All-weaker, All-head, All-tail}
 use Rattle.std.proofs.lemmas.List.Sorted.{IsPermutation-refl, IsPermutation-sym, IsPermutation-trans, IsPermutation-map, IsPermutation-append_left, IsPermutation-middle, IsPermutation-append_comm, All-permutation, length_permutation}
 use Rattle.srb.specs.declared.Class.TheVariants.{Good, Busy, Bad}
-use Rattle.srb.specs.Adapter.{AdapterView}
-use Rattle.device.specs.declared.Request.{Request}
-use Rattle.device.specs.declared.Label.TheVariants.{Cancel}
-use Rattle.device.specs.Rules.{Rules}
-use Rattle.device.specs.State.{OpenRequest, State, IsSame}
-use Rattle.device.specs.Holding.{Cancels, Drains, as_cancelled}
+use Rattle.adapter.specs.View.{AdapterView}
+use Rattle.machine.specs.declared.Request.{Request}
+use Rattle.machine.specs.declared.Label.TheVariants.{Cancel}
+use Rattle.machine.specs.Rules.{Rules}
+use Rattle.machine.specs.State.{OpenRequest, State, IsSame}
+use Rattle.machine.specs.Holding.{Cancels, Drains, as_cancelled}
 use Rattle.device.specs.Seen.{IsBounded}
 use Rattle.device.specs.Served.{CancelsIfOpen, DrainsAll}
-use Rattle.device.proofs.Numbers.{AreDistinct-same, AreDistinct-Step}
+use Rattle.machine.proofs.Numbers.{AreDistinct-same, AreDistinct-Step}
 use Rattle.port.specs.declared.queues.Held.{Held}
 use Rattle.port.specs.declared.queues.Ended.{Ended}
 use Rattle.port.specs.declared.queues.Outcome.{Outcome}

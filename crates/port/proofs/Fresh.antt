@@ -2,12 +2,12 @@
 use Rattle.std.proofs.Common.{◌≡◌, ◌≤◌, ℕ, Bool, false, List, [], refl, sym, subst, ap, ◌∙◌, arith, length, map}
 use Rattle.std.proofs.lemmas.List.Elements.{All-nil}
 use Rattle.srb.specs.declared.DeviceLabel.{DeviceLabel}
-use Rattle.srb.specs.Adapter.{AdapterView, TagInUse, IsInOrder}
+use Rattle.adapter.specs.View.{AdapterView, TagInUse, IsInOrder}
 use Rattle.port.specs.declared.queues.Held.{Held}
 use Rattle.port.specs.declared.queues.Ended.{Ended}
-use Rattle.device.specs.Rules.{Rules}
-use Rattle.device.specs.Seen.{sectors_in}
-use Rattle.device.proofs.Numbers.{AreDistinct-opening}
+use Rattle.machine.specs.Rules.{Rules}
+use Rattle.machine.specs.Map.{sectors_in}
+use Rattle.machine.proofs.Numbers.{AreDistinct-opening}
 use Rattle.port.specs.declared.queues.Sizes.{Sizes}
 use Rattle.port.specs.Books.{Books}
 use Rattle.port.specs.Turns.{IsEmpty}
@@ -37,8 +37,8 @@ view_fresh v = record v { tags = []; labels = [] }
 fresh_is : (v : AdapterView) → IsFresh v → v ≡ view_fresh v
 fresh_is v h = ap (λ (x : List TagInUse). record v { tags = x }) h.tags ∙ ap (λ (x : List DeviceLabel). record v { tags = []; labels = x }) h.labels
 
-abbrev pub sizes_by : ℕ → ℕ → ℕ → ℕ → Sizes
-sizes_by sector_size sectors max_transfer depth = record { sector_size = sector_size; sectors = sectors; max_transfer = max_transfer; depth = depth }
+abbrev pub sizes_by : ℕ → ℕ → ℕ → ℕ → Bool → Sizes
+sizes_by sector_size sectors max_transfer depth faithful = record { sector_size = sector_size; sectors = sectors; max_transfer = max_transfer; depth = depth; faithful = faithful }
 
 hand_empty : (b : Books) (v : AdapterView) → v.accepted ≤ 2 → length b.started ≡ v.depth → IsInOrder (view_fresh v) → IsInHand (books_empty b (sizes_of v)) (view_fresh v) []
 hand_empty b v few long order =
@@ -46,7 +46,7 @@ hand_empty b v few long order =
     let depth = order.depth.1 in
     in_hand (books_empty b (sizes_of v)) (view_fresh v) [] (record {
       adapter = order;
-      sizes = record { sector_size = refl; sectors = refl; max_transfer = refl; depth = refl };
+      sizes = record { sector_size = refl; sectors = refl; max_transfer = refl; depth = refl; faithful = refl };
       started = long;
       waiting = All-nil (IsWaiting rules (view_fresh v));
       in_turn = tt;
@@ -76,8 +76,9 @@ opens_seen b v sizes e h f =
     let v_is : v ≡ view_fresh v = fresh_is v f in
     ap (λ (x : Books). seen_of x v) (empty_is b (sizes_of v) h') ∙ ap (λ (x : AdapterView). seen_of (books_empty b (sizes_of v)) x) v_is ∙ ap (λ (x : AdapterView). opening_seen x) (sym v_is)
 
-pub sizes_are : (v : AdapterView) (sector_size sectors max_transfer depth : ℕ) → sector_size ≡ v.sector_size → sectors ≡ length v.sectors → max_transfer ≡ v.max_transfer → depth ≡ v.depth
-    → sizes_by sector_size sectors max_transfer depth ≡ sizes_of v
-sizes_are v sector_size sectors max_transfer depth a c d e =
-    ap (λ (n : ℕ). sizes_by n sectors max_transfer depth) a ∙ ap (λ (n : ℕ). sizes_by v.sector_size n max_transfer depth) c
-    ∙ ap (λ (n : ℕ). sizes_by v.sector_size (length v.sectors) n depth) d ∙ ap (λ (n : ℕ). sizes_by v.sector_size (length v.sectors) v.max_transfer n) e
+pub sizes_are : (v : AdapterView) (sector_size sectors max_transfer depth : ℕ) (faithful : Bool) → sector_size ≡ v.sector_size → sectors ≡ length v.sectors → max_transfer ≡ v.max_transfer → depth ≡ v.depth
+    → faithful ≡ v.faithful → sizes_by sector_size sectors max_transfer depth faithful ≡ sizes_of v
+sizes_are v sector_size sectors max_transfer depth faithful a c d e f =
+    ap (λ (n : ℕ). sizes_by n sectors max_transfer depth faithful) a ∙ ap (λ (n : ℕ). sizes_by v.sector_size n max_transfer depth faithful) c
+    ∙ ap (λ (n : ℕ). sizes_by v.sector_size (length v.sectors) n depth faithful) d ∙ ap (λ (n : ℕ). sizes_by v.sector_size (length v.sectors) v.max_transfer n faithful) e
+    ∙ ap (λ (b : Bool). sizes_by v.sector_size (length v.sectors) v.max_transfer v.depth b) f

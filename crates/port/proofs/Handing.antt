@@ -8,34 +8,35 @@ use Rattle.std.proofs.lemmas.List.Sorted.{IsPermutation-refl, IsPermutation-tran
 use Rattle.ntstatus.specs.declared.NtStatus.{NtStatus}
 use Rattle.ntstatus.specs.declared.NtStatus.TheVariants.{Success, DeviceBusy, Cancelled, NoSuchDevice, DeletePending}
 use Rattle.srb.specs.declared.Class.TheVariants.{Good, Busy, Bad}
-use Rattle.srb.specs.Adapter.{AdapterView, TagInUse}
+use Rattle.adapter.specs.View.{AdapterView, TagInUse}
 use Rattle.irp.specs.declared.Climb.{Climb}
 use Rattle.irp.specs.Climb.{Climbs}
 use Rattle.irp.specs.declared.Payload.{Payload}
-use Rattle.device.specs.declared.Kind.TheVariants.{Read}
-use Rattle.device.specs.declared.Request.{Request}
-use Rattle.device.specs.Rules.{Rules, as_client}
-use Rattle.device.specs.State.{Mark, Untouched, Out, Done, Failed, Back, OpenRequest, Piece, State}
-use Rattle.device.specs.Sending.{is_started, status_of_completion}
-use Rattle.device.specs.Answering.{HasEnded, HasCause, Cause, Answers, is_done, answer_bytes}
-use Rattle.device.specs.Settled.{Settled, IsHeld, WaitsIfCancelled, Waits, IsHeldBack, HasMore, IsAtWork, has_out}
+use Rattle.machine.specs.declared.Kind.TheVariants.{Read}
+use Rattle.machine.specs.declared.Request.{Request}
+use Rattle.machine.specs.Rules.{Rules, as_client}
+use Rattle.machine.specs.State.{Mark, Untouched, Out, Done, Failed, Back, OpenRequest, Piece, State}
+use Rattle.machine.specs.Sending.{is_started, status_of_completion, IsStart}
+use Rattle.machine.specs.Answering.{HasEnded, HasCause, Cause, Answers, is_done, answer_bytes}
+use Rattle.machine.specs.Settled.{Settled, IsHeld, WaitsIfCancelled, Waits, IsHeldBack, HasMore, IsAtWork, has_out}
 use Rattle.device.specs.Seen.{Carries, payload_bytes, transfer_length}
-use Rattle.device.specs.Served.{HandsUp, HandsUpNone, IsUnfinished, IsStart, information}
-use Rattle.device.proofs.Same.{IsSame-refl}
-use Rattle.device.specs.declared.Label.TheVariants.{Answer}
-use Rattle.device.proofs.Numbers.{AreDistinct-Step}
-use Rattle.device.proofs.Earned.{bad_status}
-use Rattle.device.proofs.Commuting.{out_ends_not, untouched_ends_not}
+use Rattle.port.proofs.Lists.{length-cut}
+use Rattle.device.specs.Served.{HandsUp, HandsUpNone, IsUnfinished, information, sectors_moved, IsBack}
+use Rattle.machine.proofs.Same.{IsSame-refl}
+use Rattle.machine.specs.declared.Label.TheVariants.{Answer}
+use Rattle.machine.proofs.Numbers.{AreDistinct-Step}
+use Rattle.machine.proofs.Earned.{bad_status}
+use Rattle.machine.proofs.Commuting.{out_ends_not, untouched_ends_not}
 use Rattle.port.specs.declared.queues.Held.{Held}
 use Rattle.port.specs.declared.queues.Ended.{Ended}
 use Rattle.port.specs.declared.queues.Outcome.{Outcome}
 use Rattle.port.specs.declared.queues.Outcome.TheVariants.{Returned, Flushed, Gone}
 use Rattle.port.specs.Books.{Entry, Books, entry, ended_entry}
 use Rattle.port.specs.Turns.{Leaves, LeavesNot}
-use Rattle.port.specs.Shown.{rules_of, places_of, sectors_moved, marks_left, busy_left, status_left, waiting_open, done_open, open_on, piece_on, entry_or_nobody, packet as packet_as, of_packets, of_waiting, of_tag, of_done, state_of, seen_of, requests_of}
+use Rattle.port.specs.Shown.{rules_of, places_of, marks_left, busy_left, status_left, waiting_open, done_open, open_on, piece_on, entry_or_nobody, packet as packet_as, of_packets, of_waiting, of_tag, of_done, state_of, seen_of, requests_of}
 use Rattle.port.specs.Kept.{asked, IsKept, IsInHand, IsRoom, IsWaiting, HasOutcome, HasEnded as HasEndedBy, IsAtWork as IsOnTag}
 use Rattle.port.proofs.Lists.{all_done, bytes_done}
-use Rattle.srb.proofs.Joining.{reserves_none}
+use Rattle.adapter.proofs.Joining.{reserves_none}
 use Rattle.port.proofs.Sizing.{places_some, bytes_short}
 use Rattle.port.proofs.Opening.{untouched_all, started_by, out_by, true_false}
 use Rattle.port.proofs.Starting.{kept_sector_some}
@@ -133,6 +134,17 @@ record IsHanded (rules : Rules) (s : State) (o : OpenRequest) (r : Request) (pay
   carries : status ≡ DeviceBusy → Carries true rules r payload
   brings : r.kind ≡ Read → status ≡ Success → payload_bytes payload ≡ answer_bytes r.kind o.marks
   filled : r.kind ≡ Read → status ≡ Success → length (payload_bytes payload) ≡ transfer_length rules r
+  moved : status ≡ Success → o.marks ≡ map Done (sectors_moved rules r payload)
+  busy : All IsBack o.marks → status ≡ DeviceBusy
+
+-- places all alike that are all back
+back_first : (mark : Mark) (n : ℕ) → 0 < n → All IsBack (replicate n mark) → mark ≡ Back
+back_first mark zero some all = absurd (omega arith)
+back_first mark (suc n) some all = All-head IsBack mark (replicate n mark) all
+
+none_back : (sectors : List (List ℕ)) → 0 < length sectors → All IsBack (map Done sectors) → ⊥
+none_back [] some all = omega arith
+none_back (x ∷ xs) some all = let e : Done x ≡ Back = All-head IsBack (Done x) (map Done xs) all in cc (e)
 
 cause_done : (rules : Rules) (s : State) (o : OpenRequest) (sectors : List (List ℕ)) (status : NtStatus) → HasCause rules s o (map Done sectors) status
 cause_done rules s o [] status = tt
@@ -152,14 +164,16 @@ none_done mark (suc n) some waits = rw waits refl
 
 -- a packet of which no place is done
 handed_alike : (rules : Rules) (s : State) (o : OpenRequest) (r : Request) (payload : Payload) (status : NtStatus) (mark : Mark) → o.marks ≡ replicate (places_of rules r) mark → 0 < places_of rules r
-    → is_done mark ≡ false → Cause rules s o mark status → status ≢ Success → (status ≡ DeviceBusy → Carries true rules r payload) → IsHanded rules s o r payload status
-handed_alike rules s o r payload status mark are some waits cause fails carries = record {
+    → is_done mark ≡ false → Cause rules s o mark status → status ≢ Success → (status ≡ DeviceBusy → Carries true rules r payload) → (mark ≡ Back → status ≡ DeviceBusy) → IsHanded rules s o r payload status
+handed_alike rules s o r payload status mark are some waits cause fails carries told = record {
   ended = subst (All (HasEnded rules s o)) (sym are) (All-replicate (HasEnded rules s o) (places_of rules r) mark (inr (status, cause)));
   success = (λ e. absurd (fails e), λ all. true_false (list_all is_done o.marks) all (subst (λ ms. list_all is_done ms ≡ false) (sym are) (none_done mark (places_of rules r) some waits)));
   cause = subst (λ ms. HasCause rules s o ms status) (sym are) (cause_first rules s o mark (places_of rules r) status waits cause);
   carries = carries;
   brings = λ _ e. absurd (fails e);
   filled = λ _ e. absurd (fails e);
+  moved = λ e. absurd (fails e);
+  busy = λ all. told (back_first mark (places_of rules r) some (subst (All IsBack) are all));
 }
 
 handed : (rules : Rules) (s : State) (o : OpenRequest) (d : Ended) (outcome : Outcome) → rules.busy_limit ≤ 1 → 0 < places_of rules d.request → o.late ≡ false → o.cancelled ≡ d.irp.cancelled
@@ -171,16 +185,18 @@ handed rules s o d (Returned Good) limit some timely same are busy why = record 
   carries = λ e. absurd (cc (e));
   brings = λ is _. sym (rw (is, are, all_done, bytes_done) why.0);
   filled = λ is _. why.1 is;
+  moved = λ _. are;
+  busy = λ all. absurd (none_back (sectors_moved rules d.request d.irp.payload) (subst (λ n. 0 < n) (sym (length-cut (places_of rules d.request) rules.sector_size (payload_bytes d.irp.payload))) some) (subst (All IsBack) are all));
 }
 handed rules s o d (Returned Busy) limit some timely same are busy why =
-    handed_alike rules s o d.request d.irp.payload DeviceBusy Back are some refl (inr (omega arith, refl)) (λ e. absurd (cc (e))) (λ _. why)
+    handed_alike rules s o d.request d.irp.payload DeviceBusy Back are some refl (inr (omega arith, refl)) (λ e. absurd (cc (e))) (λ _. why) (λ _. refl)
 handed rules s o d (Returned (Bad completion)) limit some timely same are busy why =
     let b = bad_status completion why in
-    handed_alike rules s o d.request d.irp.payload (status_of_completion completion) (Failed (status_of_completion completion)) are some refl refl b.0 (λ e. absurd (b.1 e))
+    handed_alike rules s o d.request d.irp.payload (status_of_completion completion) (Failed (status_of_completion completion)) are some refl refl b.0 (λ e. absurd (b.1 e)) (λ e. absurd (cc (e)))
 handed rules s o d Flushed limit some timely same are busy why =
-    handed_alike rules s o d.request d.irp.payload Cancelled Untouched are some refl (inl (same ∙ why, refl)) (λ e. absurd (cc (e))) (λ e. absurd (cc (e)))
+    handed_alike rules s o d.request d.irp.payload Cancelled Untouched are some refl (inl (same ∙ why, refl)) (λ e. absurd (cc (e))) (λ e. absurd (cc (e))) (λ e. absurd (cc (e)))
 handed rules s o d Gone limit some timely same are busy why =
-    handed_alike rules s o d.request d.irp.payload NoSuchDevice Untouched are some refl (inr (why, late_is o.late timely)) (λ e. absurd (cc (e))) (λ e. absurd (cc (e)))
+    handed_alike rules s o d.request d.irp.payload NoSuchDevice Untouched are some refl (inr (why, late_is o.late timely)) (λ e. absurd (cc (e))) (λ e. absurd (cc (e))) (λ e. absurd (cc (e)))
   where
     late_is : (late : Bool) → late ≡ false → NoSuchDevice ≡ (if late then DeletePending else NoSuchDevice)
     late_is true e = absurd (cc (e))
@@ -256,7 +272,7 @@ hand_left b b' v d h rooms k = subst (λ x. IsInHand x v (d.request ∷ rooms)) 
 -- the status and the information are as they were computed
 pub hands_up : (b b' : Books) (v : AdapterView) (rooms : List Request) (d : Ended) (status : NtStatus) (bytes_moved : ℕ) (climb : Climb) → IsInHand b v rooms → Leaves b d b'
     → status ≡ status_left d.outcome → bytes_moved ≡ information (as_client (rules_of b'.sizes) d.request []) status
-    → Climbs (entry d.irp d.request).above d.irp.number d.irp.cancelled status bytes_moved d.irp.payload climb → HandsUp true (seen_of b v) d.request climb (seen_of b' v)
+    → Climbs (entry d.irp d.request d.spot).above d.irp.number d.irp.cancelled status bytes_moved d.irp.payload climb → HandsUp true (seen_of b v) d.request climb (seen_of b' v)
 unfolding answers_left
 hands_up b b' v rooms d status bytes_moved climb k h status_is moved_is climbs =
     let rules : Rules = rules_of b.sizes in
@@ -272,14 +288,16 @@ hands_up b b' v rooms d status bytes_moved climb k h status_is moved_is climbs =
       is_in = packets_left packet_as b v d h.rest h.is_front;
       answers = answers_left b v rooms d h.rest k.kept h.is_front x;
       is_request = refl;
+      moved = x.moved;
+      busy = λ _. x.busy;
       carries = x.carries;
       brings = x.brings;
       filled = λ is succeeds.
           let long : length (payload_bytes d.irp.payload) ≡ transfer_length rules d.request = x.filled is succeeds in
           let whole : transfer_length rules d.request ≡ d.request.extent.count * rules.sector_size = rw is refl in
           ap (λ (bytes : List ℕ). length bytes) (sym (x.brings is succeeds)) ∙ long ∙ whole;
-      climbs = subst (λ (st : NtStatus). Climbs (entry d.irp d.request).above d.irp.number d.irp.cancelled st (information (as_client rules d.request []) st) d.irp.payload climb) status_is
-          (subst (λ (n : ℕ). Climbs (entry d.irp d.request).above d.irp.number d.irp.cancelled status n d.irp.payload climb) (subst (λ (y : Books). bytes_moved ≡ information (as_client (rules_of y.sizes) d.request []) status) h.after moved_is) climbs);
+      climbs = subst (λ (st : NtStatus). Climbs (entry d.irp d.request d.spot).above d.irp.number d.irp.cancelled st (information (as_client rules d.request []) st) d.irp.payload climb) status_is
+          (subst (λ (n : ℕ). Climbs (entry d.irp d.request d.spot).above d.irp.number d.irp.cancelled status n d.irp.payload climb) (subst (λ (y : Books). bytes_moved ≡ information (as_client (rules_of y.sizes) d.request []) status) h.after moved_is) climbs);
       only_starts = All-nil IsStart;
       moves = record { same_rules = refl; same_packets = IsPermutation-refl _; same_submitted = refl; same_most = refl; run = IsSame-refl _; adapter = reserves_none v };
     })

@@ -6,9 +6,9 @@ use Rattle.std.proofs.lemmas.List.{append-nil, drop_all, take_at, drop_at}
 use Rattle.std.proofs.lemmas.List.Elements.{All-head, All-tail}
 use Rattle.std.proofs.lemmas.List.Sorted.{IsPermutation-trans, IsPermutation-to_front, IsPermutation-append_left, IsPermutation-append_right, IsPermutation-middle}
 use Rattle.sector.specs.Splice.{splice}
-use Rattle.device.specs.State.{Done}
-use Rattle.device.specs.Answering.{bytes_of_mark, is_done}
-use Rattle.port.specs.Shown.{cut}
+use Rattle.machine.specs.State.{Done}
+use Rattle.machine.specs.Answering.{bytes_of_mark, is_done}
+use Rattle.device.specs.Served.{cut}
 
 pub map_same : {X Y : Type 0} (f g : X → Y) (xs : List X) → All (λ x. f x ≡ g x) xs → map f xs ≡ map g xs
 map_same f g [] h = refl

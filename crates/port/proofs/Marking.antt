@@ -7,17 +7,17 @@ use Rattle.std.proofs.lemmas.Bool.{cases_lt}
 use Rattle.std.proofs.lemmas.List.Elements.{All-cons, All-push, All-head, All-tail}
 use Rattle.std.proofs.lemmas.List.Sorted.{IsPermutation-refl, IsPermutation-sym, IsPermutation-trans, IsPermutation-map, IsPermutation-append_left, IsPermutation-append_right, IsPermutation-middle, IsPermutation-remove, All-permutation, length_permutation}
 use Rattle.srb.specs.declared.Class.TheVariants.{Good, Busy, Bad}
-use Rattle.srb.specs.Adapter.{AdapterView, TagInUse, IsOn, HasTag, HasNotTag}
+use Rattle.adapter.specs.View.{AdapterView, TagInUse, IsOn, HasTag, HasNotTag}
 use Rattle.irp.specs.declared.Payload.{Payload}
-use Rattle.device.specs.declared.Request.{Request}
-use Rattle.device.specs.declared.Label.TheVariants.{Cancel}
-use Rattle.device.specs.Rules.{Rules}
-use Rattle.device.specs.State.{OpenRequest}
-use Rattle.device.specs.Holding.{Cancels, as_cancelled}
-use Rattle.device.specs.declared.Kind.TheVariants.{Read}
+use Rattle.machine.specs.declared.Request.{Request}
+use Rattle.machine.specs.declared.Label.TheVariants.{Cancel}
+use Rattle.machine.specs.Rules.{Rules}
+use Rattle.machine.specs.State.{OpenRequest}
+use Rattle.machine.specs.Holding.{Cancels, as_cancelled}
+use Rattle.machine.specs.declared.Kind.TheVariants.{Read}
 use Rattle.device.specs.Seen.{Carries, IsBounded, payload_bytes, transfer_length}
-use Rattle.device.specs.Served.{CancelsIfOpen}
-use Rattle.device.proofs.Numbers.{AreDistinct-Step}
+use Rattle.device.specs.Served.{CancelsIfOpen, sectors_moved}
+use Rattle.machine.proofs.Numbers.{AreDistinct-Step}
 use Rattle.port.specs.declared.queues.Held.{Held}
 use Rattle.port.specs.declared.queues.Ended.{Ended}
 use Rattle.port.specs.declared.queues.Outcome.{Outcome}
@@ -25,7 +25,7 @@ use Rattle.port.specs.declared.queues.Outcome.TheVariants.{Returned, Flushed, Go
 use Rattle.port.specs.Books.{Entry, Books, entry_of, ended_entry}
 use Rattle.port.specs.Turns.{held_on, cancelled, is_cancellable, CannotCancelHeld, CannotCancelOn, FlushesNot, CancelsOn, CancelsEnded, CancelsNoEnded}
 use Rattle.port.specs.Cancelling.{CancelsAt, CancelsNotAt, CancelsNoStarted}
-use Rattle.port.specs.Shown.{rules_of, waiting_open, done_open, out_open, out_piece, open_on, entry_on, entry_or_nobody, sectors_moved, packet as packet_as, of_packets, of_waiting, of_tag, of_done, state_of, seen_of, requests_of}
+use Rattle.port.specs.Shown.{rules_of, waiting_open, done_open, out_open, out_piece, open_on, entry_on, entry_or_nobody, packet as packet_as, of_packets, of_waiting, of_tag, of_done, state_of, seen_of, requests_of}
 use Rattle.port.specs.Kept.{asked, IsKept, IsInHand, IsRoom, IsAtWork, IsDoing, HasEnded, HasOutcome}
 use Rattle.port.proofs.Lists.{second_front, last_front}
 use Rattle.port.proofs.Tags.{others_same, others_apart}

@@ -5,14 +5,15 @@ use Rattle.std.specs.List.{list_all, list_any}
 use Rattle.std.proofs.lemmas.List.{length-map, get_or-map}
 use Rattle.std.proofs.lemmas.List.Elements.{All-replicate, All-take, All-drop}
 use Rattle.srb.specs.declared.Class.TheVariants.{Good, Busy, Bad}
-use Rattle.device.specs.Rules.{Rules}
-use Rattle.device.specs.State.{Mark, Untouched, Out, Done, Failed, Back}
-use Rattle.device.specs.Sending.{is_untouched, is_started, IsUnsent}
-use Rattle.device.specs.Settled.{is_out}
+use Rattle.machine.specs.Rules.{Rules}
+use Rattle.machine.specs.State.{Mark, Untouched, Out, Done, Failed, Back}
+use Rattle.machine.specs.Sending.{is_untouched, is_started, IsUnsent}
+use Rattle.machine.specs.Settled.{is_out}
 use Rattle.port.specs.declared.queues.Ended.{Ended}
 use Rattle.port.specs.declared.queues.Outcome.{Outcome}
 use Rattle.port.specs.declared.queues.Outcome.TheVariants.{Returned, Flushed, Gone}
-use Rattle.port.specs.Shown.{marks_left, places_of, sectors_moved, done_open}
+use Rattle.port.specs.Shown.{marks_left, places_of, done_open}
+use Rattle.device.specs.Served.{sectors_moved}
 use Rattle.port.proofs.Lists.{length-cut}
 
 pub Any-map : {X Y : Type 0} (f : X → Y) (P : Y → Type 0) (xs : List X) → Any (λ x. P (f x)) xs → Any P (map f xs)

@@ -6,20 +6,21 @@ use Rattle.std.proofs.lemmas.List.Elements.{All-nil, All-append, All-map, All-we
 use Rattle.std.proofs.lemmas.List.Sorted.{IsPermutation-refl}
 use Rattle.srb.specs.declared.Class.TheVariants.{Good, Busy, Bad}
 use Rattle.irp.specs.declared.Payload.{Payload}
-use Rattle.srb.specs.Adapter.{AdapterView, TagInUse}
-use Rattle.device.specs.declared.Request.{Request}
-use Rattle.device.specs.Rules.{Rules}
-use Rattle.device.specs.State.{Out, Done, Failed, Back, OpenRequest}
-use Rattle.device.specs.Sending.{is_started, status_of_completion}
-use Rattle.device.specs.Settled.{HasGone, IsAllSent}
-use Rattle.device.specs.Numbers.{HasPlaces, HavePlaces, request_number}
+use Rattle.adapter.specs.View.{AdapterView, TagInUse}
+use Rattle.machine.specs.declared.Request.{Request}
+use Rattle.machine.specs.Rules.{Rules}
+use Rattle.machine.specs.State.{Out, Done, Failed, Back, OpenRequest}
+use Rattle.machine.specs.Sending.{is_started, status_of_completion}
+use Rattle.machine.specs.Settled.{HasGone, IsAllSent}
+use Rattle.machine.specs.Numbers.{HasPlaces, HavePlaces, request_number}
 use Rattle.device.specs.Seen.{packet_number, IsSending, WaitsForTag, piece_on_tag, use_on_tag}
 use Rattle.port.specs.declared.queues.Held.{Held}
 use Rattle.port.specs.declared.queues.Ended.{Ended}
 use Rattle.port.specs.declared.queues.Outcome.{Outcome}
 use Rattle.port.specs.declared.queues.Outcome.TheVariants.{Returned, Flushed, Gone}
 use Rattle.port.specs.Books.{Books}
-use Rattle.port.specs.Shown.{entry_on, rules_of, places_of, sectors_moved, marks_left, busy_left, waiting_open, open_on, piece_on, done_open, packet, of_waiting, of_tag, of_done, state_of, requests_of, packets_of}
+use Rattle.port.specs.Shown.{entry_on, rules_of, places_of, marks_left, busy_left, waiting_open, open_on, piece_on, done_open, packet, of_waiting, of_tag, of_done, state_of, requests_of, packets_of}
+use Rattle.device.specs.Served.{sectors_moved}
 use Rattle.port.specs.Kept.{IsKept, IsBusy, IsInHand, IsWaiting, IsAtWork, HasEnded, HasOutcome}
 use Rattle.port.specs.Releases.{AreLowerInUse}
 use Rattle.port.proofs.Lists.{length-cut}
@@ -55,7 +56,7 @@ have_places b v rooms k =
     (All-weaker (IsAtWork rules b.started) (λ u. HasPlaces (open_on rules b.started u)) (λ u w. rw (w.on_tag, length-replicate) (places_some b.sizes w.held.request some w.bounded)) v.tags k.at_work)
     (All-weaker (HasEnded rules b.removing) (λ d. HasPlaces (done_open rules d)) (λ d e. marks_some rules d.request d.irp.payload d.outcome (places_some b.sizes d.request some e.bounded)) b.done k.ended)
 
-numbers_are : (b : Books) (v : AdapterView) → map packet_number (packets_of b v) ≡ map request_number (requests_of b v)
+pub numbers_are : (b : Books) (v : AdapterView) → map packet_number (packets_of b v) ≡ map request_number (requests_of b v)
 numbers_are b v =
     let rules : Rules = rules_of b.sizes in
     let w : map packet_number (map (of_waiting packet) b.waiting) ≡ map request_number (map (waiting_open rules) b.waiting) =

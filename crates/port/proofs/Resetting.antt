@@ -7,17 +7,17 @@ use Rattle.std.specs.List.Sorted.{IsStrictlyIncreasing}
 use Rattle.std.proofs.lemmas.List.Sorted.{IsPermutation-refl, IsPermutation-sym, IsPermutation-trans, IsPermutation-cons, IsPermutation-map, IsPermutation-middle, IsPermutation-append_left, IsPermutation-append_right, IsPermutation-filter_both, All-permutation, length_permutation}
 use Rattle.srb.specs.declared.DeviceLabel.{DeviceLabel}
 use Rattle.srb.specs.Fate.{Fate, Fresh, Acted, Faulted, is_fresh}
-use Rattle.srb.specs.Adapter.{AdapterView, TagInUse, IsInOrder, MovesByAll, NotesReset}
-use Rattle.miniport.specs.Calls.{Resets as AdapterResets, HasNoLabel, LeavesFirst, after_reset, fate_after_reset, tag_of, is_fresh_use, fault_of as use_fault}
-use Rattle.device.specs.declared.Request.{Request}
-use Rattle.device.specs.Rules.{Rules}
-use Rattle.device.specs.State.{Piece, State, IsSame}
-use Rattle.device.specs.Sending.{with_fate}
+use Rattle.adapter.specs.View.{AdapterView, TagInUse, IsInOrder, MovesByAll, NotesReset}
+use Rattle.adapter.specs.Calls.{Resets as AdapterResets, HasNoLabel, LeavesFirst, after_reset, fate_after_reset, tag_of, is_fresh_use, fault_of as use_fault}
+use Rattle.machine.specs.declared.Request.{Request}
+use Rattle.machine.specs.Rules.{Rules}
+use Rattle.machine.specs.State.{Piece, State, IsSame}
+use Rattle.machine.specs.Sending.{with_fate}
 use Rattle.device.specs.Seen.{label_places}
-use Rattle.device.specs.Served.{Resets, piece_tag, is_fresh_piece, fault_of, as_label}
-use Rattle.device.specs.Step.{Run}
-use Rattle.device.proofs.Same.{IsSame-refl, Run-same}
-use Rattle.device.proofs.Numbers.{AreDistinct-Run}
+use Rattle.device.specs.Served.{Resets, piece_tag, is_fresh_piece, fault_of}
+use Rattle.machine.specs.Step.{Run, as_label}
+use Rattle.machine.proofs.Same.{IsSame-refl, Run-same}
+use Rattle.machine.proofs.Numbers.{AreDistinct-Run}
 use Rattle.port.specs.declared.queues.Held.{Held}
 use Rattle.port.specs.Books.{Entry, Books}
 use Rattle.port.specs.Shown.{rules_of, waiting_open, done_open, open_on, piece_on, packet as packet_as, of_packets, of_waiting, of_tag, of_done, state_of, seen_of}
@@ -167,7 +167,7 @@ hand_reset b v tags' fresh failures rooms i p f space order =
     let fits = tags_fit v k.adapter in
     in_hand b v' rooms (record {
       adapter = order;
-      sizes = record { sector_size = k.sizes.sector_size; sectors = k.sizes.sectors; max_transfer = k.sizes.max_transfer; depth = k.sizes.depth };
+      sizes = record { sector_size = k.sizes.sector_size; sectors = k.sizes.sectors; max_transfer = k.sizes.max_transfer; depth = k.sizes.depth; faithful = k.sizes.faithful };
       started = k.started;
       waiting = All-weaker (IsWaiting rules v) (IsWaiting rules v') (waiting_moves rules v v' (λ extent r. r)) b.waiting k.waiting;
       in_turn = k.in_turn;
@@ -225,7 +225,7 @@ hand_labels b v v' rooms (Some label) h order i =
     let l = ap (λ (ls : List DeviceLabel). length ls) h.first in
     subst (λ y. IsInHand b y rooms) (sym h.after) (in_hand b x rooms (record {
       adapter = subst IsInOrder h.after order;
-      sizes = record { sector_size = k.sizes.sector_size; sectors = k.sizes.sectors; max_transfer = k.sizes.max_transfer; depth = k.sizes.depth };
+      sizes = record { sector_size = k.sizes.sector_size; sectors = k.sizes.sectors; max_transfer = k.sizes.max_transfer; depth = k.sizes.depth; faithful = k.sizes.faithful };
       started = k.started;
       waiting = All-weaker (IsWaiting rules v) (IsWaiting rules x) (waiting_moves rules v x (λ extent r. r)) b.waiting k.waiting;
       in_turn = k.in_turn;

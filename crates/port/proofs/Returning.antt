@@ -13,32 +13,32 @@ use Rattle.srb.specs.declared.Class.{Class}
 use Rattle.srb.specs.declared.Class.TheVariants.{Good, Busy, Bad}
 use Rattle.srb.specs.declared.DeviceLabel.TheVariants.{Return}
 use Rattle.srb.specs.Fate.{Acted, class_of}
-use Rattle.srb.specs.Adapter.{AdapterView, TagInUse, IsInOrder, IsOn, HasNotTag, MayReturn}
-use Rattle.miniport.specs.Calls.{Finishes as AdapterFinishes, FinishesNot as AdapterFinishesNot}
+use Rattle.adapter.specs.View.{AdapterView, TagInUse, IsInOrder, IsOn, HasNotTag, MayReturn}
+use Rattle.adapter.specs.Calls.{Finishes as AdapterFinishes, FinishesNot as AdapterFinishesNot}
 use Rattle.irp.specs.declared.Payload.{Payload}
 use Rattle.irp.specs.declared.Payload.TheVariants.{Srb as Packed}
-use Rattle.device.specs.declared.Kind.{Kind}
-use Rattle.device.specs.declared.Kind.TheVariants.{Read, Write, Flush}
-use Rattle.device.specs.declared.Request.{Request}
-use Rattle.device.specs.Rules.{Rules, as_client}
-use Rattle.device.specs.State.{Mark, Done, Out, OpenRequest}
-use Rattle.device.specs.Sending.{Leaves, Returns, given_back, one_if_busy, HasOtherTag}
+use Rattle.machine.specs.declared.Kind.{Kind}
+use Rattle.machine.specs.declared.Kind.TheVariants.{Read, Write, Flush}
+use Rattle.machine.specs.declared.Request.{Request}
+use Rattle.machine.specs.Rules.{Rules, as_client}
+use Rattle.machine.specs.State.{Mark, Done, Out, OpenRequest}
+use Rattle.machine.specs.Sending.{Leaves, Returns, given_back, one_if_busy, HasOtherTag}
 use Rattle.device.specs.Seen.{AsksFor, Carries, IsBounded, payload_bytes, sent_bytes, label_places, transfer_length}
-use Rattle.device.specs.Served.{Finishes, FinishesNot, Moves}
-use Rattle.device.proofs.Same.{IsSame-refl}
-use Rattle.device.proofs.Numbers.{AreDistinct-DeviceStep}
+use Rattle.device.specs.Served.{Finishes, FinishesNot, Moves, sectors_moved}
+use Rattle.machine.proofs.Same.{IsSame-refl}
+use Rattle.machine.proofs.Numbers.{AreDistinct-DeviceStep}
 use Rattle.port.specs.declared.queues.Held.{Held}
 use Rattle.port.specs.declared.queues.Ended.{Ended}
 use Rattle.port.specs.declared.queues.Outcome.{Outcome}
 use Rattle.port.specs.declared.queues.Outcome.TheVariants.{Returned, Flushed, Gone}
 use Rattle.port.specs.Books.{Entry, Books, entry_of, ended_entry}
 use Rattle.port.specs.Turns.{held_on, EndsAs, Ends}
-use Rattle.port.specs.Shown.{rules_of, places_of, sectors_moved, marks_left, busy_left, open_as, waiting_open, done_open, out_open, out_piece, open_on, piece_on, entry_on, packet as packet_as, of_packets, of_waiting, of_tag, of_done, state_of, seen_of, requests_of}
+use Rattle.port.specs.Shown.{rules_of, places_of, marks_left, busy_left, open_as, waiting_open, done_open, out_open, out_piece, open_on, piece_on, entry_on, packet as packet_as, of_packets, of_waiting, of_tag, of_done, state_of, seen_of, requests_of}
 use Rattle.port.specs.Kept.{asked, IsKept, IsRoom, IsWaiting, IsAtWork, IsDoing, HasEnded, HasOutcome}
 use Rattle.port.specs.Releases.{Releases}
 use Rattle.port.proofs.Lists.{splice_whole, second_front, last_front, length-cut}
 use Rattle.port.proofs.Tags.{others_same, others_apart}
-use Rattle.srb.proofs.Joining.{moves_one}
+use Rattle.adapter.proofs.Joining.{moves_one}
 use Rattle.port.proofs.Starting.{work_beside, room_moves, waiting_moves, moves_then}
 
 abbrev pub books_returned : Books → ℕ → Ended → Books
@@ -222,7 +222,7 @@ module _ (b : Books) (v : AdapterView) (tag : ℕ) (use' : TagInUse) (others tag
       let l = length-append b.done (ended ∷ []) in
       record {
         adapter = order;
-        sizes = record { sector_size = k.sizes.sector_size; sectors = k.sizes.sectors; max_transfer = k.sizes.max_transfer; depth = k.sizes.depth };
+        sizes = record { sector_size = k.sizes.sector_size; sectors = k.sizes.sectors; max_transfer = k.sizes.max_transfer; depth = k.sizes.depth; faithful = k.sizes.faithful };
         started = length-set b.started tag None ∙ k.started;
         waiting = All-weaker (IsWaiting rules v) (IsWaiting rules v') (waiting_moves rules v v' (λ extent r. r)) b.waiting k.waiting;
         in_turn = k.in_turn;

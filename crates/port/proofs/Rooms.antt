@@ -4,10 +4,10 @@ use Rattle.std.specs.Prelude.{All}
 use Rattle.std.proofs.lemmas.List.Elements.{All-cons, All-tail, All-weaker}
 use Rattle.std.specs.Prelude.{Result, Ok, Err, OnErr}
 use Rattle.sector.specs.declared.Extent.{Extent}
-use Rattle.srb.specs.Adapter.{AdapterView, IsInOrder, IsReserved, ReservesMore}
-use Rattle.device.specs.declared.Kind.TheVariants.{Write}
-use Rattle.device.specs.declared.Request.{Request}
-use Rattle.device.specs.Rules.{Rules}
+use Rattle.adapter.specs.View.{AdapterView, IsInOrder, IsReserved, ReservesMore}
+use Rattle.machine.specs.declared.Kind.TheVariants.{Write}
+use Rattle.machine.specs.declared.Request.{Request}
+use Rattle.machine.specs.Rules.{Rules}
 use Rattle.device.specs.Seen.{IsBounded}
 use Rattle.device.specs.Served.{Reserves}
 use Rattle.port.specs.Books.{Books}
@@ -50,7 +50,7 @@ kept_reserved b v reserved rooms order lasts k =
     let rules : Rules = rules_of b.sizes in
     record {
       adapter = order;
-      sizes = record { sector_size = k.sizes.sector_size; sectors = k.sizes.sectors; max_transfer = k.sizes.max_transfer; depth = k.sizes.depth };
+      sizes = record { sector_size = k.sizes.sector_size; sectors = k.sizes.sectors; max_transfer = k.sizes.max_transfer; depth = k.sizes.depth; faithful = k.sizes.faithful };
       started = k.started;
       waiting = All-weaker (IsWaiting rules v) (IsWaiting rules (with_reserved v reserved)) (waiting_moves rules v (with_reserved v reserved) lasts) b.waiting k.waiting;
       in_turn = k.in_turn;

@@ -36,7 +36,7 @@ none_found : {X : Type 0} (test : X → Bool) (xs : List X) → position test xs
 none_found test xs h = none_from test 0 xs (sym (position_from-zero test xs) ∙ h)
 
 -- a list at one of its places
-split_at : {X : Type 0} (xs : List X) (i : ℕ) (x : X) → i < length xs → x ≡ get_or xs i x → xs ≡ take i xs ++ x ∷ drop (suc i) xs
+pub split_at : {X : Type 0} (xs : List X) (i : ℕ) (x : X) → i < length xs → x ≡ get_or xs i x → xs ≡ take i xs ++ x ∷ drop (suc i) xs
 split_at {X} xs i x low is =
     let e : drop i xs ≡ get_or xs i x ∷ drop (i + 1) xs = drop_more xs i x low in
     let n : i + 1 ≡ suc i = omega arith in

@@ -3,13 +3,13 @@ use Rattle.std.proofs.Common.{◌≡◌, ◌<◌, ◌≤◌, ◌⊎◌, inl, inr
 use Rattle.std.proofs.lemmas.Bool.Decides.{nat_tests}
 use Rattle.std.proofs.lemmas.Nat.{div-mul-add, mod-mul-add, mul-le}
 use Rattle.cdb.specs.declared.Cdb.TheVariants.{Write10}
-use Rattle.device.specs.declared.Kind.{Kind}
-use Rattle.device.specs.declared.Kind.TheVariants.{Read, Write, Flush}
-use Rattle.device.specs.declared.Request.{Request}
-use Rattle.device.specs.Rules.{Rules, is_transfer, as_client, place_count, sectors_of, is_in_bounds}
-use Rattle.device.specs.State.{State}
-use Rattle.device.specs.Calling.{refusal, bytes_carried}
-use Rattle.device.specs.Sending.{command_for}
+use Rattle.machine.specs.declared.Kind.{Kind}
+use Rattle.machine.specs.declared.Kind.TheVariants.{Read, Write, Flush}
+use Rattle.machine.specs.declared.Request.{Request}
+use Rattle.machine.specs.Rules.{Rules, is_transfer, as_client, place_count, sectors_of, is_in_bounds}
+use Rattle.machine.specs.State.{State}
+use Rattle.machine.specs.Calling.{refusal, bytes_carried}
+use Rattle.machine.specs.Sending.{command_for}
 use Rattle.device.specs.Seen.{IsBounded, whole_command, transfer_length, Carries, sent_bytes, payload_bytes}
 use Rattle.irp.specs.declared.Payload.{Payload}
 use Rattle.irp.specs.declared.Payload.TheVariants.{Srb as Packed, Buffer, Sent as AtAdapter}

@@ -9,7 +9,7 @@ use Rattle.std.proofs.lemmas.List.Sorted.{IsPermutation-refl, IsPermutation-sym,
 use Rattle.srb.specs.declared.Srb.{Srb}
 use Rattle.srb.specs.declared.DeviceLabel.{DeviceLabel}
 use Rattle.srb.specs.declared.DeviceLabel.TheVariants.{Start}
-use Rattle.srb.specs.Adapter.{AdapterView, TagInUse, IsInOrder, IsFree, HasTag as UseHasTag, HasNotTag, in_use_from, Accepts, IsReserved, IsWritable}
+use Rattle.adapter.specs.View.{AdapterView, TagInUse, IsInOrder, IsFree, HasTag as UseHasTag, HasNotTag, in_use_from, Accepts, IsReserved, IsWritable}
 use Rattle.cdb.specs.declared.Cdb.{Cdb}
 use Rattle.cdb.specs.declared.Cdb.TheVariants.{Write10}
 use Rattle.cdb.specs.Meaning.{Means}
@@ -17,19 +17,19 @@ use Rattle.sector.specs.declared.Extent.{Extent}
 use Rattle.sector.specs.Splice.{splice}
 use Rattle.irp.specs.declared.Payload.{Payload}
 use Rattle.irp.specs.declared.Payload.TheVariants.{Srb as Packed, Buffer, Sent as AtAdapter}
-use Rattle.device.specs.declared.Kind.{Kind}
-use Rattle.device.specs.declared.Kind.TheVariants.{Read, Write, Flush}
-use Rattle.device.specs.declared.ClientRequest.{ClientRequest}
-use Rattle.device.specs.declared.Request.{Request}
-use Rattle.device.specs.Rules.{Rules, as_client}
-use Rattle.device.specs.State.{Mark, Untouched, Out, OpenRequest}
-use Rattle.device.specs.Sending.{command_for, HasOtherTag, HasTag, IsInTurn, Starts, is_started, sent}
+use Rattle.machine.specs.declared.Kind.{Kind}
+use Rattle.machine.specs.declared.Kind.TheVariants.{Read, Write, Flush}
+use Rattle.machine.specs.declared.ClientRequest.{ClientRequest}
+use Rattle.machine.specs.declared.Request.{Request}
+use Rattle.machine.specs.Rules.{Rules, as_client}
+use Rattle.machine.specs.State.{Mark, Untouched, Out, OpenRequest}
+use Rattle.machine.specs.Sending.{command_for, HasOtherTag, HasTag, IsInTurn, Starts, is_started, sent, IsStart}
 use Rattle.device.specs.Seen.{whole_command, AsksFor, Carries, IsBounded, Seen, sent_bytes}
-use Rattle.device.specs.Served.{IsStart, Moves, as_label}
-use Rattle.device.specs.Step.{Run}
-use Rattle.device.specs.Solo.{all_places as all_places_of}
-use Rattle.device.proofs.Same.{IsSame-refl, Run-append, Any-permutation}
-use Rattle.device.proofs.Numbers.{AreDistinct-DeviceStep}
+use Rattle.device.specs.Served.{Moves}
+use Rattle.machine.specs.Step.{Run, as_label}
+use Rattle.machine.specs.Solo.{all_places as all_places_of}
+use Rattle.machine.proofs.Same.{IsSame-refl, Run-append, Any-permutation}
+use Rattle.machine.proofs.Numbers.{AreDistinct-DeviceStep}
 use Rattle.port.specs.declared.queues.Held.{Held}
 use Rattle.port.specs.declared.queues.Ended.{Ended}
 use Rattle.port.specs.declared.queues.Outcome.TheVariants.{Flushed, Gone}
@@ -41,7 +41,7 @@ use Rattle.port.specs.Kept.{asked, IsKept, IsRoom, IsWaiting, HasEnded, HasOutco
 use Rattle.port.specs.Releases.{Releases, AreLowerInUse}
 use Rattle.port.proofs.Lists.{splice_whole, second_front}
 use Rattle.port.proofs.Tags.{others_same, free_leaves}
-use Rattle.srb.proofs.Joining.{moves_one, moves_joined, reserves_none}
+use Rattle.adapter.proofs.Joining.{moves_one, moves_joined, reserves_none}
 use Rattle.port.proofs.Sizing.{whole_write, places_some, places_short, same_command}
 use Rattle.port.proofs.Opening.{Any-map, untouched_all, all_unsent, started_by, ended_started, true_false}
 
@@ -249,7 +249,7 @@ kept_started b v rooms front rest tag srb packet tags' k is packs same low free 
     let inside : tag < length b.started = omega arith in
     record {
       adapter = order;
-      sizes = record { sector_size = k.sizes.sector_size; sectors = k.sizes.sectors; max_transfer = k.sizes.max_transfer; depth = k.sizes.depth };
+      sizes = record { sector_size = k.sizes.sector_size; sectors = k.sizes.sectors; max_transfer = k.sizes.max_transfer; depth = k.sizes.depth; faithful = k.sizes.faithful };
       started = length-set b.started tag (Some packet) ∙ k.started;
       waiting = All-weaker (IsWaiting rules v) (IsWaiting rules v') (waiting_moves rules v v' (λ extent h. h)) rest (All-tail (IsWaiting rules v) front rest waits);
       in_turn = (subst AreInTurn is k.in_turn).1;

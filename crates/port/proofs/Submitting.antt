@@ -4,19 +4,19 @@ use Rattle.std.specs.Prelude.{All, IsFalse, IsPermutation}
 use Rattle.std.proofs.lemmas.List.{map-append, append_assoc}
 use Rattle.std.proofs.lemmas.List.Elements.{All-nil, All-cons, All-push, All-head, All-tail, All-weaker}
 use Rattle.std.proofs.lemmas.List.Sorted.{IsPermutation-refl, IsPermutation-sym, IsPermutation-trans, IsPermutation-middle, All-permutation}
-use Rattle.srb.specs.Adapter.{AdapterView}
+use Rattle.adapter.specs.View.{AdapterView}
 use Rattle.irp.specs.declared.Irp.{Irp}
-use Rattle.device.specs.declared.Request.{Request}
-use Rattle.device.specs.Rules.{Rules, as_client}
-use Rattle.device.specs.State.{OpenRequest}
-use Rattle.device.specs.Calling.{Opens, new_request}
-use Rattle.device.specs.Numbers.{IsGiven}
+use Rattle.machine.specs.declared.Request.{Request}
+use Rattle.machine.specs.Rules.{Rules, as_client}
+use Rattle.machine.specs.State.{OpenRequest}
+use Rattle.machine.specs.Calling.{Opens, new_request}
+use Rattle.machine.specs.Numbers.{IsGiven}
 use Rattle.device.specs.Seen.{Carries, sent_bytes, packet_of}
 use Rattle.device.specs.Served.{Submits}
-use Rattle.device.proofs.Numbers.{AreDistinct-Admits}
+use Rattle.machine.proofs.Numbers.{AreDistinct-Admits}
 use Rattle.port.specs.declared.queues.Held.{Held}
-use Rattle.port.specs.Books.{Entry, Books, entry}
-use Rattle.port.specs.Turns.{held_with, Queued}
+use Rattle.port.specs.Books.{held_with, Entry, Books, entry}
+use Rattle.port.specs.Turns.{Queued}
 use Rattle.port.specs.Shown.{rules_of, most, waiting_open, open_on, done_open, packet as packet_as, of_packets, of_waiting, of_tag, of_done, state_of, seen_of}
 use Rattle.port.specs.Kept.{asked, IsKept, IsRoom, IsWaiting, IsBefore, AreInTurn}
 use Rattle.port.specs.Releases.{Releases}
@@ -24,8 +24,8 @@ use Rattle.port.proofs.Sizing.{not_refused, carries_bytes}
 use Rattle.port.proofs.Starting.{kept_sector_some}
 use Rattle.port.proofs.Opening.{true_false}
 
-abbrev pub books_queued : Books → Irp → Request → Books
-books_queued b irp r = record b { waiting = b.waiting ++ held_with irp r ∷ []; last_request = irp.number; submitted = b.submitted + 1 }
+abbrev pub books_queued : Books → Irp → Request → ℕ → Books
+books_queued b irp r spot = record b { waiting = b.waiting ++ held_with irp r spot ∷ []; last_request = irp.number; submitted = b.submitted + 1 }
 
 abbrev pub numbered_below : ℕ → Held → Type 0
 numbered_below n held = held.irp.number < n
@@ -52,9 +52,9 @@ pub record MayQueue (b : Books) (irp : Irp) (r : Request) : Type 0 where
   pub not_cancelled : IsFalse irp.cancelled
   pub carries : Carries true (rules_of b.sizes) r irp.payload
 
-opens_queued : (b : Books) (v : AdapterView) (irp : Irp) (r : Request) (rooms : List Request) → IsKept b v (r ∷ rooms) → MayQueue b irp r
-    → Opens (rules_of b.sizes) (state_of b v) irp.number (as_client (rules_of b.sizes) r (sent_bytes r.kind irp.payload)) (state_of (books_queued b irp r) v)
-opens_queued b v irp r rooms k m =
+opens_queued : (b : Books) (v : AdapterView) (irp : Irp) (r : Request) (spot : ℕ) (rooms : List Request) → IsKept b v (r ∷ rooms) → MayQueue b irp r
+    → Opens (rules_of b.sizes) (state_of b v) irp.number (as_client (rules_of b.sizes) r (sent_bytes r.kind irp.payload)) (state_of (books_queued b irp r spot) v)
+opens_queued b v irp r spot rooms k m =
     let rules : Rules = rules_of b.sizes in
     let room : IsRoom rules v r = All-head (IsRoom rules v) r rooms k.rooms_out in
     let some : 0 < b.sizes.sector_size = kept_sector_some b v (r ∷ rooms) k in
@@ -75,39 +75,39 @@ opens_queued b v irp r rooms k m =
       };
     }
   where
-    requests_after : (rules : Rules) → IsPermutation (map (waiting_open rules) (b.waiting ++ held_with irp r ∷ []) ++ (map (open_on rules b.started) v.tags ++ map (done_open rules) b.done))
+    requests_after : (rules : Rules) → IsPermutation (map (waiting_open rules) (b.waiting ++ held_with irp r spot ∷ []) ++ (map (open_on rules b.started) v.tags ++ map (done_open rules) b.done))
         (new_request rules (state_of b v) irp.number (as_client rules r (sent_bytes r.kind irp.payload)) ∷ (map (waiting_open rules) b.waiting ++ (map (open_on rules b.started) v.tags ++ map (done_open rules) b.done)))
     requests_after rules =
-        let e : waiting_open rules (held_with irp r) ≡ new_request rules (state_of b v) irp.number (as_client rules r (sent_bytes r.kind irp.payload)) =
+        let e : waiting_open rules (held_with irp r spot) ≡ new_request rules (state_of b v) irp.number (as_client rules r (sent_bytes r.kind irp.payload)) =
         ap (λ (flag : Bool). record (new_request rules (state_of b v) irp.number (as_client rules r (sent_bytes r.kind irp.payload))) { cancelled = flag }) m.not_cancelled in
-        let p : IsPermutation ((map (waiting_open rules) b.waiting ++ waiting_open rules (held_with irp r) ∷ []) ++ (map (open_on rules b.started) v.tags ++ map (done_open rules) b.done)) (waiting_open rules (held_with irp r) ∷ (map (waiting_open rules) b.waiting ++ (map (open_on rules b.started) v.tags ++ map (done_open rules) b.done))) = behind_all (map (waiting_open rules) b.waiting) (waiting_open rules (held_with irp r)) (map (open_on rules b.started) v.tags ++ map (done_open rules) b.done) in
-        subst (λ ws. IsPermutation (ws ++ (map (open_on rules b.started) v.tags ++ map (done_open rules) b.done)) (new_request rules (state_of b v) irp.number (as_client rules r (sent_bytes r.kind irp.payload)) ∷ (map (waiting_open rules) b.waiting ++ (map (open_on rules b.started) v.tags ++ map (done_open rules) b.done)))) (sym (map-append (waiting_open rules) b.waiting (held_with irp r ∷ [])))
-        (subst (λ (x : OpenRequest). IsPermutation ((map (waiting_open rules) b.waiting ++ waiting_open rules (held_with irp r) ∷ []) ++ (map (open_on rules b.started) v.tags ++ map (done_open rules) b.done)) (x ∷ (map (waiting_open rules) b.waiting ++ (map (open_on rules b.started) v.tags ++ map (done_open rules) b.done)))) e p)
+        let p : IsPermutation ((map (waiting_open rules) b.waiting ++ waiting_open rules (held_with irp r spot) ∷ []) ++ (map (open_on rules b.started) v.tags ++ map (done_open rules) b.done)) (waiting_open rules (held_with irp r spot) ∷ (map (waiting_open rules) b.waiting ++ (map (open_on rules b.started) v.tags ++ map (done_open rules) b.done))) = behind_all (map (waiting_open rules) b.waiting) (waiting_open rules (held_with irp r spot)) (map (open_on rules b.started) v.tags ++ map (done_open rules) b.done) in
+        subst (λ ws. IsPermutation (ws ++ (map (open_on rules b.started) v.tags ++ map (done_open rules) b.done)) (new_request rules (state_of b v) irp.number (as_client rules r (sent_bytes r.kind irp.payload)) ∷ (map (waiting_open rules) b.waiting ++ (map (open_on rules b.started) v.tags ++ map (done_open rules) b.done)))) (sym (map-append (waiting_open rules) b.waiting (held_with irp r spot ∷ [])))
+        (subst (λ (x : OpenRequest). IsPermutation ((map (waiting_open rules) b.waiting ++ waiting_open rules (held_with irp r spot) ∷ []) ++ (map (open_on rules b.started) v.tags ++ map (done_open rules) b.done)) (x ∷ (map (waiting_open rules) b.waiting ++ (map (open_on rules b.started) v.tags ++ map (done_open rules) b.done)))) e p)
 
-packets_queued : {Y : Type 0} (f : Entry → Y) (b : Books) (v : AdapterView) (irp : Irp) (r : Request) → IsPermutation (of_packets f (books_queued b irp r) v) (f (entry irp r) ∷ of_packets f b v)
-packets_queued {Y} f b v irp r =
-    subst (λ (ws : List Y). IsPermutation (ws ++ (map (of_tag f b.started) v.tags ++ map (of_done f) b.done)) (f (entry irp r) ∷ of_packets f b v)) (sym (map-append (of_waiting f) b.waiting (held_with irp r ∷ [])))
-    (behind_all (map (of_waiting f) b.waiting) (f (entry irp r)) (map (of_tag f b.started) v.tags ++ map (of_done f) b.done))
+packets_queued : {Y : Type 0} (f : Entry → Y) (b : Books) (v : AdapterView) (irp : Irp) (r : Request) (spot : ℕ) → IsPermutation (of_packets f (books_queued b irp r spot) v) (f (entry irp r spot) ∷ of_packets f b v)
+packets_queued {Y} f b v irp r spot =
+    subst (λ (ws : List Y). IsPermutation (ws ++ (map (of_tag f b.started) v.tags ++ map (of_done f) b.done)) (f (entry irp r spot) ∷ of_packets f b v)) (sym (map-append (of_waiting f) b.waiting (held_with irp r spot ∷ [])))
+    (behind_all (map (of_waiting f) b.waiting) (f (entry irp r spot)) (map (of_tag f b.started) v.tags ++ map (of_done f) b.done))
 
-kept_queued : (b : Books) (v : AdapterView) (irp : Irp) (r : Request) (rooms : List Request) → IsKept b v (r ∷ rooms) → MayQueue b irp r → IsKept (books_queued b irp r) v rooms
-kept_queued b v irp r rooms k m =
+kept_queued : (b : Books) (v : AdapterView) (irp : Irp) (r : Request) (spot : ℕ) (rooms : List Request) → IsKept b v (r ∷ rooms) → MayQueue b irp r → IsKept (books_queued b irp r spot) v rooms
+kept_queued b v irp r spot rooms k m =
     let rules : Rules = rules_of b.sizes in
     let room : IsRoom rules v r = All-head (IsRoom rules v) r rooms k.rooms_out in
     let below : All (numbered_below irp.number) b.waiting =
     All-weaker (numbered_below (b.last_request + 1)) (numbered_below irp.number) (λ h low. omega (arith, m.number)) b.waiting (waiting_given rules (b.last_request + 1) b.waiting _ k.distinct.given) in
-    let l = length-append b.waiting (held_with irp r ∷ []) in
+    let l = length-append b.waiting (held_with irp r spot ∷ []) in
     record {
       adapter = k.adapter;
       sizes = k.sizes;
       started = k.started;
-      waiting = All-push (IsWaiting rules v) b.waiting (held_with irp r) k.waiting (record { room = room; carries = m.carries; not_cancelled = m.not_cancelled });
-      in_turn = turn_push b.waiting (held_with irp r) below k.in_turn;
+      waiting = All-push (IsWaiting rules v) b.waiting (held_with irp r spot) k.waiting (record { room = room; carries = m.carries; not_cancelled = m.not_cancelled });
+      in_turn = turn_push b.waiting (held_with irp r spot) below k.in_turn;
       at_work = k.at_work;
       ended = k.ended;
-      reserved = All-permutation (IsRoom rules v) _ _ (IsPermutation-sym _ _ (packets_queued asked b v irp r)) (All-cons (IsRoom rules v) r (of_packets asked b v) room k.reserved);
+      reserved = All-permutation (IsRoom rules v) _ _ (IsPermutation-sym _ _ (packets_queued asked b v irp r spot)) (All-cons (IsRoom rules v) r (of_packets asked b v) room k.reserved);
       rooms_out = All-tail (IsRoom rules v) r rooms k.rooms_out;
       removing = λ removes. true_false b.removing removes m.stays;
-      distinct = AreDistinct-Admits rules (state_of b v) irp.number (as_client rules r (sent_bytes r.kind irp.payload)) None (state_of (books_queued b irp r) v) m.number k.distinct (opens_queued b v irp r rooms k m);
+      distinct = AreDistinct-Admits rules (state_of b v) irp.number (as_client rules r (sent_bytes r.kind irp.payload)) None (state_of (books_queued b irp r spot) v) m.number k.distinct (opens_queued b v irp r spot rooms k m);
       places = let c = k.places in omega arith;
       submitted = let c = m.few in omega arith;
       accepted = let c = k.accepted in omega arith;
@@ -115,16 +115,16 @@ kept_queued b v irp r rooms k m =
       labels = k.labels;
     }
 
-submits_queued : (b : Books) (v : AdapterView) (irp : Irp) (r : Request) (rooms : List Request) (b' : Books) (v' : AdapterView) → IsKept b v (r ∷ rooms) → MayQueue b irp r
-    → Releases (books_queued b irp r) v b' v' → Submits (seen_of b v) (packet_of irp) r irp.payload (seen_of b' v')
-submits_queued b v irp r rooms b' v' k m h = record {
-  opened = state_of (books_queued b irp r) v;
+submits_queued : (b : Books) (v : AdapterView) (irp : Irp) (r : Request) (spot : ℕ) (rooms : List Request) (b' : Books) (v' : AdapterView) → IsKept b v (r ∷ rooms) → MayQueue b irp r
+    → Releases (books_queued b irp r spot) v b' v' → Submits (seen_of b v) (packet_of irp spot) r irp.payload (seen_of b' v')
+submits_queued b v irp r spot rooms b' v' k m h = record {
+  opened = state_of (books_queued b irp r spot) v;
   starts = h.starts;
-  opens = opens_queued b v irp r rooms k m;
+  opens = opens_queued b v irp r spot rooms k m;
   only_starts = h.only_starts;
   moves = record {
     same_rules = h.moves.same_rules;
-    same_packets = IsPermutation-trans _ _ _ h.moves.same_packets (packets_queued packet_as b v irp r);
+    same_packets = IsPermutation-trans _ _ _ h.moves.same_packets (packets_queued packet_as b v irp r spot);
     same_submitted = h.moves.same_submitted;
     same_most = h.moves.same_most;
     run = h.moves.run;
@@ -133,9 +133,9 @@ submits_queued b v irp r rooms b' v' k m h = record {
 }
 
 -- as the queues say it
-pub queued_kept : (b : Books) (v : AdapterView) (irp : Irp) (r : Request) (b' : Books) → Queued b irp r b' → MayQueue b irp r → (rooms : List Request) → IsKept b v (r ∷ rooms) → IsKept b' v rooms
-queued_kept b v irp r b' q m rooms k = subst (λ x. IsKept x v rooms) (sym q) (kept_queued b v irp r rooms k m)
+pub queued_kept : (b : Books) (v : AdapterView) (irp : Irp) (r : Request) (spot : ℕ) (b' : Books) → Queued b irp r spot b' → MayQueue b irp r → (rooms : List Request) → IsKept b v (r ∷ rooms) → IsKept b' v rooms
+queued_kept b v irp r spot b' q m rooms k = subst (λ x. IsKept x v rooms) (sym q) (kept_queued b v irp r spot rooms k m)
 
-pub queued_submits : (b : Books) (v : AdapterView) (irp : Irp) (r : Request) (rooms : List Request) (b' c : Books) (v' : AdapterView) → Queued b irp r b' → MayQueue b irp r → IsKept b v (r ∷ rooms)
-    → Releases b' v c v' → Submits (seen_of b v) (packet_of irp) r irp.payload (seen_of c v')
-queued_submits b v irp r rooms b' c v' q m k h = submits_queued b v irp r rooms c v' k m (subst (λ x. Releases x v c v') q h)
+pub queued_submits : (b : Books) (v : AdapterView) (irp : Irp) (r : Request) (spot : ℕ) (rooms : List Request) (b' c : Books) (v' : AdapterView) → Queued b irp r spot b' → MayQueue b irp r → IsKept b v (r ∷ rooms)
+    → Releases b' v c v' → Submits (seen_of b v) (packet_of irp spot) r irp.payload (seen_of c v')
+queued_submits b v irp r spot rooms b' c v' q m k h = submits_queued b v irp r spot rooms c v' k m (subst (λ x. Releases x v c v') q h)

@@ -11,10 +11,10 @@ use Rattle.std.proofs.lemmas.List.Sorted.{IsPermutation-remove, length_permutati
 use Rattle.std.proofs.lemmas.List.Kept.{AllPairs-cons}
 use Rattle.std.proofs.lemmas.List.FromFn.{length-range_with_len, get_or-range_with_len}
 use Rattle.std.proofs.lemmas.Map.Made.{length-le_from_is_member, is_member-Decides, IsDistinct-from_AllPairs}
-use Rattle.srb.specs.Adapter.{AdapterView, TagInUse, IsInOrder, IsFree, HasTag, HasNotTag, HaveOtherTags, IsOn}
-use Rattle.miniport.specs.Calls.{tag_of}
-use Rattle.device.proofs.Same.{Any-permutation}
-use Rattle.device.proofs.Permuting.{distinct_first}
+use Rattle.adapter.specs.View.{AdapterView, TagInUse, IsInOrder, IsFree, HasTag, HasNotTag, HaveOtherTags, IsOn}
+use Rattle.adapter.specs.Calls.{tag_of}
+use Rattle.machine.proofs.Same.{Any-permutation}
+use Rattle.machine.proofs.Permuting.{distinct_first}
 use Rattle.port.specs.declared.queues.Held.{Held}
 use Rattle.port.specs.Books.{Entry}
 use Rattle.port.specs.Shown.{entry_on}

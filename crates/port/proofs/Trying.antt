@@ -5,14 +5,14 @@ use Rattle.srb.specs.declared.DeviceLabel.{DeviceLabel}
 use Rattle.srb.specs.declared.DeviceLabel.TheVariants.{Start, Act, Fault, Return}
 use Rattle.irp.specs.declared.Payload.{Payload}
 use Rattle.irp.specs.declared.Climb.{Climb}
-use Rattle.device.specs.declared.Request.{Request}
-use Rattle.device.specs.Rules.{Rules}
-use Rattle.device.specs.State.{State}
-use Rattle.device.specs.Holding.{Cancels}
-use Rattle.device.specs.Step.{Run, DeviceStep}
+use Rattle.machine.specs.declared.Request.{Request}
+use Rattle.machine.specs.Rules.{Rules}
+use Rattle.machine.specs.State.{State}
+use Rattle.machine.specs.Holding.{Cancels}
+use Rattle.machine.specs.Step.{Run, DeviceStep, as_label}
 use Rattle.device.specs.Seen.{Seen, Packet, label_places}
-use Rattle.device.specs.Served.{Moves, Reserves, Submits, ActsOn, ActsNot, Finishes, FinishesNot, Resets, CancelsIfOpen, DrainsAll, HandsUp, HandsUpNone, TakesLabel, IsBeside, NoneToCancel, as_label}
-use Rattle.srb.specs.Adapter.{AdapterView}
+use Rattle.device.specs.Served.{Moves, Reserves, Submits, ActsOn, ActsNot, Finishes, FinishesNot, Resets, CancelsIfOpen, DrainsAll, HandsUp, HandsUpNone, TakesLabel, IsBeside, NoneToCancel}
+use Rattle.adapter.specs.View.{AdapterView}
 use Rattle.port.specs.Shown.{rules_of}
 use Rattle.port.specs.Opening.{rules_over, opening_seen}
 use Rattle.port.proofs.Fresh.{sizes_are}
@@ -119,14 +119,14 @@ pub places_left : (v : Seen) (rules : Rules) (next : ℕ) (removed : Bool) (more
 places_left v rules next removed more r none few = let d = ap (λ (x : Rules). x.depth) r.rules_are in omega arith
 
 -- the rules of a port over four sectors of 512 bytes
-rules_four : (a : AdapterView) → a.sector_size ≡ 512 → length a.sectors ≡ 4 → a.max_transfer ≡ 2 → a.depth ≡ 2 → rules_over a ≡ four_sectors
-rules_four a size count transfer depth =
-    sym (ap rules_of (sizes_are a 512 4 2 2 (sym size) (sym count) (sym transfer) (sym depth)))
+rules_four : (a : AdapterView) → a.sector_size ≡ 512 → length a.sectors ≡ 4 → a.max_transfer ≡ 2 → a.depth ≡ 2 → a.faithful ≡ true → rules_over a ≡ four_sectors
+rules_four a size count transfer depth faithful =
+    sym (ap rules_of (sizes_are a 512 4 2 2 true (sym size) (sym count) (sym transfer) (sym depth) (sym faithful)))
 
 -- a client that gave no number yet knows a port of which nothing was asked
-pub ready_opened : (v : Seen) (a : AdapterView) → v ≡ opening_seen a → a.sector_size ≡ 512 → length a.sectors ≡ 4 → a.max_transfer ≡ 2 → a.depth ≡ 2 → IsReady v four_sectors 1 false
-ready_opened v a e size count transfer depth = subst (λ (x : Seen). IsReady x four_sectors 1 false) (sym e) (record {
-  rules_are = rules_four a size count transfer depth;
+pub ready_opened : (v : Seen) (a : AdapterView) → v ≡ opening_seen a → a.sector_size ≡ 512 → length a.sectors ≡ 4 → a.max_transfer ≡ 2 → a.depth ≡ 2 → a.faithful ≡ true → IsReady v four_sectors 1 false
+ready_opened v a e size count transfer depth faithful = subst (λ (x : Seen). IsReady x four_sectors 1 false) (sym e) (record {
+  rules_are = rules_four a size count transfer depth faithful;
   most_is = refl;
   numbers = omega arith;
   submitted = omega arith;

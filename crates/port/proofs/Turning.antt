@@ -1,5 +1,5 @@
 -- The piece of a tag acts or faults, and stays on its tag.
-use Rattle.std.proofs.Common.{◌≡◌, ◌≤◌, ◌⊎◌, inl, inr, ℕ, zero, suc, ◌+◌, ◌-◌, Bool, true, false, List, [], ◌∷◌, ◌++◌, Some, refl, sym, subst, ap, ◌∙◌, arith, map, length}
+use Rattle.std.proofs.Common.{◌≡◌, ◌≤◌, ◌⊎◌, inl, inr, ℕ, ◌==◌, zero, suc, ◌+◌, ◌-◌, Bool, true, false, List, [], ◌∷◌, ◌++◌, Some, refl, sym, subst, ap, ◌∙◌, arith, map, length}
 use Rattle.std.specs.Prelude.{All, Contains, IsPermutation, MatchBool}
 use Rattle.std.proofs.lemmas.List.{length-append, length-map}
 use Rattle.std.proofs.lemmas.List.Elements.{All-cons, All-weaker, All-tail}
@@ -7,26 +7,26 @@ use Rattle.std.proofs.lemmas.List.Sorted.{IsPermutation-refl, IsPermutation-sym,
 use Rattle.sector.specs.Extents.{IsSector}
 use Rattle.srb.specs.declared.DeviceLabel.{DeviceLabel}
 use Rattle.srb.specs.declared.DeviceLabel.TheVariants.{Act, Fault}
-use Rattle.srb.specs.Performing.{Performs}
+use Rattle.adapter.specs.Performing.{CarriesOut}
 use Rattle.srb.specs.Fate.{Fresh}
-use Rattle.srb.specs.Adapter.{AdapterView, TagInUse, IsInOrder, IsOn, ActsOn as AdapterActsOn, FaultsOn as AdapterFaultsOn, MovesOn, acted, faulted}
-use Rattle.miniport.specs.Calls.{Acts as AdapterActs, ActsNot as AdapterActsNot}
-use Rattle.device.specs.declared.Request.{Request}
-use Rattle.device.specs.Rules.{Rules, as_client}
-use Rattle.device.specs.State.{OpenRequest, Piece}
-use Rattle.device.specs.Sending.{Acts, Faults}
+use Rattle.adapter.specs.View.{AdapterView, TagInUse, IsInOrder, IsOn, ActsOn as AdapterActsOn, FaultsOn as AdapterFaultsOn, MovesOn, acted, faulted}
+use Rattle.adapter.specs.Calls.{Acts as AdapterActs, ActsNot as AdapterActsNot}
+use Rattle.machine.specs.declared.Request.{Request}
+use Rattle.machine.specs.Rules.{Rules, as_client}
+use Rattle.machine.specs.State.{OpenRequest, Piece}
+use Rattle.machine.specs.Sending.{Acts, Faults}
 use Rattle.device.specs.Seen.{AsksFor, label_places}
 use Rattle.device.specs.Served.{IsActOrFault, ActsOn, ActsNot}
-use Rattle.device.specs.Step.{DeviceStep}
-use Rattle.device.proofs.Same.{IsSame-refl}
-use Rattle.device.proofs.Numbers.{AreDistinct-DeviceStep}
+use Rattle.machine.specs.Step.{DeviceStep}
+use Rattle.machine.proofs.Same.{IsSame-refl}
+use Rattle.machine.proofs.Numbers.{AreDistinct-DeviceStep}
 use Rattle.port.specs.declared.queues.Held.{Held}
 use Rattle.port.specs.Books.{Entry, Books, entry_of}
 use Rattle.port.specs.Turns.{held_on}
 use Rattle.port.specs.Shown.{rules_of, waiting_open, done_open, out_open, out_piece, open_on, piece_on, packet as packet_as, of_packets, of_waiting, of_done, state_of, seen_of, requests_of}
 use Rattle.port.specs.Kept.{asked, IsKept, IsInHand, IsRoom, IsWaiting, IsAtWork, IsDoing}
 use Rattle.port.proofs.Lists.{second_front}
-use Rattle.srb.proofs.Joining.{moves_one}
+use Rattle.adapter.proofs.Joining.{moves_one}
 use Rattle.port.proofs.Starting.{room_moves, waiting_moves, kept_sector_some}
 use Rattle.port.proofs.Returning.{tags_on, on_tag_work, on_tag_some}
 use Rattle.port.proofs.Orderly.{in_hand}
@@ -91,7 +91,7 @@ module _ (b : Books) (v : AdapterView) (tag : ℕ) (use' use'' : TagInUse) (othe
       let t' = length_permutation _ _ h.in_use in
       record {
         adapter = order;
-        sizes = record { sector_size = k.sizes.sector_size; sectors = k.sizes.sectors ∙ sym h.long; max_transfer = k.sizes.max_transfer; depth = k.sizes.depth };
+        sizes = record { sector_size = k.sizes.sector_size; sectors = k.sizes.sectors ∙ sym h.long; max_transfer = k.sizes.max_transfer; depth = k.sizes.depth; faithful = k.sizes.faithful };
         started = k.started;
         waiting = All-weaker (IsWaiting rules v) (IsWaiting rules v') (waiting_moves rules v v' (λ extent r. r)) b.waiting k.waiting;
         in_turn = k.in_turn;
@@ -148,9 +148,9 @@ turned_act b v v' rooms tag piece bytes a held k on =
     let work = on_tag_work rules b.started v.tags a.use' a.others tag held k.at_work a.is_on.in_use a.is_on.has_tag on in
     let asks : AsksFor rules held.request a.use'.srb = subst (λ f. IsDoing rules held.request f a.use'.srb) a.is_fresh work.1 in
     let size = k.sizes.sector_size in
-    carried b.sizes (state_of b v) held.request a.use'.srb v.sectors a.moved a.sectors a.left a.command (kept_sector_some b v rooms k) work.0 k.sizes.sectors
+    carried b.sizes v.faithful (piece == 0) k.sizes.faithful (state_of b v) held.request a.use'.srb v.sectors a.moved a.sectors a.left a.command (kept_sector_some b v rooms k) work.0 k.sizes.sectors
     (subst (λ n. All (IsSector n) v.sectors) (sym size) k.adapter.whole_sectors) refl held.request.kind refl asks a.means
-    (subst (λ n. Performs n v.sectors a.use'.srb.data a.command a.moved a.sectors) (sym size) a.performs)
+    (subst (λ n. CarriesOut v.faithful (piece == 0) n v.sectors a.use'.srb.data a.command a.moved a.sectors) (sym size) a.performs)
 
 acted_all : (b : Books) (v v' : AdapterView) (rooms : List Request) (tag piece : ℕ) (bytes : List ℕ) → IsKept b v rooms → length v.labels + (v.depth - length v.tags) + 1 ≤ 64
     → AdapterActsOn v tag piece bytes v' → IsInOrder v' → IsTurned b v tag v'

@@ -1,10 +1,11 @@
 -- What the port has in its queues.
-use Rattle.std.specs.Prelude.{ℕ, Bool, List, Option}
+use Rattle.std.specs.Prelude.{ℕ, Bool, List, map, Option}
 use Rattle.irp.specs.declared.StackLocation.{StackLocation}
 use Rattle.irp.specs.declared.Irp.{Irp}
 use Rattle.irp.specs.Climb.{above as locations_above}
-use Rattle.device.specs.declared.Request.{Request}
+use Rattle.machine.specs.declared.Request.{Request}
 use Rattle.port.specs.declared.queues.Sizes.{Sizes}
+use Rattle.port.specs.declared.queues.Waiting.{Waiting}
 use Rattle.port.specs.declared.queues.Held.{Held}
 use Rattle.port.specs.declared.queues.Ended.{Ended}
 use Rattle.port.specs.declared.queues.Queues.{Queues}
@@ -15,15 +16,24 @@ pub record Entry : Type 0 where
   pub above : List StackLocation
   pub cancelled : Bool
   pub request : Request
+  -- where it stood in the queue
+  pub spot : ℕ
 
-abbrev pub entry : Irp → Request → Entry
-entry irp request = record { number = irp.number; above = locations_above irp; cancelled = irp.cancelled; request = request }
+abbrev pub entry : Irp → Request → ℕ → Entry
+entry irp request spot = record { number = irp.number; above = locations_above irp; cancelled = irp.cancelled; request = request; spot = spot }
 
 abbrev pub entry_of : Held → Entry
-entry_of held = entry held.irp held.request
+entry_of held = entry held.irp held.request held.spot
 
 abbrev pub ended_entry : Ended → Entry
-ended_entry ended = entry ended.irp ended.request
+ended_entry ended = entry ended.irp ended.request ended.spot
+
+abbrev pub held_with : Irp → Request → ℕ → Held
+held_with irp request spot = record { irp = irp; request = request; spot = spot }
+
+-- the packet of an entry of the queue
+abbrev pub held_at : ℕ × Waiting → Held
+held_at e = held_with e.1.irp e.1.request e.0
 
 pub record Books : Type 0 where
   pub sizes : Sizes
@@ -43,7 +53,7 @@ pub record Books : Type 0 where
 abbrev pub books_of : Queues → Books
 books_of q = record {
   sizes = q.sizes;
-  waiting = q.waiting.items;
+  waiting = map held_at q.waiting.entries;
   started = q.started.items;
   done = q.done.items;
   last_request = q.last_request;
@@ -52,3 +62,7 @@ books_of q = record {
   removing = q.removing;
   places = q.places;
 }
+
+-- how often an entry of the queue was visited
+abbrev pub visits_of : Queues → ℕ
+visits_of q = q.waiting.visits

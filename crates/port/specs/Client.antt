@@ -1,6 +1,6 @@
 -- What a client of a layer knows that gives rising numbers.
-use Rattle.std.specs.Prelude.{◌≡◌, ◌≤◌, ℕ, Bool}
-use Rattle.device.specs.Rules.{Rules}
+use Rattle.std.specs.Prelude.{◌≡◌, ◌≤◌, ℕ, Bool, true}
+use Rattle.machine.specs.Rules.{Rules}
 use Rattle.device.specs.Seen.{Seen}
 use Rattle.port.specs.Shown.{rules_of, most}
 
@@ -14,4 +14,4 @@ pub record IsReady (v : Seen) (rules : Rules) (next : ℕ) (removed : Bool) : Ty
 
 -- a port of four sectors of 512 bytes, with two tags, that transfers two sectors at once
 abbrev pub four_sectors : Rules
-four_sectors = rules_of (record { sector_size = 512; sectors = 4; max_transfer = 2; depth = 2 })
+four_sectors = rules_of (record { sector_size = 512; sectors = 4; max_transfer = 2; depth = 2; faithful = true })

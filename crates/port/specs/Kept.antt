@@ -4,12 +4,12 @@ use Rattle.std.specs.List.{concat}
 use Rattle.srb.specs.declared.Srb.{Srb}
 use Rattle.srb.specs.declared.Class.TheVariants.{Good, Busy, Bad}
 use Rattle.srb.specs.Fate.{Fate, Fresh, Acted, Faulted, class_of}
-use Rattle.srb.specs.Adapter.{AdapterView, TagInUse, IsInOrder, IsReserved}
+use Rattle.adapter.specs.View.{AdapterView, TagInUse, IsInOrder, IsReserved}
 use Rattle.irp.specs.declared.Payload.TheVariants.{Srb as Packed}
-use Rattle.device.specs.declared.Kind.TheVariants.{Read, Write}
-use Rattle.device.specs.declared.Request.{Request}
-use Rattle.device.specs.Rules.{Rules}
-use Rattle.device.specs.Numbers.{AreDistinct}
+use Rattle.machine.specs.declared.Kind.TheVariants.{Read, Write}
+use Rattle.machine.specs.declared.Request.{Request}
+use Rattle.machine.specs.Rules.{Rules}
+use Rattle.machine.specs.Numbers.{AreDistinct}
 use Rattle.device.specs.Seen.{AsksFor, Carries, IsBounded, IsOrderly, payload_bytes, transfer_length}
 use Rattle.port.specs.declared.queues.Sizes.{Sizes}
 use Rattle.port.specs.declared.queues.Held.{Held}
@@ -18,7 +18,8 @@ use Rattle.port.specs.declared.queues.Outcome.{Outcome}
 use Rattle.port.specs.declared.queues.Outcome.TheVariants.{Returned, Flushed, Gone}
 use Rattle.port.specs.Books.{Entry, Books}
 use Rattle.port.specs.Turns.{held_on}
-use Rattle.port.specs.Shown.{rules_of, of_packets, state_of, seen_of, sectors_moved, most}
+use Rattle.port.specs.Shown.{rules_of, of_packets, state_of, seen_of, most}
+use Rattle.device.specs.Served.{sectors_moved}
 
 -- the sizes are the adapter's
 pub record AreSizes (sizes : Sizes) (v : AdapterView) : Type 0 where
@@ -26,6 +27,7 @@ pub record AreSizes (sizes : Sizes) (v : AdapterView) : Type 0 where
   pub sectors : sizes.sectors ≡ length v.sectors
   pub max_transfer : sizes.max_transfer ≡ v.max_transfer
   pub depth : sizes.depth ≡ v.depth
+  pub faithful : sizes.faithful ≡ v.faithful
 
 -- a request for which all places are made
 pub record IsRoom (rules : Rules) (v : AdapterView) (r : Request) : Type 0 where

@@ -1,9 +1,10 @@
 -- A port of which nothing was asked yet.
 use Rattle.std.specs.Prelude.{◌≡◌, ◌≤◌, [], map, length}
-use Rattle.srb.specs.Adapter.{AdapterView}
-use Rattle.device.specs.Rules.{Rules}
-use Rattle.device.specs.State.{opening}
-use Rattle.device.specs.Seen.{Seen, sectors_in}
+use Rattle.adapter.specs.View.{AdapterView}
+use Rattle.machine.specs.Rules.{Rules}
+use Rattle.machine.specs.State.{opening}
+use Rattle.machine.specs.Map.{sectors_in}
+use Rattle.device.specs.Seen.{Seen}
 use Rattle.port.specs.declared.queues.Sizes.{Sizes}
 use Rattle.port.specs.Shown.{rules_of, most}
 
@@ -15,7 +16,7 @@ pub record IsFresh (v : AdapterView) : Type 0 where
 
 -- the sizes of the adapter's disk
 abbrev pub sizes_of : AdapterView → Sizes
-sizes_of v = record { sector_size = v.sector_size; sectors = length v.sectors; max_transfer = v.max_transfer; depth = v.depth }
+sizes_of v = record { sector_size = v.sector_size; sectors = length v.sectors; max_transfer = v.max_transfer; depth = v.depth; faithful = v.faithful }
 
 -- the rules of a port over this adapter
 abbrev pub rules_over : AdapterView → Rules

@@ -1,12 +1,20 @@
 -- The order of a list of rooms says nothing.
-use Rattle.std.proofs.Common.{List, arith}
+use Rattle.std.proofs.Common.{List, map, arith}
 use Rattle.std.specs.List.Sorted.{IsPermutation}
-use Rattle.std.proofs.lemmas.List.Sorted.{length_permutation, All-permutation}
-use Rattle.srb.specs.Adapter.{AdapterView}
-use Rattle.device.specs.declared.Request.{Request}
+use Rattle.std.proofs.lemmas.List.Sorted.{length_permutation, All-permutation, IsPermutation-map}
+use Rattle.adapter.specs.View.{AdapterView}
+use Rattle.machine.specs.declared.Request.{Request}
+use Rattle.port.specs.declared.PortRoom.{PortRoom}
 use Rattle.port.specs.Books.{Books}
 use Rattle.port.specs.Shown.{rules_of}
 use Rattle.port.specs.Kept.{IsKept, IsInHand, IsRoom}
+
+-- what a room is for
+abbrev pub asked_for : PortRoom → Request
+asked_for room = room.request
+
+pub rooms_same : (some others : List PortRoom) → IsPermutation some others → IsPermutation (map asked_for some) (map asked_for others)
+rooms_same some others same = IsPermutation-map asked_for some others same
 
 kept_any_order : (b : Books) (v : AdapterView) (some others : List Request) → IsPermutation some others → IsKept b v some → IsKept b v others
 kept_any_order b v some others same h = record {

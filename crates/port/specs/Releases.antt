@@ -1,8 +1,9 @@
 -- How the port starts what waits.
 use Rattle.std.specs.Prelude.{◌≡◌, ◌<◌, ◌⊎◌, ℕ, List, [], All, Any}
 use Rattle.srb.specs.declared.DeviceLabel.{DeviceLabel}
-use Rattle.srb.specs.Adapter.{AdapterView, HasTag}
-use Rattle.device.specs.Served.{Moves, IsStart}
+use Rattle.adapter.specs.View.{AdapterView, HasTag}
+use Rattle.machine.specs.Sending.{IsStart}
+use Rattle.device.specs.Served.{Moves}
 use Rattle.port.specs.Books.{Books}
 use Rattle.port.specs.Shown.{seen_of}
 

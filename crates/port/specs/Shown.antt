@@ -6,15 +6,17 @@ use Rattle.ntstatus.specs.Table.{status_of}
 use Rattle.srb.specs.declared.Class.TheVariants.{Good, Busy, Bad}
 use Rattle.srb.specs.declared.status.SrbStatus.TheVariants.{RequestFlushed, NoDevice}
 use Rattle.srb.specs.Status.{code_of}
-use Rattle.srb.specs.Adapter.{AdapterView, TagInUse}
+use Rattle.adapter.specs.View.{AdapterView, TagInUse}
 use Rattle.irp.specs.declared.Payload.{Payload}
 use Rattle.irp.specs.declared.Payload.TheVariants.{Srb as Packed}
-use Rattle.device.specs.declared.Kind.TheVariants.{Flush}
-use Rattle.device.specs.declared.Request.{Request}
-use Rattle.device.specs.Rules.{Rules, place_count, as_client}
-use Rattle.device.specs.State.{Mark, Untouched, Out, Done, Failed, Back, OpenRequest, Piece, State}
-use Rattle.device.specs.Sending.{status_of_completion}
-use Rattle.device.specs.Seen.{Packet, Seen, payload_bytes, sent_bytes, sectors_in}
+use Rattle.machine.specs.declared.Kind.TheVariants.{Flush}
+use Rattle.machine.specs.declared.Request.{Request}
+use Rattle.machine.specs.Rules.{Rules, place_count, as_client}
+use Rattle.machine.specs.State.{Mark, Untouched, Out, Done, Failed, Back, OpenRequest, Piece, State}
+use Rattle.machine.specs.Sending.{status_of_completion}
+use Rattle.machine.specs.Map.{sectors_in}
+use Rattle.device.specs.Seen.{Packet, Seen, sent_bytes}
+use Rattle.device.specs.Served.{sectors_moved}
 use Rattle.port.specs.declared.queues.Sizes.{Sizes}
 use Rattle.port.specs.declared.queues.Held.{Held}
 use Rattle.port.specs.declared.queues.Ended.{Ended}
@@ -35,20 +37,12 @@ rules_of sizes = record {
   window = None;
   one_piece = true;
   busy_limit = 1;
+  faithful = sizes.faithful;
 }
 
 -- the places of a request
 abbrev pub places_of : Rules → Request → ℕ
 places_of rules r = place_count rules (as_client rules r [])
-
--- as many parts of one length
-abbrev pub cut : ℕ → ℕ → List ℕ → List (List ℕ)
-cut zero size bytes = []
-cut (suc count) size bytes = take size bytes ∷ cut count size (drop size bytes)
-
--- the sectors that an SRB's data are
-abbrev pub sectors_moved : Rules → Request → Payload → List (List ℕ)
-sectors_moved rules r payload = cut (places_of rules r) rules.sector_size (payload_bytes payload)
 
 abbrev pub all_places : Rules → Request → Mark → List Mark
 all_places rules r mark = replicate (places_of rules r) mark
@@ -100,6 +94,7 @@ nobody = record {
   number = 0;
   above = [];
   cancelled = false;
+  spot = 0;
   request = record { volume = 0; kind = Flush; extent = record { first = 0; count = 0 }; through = false };
 }
 
@@ -124,7 +119,7 @@ out_piece rules e use' = record {
 }
 
 abbrev pub packet : Entry → Packet
-packet e = record { number = e.number; above = e.above }
+packet e = record { number = e.number; spot = e.spot; above = e.above }
 
 abbrev pub open_on : Rules → List (Option Held) → TagInUse → OpenRequest
 open_on rules started use' = out_open rules (entry_on started use'.tag) use'

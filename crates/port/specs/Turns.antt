@@ -1,17 +1,17 @@
 -- What each turn of the queues does to them.
-use Rattle.std.specs.Prelude.{◌≡◌, ℕ, ◌+◌, ◌==◌, ◌&&◌, Bool, true, false, not, List, [], ◌∷◌, ◌++◌, map, Option, Some, None, IsTrue, IsFalse, All, length, slice_set, slice_index_or}
+use Rattle.std.specs.Prelude.{◌≡◌, ◌≢◌, ℕ, ◌+◌, ◌==◌, ◌&&◌, Bool, true, false, not, List, [], ◌∷◌, ◌++◌, map, Option, Some, None, IsTrue, IsFalse, All, length, slice_set, slice_index_or}
 use Rattle.srb.specs.declared.Srb.{Srb}
 use Rattle.srb.specs.declared.Class.{Class}
 use Rattle.irp.specs.declared.Irp.{Irp}
 use Rattle.irp.specs.declared.Payload.{Payload}
 use Rattle.irp.specs.declared.Payload.TheVariants.{Srb as Packed}
-use Rattle.device.specs.declared.Request.{Request}
+use Rattle.machine.specs.declared.Request.{Request}
 use Rattle.port.specs.declared.queues.Sizes.{Sizes}
 use Rattle.port.specs.declared.queues.Held.{Held}
 use Rattle.port.specs.declared.queues.Ended.{Ended}
 use Rattle.port.specs.declared.queues.Outcome.{Outcome}
 use Rattle.port.specs.declared.queues.Outcome.TheVariants.{Returned, Flushed, Gone}
-use Rattle.port.specs.Books.{Entry, Books, entry_of, ended_entry}
+use Rattle.port.specs.Books.{Entry, Books, held_with, entry_of, ended_entry}
 
 -- nothing is in, and nothing ever was
 pub record IsEmpty (sizes : Sizes) (b : Books) : Type 0 where
@@ -25,13 +25,10 @@ pub record IsEmpty (sizes : Sizes) (b : Books) : Type 0 where
   pub removing : b.removing ≡ false
   pub places : b.places ≡ 0
 
-abbrev pub held_with : Irp → Request → Held
-held_with irp request = record { irp = irp; request = request }
-
 -- the packet waits, behind all others
-abbrev pub Queued : Books → Irp → Request → Books → Type 0
-Queued old irp request new = new ≡ record old {
-  waiting = old.waiting ++ held_with irp request ∷ [];
+abbrev pub Queued : Books → Irp → Request → ℕ → Books → Type 0
+Queued old irp request spot new = new ≡ record old {
+  waiting = old.waiting ++ held_with irp request spot ∷ [];
   last_request = irp.number;
   submitted = old.submitted + 1;
 }
@@ -85,7 +82,7 @@ pub record LeavesNot (old new : Books) : Type 0 where
 
 -- what waits is gone, and nothing will start
 abbrev pub gone : Held → Ended
-gone held = record { irp = held.irp; request = held.request; outcome = Gone }
+gone held = record { irp = held.irp; request = held.request; spot = held.spot; outcome = Gone }
 
 abbrev pub drained : Books → Books
 drained old = record old { waiting = []; done = old.done ++ map gone old.waiting; removing = true }
@@ -111,6 +108,9 @@ CannotCancelHeld number held = CannotCancel number (entry_of held)
 
 abbrev pub CannotCancelEnded : ℕ → Ended → Type 0
 CannotCancelEnded number ended = CannotCancel number (ended_entry ended)
+
+abbrev pub IsUncancelled : Held → Type 0
+IsUncancelled held = IsFalse held.irp.cancelled
 
 -- the packet of this number that waits is flushed; those before and behind it stay
 pub record Flushes (old : Books) (number : ℕ) (new : Books) : Type 0 where
@@ -140,6 +140,18 @@ pub record CancelsIn (old : Option Held) (number : ℕ) (new : Option Held) : Ty
 
 pub record CancelsNotIn (old : Option Held) (number : ℕ) (new : Option Held) : Type 0 where
   pub cannot : (held : Held) → old ≡ Some held → CannotCancelHeld number held
+  pub same : new ≡ old
+
+-- the packet at this spot of the queue has this number, and is flushed
+pub record FlushesAt (old : Books) (spot number : ℕ) (new : Books) : Type 0 where
+  pub flushes : Flushes old number new
+  pub at_spot : flushes.held.spot ≡ spot
+
+abbrev pub IsNotAt : ℕ → ℕ → Held → Type 0
+IsNotAt spot number held = held.spot ≡ spot → held.irp.number ≢ number
+
+pub record FlushesNotAt (old : Books) (spot number : ℕ) (new : Books) : Type 0 where
+  pub none : All (IsNotAt spot number) old.waiting
   pub same : new ≡ old
 
 -- the packet on this tag is cancelled, and goes on

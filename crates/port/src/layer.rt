@@ -1,16 +1,18 @@
 // The port as a layer of the stack.
-ghost use Rattle.std.specs.Prelude.{◌≡◌, ◌≢◌, ◌<◌, ◌≤◌, ◌*◌, ◌+◌, ◌^◌, ℕ, Bool, true, List, [], ◌∷◌, length, OnOk, MatchBool};
-ghost use Rattle.srb.specs.Adapter.{IsInOrder, IsReserved, ReservesMore};
-ghost use Rattle.device.specs.declared.Kind.TheVariants.{Write};
-ghost use Rattle.device.specs.declared.Request.{Request};
-ghost use Rattle.port.specs.Books.{books_of};
-ghost use Rattle.device.specs.Rules.{as_client};
+ghost use Rattle.std.specs.Prelude.{⊤, map, ◌≡◌, ◌≢◌, ◌<◌, ◌≤◌, ◌*◌, ◌+◌, ◌^◌, ℕ, Bool, true, List, [], ◌∷◌, length, OnOk, MatchBool};
+ghost use Rattle.adapter.specs.View.{IsInOrder, IsReserved, ReservesMore};
+ghost use Rattle.machine.specs.declared.Kind.TheVariants.{Write};
+ghost use Rattle.machine.specs.declared.Request.{Request};
+ghost use Rattle.port.specs.Books.{books_of, visits_of};
+ghost use Rattle.machine.specs.Rules.{as_client};
 ghost use Rattle.device.specs.Served.{information as information_of};
-ghost use Rattle.port.specs.Cancelling.{CancelsAt, CancelsNotAt, CancelsNoStarted};
+ghost use Rattle.port.specs.Cancelling.{CancelsQueued, CancelsAt, CancelsNotAt, CancelsNoStarted};
 ghost use Rattle.port.specs.Shown.{seen_of, rules_of};
+ghost use Rattle.port.specs.Turns.{FlushesNotAt};
+ghost use Rattle.linked.specs.Queue.{VisitsAtMost};
 ghost use Rattle.port.specs.Kept.{IsInHand, IsKept};
 ghost use Rattle.port.specs.Releases.{Releases, AreLowerInUse};
-ghost use Rattle.port.specs.Order.{any_order_lem};
+ghost use Rattle.port.specs.Order.{asked_for, rooms_same, any_order_lem};
 
 use crate::queues::{Ended, Sizes};
 use crate::{Port, PortRoom};
@@ -71,8 +73,20 @@ impl<A: Adapter> Port<A> {
         Ok(())
     }
 
+    /// Cancels the packet that waits at this spot, where it has this number; false where none does. At most three entries
+    /// of the queue are visited.
+    pub fn cancel_queued(&mut self, spot: usize, number: u128) -> bool
+        requires in_order { (rooms : List Request) × IsInHand (books_of self.old.queues) (A.view self.old.adapter) rooms }
+        ensures rooms { (rooms : List Request) → IsInHand (books_of self.old.queues) (A.view self.old.adapter) rooms → IsInHand (books_of self.new.queues) (A.view self.new.adapter) rooms }
+        ensures adapter { A.view self.new.adapter ≡ A.view self.old.adapter }
+        ensures cancels { MatchBool result (CancelsQueued (books_of self.old.queues) (A.view self.old.adapter) spot number (books_of self.new.queues)) (FlushesNotAt (books_of self.old.queues) spot number (books_of self.new.queues)) }
+        ensures visits { VisitsAtMost 3 (visits_of self.old.queues) (visits_of self.new.queues) }
+    {
+        self.queues.flush_at(spot, number)
+    }
+
     /// Cancels the packet on this tag, where the tag is in use and the packet has this number and is not cancelled yet.
-    fn cancel_at(&mut self, tag: u8, number: u128) -> bool
+    fn cancel_on_tag(&mut self, tag: u8, number: u128) -> bool
         requires { tag < length (books_of self.old.queues).started }
         ensures adapter { A.view self.new.adapter ≡ A.view self.old.adapter }
         ensures cancels { MatchBool result (CancelsAt (books_of self.old.queues) (A.view self.old.adapter) tag number (books_of self.new.queues)) (CancelsNotAt (books_of self.old.queues) (A.view self.old.adapter) tag number (books_of self.new.queues)) }
@@ -87,7 +101,7 @@ impl<A: Adapter> Port<A> {
         ensures cancels { MatchBool result ((tag : ℕ) × CancelsAt (books_of self.old.queues) (A.view self.old.adapter) tag number (books_of self.new.queues)) (CancelsNoStarted (books_of self.old.queues) (A.view self.old.adapter) number (books_of self.new.queues)) }
     {
         for tag in 0..self.queues.sizes.depth {
-            if self.cancel_at(tag, number) {
+            if self.cancel_on_tag(tag, number) {
                 return true;
             }
         }
@@ -122,7 +136,9 @@ impl<A: Adapter> Device for Port<A> {
 
     ghost request_of = { λ room. room.request };
 
-    ghost rooms_out = { λ port rooms. IsInHand (books_of port.queues) (A.view port.adapter) rooms };
+    ghost ready = { λ room. ⊤ };
+
+    ghost rooms_out = { λ port rooms. IsInHand (books_of port.queues) (A.view port.adapter) (map asked_for rooms) };
 
     fn volumes(&self) -> u8 {
         1
@@ -150,9 +166,10 @@ impl<A: Adapter> Device for Port<A> {
         Ok(PortRoom { request: *request })
     }
 
-    fn submit(&mut self, irp: Irp, room: PortRoom) {
-        self.queues.push(irp, room.request);
+    fn submit(&mut self, irp: Irp, room: PortRoom) -> usize {
+        let spot = self.queues.push(irp, room.request);
         self.start_waiting();
+        spot
     }
 
     fn free(&mut self, room: PortRoom) {
@@ -187,6 +204,16 @@ impl<A: Adapter> Device for Port<A> {
         self.queues.cancel_done(number);
     }
 
+    fn cancel_at(&mut self, spot: usize, number: u128) {
+        if self.cancel_queued(spot, number) {
+            return;
+        }
+        if self.cancel_started(number) {
+            return;
+        }
+        self.queues.cancel_done(number);
+    }
+
     fn drain(&mut self) {
         self.queues.drain();
     }
@@ -196,6 +223,7 @@ impl<A: Adapter> Device for Port<A> {
             Ended {
                 irp,
                 request,
+                spot: _,
                 outcome,
             },
         ) = self.queues.take_done()
@@ -211,7 +239,7 @@ impl<A: Adapter> Device for Port<A> {
         self.adapter.take_label()
     }
 
-    ghost any_order = { λ port some others same out. any_order_lem _ _ some others same out };
+    ghost any_order = { λ port some others same out. any_order_lem _ _ _ _ (rooms_same some others same) out };
 
     ghost in_order = { λ port rooms out. out.orderly };
 }

@@ -9,7 +9,7 @@
 #![tactic(auto)]
 
 ghost use Rattle.std.specs.Prelude.{◌≡◌, ◌≤◌, List, [], IfOk};
-ghost use Rattle.device.specs.declared.Request.{Request};
+ghost use Rattle.machine.specs.declared.Request.{Request};
 ghost use Rattle.port.specs.Opening.{IsFresh, opening_seen};
 
 mod layer;
@@ -53,6 +53,7 @@ impl<A: Adapter> Port<A> {
             sectors: adapter.sectors(),
             max_transfer: adapter.max_transfer(),
             depth: adapter.depth(),
+            faithful: adapter.is_faithful(),
         };
         let queues = Queues::new(alloc, sizes)?;
         Ok(Port { adapter, queues })

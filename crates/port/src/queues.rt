@@ -4,6 +4,7 @@ ghost use Rattle.std.specs.VecDeque.{deque_capacity};
 
 use device::Request;
 use irp::Irp;
+use linked::{Linked, Numbered};
 use srb::Class;
 use std::collections::VecDeque;
 
@@ -18,6 +19,8 @@ pub struct Sizes {
     pub max_transfer: u32,
     /// Tags.
     pub depth: u8,
+    /// Whether acts read and write the adapter's sectors.
+    pub faithful: bool,
 }
 
 /// How a packet ended.
@@ -31,11 +34,27 @@ pub enum Outcome {
     Gone,
 }
 
-/// A packet that waits or is at the adapter, with what it asks for.
+/// A packet that waits, with what it asks for.
+#[derive(Debug, Drop)]
+pub struct Waiting {
+    pub irp: Irp,
+    pub request: Request,
+}
+
+impl Numbered for Waiting {
+    ghost number_of = { λ waiting. waiting.irp.number };
+
+    fn number(&self) -> u128 {
+        self.irp.number
+    }
+}
+
+/// A packet at the adapter, with the spot that it had in the queue.
 #[derive(Debug, Drop)]
 pub struct Held {
     pub irp: Irp,
     pub request: Request,
+    pub spot: usize,
 }
 
 /// A packet that ended and was not taken yet.
@@ -43,6 +62,7 @@ pub struct Held {
 pub struct Ended {
     pub irp: Irp,
     pub request: Request,
+    pub spot: usize,
     pub outcome: Outcome,
 }
 
@@ -51,7 +71,7 @@ pub struct Ended {
 pub struct Queues {
     pub sizes: Sizes,
     /// First in, first out.
-    pub waiting: VecDeque<Held>,
+    pub waiting: Linked<Waiting>,
     pub started: Vec<Option<Held>>,
     pub done: VecDeque<Ended>,
     /// The last number submitted; 0 before the first.
@@ -61,6 +81,6 @@ pub struct Queues {
     pub removing: bool,
     /// For the packets here and those that have a room.
     pub places: usize,
-    ghost waiting_places: { places ≤ deque_capacity waiting },
+    ghost waiting_places: { places ≤ waiting.places },
     ghost done_places: { places ≤ deque_capacity done },
 }

@@ -1,14 +1,16 @@
 // What the queues do.
-ghost use Rattle.std.specs.Prelude.{◌≡◌, ◌==◌, ◌&&◌, not, ◌<◌, ◌≤◌, ◌+◌, ◌^◌, ◌-◌, [], All, Option, Some, None, IfOk, IsSome, OnOk, OnErr, IsTrue, MatchBool, MatchOption, length, position};
+ghost use Rattle.std.specs.Prelude.{◌≡◌, ◌==◌, ◌&&◌, not, ◌<◌, ◌≤◌, ◌+◌, ◌^◌, ◌-◌, ℕ, [], All, Option, Some, None, IfOk, IsSome, OnOk, OnErr, IsTrue, MatchBool, MatchOption, length, position};
 ghost use Rattle.irp.specs.declared.Payload.TheVariants.{Srb as Packed};
-ghost use Rattle.device.specs.declared.Request.{Request};
-ghost use Rattle.port.specs.Books.{books_of, entry, entry_of};
-ghost use Rattle.port.specs.Turns.{IsEmpty, IsPacked, Queued, cancelled, can_cancel_held, can_cancel_ended, held_on, Starts, StartsNot, Ends, Leaves, LeavesNot, drained, Flushes, FlushesNot, CancelsIn, CancelsNotIn, CancelsOn, CancelsNotOn, CancelsEnded, CancelsNoEnded};
+ghost use Rattle.machine.specs.declared.Request.{Request};
+ghost use Rattle.port.specs.Books.{books_of, visits_of, entry, entry_of};
+ghost use Rattle.port.specs.Turns.{IsEmpty, IsPacked, Queued, cancelled, can_cancel_held, can_cancel_ended, held_on, Starts, StartsNot, Ends, Leaves, LeavesNot, drained, IsUncancelled, Flushes, FlushesNot, FlushesAt, FlushesNotAt, CancelsIn, CancelsNotIn, CancelsOn, CancelsNotOn, CancelsEnded, CancelsNoEnded};
 ghost use Rattle.port.specs.Shown.{status_left};
+ghost use Rattle.linked.specs.Queue.{VisitsAtMost};
 
-use crate::queues::{Ended, Held, Outcome, Queues, Sizes};
+use crate::queues::{Ended, Held, Outcome, Queues, Sizes, Waiting};
 use device::Request;
 use irp::{Irp, Payload};
+use linked::Linked;
 use ntstatus::NtStatus;
 use srb::{Class, Srb, SrbStatus};
 use std::alloc::{AllocError, Global};
@@ -43,7 +45,7 @@ fn take_srb(held: &mut Held) -> Srb
 
 /// Cancels the packet, whatever becomes of it.
 fn mark_cancelled(irp: &mut Irp)
-    ensures entry { (request : Request) → entry irp.new request ≡ cancelled (entry irp.old request) }
+    ensures entry { (request : Request) (spot : ℕ) → entry irp.new request spot ≡ cancelled (entry irp.old request spot) }
     ensures payload { irp.new.payload ≡ irp.old.payload }
 {
     irp.cancelled = true;
@@ -81,7 +83,7 @@ impl Queues {
         }
         Ok(Queues {
             sizes,
-            waiting: VecDeque::new(alloc),
+            waiting: Linked::new(alloc),
             started,
             done: VecDeque::new(alloc),
             last_request: 0,
@@ -115,15 +117,15 @@ impl Queues {
         self.places -= 1;
     }
 
-    /// The packet waits behind all others.
-    pub fn push(&mut self, irp: Irp, request: Request)
+    /// The packet waits behind all others; the spot that it gets.
+    pub fn push(&mut self, irp: Irp, request: Request) -> usize
         requires place { length (books_of self.old).waiting < (books_of self.old).places }
         requires few { (books_of self.old).submitted < 2 ^ 127 }
-        ensures { Queued (books_of self.old) irp request (books_of self.new) }
+        ensures { Queued (books_of self.old) irp request result (books_of self.new) }
     {
         self.last_request = irp.number;
         self.submitted += 1;
-        self.waiting.push_back_reserved(Held { irp, request });
+        self.waiting.push_back_reserved(Waiting { irp, request })
     }
 
     /// The packet that waited longest goes to this tag; its piece's number, and its SRB for the adapter.
@@ -133,7 +135,8 @@ impl Queues {
         requires few { (books_of self.old).next_piece < 2 ^ 127 }
         ensures { MatchOption result (StartsNot (books_of self.old) (books_of self.new)) (λ start. Starts (books_of self.old) tag start.0 start.1 (books_of self.new)) }
     {
-        let mut held = self.waiting.pop_front()?;
+        let (spot, Waiting { irp, request }) = self.waiting.pop_front()?;
+        let mut held = Held { irp, request, spot };
         let srb = take_srb(&mut held);
         self.started[tag as usize] = Some(held);
         let piece = self.next_piece;
@@ -147,7 +150,14 @@ impl Queues {
         requires place { length (books_of self.old).done < (books_of self.old).places }
         ensures { Ends (books_of self.old) tag srb class (books_of self.new) }
     {
-        let Some(Held { mut irp, request }) = self.started[tag as usize].take() else {
+        let Some(
+            Held {
+                mut irp,
+                request,
+                spot,
+            },
+        ) = self.started[tag as usize].take()
+        else {
             unreachable!()
         };
         irp.payload = Payload::Srb(srb);
@@ -155,6 +165,7 @@ impl Queues {
         self.done.push_back_reserved(Ended {
             irp,
             request,
+            spot,
             outcome,
         });
     }
@@ -171,24 +182,17 @@ impl Queues {
         requires { length (books_of self.old).waiting + length (books_of self.old).done ≤ (books_of self.old).places }
         ensures { books_of self.new ≡ drained (books_of self.old) }
     {
-        while let Some(Held { irp, request }) = self.waiting.pop_front() {
+        while let Some((spot, waiting)) = self.waiting.pop_front() {
+            let Waiting { irp, request } = waiting;
             let outcome = Outcome::Gone;
             self.done.push_back_reserved(Ended {
                 irp,
                 request,
+                spot,
                 outcome,
             });
         }
         self.removing = true;
-    }
-
-    /// Where the packet of this number waits that is not cancelled yet, counted from the front.
-    fn find_waiting(&self, number: u128) -> Option<usize>
-        ensures { result ≡ position (can_cancel_held number) self.now.waiting.items }
-    {
-        self.waiting
-            .iter()
-            .position(|held| is_cancellable(&held.irp, number))
     }
 
     /// Where the packet of this number stands that has ended and is not cancelled yet.
@@ -200,22 +204,34 @@ impl Queues {
             .position(|ended| is_cancellable(&ended.irp, number))
     }
 
-    /// The packet of this number is flushed, where it waits and is not cancelled yet.
+    /// The packet of this number is flushed, where it waits.
     pub fn flush(&mut self, number: u128) -> bool
-        requires { length (books_of self.old).waiting + length (books_of self.old).done ≤ (books_of self.old).places }
+        requires places { length (books_of self.old).waiting + length (books_of self.old).done ≤ (books_of self.old).places }
+        requires not_cancelled { All IsUncancelled (books_of self.old).waiting }
         ensures { MatchBool result (Flushes (books_of self.old) number (books_of self.new)) (FlushesNot (books_of self.old) number (books_of self.new)) }
     {
-        let Some(index) = self.find_waiting(number) else {
+        let Some(spot) = self.waiting.find(number) else {
             return false;
         };
-        let Some(Held { mut irp, request }) = self.waiting.remove(index) else {
-            unreachable!()
+        self.flush_at(spot, number)
+    }
+
+    /// The packet at this spot of the queue is flushed, where it has this number.
+    pub fn flush_at(&mut self, spot: usize, number: u128) -> bool
+        requires places { length (books_of self.old).waiting + length (books_of self.old).done ≤ (books_of self.old).places }
+        requires not_cancelled { All IsUncancelled (books_of self.old).waiting }
+        ensures flushes { MatchBool result (FlushesAt (books_of self.old) spot number (books_of self.new)) (FlushesNotAt (books_of self.old) spot number (books_of self.new)) }
+        ensures visits { VisitsAtMost 3 (visits_of self.old) (visits_of self.new) }
+    {
+        let Some(Waiting { mut irp, request }) = self.waiting.remove_number(spot, number) else {
+            return false;
         };
         mark_cancelled(&mut irp);
         let outcome = Outcome::Flushed;
         self.done.push_back_reserved(Ended {
             irp,
             request,
+            spot,
             outcome,
         });
         true

@@ -4,9 +4,8 @@ use Rattle.std.proofs.lemmas.List.Elements.{All-head}
 use Rattle.toml.specs.Data.{Members}
 use Rattle.sector.specs.declared.Extent.{Extent}
 use Rattle.miniport.specs.Memory.{MemView}
-use Rattle.device.specs.Map.{IsMap, IsPartition}
-use Rattle.device.specs.State.{opening}
-use Rattle.device.specs.Seen.{sectors_in}
+use Rattle.machine.specs.Map.{IsMap, IsPartition, sectors_in}
+use Rattle.machine.specs.State.{opening}
 use Rattle.compose.specs.declared.MbrFault.{MbrFault}
 use Rattle.compose.specs.Mbr.{extent_fault}
 use Rattle.compose.specs.Opening.{IsFirstView, first_rules}
@@ -51,6 +50,7 @@ rules_started c view partitions new same =
     let sector_size = new.sector_size in
     let max_transfer = new.max_transfer in
     let depth = new.depth in
+    let faithful = new.faithful in
     cc
 
 -- such a stack is the one of the settings

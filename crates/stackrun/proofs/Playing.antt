@@ -4,9 +4,9 @@ use Rattle.std.specs.Prelude.{codes, IsPermutation}
 use Rattle.std.proofs.lemmas.List.{append_assoc, append-nil, drop_all, length-drop, take_more}
 use Rattle.std.proofs.lemmas.List.Sorted.{length_permutation}
 use Rattle.std.specs.Io.KnownBytes.{Appends}
-use Rattle.device.specs.declared.Label.{Label}
-use Rattle.device.specs.declared.Label.TheVariants.{Call, Device, Answer as AnswerLabel, Cancel, Pause, Resume, Remove, Removed}
-use Rattle.device.specs.Served.{as_label}
+use Rattle.machine.specs.declared.Label.{Label}
+use Rattle.machine.specs.declared.Label.TheVariants.{Call, Device, Answer as AnswerLabel, Cancel, Pause, Resume, Remove, Removed}
+use Rattle.machine.specs.Step.{as_label}
 use Rattle.compose.specs.declared.Answer.{Answer}
 use Rattle.compose.specs.declared.Event.{Event}
 use Rattle.compose.specs.declared.Reply.{Reply}

@@ -2,7 +2,7 @@
 use Rattle.std.proofs.Common.{◌≡◌, ℕ, List, [], ◌∷◌, ◌++◌, Option, Some, None, ap, subst, sym, refl, ◌∙◌, drop}
 use Rattle.std.proofs.lemmas.List.{append_assoc, append-nil}
 use Rattle.std.specs.Io.KnownBytes.{Appends}
-use Rattle.device.specs.declared.Label.{Label}
+use Rattle.machine.specs.declared.Label.{Label}
 use Rattle.compose.specs.declared.Answer.{Answer}
 use Rattle.compose.specs.Right.{TakesAnswer, TakesLabel}
 use Rattle.compose.specs.Shown.{StackView}

@@ -71,6 +71,7 @@ new_adapter : (c : Config) (medium : MediumView) (view : MemView) → IsNewDisk 
 new_adapter c medium view disk same = subst (IsNewAdapter c) (sym same) (record {
   sector_size = disk.sector_size;
   sectors = disk.sectors;
+  faithful = refl;
   max_transfer = refl;
   depth = refl;
   idle = record { no_tags = refl; no_labels = refl };

@@ -1,12 +1,12 @@
 -- The stack that the program starts with.
-use Rattle.std.specs.Prelude.{◌≡◌, ◌↔◌, ℕ, ◌-◌, false, Contains, Err, List, [], ◌∷◌, map, replicate, slice_get, Option, Some, None}
+use Rattle.std.specs.Prelude.{◌≡◌, ◌↔◌, ℕ, ◌-◌, true, false, Contains, Err, List, [], ◌∷◌, map, replicate, slice_get, Option, Some, None}
 use Rattle.sector.specs.declared.Extent.{Extent}
 use Rattle.disk.specs.Medium.{MediumView}
-use Rattle.srb.specs.Adapter.{AdapterView}
+use Rattle.adapter.specs.View.{AdapterView}
 use Rattle.miniport.specs.Memory.{MemView}
-use Rattle.device.specs.Map.{IsMap}
-use Rattle.device.specs.Rules.{Rules}
-use Rattle.device.specs.State.{opening}
+use Rattle.machine.specs.Map.{IsMap}
+use Rattle.machine.specs.Rules.{Rules}
+use Rattle.machine.specs.State.{opening}
 use Rattle.compose.specs.Shown.{StackView}
 use Rattle.compose.specs.Start.{IsIdle, IsOfFailure}
 use Rattle.stackrun.specs.declared.config.values.Config.{Config}
@@ -44,6 +44,7 @@ rules_of c = record {
   window = Some c.window;
   one_piece = false;
   busy_limit = 1;
+  faithful = true;
 }
 
 -- the disk below it before anything was asked
@@ -57,6 +58,7 @@ pub record IsNewDisk (c : Config) (medium : MediumView) : Type 0 where
 pub record IsNewAdapter (c : Config) (view : MemView) : Type 0 where
   pub sector_size : view.shown.sector_size ≡ c.sector_size
   pub sectors : view.shown.sectors ≡ disk_of c
+  pub faithful : view.shown.faithful ≡ true
   pub max_transfer : view.shown.max_transfer ≡ c.max_transfer
   pub depth : view.shown.depth ≡ c.depth
   pub idle : IsIdle view.shown

@@ -5,9 +5,9 @@ use Rattle.std.proofs.lemmas.List.Sorted.{IsPermutation-refl}
 use Rattle.ntstatus.specs.declared.NtStatus.TheVariants.{Success, DeviceDataError, DeviceNotReady}
 use Rattle.srb.specs.declared.Class.TheVariants.{Good, Bad}
 use Rattle.srb.specs.Fate.{Fate, Fresh, Acted, Faulted}
-use Rattle.device.specs.State.{OpenRequest, Piece, Mark, Untouched, Out, Done, Failed}
-use Rattle.device.proofs.Commuting.{swapped, out_ends_not, untouched_ends_not}
-use Rattle.device.proofs.Same.{IsSame-refl}
+use Rattle.machine.specs.State.{OpenRequest, Piece, Mark, Untouched, Out, Done, Failed}
+use Rattle.machine.proofs.Commuting.{swapped, out_ends_not, untouched_ends_not}
+use Rattle.machine.proofs.Same.{IsSame-refl}
 use Rattle.worked_runs.specs.Small.{small, zeros, full_of, read, write, read_block, write_block, error_of_key, opened, one_place, piece_of}
 use Rattle.worked_runs.specs.Impossible.{NeverAnswers, NeverAnswersAs, one_failed, ReachesOneFailed, one_waits, ReachesOneWaits, cancelled_out, ReachesCancelledOut, unsent, ReachesUnsent, unsent_cancelled, ReachesUnsentCancelled, both_failed, ReachesBothFailed}
 use Rattle.worked_runs.proofs.Steps.{called, started, acted, faulted, returned, cancelled, tag_0, tag_1}

@@ -5,9 +5,9 @@ use Rattle.ntstatus.specs.declared.NtStatus.TheVariants.{Cancelled, DeviceBusy, 
 use Rattle.srb.specs.declared.Class.TheVariants.{Good, Busy, Bad}
 use Rattle.srb.specs.Fate.{Fate, Fresh, Acted, Faulted}
 use Rattle.srb.specs.declared.DeviceLabel.TheVariants.{Act, Return}
-use Rattle.device.specs.declared.Label.TheVariants.{Device, Answer}
-use Rattle.device.specs.State.{OpenRequest, Piece, Mark, Untouched, Out, Done, Failed, Back, opening}
-use Rattle.device.proofs.Same.{IsSame-refl, Run-append}
+use Rattle.machine.specs.declared.Label.TheVariants.{Device, Answer}
+use Rattle.machine.specs.State.{OpenRequest, Piece, Mark, Untouched, Out, Done, Failed, Back, opening}
+use Rattle.machine.proofs.Same.{IsSame-refl, Run-append}
 use Rattle.worked_runs.specs.Small.{small, zeros, full_of, sectors, idle, read, write, write_block, bus_reset, opened, one_place, piece_of}
 use Rattle.worked_runs.specs.Failed.{cancelled_in_three, IsCutShort, StaysBusy, IsResetBeforeAct, IsResetAfterAct, both_fail, AnswersLowestFailure}
 use Rattle.worked_runs.specs.Impossible.{cut, both_failed}

@@ -4,9 +4,9 @@ use Rattle.std.proofs.lemmas.List.Sorted.{IsPermutation-refl}
 use Rattle.ntstatus.specs.declared.NtStatus.TheVariants.{Success, NoSuchDevice, DeletePending}
 use Rattle.srb.specs.declared.Class.TheVariants.{Good}
 use Rattle.srb.specs.Fate.{Fate, Fresh, Acted}
-use Rattle.device.specs.State.{OpenRequest, Piece, Mark, Untouched, Out, Done}
-use Rattle.device.proofs.Commuting.{swapped}
-use Rattle.device.proofs.Same.{IsSame-refl}
+use Rattle.machine.specs.State.{OpenRequest, Piece, Mark, Untouched, Out, Done}
+use Rattle.machine.proofs.Commuting.{swapped}
+use Rattle.machine.proofs.Same.{IsSame-refl}
 use Rattle.worked_runs.specs.Small.{small, full_of, sectors, read, write, read_block, write_block, opened, one_place, piece_of}
 use Rattle.worked_runs.specs.Held.{HoldsThenResumes, RemovesAll}
 use Rattle.worked_runs.proofs.Steps.{called, started, acted, returned, answered, paused, resumed, removing, removed, refused, told, tag_0, tag_1}

@@ -6,12 +6,12 @@ use Rattle.ntstatus.specs.declared.NtStatus.TheVariants.{Success, Cancelled}
 use Rattle.srb.specs.declared.Class.TheVariants.{Good}
 use Rattle.srb.specs.Fate.{Fate, Fresh, Acted}
 use Rattle.sector.specs.declared.Extent.{Extent}
-use Rattle.device.specs.declared.Label.TheVariants.{Answer}
-use Rattle.device.specs.State.{OpenRequest, Piece, Mark, State, Untouched, Out, Done}
-use Rattle.device.specs.Settled.{Settled, WaitsIfCancelled, IsAllSent, HasGone, IsHeldBack, HasMore, IsAtWork}
-use Rattle.device.specs.Step.{Run}
-use Rattle.device.proofs.Commuting.{swapped, untouched_ends_not}
-use Rattle.device.proofs.Same.{IsSame-refl, Step-same}
+use Rattle.machine.specs.declared.Label.TheVariants.{Answer}
+use Rattle.machine.specs.State.{OpenRequest, Piece, Mark, State, Untouched, Out, Done}
+use Rattle.machine.specs.Settled.{Settled, WaitsIfCancelled, IsAllSent, HasGone, IsHeldBack, HasMore, IsAtWork}
+use Rattle.machine.specs.Step.{Run}
+use Rattle.machine.proofs.Commuting.{swapped, untouched_ends_not}
+use Rattle.machine.proofs.Same.{IsSame-refl, Step-same}
 use Rattle.worked_runs.specs.Small.{small, zeros, full_of, sectors, idle, read, write, read_block, write_block, opened, one_place, piece_of}
 use Rattle.worked_runs.specs.Served.{pairs}
 use Rattle.worked_runs.specs.Impossible.{Never, NeverAnswers, NeverAnswersAs, NeverStarts, cut, ReachesCut, AnswersOnce, NeverRefusesWithoutCause, last_unsent, ReachesLastUnsent, both_back, ReachesBothBack, one_of_two, ReachesOneOfTwo, one_below, waits_behind, ReachesWaitsBehind, behind, alone, first_answered, left_behind, ReachesLeftBehind}

@@ -4,14 +4,14 @@ use Rattle.std.specs.Prelude.{IsNone}
 use Rattle.std.specs.List.{AllByRecursion}
 use Rattle.ntstatus.specs.declared.NtStatus.{NtStatus}
 use Rattle.ntstatus.specs.declared.NtStatus.TheVariants.{Success, DeviceBusy, DeletePending, InvalidHandle, InvalidParameter}
-use Rattle.device.specs.declared.ClientRequest.{ClientRequest}
-use Rattle.device.specs.declared.Label.{Label}
-use Rattle.device.specs.declared.Label.TheVariants.{Call, Answer}
-use Rattle.device.specs.Rules.{Rules}
-use Rattle.device.specs.State.{State, Untouched, opening}
-use Rattle.device.specs.Calling.{refusal}
-use Rattle.device.specs.Step.{Run}
-use Rattle.device.proofs.Same.{IsSame-refl}
+use Rattle.machine.specs.declared.ClientRequest.{ClientRequest}
+use Rattle.machine.specs.declared.Label.{Label}
+use Rattle.machine.specs.declared.Label.TheVariants.{Call, Answer}
+use Rattle.machine.specs.Rules.{Rules}
+use Rattle.machine.specs.State.{State, Untouched, opening}
+use Rattle.machine.specs.Calling.{refusal}
+use Rattle.machine.specs.Step.{Run}
+use Rattle.machine.proofs.Same.{IsSame-refl}
 use Rattle.worked_runs.specs.Small.{small, zeros, idle, opened, read}
 use Rattle.worked_runs.specs.Refused.{without_handle, RefusesClosedHandle, RefusesOutOfBounds, at_most_two, RefusesTooLong, ReadsNothing, one_open, RefusesOneMore, RefusesRemoved}
 use Rattle.worked_runs.proofs.Steps.{called, paused, removing, removed, refused, told}

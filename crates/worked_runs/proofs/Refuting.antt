@@ -9,12 +9,12 @@ use Rattle.ntstatus.specs.declared.NtStatus.TheVariants.{Success}
 use Rattle.sector.specs.declared.Extent.{Extent}
 use Rattle.cdb.specs.Meaning.{Means}
 use Rattle.srb.specs.declared.DeviceLabel.TheVariants.{Start}
-use Rattle.device.specs.declared.Label.TheVariants.{Device, Answer}
-use Rattle.device.specs.Rules.{Rules}
-use Rattle.device.specs.State.{Mark, OpenRequest, State}
-use Rattle.device.specs.Sending.{MayStart, IsSendable, IsUnsent, command_for}
-use Rattle.device.specs.Answering.{HasEnded, HasCause, is_done, answer_bytes}
-use Rattle.device.specs.Step.{Step}
+use Rattle.machine.specs.declared.Label.TheVariants.{Device, Answer}
+use Rattle.machine.specs.Rules.{Rules}
+use Rattle.machine.specs.State.{Mark, OpenRequest, State}
+use Rattle.machine.specs.Sending.{MayStart, IsSendable, IsUnsent, command_for}
+use Rattle.machine.specs.Answering.{HasEnded, HasCause, is_done, answer_bytes}
+use Rattle.machine.specs.Step.{Step}
 
 -- what holds of each open request holds of the one that a step names
 of_each : (P : OpenRequest → Type 0) (xs : List OpenRequest) (y : OpenRequest) (ys : List OpenRequest) → AllByRecursion P xs → IsPermutation xs (y ∷ ys) → P y

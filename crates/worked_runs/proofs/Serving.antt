@@ -6,11 +6,11 @@ use Rattle.srb.specs.declared.Class.TheVariants.{Good, Busy}
 use Rattle.sector.specs.declared.Extent.{Extent}
 use Rattle.srb.specs.Fate.{Fate, Fresh, Acted}
 use Rattle.srb.specs.declared.DeviceLabel.TheVariants.{Act, Return}
-use Rattle.device.specs.declared.Label.TheVariants.{Device, Answer}
-use Rattle.device.specs.State.{OpenRequest, Piece, Mark, Untouched, Out, Done, Back}
-use Rattle.device.specs.Sending.{given_back}
-use Rattle.device.specs.Step.{Run}
-use Rattle.device.proofs.Same.{IsSame-refl}
+use Rattle.machine.specs.declared.Label.TheVariants.{Device, Answer}
+use Rattle.machine.specs.State.{OpenRequest, Piece, Mark, Untouched, Out, Done, Back}
+use Rattle.machine.specs.Sending.{given_back}
+use Rattle.machine.specs.Step.{Run}
+use Rattle.machine.proofs.Same.{IsSame-refl}
 use Rattle.worked_runs.specs.Small.{small, zeros, full_of, sectors, idle, read, write, flush, read_block, write_block, sync_block, opened, one_place, piece_of}
 use Rattle.worked_runs.specs.Served.{WritesThenReads, pairs, JoinsInOrder, Flushes, written_through, WritesThrough, SendsAgain, SucceedsThoughCancelled}
 use Rattle.worked_runs.proofs.Steps.{called, started, acted, returned, answered, cancelled, tag_0, tag_1}

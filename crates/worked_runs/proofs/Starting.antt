@@ -4,9 +4,9 @@ use Rattle.std.proofs.lemmas.List.Sorted.{IsPermutation-refl}
 use Rattle.ntstatus.specs.declared.NtStatus.TheVariants.{DeviceDataError}
 use Rattle.srb.specs.declared.Class.TheVariants.{Good, Bad}
 use Rattle.srb.specs.Fate.{Fate, Fresh, Acted, Faulted}
-use Rattle.device.specs.declared.Label.TheVariants.{Pause, Removed}
-use Rattle.device.specs.State.{OpenRequest, Piece, Mark, Untouched, Out, Done, Failed, opening}
-use Rattle.device.proofs.Same.{IsSame-refl, Run-append}
+use Rattle.machine.specs.declared.Label.TheVariants.{Pause, Removed}
+use Rattle.machine.specs.State.{OpenRequest, Piece, Mark, Untouched, Out, Done, Failed, opening}
+use Rattle.machine.proofs.Same.{IsSame-refl, Run-append}
 use Rattle.worked_runs.specs.Small.{small, zeros, full_of, sectors, read, write, read_block, write_block, error_of_key, opened, one_place, piece_of}
 use Rattle.worked_runs.specs.Impossible.{Never, NeverStarts, NeverWritesAt, NeverWritesBeyond, neighbours, NeverOpensPastEnd, last_sector, ReachesLastSector, first_bad, ReachesFirstBad, SendsTheOther, one_below, two_reads, waits_behind, held_behind, ReachesHeldBehind, held_alone, ReachesHeldAlone, removing_out, ReachesRemovingOut}
 use Rattle.worked_runs.proofs.Steps.{called, started, acted, faulted, returned, answered, paused, removing, tag_0}

@@ -10,16 +10,16 @@ use Rattle.cdb.specs.Meaning.{Means}
 use Rattle.srb.specs.declared.Class.{Class}
 use Rattle.srb.specs.declared.DeviceLabel.TheVariants.{Start, Act, Fault, Return}
 use Rattle.srb.specs.Fate.{Acted, Faulted}
-use Rattle.device.specs.declared.ClientRequest.{ClientRequest}
-use Rattle.device.specs.declared.Label.TheVariants.{Call, Device, Answer, Cancel, Pause, Resume, Remove, Removed}
-use Rattle.device.specs.Rules.{Rules}
-use Rattle.device.specs.State.{OpenRequest, Piece, State, Mark}
-use Rattle.device.specs.Calling.{refusal, Opens, Refuses, Admits, bytes_carried, new_request}
-use Rattle.device.specs.Sending.{IsLowestFreeTag, HasOtherTag, MayStart, IsSendable, IsFreshPiece, Transfers, Leaves, command_for, sent, new_piece, with_fate, given_back}
-use Rattle.device.specs.Answering.{HasEnded, HasCause, is_done, answer_bytes}
-use Rattle.device.specs.Holding.{as_cancelled, held_back, as_timely}
-use Rattle.device.specs.Step.{Step}
-use Rattle.device.proofs.Same.{IsSame-refl}
+use Rattle.machine.specs.declared.ClientRequest.{ClientRequest}
+use Rattle.machine.specs.declared.Label.TheVariants.{Call, Device, Answer, Cancel, Pause, Resume, Remove, Removed}
+use Rattle.machine.specs.Rules.{Rules}
+use Rattle.machine.specs.State.{OpenRequest, Piece, State, Mark}
+use Rattle.machine.specs.Calling.{refusal, Opens, Refuses, Admits, bytes_carried, new_request}
+use Rattle.machine.specs.Sending.{IsLowestFreeTag, HasOtherTag, MayStart, IsSendable, IsFreshPiece, Transfers, Leaves, command_for, sent, new_piece, with_fate, given_back}
+use Rattle.machine.specs.Answering.{HasEnded, HasCause, is_done, answer_bytes}
+use Rattle.machine.specs.Holding.{as_cancelled, held_back, as_timely}
+use Rattle.machine.specs.Step.{Step}
+use Rattle.machine.proofs.Same.{IsSame-refl}
 
 pub called : (rules : Rules) (s : State) (q : ClientRequest) → IsNone s.owed → refusal rules s q ≡ None → length q.bytes ≡ bytes_carried q.kind q.length
     → Step rules s (Call s.next_request q) (record s { next_request = s.next_request + 1; requests = new_request rules s s.next_request q ∷ s.requests })

@@ -3,10 +3,10 @@ use Rattle.std.specs.Prelude.{List, [], ◌∷◌, ◌++◌}
 use Rattle.ntstatus.specs.declared.NtStatus.TheVariants.{Cancelled, DeviceBusy, DeviceDataError, IoDeviceError}
 use Rattle.srb.specs.declared.DeviceLabel.TheVariants.{Start, Act, Fault, Return}
 use Rattle.srb.specs.declared.Class.TheVariants.{Good, Busy, Bad}
-use Rattle.device.specs.declared.Label.{Label}
-use Rattle.device.specs.declared.Label.TheVariants.{Call, Device, Answer, Cancel}
-use Rattle.device.specs.State.{opening}
-use Rattle.device.specs.Step.{Run}
+use Rattle.machine.specs.declared.Label.{Label}
+use Rattle.machine.specs.declared.Label.TheVariants.{Call, Device, Answer, Cancel}
+use Rattle.machine.specs.State.{opening}
+use Rattle.machine.specs.Step.{Run}
 use Rattle.worked_runs.specs.Small.{small, zeros, full_of, sectors, idle, read, write, read_block, write_block, bus_reset, error_of_key}
 
 -- a write of three pieces on two tags is cancelled while the third waits, and the first comes back

@@ -3,9 +3,9 @@ use Rattle.std.specs.Prelude.{true, [], ◌∷◌, ◌++◌}
 use Rattle.ntstatus.specs.declared.NtStatus.TheVariants.{Success, NoSuchDevice, DeletePending}
 use Rattle.srb.specs.declared.DeviceLabel.TheVariants.{Start, Act, Return}
 use Rattle.srb.specs.declared.Class.TheVariants.{Good}
-use Rattle.device.specs.declared.Label.TheVariants.{Call, Device, Answer, Pause, Resume, Remove, Removed}
-use Rattle.device.specs.State.{opening}
-use Rattle.device.specs.Step.{Run}
+use Rattle.machine.specs.declared.Label.TheVariants.{Call, Device, Answer, Pause, Resume, Remove, Removed}
+use Rattle.machine.specs.State.{opening}
+use Rattle.machine.specs.Step.{Run}
 use Rattle.worked_runs.specs.Small.{small, zeros, full_of, sectors, idle, read, write, read_block, write_block}
 
 -- a read that comes during a pause waits for its end; one that was started goes on

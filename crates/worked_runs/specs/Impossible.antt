@@ -7,11 +7,11 @@ use Rattle.cdb.specs.Meaning.{Means}
 use Rattle.srb.specs.Fate.{Fresh}
 use Rattle.srb.specs.declared.DeviceLabel.TheVariants.{Start, Act, Fault, Return}
 use Rattle.srb.specs.declared.Class.TheVariants.{Good, Bad}
-use Rattle.device.specs.declared.Label.{Label}
-use Rattle.device.specs.declared.Label.TheVariants.{Call, Device, Answer, Cancel, Pause, Remove}
-use Rattle.device.specs.Rules.{Rules}
-use Rattle.device.specs.State.{State, Untouched, Out, Done, Failed, opening}
-use Rattle.device.specs.Step.{Step, Run}
+use Rattle.machine.specs.declared.Label.{Label}
+use Rattle.machine.specs.declared.Label.TheVariants.{Call, Device, Answer, Cancel, Pause, Remove}
+use Rattle.machine.specs.Rules.{Rules}
+use Rattle.machine.specs.State.{State, Untouched, Out, Done, Failed, opening}
+use Rattle.machine.specs.Step.{Step, Run}
 use Rattle.worked_runs.specs.Small.{small, zeros, full_of, sectors, idle, read, write, read_block, write_block, error_of_key, opened, piece_of}
 use Rattle.worked_runs.specs.Served.{pairs}
 use Rattle.worked_runs.specs.Failed.{cancelled_in_three, both_fail}

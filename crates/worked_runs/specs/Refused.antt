@@ -1,11 +1,11 @@
 -- Calls that are answered at once, and why.
 use Rattle.std.specs.Prelude.{true, [], ◌∷◌, Some, None}
 use Rattle.ntstatus.specs.declared.NtStatus.TheVariants.{Success, DeviceBusy, DeletePending, InvalidHandle, InvalidParameter}
-use Rattle.device.specs.declared.ClientRequest.{ClientRequest}
-use Rattle.device.specs.declared.Label.TheVariants.{Call, Answer, Pause, Remove, Removed}
-use Rattle.device.specs.Rules.{Rules}
-use Rattle.device.specs.State.{Untouched, opening}
-use Rattle.device.specs.Step.{Run}
+use Rattle.machine.specs.declared.ClientRequest.{ClientRequest}
+use Rattle.machine.specs.declared.Label.TheVariants.{Call, Answer, Pause, Remove, Removed}
+use Rattle.machine.specs.Rules.{Rules}
+use Rattle.machine.specs.State.{Untouched, opening}
+use Rattle.machine.specs.Step.{Run}
 use Rattle.worked_runs.specs.Small.{small, zeros, idle, opened, read}
 
 -- on a handle that isn't open, even past the end

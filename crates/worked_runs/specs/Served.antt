@@ -3,11 +3,11 @@ use Rattle.std.specs.Prelude.{true, [], ◌∷◌, ◌++◌}
 use Rattle.ntstatus.specs.declared.NtStatus.TheVariants.{Success}
 use Rattle.srb.specs.declared.DeviceLabel.TheVariants.{Start, Act, Return}
 use Rattle.srb.specs.declared.Class.TheVariants.{Good, Busy}
-use Rattle.device.specs.declared.ClientRequest.{ClientRequest}
-use Rattle.device.specs.declared.Label.TheVariants.{Call, Device, Answer, Cancel}
-use Rattle.device.specs.Rules.{Rules}
-use Rattle.device.specs.State.{opening}
-use Rattle.device.specs.Step.{Run}
+use Rattle.machine.specs.declared.ClientRequest.{ClientRequest}
+use Rattle.machine.specs.declared.Label.TheVariants.{Call, Device, Answer, Cancel}
+use Rattle.machine.specs.Rules.{Rules}
+use Rattle.machine.specs.State.{opening}
+use Rattle.machine.specs.Step.{Run}
 use Rattle.worked_runs.specs.Small.{small, zeros, full_of, sectors, idle, read, write, flush, read_block, write_block, sync_block}
 
 -- a sector is written, and read back

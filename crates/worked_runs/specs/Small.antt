@@ -1,12 +1,12 @@
 -- A small machine, for worked runs: one partition of three sectors of two bytes, pieces of one sector, two tags.
-use Rattle.std.specs.Prelude.{ℕ, false, List, [], ◌∷◌, Some, None}
+use Rattle.std.specs.Prelude.{ℕ, true, false, List, [], ◌∷◌, Some, None}
 use Rattle.sector.specs.declared.Extent.{Extent}
 use Rattle.srb.specs.Fate.{Fate}
 use Rattle.srb.specs.declared.Completion.{Completion}
-use Rattle.device.specs.declared.Kind.TheVariants.{Read, Write, Flush}
-use Rattle.device.specs.declared.ClientRequest.{ClientRequest}
-use Rattle.device.specs.Rules.{Rules}
-use Rattle.device.specs.State.{Mark, OpenRequest, Piece, State, opening}
+use Rattle.machine.specs.declared.Kind.TheVariants.{Read, Write, Flush}
+use Rattle.machine.specs.declared.ClientRequest.{ClientRequest}
+use Rattle.machine.specs.Rules.{Rules}
+use Rattle.machine.specs.State.{Mark, OpenRequest, Piece, State, opening}
 
 -- the partition is sectors 2 to 4 of the disk; a second busy return is the last
 abbrev pub small : Rules
@@ -20,6 +20,7 @@ small = record {
   window = Some 2;
   one_piece = false;
   busy_limit = 2;
+  faithful = true;
 }
 
 -- a sector of this byte alone

@@ -2,9 +2,9 @@
 //! The names say what the wrong body does.
 
 ghost use Rattle.ntstatus.specs.declared.NtStatus.TheVariants.{Success, DeviceNotReady};
-ghost use Rattle.device.specs.declared.Label.TheVariants.{Answer, Removed};
+ghost use Rattle.machine.specs.declared.Label.TheVariants.{Answer, Removed};
 ghost use Rattle.std.specs.Prelude.{◌++◌};
-ghost use Rattle.device.specs.Settled.{Settled};
+ghost use Rattle.machine.specs.Settled.{Settled};
 ghost use Rattle.worked_runs.specs.Small.{small, zeros, full_of, idle};
 ghost use Rattle.worked_runs.specs.Served.{pairs};
 ghost use Rattle.worked_runs.specs.Impossible.{AnswersOnce, Never, NeverAnswers, NeverAnswersAs, NeverAnswersBeforeReturn, NeverOpensPastEnd, NeverRefusesWithoutCause, NeverStarts, NeverWritesAt, NeverWritesBeyond, ReachesBothBack, ReachesBothFailed, ReachesCancelledOut, ReachesCut, ReachesFirstBad, ReachesHeldAlone, ReachesHeldBehind, ReachesLastSector, ReachesLastUnsent, ReachesLeftBehind, ReachesOneFailed, ReachesOneOfTwo, ReachesOneWaits, ReachesRemovingOut, ReachesUnsent, ReachesUnsentCancelled, ReachesWaitsBehind, SendsTheOther, both_back, both_failed, cancelled_out, cut, first_bad, held_alone, held_behind, last_sector, last_unsent, left_behind, neighbours, one_below, one_failed, one_of_two, one_waits, removing_out, unsent, unsent_cancelled, waits_behind};

@@ -1,6 +1,6 @@
 use Rattle.std.proofs.Common.{◌≡◌, ◌≤◌, ◌+◌, ◌++◌, [], map, length}
 use Rattle.std.specs.VecDeque.{deque_len, deque_capacity}
-use Rattle.device.specs.Served.{as_label}
+use Rattle.machine.specs.Step.{as_label}
 use Rattle.compose.specs.Collecting.{unlabelled}
 use Rattle.compose.proofs.collecting.move_labels.Given as goal
 

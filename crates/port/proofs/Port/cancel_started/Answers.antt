@@ -6,23 +6,23 @@ use Rattle.port.proofs.Port.cancel_started.Goals as goal
 pub loop-tag-init : goal.loop-tag-init
 loop-tag-init g c = record { adapter = refl; queues = refl; none = λ lower below here. absurd (omega arith) }
 
-pub cancel_at-requires : goal.cancel_at-requires
-cancel_at-requires g c =
+pub cancel_on_tag-requires : goal.cancel_on_tag-requires
+cancel_on_tag-requires g c =
     let e = ap (λ (b : Books). length b.started) c.loop-tag.invariant.queues in
     let k = c.requires.1.kept.started in
     omega arith
 
-pub returns-then-cancel_at-clause-adapter : goal.returns-then-cancel_at-clause-adapter
-returns-then-cancel_at-clause-adapter g c = c.cancel_at.ensures.adapter ∙ c.loop-tag.invariant.adapter
+pub returns-then-cancel_on_tag-clause-adapter : goal.returns-then-cancel_on_tag-clause-adapter
+returns-then-cancel_on_tag-clause-adapter g c = c.cancel_on_tag.ensures.adapter ∙ c.loop-tag.invariant.adapter
 
-pub returns-then-cancel_at-clause-cancels : goal.returns-then-cancel_at-clause-cancels
-returns-then-cancel_at-clause-cancels g c = (c.loop-tag.tag, cancels_first _ _ _ _ _ _ _ c.loop-tag.invariant.queues c.loop-tag.invariant.adapter c.if-cancel_at.ensures.cancels)
+pub returns-then-cancel_on_tag-clause-cancels : goal.returns-then-cancel_on_tag-clause-cancels
+returns-then-cancel_on_tag-clause-cancels g c = (c.loop-tag.tag, cancels_first _ _ _ _ _ _ _ c.loop-tag.invariant.queues c.loop-tag.invariant.adapter c.if-cancel_on_tag.ensures.cancels)
 
 pub loop-tag-preserved : goal.loop-tag-preserved
 loop-tag-preserved g c = record {
-  adapter = c.cancel_at.ensures.adapter ∙ c.loop-tag.invariant.adapter;
-  queues = c.if-cancel_at.ensures.cancels.same ∙ c.loop-tag.invariant.queues;
-  none = none_to_here _ _ _ _ _ _ _ c.loop-tag.invariant.queues c.loop-tag.invariant.adapter c.if-cancel_at.ensures.cancels c.loop-tag.invariant.none;
+  adapter = c.cancel_on_tag.ensures.adapter ∙ c.loop-tag.invariant.adapter;
+  queues = c.if-cancel_on_tag.ensures.cancels.same ∙ c.loop-tag.invariant.queues;
+  none = none_to_here _ _ _ _ _ _ _ c.loop-tag.invariant.queues c.loop-tag.invariant.adapter c.if-cancel_on_tag.ensures.cancels c.loop-tag.invariant.none;
 }
 
 pub returns-clause-adapter : goal.returns-clause-adapter

@@ -1,6 +1,6 @@
 use Rattle.std.proofs.Common.{◌≡◌, ◌<◌, ℕ}
 use Rattle.std.specs.Prelude.{Any}
-use Rattle.srb.specs.Adapter.{HasTag}
+use Rattle.adapter.specs.View.{HasTag}
 use Rattle.port.specs.Books.{books_of}
 use Rattle.port.specs.Turns.{CannotCancelOn}
 use Rattle.port.proofs.Port.cancel_started.Given as goal

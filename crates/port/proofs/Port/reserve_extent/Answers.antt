@@ -1,4 +1,4 @@
-use Rattle.srb.proofs.Joining.{reserves_none}
+use Rattle.adapter.proofs.Joining.{reserves_none}
 use Rattle.port.proofs.Port.reserve_extent.Goals as goal
 
 pub returns-then-ne-clause-reserves : goal.returns-then-ne-clause-reserves

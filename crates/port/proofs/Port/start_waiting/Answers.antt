@@ -1,5 +1,5 @@
 use Rattle.std.proofs.Common.{◌≡◌, ap, arith, inr, refl}
-use Rattle.device.specs.Rules.{Rules}
+use Rattle.machine.specs.Rules.{Rules}
 use Rattle.port.specs.Books.{books_of}
 use Rattle.port.proofs.Starting.{releases_none, releases_then}
 use Rattle.port.proofs.Orderly.{in_hand, busy_after}

@@ -1,5 +1,5 @@
 use Rattle.std.proofs.Common.{◌≡◌, List}
-use Rattle.device.specs.declared.Request.{Request}
+use Rattle.machine.specs.declared.Request.{Request}
 use Rattle.port.specs.Books.{books_of}
 use Rattle.port.specs.Kept.{IsKept}
 use Rattle.port.specs.Releases.{Releases, AreLowerInUse}

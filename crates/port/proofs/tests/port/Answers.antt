@@ -16,3 +16,4 @@ returns-clause-ready c =
     (ap (λ (a : MemView). length a.shown.sectors) as_new ∙ ap (λ (xs : List (List ℕ)). length xs) c.in-Ok.ensures.blank.zeros ∙ length-replicate 4 (replicate {A = ℕ} 512 0))
     (ap (λ (a : MemView). a.shown.max_transfer) as_new)
     (ap (λ (a : MemView). a.shown.depth) as_new)
+    (ap (λ (a : MemView). a.shown.faithful) as_new)

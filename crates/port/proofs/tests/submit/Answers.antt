@@ -8,7 +8,7 @@ use Rattle.port.proofs.tests.submit.Goals as goal
 pub returns-clause-ready : goal.returns-clause-ready
 returns-clause-ready g c =
     let number : c.next_location.new.self.number ≡ c.args.client.now.next = c.next_location.ensures.kept.number ∙ c.new-irp.ensures.number in
-    ready_submits (g.D.Device.seen c.reserve.new.self) (g.D.Device.seen c.submit.new.self) (packet_of c.next_location.new.self) (g.D.Device.request_of c.in_ok-room.room) c.next_location.new.self.payload four_sectors c.args.client.now.next c.args.client.now.removed number c.submit.ensures.submits
+    ready_submits (g.D.Device.seen c.reserve.new.self) (g.D.Device.seen c.submit.new.self) (packet_of c.next_location.new.self c.submit.result) (g.D.Device.request_of c.in_ok-room.room) c.next_location.new.self.payload four_sectors c.args.client.now.next c.args.client.now.removed number c.submit.ensures.submits
     (ready_reserves (g.D.Device.seen c.args.device.now) (g.D.Device.seen c.reserve.new.self) four_sectors c.args.client.now.next c.args.client.now.removed c.reserve.ensures.reserves c.requires.ready)
 
 -- no room was made: the device shows what it showed

@@ -1,5 +1,5 @@
 use Rattle.std.proofs.Common.{[], sym, ◌∙◌, subst}
-use Rattle.device.specs.declared.Request.{Request}
+use Rattle.machine.specs.declared.Request.{Request}
 use Rattle.compose.specs.declared.Reply.TheVariants.{Request as Requested}
 use Rattle.compose.specs.declared.admission.Limits.{Limits}
 use Rattle.compose.specs.Admitting.{request_on_disk, HasBuffers, SendsDown}

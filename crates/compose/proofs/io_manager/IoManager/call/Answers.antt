@@ -1,6 +1,6 @@
 use Rattle.std.proofs.Common.{rules, false, None, Some}
 use Rattle.std.proofs.lemmas.Bool.{lt-leb, le-leb}
-use Rattle.device.specs.declared.ClientRequest.{ClientRequest}
+use Rattle.machine.specs.declared.ClientRequest.{ClientRequest}
 use Rattle.compose.specs.Calls.{number_limit}
 use Rattle.compose.specs.Admitting.{status_at_once}
 use Rattle.compose.specs.Right.{IsRightCall}

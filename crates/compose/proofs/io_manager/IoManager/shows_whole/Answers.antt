@@ -1,5 +1,5 @@
 use Rattle.std.proofs.Common.{[], subst}
-use Rattle.device.specs.Settled.{Settled}
+use Rattle.machine.specs.Settled.{Settled}
 use Rattle.device.specs.Seen.{Seen, IsOrderly}
 use Rattle.compose.specs.Shown.{StackView}
 use Rattle.compose.specs.Right.{IsWhole}

@@ -1,5 +1,5 @@
 use Rattle.std.proofs.Common.{◌≡◌, ◌-◌, take, List, ℕ, true, length, ap, Bool, sym, ◌∙◌, subst}
-use Rattle.device.specs.declared.Request.{Request}
+use Rattle.machine.specs.declared.Request.{Request}
 use Rattle.device.specs.Seen.{Carries, transfer_length, packet_of}
 use Rattle.device.specs.Served.{Submits}
 use Rattle.compose.specs.Admitting.{request_on_disk, FitsBlock, IsWholeDisk, SendsDown}
@@ -25,12 +25,12 @@ submit-requires-clause-carries g c =
 
 sent : (g : _) (c : goal.After-submit g) → SendsDown (g.D.Device.seen c.args.self.now.device) c.args.self.now.tables.next_request (request_on_disk c.args.self.now.limits c.args.request) c.args.buffer (g.D.Device.seen c.submit.new.self)
 sent g c = record {
-  packet = packet_of c.packet_for.result;
+  packet = packet_of c.packet_for.result c.submit.result;
   payload = c.packet_for.result.payload;
   is_number = c.packet_for.ensures.top.is_number;
   topmost = ap (λ (n : ℕ). take (n - 1) c.packet_for.result.locations.items) c.packet_for.ensures.top.one_location;
   brings = c.packet_for.ensures.bytes;
-  submits = subst (λ (r : Request). Submits (g.D.Device.seen c.args.self.now.device) (packet_of c.packet_for.result) r c.packet_for.result.payload (g.D.Device.seen c.submit.new.self)) c.requires.room c.submit.ensures.submits;
+  submits = subst (λ (r : Request). Submits (g.D.Device.seen c.args.self.now.device) (packet_of c.packet_for.result c.submit.result) r c.packet_for.result.payload (g.D.Device.seen c.submit.new.self)) c.requires.room c.submit.ensures.submits;
 }
 
 pub returns-clause-sound : goal.returns-clause-sound

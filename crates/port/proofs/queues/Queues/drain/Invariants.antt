@@ -4,14 +4,14 @@ use Rattle.port.specs.Books.{books_of}
 use Rattle.port.specs.Turns.{gone}
 use Rattle.port.proofs.queues.Queues.drain.Given as goal
 
-abbrev pub invariant-loop-irp : goal.invariant-loop-irp
-invariant-loop-irp l = record {
+abbrev pub invariant-loop-spot : goal.invariant-loop-spot
+invariant-loop-spot l = record {
   before : List Held;
-  waited : l.initial.self.waiting.items ≡ before ++ l.self.waiting.items;
+  waited : (books_of l.initial.self).waiting ≡ before ++ (books_of l.self).waiting;
   went : l.self.done.items ≡ l.initial.self.done.items ++ map gone before;
-  others : books_of l.self ≡ record (books_of l.initial.self) { waiting = l.self.waiting.items; done = l.self.done.items };
-  few : length l.self.waiting.items + length l.self.done.items ≤ l.self.places;
+  others : books_of l.self ≡ record (books_of l.initial.self) { waiting = (books_of l.self).waiting; done = l.self.done.items };
+  few : length (books_of l.self).waiting + length l.self.done.items ≤ l.self.places;
 }
 
-abbrev pub decreases-loop-irp : goal.decreases-loop-irp
-decreases-loop-irp l = length l.self.waiting.items
+abbrev pub decreases-loop-spot : goal.decreases-loop-spot
+decreases-loop-spot l = length (books_of l.self).waiting

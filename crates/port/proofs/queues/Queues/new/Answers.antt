@@ -1,10 +1,11 @@
-use Rattle.std.proofs.Common.{refl, arith}
+use Rattle.std.proofs.Common.{refl, ap, map, arith}
+use Rattle.port.specs.Books.{held_at}
 use Rattle.port.proofs.queues.Queues.new.Goals as goal
 
 pub returns : goal.returns
 returns c = record {
   sizes_are = refl;
-  waiting = c.new.ensures.items;
+  waiting = ap (λ q. map held_at q.entries) c.new.ensures;
   started = omega (arith, c.loop.invariant, c.loop.auto, c.loop-test);
   done = c.new-2.ensures.items;
   last_request = refl;

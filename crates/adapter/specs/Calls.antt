@@ -1,0 +1,74 @@
+-- What each call of an adapter does to what the adapter shows.
+use Rattle.std.specs.Prelude.{◌≡◌, ◌≢◌, ◌⊎◌, ℕ, Bool, true, List, [], ◌∷◌, ◌++◌, map, filter, IsPermutation}
+use Rattle.std.specs.List.Sorted.{IsStrictlyIncreasing}
+use Rattle.std.specs.List.{concat}
+use Rattle.srb.specs.declared.Srb.{Srb}
+use Rattle.srb.specs.declared.Completion.{Completion}
+use Rattle.srb.specs.declared.DeviceLabel.{DeviceLabel}
+use Rattle.srb.specs.declared.DeviceLabel.TheVariants.{Fault}
+use Rattle.srb.specs.Fate.{Fate, Fresh, Acted, Faulted, is_fresh, class_of}
+use Rattle.adapter.specs.View.{TagInUse, AdapterView, IsFree, IsOn, ActsOn, FaultsOn, ReturnsOn, MovesByAll, NotesReset}
+
+-- the tag's piece, which had done nothing yet, acts or faults
+pub record Acts (old : AdapterView) (tag : ℕ) (new : AdapterView) : Type 0 where
+  pub piece : ℕ
+  pub one_of : ((bytes : List ℕ) × ActsOn old tag piece bytes new) ⊎ FaultsOn old tag piece new
+
+-- no piece on the tag that can act, and nothing changes
+pub record ActsNot (old : AdapterView) (tag : ℕ) (new : AdapterView) : Type 0 where
+  pub none_fresh : (use' : TagInUse) (others : List TagInUse) → IsOn old tag use' others → use'.fate ≢ Fresh
+  pub same : new ≡ old
+
+-- the tag's piece comes back with its SRB, whose data are what it moved if it acted
+pub record Finishes (old : AdapterView) (tag : ℕ) (srb : Srb) (completion : Completion) (new : AdapterView) : Type 0 where
+  pub piece : ℕ
+  pub returns : ReturnsOn old tag piece (class_of completion) new
+  pub comes_back : srb ≡ record returns.use'.srb { sense = completion.sense }
+  pub holds_moved : (moved : List (List ℕ)) → returns.use'.fate ≡ Acted moved → srb.data ≡ concat moved
+
+pub record FinishesNot (old : AdapterView) (tag : ℕ) (new : AdapterView) : Type 0 where
+  pub is_free : IsFree old tag
+  pub same : new ≡ old
+
+-- a piece that has done nothing yet never will
+abbrev pub fate_after_reset : Fate → Fate
+fate_after_reset Fresh = Faulted
+fate_after_reset (Acted moved) = Acted moved
+fate_after_reset Faulted = Faulted
+
+abbrev pub after_reset : TagInUse → TagInUse
+after_reset use' = record use' { fate = fate_after_reset use'.fate; was_reset = true }
+
+-- the tag's piece has done nothing yet
+abbrev pub is_fresh_use : TagInUse → Bool
+is_fresh_use use' = is_fresh use'.fate
+
+abbrev pub tag_of : TagInUse → ℕ
+tag_of use' = use'.tag
+
+abbrev pub fault_of : TagInUse → DeviceLabel
+fault_of use' = Fault use'.piece
+
+-- each piece that had done nothing yet faults, in rising order of tags, and then all pieces out have met a reset
+pub record Resets (old new : AdapterView) : Type 0 where
+  pub fresh : List TagInUse
+  pub tags : List TagInUse
+  pub failures : ℕ
+  pub are_fresh : IsPermutation (filter is_fresh_use old.tags) fresh
+  pub rising : IsStrictlyIncreasing (map tag_of fresh)
+  pub in_use : IsPermutation tags (map after_reset old.tags)
+  pub after : new ≡ record old { tags = tags; failures = failures; labels = old.labels ++ map fault_of fresh }
+  pub all_faulted : AdapterView
+  pub moves : MovesByAll old (map fault_of fresh) all_faulted
+  pub noted : NotesReset all_faulted new
+
+-- the earliest label leaves
+pub record LeavesFirst (old : AdapterView) (label : DeviceLabel) (new : AdapterView) : Type 0 where
+  pub rest : List DeviceLabel
+  pub first : old.labels ≡ label ∷ rest
+  pub after : new ≡ record old { labels = rest }
+
+-- there is none
+pub record HasNoLabel (old new : AdapterView) : Type 0 where
+  pub no_label : old.labels ≡ []
+  pub same : new ≡ old

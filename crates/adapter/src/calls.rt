@@ -1,0 +1,97 @@
+//! What the port calls.
+
+use sector::Extent;
+use srb::{Completion, DeviceLabel, Srb};
+use std::alloc::AllocError;
+
+/// A disk behind tags. Each call but `reserve` takes no memory.
+///
+/// A label that isn't taken yet has a place in the record of labels, which has 64; callers keep the places that a call
+/// asks for.
+pub trait Adapter: Drop {
+    ghost use Rattle.std.specs.Prelude.{◌≡◌, ◌⊎◌, ◌<◌, ◌≤◌, ◌^◌, ◌+◌, ℕ, length, Any, OnOk, MatchBool, MatchOption};
+    ghost use Rattle.adapter.specs.View.{AdapterView, HasTag, IsFree, IsInOrder, IsReserved, IsWritable, ReservesMore, Accepts};
+    ghost use Rattle.adapter.specs.Calls.{Acts, ActsNot, Finishes, FinishesNot, Resets, LeavesFirst, HasNoLabel};
+
+    ghost view: { Self → AdapterView };
+
+    /// The bytes of one sector, 512 or 4096.
+    fn sector_size(&self) -> u32
+        ensures exact { result ≡ (view self.now).sector_size }
+        ensures order { IsInOrder (view self.now) };
+
+    /// The number of sectors, from 1 to 2^32 - 1.
+    fn sectors(&self) -> u64
+        ensures exact { result ≡ length (view self.now).sectors }
+        ensures order { IsInOrder (view self.now) };
+
+    /// The sectors of the longest transfer, from 1 to 65,535.
+    fn max_transfer(&self) -> u32
+        ensures exact { result ≡ (view self.now).max_transfer }
+        ensures order { IsInOrder (view self.now) };
+
+    /// The number of tags, from 1 to 32.
+    fn depth(&self) -> u8
+        ensures exact { result ≡ (view self.now).depth }
+        ensures order { IsInOrder (view self.now) };
+
+    /// Whether its acts read and write its sectors; else these stand elsewhere.
+    fn is_faithful(&self) -> bool
+        ensures { result ≡ (view self.now).faithful };
+
+    /// The failures counted so far, at most twice the pieces accepted and one.
+    fn failures(&self) -> u128
+        ensures exact { result ≡ (view self.now).failures }
+        ensures order { IsInOrder (view self.now) };
+
+    /// Makes room for writes of an extent of the disk, for good.
+    ///
+    /// # Errors
+    ///
+    /// [`AllocError`] where memory was refused; room may then have been made for a part.
+    fn reserve(&mut self, extent: Extent) -> Result<(), AllocError>
+        requires { extent.first + extent.count ≤ length (view self.old).sectors }
+        ensures reserved { OnOk result (IsReserved (view self.new) extent) }
+        ensures reserves { ReservesMore (view self.old) (view self.new) }
+        ensures order { IsInOrder (view self.new) };
+
+    /// Whether a piece is on the tag.
+    fn in_use(&self, tag: u8) -> bool
+        ensures exact { MatchBool result (Any (HasTag tag) (view self.now).tags) (IsFree (view self.now) tag) }
+        ensures order { IsInOrder (view self.now) };
+
+    /// Puts a piece on a free tag, and records its start.
+    fn accept(&mut self, tag: u8, piece: u128, srb: Srb)
+        requires below { tag < (view self.old).depth }
+        requires free { IsFree (view self.old) tag }
+        requires writable { IsWritable (view self.old) srb }
+        requires buffers { length srb.for_label ≡ length srb.data }
+        requires few { (view self.old).accepted < 2 ^ 100 }
+        requires place { length (view self.old).labels < 64 }
+        ensures accepts { Accepts (view self.old) tag piece srb (view self.new) }
+        ensures order { IsInOrder (view self.new) };
+
+    /// Carries the command of the tag's piece out, or fails it. False where no piece is on the tag, or one that acted or
+    /// failed before.
+    fn act(&mut self, tag: u8) -> bool
+        requires { length (view self.old).labels < 64 }
+        ensures acts { MatchBool result (Acts (view self.old) tag (view self.new)) (ActsNot (view self.old) tag (view self.new)) }
+        ensures order { IsInOrder (view self.new) };
+
+    /// Hands the tag's piece back and frees the tag. None where the tag is free.
+    fn finish(&mut self, tag: u8) -> Option<(Srb, Completion)>
+        requires { length (view self.old).labels < 64 }
+        ensures finishes { MatchOption result (FinishesNot (view self.old) tag (view self.new)) (λ back. Finishes (view self.old) tag back.0 back.1 (view self.new)) }
+        ensures order { IsInOrder (view self.new) };
+
+    /// Fails each piece that has neither acted nor failed. All pieces that are on a tag now come back as BUS_RESET.
+    fn reset(&mut self)
+        requires { length (view self.old).labels + (view self.old).depth ≤ 64 }
+        ensures resets { Resets (view self.old) (view self.new) }
+        ensures order { IsInOrder (view self.new) };
+
+    /// The earliest label that was recorded and not taken.
+    fn take_label(&mut self) -> Option<DeviceLabel>
+        ensures takes { MatchOption result (HasNoLabel (view self.old) (view self.new)) (λ label. LeavesFirst (view self.old) label (view self.new)) }
+        ensures order { IsInOrder (view self.new) };
+}

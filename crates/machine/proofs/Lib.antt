@@ -1,0 +1,14 @@
+pub mod Permuting
+pub mod Same
+pub mod Numbers
+pub mod Placed
+pub mod Earned
+pub mod OnePiece
+pub mod Counted
+pub mod Owners
+pub mod Framed
+pub mod Commuting
+pub mod Places
+pub mod Settling
+pub mod Window
+pub mod Held

@@ -1,0 +1,15 @@
+pub mod Rules
+pub mod Map
+pub mod State
+pub mod Calling
+pub mod Sending
+pub mod Answering
+pub mod Holding
+pub mod Step
+pub mod Settled
+pub mod Numbers
+pub mod Frame
+pub mod Solo
+pub mod Pieces
+pub mod Marks
+pub mod Window
