@@ -32,6 +32,70 @@ fn commands_have_their_blocks(rt: HostRuntime) {
 }
 
 #[test]
+fn commands_have_their_long_blocks(rt: HostRuntime) {
+    let read = Cdb::Read16 {
+        lba: 1 << 32,
+        count: 1,
+        fua: false,
+    };
+    let longest = Cdb::Read16 {
+        lba: 1,
+        count: 65_536,
+        fua: false,
+    };
+    let write = Cdb::Write16 {
+        lba: 0x0102_0304_0506_0708,
+        count: 0x090A_0B0C,
+        fua: true,
+    };
+    let flush = Cdb::Sync16 { lba: 0, blocks: 0 };
+    let capacity = Cdb::ReadCapacity16 { allocation: 32 };
+    let rows = [
+        (read, [0x88, 0, 0, 0, 0, 1, 0, 0, 0, 0, 0, 0, 0, 1, 0, 0]),
+        (longest, [0x88, 0, 0, 0, 0, 0, 0, 0, 0, 1, 0, 1, 0, 0, 0, 0]),
+        (
+            write,
+            [0x8A, 8, 1, 2, 3, 4, 5, 6, 7, 8, 9, 10, 11, 12, 0, 0],
+        ),
+        (flush, [0x91, 0, 0, 0, 0, 0, 0, 0, 0, 0, 0, 0, 0, 0, 0, 0]),
+        (
+            capacity,
+            [0x9E, 0x10, 0, 0, 0, 0, 0, 0, 0, 0, 0, 0, 0, 32, 0, 0],
+        ),
+    ];
+    for (command, block) in rows {
+        assert_eq!(rt; encode(&command).as_slice(), block.as_slice());
+        assert!(rt; decode(&block) == Ok(command), "{command:?}");
+        assert!(rt;
+            decode(&block[..15]) == Err(CdbFault::ShortCdb),
+            "{command:?}"
+        );
+    }
+}
+
+#[test]
+fn long_faults_come_in_their_order(rt: HostRuntime) {
+    let mut block = [0; 16];
+    for (code, option, fault) in [
+        (0x88, 0x20, CdbFault::InvalidField),
+        (0x8A, 0xE0, CdbFault::InvalidField),
+        (0x9E, 0, CdbFault::InvalidField),
+        (0x9E, 0x11, CdbFault::InvalidField),
+        (0x9F, 0x10, CdbFault::UnknownOpcode),
+    ] {
+        block[0] = code;
+        block[1] = option;
+        assert!(rt; decode(&block) == Err(fault), "{code}");
+    }
+    // a known code alone, and ten bytes of a command of sixteen
+    assert!(rt; decode(&[0x9E]) == Err(CdbFault::ShortCdb));
+    assert!(rt; decode(&[0x88, 0x20, 0, 0, 0, 0, 0, 0, 0, 0]) == Err(CdbFault::ShortCdb));
+    // the three bits above the service action, bytes that `Cdb` doesn't hold, and a seventeenth
+    let capacity = [0x9E, 0xF0, 1, 2, 3, 4, 5, 6, 7, 8, 0, 0, 0, 32, 0xFF, 4, 9];
+    assert!(rt; decode(&capacity) == Ok(Cdb::ReadCapacity16 { allocation: 32 }));
+}
+
+#[test]
 fn faults_come_in_their_order(rt: HostRuntime) {
     let sync = Cdb::Sync10 { lba: 0, blocks: 0 };
     let read = Cdb::Read10 {
