@@ -4,7 +4,7 @@ use Rattle.std.specs.List.{concat}
 use Rattle.sector.specs.declared.Extent.{Extent}
 use Rattle.sector.specs.Extents.{IsCovered, IsSector}
 use Rattle.cdb.specs.declared.Cdb.{Cdb}
-use Rattle.cdb.specs.declared.Cdb.TheVariants.{Write10}
+use Rattle.cdb.specs.declared.Cdb.TheVariants.{Write10, Write16}
 use Rattle.cdb.specs.Meaning.{Means}
 use Rattle.srb.specs.declared.Srb.{Srb}
 use Rattle.srb.specs.declared.Completion.{Completion}
@@ -60,9 +60,9 @@ HaveOtherTags use' other = use'.tag ≢ other.tag
 -- sizes in their ranges, sectors whole, tags below the depth and each once, failures and labels within their bounds
 pub record IsInOrder (view : AdapterView) : Type 0 where
   pub sector_size : (view.sector_size ≡ 512) ⊎ (view.sector_size ≡ 4096)
-  pub sectors : (1 ≤ length view.sectors) × (length view.sectors < 2 ^ 32)
+  pub sectors : (1 ≤ length view.sectors) × (length view.sectors ≤ 2 ^ 40)
   pub whole_sectors : All (IsSector view.sector_size) view.sectors
-  pub max_transfer : (1 ≤ view.max_transfer) × (view.max_transfer ≤ 65535)
+  pub max_transfer : (1 ≤ view.max_transfer) × (view.max_transfer ≤ 2 ^ 16)
   pub depth : (1 ≤ view.depth) × (view.depth ≤ 32)
   pub tags_below : All (IsBelow view.depth) view.tags
   pub tags_differ : AllPairs HaveOtherTags view.tags
@@ -105,10 +105,14 @@ acted moved left use' = record use' {
 abbrev pub IsReserved : AdapterView → Extent → Type 0
 IsReserved view extent = IsCovered view.reserved extent
 
+-- the block asks for this write, in either form
+abbrev pub AsksToWrite : List ℕ → ℕ → ℕ → Bool → Type 0
+AsksToWrite block lba count fua = Means block (Write10 lba count fua) ⊎ Means block (Write16 lba count fua)
+
 -- a write that lies in the disk has its extent reserved
 abbrev pub IsWritable : AdapterView → Srb → Type 0
 IsWritable view srb =
-    (lba count : ℕ) (fua : Bool) → Means srb.block (Write10 lba count fua) → lba + count ≤ length view.sectors
+    (lba count : ℕ) (fua : Bool) → AsksToWrite srb.block lba count fua → lba + count ≤ length view.sectors
     → IsReserved view (record { first = lba; count = count })
 
 -- ONE LABEL

@@ -20,12 +20,12 @@ pub trait Adapter: Drop {
         ensures exact { result ≡ (view self.now).sector_size }
         ensures order { IsInOrder (view self.now) };
 
-    /// The number of sectors, from 1 to 2^32 - 1.
+    /// The number of sectors, from 1 to 2^40.
     fn sectors(&self) -> u64
         ensures exact { result ≡ length (view self.now).sectors }
         ensures order { IsInOrder (view self.now) };
 
-    /// The sectors of the longest transfer, from 1 to 65,535.
+    /// The sectors of the longest transfer, from 1 to 65,536.
     fn max_transfer(&self) -> u32
         ensures exact { result ≡ (view self.now).max_transfer }
         ensures order { IsInOrder (view self.now) };
