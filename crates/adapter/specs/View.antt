@@ -4,8 +4,7 @@ use Rattle.std.specs.List.{concat}
 use Rattle.sector.specs.declared.Extent.{Extent}
 use Rattle.sector.specs.Extents.{IsCovered, IsSector}
 use Rattle.cdb.specs.declared.Cdb.{Cdb}
-use Rattle.cdb.specs.declared.Cdb.TheVariants.{Write10, Write16}
-use Rattle.cdb.specs.Meaning.{Means}
+use Rattle.cdb.specs.Meaning.{Means, AsksToWrite}
 use Rattle.srb.specs.declared.Srb.{Srb}
 use Rattle.srb.specs.declared.Completion.{Completion}
 use Rattle.srb.specs.declared.Class.{Class}
@@ -104,10 +103,6 @@ acted moved left use' = record use' {
 -- each sector of the extent is one of a reserved extent
 abbrev pub IsReserved : AdapterView → Extent → Type 0
 IsReserved view extent = IsCovered view.reserved extent
-
--- the block asks for this write, in either form
-abbrev pub AsksToWrite : List ℕ → ℕ → ℕ → Bool → Type 0
-AsksToWrite block lba count fua = Means block (Write10 lba count fua) ⊎ Means block (Write16 lba count fua)
 
 -- a write that lies in the disk has its extent reserved
 abbrev pub IsWritable : AdapterView → Srb → Type 0

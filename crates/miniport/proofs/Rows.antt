@@ -1,6 +1,6 @@
 -- The first row of the table that fits decides.
-use Rattle.std.proofs.Common.{◌≡◌, ◌<◌, ◌≤◌, ℕ, ◌+◌, ◌&&◌, Bool, true, false, not, List, [], ◌∷◌, length, Option, Some, None, refl, sym, ◌∙◌}
-use Rattle.std.proofs.lemmas.Bool.{lt-ltb, le-ltb, eqb-true, and_parts}
+use Rattle.std.proofs.Common.{IsTrue, ◌↔◌, inl, inr, ◌≡◌, ◌<◌, ◌≤◌, ℕ, ◌+◌, ◌&&◌, Bool, true, false, not, List, [], ◌∷◌, length, Option, Some, None, refl, sym, ◌∙◌}
+use Rattle.std.proofs.lemmas.Bool.{cases_lt, lt-ltb, le-ltb, eqb-true, and_parts}
 use Rattle.cdb.specs.declared.Cdb.{Cdb}
 use Rattle.srb.specs.declared.Srb.{Srb}
 use Rattle.srb.specs.declared.Completion.{Completion}
@@ -8,6 +8,10 @@ use Rattle.miniport.specs.declared.check.Sizes.{Sizes}
 use Rattle.ntstatus.specs.First.{when, first_some}
 use Rattle.miniport.specs.Faults.{fits, is_write, lba_of, blocks_of, bytes_of, error, invalid_request}
 use Rattle.miniport.specs.Checking.{disk_with, Fits, IsMisfit}
+
+-- what a test for a bound says
+pub above_of : (inside : Bool) (n most : ℕ) → IsTrue inside ↔ (n ≤ most) → inside ≡ false → most < n
+above_of inside n most tells e = elim (cases_lt most n) [ inl above ↦ above | inr within ↦ absurd (let yes' : inside ≡ true = tells.1 within in let clash : true ≡ false = sym yes' ∙ e in cc) ]
 
 -- the rows of a command
 abbrev rows : Bool → Bool → Bool → Completion → Completion → Completion → Option Completion → Option Completion

@@ -1,5 +1,5 @@
 -- Sectors read and written on a medium are those that the command moves.
-use Rattle.std.proofs.Common.{◌≡◌, ◌≤◌, ℕ, ◌+◌, ◌-◌, Bool, true, false, List, [], ◌∷◌, ◌++◌, length, take, drop, slice_range, slice_index, Some, None, Ok, All, refl, sym, ap, ◌∙◌, ◌⊎◌, inl, inr, arith, length-drop}
+use Rattle.std.proofs.Common.{◌≡◌, ◌≤◌, ℕ, ◌+◌, ◌-◌, Bool, true, false, List, [], ◌∷◌, ◌++◌, length, take, drop, slice_range, slice_index, Some, None, Ok, All, refl, sym, ap, subst, ◌∙◌, ◌⊎◌, inl, inr, arith, length-drop}
 use Rattle.std.specs.Prelude.{Any}
 use Rattle.std.specs.List.{concat, list_any}
 use Rattle.std.specs.Simd.{first_chunks}
@@ -8,18 +8,18 @@ use Rattle.std.proofs.lemmas.List.Elements.{All-head, All-tail, All-take, All-dr
 use Rattle.std.proofs.lemmas.List.Folds.{Any-from_list_any, list_any-from_Any}
 use Rattle.std.proofs.lemmas.Bool.{lt-ltb, ltb-true, le-leb, leb-true, and_parts}
 use Rattle.std.specs.Cmp.Derive.{both_true}
-use Rattle.byteorder.specs.Endian.{big_from}
 use Rattle.sector.specs.Extents.{IsSector}
 use Rattle.sector.specs.Splice.{splice}
 use Rattle.cdb.specs.declared.Cdb.{Cdb}
-use Rattle.cdb.specs.declared.Cdb.TheVariants.{Read10, Write10, Sync10, ReadCapacity10}
+use Rattle.cdb.specs.declared.Cdb.TheVariants.{Read10, Write10, Sync10, ReadCapacity10, Read16, Write16, Sync16, ReadCapacity16}
+use Rattle.cdb.specs.Meaning.{Means}
 use Rattle.srb.specs.declared.Srb.{Srb}
 use Rattle.srb.specs.declared.Completion.{Completion}
-use Rattle.adapter.specs.Performing.{capacity_data}
+use Rattle.adapter.specs.Performing.{Performs, HandsOver, Replaces, capacity_data, long_capacity_data}
 use Rattle.disk.specs.Medium.{MediumView, IsWhole, HasBad, failed}
 use Rattle.miniport.specs.declared.carrying.Outcome.{Outcome}
 use Rattle.miniport.specs.declared.carrying.Outcome.TheVariants.{Moved, Failed}
-use Rattle.miniport.specs.Faults.{Disk, fault_of_medium, is_one_of, error}
+use Rattle.miniport.specs.Faults.{Disk, fault_of_medium, is_read, is_write, lba_of, blocks_of, is_one_of, error}
 use Rattle.miniport.specs.Checking.{Passes, IsRefused}
 use Rattle.miniport.specs.Carrying.{disk_of, sizes_of, emptied, Reads, Writes, CarriesOut, FailsBy, Ends}
 use Rattle.miniport.specs.Moving.{moved_by}
@@ -46,11 +46,60 @@ length-extent sectors first count within = length-take-le (first + count - first
 All-extent : (size : ℕ) (sectors : List (List ℕ)) (first count : ℕ) → All (IsSector size) sectors → All (IsSector size) (slice_range sectors first (first + count))
 All-extent size sectors first count all = All-take (IsSector size) (first + count - first) (drop first sectors) (All-drop (IsSector size) first sectors all)
 
+-- a transfer is a read or a write, and no read writes
+read_or_write : (command : Cdb) → is_read command ≡ true → is_write command ≡ false
+read_or_write (Read10 lba count fua) e = refl
+read_or_write (Read16 lba count fua) e = refl
+read_or_write (Sync10 lba blocks) e = refl
+read_or_write (Sync16 lba blocks) e = refl
+read_or_write ReadCapacity10 e = refl
+read_or_write (ReadCapacity16 allocation) e = refl
+read_or_write (Write10 lba count fua) e = absurd cc
+read_or_write (Write16 lba count fua) e = absurd cc
+
+write_or_read : (command : Cdb) → is_write command ≡ true → is_read command ≡ false
+write_or_read (Read10 lba count fua) e = absurd cc
+write_or_read (Read16 lba count fua) e = absurd cc
+write_or_read (Sync10 lba blocks) e = refl
+write_or_read (Sync16 lba blocks) e = refl
+write_or_read ReadCapacity10 e = refl
+write_or_read (ReadCapacity16 allocation) e = refl
+write_or_read (Write10 lba count fua) e = refl
+write_or_read (Write16 lba count fua) e = refl
+
+performs_read : (size : ℕ) (sectors : List (List ℕ)) (bytes : List ℕ) (command : Cdb) (moved after : List (List ℕ)) → is_read command ≡ true
+    → HandsOver sectors (lba_of command) (blocks_of command) moved after → Performs size sectors bytes command moved after
+performs_read size sectors bytes (Read10 lba count fua) moved after e h = h
+performs_read size sectors bytes (Read16 lba count fua) moved after e h = h
+performs_read size sectors bytes (Write10 lba count fua) moved after e h = absurd cc
+performs_read size sectors bytes (Write16 lba count fua) moved after e h = absurd cc
+performs_read size sectors bytes (Sync10 lba blocks) moved after e h = absurd cc
+performs_read size sectors bytes (Sync16 lba blocks) moved after e h = absurd cc
+performs_read size sectors bytes ReadCapacity10 moved after e h = absurd cc
+performs_read size sectors bytes (ReadCapacity16 allocation) moved after e h = absurd cc
+
+performs_write : (size : ℕ) (sectors : List (List ℕ)) (bytes : List ℕ) (command : Cdb) (moved after : List (List ℕ)) → is_write command ≡ true
+    → Replaces size sectors bytes (lba_of command) (blocks_of command) moved after → Performs size sectors bytes command moved after
+performs_write size sectors bytes (Write10 lba count fua) moved after e h = h
+performs_write size sectors bytes (Write16 lba count fua) moved after e h = h
+performs_write size sectors bytes (Read10 lba count fua) moved after e h = absurd cc
+performs_write size sectors bytes (Read16 lba count fua) moved after e h = absurd cc
+performs_write size sectors bytes (Sync10 lba blocks) moved after e h = absurd cc
+performs_write size sectors bytes (Sync16 lba blocks) moved after e h = absurd cc
+performs_write size sectors bytes ReadCapacity10 moved after e h = absurd cc
+performs_write size sectors bytes (ReadCapacity16 allocation) moved after e h = absurd cc
+
 -- the sectors that were moved, by the operation code
-moved_transfer : (size count : ℕ) (block bytes : List ℕ) (sectors : List (List ℕ)) → first_chunks size count bytes ≡ sectors → big_from 7 2 block ≡ count
-    → (slice_index block 0 ≡ 40) ⊎ (slice_index block 0 ≡ 42) → sectors ≡ moved_by size block bytes
-moved_transfer size count block bytes sectors e blocks (inl code) = rw (code, blocks) (sym e)
-moved_transfer size count block bytes sectors e blocks (inr code) = rw (code, blocks) (sym e)
+moved_transfer : (size : ℕ) (block bytes : List ℕ) (command : Cdb) (sectors : List (List ℕ)) → first_chunks size (blocks_of command) bytes ≡ sectors
+    → Means block command → (is_read command ≡ true) ⊎ (is_write command ≡ true) → sectors ≡ moved_by size block bytes
+moved_transfer size block bytes (Read10 lba count fua) sectors e h t = rw (h.0.operation, h.1.blocks) (sym e)
+moved_transfer size block bytes (Write10 lba count fua) sectors e h t = rw (h.0.operation, h.1.blocks) (sym e)
+moved_transfer size block bytes (Read16 lba count fua) sectors e h t = rw (h.0.operation, h.1.blocks) (sym e)
+moved_transfer size block bytes (Write16 lba count fua) sectors e h t = rw (h.0.operation, h.1.blocks) (sym e)
+moved_transfer size block bytes (Sync10 lba blocks) sectors e h t = absurd (elim t [ inl k ↦ cc | inr k ↦ cc ])
+moved_transfer size block bytes (Sync16 lba blocks) sectors e h t = absurd (elim t [ inl k ↦ cc | inr k ↦ cc ])
+moved_transfer size block bytes ReadCapacity10 sectors e h t = absurd (elim t [ inl k ↦ cc | inr k ↦ cc ])
+moved_transfer size block bytes (ReadCapacity16 allocation) sectors e h t = absurd (elim t [ inl k ↦ cc | inr k ↦ cc ])
 
 -- whether a sector of the extent is bad
 bad_named : (medium : MediumView) (first count : ℕ) → HasBad medium (record { first = first; count = count }) → list_any (is_one_of first count) medium.bad ≡ true
@@ -66,17 +115,21 @@ none_named medium first count none true e =
     let both = and_parts _ _ found.4 in
     absurd (none (found.1, (found.0, found.2, found.3), (leb-true _ _ both.0, ltb-true _ _ both.1)))
 
-no_fault_of_read : (disk : Disk) (lba count : ℕ) (fua : Bool) → list_any (is_one_of lba count) disk.bad ≡ false → fault_of_medium disk (Read10 lba count fua) ≡ None
-no_fault_of_read disk lba count fua e = rw e refl
+no_fault_of_read : (disk : Disk) (command : Cdb) → is_read command ≡ true → list_any (is_one_of (lba_of command) (blocks_of command)) disk.bad ≡ false
+    → fault_of_medium disk command ≡ None
+no_fault_of_read disk command r e = rw (e, r, read_or_write command r) refl
 
-fault_of_read : (disk : Disk) (lba count : ℕ) (fua : Bool) → list_any (is_one_of lba count) disk.bad ≡ true → fault_of_medium disk (Read10 lba count fua) ≡ Some (error 3 0x11 0)
-fault_of_read disk lba count fua e = rw e refl
+fault_of_read : (disk : Disk) (command : Cdb) → is_read command ≡ true → list_any (is_one_of (lba_of command) (blocks_of command)) disk.bad ≡ true
+    → fault_of_medium disk command ≡ Some (error 3 0x11 0)
+fault_of_read disk command r e = rw (e, r) refl
 
-no_fault_of_write : (disk : Disk) (lba count : ℕ) (fua : Bool) → list_any (is_one_of lba count) disk.bad ≡ false → fault_of_medium disk (Write10 lba count fua) ≡ None
-no_fault_of_write disk lba count fua e = rw e refl
+no_fault_of_write : (disk : Disk) (command : Cdb) → is_write command ≡ true → list_any (is_one_of (lba_of command) (blocks_of command)) disk.bad ≡ false
+    → fault_of_medium disk command ≡ None
+no_fault_of_write disk command w e = rw (e, w, write_or_read command w) refl
 
-fault_of_write : (disk : Disk) (lba count : ℕ) (fua : Bool) → list_any (is_one_of lba count) disk.bad ≡ true → fault_of_medium disk (Write10 lba count fua) ≡ Some (error 3 0x0C 0)
-fault_of_write disk lba count fua e = rw e refl
+fault_of_write : (disk : Disk) (command : Cdb) → is_write command ≡ true → list_any (is_one_of (lba_of command) (blocks_of command)) disk.bad ≡ true
+    → fault_of_medium disk command ≡ Some (error 3 0x0C 0)
+fault_of_write disk command w e = rw (e, w, write_or_read command w) refl
 
 -- a command that the medium fails
 fails_by : (medium : MediumView) (p : Bool) (srb : Srb) (command : Cdb) (completion : Completion) → Passes (sizes_of medium p) srb command
@@ -91,55 +144,55 @@ fails_by medium p srb command completion passes fault = record {
   after = refl;
 }
 
-pub read_ends : (medium : MediumView) (p : Bool) (srb : Srb) (lba count : ℕ) (fua : Bool) (outcome : Outcome) (medium' : MediumView) → IsWhole medium
-    → Passes (sizes_of medium p) srb (Read10 lba count fua) → Reads medium (record { first = lba; count = count }) srb outcome medium'
+pub read_ends : (medium : MediumView) (p : Bool) (srb : Srb) (command : Cdb) (outcome : Outcome) (medium' : MediumView) → is_read command ≡ true → IsWhole medium
+    → Passes (sizes_of medium p) srb command → Reads medium (record { first = lba_of command; count = blocks_of command }) srb outcome medium'
     → Ends medium p srb outcome medium'
-read_ends medium p srb lba count fua (Moved srb' bytes) medium' whole passes (good, bytes_are, back, after) =
-    let sectors = slice_range medium.sectors lba (lba + count) in
-    let long : length sectors ≡ count = length-extent medium.sectors lba count passes.fits.within in
+read_ends medium p srb command (Moved srb' bytes) medium' reads whole passes (good, bytes_are, back, after) =
+    let sectors = slice_range medium.sectors (lba_of command) (lba_of command + blocks_of command) in
+    let long : length sectors ≡ blocks_of command = length-extent medium.sectors (lba_of command) (blocks_of command) passes.fits.within in
     let cut : first_chunks medium.sector_size (length sectors) (concat sectors) ≡ sectors =
-    first_chunks-concat medium.sector_size sectors (All-extent medium.sector_size medium.sectors lba count whole) in
-    let again : first_chunks medium.sector_size count bytes ≡ sectors = cut_again medium.sector_size count bytes sectors bytes_are long cut in
+    first_chunks-concat medium.sector_size sectors (All-extent medium.sector_size medium.sectors (lba_of command) (blocks_of command) whole) in
+    let again : first_chunks medium.sector_size (blocks_of command) bytes ≡ sectors = cut_again medium.sector_size (blocks_of command) bytes sectors bytes_are long cut in
     record {
-      command = Read10 lba count fua;
+      command = command;
       moved = sectors;
       sectors = medium.sectors;
       means = passes.means;
-      no_fault = passes.fault medium.bad ∙ no_fault_of_read (disk_of medium p) lba count fua (none_named medium lba count good _ refl);
-      performs = (passes.fits.within, refl, refl);
+      no_fault = passes.fault medium.bad ∙ no_fault_of_read (disk_of medium p) command reads (none_named medium (lba_of command) (blocks_of command) good _ refl);
+      performs = performs_read medium.sector_size medium.sectors srb.data command _ _ reads (passes.fits.within, refl, refl);
       bytes_are = bytes_are;
-      moved_is = moved_transfer medium.sector_size count srb.block bytes sectors again passes.means.1.blocks (inl passes.means.0.operation);
+      moved_is = moved_transfer medium.sector_size srb.block bytes command sectors again passes.means (inl reads);
       comes_back = back;
       after = after;
     }
-read_ends medium p srb lba count fua (Failed srb' completion) medium' whole passes (bad, e, same, after) =
+read_ends medium p srb command (Failed srb' completion) medium' reads whole passes (bad, e, same, after) =
     let known : FailsBy medium p srb srb (error 3 0x11 0) (failed medium) =
-    fails_by medium p srb (Read10 lba count fua) _ passes (fault_of_read (disk_of medium p) lba count fua (bad_named medium lba count bad)) in
+    fails_by medium p srb command _ passes (fault_of_read (disk_of medium p) command reads (bad_named medium (lba_of command) (blocks_of command) bad)) in
     rw (e, same, after) known
 
-pub write_ends : (medium : MediumView) (p : Bool) (srb : Srb) (lba count : ℕ) (fua : Bool) (outcome : Outcome) (medium' : MediumView)
-    → Passes (sizes_of medium p) srb (Write10 lba count fua) → Writes medium (record { first = lba; count = count }) srb outcome medium'
+pub write_ends : (medium : MediumView) (p : Bool) (srb : Srb) (command : Cdb) (outcome : Outcome) (medium' : MediumView) → is_write command ≡ true
+    → Passes (sizes_of medium p) srb command → Writes medium (record { first = lba_of command; count = blocks_of command }) srb outcome medium'
     → Ends medium p srb outcome medium'
-write_ends medium p srb lba count fua (Moved srb' bytes) medium' passes (good, writes, bytes_are, back) =
+write_ends medium p srb command (Moved srb' bytes) medium' writes_it passes (good, writes, bytes_are, back) =
     let cut : first_chunks medium.sector_size (length writes.moved) (concat writes.moved) ≡ writes.moved =
     first_chunks-concat medium.sector_size writes.moved writes.whole in
-    let again : first_chunks medium.sector_size count bytes ≡ writes.moved =
-    cut_again medium.sector_size count bytes writes.moved (sym writes.bytes_are) writes.covers cut in
+    let again : first_chunks medium.sector_size (blocks_of command) bytes ≡ writes.moved =
+    cut_again medium.sector_size (blocks_of command) bytes writes.moved (sym writes.bytes_are) writes.covers cut in
     record {
-      command = Write10 lba count fua;
+      command = command;
       moved = writes.moved;
-      sectors = splice medium.sectors lba writes.moved;
+      sectors = splice medium.sectors (lba_of command) writes.moved;
       means = passes.means;
-      no_fault = passes.fault medium.bad ∙ no_fault_of_write (disk_of medium p) lba count fua (none_named medium lba count good _ refl);
-      performs = (passes.fits.within, writes.bytes_are ∙ bytes_are, writes.covers, writes.whole, refl);
+      no_fault = passes.fault medium.bad ∙ no_fault_of_write (disk_of medium p) command writes_it (none_named medium (lba_of command) (blocks_of command) good _ refl);
+      performs = performs_write medium.sector_size medium.sectors srb.data command _ _ writes_it (passes.fits.within, writes.bytes_are ∙ bytes_are, writes.covers, writes.whole, refl);
       bytes_are = sym writes.bytes_are;
-      moved_is = moved_transfer medium.sector_size count srb.block bytes writes.moved again passes.means.1.blocks (inr passes.means.0.operation);
+      moved_is = moved_transfer medium.sector_size srb.block bytes command writes.moved again passes.means (inr writes_it);
       comes_back = back;
       after = writes.after;
     }
-write_ends medium p srb lba count fua (Failed srb' completion) medium' passes (bad, e, same, after) =
+write_ends medium p srb command (Failed srb' completion) medium' writes_it passes (bad, e, same, after) =
     let known : FailsBy medium p srb srb (error 3 0x0C 0) (failed medium) =
-    fails_by medium p srb (Write10 lba count fua) _ passes (fault_of_write (disk_of medium p) lba count fua (bad_named medium lba count bad)) in
+    fails_by medium p srb command _ passes (fault_of_write (disk_of medium p) command writes_it (bad_named medium (lba_of command) (blocks_of command) bad)) in
     rw (e, same, after) known
 
 pub sync_ends : (medium : MediumView) (p : Bool) (srb : Srb) (lba blocks : ℕ) → Passes (sizes_of medium p) srb (Sync10 lba blocks)
@@ -148,6 +201,23 @@ sync_ends medium p srb lba blocks passes =
     let none : srb.data ≡ [] = nil_from_length srb.data passes.fits.as_long in
     record {
       command = Sync10 lba blocks;
+      moved = [] ∷ [];
+      sectors = medium.sectors;
+      means = passes.means;
+      no_fault = passes.fault medium.bad;
+      performs = (refl, refl);
+      bytes_are = none;
+      moved_is = rw passes.means.0.operation refl;
+      comes_back = refl;
+      after = refl;
+    }
+
+pub long_sync_ends : (medium : MediumView) (p : Bool) (srb : Srb) (lba blocks : ℕ) → Passes (sizes_of medium p) srb (Sync16 lba blocks)
+    → CarriesOut medium p srb (emptied srb.data srb) srb.data medium
+long_sync_ends medium p srb lba blocks passes =
+    let none : srb.data ≡ [] = nil_from_length srb.data passes.fits.as_long in
+    record {
+      command = Sync16 lba blocks;
       moved = [] ∷ [];
       sectors = medium.sectors;
       means = passes.means;
@@ -173,6 +243,26 @@ capacity_ends medium p srb bytes told passes = record {
   comes_back = refl;
   after = refl;
 }
+
+pub long_capacity_ends : (medium : MediumView) (p : Bool) (srb : Srb) (allocation : ℕ) (bytes : List ℕ)
+    → bytes ≡ long_capacity_data (length srb.data) medium.sector_size medium.sectors
+    → Passes (sizes_of medium p) srb (ReadCapacity16 allocation) → CarriesOut medium p srb (emptied bytes srb) bytes medium
+long_capacity_ends medium p srb allocation bytes told passes =
+    let fits : length srb.data ≡ allocation = passes.fits.as_long in
+    let cut : bytes ≡ long_capacity_data allocation medium.sector_size medium.sectors =
+    subst (λ n. bytes ≡ long_capacity_data n medium.sector_size medium.sectors) fits told in
+    record {
+      command = ReadCapacity16 allocation;
+      moved = bytes ∷ [];
+      sectors = medium.sectors;
+      means = passes.means;
+      no_fault = passes.fault medium.bad;
+      performs = (ap (λ (l : List ℕ). l ∷ []) cut, refl);
+      bytes_are = sym (append-nil bytes);
+      moved_is = rw passes.means.0.operation refl;
+      comes_back = refl;
+      after = refl;
+    }
 
 pub refused_ends : (medium : MediumView) (p : Bool) (srb : Srb) (completion : Completion) → IsRefused (sizes_of medium p) srb completion
     → FailsBy medium p srb srb completion medium

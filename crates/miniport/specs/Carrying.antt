@@ -3,9 +3,8 @@ use Rattle.std.specs.Prelude.{◌≡◌, ◌≤◌, ℕ, ◌+◌, Bool, List, []
 use Rattle.std.specs.List.{concat}
 use Rattle.sector.specs.declared.Extent.{Extent}
 use Rattle.cdb.specs.declared.Cdb.{Cdb}
-use Rattle.cdb.specs.declared.Cdb.TheVariants.{Write10}
 use Rattle.cdb.specs.declared.CdbFault.{CdbFault}
-use Rattle.cdb.specs.Meaning.{Means}
+use Rattle.cdb.specs.Meaning.{Means, AsksToWrite}
 use Rattle.srb.specs.declared.Srb.{Srb}
 use Rattle.srb.specs.declared.Completion.{Completion}
 use Rattle.adapter.specs.Performing.{Performs}
@@ -36,7 +35,7 @@ sizes_of medium write_protected = record {
 -- a write that lies in the medium has its extent reserved
 abbrev pub IsReady : MediumView → Srb → Type 0
 IsReady medium srb =
-    (lba count : ℕ) (fua : Bool) → Means srb.block (Write10 lba count fua) → lba + count ≤ length medium.sectors
+    (lba count : ℕ) (fua : Bool) → AsksToWrite srb.block lba count fua → lba + count ≤ length medium.sectors
     → IsReserved medium (record { first = lba; count = count })
 
 -- an SRB with other data, and of the second buffer nothing left

@@ -164,8 +164,8 @@ ArePiecesRight medium failures slots = (tag : ℕ) (on : OnTag) → piece_at slo
 
 pub record IsKept (medium : MediumView) (longest : ℕ) (table : Table) : Type 0 where
   pub sector_size : (medium.sector_size ≡ 512) ⊎ (medium.sector_size ≡ 4096)
-  pub sectors : (1 ≤ length medium.sectors) × (length medium.sectors < 2 ^ 32)
-  pub max_transfer : (1 ≤ longest) × (longest ≤ 65535)
+  pub sectors : (1 ≤ length medium.sectors) × (length medium.sectors ≤ 2 ^ 40)
+  pub max_transfer : (1 ≤ longest) × (longest ≤ 2 ^ 16)
   pub depth : (1 ≤ length table.slots) × (length table.slots ≤ 32)
   pub pieces : ArePiecesRight medium table.failures table.slots
   pub accepted : table.accepted ≤ 2 ^ 100

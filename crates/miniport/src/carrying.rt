@@ -1,6 +1,6 @@
 //! Commands carried out on a medium.
 
-ghost use Rattle.std.specs.Prelude.{MatchResult, ◌+◌, ◌≡◌, ◌≤◌, ◌<◌, ◌^◌, ◌-◌, ◌*◌, ◌++◌, ◌⊎◌, [], ℕ, List, Bool, length, All, Some, Ok};
+ghost use Rattle.std.specs.Prelude.{MatchResult, min, take, replicate, ◌+◌, ◌≡◌, ◌≤◌, ◌<◌, ◌^◌, ◌-◌, ◌*◌, ◌++◌, ◌⊎◌, [], ℕ, List, Bool, length, All, Some, Ok};
 ghost use Rattle.byteorder.specs.Endian.{big_bytes};
 ghost use Rattle.cdb.specs.declared.Cdb.{Cdb};
 ghost use Rattle.cdb.specs.declared.Cdb.TheVariants.{Read10, Write10, ReadCapacity10};
@@ -50,7 +50,7 @@ fn moved(srb: Srb) -> Outcome
 }
 
 /// Reads sectors into the SRB's data.
-fn read<M: Medium>(medium: &mut M, lba: u32, count: u16, srb: Srb) -> Outcome
+fn read<M: Medium>(medium: &mut M, lba: u64, count: u32, srb: Srb) -> Outcome
     requires within { lba + count ≤ length (M.seen medium.old).sectors }
     requires long { length srb.data ≡ count * (M.seen medium.old).sector_size }
     requires buffers { length srb.for_label ≡ length srb.data }
@@ -73,7 +73,7 @@ fn read<M: Medium>(medium: &mut M, lba: u32, count: u16, srb: Srb) -> Outcome
 }
 
 /// Writes the SRB's data over sectors.
-fn write<M: Medium>(medium: &mut M, lba: u32, count: u16, srb: Srb) -> Outcome
+fn write<M: Medium>(medium: &mut M, lba: u64, count: u32, srb: Srb) -> Outcome
     requires within { lba + count ≤ length (M.seen medium.old).sectors }
     requires reserved { IsReserved (M.seen medium.old) (record { first = lba; count = count }) }
     requires long { length srb.data ≡ count * (M.seen medium.old).sector_size }
@@ -90,8 +90,16 @@ fn write<M: Medium>(medium: &mut M, lba: u32, count: u16, srb: Srb) -> Outcome
     }
 }
 
+/// The number of the last sector as READ CAPACITY(10) tells it: FFFFFFFFh where it is that or more.
+pub(crate) fn last_told(sectors: u64) -> u32
+    requires { 1 ≤ sectors }
+    ensures { result ≡ min (sectors - 1) (2 ^ 32 - 1) }
+{
+    (sectors - 1).min(0xFFFF_FFFF) as u32
+}
+
 /// Tells the number of the last sector and the bytes of a sector in the SRB's data.
-fn tell_capacity(last: u32, sector_size: u32, srb: Srb) -> Outcome
+pub(crate) fn tell_capacity(last: u32, sector_size: u32, srb: Srb) -> Outcome
     requires long { length srb.data ≡ 8 }
     requires buffers { length srb.for_label ≡ length srb.data }
     ensures { let bytes = big_bytes 4 last ++ big_bytes 4 sector_size in result ≡ Outcome.Moved (emptied bytes srb) bytes }
@@ -105,12 +113,50 @@ fn tell_capacity(last: u32, sector_size: u32, srb: Srb) -> Outcome
     })
 }
 
-fn extent(lba: u32, count: u16) -> Extent
+/// Bytes put over others, cut where these end; what stands behind them becomes 0.
+fn put_cut(bytes: &mut [u8], told: &[u8])
+    ensures { bytes.new ≡ take (length bytes.old) (told.now ++ replicate (length bytes.old) 0) }
+{
+    let count = bytes.len().min(told.len());
+    bytes.fill(0);
+    bytes[..count].copy_from_slice(&told[..count]);
+}
+
+/// What READ CAPACITY(16) tells first: the number of the last sector, and the bytes of a sector.
+fn long_capacity(last: u64, sector_size: u32) -> [u8; 12]
+    ensures { result ≡ big_bytes 8 last ++ big_bytes 4 sector_size }
+{
+    let mut told = [0; 12];
+    BigEndian::write_u64(&mut told, last);
+    BigEndian::write_u32(&mut told[8..], sector_size);
+    told
+}
+
+/// Those bytes over others, cut where these end; what stands behind them becomes 0.
+fn put_over(told: &[u8], place: Bytes) -> Bytes
+    ensures { result ≡ take (length place) (told.now ++ replicate (length place) 0) }
+{
+    let mut bytes = place.into_vec();
+    put_cut(bytes.as_mut_slice(), told);
+    Bytes::new(bytes)
+}
+
+/// Tells the same in the form of READ CAPACITY(16), as far as the SRB's data have room.
+fn tell_long_capacity(last: u64, sector_size: u32, srb: Srb) -> Outcome
+    requires { length srb.for_label ≡ length srb.data }
+    ensures { let bytes = take (length srb.data) (big_bytes 8 last ++ big_bytes 4 sector_size ++ replicate (length srb.data) 0) in result ≡ Outcome.Moved (emptied bytes srb) bytes }
+{
+    let told = long_capacity(last, sector_size);
+    let data = put_over(&told, srb.data);
+    moved(Srb { data, ..srb })
+}
+
+fn extent(lba: u64, count: u32) -> Extent
     ensures { result ≡ record { first = lba; count = count } }
 {
     Extent {
-        first: u64::from(lba),
-        count: u64::from(count),
+        first: lba,
+        count: count as u64,
     }
 }
 
@@ -133,16 +179,22 @@ fn perform<M: Medium>(medium: &mut M, command: Cdb, srb: Srb) -> Outcome
     requires buffers { length srb.for_label ≡ length srb.data }
     requires countable { (M.seen medium.old).failures < 2 ^ 120 }
     requires some { 1 ≤ length (M.seen medium.old).sectors }
-    requires few { length (M.seen medium.old).sectors < 2 ^ 32 }
     ensures { (write_protected : Bool) → Passes (sizes_of (M.seen medium.old) write_protected) srb command → Ends (M.seen medium.old) write_protected srb result (M.seen medium.new) }
 {
     match command {
-        Cdb::Read10 { lba, count, .. } => read(medium, lba, count, srb),
-        Cdb::Write10 { lba, count, .. } => write(medium, lba, count, srb),
+        Cdb::Read10 { lba, count, .. } => read(medium, lba as u64, count as u32, srb),
+        Cdb::Write10 { lba, count, .. } => write(medium, lba as u64, count as u32, srb),
+        Cdb::Read16 { lba, count, .. } => read(medium, lba, count, srb),
+        Cdb::Write16 { lba, count, .. } => write(medium, lba, count, srb),
         Cdb::Sync10 { .. } => moved(srb),
+        Cdb::Sync16 { .. } => moved(srb),
         Cdb::ReadCapacity10 => {
+            let last = last_told(medium.sectors());
+            tell_capacity(last, medium.sector_size(), srb)
+        }
+        Cdb::ReadCapacity16 { .. } => {
             let last = medium.sectors() - 1;
-            tell_capacity(last as u32, medium.sector_size(), srb)
+            tell_long_capacity(last, medium.sector_size(), srb)
         }
     }
 }
@@ -153,7 +205,6 @@ pub(crate) fn carry_out<M: Medium>(medium: &mut M, write_protected: bool, srb: S
     requires buffers { length srb.for_label ≡ length srb.data }
     requires countable { (M.seen medium.old).failures < 2 ^ 120 }
     requires some { 1 ≤ length (M.seen medium.old).sectors }
-    requires few { length (M.seen medium.old).sectors < 2 ^ 32 }
     ensures { Ends (M.seen medium.old) write_protected srb result (M.seen medium.new) }
 {
     match check_on(medium, write_protected, &srb) {

@@ -6,6 +6,7 @@ ghost use Rattle.miniport.specs.Faults.{lba_of, blocks_of, flags_of, bytes_of, i
 
 use crate::completion::{DATA_PROTECT, ILLEGAL_REQUEST, failed_with, not_decoded, was_invalid};
 use cdb::{Cdb, decode};
+use sector::Extent;
 use srb::{Completion, Srb, SrbFlags, SrbFunction};
 
 /// What of a disk, but for its bad sectors, decides whether it carries a command out.
@@ -18,23 +19,26 @@ pub(crate) struct Sizes {
 }
 
 /// The first sector that a command names.
-pub(crate) fn first_sector(command: Cdb) -> u32
+fn first_sector(command: Cdb) -> u64
     ensures { result ≡ lba_of command }
 {
     match command {
-        Cdb::Read10 { lba, .. } | Cdb::Write10 { lba, .. } | Cdb::Sync10 { lba, .. } => lba,
-        Cdb::ReadCapacity10 => 0,
+        Cdb::Read10 { lba, .. } | Cdb::Write10 { lba, .. } | Cdb::Sync10 { lba, .. } => lba as u64,
+        Cdb::Read16 { lba, .. } | Cdb::Write16 { lba, .. } | Cdb::Sync16 { lba, .. } => lba,
+        Cdb::ReadCapacity10 | Cdb::ReadCapacity16 { .. } => 0,
     }
 }
 
 /// How many sectors a command names.
-pub(crate) fn sector_count(command: Cdb) -> u16
+fn sector_count(command: Cdb) -> u32
     ensures { result ≡ blocks_of command }
 {
     match command {
-        Cdb::Read10 { count, .. } | Cdb::Write10 { count, .. } => count,
-        Cdb::Sync10 { blocks, .. } => blocks,
-        Cdb::ReadCapacity10 => 0,
+        Cdb::Read10 { count, .. } | Cdb::Write10 { count, .. } => count as u32,
+        Cdb::Read16 { count, .. } | Cdb::Write16 { count, .. } => count,
+        Cdb::Sync10 { blocks, .. } => blocks as u32,
+        Cdb::Sync16 { blocks, .. } => blocks,
+        Cdb::ReadCapacity10 | Cdb::ReadCapacity16 { .. } => 0,
     }
 }
 
@@ -43,9 +47,10 @@ fn direction(command: Cdb) -> SrbFlags
     ensures { result.0 ≡ flags_of command }
 {
     match command {
-        Cdb::Read10 { .. } | Cdb::ReadCapacity10 => SrbFlags::DATA_IN,
-        Cdb::Write10 { .. } => SrbFlags::DATA_OUT,
-        Cdb::Sync10 { .. } => SrbFlags(0),
+        Cdb::Read10 { .. } | Cdb::Read16 { .. } => SrbFlags::DATA_IN,
+        Cdb::ReadCapacity10 | Cdb::ReadCapacity16 { .. } => SrbFlags::DATA_IN,
+        Cdb::Write10 { .. } | Cdb::Write16 { .. } => SrbFlags::DATA_OUT,
+        Cdb::Sync10 { .. } | Cdb::Sync16 { .. } => SrbFlags(0),
     }
 }
 
@@ -53,11 +58,13 @@ fn direction(command: Cdb) -> SrbFlags
 fn data_length(sector_size: u32, command: Cdb) -> u64
     ensures { result ≡ bytes_of sector_size command }
 {
+    let size = sector_size as u64;
     match command {
-        Cdb::Read10 { count, .. } | Cdb::Write10 { count, .. } => u64::from(count)
-            * u64::from(sector_size),
-        Cdb::Sync10 { .. } => 0,
+        Cdb::Read10 { count, .. } | Cdb::Write10 { count, .. } => count as u64 * size,
+        Cdb::Read16 { count, .. } | Cdb::Write16 { count, .. } => count as u64 * size,
+        Cdb::Sync10 { .. } | Cdb::Sync16 { .. } => 0,
         Cdb::ReadCapacity10 => 8,
+        Cdb::ReadCapacity16 { allocation } => allocation as u64,
     }
 }
 
@@ -66,8 +73,9 @@ fn is_protected(sizes: &Sizes, command: Cdb) -> bool
     ensures { result ≡ (is_write command && sizes.now.write_protected) }
 {
     match command {
-        Cdb::Write10 { .. } => sizes.write_protected,
+        Cdb::Write10 { .. } | Cdb::Write16 { .. } => sizes.write_protected,
         Cdb::Read10 { .. } | Cdb::Sync10 { .. } | Cdb::ReadCapacity10 => false,
+        Cdb::Read16 { .. } | Cdb::Sync16 { .. } | Cdb::ReadCapacity16 { .. } => false,
     }
 }
 
@@ -83,8 +91,11 @@ fn is_fitting(sizes: &Sizes, srb: &Srb, command: Cdb) -> bool
 fn check_command(sizes: &Sizes, srb: &Srb, command: Cdb) -> Result<(), Completion>
     ensures { MatchResult result (λ done. Fits sizes.now srb.now command) (IsMisfit sizes.now srb.now command) }
 {
-    let end = u64::from(first_sector(command)) + u64::from(sector_count(command));
-    if end > sizes.sectors {
+    let named = Extent {
+        first: first_sector(command),
+        count: sector_count(command) as u64,
+    };
+    if !named.is_within(sizes.sectors) {
         return Err(failed_with(ILLEGAL_REQUEST, 0x21));
     }
     if !is_fitting(sizes, srb, command) {

@@ -35,8 +35,8 @@ impl<M: Medium> Model for MemAdapter<M> {
 }
 
 impl<M: Medium> MemAdapter<M> {
-    /// An adapter with no piece on any of its tags, over a medium of 512 or 4096 bytes a sector and 1 to 2^32 - 1 sectors.
-    /// `max_transfer` is in sectors, from 1 to 65,535; `depth` is the number of tags, from 1 to 32.
+    /// An adapter with no piece on any of its tags, over a medium of 512 or 4096 bytes a sector and 1 to 2^40 sectors.
+    /// `max_transfer` is in sectors, from 1 to 65,536; `depth` is the number of tags, from 1 to 32.
     pub fn new(
         alloc: Global,
         medium: M,
@@ -46,9 +46,9 @@ impl<M: Medium> MemAdapter<M> {
     ) -> Result<MemAdapter<M>, NoMemory>
         requires sector_size { ((M.seen medium).sector_size ≡ 512) ⊎ ((M.seen medium).sector_size ≡ 4096) }
         requires some { 1 ≤ length (M.seen medium).sectors }
-        requires few { length (M.seen medium).sectors < 2 ^ 32 }
+        requires few { length (M.seen medium).sectors ≤ 2 ^ 40 }
         requires transfer { 1 ≤ max_transfer }
-        requires short { max_transfer ≤ 65535 }
+        requires short { max_transfer ≤ 2 ^ 16 }
         requires deep { 1 ≤ depth }
         requires shallow { depth ≤ 32 }
         requires unfailed { (M.seen medium).failures ≡ 0 }
@@ -180,7 +180,6 @@ fn carry_on<M: Medium>(
     requires buffers { length on_tag.srb.for_label ≡ length on_tag.srb.data }
     requires countable { (M.seen medium.old).failures < 2 ^ 120 }
     requires some { 1 ≤ length (M.seen medium.old).sectors }
-    requires few { length (M.seen medium.old).sectors < 2 ^ 32 }
     requires below { tag < length table.old.slots }
     requires place { length table.old.labels < 64 }
     requires counted { table.old.failures < 2 ^ 127 }

@@ -4,8 +4,9 @@ ghost use Rattle.std.specs.Prelude.{◌≡◌, ◌≤◌, ◌<◌, ◌^◌, ◌+
 ghost use Rattle.miniport.specs.Memory.{MemView};
 
 use super::*;
+use crate::carrying::{Outcome, last_told, tell_capacity};
 use arrayvec::ArrayVec;
-use disk::{Medium, VecDisk};
+use disk::{Medium, NoMemory, VecDisk};
 use ntstatus::Sense;
 use sector::{Bytes, Extent};
 use srb::{CommandBlock, Completion, DeviceLabel, Srb, SrbFlags, SrbFunction};
@@ -20,6 +21,9 @@ const WRITE: [u8; 10] = [0x2A, 0, 0, 0, 0, 0, 0, 0, 1, 0];
 const SYNC: [u8; 10] = [0x35, 0, 0, 0, 0, 0, 0, 0, 0, 0];
 
 const CAPACITY: [u8; 10] = [0x25, 0, 0, 0, 0, 0, 0, 0, 0, 0];
+
+/// READ CAPACITY(16) with room for 32 bytes.
+const LONG_CAPACITY: [u8; 16] = [0x9E, 0x10, 0, 0, 0, 0, 0, 0, 0, 0, 0, 0, 0, 32, 0, 0];
 
 const GOOD: Completion = Completion {
     srb_status: 0x01,
@@ -196,6 +200,15 @@ fn fails_by_the_first_row_that_fits(rt: HostRuntime) -> Result<(), Fail> {
     let past_end = [0x28, 0, 0, 0, 0, 3, 0, 0, 2, 0];
     let bad_sync = [0x35, 0, 0xFF, 0xFF, 0xFF, 0xFF, 0, 0xFF, 0xFF, 0];
     let protect_field = [0x28, 0x20, 0, 0, 8, 0, 0, 0, 1, 0];
+    let mut other_service = LONG_CAPACITY;
+    other_service[1] = 0x12;
+    // two sectors from FFFFFFFFFFFFFFFFh on, and one from 2^32 on
+    let last_of_all = [
+        0x88, 0, 0xFF, 0xFF, 0xFF, 0xFF, 0xFF, 0xFF, 0xFF, 0xFF, 0, 0, 0, 2, 0, 0,
+    ];
+    let far_write = [0x8A, 0, 0, 0, 0, 1, 0, 0, 0, 0, 0, 0, 0, 1, 0, 0];
+    let bad_read = [0x88, 0, 0, 0, 0, 0, 0, 0, 0, 2, 0, 0, 0, 2, 0, 0];
+    let bad_write = [0x8A, 8, 0, 0, 0, 0, 0, 0, 0, 3, 0, 0, 0, 1, 0, 0];
     completes(
         &rt,
         rt.alloc(),
@@ -214,6 +227,13 @@ fn fails_by_the_first_row_that_fits(rt: HostRuntime) -> Result<(), Fail> {
             ((SCSI, 0x40, &READ, 511), INVALID),
             ((SCSI, 0x40, &SYNC, 0), INVALID),
             ((SCSI, 0x40, &CAPACITY, 9), INVALID),
+            ((SCSI, 0x40, &LONG_CAPACITY, 8), INVALID),
+            ((SCSI, 0x40, &LONG_CAPACITY[..10], 32), checked(5, 0x24)),
+            ((SCSI, 0x40, &other_service, 32), checked(5, 0x24)),
+            ((SCSI, 0x40, &last_of_all, 1024), checked(5, 0x21)),
+            ((SCSI, 0x80, &far_write, 512), checked(5, 0x21)),
+            ((SCSI, 0x40, &bad_read, 1024), checked(3, 0x11)),
+            ((SCSI, 0x80, &bad_write, 512), checked(3, 0x0C)),
             (
                 (SCSI, 0x40, &[0x28, 0, 0, 0, 0, 2, 0, 0, 2, 0], 1024),
                 checked(3, 0x11),
@@ -247,11 +267,17 @@ fn fails_by_the_first_row_that_fits(rt: HostRuntime) -> Result<(), Fail> {
 fn all_else_is_carried_out(rt: HostRuntime) -> Result<(), Fail> {
     let none_at_end = [0x28, 0, 0, 0, 0, 4, 0, 0, 0, 0];
     let through = [0x2A, 8, 0, 0, 0, 0, 0, 0, 3, 0, 7];
+    let long_through = [0x8A, 8, 0, 0, 0, 0, 0, 0, 0, 0, 0, 0, 0, 3, 0, 0];
+    let long_read = [0x88, 0, 0, 0, 0, 0, 0, 0, 0, 0, 0, 0, 0, 3, 0, 0];
+    let long_sync = [0x91, 0, 0, 0, 0, 0, 0, 0, 0, 0, 0, 0, 0, 0, 0, 0];
     completes(
         &rt,
         rt.alloc(),
         false,
-        &[((SCSI, 0x80, &through, 1536), GOOD)],
+        &[
+            ((SCSI, 0x80, &through, 1536), GOOD),
+            ((SCSI, 0x80, &long_through, 1536), GOOD),
+        ],
     )?;
     completes(
         &rt,
@@ -262,32 +288,77 @@ fn all_else_is_carried_out(rt: HostRuntime) -> Result<(), Fail> {
             ((SCSI, 0x40, &none_at_end, 0), GOOD),
             ((SCSI, 0x00, &SYNC, 0), GOOD),
             ((SCSI, 0x40, &CAPACITY, 8), GOOD),
+            ((SCSI, 0x40, &long_read, 1536), GOOD),
+            ((SCSI, 0x00, &long_sync, 0), GOOD),
+            ((SCSI, 0x40, &LONG_CAPACITY, 32), GOOD),
         ],
     )
 }
 
-// The worked data of READ CAPACITY(10) for 4,096 sectors of 512 bytes.
-#[test]
-fn tells_its_capacity(rt: HostRuntime) -> Result<(), Fail> {
-    let alloc = rt.alloc();
+/// The data that a command brings from a disk of 4,096 sectors of 512 bytes.
+fn brought(rt: &impl Abort, alloc: Global, block: &[u8], count: usize) -> Result<Srb, Fail>
+    requires { count < 2 ^ 40 }
+{
     let disk = VecDisk::new(alloc, 512, 4096, vec![in alloc]?)
         .ok()
         .ok_or("no memory")?;
-    let mut adapter = MemAdapter::new(alloc, disk, 64, 2, true)
+    let mut adapter = MemAdapter::new(alloc, disk, 65_536, 2, true)
         .ok()
         .ok_or("no memory")?;
     assert_eq!(rt; adapter.sector_size(), 512);
     assert_eq!(rt; adapter.sectors(), 4096);
-    assert_eq!(rt; adapter.max_transfer(), 64);
+    assert_eq!(rt; adapter.max_transfer(), 65_536);
     assert_eq!(rt; adapter.depth(), 2);
-    let srb = srb(alloc, SrbFunction::ExecuteScsi, 0x40, &CAPACITY, 8, 0)?;
-    put(&rt, &mut adapter, 1, 1, srb)?;
-    act(&rt, &mut adapter, 1);
+    let srb = srb(alloc, SrbFunction::ExecuteScsi, 0x40, block, count, 0xA5)?;
+    put(rt, &mut adapter, 1, 1, srb)?;
+    act(rt, &mut adapter, 1);
     let (srb, completion) = finish(&mut adapter, 1)?;
     assert_eq!(rt; completion, GOOD);
+    Ok(srb)
+}
+
+// The worked data of READ CAPACITY for 4,096 sectors of 512 bytes; those of the sixteen-byte form are cut at the
+// allocation length.
+#[test]
+fn tells_its_capacity(rt: HostRuntime) -> Result<(), Fail> {
+    let short = brought(&rt, rt.alloc(), &CAPACITY, 8)?;
+    assert_eq!(rt;
+        short.data.as_slice(),
+        [0, 0, 0x0F, 0xFF, 0, 0, 2, 0].as_slice()
+    );
+    let mut told = [0; 32];
+    told[6] = 0x0F;
+    told[7] = 0xFF;
+    told[10] = 2;
+    let long = brought(&rt, rt.alloc(), &LONG_CAPACITY, 32)?;
+    assert_eq!(rt; long.data.as_slice(), told.as_slice());
+    let mut cut = LONG_CAPACITY;
+    cut[13] = 7;
+    let long = brought(&rt, rt.alloc(), &cut, 7)?;
+    assert_eq!(rt; long.data.as_slice(), &told[..7]);
+    Ok(())
+}
+
+// Ten bytes have no room for the last sector of a disk of 2^32 sectors or more.
+#[test]
+fn tells_the_highest_number(rt: HostRuntime) -> Result<(), Fail> {
+    for (sectors, last) in [
+        (1, 0),
+        ((1 << 32) - 1, 0xFFFF_FFFE),
+        (1 << 32, 0xFFFF_FFFF),
+        ((1 << 32) + 1, 0xFFFF_FFFF),
+        (1 << 40, 0xFFFF_FFFF),
+    ] {
+        assert_eq!(rt; last_told(sectors), last, "{sectors}");
+    }
+    let srb = srb(rt.alloc(), SrbFunction::ExecuteScsi, 0x40, &CAPACITY, 8, 0)?;
+    assert!(rt; srb.data.len() == 8);
+    let Outcome::Moved { srb, .. } = tell_capacity(last_told(1 << 40), 512, srb) else {
+        return Err("a failure".into());
+    };
     assert_eq!(rt;
         srb.data.as_slice(),
-        [0, 0, 0x0F, 0xFF, 0, 0, 2, 0].as_slice()
+        [0xFF, 0xFF, 0xFF, 0xFF, 0, 0, 2, 0].as_slice()
     );
     Ok(())
 }
