@@ -16,7 +16,7 @@ use Rattle.srb.specs.declared.Class.TheVariants.{Good, Busy, Bad}
 use Rattle.srb.specs.Fate.{class_of}
 use Rattle.machine.specs.declared.ClientRequest.{ClientRequest}
 use Rattle.machine.specs.declared.Label.{Label}
-use Rattle.machine.specs.declared.Label.TheVariants.{Call, Device, Answer, Cancel, Pause, Resume, Remove, Removed}
+use Rattle.machine.specs.declared.Label.TheVariants.{Call, Device, Answer, Cancel, Pause, Resume, Remove, Surprise, Removed}
 use Rattle.machine.specs.Rules.{Rules, place_count}
 use Rattle.machine.specs.State.{Mark, Untouched, Out, Done, Failed, Back, OpenRequest, Piece, State, IsSame, opening}
 use Rattle.machine.specs.Calling.{Opens, Admits, refusal, new_request}
@@ -110,6 +110,13 @@ module _ (rules : Rules) where
   pub HaveEarned-Answers : (s : State) (number : ℕ) (status : NtStatus) (bytes : List ℕ) (s' : State) → HaveEarned s → Answers rules s number status bytes s' → HaveEarned s'
   HaveEarned-Answers s number status bytes s' k h = HaveEarned-same s' _ h.after (All-tail HasEarned h.request h.others (All-permutation HasEarned _ _ h.is_open k))
 
+  pub HaveEarned-Drains : (s s' : State) → HaveEarned s → Drains rules s s' → HaveEarned s'
+  HaveEarned-Drains s s' k h = HaveEarned-same s' _ h (by_pause s.paused)
+    where
+      by_pause : (paused : Bool) → All HasEarned (if paused then s.requests else held_back rules.window s.requests)
+      by_pause true = k
+      by_pause false = held_earned rules.window s.requests k
+
   HaveEarned-FreeStep : (s : State) (label : Label) (s' : State) → HaveEarned s → FreeStep rules s label s' → HaveEarned s'
   HaveEarned-FreeStep s (Call number q) s' k h = HaveEarned-Admits s number q (refusal rules s q) s' k h.admits
   HaveEarned-FreeStep s (Device label) s' k h = HaveEarned-DeviceStep s label s' k h
@@ -120,6 +127,7 @@ module _ (rules : Rules) where
   HaveEarned-FreeStep s Pause s' k h = HaveEarned-same s' _ h.after (held_earned rules.window s.requests k)
   HaveEarned-FreeStep s Resume s' k h = HaveEarned-same s' _ h.after (timely_earned s.requests k)
   HaveEarned-FreeStep s Remove s' k h = HaveEarned-same s' _ h.after k
+  HaveEarned-FreeStep s Surprise s' k h = HaveEarned-Drains s s' k h.drains
   HaveEarned-FreeStep s Removed s' k h = HaveEarned-same s' _ h.after k
 
   HaveEarned-OwingStep : (s : State) (label : Label) (s' : State) → HaveEarned s → OwingStep s label s' → HaveEarned s'
@@ -133,13 +141,6 @@ module _ (rules : Rules) where
   pub HaveEarned-Run : (s : State) (labels : List Label) (s' : State) → HaveEarned s → Run rules s labels s' → HaveEarned s'
   HaveEarned-Run s [] s' k h = HaveEarned-same s' s (IsSame-sym s s' h) k
   HaveEarned-Run s (label ∷ labels) s' k (mid, step, rest) = HaveEarned-Run mid labels s' (HaveEarned-Step s label mid k step) rest
-
-  pub HaveEarned-Drains : (s s' : State) → HaveEarned s → Drains rules s s' → HaveEarned s'
-  HaveEarned-Drains s s' k h = HaveEarned-same s' _ h (by_pause s.paused)
-    where
-      by_pause : (paused : Bool) → All HasEarned (if paused then s.requests else held_back rules.window s.requests)
-      by_pause true = k
-      by_pause false = held_earned rules.window s.requests k
 
 pub HaveEarned-opening : (arrays : List (List (List ℕ))) → HaveEarned (opening arrays)
 HaveEarned-opening arrays = All-nil HasEarned

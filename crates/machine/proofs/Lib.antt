@@ -1,3 +1,4 @@
+pub mod Forms
 pub mod Permuting
 pub mod Same
 pub mod Numbers

@@ -1,6 +1,6 @@
 -- Numbers rise, and no two open requests share one.
-use Rattle.std.proofs.Common.{◌≡◌, ◌<◌, ◌≤◌, inl, inr, ℕ, ◌+◌, false, List, [], ◌∷◌, Option, Some, None, refl, sym, subst, arith, map}
-use Rattle.std.specs.Prelude.{IsPermutation, All, eqb}
+use Rattle.std.proofs.Common.{◌≡◌, ◌<◌, ◌≤◌, inl, inr, ℕ, ◌+◌, Bool, true, false, List, [], ◌∷◌, Option, Some, None, refl, sym, subst, arith, map}
+use Rattle.std.specs.Prelude.{IsPermutation, All, eqb, if◌then◌else◌}
 use Rattle.std.specs.List.{IsDistinct, AllByRecursion}
 use Rattle.std.proofs.lemmas.Bool.Decides.{nat_tests}
 use Rattle.std.proofs.lemmas.Map.Keys.{IsDistinct-IsPermutation, IsDistinct-tail, IsDistinct-cons}
@@ -11,12 +11,12 @@ use Rattle.srb.specs.declared.DeviceLabel.{DeviceLabel}
 use Rattle.srb.specs.declared.DeviceLabel.TheVariants.{Start, Act, Fault, Return}
 use Rattle.machine.specs.declared.ClientRequest.{ClientRequest}
 use Rattle.machine.specs.declared.Label.{Label}
-use Rattle.machine.specs.declared.Label.TheVariants.{Call, Device, Answer, Cancel, Pause, Resume, Remove, Removed}
+use Rattle.machine.specs.declared.Label.TheVariants.{Call, Device, Answer, Cancel, Pause, Resume, Remove, Surprise, Removed}
 use Rattle.machine.specs.Rules.{Rules}
 use Rattle.machine.specs.State.{OpenRequest, Piece, State, IsSame, opening}
 use Rattle.machine.specs.Calling.{refusal, Admits}
 use Rattle.machine.specs.Sending.{new_piece}
-use Rattle.machine.specs.Holding.{held_back, beyond, as_timely}
+use Rattle.machine.specs.Holding.{held_back, beyond, as_timely, Drains}
 use Rattle.machine.specs.Step.{DeviceStep, FreeStep, OwingStep, Step, Run}
 use Rattle.machine.proofs.Same.{IsSame-sym}
 use Rattle.machine.specs.Numbers.{request_number, piece_number, IsGiven, IsSent, AreDistinct}
@@ -42,6 +42,7 @@ FreeStep-number rules s (Cancel number) s' h = rw h.after.next_request (omega ar
 FreeStep-number rules s Pause s' h = rw h.after.next_request (omega arith)
 FreeStep-number rules s Resume s' h = rw h.after.next_request (omega arith)
 FreeStep-number rules s Remove s' h = rw h.after.next_request (omega arith)
+FreeStep-number rules s Surprise s' h = rw h.drains.next_request (omega arith)
 FreeStep-number rules s Removed s' h = rw h.after.next_request (omega arith)
 
 OwingStep-number : (s : State) (label : Label) (s' : State) → OwingStep s label s' → s.next_request ≤ s'.next_request
@@ -214,6 +215,14 @@ AreDistinct-DeviceStep rules s (Fault piece) s' d h = AreDistinct-same s' _ h.af
 AreDistinct-DeviceStep rules s (Return piece class) s' d h =
     AreDistinct-same s' _ h.after (back (record s { requests = _ ∷ h.others }) (changed s d h.owner _ h.others refl h.is_open) h.piece h.other_pieces h.is_out)
 
+-- a layer's removal
+AreDistinct-Drains : (rules : Rules) (s s' : State) → AreDistinct s → Drains rules s s' → AreDistinct s'
+AreDistinct-Drains rules s s' d h = AreDistinct-same s' _ h (by_pause s.paused)
+  where
+    by_pause : (paused : Bool) → AreDistinct (record s { paused = false; removing = true; requests = if paused then s.requests else held_back rules.window s.requests })
+    by_pause true = same_numbers s _ refl refl refl refl d
+    by_pause false = same_numbers _ _ refl refl refl refl (paused s d rules.window)
+
 AreDistinct-FreeStep : (rules : Rules) (s : State) (label : Label) (s' : State) → AreDistinct s → FreeStep rules s label s' → AreDistinct s'
 AreDistinct-FreeStep rules s (Call number q) s' d h = AreDistinct-Admits rules s number q (refusal rules s q) s' (rw h.next_number (omega arith)) d h.admits
 AreDistinct-FreeStep rules s (Device label) s' d h = AreDistinct-DeviceStep rules s label s' d h
@@ -222,6 +231,7 @@ AreDistinct-FreeStep rules s (Cancel number) s' d h = AreDistinct-same s' _ h.af
 AreDistinct-FreeStep rules s Pause s' d h = AreDistinct-same s' _ h.after (same_numbers _ _ refl refl refl refl (paused s d rules.window))
 AreDistinct-FreeStep rules s Resume s' d h = AreDistinct-same s' _ h.after (same_numbers _ _ refl refl refl refl (each s d as_timely (λ o. refl)))
 AreDistinct-FreeStep rules s Remove s' d h = AreDistinct-same s' _ h.after (same_numbers s _ refl refl refl refl d)
+AreDistinct-FreeStep rules s Surprise s' d h = AreDistinct-Drains rules s s' d h.drains
 AreDistinct-FreeStep rules s Removed s' d h = AreDistinct-same s' _ h.after (same_numbers s _ refl refl refl refl d)
 
 AreDistinct-OwingStep : (s : State) (label : Label) (s' : State) → AreDistinct s → OwingStep s label s' → AreDistinct s'

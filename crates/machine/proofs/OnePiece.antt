@@ -14,7 +14,7 @@ use Rattle.srb.specs.declared.Class.TheVariants.{Good, Busy, Bad}
 use Rattle.srb.specs.Fate.{Fate, Acted, Faulted}
 use Rattle.machine.specs.declared.ClientRequest.{ClientRequest}
 use Rattle.machine.specs.declared.Label.{Label}
-use Rattle.machine.specs.declared.Label.TheVariants.{Call, Device, Answer, Cancel, Pause, Resume, Remove, Removed}
+use Rattle.machine.specs.declared.Label.TheVariants.{Call, Device, Answer, Cancel, Pause, Resume, Remove, Surprise, Removed}
 use Rattle.machine.specs.Rules.{Rules, place_count}
 use Rattle.machine.specs.State.{Mark, Untouched, Out, Done, Failed, Back, OpenRequest, Piece, State, IsSame, opening}
 use Rattle.machine.specs.Calling.{Opens, Admits, refusal, new_request}
@@ -156,6 +156,13 @@ module _ (rules : Rules) (one : IsTrue rules.one_piece) where
   AreOnePiece-Admits s number q None s' d placed k h = AreOnePiece-Opens s number q s' d placed k h
   AreOnePiece-Admits s number q (Some status) s' d placed k h = AreOnePiece-same s' _ h.after (same_one_piece s _ refl refl k)
 
+  pub AreOnePiece-Drains : (s s' : State) → AreOnePiece s → Drains rules s s' → AreOnePiece s'
+  AreOnePiece-Drains s s' k h = AreOnePiece-same s' _ h (by_pause s.paused)
+    where
+      by_pause : (paused : Bool) → AreOnePiece (record s { paused = false; removing = true; requests = if paused then s.requests else held_back rules.window s.requests })
+      by_pause true = same_one_piece s _ refl refl k
+      by_pause false = same_one_piece _ _ refl refl (held s k rules.window)
+
   AreOnePiece-FreeStep : (s : State) (label : Label) (s' : State) → AreDistinct s → ArePlaced s → AreOnePiece s → FreeStep rules s label s' → AreOnePiece s'
   AreOnePiece-FreeStep s (Call number q) s' d placed k h = AreOnePiece-Admits s number q (refusal rules s q) s' d placed k h.admits
   AreOnePiece-FreeStep s (Device label) s' d placed k h = AreOnePiece-DeviceStep s label s' d placed k h
@@ -165,6 +172,7 @@ module _ (rules : Rules) (one : IsTrue rules.one_piece) where
   AreOnePiece-FreeStep s Pause s' d placed k h = AreOnePiece-same s' _ h.after (same_one_piece _ _ refl refl (held s k rules.window))
   AreOnePiece-FreeStep s Resume s' d placed k h = AreOnePiece-same s' _ h.after (same_one_piece _ _ refl refl (each s k as_timely (λ o. refl) (λ o. refl)))
   AreOnePiece-FreeStep s Remove s' d placed k h = AreOnePiece-same s' _ h.after (same_one_piece s _ refl refl k)
+  AreOnePiece-FreeStep s Surprise s' d placed k h = AreOnePiece-Drains s s' k h.drains
   AreOnePiece-FreeStep s Removed s' d placed k h = AreOnePiece-same s' _ h.after (same_one_piece s _ refl refl k)
 
   AreOnePiece-OwingStep : (s : State) (label : Label) (s' : State) → AreOnePiece s → OwingStep s label s' → AreOnePiece s'
@@ -179,10 +187,3 @@ module _ (rules : Rules) (one : IsTrue rules.one_piece) where
   AreOnePiece-Run s [] s' d placed k h = AreOnePiece-same s' s (IsSame-sym s s' h) k
   AreOnePiece-Run s (label ∷ labels) s' d placed k (mid, step, rest) =
       AreOnePiece-Run mid labels s' (AreDistinct-Step rules s label mid d step) (ArePlaced-Step rules s label mid d placed step) (AreOnePiece-Step s label mid d placed k step) rest
-
-  pub AreOnePiece-Drains : (s s' : State) → AreOnePiece s → Drains rules s s' → AreOnePiece s'
-  AreOnePiece-Drains s s' k h = AreOnePiece-same s' _ h (by_pause s.paused)
-    where
-      by_pause : (paused : Bool) → AreOnePiece (record s { paused = false; removing = true; requests = if paused then s.requests else held_back rules.window s.requests })
-      by_pause true = same_one_piece s _ refl refl k
-      by_pause false = same_one_piece _ _ refl refl (held s k rules.window)

@@ -19,7 +19,7 @@ use Rattle.srb.specs.declared.Class.TheVariants.{Good, Busy, Bad}
 use Rattle.srb.specs.Fate.{Fate, Acted, Faulted}
 use Rattle.machine.specs.declared.ClientRequest.{ClientRequest}
 use Rattle.machine.specs.declared.Label.{Label}
-use Rattle.machine.specs.declared.Label.TheVariants.{Call, Device, Answer, Cancel, Pause, Resume, Remove, Removed}
+use Rattle.machine.specs.declared.Label.TheVariants.{Call, Device, Answer, Cancel, Pause, Resume, Remove, Surprise, Removed}
 use Rattle.machine.specs.Rules.{Rules, place_count}
 use Rattle.machine.specs.State.{Mark, Untouched, Out, Done, Failed, Back, OpenRequest, Piece, State, IsSame, opening}
 use Rattle.machine.specs.Calling.{Opens, Admits, refusal}
@@ -391,6 +391,14 @@ module _ (rules : Rules) where
   ArePlaced-Answers s number status bytes s' k h =
       ArePlaced-same s' _ h.after (closed s k h.request h.others (All-weaker (HasEnded rules s h.request) (λ m. is_out m ≡ false) (ended_not_out rules s h.request) h.request.marks h.ended) h.is_open)
 
+  -- a layer's removal
+  pub ArePlaced-Drains : (s s' : State) → ArePlaced s → Drains rules s s' → ArePlaced s'
+  ArePlaced-Drains s s' k h = ArePlaced-same s' _ h (by_pause s.paused)
+    where
+      by_pause : (paused : Bool) → ArePlaced (record s { paused = false; removing = true; requests = if paused then s.requests else held_back rules.window s.requests })
+      by_pause true = same_placed s _ refl refl k
+      by_pause false = same_placed _ _ refl refl (held s k rules.window)
+
   pub ArePlaced-FreeStep : (s : State) (label : Label) (s' : State) → AreDistinct s → ArePlaced s → FreeStep rules s label s' → ArePlaced s'
   ArePlaced-FreeStep s (Call number q) s' d k h = ArePlaced-Admits s number q (refusal rules s q) s' d k h.admits
   ArePlaced-FreeStep s (Device label) s' d k h = ArePlaced-DeviceStep s label s' d k h
@@ -399,6 +407,7 @@ module _ (rules : Rules) where
   ArePlaced-FreeStep s Pause s' d k h = ArePlaced-same s' _ h.after (same_placed _ _ refl refl (held s k rules.window))
   ArePlaced-FreeStep s Resume s' d k h = ArePlaced-same s' _ h.after (same_placed _ _ refl refl (each s k as_timely (λ o. refl) (λ o. refl)))
   ArePlaced-FreeStep s Remove s' d k h = ArePlaced-same s' _ h.after (same_placed s _ refl refl k)
+  ArePlaced-FreeStep s Surprise s' d k h = ArePlaced-Drains s s' k h.drains
   ArePlaced-FreeStep s Removed s' d k h = ArePlaced-same s' _ h.after (same_placed s _ refl refl k)
 
   ArePlaced-OwingStep : (s : State) (label : Label) (s' : State) → ArePlaced s → OwingStep s label s' → ArePlaced s'
@@ -412,11 +421,3 @@ module _ (rules : Rules) where
   pub ArePlaced-Run : (s : State) (labels : List Label) (s' : State) → AreDistinct s → ArePlaced s → Run rules s labels s' → ArePlaced s'
   ArePlaced-Run s [] s' d k h = ArePlaced-same s' s (IsSame-sym s s' h) k
   ArePlaced-Run s (label ∷ labels) s' d k (mid, step, rest) = ArePlaced-Run mid labels s' (AreDistinct-Step rules s label mid d step) (ArePlaced-Step s label mid d k step) rest
-
-  -- a layer's removal
-  pub ArePlaced-Drains : (s s' : State) → ArePlaced s → Drains rules s s' → ArePlaced s'
-  ArePlaced-Drains s s' k h = ArePlaced-same s' _ h (by_pause s.paused)
-    where
-      by_pause : (paused : Bool) → ArePlaced (record s { paused = false; removing = true; requests = if paused then s.requests else held_back rules.window s.requests })
-      by_pause true = same_placed s _ refl refl k
-      by_pause false = same_placed _ _ refl refl (held s k rules.window)

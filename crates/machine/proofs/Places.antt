@@ -15,7 +15,7 @@ use Rattle.machine.specs.declared.Kind.{Kind}
 use Rattle.machine.specs.declared.Kind.TheVariants.{Read, Write, Flush}
 use Rattle.machine.specs.declared.ClientRequest.{ClientRequest}
 use Rattle.machine.specs.declared.Label.{Label}
-use Rattle.machine.specs.declared.Label.TheVariants.{Call, Device, Answer, Cancel, Pause, Resume, Remove, Removed}
+use Rattle.machine.specs.declared.Label.TheVariants.{Call, Device, Answer, Cancel, Pause, Resume, Remove, Surprise, Removed}
 use Rattle.machine.specs.Rules.{Rules, is_in_bounds, place_count, is_transfer}
 use Rattle.machine.specs.State.{Untouched, OpenRequest, State, IsSame}
 use Rattle.machine.specs.Calling.{refusal, is_full, Admits}
@@ -100,6 +100,11 @@ module _ (rules : Rules) (some : 0 < rules.sector_size) where
   HavePlaces-FreeStep s Pause s' places h = HavePlaces-same s' _ h.after (held_places rules.window s.requests places)
   HavePlaces-FreeStep s Resume s' places h = HavePlaces-same s' _ h.after (All-map HasPlaces as_timely s.requests places)
   HavePlaces-FreeStep s Remove s' places h = HavePlaces-same s' _ h.after places
+  HavePlaces-FreeStep s Surprise s' places h = HavePlaces-same s' _ h.drains (by_pause s.paused)
+    where
+      by_pause : (paused : Bool) → All HasPlaces (if paused then s.requests else held_back rules.window s.requests)
+      by_pause true = places
+      by_pause false = held_places rules.window s.requests places
   HavePlaces-FreeStep s Removed s' places h = HavePlaces-same s' _ h.after places
 
   HavePlaces-OwingStep : (s : State) (label : Label) (s' : State) → HavePlaces s → OwingStep s label s' → HavePlaces s'

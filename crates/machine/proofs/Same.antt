@@ -1,13 +1,13 @@
 -- States that say the same move alike.
-use Rattle.std.proofs.Common.{◌≡◌, inl, inr, ℕ, List, [], ◌∷◌, ◌++◌, Option, Some, None, refl, sym, ◌∙◌, ap, subst, arith, map, length, cond}
-use Rattle.std.specs.Prelude.{IsPermutation, Any, Contains, count_by, nat_le, ◌||◌}
+use Rattle.std.proofs.Common.{◌≡◌, inl, inr, ℕ, Bool, true, false, List, [], ◌∷◌, ◌++◌, Option, Some, None, refl, sym, ◌∙◌, ap, subst, arith, map, length, cond}
+use Rattle.std.specs.Prelude.{IsPermutation, Any, Contains, count_by, nat_le, ◌||◌, if◌then◌else◌}
 use Rattle.std.proofs.lemmas.List.Sorted.{IsPermutation-refl, IsPermutation-sym, IsPermutation-trans, IsPermutation-cons, IsPermutation-map, length_permutation, All-permutation, Contains-permutation, sum_by-IsPermutation}
 use Rattle.srb.specs.declared.DeviceLabel.{DeviceLabel}
 use Rattle.srb.specs.declared.DeviceLabel.TheVariants.{Start, Act, Fault, Return}
 use Rattle.ntstatus.specs.declared.NtStatus.{NtStatus}
 use Rattle.machine.specs.declared.ClientRequest.{ClientRequest}
 use Rattle.machine.specs.declared.Label.{Label}
-use Rattle.machine.specs.declared.Label.TheVariants.{Call, Device, Answer, Cancel, Pause, Resume, Remove, Removed}
+use Rattle.machine.specs.declared.Label.TheVariants.{Call, Device, Answer, Cancel, Pause, Resume, Remove, Surprise, Removed}
 use Rattle.machine.specs.Rules.{Rules}
 use Rattle.machine.specs.State.{OpenRequest, Piece, State, IsSame}
 use Rattle.machine.specs.Calling.{refusal, Opens, Refuses, Admits, Calls, AnswersRefused, new_request}
@@ -249,6 +249,14 @@ module _ (rules : Rules) (s s' t' : State) (rs : List OpenRequest) (ps : List Pi
   }
   FreeStep-along Resume h = record { is_paused = h.is_paused; after = carry s' t' _ (map as_timely rs) ps same h.after (IsPermutation-map as_timely _ _ p) q }
   FreeStep-along Remove h = record { is_paused = h.is_paused; after = carry s' t' _ rs ps same h.after p q }
+  FreeStep-along Surprise h = record {
+    not_removing = h.not_removing;
+    drains = carry s' t' _ (if s.paused then rs else held_back rules.window rs) ps same h.drains (by_pause s.paused) q;
+  }
+    where
+      by_pause : (paused : Bool) → IsPermutation (if paused then s.requests else held_back rules.window s.requests) (if paused then rs else held_back rules.window rs)
+      by_pause true = p
+      by_pause false = held_back-permutation rules.window _ _ p
   FreeStep-along Removed h = record {
     is_removing = h.is_removing;
     once = h.once;

@@ -57,6 +57,11 @@ Drains rules s s' = IsSame s' (record s {
   requests = if s.paused then s.requests else held_back rules.window s.requests;
 })
 
+-- a surprise removal, while not removing: a pause ends or, where there is none, holds back first; it is for good
+pub record Surprises (rules : Rules) (s s' : State) : Type 0 where
+  pub not_removing : IsFalse s.removing
+  pub drains : Drains rules s s'
+
 -- a removal has ended, once, when nothing is open
 pub record Ends (s s' : State) : Type 0 where
   pub is_removing : IsTrue s.removing

@@ -10,6 +10,8 @@ use Rattle.machine.specs.declared.ClientRequest.{ClientRequest}
 pub record Rules : Type 0 where
   -- bytes of a sector
   pub sector_size : ℕ
+  -- sectors of the disk
+  pub disk_sectors : ℕ
   -- the partitions, each an extent of the disk
   pub partitions : List Extent
   -- sectors of the longest request

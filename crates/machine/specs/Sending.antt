@@ -1,5 +1,5 @@
 -- Pieces: how they start, act, fault and come back.
-use Rattle.std.specs.Prelude.{◌≡◌, ◌≢◌, ◌<◌, ◌≤◌, ℕ, ◌+◌, ◌*◌, Bool, true, false, not, List, [], ◌∷◌, map, length, replicate, get_or, slice_set, slice_range, IsTrue, IsFalse, All, Any, Contains, unwrap_or, IsPermutation, if◌then◌else◌}
+use Rattle.std.specs.Prelude.{◌≡◌, ◌≢◌, ◌<◌, ◌≤◌, ℕ, ◌+◌, ◌*◌, ◌^◌, ◌&&◌, nat_lt, nat_le, Bool, true, false, not, List, [], ◌∷◌, map, length, replicate, get_or, slice_set, slice_range, IsTrue, IsFalse, All, Any, Contains, unwrap_or, IsPermutation, if◌then◌else◌}
 use Rattle.std.specs.List.{list_all, concat}
 use Rattle.ntstatus.specs.declared.NtStatus.{NtStatus}
 use Rattle.ntstatus.specs.Table.{status_of}
@@ -7,7 +7,7 @@ use Rattle.sector.specs.declared.Extent.{Extent}
 use Rattle.sector.specs.Extents.{IsSector}
 use Rattle.sector.specs.Splice.{splice}
 use Rattle.cdb.specs.declared.Cdb.{Cdb}
-use Rattle.cdb.specs.declared.Cdb.TheVariants.{Read10, Write10, Sync10}
+use Rattle.cdb.specs.declared.Cdb.TheVariants.{Read10, Write10, Sync10, Read16, Write16, Sync16}
 use Rattle.cdb.specs.Meaning.{Means}
 use Rattle.srb.specs.declared.Completion.{Completion}
 use Rattle.srb.specs.declared.Class.{Class}
@@ -80,11 +80,26 @@ pub record IsSendable (rules : Rules) (o : OpenRequest) (places : Extent) : Type
   pub waiting : All IsUnsent (slice_range o.marks places.first (places.first + places.count))
   pub whole : IsTrue rules.one_piece → IsWhole o places
 
+-- an address and a number of blocks that a block of ten bytes has room for
+abbrev pub fits_ten : ℕ → ℕ → Bool
+fits_ten lba count = nat_lt lba (2 ^ 32) && nat_lt count (2 ^ 16)
+
+-- a read, a write or a flush of the whole disk, in the form of sixteen bytes exactly where ten have no room for its address, its number of
+-- blocks or, for a flush, the number of sectors of the disk
+abbrev pub read_command : ℕ → ℕ → Bool → Cdb
+read_command lba count fua = if fits_ten lba count then Read10 lba count fua else Read16 lba count fua
+
+abbrev pub write_command : ℕ → ℕ → Bool → Cdb
+write_command lba count fua = if fits_ten lba count then Write10 lba count fua else Write16 lba count fua
+
+abbrev pub flush_command : ℕ → Cdb
+flush_command disk_sectors = if nat_le disk_sectors (2 ^ 32) then Sync10 0 0 else Sync16 0 0
+
 -- the command that asks for those places of the request
 abbrev pub command_for : Rules → ClientRequest → Extent → Kind → Cdb
-command_for rules q places Read = Read10 (home rules q.partition (first_sector rules q + places.first)) places.count q.through
-command_for rules q places Write = Write10 (home rules q.partition (first_sector rules q + places.first)) places.count q.through
-command_for rules q places Flush = Sync10 0 0
+command_for rules q places Read = read_command (home rules q.partition (first_sector rules q + places.first)) places.count q.through
+command_for rules q places Write = write_command (home rules q.partition (first_sector rules q + places.first)) places.count q.through
+command_for rules q places Flush = flush_command rules.disk_sectors
 
 -- the request with these places out
 abbrev pub sent : Extent → OpenRequest → OpenRequest

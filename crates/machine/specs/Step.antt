@@ -3,13 +3,13 @@ use Rattle.std.specs.Prelude.{◌⊎◌, List, [], ◌∷◌, IsNone}
 use Rattle.srb.specs.declared.DeviceLabel.{DeviceLabel}
 use Rattle.srb.specs.declared.DeviceLabel.TheVariants.{Start, Act, Fault, Return}
 use Rattle.machine.specs.declared.Label.{Label}
-use Rattle.machine.specs.declared.Label.TheVariants.{Call, Device, Answer, Cancel, Pause, Resume, Remove, Removed}
+use Rattle.machine.specs.declared.Label.TheVariants.{Call, Device, Answer, Cancel, Pause, Resume, Remove, Surprise, Removed}
 use Rattle.machine.specs.Rules.{Rules}
 use Rattle.machine.specs.State.{State, IsSame}
 use Rattle.machine.specs.Calling.{Calls, AnswersRefused}
 use Rattle.machine.specs.Sending.{Starts, Acts, Faults, Returns}
 use Rattle.machine.specs.Answering.{Answers}
-use Rattle.machine.specs.Holding.{Cancels, Pauses, Resumes, Removes, Ends}
+use Rattle.machine.specs.Holding.{Cancels, Pauses, Resumes, Removes, Surprises, Ends}
 
 -- the step by a label of the adapter
 abbrev pub DeviceStep : Rules → State → DeviceLabel → State → Type 0
@@ -27,6 +27,7 @@ FreeStep rules s (Cancel number) s' = Cancels s number s'
 FreeStep rules s Pause s' = Pauses rules s s'
 FreeStep rules s Resume s' = Resumes s s'
 FreeStep rules s Remove s' = Removes s s'
+FreeStep rules s Surprise s' = Surprises rules s s'
 FreeStep rules s Removed s' = Ends s s'
 
 -- the step where one is owed: that answer, and no other label

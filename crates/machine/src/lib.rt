@@ -73,6 +73,8 @@ pub enum Label {
     Resume,
     /// WDK: IRP_MN_REMOVE_DEVICE.
     Remove,
+    /// WDK: IRP_MN_SURPRISE_REMOVAL.
+    Surprise,
     /// The removal has ended: nothing is open.
     Removed,
 }
