@@ -1,6 +1,6 @@
 -- What comes no more after an answer.
-use Rattle.std.proofs.Common.{◌≡◌, ◌≢◌, ◌<◌, ◌≤◌, inl, inr, ℕ, List, [], ◌∷◌, Option, Some, None, refl, sym, ◌∙◌, arith}
-use Rattle.std.specs.Prelude.{IsPermutation, All, Any, eqb}
+use Rattle.std.proofs.Common.{◌≡◌, ◌≢◌, ◌<◌, ◌≤◌, inl, inr, ℕ, Bool, true, false, List, [], ◌∷◌, Option, Some, None, refl, sym, ◌∙◌, arith}
+use Rattle.std.specs.Prelude.{IsPermutation, All, Any, eqb, if◌then◌else◌}
 use Rattle.std.proofs.Math.Nat.{lt_of_lt_of_le}
 use Rattle.std.proofs.lemmas.Map.Keys.{IsDistinct-tail}
 use Rattle.std.proofs.lemmas.List.Sorted.{IsPermutation-sym, All-permutation}
@@ -10,7 +10,7 @@ use Rattle.srb.specs.declared.DeviceLabel.{DeviceLabel}
 use Rattle.srb.specs.declared.DeviceLabel.TheVariants.{Start, Act, Fault, Return}
 use Rattle.machine.specs.declared.ClientRequest.{ClientRequest}
 use Rattle.machine.specs.declared.Label.{Label}
-use Rattle.machine.specs.declared.Label.TheVariants.{Call, Device, Answer, Cancel, Pause, Resume, Remove, Removed}
+use Rattle.machine.specs.declared.Label.TheVariants.{Call, Device, Answer, Cancel, Pause, Resume, Remove, Surprise, Removed}
 use Rattle.machine.specs.Rules.{Rules}
 use Rattle.machine.specs.State.{OpenRequest, Piece, State, IsSame, opening}
 use Rattle.machine.specs.Calling.{refusal, Admits}
@@ -69,6 +69,11 @@ module _ (number : ℕ) where
   by_label rules s Pause s' g h = open_along s s' _ h.after.requests (held rules.window s.requests g.not_open)
   by_label rules s Resume s' g h = open_along s s' _ h.after.requests (All-map (HasOtherNumber number) as_timely s.requests g.not_open)
   by_label rules s Remove s' g h = open_along s s' _ h.after.requests g.not_open
+  by_label rules s Surprise s' g h = open_along s s' _ h.drains.requests (by_pause s.paused)
+    where
+      by_pause : (paused : Bool) → All (HasOtherNumber number) (if paused then s.requests else held_back rules.window s.requests)
+      by_pause true = g.not_open
+      by_pause false = held rules.window s.requests g.not_open
   by_label rules s Removed s' g h = open_along s s' _ h.after.requests g.not_open
 
   by_owing : (s : State) (label : Label) (s' : State) → IsGone number s → OwingStep s label s' → All (HasOtherNumber number) s'.requests

@@ -7,7 +7,7 @@ use Rattle.srb.specs.declared.DeviceLabel.{DeviceLabel}
 use Rattle.srb.specs.declared.DeviceLabel.TheVariants.{Start, Act, Fault, Return}
 use Rattle.machine.specs.declared.ClientRequest.{ClientRequest}
 use Rattle.machine.specs.declared.Label.{Label}
-use Rattle.machine.specs.declared.Label.TheVariants.{Call, Device, Answer, Cancel, Pause, Resume, Remove, Removed}
+use Rattle.machine.specs.declared.Label.TheVariants.{Call, Device, Answer, Cancel, Pause, Resume, Remove, Surprise, Removed}
 use Rattle.machine.specs.Rules.{Rules}
 use Rattle.machine.specs.State.{opening, Owed, State}
 use Rattle.machine.specs.Calling.{refusal, Admits, Opens}
@@ -67,6 +67,7 @@ free_owed rules s number (Cancel n) s' free low h = rw h.after.owed (none_owed n
 free_owed rules s number Pause s' free low h = rw h.after.owed (none_owed number s.owed free)
 free_owed rules s number Resume s' free low h = rw h.after.owed (none_owed number s.owed free)
 free_owed rules s number Remove s' free low h = rw h.after.owed (none_owed number s.owed free)
+free_owed rules s number Surprise s' free low h = rw h.drains.owed (none_owed number s.owed free)
 free_owed rules s number Removed s' free low h = rw h.after.owed (none_owed number s.owed free)
 
 owing_owed : (s : State) (number : ℕ) (label : Label) (s' : State) → OwingStep s label s' → IsNotOwed number s'.owed

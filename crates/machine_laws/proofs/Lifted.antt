@@ -14,7 +14,7 @@ use Rattle.machine.specs.declared.Kind.{Kind}
 use Rattle.machine.specs.declared.Kind.TheVariants.{Read, Write, Flush}
 use Rattle.machine.specs.declared.ClientRequest.{ClientRequest}
 use Rattle.machine.specs.declared.Label.{Label}
-use Rattle.machine.specs.declared.Label.TheVariants.{Call, Device, Answer, Cancel, Pause, Resume, Remove, Removed}
+use Rattle.machine.specs.declared.Label.TheVariants.{Call, Device, Answer, Cancel, Pause, Resume, Remove, Surprise, Removed}
 use Rattle.machine.specs.Rules.{Rules, as_faithful, is_transfer, first_sector, home, place_count, sectors_of}
 use Rattle.machine.specs.State.{opening, Piece, State}
 use Rattle.machine.specs.Map.{IsMap, IsPartition, sectors_in}
@@ -69,9 +69,10 @@ module _ (rules : Rules) (size : ℕ) (is_map : IsMap size rules.partitions) whe
       let there : sectors_in disk extent ≡ slice_range disk (home_at rules.partitions p from) (home_at rules.partitions p from + places.count) = rw (place refl, count) refl in
       let long : length (sectors_in disk extent) ≡ places.count = ap (λ ys. length ys) (there ∙ slice_is_part disk (home_at rules.partitions p from) places.count) ∙ length-part disk (home_at rules.partitions p from) places.count inside in
       let whole : All (IsSector rules.sector_size) (sectors_in disk extent) = All-take (IsSector rules.sector_size) _ _ (All-drop (IsSector rules.sector_size) extent.first disk is_disk.1) in
-      let same : sectors ≡ sectors_in disk extent = concat_same rules.sector_size sectors (sectors_in disk extent) h.1 whole (covers ∙ sym long) (sym are ∙ replays.0) in
-      ((λ _. same ∙ there ∙ sym (read_at rules.partitions p from places.count disk some (fits refl)), h.1, ap (λ d. parts d rules.partitions) replays.1),
-      subst (IsDisk rules size) (sym replays.1) is_disk)
+      let same : sectors ≡ sectors_in disk extent = concat_same rules.sector_size sectors (sectors_in disk extent) h.1 whole (covers ∙ sym long) (sym are ∙ replays.0) in (
+        (λ _. same ∙ there ∙ sym (read_at rules.partitions p from places.count disk some (fits refl)), h.1, ap (λ d. parts d rules.partitions) replays.1),
+        subst (IsDisk rules size) (sym replays.1) is_disk,
+      )
   act_lifts s disk q places extent Write sectors arrays' bytes mid is_disk some fits covers h are place count replays =
       let p : ℕ = partition_number q in
       let from : ℕ = first_sector rules q + places.first in
@@ -82,9 +83,10 @@ module _ (rules : Rules) (size : ℕ) (is_map : IsMap size rules.partitions) whe
       let is : mid ≡ splice disk (home_at rules.partitions p from) sectors = replays.4 ∙ ap (λ ys. splice disk extent.first ys) same ∙ ap (λ n. splice disk n sectors) (place refl) in
       let inside : home_at rules.partitions p from + length sectors ≤ length disk = home_inside rules.partitions p from (length sectors) (length disk) some' fits' all in
       let whole : All (IsSector rules.sector_size) (splice disk (home_at rules.partitions p from) sectors) =
-      All-append (IsSector rules.sector_size) _ _ (All-take (IsSector rules.sector_size) _ disk is_disk.1) (All-append (IsSector rules.sector_size) sectors _ h.1 (All-drop (IsSector rules.sector_size) _ disk is_disk.1)) in
-      ((h.0, h.1, ap (λ d. parts d rules.partitions) is ∙ write_at rules.partitions p from sectors disk some' fits' all is_map.apart),
-      subst (IsDisk rules size) (sym is) (length-splice disk (home_at rules.partitions p from) sectors inside ∙ is_disk.0, whole))
+      All-append (IsSector rules.sector_size) _ _ (All-take (IsSector rules.sector_size) _ disk is_disk.1) (All-append (IsSector rules.sector_size) sectors _ h.1 (All-drop (IsSector rules.sector_size) _ disk is_disk.1)) in (
+        (h.0, h.1, ap (λ d. parts d rules.partitions) is ∙ write_at rules.partitions p from sectors disk some' fits' all is_map.apart),
+        subst (IsDisk rules size) (sym is) (length-splice disk (home_at rules.partitions p from) sectors inside ∙ is_disk.0, whole),
+      )
   act_lifts s disk q places extent Flush sectors arrays' bytes mid is_disk some fits covers h are place count replays =
       ((h.0, ap (λ d. parts d rules.partitions) replays), subst (IsDisk rules size) (sym replays) is_disk)
 
@@ -151,6 +153,7 @@ module _ (rules : Rules) (size : ℕ) (is_map : IsMap size rules.partitions) whe
   follows s Pause s' (inl h) disk entries left after good is_disk takes replays = quiet s _ s' (inl h) disk entries left after is_disk refl takes replays
   follows s Resume s' (inl h) disk entries left after good is_disk takes replays = quiet s _ s' (inl h) disk entries left after is_disk refl takes replays
   follows s Remove s' (inl h) disk entries left after good is_disk takes replays = quiet s _ s' (inl h) disk entries left after is_disk refl takes replays
+  follows s Surprise s' (inl h) disk entries left after good is_disk takes replays = quiet s _ s' (inl h) disk entries left after is_disk refl takes replays
   follows s Removed s' (inl h) disk entries left after good is_disk takes replays = quiet s _ s' (inl h) disk entries left after is_disk refl takes replays
   follows s label s' (inr h) disk entries left after good is_disk takes replays = quiet s label s' (inr h) disk entries left after is_disk refl takes replays
 

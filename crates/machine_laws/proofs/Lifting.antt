@@ -5,7 +5,7 @@ use Rattle.srb.specs.declared.DeviceLabel.{DeviceLabel}
 use Rattle.srb.specs.declared.DeviceLabel.TheVariants.{Start, Act, Fault, Return}
 use Rattle.machine.specs.declared.ClientRequest.{ClientRequest}
 use Rattle.machine.specs.declared.Label.{Label}
-use Rattle.machine.specs.declared.Label.TheVariants.{Call, Device, Answer, Cancel, Pause, Resume, Remove, Removed}
+use Rattle.machine.specs.declared.Label.TheVariants.{Call, Device, Answer, Cancel, Pause, Resume, Remove, Surprise, Removed}
 use Rattle.machine.specs.Rules.{Rules, as_faithful}
 use Rattle.machine.specs.State.{State, IsSame}
 use Rattle.machine.specs.Calling.{refusal, Admits}
@@ -45,6 +45,7 @@ module _ (rules : Rules) where
   FreeMoves s Pause s' h before after = after ≡ before
   FreeMoves s Resume s' h before after = after ≡ before
   FreeMoves s Remove s' h before after = after ≡ before
+  FreeMoves s Surprise s' h before after = after ≡ before
   FreeMoves s Removed s' h before after = after ≡ before
 
   abbrev pub StepMoves : (s : State) (label : Label) (s' : State) → Step rules s label s' → List (List (List ℕ)) → List (List (List ℕ)) → Type 0
@@ -126,6 +127,7 @@ module _ (rules : Rules) where
   lift_free s Pause s' h before after e = rw e (record { not_paused = h.not_paused; not_removing = h.not_removing; after = IsSame-over before s' _ h.after })
   lift_free s Resume s' h before after e = rw e (record { is_paused = h.is_paused; after = IsSame-over before s' _ h.after })
   lift_free s Remove s' h before after e = rw e (record { is_paused = h.is_paused; after = IsSame-over before s' _ h.after })
+  lift_free s Surprise s' h before after e = rw e (record { not_removing = h.not_removing; drains = IsSame-over before s' _ h.drains })
   lift_free s Removed s' h before after e = rw e (record { is_removing = h.is_removing; once = h.once; none_open = h.none_open; after = IsSame-over before s' _ h.after })
 
   lift_owing : (s : State) (label : Label) (s' : State) (arrays : List (List (List ℕ))) → OwingStep s label s' → OwingStep (over arrays s) label (over arrays s')

@@ -6,7 +6,7 @@ use Rattle.std.proofs.lemmas.List.Elements.{All-nil, All-cons, All-head, All-wea
 use Rattle.ntstatus.specs.declared.NtStatus.{NtStatus}
 use Rattle.machine.specs.declared.ClientRequest.{ClientRequest}
 use Rattle.machine.specs.declared.Label.{Label}
-use Rattle.machine.specs.declared.Label.TheVariants.{Call, Device, Answer, Cancel, Pause, Resume, Remove, Removed}
+use Rattle.machine.specs.declared.Label.TheVariants.{Call, Device, Answer, Cancel, Pause, Resume, Remove, Surprise, Removed}
 use Rattle.machine.specs.Rules.{Rules}
 use Rattle.machine.specs.State.{Owed, State}
 use Rattle.machine.specs.Calling.{refusal, Admits}
@@ -112,6 +112,7 @@ module _ (rules : Rules) where
   FreeStep-owed s Pause s' k free h = none_owed_apart s' s'.owed (rw h.after.owed free)
   FreeStep-owed s Resume s' k free h = none_owed_apart s' s'.owed (rw h.after.owed free)
   FreeStep-owed s Remove s' k free h = none_owed_apart s' s'.owed (rw h.after.owed free)
+  FreeStep-owed s Surprise s' k free h = none_owed_apart s' s'.owed (rw h.drains.owed free)
   FreeStep-owed s Removed s' k free h = none_owed_apart s' s'.owed (rw h.after.owed free)
 
   OwingStep-owed : (s : State) (label : Label) (s' : State) → OwingStep s label s' → IsOwedApart s' s'.owed

@@ -8,7 +8,7 @@ use Rattle.srb.specs.declared.DeviceLabel.{DeviceLabel}
 use Rattle.srb.specs.declared.DeviceLabel.TheVariants.{Start, Act, Fault, Return}
 use Rattle.machine.specs.declared.ClientRequest.{ClientRequest}
 use Rattle.machine.specs.declared.Label.{Label}
-use Rattle.machine.specs.declared.Label.TheVariants.{Call, Device, Answer, Cancel, Pause, Resume, Remove, Removed}
+use Rattle.machine.specs.declared.Label.TheVariants.{Call, Device, Answer, Cancel, Pause, Resume, Remove, Surprise, Removed}
 use Rattle.machine.specs.Rules.{Rules}
 use Rattle.machine.specs.State.{Piece, State, IsSame, opening}
 use Rattle.machine.specs.Calling.{refusal, Admits}
@@ -55,6 +55,7 @@ module _ (rules : Rules) where
   FreeStep-empty s Pause s' k h = cc (k.removing, h.not_removing)
   FreeStep-empty s Resume s' k h = (tt, IsEmpty-same s' _ h.after (record { removing = k.removing; none_open = ap (λ xs. map as_timely xs) k.none_open; none_out = k.none_out }))
   FreeStep-empty s Remove s' k h = (tt, IsEmpty-same s' _ h.after (record { removing = refl; none_open = k.none_open; none_out = k.none_out }))
+  FreeStep-empty s Surprise s' k h = cc (k.removing, h.not_removing)
   FreeStep-empty s Removed s' k h = (tt, IsEmpty-same s' _ h.after (record { removing = k.removing; none_open = k.none_open; none_out = k.none_out }))
 
   OwingStep-empty : (s : State) (label : Label) (s' : State) → IsEmpty s → OwingStep s label s' → IsNotOfDevice label × IsEmpty s'

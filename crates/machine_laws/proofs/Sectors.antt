@@ -13,7 +13,7 @@ use Rattle.machine.specs.declared.Kind.{Kind}
 use Rattle.machine.specs.declared.Kind.TheVariants.{Read, Write, Flush}
 use Rattle.machine.specs.declared.ClientRequest.{ClientRequest}
 use Rattle.machine.specs.declared.Label.{Label}
-use Rattle.machine.specs.declared.Label.TheVariants.{Call, Device, Answer, Cancel, Pause, Resume, Remove, Removed}
+use Rattle.machine.specs.declared.Label.TheVariants.{Call, Device, Answer, Cancel, Pause, Resume, Remove, Surprise, Removed}
 use Rattle.machine.specs.Rules.{Rules, as_faithful, is_transfer, first_sector, place_count, sectors_of}
 use Rattle.machine.specs.State.{OpenRequest, Piece, State}
 use Rattle.machine.specs.Sending.{Acts, Transfers, partition_number, array_of, array_at}
@@ -146,6 +146,7 @@ free_arrays rules s (Cancel n) s' h = inl h.after.arrays
 free_arrays rules s Pause s' h = inl h.after.arrays
 free_arrays rules s Resume s' h = inl h.after.arrays
 free_arrays rules s Remove s' h = inl h.after.arrays
+free_arrays rules s Surprise s' h = inl h.drains.arrays
 free_arrays rules s Removed s' h = inl h.after.arrays
 
 owing_arrays : (s : State) (label : Label) (s' : State) → OwingStep s label s' → s'.arrays ≡ s.arrays

@@ -1,6 +1,6 @@
 -- What is kept of a request from its call on, whatever is right for a place that is done.
 use Rattle.std.proofs.Common.{◌≡◌, ◌≢◌, ◌<◌, ◌≤◌, inl, inr, ℕ, ◌+◌, Bool, true, false, List, [], ◌∷◌, Option, Some, None, refl, sym, ◌∙◌, ap, subst, arith, map, length, get_or, replicate}
-use Rattle.std.specs.Prelude.{IsPermutation, All}
+use Rattle.std.specs.Prelude.{IsPermutation, All, if◌then◌else◌}
 use Rattle.std.proofs.lemmas.List.{length-replicate, length-map, get_or-map, get_or-replicate}
 use Rattle.std.proofs.lemmas.List.Sorted.{IsPermutation-sym, All-permutation}
 use Rattle.std.proofs.lemmas.List.Elements.{All-head, All-tail, All-cons, All-weaker, All-map, All-contains}
@@ -14,7 +14,7 @@ use Rattle.srb.specs.Fate.{Fate, Fresh, Acted, Faulted}
 use Rattle.machine.specs.declared.Kind.TheVariants.{Write}
 use Rattle.machine.specs.declared.ClientRequest.{ClientRequest}
 use Rattle.machine.specs.declared.Label.{Label}
-use Rattle.machine.specs.declared.Label.TheVariants.{Call, Device, Answer, Cancel, Pause, Resume, Remove, Removed}
+use Rattle.machine.specs.declared.Label.TheVariants.{Call, Device, Answer, Cancel, Pause, Resume, Remove, Surprise, Removed}
 use Rattle.machine.specs.Rules.{Rules, is_transfer, first_sector, place_count, sectors_of}
 use Rattle.machine.specs.State.{Mark, Untouched, Out, Done, Failed, Back, OpenRequest, Owed, Piece, State, IsSame}
 use Rattle.machine.specs.Calling.{refusal, Admits, Opens, new_request}
@@ -369,6 +369,11 @@ module _ (rules : Rules) (number : ℕ) (q : ClientRequest) (Right : List (List 
   Serves-FreeStep s Pause s' d acts k h = Serves-same s' _ h.after (flagged _ s.owed s.next_piece true s.removing s.removed (Serves-paused s rules.window k))
   Serves-FreeStep s Resume s' d acts k h = Serves-same s' _ h.after (flagged _ s.owed s.next_piece false s.removing s.removed (each s as_timely (λ o. refl) (λ o. refl) (λ o. refl) k))
   Serves-FreeStep s Remove s' d acts k h = Serves-same s' _ h.after (flagged s s.owed s.next_piece false true s.removed k)
+  Serves-FreeStep s Surprise s' d acts k h = Serves-same s' _ h.drains (flagged _ s.owed s.next_piece false true s.removed (by_pause s.paused))
+    where
+      by_pause : (paused : Bool) → Serves rules number q Right (record s { requests = if paused then s.requests else held_back rules.window s.requests })
+      by_pause true = k
+      by_pause false = Serves-paused s rules.window k
   Serves-FreeStep s Removed s' d acts k h = Serves-same s' _ h.after (flagged s s.owed s.next_piece s.paused s.removing true k)
 
   Serves-OwingStep : (s : State) (label : Label) (s' : State) → Serves rules number q Right s → OwingStep s label s' → Serves rules number q Right s'

@@ -10,7 +10,7 @@ use Rattle.srb.specs.declared.DeviceLabel.TheVariants.{Start, Act, Fault, Return
 use Rattle.machine.specs.declared.Kind.{Kind}
 use Rattle.machine.specs.declared.Kind.TheVariants.{Read, Write, Flush}
 use Rattle.machine.specs.declared.Label.{Label}
-use Rattle.machine.specs.declared.Label.TheVariants.{Call, Device, Answer, Cancel, Pause, Resume, Remove, Removed}
+use Rattle.machine.specs.declared.Label.TheVariants.{Call, Device, Answer, Cancel, Pause, Resume, Remove, Surprise, Removed}
 use Rattle.machine.specs.Rules.{Rules, first_sector, home, is_transfer, as_faithful}
 use Rattle.machine.specs.State.{State}
 use Rattle.machine.specs.Map.{IsMap, sectors_in}
@@ -68,6 +68,7 @@ FreeTakes rules s (Cancel number) s' h entries left = left ≡ entries
 FreeTakes rules s Pause s' h entries left = left ≡ entries
 FreeTakes rules s Resume s' h entries left = left ≡ entries
 FreeTakes rules s Remove s' h entries left = left ≡ entries
+FreeTakes rules s Surprise s' h entries left = left ≡ entries
 FreeTakes rules s Removed s' h entries left = left ≡ entries
 
 abbrev pub StepTakes : (rules : Rules) (s : State) (label : Label) (s' : State) → Step rules s label s' → List Entry → List Entry → Type 0
