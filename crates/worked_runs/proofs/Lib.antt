@@ -8,3 +8,4 @@ pub mod Early
 pub mod TooEarly
 pub mod Starting
 pub mod Losing
+pub mod Long

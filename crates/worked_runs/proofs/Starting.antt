@@ -7,6 +7,7 @@ use Rattle.srb.specs.Fate.{Fate, Fresh, Acted, Faulted}
 use Rattle.machine.specs.declared.Label.TheVariants.{Pause, Removed}
 use Rattle.machine.specs.State.{OpenRequest, Piece, Mark, Untouched, Out, Done, Failed, opening}
 use Rattle.machine.proofs.Same.{IsSame-refl, Run-append}
+use Rattle.machine.proofs.Forms.{write_forms, one_write}
 use Rattle.worked_runs.specs.Small.{small, zeros, full_of, sectors, read, write, read_block, write_block, error_of_key, opened, one_place, piece_of}
 use Rattle.worked_runs.specs.Impossible.{Never, NeverStarts, NeverWritesAt, NeverWritesBeyond, neighbours, NeverOpensPastEnd, last_sector, ReachesLastSector, first_bad, ReachesFirstBad, SendsTheOther, one_below, two_reads, waits_behind, held_behind, ReachesHeldBehind, held_alone, ReachesHeldAlone, removing_out, ReachesRemovingOut}
 use Rattle.worked_runs.proofs.Steps.{called, started, acted, faulted, returned, answered, paused, removing, tag_0}
@@ -25,8 +26,7 @@ pub writes_not_past_end : NeverWritesBeyond neighbours last_sector 5
 writes_not_past_end piece tag lba count fua block means past =
     never_started neighbours last_sector piece tag block (
       (λ places may h asks.
-          let first : lba ≡ 2 + (2 + places.first) = sym means.1.address ∙ asks.1.address in
-          let blocks : count ≡ places.count = sym means.1.blocks ∙ asks.1.blocks in
+          let same : (lba ≡ 2 + (2 + places.first)) × (count ≡ places.count) = one_write block _ _ _ _ _ _ means (write_forms block _ _ _ asks) in
           let inside : places.first + places.count ≤ 1 = h.inside in
           omega arith),
       tt,
@@ -58,7 +58,7 @@ writes_not_again piece tag count fua block means =
     let o : OpenRequest = opened 1 (write 0 4 (full_of 165 ++ full_of 165)) (Failed DeviceDataError ∷ Untouched ∷ []) in
     never_started small first_bad piece tag block (
       (λ places may h asks.
-          let first : 2 ≡ 2 + (0 + places.first) = sym means.1.address ∙ asks.1.address in
+          let same : (2 ≡ 2 + (0 + places.first)) × (count ≡ places.count) = one_write block _ _ _ _ _ _ means (write_forms block _ _ _ asks) in
           let from : places.first ≡ 0 = omega arith in
           let waits : false ≡ true = first_waits small o places (Failed DeviceDataError) (Untouched ∷ []) refl from h in
           cc),

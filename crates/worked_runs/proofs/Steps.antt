@@ -1,6 +1,6 @@
 -- One step for each label, from what allows it; the state after is told.
 use Rattle.std.proofs.Common.{◌≡◌, ◌<◌, ◌+◌, ℕ, true, false, List, [], ◌∷◌, Some, None, refl, sym, subst, inl, inr, length, map, arith, rules, lit<}
-use Rattle.std.specs.Prelude.{IsPermutation, IsNone, IsTrue, IsFalse, Contains, ◌↔◌}
+use Rattle.std.specs.Prelude.{IsPermutation, IsNone, IsTrue, IsFalse, Contains, ◌↔◌, if◌then◌else◌}
 use Rattle.std.specs.List.{AllByRecursion, list_all, concat}
 use Rattle.std.proofs.lemmas.List.Elements.{All-cons, All-nil, All-from_recursion}
 use Rattle.ntstatus.specs.declared.NtStatus.{NtStatus}
@@ -11,7 +11,7 @@ use Rattle.srb.specs.declared.Class.{Class}
 use Rattle.srb.specs.declared.DeviceLabel.TheVariants.{Start, Act, Fault, Return}
 use Rattle.srb.specs.Fate.{Acted, Faulted}
 use Rattle.machine.specs.declared.ClientRequest.{ClientRequest}
-use Rattle.machine.specs.declared.Label.TheVariants.{Call, Device, Answer, Cancel, Pause, Resume, Remove, Removed}
+use Rattle.machine.specs.declared.Label.TheVariants.{Call, Device, Answer, Cancel, Pause, Resume, Remove, Surprise, Removed}
 use Rattle.machine.specs.Rules.{Rules}
 use Rattle.machine.specs.State.{OpenRequest, Piece, State, Mark}
 use Rattle.machine.specs.Calling.{refusal, Opens, Refuses, Admits, bytes_carried, new_request}
@@ -128,6 +128,10 @@ resumed rules s free is_paused = inl (free, record { is_paused = is_paused; afte
 
 pub removing : (rules : Rules) (s : State) → IsNone s.owed → IsTrue s.paused → Step rules s Remove (record s { paused = false; removing = true })
 removing rules s free is_paused = inl (free, record { is_paused = is_paused; after = IsSame-refl _ })
+
+pub surprised : (rules : Rules) (s : State) → IsNone s.owed → IsFalse s.removing
+    → Step rules s Surprise (record s { paused = false; removing = true; requests = if s.paused then s.requests else held_back rules.window s.requests })
+surprised rules s free not_removing = inl (free, record { not_removing = not_removing; drains = IsSame-refl _ })
 
 pub removed : (rules : Rules) (s : State) → IsNone s.owed → IsTrue s.removing → IsFalse s.removed → s.requests ≡ [] → Step rules s Removed (record s { removed = true })
 removed rules s free is_removing once none_open = inl (free, record { is_removing = is_removing; once = once; none_open = none_open; after = IsSame-refl _ })

@@ -2,8 +2,7 @@
 use Rattle.std.specs.Prelude.{◌<◌, ◌+◌, ℕ, Bool, true, false, List, [], ◌∷◌, ◌++◌, Some}
 use Rattle.ntstatus.specs.declared.NtStatus.{NtStatus}
 use Rattle.ntstatus.specs.declared.NtStatus.TheVariants.{Success, Cancelled, DeviceDataError, DeviceNotReady}
-use Rattle.cdb.specs.declared.Cdb.TheVariants.{Write10}
-use Rattle.cdb.specs.Meaning.{Means}
+use Rattle.cdb.specs.Meaning.{AsksToWrite}
 use Rattle.srb.specs.Fate.{Fresh}
 use Rattle.srb.specs.declared.DeviceLabel.TheVariants.{Start, Act, Fault, Return}
 use Rattle.srb.specs.declared.Class.TheVariants.{Good, Bad}
@@ -34,12 +33,12 @@ NeverStarts rules s = (piece tag : ℕ) (block : List ℕ) → Never rules s (De
 
 -- no piece starts whose write begins at this sector of the disk
 abbrev pub NeverWritesAt : Rules → State → ℕ → Type 0
-NeverWritesAt rules s lba = (piece tag count : ℕ) (fua : Bool) (block : List ℕ) → Means block (Write10 lba count fua) → Never rules s (Device (Start piece tag block))
+NeverWritesAt rules s lba = (piece tag count : ℕ) (fua : Bool) (block : List ℕ) → AsksToWrite block lba count fua → Never rules s (Device (Start piece tag block))
 
 -- no piece starts whose write goes past the sectors below this one
 abbrev pub NeverWritesBeyond : Rules → State → ℕ → Type 0
 NeverWritesBeyond rules s end =
-    (piece tag lba count : ℕ) (fua : Bool) (block : List ℕ) → Means block (Write10 lba count fua) → end < lba + count → Never rules s (Device (Start piece tag block))
+    (piece tag lba count : ℕ) (fua : Bool) (block : List ℕ) → AsksToWrite block lba count fua → end < lba + count → Never rules s (Device (Start piece tag block))
 
 -- ANSWERS TOO EARLY
 
@@ -98,7 +97,7 @@ ReachesBothFailed = Run small (opening zeros) both_fail both_failed
 
 -- sectors 2 to 4 of the disk are one partition, 5 to 7 the next; pieces of two sectors
 abbrev pub neighbours : Rules
-neighbours = record small { partitions = (record { first = 2; count = 3 }) ∷ (record { first = 5; count = 3 }) ∷ []; max_transfer = 2 }
+neighbours = record small { disk_sectors = 8; partitions = (record { first = 2; count = 3 }) ∷ (record { first = 5; count = 3 }) ∷ []; max_transfer = 2 }
 
 abbrev pub both_zeros : List (List (List ℕ))
 both_zeros = zeros ++ zeros

@@ -4,3 +4,4 @@ pub mod Failed
 pub mod Held
 pub mod Refused
 pub mod Impossible
+pub mod Long

@@ -12,6 +12,7 @@ use Rattle.machine.specs.State.{Mark, OpenRequest, Piece, State, opening}
 abbrev pub small : Rules
 small = record {
   sector_size = 2;
+  disk_sectors = 5;
   partitions = (record { first = 2; count = 3 }) ∷ [];
   longest = 64;
   max_transfer = 1;

@@ -12,7 +12,8 @@
 pub mod impossible;
 
 ghost use Rattle.worked_runs.specs.Failed.{IsCutShort, StaysBusy, IsResetBeforeAct, IsResetAfterAct, AnswersLowestFailure};
-ghost use Rattle.worked_runs.specs.Held.{HoldsThenResumes, RemovesAll};
+ghost use Rattle.worked_runs.specs.Held.{HoldsThenResumes, RemovesAll, SurprisesAll};
+ghost use Rattle.worked_runs.specs.Long.{StartsInEachForm, FlushesFar};
 ghost use Rattle.worked_runs.specs.Refused.{RefusesClosedHandle, RefusesRemoved, RefusesOutOfBounds, RefusesTooLong, ReadsNothing, RefusesOneMore};
 ghost use Rattle.worked_runs.specs.Served.{WritesThenReads, JoinsInOrder, Flushes, WritesThrough, SendsAgain, SucceedsThoughCancelled};
 
@@ -82,6 +83,20 @@ pub fn hold_then_resume()
 #[tactic(auto, using(crate::proofs::Holding::removes_all))]
 pub fn remove_all()
     ensures { RemovesAll }
+{}
+
+/// A surprise removal needs no pause: what was not started is answered at once, and what is at the adapter goes on.
+#[tactic(auto, using(crate::proofs::Holding::surprises_all))]
+pub fn remove_by_surprise()
+    ensures { SurprisesAll }
+{}
+
+/// A command has the form of sixteen bytes where ten have no room for its address, and a flush where they have none for the
+/// number of sectors.
+#[tactic(auto, using(crate::proofs::Long::starts_in_each_form, crate::proofs::Long::flushes_far))]
+pub fn start_in_each_form()
+    ensures transfer { StartsInEachForm }
+    ensures flush { FlushesFar }
 {}
 
 /// A call is answered at once for each of these causes, and the first that fits gives the status.
