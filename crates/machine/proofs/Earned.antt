@@ -120,7 +120,7 @@ module _ (rules : Rules) where
   HaveEarned-FreeStep : (s : State) (label : Label) (s' : State) → HaveEarned s → FreeStep rules s label s' → HaveEarned s'
   HaveEarned-FreeStep s (Call number q) s' k h = HaveEarned-Admits s number q (refusal rules s q) s' k h.admits
   HaveEarned-FreeStep s (Device label) s' k h = HaveEarned-DeviceStep s label s' k h
-  HaveEarned-FreeStep s (Answer number status bytes) s' k h = HaveEarned-Answers s number status bytes s' k h
+  HaveEarned-FreeStep s (Answer number status informed bytes) s' k h = HaveEarned-Answers s number status bytes s' k h.answers
   HaveEarned-FreeStep s (Cancel number) s' k h =
       HaveEarned-same s' _ h.after (All-changed HasEarned s.requests h.request (as_cancelled h.request) h.others h.is_open k
       (λ all. All-weaker (IsEarned h.request) (IsEarned (as_cancelled h.request)) (IsEarned-more h.request (as_cancelled h.request) 0 (omega arith)) h.request.marks all))
@@ -131,7 +131,7 @@ module _ (rules : Rules) where
   HaveEarned-FreeStep s Removed s' k h = HaveEarned-same s' _ h.after k
 
   HaveEarned-OwingStep : (s : State) (label : Label) (s' : State) → HaveEarned s → OwingStep s label s' → HaveEarned s'
-  HaveEarned-OwingStep s (Answer number status bytes) s' k h = HaveEarned-same s' _ h.after k
+  HaveEarned-OwingStep s (Answer number status informed bytes) s' k h = HaveEarned-same s' _ h.after k
   HaveEarned-OwingStep s _ s' k h = absurd h
 
   pub HaveEarned-Step : (s : State) (label : Label) (s' : State) → HaveEarned s → Step rules s label s' → HaveEarned s'

@@ -37,7 +37,7 @@ DeviceStep-number rules s (Return piece class) s' h = (h.after.next_request, rw 
 FreeStep-number : (rules : Rules) (s : State) (label : Label) (s' : State) → FreeStep rules s label s' → s.next_request ≤ s'.next_request
 FreeStep-number rules s (Call number q) s' h = Admits-number rules s number q (refusal rules s q) s' (rw h.next_number (omega arith)) h.admits
 FreeStep-number rules s (Device label) s' h = let e = (DeviceStep-number rules s label s' h).0 in rw e (omega arith)
-FreeStep-number rules s (Answer number status bytes) s' h = rw h.after.next_request (omega arith)
+FreeStep-number rules s (Answer number status informed bytes) s' h = rw h.answers.after.next_request (omega arith)
 FreeStep-number rules s (Cancel number) s' h = rw h.after.next_request (omega arith)
 FreeStep-number rules s Pause s' h = rw h.after.next_request (omega arith)
 FreeStep-number rules s Resume s' h = rw h.after.next_request (omega arith)
@@ -46,7 +46,7 @@ FreeStep-number rules s Surprise s' h = rw h.drains.next_request (omega arith)
 FreeStep-number rules s Removed s' h = rw h.after.next_request (omega arith)
 
 OwingStep-number : (s : State) (label : Label) (s' : State) → OwingStep s label s' → s.next_request ≤ s'.next_request
-OwingStep-number s (Answer number status bytes) s' h = rw h.after.next_request (omega arith)
+OwingStep-number s (Answer number status informed bytes) s' h = rw h.after.next_request (omega arith)
 OwingStep-number s _ s' h = absurd h
 
 pub Step-number : (rules : Rules) (s : State) (label : Label) (s' : State) → Step rules s label s' → s.next_request ≤ s'.next_request
@@ -226,7 +226,7 @@ AreDistinct-Drains rules s s' d h = AreDistinct-same s' _ h (by_pause s.paused)
 AreDistinct-FreeStep : (rules : Rules) (s : State) (label : Label) (s' : State) → AreDistinct s → FreeStep rules s label s' → AreDistinct s'
 AreDistinct-FreeStep rules s (Call number q) s' d h = AreDistinct-Admits rules s number q (refusal rules s q) s' (rw h.next_number (omega arith)) d h.admits
 AreDistinct-FreeStep rules s (Device label) s' d h = AreDistinct-DeviceStep rules s label s' d h
-AreDistinct-FreeStep rules s (Answer number status bytes) s' d h = AreDistinct-same s' _ h.after (ended s d h.request h.others h.is_open)
+AreDistinct-FreeStep rules s (Answer number status informed bytes) s' d h = AreDistinct-same s' _ h.answers.after (ended s d h.answers.request h.answers.others h.answers.is_open)
 AreDistinct-FreeStep rules s (Cancel number) s' d h = AreDistinct-same s' _ h.after (changed s d h.request _ h.others refl h.is_open)
 AreDistinct-FreeStep rules s Pause s' d h = AreDistinct-same s' _ h.after (same_numbers _ _ refl refl refl refl (paused s d rules.window))
 AreDistinct-FreeStep rules s Resume s' d h = AreDistinct-same s' _ h.after (same_numbers _ _ refl refl refl refl (each s d as_timely (λ o. refl)))
@@ -235,7 +235,7 @@ AreDistinct-FreeStep rules s Surprise s' d h = AreDistinct-Drains rules s s' d h
 AreDistinct-FreeStep rules s Removed s' d h = AreDistinct-same s' _ h.after (same_numbers s _ refl refl refl refl d)
 
 AreDistinct-OwingStep : (s : State) (label : Label) (s' : State) → AreDistinct s → OwingStep s label s' → AreDistinct s'
-AreDistinct-OwingStep s (Answer number status bytes) s' d h = AreDistinct-same s' _ h.after (same_numbers s _ refl refl refl refl d)
+AreDistinct-OwingStep s (Answer number status informed bytes) s' d h = AreDistinct-same s' _ h.after (same_numbers s _ refl refl refl refl d)
 AreDistinct-OwingStep s _ s' d h = absurd h
 
 pub AreDistinct-Step : (rules : Rules) (s : State) (label : Label) (s' : State) → AreDistinct s → Step rules s label s' → AreDistinct s'

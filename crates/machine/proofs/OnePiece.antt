@@ -166,7 +166,7 @@ module _ (rules : Rules) (one : IsTrue rules.one_piece) where
   AreOnePiece-FreeStep : (s : State) (label : Label) (s' : State) → AreDistinct s → ArePlaced s → AreOnePiece s → FreeStep rules s label s' → AreOnePiece s'
   AreOnePiece-FreeStep s (Call number q) s' d placed k h = AreOnePiece-Admits s number q (refusal rules s q) s' d placed k h.admits
   AreOnePiece-FreeStep s (Device label) s' d placed k h = AreOnePiece-DeviceStep s label s' d placed k h
-  AreOnePiece-FreeStep s (Answer number status bytes) s' d placed k h = AreOnePiece-Answers s number status bytes s' k h
+  AreOnePiece-FreeStep s (Answer number status informed bytes) s' d placed k h = AreOnePiece-Answers s number status bytes s' k h.answers
   AreOnePiece-FreeStep s (Cancel number) s' d placed k h =
       AreOnePiece-same s' _ h.after (changed s k h.request (as_cancelled h.request) h.others s.pieces refl refl (All-head HasAlike h.request h.others (alike_first s k h.request h.others h.is_open)) h.is_open k.whole)
   AreOnePiece-FreeStep s Pause s' d placed k h = AreOnePiece-same s' _ h.after (same_one_piece _ _ refl refl (held s k rules.window))
@@ -176,7 +176,7 @@ module _ (rules : Rules) (one : IsTrue rules.one_piece) where
   AreOnePiece-FreeStep s Removed s' d placed k h = AreOnePiece-same s' _ h.after (same_one_piece s _ refl refl k)
 
   AreOnePiece-OwingStep : (s : State) (label : Label) (s' : State) → AreOnePiece s → OwingStep s label s' → AreOnePiece s'
-  AreOnePiece-OwingStep s (Answer number status bytes) s' k h = AreOnePiece-same s' _ h.after (same_one_piece s _ refl refl k)
+  AreOnePiece-OwingStep s (Answer number status informed bytes) s' k h = AreOnePiece-same s' _ h.after (same_one_piece s _ refl refl k)
   AreOnePiece-OwingStep s _ s' k h = absurd h
 
   pub AreOnePiece-Step : (s : State) (label : Label) (s' : State) → AreDistinct s → ArePlaced s → AreOnePiece s → Step rules s label s' → AreOnePiece s'

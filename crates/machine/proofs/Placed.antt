@@ -402,7 +402,7 @@ module _ (rules : Rules) where
   pub ArePlaced-FreeStep : (s : State) (label : Label) (s' : State) → AreDistinct s → ArePlaced s → FreeStep rules s label s' → ArePlaced s'
   ArePlaced-FreeStep s (Call number q) s' d k h = ArePlaced-Admits s number q (refusal rules s q) s' d k h.admits
   ArePlaced-FreeStep s (Device label) s' d k h = ArePlaced-DeviceStep s label s' d k h
-  ArePlaced-FreeStep s (Answer number status bytes) s' d k h = ArePlaced-Answers s number status bytes s' k h
+  ArePlaced-FreeStep s (Answer number status informed bytes) s' d k h = ArePlaced-Answers s number status bytes s' k h.answers
   ArePlaced-FreeStep s (Cancel number) s' d k h = ArePlaced-same s' _ h.after (flagged s k h.request (as_cancelled h.request) h.others refl refl h.is_open)
   ArePlaced-FreeStep s Pause s' d k h = ArePlaced-same s' _ h.after (same_placed _ _ refl refl (held s k rules.window))
   ArePlaced-FreeStep s Resume s' d k h = ArePlaced-same s' _ h.after (same_placed _ _ refl refl (each s k as_timely (λ o. refl) (λ o. refl)))
@@ -411,7 +411,7 @@ module _ (rules : Rules) where
   ArePlaced-FreeStep s Removed s' d k h = ArePlaced-same s' _ h.after (same_placed s _ refl refl k)
 
   ArePlaced-OwingStep : (s : State) (label : Label) (s' : State) → ArePlaced s → OwingStep s label s' → ArePlaced s'
-  ArePlaced-OwingStep s (Answer number status bytes) s' k h = ArePlaced-same s' _ h.after (same_placed s _ refl refl k)
+  ArePlaced-OwingStep s (Answer number status informed bytes) s' k h = ArePlaced-same s' _ h.after (same_placed s _ refl refl k)
   ArePlaced-OwingStep s _ s' k h = absurd h
 
   pub ArePlaced-Step : (s : State) (label : Label) (s' : State) → AreDistinct s → ArePlaced s → Step rules s label s' → ArePlaced s'

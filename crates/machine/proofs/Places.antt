@@ -94,8 +94,8 @@ module _ (rules : Rules) (some : 0 < rules.sector_size) where
   HavePlaces-FreeStep : (s : State) (label : Label) (s' : State) → HavePlaces s → FreeStep rules s label s' → HavePlaces s'
   HavePlaces-FreeStep s (Call number q) s' places h = HavePlaces-Admits s number q (refusal rules s q) s' places h.admits
   HavePlaces-FreeStep s (Device label) s' places h = HavePlaces-DeviceStep s label s' places h
-  HavePlaces-FreeStep s (Answer number status bytes) s' places h =
-      HavePlaces-same s' _ h.after (All-tail HasPlaces h.request h.others (All-permutation HasPlaces _ _ h.is_open places))
+  HavePlaces-FreeStep s (Answer number status informed bytes) s' places h =
+      HavePlaces-same s' _ h.answers.after (All-tail HasPlaces h.answers.request h.answers.others (All-permutation HasPlaces _ _ h.answers.is_open places))
   HavePlaces-FreeStep s (Cancel number) s' places h = HavePlaces-same s' _ h.after (All-changed HasPlaces s.requests h.request _ h.others h.is_open places (λ n. n))
   HavePlaces-FreeStep s Pause s' places h = HavePlaces-same s' _ h.after (held_places rules.window s.requests places)
   HavePlaces-FreeStep s Resume s' places h = HavePlaces-same s' _ h.after (All-map HasPlaces as_timely s.requests places)
@@ -108,7 +108,7 @@ module _ (rules : Rules) (some : 0 < rules.sector_size) where
   HavePlaces-FreeStep s Removed s' places h = HavePlaces-same s' _ h.after places
 
   HavePlaces-OwingStep : (s : State) (label : Label) (s' : State) → HavePlaces s → OwingStep s label s' → HavePlaces s'
-  HavePlaces-OwingStep s (Answer number status bytes) s' places h = HavePlaces-same s' _ h.after places
+  HavePlaces-OwingStep s (Answer number status informed bytes) s' places h = HavePlaces-same s' _ h.after places
   HavePlaces-OwingStep s _ s' places h = absurd h
 
   HavePlaces-Run : (s : State) (labels : List Label) (s' : State) → HavePlaces s → Run rules s labels s' → HavePlaces s'

@@ -13,7 +13,7 @@ use Rattle.machine.specs.State.{OpenRequest, Piece, State, IsSame}
 use Rattle.machine.specs.Calling.{refusal, Opens, Refuses, Admits, Calls, AnswersRefused, new_request}
 use Rattle.machine.specs.Sending.{Starts, Acts, Faults, MayStart, IsLowestFreeTag, IsFreshPiece, IsInTurn, HasOtherTag, HasTag, sent, new_piece, with_fate, given_back}
 use Rattle.srb.specs.Fate.{Acted, Faulted}
-use Rattle.machine.specs.Answering.{Answers}
+use Rattle.machine.specs.Answering.{Answers, AnswersWith}
 use Rattle.machine.specs.Holding.{as_cancelled, held_back, beyond, as_timely, is_lower}
 use Rattle.machine.specs.Step.{DeviceStep, FreeStep, OwingStep, Step, Run}
 
@@ -140,8 +140,8 @@ module _ (rules : Rules) (s s' t' : State) (rs : List OpenRequest) (ps : List Pi
       let same_refusal : refusal rules (reordered s rs ps) r ≡ refusal rules s r = rw (length_permutation s.requests rs p) in
       record { next_number = h.next_number; admits = rw same_refusal (Admits-along number r (refusal rules s r) h.admits) }
 
-  AnswersRefused-along : (number : ℕ) (status : NtStatus) (bytes : List ℕ) → AnswersRefused s number status bytes s' → AnswersRefused (reordered s rs ps) number status bytes t'
-  AnswersRefused-along number status bytes h = record { is_owed = h.is_owed; no_bytes = h.no_bytes; after = carry s' t' _ rs ps same h.after p q }
+  AnswersRefused-along : (number : ℕ) (status : NtStatus) (informed : ℕ) (bytes : List ℕ) → AnswersRefused s number status informed bytes s' → AnswersRefused (reordered s rs ps) number status informed bytes t'
+  AnswersRefused-along number status informed bytes h = record { is_owed = h.is_owed; none_moved = h.none_moved; no_bytes = h.no_bytes; after = carry s' t' _ rs ps same h.after p q }
 
   IsLowestFreeTag-along : (depth tag : ℕ) → IsLowestFreeTag depth s.pieces tag → IsLowestFreeTag depth ps tag
   IsLowestFreeTag-along depth tag h = record {
@@ -217,7 +217,7 @@ module _ (rules : Rules) (s s' t' : State) (rs : List OpenRequest) (ps : List Pi
     after = carry s' t' _ (given_back h.piece class h.marks h.owner ∷ h.others) h.other_pieces same h.after (IsPermutation-refl _) (IsPermutation-refl _);
   }
 
-  Answers-along : (number : ℕ) (status : NtStatus) (bytes : List ℕ) → Answers rules s number status bytes s' → Answers rules (reordered s rs ps) number status bytes t'
+  abbrev Answers-along : (number : ℕ) (status : NtStatus) (bytes : List ℕ) → Answers rules s number status bytes s' → Answers rules (reordered s rs ps) number status bytes t'
   Answers-along number status bytes h = record {
     request = h.request;
     others = h.others;
@@ -233,7 +233,7 @@ module _ (rules : Rules) (s s' t' : State) (rs : List OpenRequest) (ps : List Pi
   FreeStep-along : (label : Label) → FreeStep rules s label s' → FreeStep rules (reordered s rs ps) label t'
   FreeStep-along (Call number r) h = Calls-along number r h
   FreeStep-along (Device label) h = DeviceStep-along label h
-  FreeStep-along (Answer number status bytes) h = Answers-along number status bytes h
+  FreeStep-along (Answer number status informed bytes) h = record { answers = Answers-along number status bytes h.answers; informs = h.informs }
   FreeStep-along (Cancel number) h = record {
     request = h.request;
     others = h.others;
@@ -265,7 +265,7 @@ module _ (rules : Rules) (s s' t' : State) (rs : List OpenRequest) (ps : List Pi
   }
 
   OwingStep-along : (label : Label) → OwingStep s label s' → OwingStep (reordered s rs ps) label t'
-  OwingStep-along (Answer number status bytes) h = AnswersRefused-along number status bytes h
+  OwingStep-along (Answer number status informed bytes) h = AnswersRefused-along number status informed bytes h
   OwingStep-along _ h = absurd h
 
   Step-along : (label : Label) → Step rules s label s' → Step rules (reordered s rs ps) label t'
@@ -281,9 +281,11 @@ pub DeviceStep-same : (rules : Rules) (label : DeviceLabel) (s t s' t' : State) 
 DeviceStep-same rules label s t s' t' same same' h =
     subst (λ u. DeviceStep rules u label t') (sym (same_fields s t same)) (DeviceStep-along rules s s' t' t.requests t.pieces same.requests same.pieces same' label h)
 
-pub Answers-same : (rules : Rules) (number : ℕ) (status : NtStatus) (bytes : List ℕ) (s t s' t' : State) → IsSame s t → IsSame s' t' → Answers rules s number status bytes s' → Answers rules t number status bytes t'
-Answers-same rules number status bytes s t s' t' same same' h =
-    subst (λ u. Answers rules u number status bytes t') (sym (same_fields s t same)) (Answers-along rules s s' t' t.requests t.pieces same.requests same.pieces same' number status bytes h)
+pub AnswersWith-same : (rules : Rules) (number : ℕ) (status : NtStatus) (informed : ℕ) (bytes : List ℕ) (s t s' t' : State) → IsSame s t → IsSame s' t'
+    → AnswersWith rules s number status informed bytes s' → AnswersWith rules t number status informed bytes t'
+AnswersWith-same rules number status informed bytes s t s' t' same same' h =
+    subst (λ u. AnswersWith rules u number status informed bytes t') (sym (same_fields s t same))
+    (FreeStep-along rules s s' t' t.requests t.pieces same.requests same.pieces same' (Answer number status informed bytes) h)
 
 pub Run-same : (rules : Rules) (labels : List Label) (s t s' t' : State) → IsSame s t → IsSame s' t' → Run rules s labels s' → Run rules t labels t'
 Run-same rules [] s t s' t' same same' h = IsSame-trans t s t' (IsSame-sym s t same) (IsSame-trans s s' t' h same')

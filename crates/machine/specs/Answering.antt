@@ -5,7 +5,8 @@ use Rattle.ntstatus.specs.declared.NtStatus.{NtStatus}
 use Rattle.ntstatus.specs.declared.NtStatus.TheVariants.{Success, Cancelled, DeviceBusy, NoSuchDevice, DeletePending}
 use Rattle.machine.specs.declared.Kind.{Kind}
 use Rattle.machine.specs.declared.Kind.TheVariants.{Read, Write, Flush}
-use Rattle.machine.specs.Rules.{Rules}
+use Rattle.machine.specs.declared.ClientRequest.{ClientRequest}
+use Rattle.machine.specs.Rules.{Rules, is_transfer}
 use Rattle.machine.specs.State.{Mark, Untouched, Out, Done, Failed, Back, OpenRequest, State, IsSame}
 
 -- the place is done
@@ -59,3 +60,13 @@ pub record Answers (rules : Rules) (s : State) (number : ℕ) (status : NtStatus
   pub cause : HasCause rules s request request.marks status
   pub hands_back : bytes ≡ answer_bytes request.request.kind request.marks
   pub after : IsSame s' (record s { requests = others })
+
+-- the bytes that a request of this length has moved: all where it succeeds
+abbrev pub information : ClientRequest → NtStatus → ℕ
+information q Success = if is_transfer q.kind then q.length else 0
+information q status = 0
+
+-- an open request is answered, with the number of bytes that it moved
+pub record AnswersWith (rules : Rules) (s : State) (number : ℕ) (status : NtStatus) (informed : ℕ) (bytes : List ℕ) (s' : State) : Type 0 where
+  pub answers : Answers rules s number status bytes s'
+  pub informs : informed ≡ information answers.request.request status

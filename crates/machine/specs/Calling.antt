@@ -64,7 +64,8 @@ pub record Calls (rules : Rules) (s : State) (number : ℕ) (q : ClientRequest) 
   pub admits : Admits rules s number q (refusal rules s q) s'
 
 -- the answer that a refused call is owed
-pub record AnswersRefused (s : State) (number : ℕ) (status : NtStatus) (bytes : List ℕ) (s' : State) : Type 0 where
+pub record AnswersRefused (s : State) (number : ℕ) (status : NtStatus) (informed : ℕ) (bytes : List ℕ) (s' : State) : Type 0 where
   pub is_owed : s.owed ≡ Some (record { number = number; status = status })
+  pub none_moved : informed ≡ 0
   pub no_bytes : bytes ≡ []
   pub after : IsSame s' (record s { owed = None })

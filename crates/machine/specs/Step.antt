@@ -8,7 +8,7 @@ use Rattle.machine.specs.Rules.{Rules}
 use Rattle.machine.specs.State.{State, IsSame}
 use Rattle.machine.specs.Calling.{Calls, AnswersRefused}
 use Rattle.machine.specs.Sending.{Starts, Acts, Faults, Returns}
-use Rattle.machine.specs.Answering.{Answers}
+use Rattle.machine.specs.Answering.{AnswersWith}
 use Rattle.machine.specs.Holding.{Cancels, Pauses, Resumes, Removes, Surprises, Ends}
 
 -- the step by a label of the adapter
@@ -22,7 +22,7 @@ DeviceStep rules s (Return piece class) s' = Returns s piece class s'
 abbrev pub FreeStep : Rules → State → Label → State → Type 0
 FreeStep rules s (Call number q) s' = Calls rules s number q s'
 FreeStep rules s (Device label) s' = DeviceStep rules s label s'
-FreeStep rules s (Answer number status bytes) s' = Answers rules s number status bytes s'
+FreeStep rules s (Answer number status informed bytes) s' = AnswersWith rules s number status informed bytes s'
 FreeStep rules s (Cancel number) s' = Cancels s number s'
 FreeStep rules s Pause s' = Pauses rules s s'
 FreeStep rules s Resume s' = Resumes s s'
@@ -32,7 +32,7 @@ FreeStep rules s Removed s' = Ends s s'
 
 -- the step where one is owed: that answer, and no other label
 abbrev pub OwingStep : State → Label → State → Type 0
-OwingStep s (Answer number status bytes) s' = AnswersRefused s number status bytes s'
+OwingStep s (Answer number status informed bytes) s' = AnswersRefused s number status informed bytes s'
 OwingStep s _ s' = ⊥
 
 -- from s the machine may go to s' by this label

@@ -61,6 +61,8 @@ pub enum Label {
     Answer {
         number: u64,
         status: NtStatus,
+        /// The number of bytes transferred (WDK: IO_STATUS_BLOCK): the length of a read or write that succeeded, else 0.
+        information: u64,
         bytes: Bytes,
     },
     /// The cancel flag of an open request was set.

@@ -64,7 +64,7 @@ module _ (number : ℕ) where
   by_label : (rules : Rules) (s : State) (label : Label) (s' : State) → IsGone number s → FreeStep rules s label s' → All (HasOtherNumber number) s'.requests
   by_label rules s (Call n q) s' g h = admitted rules s n q (refusal rules s q) s' (rw h.next_number (omega arith)) g h.admits
   by_label rules s (Device label) s' g h = by_device rules s label s' g h
-  by_label rules s (Answer n status bytes) s' g h = open_along s s' _ h.after.requests (one_less s.requests h.request h.others h.is_open g.not_open)
+  by_label rules s (Answer n status informed bytes) s' g h = open_along s s' _ h.answers.after.requests (one_less s.requests h.answers.request h.answers.others h.answers.is_open g.not_open)
   by_label rules s (Cancel n) s' g h = open_along s s' _ h.after.requests (one_changed s.requests h.request _ h.others h.is_open refl g.not_open)
   by_label rules s Pause s' g h = open_along s s' _ h.after.requests (held rules.window s.requests g.not_open)
   by_label rules s Resume s' g h = open_along s s' _ h.after.requests (All-map (HasOtherNumber number) as_timely s.requests g.not_open)
@@ -77,7 +77,7 @@ module _ (number : ℕ) where
   by_label rules s Removed s' g h = open_along s s' _ h.after.requests g.not_open
 
   by_owing : (s : State) (label : Label) (s' : State) → IsGone number s → OwingStep s label s' → All (HasOtherNumber number) s'.requests
-  by_owing s (Answer n status bytes) s' g h = open_along s s' _ h.after.requests g.not_open
+  by_owing s (Answer n status informed bytes) s' g h = open_along s s' _ h.after.requests g.not_open
   by_owing s _ s' g h = absurd h
 
   pub IsGone-Step : (rules : Rules) (s : State) (label : Label) (s' : State) → IsGone number s → Step rules s label s' → IsGone number s'

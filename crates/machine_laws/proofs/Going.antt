@@ -62,7 +62,7 @@ device_owed rules s (Return n class) s' h = h.after.owed
 free_owed : (rules : Rules) (s : State) (number : ℕ) (label : Label) (s' : State) → IsNone s.owed → number < s.next_request → FreeStep rules s label s' → IsNotOwed number s'.owed
 free_owed rules s number (Call n q) s' free low h = admits_owed rules s number n q (refusal rules s q) s' free (rw h.next_number low) h.admits
 free_owed rules s number (Device label) s' free low h = rw (device_owed rules s label s' h) (none_owed number s.owed free)
-free_owed rules s number (Answer n status bytes) s' free low h = rw h.after.owed (none_owed number s.owed free)
+free_owed rules s number (Answer n status informed bytes) s' free low h = rw h.answers.after.owed (none_owed number s.owed free)
 free_owed rules s number (Cancel n) s' free low h = rw h.after.owed (none_owed number s.owed free)
 free_owed rules s number Pause s' free low h = rw h.after.owed (none_owed number s.owed free)
 free_owed rules s number Resume s' free low h = rw h.after.owed (none_owed number s.owed free)
@@ -71,7 +71,7 @@ free_owed rules s number Surprise s' free low h = rw h.drains.owed (none_owed nu
 free_owed rules s number Removed s' free low h = rw h.after.owed (none_owed number s.owed free)
 
 owing_owed : (s : State) (number : ℕ) (label : Label) (s' : State) → OwingStep s label s' → IsNotOwed number s'.owed
-owing_owed s number (Answer n status bytes) s' h = rw h.after.owed tt
+owing_owed s number (Answer n status informed bytes) s' h = rw h.after.owed tt
 owing_owed s number _ s' h = absurd h
 
 pub step_owed : (rules : Rules) (s : State) (number : ℕ) (label : Label) (s' : State) → number < s.next_request → Step rules s label s' → IsNotOwed number s'.owed
@@ -91,15 +91,15 @@ call_opens rules s number q s' admitted (inl h) = (h.0, subst (λ answer. Admits
 call_opens rules s number q s' admitted (inr h) = absurd h
 
 -- the answer of a request that was not refused is the open one's
-answer_of_open : (rules : Rules) (s : State) (number : ℕ) (status : NtStatus) (bytes : List ℕ) (s' : State) → IsNotOwed number s.owed → Step rules s (Answer number status bytes) s' → Answers rules s number status bytes s'
-answer_of_open rules s number status bytes s' owed (inl h) = h.1
-answer_of_open rules s number status bytes s' owed (inr h) =
+answer_of_open : (rules : Rules) (s : State) (number : ℕ) (status : NtStatus) (informed : ℕ) (bytes : List ℕ) (s' : State) → IsNotOwed number s.owed → Step rules s (Answer number status informed bytes) s' → Answers rules s number status bytes s'
+answer_of_open rules s number status informed bytes s' owed (inl h) = h.1.answers
+answer_of_open rules s number status informed bytes s' owed (inr h) =
     let wrong : IsNotOwed number (Some (record { number = number; status = status })) = rw h.is_owed at owed in
     absurd (wrong refl)
 
 pub labels_are_of_one : LabelsAreOfOne
-labels_are_of_one rules number q status bytes before called labels ended after admitted call run answer =
+labels_are_of_one rules number q status informed bytes before called labels ended after admitted call run answer =
     let opened : IsNone before.owed × Opens rules before number q called = call_opens rules before number q called admitted call in
     let given : number < called.next_request = rw opened.1.after.next_request (omega arith) in
     let owed : IsNotOwed number called.owed = rw opened.1.after.owed (none_owed number before.owed opened.0) in
-    (opened.1, answer_of_open rules ended number status bytes after (run_owed rules called number labels ended given owed run) answer)
+    (opened.1, answer_of_open rules ended number status informed bytes after (run_owed rules called number labels ended given owed run) answer)

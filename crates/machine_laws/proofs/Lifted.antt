@@ -148,7 +148,7 @@ module _ (rules : Rules) (size : ℕ) (is_map : IsMap size rules.partitions) whe
   follows s (Device (Fault n)) s' (inl h) disk entries left after good is_disk takes replays = quiet s _ s' (inl h) disk entries left after is_disk refl takes replays
   follows s (Device (Return n class)) s' (inl h) disk entries left after good is_disk takes replays = quiet s _ s' (inl h) disk entries left after is_disk refl takes replays
   follows s (Call n q) s' (inl h) disk entries left after good is_disk takes replays = quiet s _ s' (inl h) disk entries left after is_disk refl takes replays
-  follows s (Answer n status bytes) s' (inl h) disk entries left after good is_disk takes replays = quiet s _ s' (inl h) disk entries left after is_disk refl takes replays
+  follows s (Answer n status informed bytes) s' (inl h) disk entries left after good is_disk takes replays = quiet s _ s' (inl h) disk entries left after is_disk refl takes replays
   follows s (Cancel n) s' (inl h) disk entries left after good is_disk takes replays = quiet s _ s' (inl h) disk entries left after is_disk refl takes replays
   follows s Pause s' (inl h) disk entries left after good is_disk takes replays = quiet s _ s' (inl h) disk entries left after is_disk refl takes replays
   follows s Resume s' (inl h) disk entries left after good is_disk takes replays = quiet s _ s' (inl h) disk entries left after is_disk refl takes replays

@@ -40,7 +40,7 @@ module _ (rules : Rules) where
   abbrev pub FreeMoves : (s : State) (label : Label) (s' : State) → FreeStep rules s label s' → List (List (List ℕ)) → List (List (List ℕ)) → Type 0
   FreeMoves s (Device label) s' h before after = DeviceMoves s label s' h before after
   FreeMoves s (Call number q) s' h before after = after ≡ before
-  FreeMoves s (Answer number status bytes) s' h before after = after ≡ before
+  FreeMoves s (Answer number status informed bytes) s' h before after = after ≡ before
   FreeMoves s (Cancel number) s' h before after = after ≡ before
   FreeMoves s Pause s' h before after = after ≡ before
   FreeMoves s Resume s' h before after = after ≡ before
@@ -108,11 +108,9 @@ module _ (rules : Rules) where
   lift_admits s number q None s' arrays h e = record { new_number = h.new_number; not_refused = e; carries = h.carries; after = IsSame-over arrays s' _ h.after }
   lift_admits s number q (Some status) s' arrays h e = record { no_bytes = h.no_bytes; after = IsSame-over arrays s' _ h.after }
 
-  lift_free : (s : State) (label : Label) (s' : State) (h : FreeStep rules s label s') (before after : List (List (List ℕ))) → FreeMoves s label s' h before after
-      → FreeStep (as_faithful rules) (over before s) label (over after s')
-  lift_free s (Device label) s' h before after e = lift_device s label s' h before after e
-  lift_free s (Call number q) s' h before after e = rw e (record { next_number = h.next_number; admits = lift_admits s number q (refusal rules s q) s' before h.admits refl })
-  lift_free s (Answer number status bytes) s' h before after e = rw e (record {
+  abbrev lift_answers : (s : State) (number : ℕ) (status : NtStatus) (bytes : List ℕ) (s' : State) (before : List (List (List ℕ))) → Answers rules s number status bytes s'
+      → Answers (as_faithful rules) (over before s) number status bytes (over before s')
+  lift_answers s number status bytes s' before h = record {
     request = h.request;
     others = h.others;
     is_open = h.is_open;
@@ -122,7 +120,13 @@ module _ (rules : Rules) where
     cause = h.cause;
     hands_back = h.hands_back;
     after = IsSame-over before s' _ h.after;
-  })
+  }
+
+  lift_free : (s : State) (label : Label) (s' : State) (h : FreeStep rules s label s') (before after : List (List (List ℕ))) → FreeMoves s label s' h before after
+      → FreeStep (as_faithful rules) (over before s) label (over after s')
+  lift_free s (Device label) s' h before after e = lift_device s label s' h before after e
+  lift_free s (Call number q) s' h before after e = rw e (record { next_number = h.next_number; admits = lift_admits s number q (refusal rules s q) s' before h.admits refl })
+  lift_free s (Answer number status informed bytes) s' h before after e = rw e (record { answers = lift_answers s number status bytes s' before h.answers; informs = h.informs })
   lift_free s (Cancel number) s' h before after e = rw e (record { request = h.request; others = h.others; is_open = h.is_open; is_number = h.is_number; not_yet = h.not_yet; after = IsSame-over before s' _ h.after })
   lift_free s Pause s' h before after e = rw e (record { not_paused = h.not_paused; not_removing = h.not_removing; after = IsSame-over before s' _ h.after })
   lift_free s Resume s' h before after e = rw e (record { is_paused = h.is_paused; after = IsSame-over before s' _ h.after })
@@ -131,7 +135,7 @@ module _ (rules : Rules) where
   lift_free s Removed s' h before after e = rw e (record { is_removing = h.is_removing; once = h.once; none_open = h.none_open; after = IsSame-over before s' _ h.after })
 
   lift_owing : (s : State) (label : Label) (s' : State) (arrays : List (List (List ℕ))) → OwingStep s label s' → OwingStep (over arrays s) label (over arrays s')
-  lift_owing s (Answer number status bytes) s' arrays h = record { is_owed = h.is_owed; no_bytes = h.no_bytes; after = IsSame-over arrays s' _ h.after }
+  lift_owing s (Answer number status informed bytes) s' arrays h = record { is_owed = h.is_owed; none_moved = h.none_moved; no_bytes = h.no_bytes; after = IsSame-over arrays s' _ h.after }
   lift_owing s _ s' arrays h = absurd h
 
   pub lift_step : (s : State) (label : Label) (s' : State) (h : Step rules s label s') (before after : List (List (List ℕ))) → StepMoves s label s' h before after

@@ -25,7 +25,7 @@ FreeStep-no_call rules r s (Call number q) s' given h = λ e. let n : number ≡
 FreeStep-no_call rules r s _ s' given h = tt
 
 OwingStep-no_call : (r : ℕ) (s : State) (label : Label) (s' : State) → OwingStep s label s' → IsNoCallOf r label
-OwingStep-no_call r s (Answer number status bytes) s' h = tt
+OwingStep-no_call r s (Answer number status informed bytes) s' h = tt
 OwingStep-no_call r s _ s' h = absurd h
 
 Step-no_call : (rules : Rules) (r : ℕ) (s : State) (label : Label) (s' : State) → r < s.next_request → Step rules s label s' → IsNoCallOf r label
@@ -62,11 +62,11 @@ module _ (rules : Rules) (r : ℕ) where
   IsSpent-Step s label s' k h = record { gone = IsGone-Step r rules s label s' k.gone h; not_owed = step_owed rules s r label s' k.gone.given h }
 
   FreeStep-no_answer : (s : State) (label : Label) (s' : State) → IsSpent r s → FreeStep rules s label s' → IsNoAnswerOf r label
-  FreeStep-no_answer s (Answer number status bytes) s' k h = λ e. All-head (HasOtherNumber r) h.request h.others (All-permutation (HasOtherNumber r) _ _ h.is_open k.gone.not_open) (h.is_number ∙ e)
+  FreeStep-no_answer s (Answer number status informed bytes) s' k h = λ e. All-head (HasOtherNumber r) h.answers.request h.answers.others (All-permutation (HasOtherNumber r) _ _ h.answers.is_open k.gone.not_open) (h.answers.is_number ∙ e)
   FreeStep-no_answer s _ s' k h = tt
 
   OwingStep-no_answer : (s : State) (label : Label) (s' : State) → IsSpent r s → OwingStep s label s' → IsNoAnswerOf r label
-  OwingStep-no_answer s (Answer number status bytes) s' k h = subst (λ owed. IsNotOwed r owed) h.is_owed k.not_owed
+  OwingStep-no_answer s (Answer number status informed bytes) s' k h = subst (λ owed. IsNotOwed r owed) h.is_owed k.not_owed
   OwingStep-no_answer s _ s' k h = absurd h
 
   Step-no_answer : (s : State) (label : Label) (s' : State) → IsSpent r s → Step rules s label s' → IsNoAnswerOf r label
@@ -107,7 +107,7 @@ module _ (rules : Rules) where
   FreeStep-owed : (s : State) (label : Label) (s' : State) → AreApart s → IsNone s.owed → FreeStep rules s label s' → IsOwedApart s' s'.owed
   FreeStep-owed s (Call number q) s' k free h = owed_apart s number q (refusal rules s q) s' k free h.next_number h.admits
   FreeStep-owed s (Device label) s' k free h = none_owed_apart s' s'.owed (rw (device_owed rules s label s' h) free)
-  FreeStep-owed s (Answer number status bytes) s' k free h = none_owed_apart s' s'.owed (rw h.after.owed free)
+  FreeStep-owed s (Answer number status informed bytes) s' k free h = none_owed_apart s' s'.owed (rw h.answers.after.owed free)
   FreeStep-owed s (Cancel number) s' k free h = none_owed_apart s' s'.owed (rw h.after.owed free)
   FreeStep-owed s Pause s' k free h = none_owed_apart s' s'.owed (rw h.after.owed free)
   FreeStep-owed s Resume s' k free h = none_owed_apart s' s'.owed (rw h.after.owed free)
@@ -116,27 +116,27 @@ module _ (rules : Rules) where
   FreeStep-owed s Removed s' k free h = none_owed_apart s' s'.owed (rw h.after.owed free)
 
   OwingStep-owed : (s : State) (label : Label) (s' : State) → OwingStep s label s' → IsOwedApart s' s'.owed
-  OwingStep-owed s (Answer number status bytes) s' h = none_owed_apart s' s'.owed (rw h.after.owed refl)
+  OwingStep-owed s (Answer number status informed bytes) s' h = none_owed_apart s' s'.owed (rw h.after.owed refl)
   OwingStep-owed s _ s' h = absurd h
 
   AreApart-Step : (s : State) (label : Label) (s' : State) → AreApart s → Step rules s label s' → AreApart s'
   AreApart-Step s label s' k (inl h) = record { distinct = AreDistinct-Step rules s label s' k.distinct (inl h); owed = FreeStep-owed s label s' k h.0 h.1 }
   AreApart-Step s label s' k (inr h) = record { distinct = AreDistinct-Step rules s label s' k.distinct (inr h); owed = OwingStep-owed s label s' h }
 
-  answered_number : (s : State) (r : ℕ) (status : NtStatus) (bytes : List ℕ) (mid : State) → AreApart s → Step rules s (Answer r status bytes) mid → IsSpent r mid
-  answered_number s r status bytes mid k (inl (free, h)) =
-      record { gone = answered_gone rules s r status bytes mid k.distinct h; not_owed = rw h.after.owed (none_owed r s.owed free) }
-  answered_number s r status bytes mid k (inr h) =
+  answered_number : (s : State) (r : ℕ) (status : NtStatus) (informed : ℕ) (bytes : List ℕ) (mid : State) → AreApart s → Step rules s (Answer r status informed bytes) mid → IsSpent r mid
+  answered_number s r status informed bytes mid k (inl (free, h)) =
+      record { gone = answered_gone rules s r status bytes mid k.distinct h.answers; not_owed = rw h.answers.after.owed (none_owed r s.owed free) }
+  answered_number s r status informed bytes mid k (inr h) =
       let apart : (r < s.next_request) × All (HasOtherNumber r) s.requests = subst (λ owed. IsOwedApart s owed) h.is_owed k.owed in
       record {
         gone = record { given = rw h.after.next_request apart.0; not_open = All-permutation (HasOtherNumber r) _ _ (IsPermutation-sym _ _ h.after.requests) apart.1 };
         not_owed = rw h.after.owed tt;
       }
 
-  answers_apart : (before : List Label) (s : State) (r : ℕ) (status : NtStatus) (bytes : List ℕ) (after : List Label) (s' : State)
-      → AreApart s → Run rules s (before ++ Answer r status bytes ∷ after) s' → All (IsNoAnswerOf r) after
-  answers_apart [] s r status bytes after s' k (mid, step, rest) = Run-no_answer rules r mid after s' (answered_number s r status bytes mid k step) rest
-  answers_apart (label ∷ before) s r status bytes after s' k (mid, step, rest) = answers_apart before mid r status bytes after s' (AreApart-Step s label mid k step) rest
+  answers_apart : (before : List Label) (s : State) (r : ℕ) (status : NtStatus) (informed : ℕ) (bytes : List ℕ) (after : List Label) (s' : State)
+      → AreApart s → Run rules s (before ++ Answer r status informed bytes ∷ after) s' → All (IsNoAnswerOf r) after
+  answers_apart [] s r status informed bytes after s' k (mid, step, rest) = Run-no_answer rules r mid after s' (answered_number s r status informed bytes mid k step) rest
+  answers_apart (label ∷ before) s r status informed bytes after s' k (mid, step, rest) = answers_apart before mid r status informed bytes after s' (AreApart-Step s label mid k step) rest
 
 pub answers_once : AnswersOnce
-answers_once rules s d free before r status bytes after s' run = answers_apart rules before s r status bytes after s' (AreApart-start s d free) run
+answers_once rules s d free before r status informed bytes after s' run = answers_apart rules before s r status informed bytes after s' (AreApart-start s d free) run

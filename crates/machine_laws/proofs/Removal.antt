@@ -50,7 +50,7 @@ module _ (rules : Rules) where
   FreeStep-empty : (s : State) (label : Label) (s' : State) → IsEmpty s → FreeStep rules s label s' → IsNotOfDevice label × IsEmpty s'
   FreeStep-empty s (Call number q) s' k h = (tt, IsEmpty-Admits s number q (refusal rules s q) s' refl k h.admits)
   FreeStep-empty s (Device label) s' k h = absurd (DeviceStep-empty s label s' k h)
-  FreeStep-empty s (Answer number status bytes) s' k h = absurd (none_left h.request h.others s.requests k.none_open h.is_open)
+  FreeStep-empty s (Answer number status informed bytes) s' k h = absurd (none_left h.answers.request h.answers.others s.requests k.none_open h.answers.is_open)
   FreeStep-empty s (Cancel number) s' k h = absurd (none_left h.request h.others s.requests k.none_open h.is_open)
   FreeStep-empty s Pause s' k h = cc (k.removing, h.not_removing)
   FreeStep-empty s Resume s' k h = (tt, IsEmpty-same s' _ h.after (record { removing = k.removing; none_open = ap (λ xs. map as_timely xs) k.none_open; none_out = k.none_out }))
@@ -59,7 +59,7 @@ module _ (rules : Rules) where
   FreeStep-empty s Removed s' k h = (tt, IsEmpty-same s' _ h.after (record { removing = k.removing; none_open = k.none_open; none_out = k.none_out }))
 
   OwingStep-empty : (s : State) (label : Label) (s' : State) → IsEmpty s → OwingStep s label s' → IsNotOfDevice label × IsEmpty s'
-  OwingStep-empty s (Answer number status bytes) s' k h = (tt, IsEmpty-same s' _ h.after (record { removing = k.removing; none_open = k.none_open; none_out = k.none_out }))
+  OwingStep-empty s (Answer number status informed bytes) s' k h = (tt, IsEmpty-same s' _ h.after (record { removing = k.removing; none_open = k.none_open; none_out = k.none_out }))
   OwingStep-empty s _ s' k h = absurd h
 
   Step-empty : (s : State) (label : Label) (s' : State) → IsEmpty s → Step rules s label s' → IsNotOfDevice label × IsEmpty s'

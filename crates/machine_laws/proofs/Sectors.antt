@@ -141,7 +141,7 @@ free_arrays rules s (Device (Start n tag block)) s' h = inl h.after.arrays
 free_arrays rules s (Device (Act n bytes)) s' h = inr (n, bytes, refl, h)
 free_arrays rules s (Device (Fault n)) s' h = inl h.after.arrays
 free_arrays rules s (Device (Return n class)) s' h = inl h.after.arrays
-free_arrays rules s (Answer n status bytes) s' h = inl h.after.arrays
+free_arrays rules s (Answer n status informed bytes) s' h = inl h.answers.after.arrays
 free_arrays rules s (Cancel n) s' h = inl h.after.arrays
 free_arrays rules s Pause s' h = inl h.after.arrays
 free_arrays rules s Resume s' h = inl h.after.arrays
@@ -150,7 +150,7 @@ free_arrays rules s Surprise s' h = inl h.drains.arrays
 free_arrays rules s Removed s' h = inl h.after.arrays
 
 owing_arrays : (s : State) (label : Label) (s' : State) → OwingStep s label s' → s'.arrays ≡ s.arrays
-owing_arrays s (Answer n status bytes) s' h = h.after.arrays
+owing_arrays s (Answer n status informed bytes) s' h = h.after.arrays
 owing_arrays s _ s' h = absurd h
 
 pub step_arrays : (rules : Rules) (s : State) (label : Label) (s' : State) → Step rules s label s' → Moved rules s label s'

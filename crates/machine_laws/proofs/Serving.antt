@@ -359,11 +359,11 @@ module _ (rules : Rules) (number : ℕ) (q : ClientRequest) (Right : List (List 
   pub Serves-FreeStep : (s : State) (label : Label) (s' : State) → AreDistinct s → AllActRightly rules number Right s s' → Serves rules number q Right s → FreeStep rules s label s' → Serves rules number q Right s'
   Serves-FreeStep s (Call n r) s' d acts k h = Serves-Admits s n r (refusal rules s r) s' (rw h.next_number (omega arith)) k h.admits
   Serves-FreeStep s (Device label) s' d acts k h = Serves-DeviceStep s label s' d acts k h
-  Serves-FreeStep s (Answer n status bytes) s' d acts k h =
-      Serves-same s' _ h.after (with_requests s h.others k
-      (All-tail (IsSized rules) h.request h.others (All-permutation (IsSized rules) _ _ h.is_open k.sized))
-      (All-tail (IsMine number q (Right s.arrays)) h.request h.others (All-permutation (IsMine number q (Right s.arrays)) _ _ h.is_open k.mine))
-      (λ p holds. All-tail (HoldsPlaces rules p) h.request h.others (All-permutation (HoldsPlaces rules p) _ _ h.is_open holds)))
+  Serves-FreeStep s (Answer n status informed bytes) s' d acts k h =
+      Serves-same s' _ h.answers.after (with_requests s h.answers.others k
+      (All-tail (IsSized rules) h.answers.request h.answers.others (All-permutation (IsSized rules) _ _ h.answers.is_open k.sized))
+      (All-tail (IsMine number q (Right s.arrays)) h.answers.request h.answers.others (All-permutation (IsMine number q (Right s.arrays)) _ _ h.answers.is_open k.mine))
+      (λ p holds. All-tail (HoldsPlaces rules p) h.answers.request h.answers.others (All-permutation (HoldsPlaces rules p) _ _ h.answers.is_open holds)))
   Serves-FreeStep s (Cancel n) s' d acts k h =
       Serves-same s' _ h.after (changed s h.request (as_cancelled h.request) h.others h.is_open k refl refl refl (λ e. (mine_first s h.request h.others h.is_open k e).right))
   Serves-FreeStep s Pause s' d acts k h = Serves-same s' _ h.after (flagged _ s.owed s.next_piece true s.removing s.removed (Serves-paused s rules.window k))
@@ -377,7 +377,7 @@ module _ (rules : Rules) (number : ℕ) (q : ClientRequest) (Right : List (List 
   Serves-FreeStep s Removed s' d acts k h = Serves-same s' _ h.after (flagged s s.owed s.next_piece s.paused s.removing true k)
 
   Serves-OwingStep : (s : State) (label : Label) (s' : State) → Serves rules number q Right s → OwingStep s label s' → Serves rules number q Right s'
-  Serves-OwingStep s (Answer n status bytes) s' k h = Serves-same s' _ h.after (flagged s None s.next_piece s.paused s.removing s.removed k)
+  Serves-OwingStep s (Answer n status informed bytes) s' k h = Serves-same s' _ h.after (flagged s None s.next_piece s.paused s.removing s.removed k)
   Serves-OwingStep s _ s' k h = absurd h
 
   pub Serves-Step : (s : State) (label : Label) (s' : State) → AreDistinct s → AllActRightly rules number Right s s' → Serves rules number q Right s → Step rules s label s' → Serves rules number q Right s'

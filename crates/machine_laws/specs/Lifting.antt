@@ -63,7 +63,7 @@ DeviceTakes rules s (Return piece class) s' h entries left = left ≡ entries
 abbrev pub FreeTakes : (rules : Rules) (s : State) (label : Label) (s' : State) → FreeStep rules s label s' → List Entry → List Entry → Type 0
 FreeTakes rules s (Device label) s' h entries left = DeviceTakes rules s label s' h entries left
 FreeTakes rules s (Call number q) s' h entries left = left ≡ entries
-FreeTakes rules s (Answer number status bytes) s' h entries left = left ≡ entries
+FreeTakes rules s (Answer number status informed bytes) s' h entries left = left ≡ entries
 FreeTakes rules s (Cancel number) s' h entries left = left ≡ entries
 FreeTakes rules s Pause s' h entries left = left ≡ entries
 FreeTakes rules s Resume s' h entries left = left ≡ entries

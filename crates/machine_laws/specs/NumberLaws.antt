@@ -16,7 +16,7 @@ IsNoCallOf r _ = Unit {0}
 
 -- the label is no answer of this number
 abbrev pub IsNoAnswerOf : ℕ → Label → Type 0
-IsNoAnswerOf r (Answer number status bytes) = number ≢ r
+IsNoAnswerOf r (Answer number status informed bytes) = number ≢ r
 IsNoAnswerOf r _ = Unit {0}
 
 -- no number is given to two calls
@@ -26,5 +26,5 @@ CallsOnce = (rules : Rules) (s : State) (before : List Label) (r : ℕ) (q : Cli
 
 -- what is answered is never answered again, where at first nothing is owed and the open requests have numbers of their own
 abbrev pub AnswersOnce : Type 0
-AnswersOnce = (rules : Rules) (s : State) → AreDistinct s → IsNone s.owed → (before : List Label) (r : ℕ) (status : NtStatus) (bytes : List ℕ) (after : List Label) (s' : State)
-    → Run rules s (before ++ Answer r status bytes ∷ after) s' → All (IsNoAnswerOf r) after
+AnswersOnce = (rules : Rules) (s : State) → AreDistinct s → IsNone s.owed → (before : List Label) (r : ℕ) (status : NtStatus) (informed : ℕ) (bytes : List ℕ) (after : List Label) (s' : State)
+    → Run rules s (before ++ Answer r status informed bytes ∷ after) s' → All (IsNoAnswerOf r) after

@@ -26,8 +26,8 @@ SoloWritesHold = (rules : Rules) (before : State) → IsTrue rules.faithful → 
 
 -- a call that is not refused opens its request, and an answer of that number after it is the open request's
 abbrev pub LabelsAreOfOne : Type 0
-LabelsAreOfOne = (rules : Rules) (number : ℕ) (q : ClientRequest) (status : NtStatus) (bytes : List ℕ) (before called : State) (labels : List Label) (ended after : State)
-    → refusal rules before q ≡ None → Step rules before (Call number q) called → Run rules called labels ended → Step rules ended (Answer number status bytes) after
+LabelsAreOfOne = (rules : Rules) (number : ℕ) (q : ClientRequest) (status : NtStatus) (informed : ℕ) (bytes : List ℕ) (before called : State) (labels : List Label) (ended after : State)
+    → refusal rules before q ≡ None → Step rules before (Call number q) called → Run rules called labels ended → Step rules ended (Answer number status informed bytes) after
     → Opens rules before number q called × Answers rules ended number status bytes after
 
 -- the place of a write is as it was before the call, or a piece of the write acted on it and its bytes stand there

@@ -41,9 +41,9 @@ reaches_one_failed =
     )
 
 pub answers_not_one_failed : NeverAnswers small one_failed 1
-answers_not_one_failed status bytes =
+answers_not_one_failed status informed bytes =
     let o : OpenRequest = opened 1 (read 0 6) (Failed DeviceDataError ∷ Out ∷ Untouched ∷ []) in
-    never_answered small one_failed 1 status bytes refl ((λ number (e0, (e1, e2)) success cause hands. out_ends_not small one_failed o e1), tt)
+    never_answered small one_failed 1 status informed bytes refl ((λ number (e0, (e1, e2)) success cause hands. out_ends_not small one_failed o e1), tt)
 
 pub reaches_one_waits : ReachesOneWaits
 reaches_one_waits =
@@ -60,9 +60,9 @@ reaches_one_waits =
     )
 
 pub answers_not_one_waits : NeverAnswers small one_waits 1
-answers_not_one_waits status bytes =
+answers_not_one_waits status informed bytes =
     let o : OpenRequest = opened 1 (read 0 6) (Failed DeviceDataError ∷ Done (full_of 0) ∷ Untouched ∷ []) in
-    never_answered small one_waits 1 status bytes refl ((λ number (e0, (e1, (e2, e3))) success cause hands. untouched_ends_not small one_waits o refl refl e2), tt)
+    never_answered small one_waits 1 status informed bytes refl ((λ number (e0, (e1, (e2, e3))) success cause hands. untouched_ends_not small one_waits o refl refl e2), tt)
 
 pub reaches_cancelled_out : ReachesCancelledOut
 reaches_cancelled_out =
@@ -81,17 +81,17 @@ reaches_cancelled_out =
     )
 
 pub answers_not_cancelled_out : NeverAnswers small cancelled_out 1
-answers_not_cancelled_out status bytes =
+answers_not_cancelled_out status informed bytes =
     let o : OpenRequest = record (opened 1 (write 0 2 (full_of 165)) (Out ∷ [])) { cancelled = true } in
-    never_answered small cancelled_out 1 status bytes refl ((λ number (e0, e1) success cause hands. out_ends_not small cancelled_out o e0), tt)
+    never_answered small cancelled_out 1 status informed bytes refl ((λ number (e0, e1) success cause hands. out_ends_not small cancelled_out o e0), tt)
 
 pub reaches_unsent : ReachesUnsent
 reaches_unsent = (_, called small _ (write 0 2 (full_of 165)) refl refl refl, IsSame-refl _)
 
 pub answers_not_unsent : NeverAnswers small unsent 1
-answers_not_unsent status bytes =
+answers_not_unsent status informed bytes =
     let o : OpenRequest = opened 1 (write 0 2 (full_of 165)) (Untouched ∷ []) in
-    never_answered small unsent 1 status bytes refl ((λ number (e0, e1) success cause hands. untouched_ends_not small unsent o refl refl e0), tt)
+    never_answered small unsent 1 status informed bytes refl ((λ number (e0, e1) success cause hands. untouched_ends_not small unsent o refl refl e0), tt)
 
 pub reaches_unsent_cancelled : ReachesUnsentCancelled
 reaches_unsent_cancelled = (_, cancelled small _ (opened 1 (write 0 2 (full_of 165)) (Untouched ∷ [])) [] refl (IsPermutation-refl _) refl, IsSame-refl _)
@@ -136,4 +136,4 @@ reaches_both_failed =
     )
 
 pub answers_not_as_higher : NeverAnswersAs small both_failed 1 DeviceNotReady
-answers_not_as_higher bytes = never_answered small both_failed 1 DeviceNotReady bytes refl ((λ number ended success cause hands. cc (cause)), tt)
+answers_not_as_higher informed bytes = never_answered small both_failed 1 DeviceNotReady informed bytes refl ((λ number ended success cause hands. cc (cause)), tt)

@@ -21,7 +21,7 @@ is_cut_short =
     let k : Fate → Piece = λ fate. piece_of 2 1 1 1 fate in
     let sector = full_of 165 ∷ [] in
     let d = Done (full_of 165) in
-    Run-append small (opening zeros) cancelled_in_three cut (Device (Act 2 (full_of 165)) ∷ Device (Return 2 Good) ∷ Answer 1 Cancelled [] ∷ []) (idle (sectors 165 165 0) 2 3) reaches_cut (
+    Run-append small (opening zeros) cancelled_in_three cut (Device (Act 2 (full_of 165)) ∷ Device (Return 2 Good) ∷ Answer 1 Cancelled 0 [] ∷ []) (idle (sectors 165 165 0) 2 3) reaches_cut (
       _,
       acted small _ (k Fresh) [] (w d Out) sector (sectors 165 165 0) (full_of 165) refl (search rules) (search rules) refl refl (search rules) refl,
       (
@@ -118,7 +118,7 @@ is_reset_after_act =
 pub answers_lowest_failure : AnswersLowestFailure
 answers_lowest_failure =
     let r : OpenRequest = opened 1 (read 0 4) (Failed DeviceDataError ∷ Failed DeviceNotReady ∷ []) in
-    Run-append small (opening zeros) both_fail both_failed (Answer 1 DeviceDataError [] ∷ []) (idle zeros 2 3) reaches_both_failed (
+    Run-append small (opening zeros) both_fail both_failed (Answer 1 DeviceDataError 0 [] ∷ []) (idle zeros 2 3) reaches_both_failed (
       _,
       answered small _ r [] DeviceDataError [] refl (IsPermutation-refl _) (inr (DeviceDataError, refl), (inr (DeviceNotReady, refl), tt)) (search rules) refl refl,
       IsSame-refl _,

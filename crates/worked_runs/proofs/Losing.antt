@@ -71,15 +71,15 @@ answers_once =
     )
 
 pub answers_not_twice : NeverAnswers small (idle zeros 2 1) 1
-answers_not_twice status bytes = never_answered small (idle zeros 2 1) 1 status bytes refl tt
+answers_not_twice status informed bytes = never_answered small (idle zeros 2 1) 1 status informed bytes refl tt
 
 pub refuses_not_without_cause : NeverRefusesWithoutCause
-refuses_not_without_cause status bytes s' (s1, inl (free, call), (s2, step, rest)) =
+refuses_not_without_cause status informed bytes s' (s1, inl (free, call), (s2, step, rest)) =
     let o : OpenRequest = opened 1 (read 0 2) (Untouched ∷ []) in
     let there : State = record (idle zeros 2 1) { requests = o ∷ [] } in
-    never_answered small there 1 status bytes refl ((λ number (e0, e1) success cause hands. untouched_ends_not small there o refl refl e0), tt)
-    s2 (Step-same small (Answer 1 status bytes) s1 there s2 s2 call.admits.after (IsSame-refl s2) step)
-refuses_not_without_cause status bytes s' (s1, inr none, rest) = absurd none
+    never_answered small there 1 status informed bytes refl ((λ number (e0, e1) success cause hands. untouched_ends_not small there o refl refl e0), tt)
+    s2 (Step-same small (Answer 1 status informed bytes) s1 there s2 s2 call.admits.after (IsSame-refl s2) step)
+refuses_not_without_cause status informed bytes s' (s1, inr none, rest) = absurd none
 
 pub reaches_last_unsent : ReachesLastUnsent
 reaches_last_unsent =
@@ -145,9 +145,9 @@ reaches_both_back =
       ),
     )
 
-pub joins_not_by_return : Never small both_back (Answer 1 Success (full_of 34 ++ full_of 17))
+pub joins_not_by_return : Never small both_back (Answer 1 Success 4 (full_of 34 ++ full_of 17))
 joins_not_by_return =
-    never_answered small both_back 1 Success (full_of 34 ++ full_of 17) refl ((λ number ended success cause hands. cc (hands)), tt)
+    never_answered small both_back 1 Success 4 (full_of 34 ++ full_of 17) refl ((λ number ended success cause hands. cc (hands)), tt)
 
 pub reaches_one_of_two : ReachesOneOfTwo
 reaches_one_of_two =
@@ -177,9 +177,9 @@ reaches_one_of_two =
     )
 
 pub answers_not_the_other : NeverAnswers small one_of_two 2
-answers_not_the_other status bytes =
+answers_not_the_other status informed bytes =
     let other : OpenRequest = opened 2 (read 0 2) (Untouched ∷ []) in
-    never_answered small one_of_two 2 status bytes refl (
+    never_answered small one_of_two 2 status informed bytes refl (
       (λ number ended success cause hands. cc (number)),
       (
         (λ number (e0, e1) success cause hands. untouched_ends_not small one_of_two other refl refl e0),

@@ -27,7 +27,7 @@ of call status = record { call = call; status = status }
 -- the labels of calls from this number on, each with its answer
 abbrev labels_of : ℕ → List Refused → List Label
 labels_of number [] = []
-labels_of number (r ∷ rs) = Call number r.call ∷ Answer number r.status [] ∷ labels_of (number + 1) rs
+labels_of number (r ∷ rs) = Call number r.call ∷ Answer number r.status 0 [] ∷ labels_of (number + 1) rs
 
 abbrev numbered : State → ℕ → State
 numbered s number = record s { next_request = number; owed = None }

@@ -26,21 +26,21 @@ IsNotAnswered rules s number status bytes o =
     o.number ≡ number → AllByRecursion (HasEnded rules s o) o.marks → ((status ≡ Success) ↔ IsTrue (list_all is_done o.marks)) → HasCause rules s o o.marks status
     → bytes ≡ answer_bytes o.request.kind o.marks → ⊥
 
-pub never_answered : (rules : Rules) (s : State) (number : ℕ) (status : NtStatus) (bytes : List ℕ) → IsNone s.owed → AllByRecursion (IsNotAnswered rules s number status bytes) s.requests
-    → (s' : State) → Step rules s (Answer number status bytes) s' → ⊥
-never_answered rules s number status bytes none each s' (inl (free, h)) =
-    of_each (IsNotAnswered rules s number status bytes) s.requests h.request h.others each h.is_open h.is_number (recursion_from_All _ _ h.ended) h.success h.cause h.hands_back
-never_answered rules s number status bytes none each s' (inr h) =
+pub never_answered : (rules : Rules) (s : State) (number : ℕ) (status : NtStatus) (informed : ℕ) (bytes : List ℕ) → IsNone s.owed → AllByRecursion (IsNotAnswered rules s number status bytes) s.requests
+    → (s' : State) → Step rules s (Answer number status informed bytes) s' → ⊥
+never_answered rules s number status informed bytes none each s' (inl (free, h)) =
+    of_each (IsNotAnswered rules s number status bytes) s.requests h.answers.request h.answers.others each h.answers.is_open h.answers.is_number (recursion_from_All _ _ h.answers.ended) h.answers.success h.answers.cause h.answers.hands_back
+never_answered rules s number status informed bytes none each s' (inr h) =
     let some : is_some s.owed ≡ true = ap is_some h.is_owed in cc
 
 -- no request with a place that isn't done succeeds
 pub never_succeeds : (rules : Rules) (s : State) (number : ℕ) → IsNone s.owed → AllByRecursion (λ o. list_all is_done o.marks ≡ false) s.requests
-    → (bytes : List ℕ) (s' : State) → Step rules s (Answer number Success bytes) s' → ⊥
-never_succeeds rules s number none each bytes s' (inl (free, h)) =
-    let undone : list_all is_done h.request.marks ≡ false = of_each (λ o. list_all is_done o.marks ≡ false) s.requests h.request h.others each h.is_open in
-    let done : list_all is_done h.request.marks ≡ true = h.success.0 refl in
+    → (informed : ℕ) (bytes : List ℕ) (s' : State) → Step rules s (Answer number Success informed bytes) s' → ⊥
+never_succeeds rules s number none each informed bytes s' (inl (free, h)) =
+    let undone : list_all is_done h.answers.request.marks ≡ false = of_each (λ o. list_all is_done o.marks ≡ false) s.requests h.answers.request h.answers.others each h.answers.is_open in
+    let done : list_all is_done h.answers.request.marks ≡ true = h.answers.success.0 refl in
     cc (undone, done)
-never_succeeds rules s number none each bytes s' (inr h) =
+never_succeeds rules s number none each informed bytes s' (inr h) =
     let some : is_some s.owed ≡ true = ap is_some h.is_owed in cc
 
 -- the request can't have a piece started by this command

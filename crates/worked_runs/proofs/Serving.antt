@@ -140,7 +140,7 @@ at_adapter times through marked = record (opened 1 (record (write 0 2 (full_of 1
 -- it is carried out
 written : (number times : ℕ) (through marked : Bool)
     → Run small (record (idle zeros 2 (number + 1)) { requests = at_adapter times through marked ∷ []; pieces = piece_of number 0 1 0 Fresh ∷ [] })
-    (Device (Act number (full_of 165)) ∷ Device (Return number Good) ∷ Answer 1 Success [] ∷ []) (idle (sectors 165 0 0) 2 (number + 1))
+    (Device (Act number (full_of 165)) ∷ Device (Return number Good) ∷ Answer 1 Success 2 [] ∷ []) (idle (sectors 165 0 0) 2 (number + 1))
 written number times through marked =
     let w : OpenRequest = at_adapter times through marked in
     let p : Fate → Piece = λ fate. piece_of number 0 1 0 fate in

@@ -16,7 +16,7 @@ use Rattle.machine.specs.Rules.{Rules}
 use Rattle.machine.specs.State.{OpenRequest, Piece, State, Mark}
 use Rattle.machine.specs.Calling.{refusal, Opens, Refuses, Admits, bytes_carried, new_request}
 use Rattle.machine.specs.Sending.{IsLowestFreeTag, HasOtherTag, MayStart, IsSendable, IsFreshPiece, Transfers, Leaves, command_for, sent, new_piece, with_fate, given_back}
-use Rattle.machine.specs.Answering.{HasEnded, HasCause, is_done, answer_bytes}
+use Rattle.machine.specs.Answering.{HasEnded, HasCause, is_done, answer_bytes, information}
 use Rattle.machine.specs.Holding.{as_cancelled, held_back, as_timely}
 use Rattle.machine.specs.Step.{Step}
 use Rattle.machine.proofs.Same.{IsSame-refl}
@@ -98,19 +98,22 @@ returned rules s piece other_pieces owner others class marks free is_out is_open
 pub answered : (rules : Rules) (s : State) (request : OpenRequest) (others : List OpenRequest) (status : NtStatus) (bytes : List ℕ)
     → IsNone s.owed → IsPermutation s.requests (request ∷ others) → AllByRecursion (HasEnded rules s request) request.marks
     → ((status ≡ Success) ↔ IsTrue (list_all is_done request.marks)) → HasCause rules s request request.marks status → bytes ≡ answer_bytes request.request.kind request.marks
-    → Step rules s (Answer request.number status bytes) (record s { requests = others })
+    → Step rules s (Answer request.number status (information request.request status) bytes) (record s { requests = others })
 answered rules s request others status bytes free is_open ended success cause hands_back = inl (
   free,
   record {
-    request = request;
-    others = others;
-    is_open = is_open;
-    is_number = refl;
-    ended = All-from_recursion _ _ ended;
-    success = success;
-    cause = cause;
-    hands_back = hands_back;
-    after = IsSame-refl _;
+    answers = record {
+      request = request;
+      others = others;
+      is_open = is_open;
+      is_number = refl;
+      ended = All-from_recursion _ _ ended;
+      success = success;
+      cause = cause;
+      hands_back = hands_back;
+      after = IsSame-refl _;
+    };
+    informs = refl;
   },
 )
 
@@ -144,8 +147,8 @@ refused rules s q status free why no_bytes =
     inl (free, record { next_number = refl; admits = subst (λ answer. Admits rules s s.next_request q answer s') (sym why) refuses })
 
 pub told : (rules : Rules) (s : State) (number : ℕ) (status : NtStatus) → s.owed ≡ Some (record { number = number; status = status })
-    → Step rules s (Answer number status []) (record s { owed = None })
-told rules s number status is_owed = inr (record { is_owed = is_owed; no_bytes = refl; after = IsSame-refl _ })
+    → Step rules s (Answer number status 0 []) (record s { owed = None })
+told rules s number status is_owed = inr (record { is_owed = is_owed; none_moved = refl; no_bytes = refl; after = IsSame-refl _ })
 
 pub tag_0 : IsLowestFreeTag 2 [] 0
 tag_0 = search rules

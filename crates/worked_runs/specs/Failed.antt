@@ -18,25 +18,25 @@ cancelled_in_three =
 
 -- in the end it has written two sectors
 abbrev pub IsCutShort : Type 0
-IsCutShort = Run small (opening zeros) (cancelled_in_three ++ Device (Act 2 (full_of 165)) ∷ Device (Return 2 Good) ∷ Answer 1 Cancelled [] ∷ []) (idle (sectors 165 165 0) 2 3)
+IsCutShort = Run small (opening zeros) (cancelled_in_three ++ Device (Act 2 (full_of 165)) ∷ Device (Return 2 Good) ∷ Answer 1 Cancelled 0 [] ∷ []) (idle (sectors 165 165 0) 2 3)
 
 -- a write that comes back busy as often as it may
 abbrev pub StaysBusy : Type 0
 StaysBusy = Run small (opening zeros) (
     Call 1 (write 0 2 (full_of 165)) ∷ Device (Start 1 0 (write_block 2 1)) ∷ Device (Return 1 Busy) ∷ Device (Start 2 0 (write_block 2 1)) ∷ Device (Return 2 Busy)
-    ∷ Answer 1 DeviceBusy []
+    ∷ Answer 1 DeviceBusy 0 []
     ∷ []) (idle zeros 2 3)
 
 -- a reset finds the piece before its act: nothing is written
 abbrev pub IsResetBeforeAct : Type 0
 IsResetBeforeAct = Run small (opening zeros) (
-    Call 1 (write 0 2 (full_of 165)) ∷ Device (Start 1 0 (write_block 2 1)) ∷ Device (Fault 1) ∷ Device (Return 1 (Bad bus_reset)) ∷ Answer 1 IoDeviceError []
+    Call 1 (write 0 2 (full_of 165)) ∷ Device (Start 1 0 (write_block 2 1)) ∷ Device (Fault 1) ∷ Device (Return 1 (Bad bus_reset)) ∷ Answer 1 IoDeviceError 0 []
     ∷ []) (idle zeros 2 2)
 
 -- a reset finds the piece after its act: the answer is the same, and the sector is written
 abbrev pub IsResetAfterAct : Type 0
 IsResetAfterAct = Run small (opening zeros) (
-    Call 1 (write 0 2 (full_of 165)) ∷ Device (Start 1 0 (write_block 2 1)) ∷ Device (Act 1 (full_of 165)) ∷ Device (Return 1 (Bad bus_reset)) ∷ Answer 1 IoDeviceError []
+    Call 1 (write 0 2 (full_of 165)) ∷ Device (Start 1 0 (write_block 2 1)) ∷ Device (Act 1 (full_of 165)) ∷ Device (Return 1 (Bad bus_reset)) ∷ Answer 1 IoDeviceError 0 []
     ∷ []) (idle (sectors 165 0 0) 2 2)
 
 -- both pieces of a read fail: the second one first and for want of readiness, then the first with a medium error
@@ -48,4 +48,4 @@ both_fail =
 
 -- the answer is the medium error
 abbrev pub AnswersLowestFailure : Type 0
-AnswersLowestFailure = Run small (opening zeros) (both_fail ++ Answer 1 DeviceDataError [] ∷ []) (idle zeros 2 3)
+AnswersLowestFailure = Run small (opening zeros) (both_fail ++ Answer 1 DeviceDataError 0 [] ∷ []) (idle zeros 2 3)

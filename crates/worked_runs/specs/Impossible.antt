@@ -21,11 +21,11 @@ Never rules s label = (s' : State) → Step rules s label s' → ⊥
 
 -- the request has no answer, whatever the status
 abbrev pub NeverAnswers : Rules → State → ℕ → Type 0
-NeverAnswers rules s request = (status : NtStatus) (bytes : List ℕ) → Never rules s (Answer request status bytes)
+NeverAnswers rules s request = (status : NtStatus) (informed : ℕ) (bytes : List ℕ) → Never rules s (Answer request status informed bytes)
 
 -- it has none of this status
 abbrev pub NeverAnswersAs : Rules → State → ℕ → NtStatus → Type 0
-NeverAnswersAs rules s request status = (bytes : List ℕ) → Never rules s (Answer request status bytes)
+NeverAnswersAs rules s request status = (informed : ℕ) (bytes : List ℕ) → Never rules s (Answer request status informed bytes)
 
 -- no piece starts, whatever its command
 abbrev pub NeverStarts : Rules → State → Type 0
@@ -44,8 +44,8 @@ NeverWritesBeyond rules s end =
 
 -- a write whose piece is out, whatever it writes and whatever its command
 abbrev pub NeverAnswersBeforeReturn : Type 0
-NeverAnswersBeforeReturn = (bytes block : List ℕ) (status : NtStatus) (handed : List ℕ) (s' : State)
-    → Run small (opening zeros) (Call 1 (write 0 2 bytes) ∷ Device (Start 1 0 block) ∷ Answer 1 status handed ∷ []) s' → ⊥
+NeverAnswersBeforeReturn = (bytes block : List ℕ) (status : NtStatus) (informed : ℕ) (handed : List ℕ) (s' : State)
+    → Run small (opening zeros) (Call 1 (write 0 2 bytes) ∷ Device (Start 1 0 block) ∷ Answer 1 status informed handed ∷ []) s' → ⊥
 
 -- of three pieces the first came back bad, the second is out and the third waits
 abbrev pub one_failed : State
@@ -125,7 +125,7 @@ ReachesFirstBad = Run small (opening zeros) (
 -- the second is still sent, and the answer is the failure of the first
 abbrev pub SendsTheOther : Type 0
 SendsTheOther = Run small first_bad (
-    Device (Start 2 0 (write_block 3 1)) ∷ Device (Act 2 (full_of 165)) ∷ Device (Return 2 Good) ∷ Answer 1 DeviceDataError []
+    Device (Start 2 0 (write_block 3 1)) ∷ Device (Act 2 (full_of 165)) ∷ Device (Return 2 Good) ∷ Answer 1 DeviceDataError 0 []
     ∷ []) (idle (sectors 0 165 0) 2 3)
 
 -- one request below the hold at a time
@@ -150,7 +150,7 @@ alone held = record (idle zeros 3 2) { requests = record (opened 2 (read 2 2) (U
 
 -- the first is carried out and answered
 abbrev pub first_answered : List Label
-first_answered = Device (Act 1 (full_of 0)) ∷ Device (Return 1 Good) ∷ Answer 1 Success (full_of 0) ∷ []
+first_answered = Device (Act 1 (full_of 0)) ∷ Device (Return 1 Good) ∷ Answer 1 Success 2 (full_of 0) ∷ []
 
 -- a pause found one read at the adapter and one that waited behind it
 abbrev pub held_behind : State
@@ -187,11 +187,11 @@ ReachesCut = Run small (opening zeros) cancelled_in_three cut
 
 -- a read that waits is cancelled, and answered for it
 abbrev pub AnswersOnce : Type 0
-AnswersOnce = Run small (opening zeros) (Call 1 (read 0 2) ∷ Cancel 1 ∷ Answer 1 Cancelled [] ∷ []) (idle zeros 2 1)
+AnswersOnce = Run small (opening zeros) (Call 1 (read 0 2) ∷ Cancel 1 ∷ Answer 1 Cancelled 0 [] ∷ []) (idle zeros 2 1)
 
 -- a call that nothing refuses has no answer yet
 abbrev pub NeverRefusesWithoutCause : Type 0
-NeverRefusesWithoutCause = (status : NtStatus) (bytes : List ℕ) (s' : State) → Run small (opening zeros) (Call 1 (read 0 2) ∷ Answer 1 status bytes ∷ []) s' → ⊥
+NeverRefusesWithoutCause = (status : NtStatus) (informed : ℕ) (bytes : List ℕ) (s' : State) → Run small (opening zeros) (Call 1 (read 0 2) ∷ Answer 1 status informed bytes ∷ []) s' → ⊥
 
 -- a read of three sectors of which the last, a piece of its own, was not sent
 abbrev pub last_unsent : State

@@ -40,5 +40,5 @@ long_sync_block = 0x91 ∷ 0 ∷ 0 ∷ 0 ∷ 0 ∷ 0 ∷ 0 ∷ 0 ∷ 0 ∷ 0 ∷
 -- a disk with more sectors than four bytes can number is flushed by the long form
 abbrev pub FlushesFar : Type 0
 FlushesFar = Run far (opening (sectors 17 34 51)) (
-    Call 1 flush ∷ Device (Start 1 0 long_sync_block) ∷ Device (Act 1 []) ∷ Device (Return 1 Good) ∷ Answer 1 Success []
+    Call 1 flush ∷ Device (Start 1 0 long_sync_block) ∷ Device (Act 1 []) ∷ Device (Return 1 Good) ∷ Answer 1 Success 0 []
     ∷ []) (idle (sectors 17 34 51) 2 2)

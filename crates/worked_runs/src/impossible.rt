@@ -99,7 +99,7 @@ pub fn short_last_piece_dropped()
 /// The bytes of a read stand in the order in which its pieces came back.
 pub fn joined_in_return_order()
     ensures reached { ReachesBothBack }
-    ensures never { Never small both_back (Answer 1 Success (full_of 34 ++ full_of 17)) }
+    ensures never { Never small both_back (Answer 1 Success 4 (full_of 34 ++ full_of 17)) }
 {}
 
 /// One command answers two equal reads.
