@@ -8,8 +8,8 @@ use Rattle.srb.specs.declared.DeviceLabel.TheVariants.{Start, Act as ActLabel, F
 use Rattle.machine.specs.Rules.{Rules}
 use Rattle.machine.specs.State.{State}
 use Rattle.machine.specs.Step.{Run, as_label}
-use Rattle.device.specs.Seen.{Seen, Iuse Rattle.machine.specs.Sending.{IsStart}
-sOrderly}
+use Rattle.machine.specs.Sending.{IsStart}
+use Rattle.device.specs.Seen.{Seen, IsOrderly}
 use Rattle.device.specs.Served.{IsActOrFault, Moves, ActsOn, ActsNot, Finishes, FinishesNot, IsUnfinished}
 use Rattle.machine.proofs.Same.{IsSame-refl}
 use Rattle.compose.specs.declared.Event.{Event}
@@ -102,7 +102,7 @@ module _ (limits : Limits) (below : Seen) (tables : Tables) where
       (record {
         told = tells_nothing (view_of limits below tables);
         replies = (
-          (record { nothing = refl; same_state = refl }, record { none = λ piece fresh. h.none piece (record { is_out = fresh.is_out; is_tag = fresh.is_tag; is_fresh = fresh.is_fresh }) }),
+          (record { nothing = refl; same_state = refl; same_adapter = refl }, record { none = λ piece fresh. h.none piece (record { is_out = fresh.is_out; is_tag = fresh.is_tag; is_fresh = fresh.is_fresh }) }),
           record { handles = refl; next_handle = refl },
         );
         by = IsRightBy-unmoved (view_of limits below tables) taken.0 taken.1;
@@ -142,7 +142,7 @@ module _ (limits : Limits) (below : Seen) (tables : Tables) where
       subst (λ (seen : Seen). IsRight (view_of limits below tables) (Finish tag) Ignored (view_of limits seen tables)) (sym h.same)
       (record {
         told = tells_nothing (view_of limits below tables);
-        replies = ((record { nothing = refl; same_state = refl }, h.free), record { handles = refl; next_handle = refl });
+        replies = ((record { nothing = refl; same_state = refl; same_adapter = refl }, h.free), record { handles = refl; next_handle = refl });
         by = IsRightBy-unmoved (view_of limits below tables) taken.0 taken.1;
       })
 

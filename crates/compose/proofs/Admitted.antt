@@ -12,7 +12,7 @@ use Rattle.machine.specs.Rules.{Rules, as_client}
 use Rattle.machine.specs.State.{OpenRequest as OpenBelow, State}
 use Rattle.machine.specs.Calling.{Opens, new_request}
 use Rattle.machine.specs.Numbers.{request_number, IsGiven}
-use Rattle.device.specs.Seen.{Seen, sent_bytes}
+use Rattle.device.specs.Seen.{Seen, Packet, sent_bytes}
 use Rattle.machine.proofs.Same.{IsSame-sym}
 use Rattle.compose.specs.declared.Answer.{Answer}
 use Rattle.compose.specs.declared.Handle.{Handle}
@@ -23,7 +23,7 @@ use Rattle.compose.specs.declared.tables.Tables.{Tables}
 use Rattle.compose.specs.Calls.{number_limit}
 use Rattle.compose.specs.OnDisk.{on_partition, IsOnDisk}
 use Rattle.compose.specs.Ordering.{HasOtherNumber}
-use Rattle.compose.specs.Sound.{partitions_of, rules_of, view_of, IsHeldAt, AreHeld, IsTopmost, WasGiven, AreApart, IsSound}
+use Rattle.compose.specs.Sound.{partitions_of, rules_of, view_of, IsHeldAt, AreHeld, IsTopmost, IsSpotted, WasGiven, AreApart, IsSound}
 use Rattle.compose.specs.Admitting.{request_on_disk, HasBuffers, Admits, SendsDown, IsAdmissible}
 use Rattle.compose.proofs.OnDiskCalls.{Opens-over}
 use Rattle.compose.proofs.Askings.{KeepsAsked-same, AreHeld-along}
@@ -53,6 +53,38 @@ held_still old new slot entry free updates o h = record {
   label_bytes = h.label_bytes;
 }
 
+-- the numbers in the table were given
+was_given : (requests : Slab OpenRequest) (below : List OpenBelow) (next : ℕ) → All (IsGiven next) below → AreHeld requests below → (slot : ℕ) (request : OpenRequest) → get requests slot ≡ Some request
+    → request.number < next
+was_given requests below next given h slot request there =
+    All-contains (λ n. n < next) (map request_number below) request.number (All-map (λ n. n < next) request_number below given) (h.is_open slot request there)
+
+-- the packets below and the one of the new request are where the table has them
+AreSpotted-more : (old new : Slab OpenRequest) (slot : ℕ) (entry : OpenRequest) (packet : Packet) (packets : List Packet) → SlabUpdates old new slot (Some entry)
+    → ((other : ℕ) (request : OpenRequest) → get old other ≡ Some request → request.number < entry.number) → packet.number ≡ entry.number → packet.spot ≡ entry.spot
+    → All (IsSpotted entry.number old) packets → All (IsSpotted (entry.number + 1) new) (packet ∷ packets)
+AreSpotted-more old new slot entry packet packets updates before number spot h =
+    All-cons (IsSpotted (entry.number + 1) new) packet packets (record { given = omega arith; spot = at_new })
+    (All-weaker (IsSpotted entry.number old) (IsSpotted (entry.number + 1) new) still packets h)
+  where
+    at_new : (other : ℕ) (request : OpenRequest) → get new other ≡ Some request → request.number ≡ packet.number → packet.spot ≡ request.spot
+    at_new other request there same = elim (cases_held old new slot entry updates other request there) [
+      | inl (at, is) ↦ spot ∙ ap (λ (e : OpenRequest). e.spot) is
+      | inr (apart, there') ↦ let low : request.number < entry.number = before other request there' in absurd (omega arith)
+    ]
+
+    still : (p : Packet) → IsSpotted entry.number old p → IsSpotted (entry.number + 1) new p
+    still p s = record {
+      given = let low : p.number < entry.number = s.given in omega arith;
+      spot = λ other request there same. elim (cases_held old new slot entry updates other request there) [
+        | inl (at, is) ↦
+            let low : p.number < entry.number = s.given in
+            let e : entry.number ≡ request.number = ap (λ (e : OpenRequest). e.number) is in
+            absurd (omega arith)
+        | inr (apart, there') ↦ s.spot other request there' same
+      ];
+    }
+
 -- one more request is open below and in the table
 AreHeld-more : (old new : Slab OpenRequest) (slot : ℕ) (entry : OpenRequest) (opened : OpenBelow) (below : List OpenBelow) (next : ℕ) → get old slot ≡ None → SlabUpdates old new slot (Some entry)
     → slab_len new ≡ slab_len old + 1 → entry.number ≡ opened.number → entry.kind ≡ opened.request.kind → (opened.request.kind ≡ Read → length entry.label_bytes ≡ opened.request.length)
@@ -76,9 +108,7 @@ AreHeld-more old new slot entry opened below next free updates counted number ki
     at_first {n} {m} more e = subst (λ k. Contains (n ∷ more) k) (sym e) (0, omega arith, refl)
 
     before_it : (a : ℕ) (request : OpenRequest) → get old a ≡ Some request → request.number < entry.number
-    before_it a request there =
-        let low : request.number < next = All-contains (λ n. n < next) (map request_number below) request.number (All-map (λ n. n < next) request_number below given) (h.is_open a request there) in
-        omega arith
+    before_it a request there = let low : request.number < next = was_given old below next given h a request there in omega arith
 
     only : {a b : ℕ} {first second : OpenRequest} → ((a ≡ slot) × (entry ≡ first)) ⊎ ((a ≢ slot) × (get old a ≡ Some first))
         → ((b ≡ slot) × (entry ≡ second)) ⊎ ((b ≢ slot) × (get old b ≡ Some second)) → first.number ≡ second.number → a ≡ b
@@ -127,10 +157,10 @@ module _ (limits : Limits) (below : Seen) (tables : Tables) (q : ClientRequest) 
       Opens-over (partitions_of limits.partition) limits.open_requests limits.window below.rules tables.next_request below.state number (request_on_disk limits q) bytes (q.offset / limits.sector_size)
       (as_told bytes) opened h.on_disk opens same refl refl asks.inside (as_asked bytes) k.not_refused
 
-  pub admitted_sound : (handle : Handle) (places : Places) (slot : ℕ) (tables1 : Tables) (buffer : List ℕ) (below1 : Seen) → HasBuffers q.kind buffer places → q.length ≡ length buffer
-      → deque_len tables.waiting + (slab_len tables.requests + 1) ≤ deque_capacity tables.waiting → Admits tables handle q places slot tables1
-      → SendsDown below tables.next_request (request_on_disk limits q) buffer below1 → IsSound limits below1 tables1
-  admitted_sound handle places slot tables1 buffer below1 buffers same_length place admits sends =
+  pub admitted_sound : (handle : Handle) (places : Places) (spot slot : ℕ) (tables1 : Tables) (buffer : List ℕ) (below1 : Seen) → HasBuffers q.kind buffer places → q.length ≡ length buffer
+      → deque_len tables.waiting + (slab_len tables.requests + 1) ≤ deque_capacity tables.waiting → Admits tables handle q places.copies spot slot tables1
+      → SendsDown below tables.next_request spot (request_on_disk limits q) buffer below1 → IsSound limits below1 tables1
+  admitted_sound handle places spot slot tables1 buffer below1 buffers same_length place admits sends =
       subst (IsSound limits below1) (sym admits.after)
       (IsSound-moves limits (record below { state = sends.submits.opened; packets = sends.packet ∷ below.packets; submitted = below.submitted + 1 })
       (record tables { next_request = tables.next_request + 1; requests = tables1.requests; labels = tables1.labels }) sends.submits.starts below1 opened sends.submits.moves)
@@ -180,6 +210,11 @@ module _ (limits : Limits) (below : Seen) (tables : Tables) (q : ClientRequest) 
             on_map = h.on_map;
             on_disk = (opened_above sends.packet.number (sent_bytes q.kind sends.payload) sends.submits.opened number sends.submits.opens).1;
             topmost = All-cons IsTopmost sends.packet below.packets sends.topmost h.topmost;
+            spots =
+                AreSpotted-more tables.requests tables1.requests slot _ sends.packet below.packets admits.holds
+                (λ other request there.
+                let low : request.number < below.state.next_request = was_given tables.requests below.state.requests below.state.next_request h.on_disk.distinct.given h.held other request there in omega arith)
+                number sends.is_spot h.spots;
             not_paused = subst IsFalse (sym sends.submits.opens.after.paused) h.not_paused;
             not_removing = subst IsFalse (sym sends.submits.opens.after.removing) h.not_removing;
             none_put_by = h.none_put_by;

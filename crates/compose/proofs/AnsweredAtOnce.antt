@@ -28,7 +28,7 @@ use Rattle.compose.specs.Shown.{StackView}
 use Rattle.compose.specs.Calls.{number_limit, are_used_up, partition_at, partition_of, call_on, without_bytes}
 use Rattle.compose.specs.OnDisk.{open_as_called, on_partition}
 use Rattle.compose.specs.Right.{tells_nothing, CallReplies, IsRightCall}
-use Rattle.compose.specs.Sound.{partitions_of, rules_of, view_of, IsOnMap, WasGiven, IsSound, IsKept}
+use Rattle.compose.specs.Sound.{partitions_of, rules_of, view_of, IsOnMap, IsSpotted, WasGiven, IsSound, IsKept}
 use Rattle.compose.specs.Admitting.{status_at_once, IsKnown, HasSizes, AnswersAtOnce, reply_at_once, IsAdmissible}
 use Rattle.compose.proofs.OnDiskCalls.{Run-refused}
 use Rattle.compose.proofs.Handing.{numbers_last}
@@ -75,6 +75,9 @@ at_once_sound limits below tables q status tables1 h last answers =
       on_map = h.on_map;
       on_disk = h.on_disk;
       topmost = h.topmost;
+      spots =
+          All-weaker (IsSpotted tables.next_request tables.requests) (IsSpotted (tables.next_request + 1) tables.requests)
+          (λ packet s. record { given = let before : packet.number < tables.next_request = s.given in omega arith; spot = s.spot }) below.packets h.spots;
       not_paused = h.not_paused;
       not_removing = h.not_removing;
       none_put_by = h.none_put_by;
@@ -95,7 +98,7 @@ module _ (limits : Limits) (below : Seen) (tables : Tables) (handle : Handle) (k
   used_up_right reply used_up is_reply =
       subst (λ r. IsRightCall view handle kind offset buffer r view) (sym is_reply) (record {
         told = tells_nothing view;
-        replies = (refl, inr (used_up, record { nothing = refl; same_state = refl }));
+        replies = (refl, inr (used_up, record { nothing = refl; same_state = refl; same_adapter = refl }));
         handles = record { handles = refl; next_handle = refl };
         by = IsRightBy-unmoved view taken.0 taken.1;
       })
@@ -103,10 +106,10 @@ module _ (limits : Limits) (below : Seen) (tables : Tables) (handle : Handle) (k
   abbrev own : NtStatus → List Label
   own status = Call tables.next_request (without_bytes called) ∷ AnswerLabel tables.next_request status [] ∷ []
 
-  replied : (at_once : AtOnce) (new : StackView) → are_used_up tables.next_request ≡ false → refusal view.rules view.state called ≡ Some (status_at_once at_once)
+  replied : (at_once : AtOnce) (new : StackView) → new.adapter ≡ view.adapter → are_used_up tables.next_request ≡ false → refusal view.rules view.state called ≡ Some (status_at_once at_once)
       → CallReplies view handle called buffer (reply_at_once tables.next_request buffer at_once) (tells_own view (own (status_at_once at_once))) new
-  replied Empty new last refused = (record { numbers_last = last; is_refused = refused; tells = refl }, refl)
-  replied (RefusedFor reason) new last refused = (refl, inl (record { numbers_last = last; is_refused = refused; tells = refl }))
+  replied Empty new still last refused = (record { numbers_last = last; is_refused = refused; tells = refl; same_adapter = still }, refl)
+  replied (RefusedFor reason) new still last refused = (refl, inl (record { numbers_last = last; is_refused = refused; tells = refl; same_adapter = still }))
 
   at_once_right : (q : ClientRequest) (at_once : AtOnce) (reply : Reply) (tables1 : Tables) → are_used_up tables.next_request ≡ false → q ≡ without_bytes called
       → refusal view.rules view.state q ≡ Some (status_at_once at_once) → AnswersAtOnce tables q (status_at_once at_once) tables1 → reply ≡ reply_at_once tables.next_request buffer at_once
@@ -115,7 +118,7 @@ module _ (limits : Limits) (below : Seen) (tables : Tables) (handle : Handle) (k
       subst (λ r. IsRightCall view handle kind offset buffer r (view_of limits below tables1)) (sym is_reply)
       (subst (λ t. IsRightCall view handle kind offset buffer (reply_at_once tables.next_request buffer at_once) (view_of limits below t)) (sym answers.after) (record {
         told = tells_own view (own (status_at_once at_once));
-        replies = replied at_once _ last (subst (λ r. refusal view.rules view.state r ≡ Some (status_at_once at_once)) is_call refused);
+        replies = replied at_once _ refl last (subst (λ r. refusal view.rules view.state r ≡ Some (status_at_once at_once)) is_call refused);
         handles = record { handles = refl; next_handle = refl };
         by =
             right_alone view (own (status_at_once at_once)) (on_partition view.rules (tables.next_request + 1) below.state) below.adapter.reserved tables.handles.slots tables.next_handle

@@ -14,8 +14,9 @@ use Rattle.machine.specs.declared.Request.{Request}
 use Rattle.machine.specs.Rules.{Rules, home, as_client, is_transfer, place_count}
 use Rattle.machine.specs.Sending.{command_for}
 use Rattle.machine.specs.Solo.{all_places}
-use Rattle.device.specs.Seen.{Carries, transfer_length, direction}
-use Rattle.compose.specs.Admitting.{IsWholeDisk, disk_command}
+use Rattle.irp.specs.declared.Irp.{Irp}
+use Rattle.device.specs.Seen.{Carries, AsksInLocation, transfer_length, direction}
+use Rattle.compose.specs.Admitting.{IsWholeDisk, disk_command, port_location}
 
 abbrev at_home : Option Extent → ℕ → ℕ
 at_home None i = i
@@ -57,4 +58,16 @@ asks_for rules r srb whole top function flags means data_length label_length = r
   asks = subst (Means srb.block) (sym (command_is rules r whole top r.kind refl)) means;
   data_length = data_length;
   label_length = label_length;
+}
+
+-- the one location of a packet asks for its request
+pub asks_in_location : (r : Request) (irp : Irp) → irp.locations.items ≡ port_location r ∷ [] → AsksInLocation true r irp
+asks_in_location r irp only = record {
+  higher = [];
+  own = port_location r;
+  is_own = only;
+  major = refl;
+  flags = refl;
+  volume = refl;
+  extent = refl;
 }

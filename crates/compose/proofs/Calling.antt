@@ -34,7 +34,7 @@ use Rattle.compose.specs.Calls.{bytes_called, call_on, without_bytes}
 use Rattle.compose.specs.OnDisk.{on_partition, IsOnDisk}
 use Rattle.compose.specs.Right.{tells_nothing, IsRightCall}
 use Rattle.compose.specs.Sound.{rules_of, holder_of, view_of, WasGiven, AreApart, IsSound, IsAtRest, Collects, IsKept}
-use Rattle.compose.specs.Admitting.{request_on_disk, HasBuffers, Admits, KeepsAnswers, SendsDown, IsAdmissible}
+use Rattle.compose.specs.Admitting.{request_on_disk, HasBuffers, Admits, KeepsAnswers, SendsDown, IsSent, IsAdmissible}
 use Rattle.compose.proofs.OnDiskCalls.{Calls-opened}
 use Rattle.compose.proofs.Righting.{IsServed, told_by, rests, IsRightBy-served}
 use Rattle.compose.proofs.Quiet.{right_alone}
@@ -74,6 +74,7 @@ reserved_sound limits below tables below' tables' h reserves keeps =
       on_map = h.on_map;
       on_disk = h.on_disk;
       topmost = h.topmost;
+      spots = h.spots;
       not_paused = h.not_paused;
       not_removing = h.not_removing;
       none_put_by = h.none_put_by;
@@ -106,7 +107,7 @@ module _ (limits : Limits) (below : Seen) (tables : Tables) (handle : Handle) (q
       (subst (λ b. IsRightCall (view_of limits below tables) handle q.kind q.offset buffer (Refused InsufficientResources buffer) (view_of limits b tables')) (sym reserves.same)
       (subst (λ t. IsRightCall (view_of limits below tables) handle q.kind q.offset buffer (Refused InsufficientResources buffer) (view_of limits (record below { adapter = record below.adapter { reserved = below'.adapter.reserved } }) t)) (sym keeps.after) (record {
         told = tells_nothing (view_of limits below tables);
-        replies = (refl, inr ((k.numbers_last, admitted), record { nothing = refl; same_state = refl }));
+        replies = (refl, inr (k.numbers_last, admitted, record { nothing = refl; same_state = refl }));
         handles = record { handles = refl; next_handle = refl };
         by =
             right_alone (view_of limits below tables) [] (view_of limits below tables).state below'.adapter.reserved tables.handles.slots tables.next_handle tables.labels.items tables'.waiting.items
@@ -125,21 +126,21 @@ module _ (limits : Limits) (below : Seen) (tables : Tables) (handle : Handle) (q
   told_is : told_request ≡ call_on (view_of limits below tables) handle q.kind q.offset buffer
   told_is = ap (λ (r : ClientRequest). record r { bytes = bytes_called q.kind buffer }) is_call
 
-  module _ (below' : Seen) (tables' : Tables) (places : Places) (slot : ℕ) (below1 : Seen) (tables1 : Tables) (reserves : Reserves below below') (keeps : KeepsAnswers tables tables')
-      (buffers : HasBuffers q.kind buffer places) (admits' : Admits tables' handle q places slot tables1) (sends' : SendsDown below' tables'.next_request (request_on_disk limits q) buffer below1) where
+  module _ (below' : Seen) (tables' : Tables) (places : Places) (spot slot : ℕ) (below1 : Seen) (tables1 : Tables) (reserves : Reserves below below') (keeps : KeepsAnswers tables tables')
+      (buffers : HasBuffers q.kind buffer places) (admits' : Admits tables' handle q places.copies spot slot tables1) (sends' : SendsDown below' tables'.next_request spot (request_on_disk limits q) buffer below1) where
     abbrev reserved_below : Seen
     reserved_below = record below { adapter = record below.adapter { reserved = below'.adapter.reserved } }
 
     abbrev reserved_tables : Tables
     reserved_tables = record tables { waiting = tables'.waiting }
 
-    admits : Admits reserved_tables handle q places slot tables1
-    admits = subst (λ t. Admits t handle q places slot tables1) keeps.after admits'
+    admits : Admits reserved_tables handle q places.copies spot slot tables1
+    admits = subst (λ t. Admits t handle q places.copies spot slot tables1) keeps.after admits'
 
-    abbrev pub sends : SendsDown reserved_below tables.next_request (request_on_disk limits q) buffer below1
+    abbrev pub sends : SendsDown reserved_below tables.next_request spot (request_on_disk limits q) buffer below1
     sends =
-        subst (λ b. SendsDown b tables.next_request (request_on_disk limits q) buffer below1) reserves.same
-        (subst (λ (t : Tables). SendsDown below' t.next_request (request_on_disk limits q) buffer below1) keeps.after sends')
+        subst (λ b. SendsDown b tables.next_request spot (request_on_disk limits q) buffer below1) reserves.same
+        (subst (λ (t : Tables). SendsDown below' t.next_request spot (request_on_disk limits q) buffer below1) keeps.after sends')
 
     next_is : tables1.next_request ≡ tables.next_request + 1
     next_is = ap (λ (t : Tables). t.next_request) admits.after
@@ -164,7 +165,7 @@ module _ (limits : Limits) (below : Seen) (tables : Tables) (handle : Handle) (q
 
     labels_are : tables1.labels.items ≡ own
     labels_are =
-        admits.tells ∙ ap (λ before. before ++ Call tables.next_request (record q { bytes = places.call_bytes }) ∷ []) taken.0
+        admits.tells ∙ ap (λ before. before ++ Call tables.next_request (record q { bytes = places.copies.call_bytes }) ∷ []) taken.0
         ∙ ap (λ bytes. Call tables.next_request (record q { bytes = bytes }) ∷ []) buffers.call_bytes
 
     is_served : IsRead below.rules below.state below.adapter → IsAtRest below → IsServed limits below tables own sends.submits.starts below1 tables1
@@ -251,16 +252,16 @@ module _ (limits : Limits) (below : Seen) (tables : Tables) (old : StackView) (h
       )
 
   pub admitted_kept : (below1 : Seen) (tables1 : Tables) (places : Places) (below2 : Seen) (tables2 : Tables) (limits' : Limits) (below3 : Seen) (tables3 : Tables) (id : Id)
-      → Reserves below below1 → KeepsAnswers tables tables1 → HasBuffers q.kind buffer places → Admits tables1 handle q places id.slot tables2
-      → SendsDown below1 tables1.next_request (request_on_disk limits q) buffer below2 → id.number ≡ tables1.next_request → IsOrderly below
+      → Reserves below below1 → KeepsAnswers tables tables1 → HasBuffers q.kind buffer places
+      → IsSent below1 tables1 handle q (request_on_disk limits q) places.copies buffer id.slot below2 tables2 → id.number ≡ tables1.next_request → IsOrderly below
       → limits' ≡ limits → IsSound limits' below3 tables3 → Collects below2 tables2 below3 tables3 → IsOrderly below3
       → IsRightCall old handle q.kind q.offset buffer (Requested id) (view_of limits' below3 tables3) × IsKept limits' below3 tables3
-  admitted_kept below1 tables1 places below2 tables2 limits' below3 tables3 id reserves keeps buffers admits sends number orderly same sound collects orderly3 =
+  admitted_kept below1 tables1 places below2 tables2 limits' below3 tables3 id reserves keeps buffers sent number orderly same sound collects orderly3 =
       let right : IsRightCall (view_of limits below tables) handle q.kind q.offset buffer (Requested id) (view_of limits below3 tables3) =
-      admitted_right limits below tables handle q buffer kept.sound admissible untaken called below1 tables1 places id.slot below2 tables2 reserves keeps buffers admits sends orderly.read kept.rest
+      admitted_right limits below tables handle q buffer kept.sound admissible untaken called below1 tables1 places sent.spot id.slot below2 tables2 reserves keeps buffers sent.admits sent.sends orderly.read kept.rest
       below3 tables3 id refl number collects orderly3.read in
       let rest : IsAtRest below3 =
-      admitted_rest limits below tables handle q buffer kept.sound admissible untaken called below1 tables1 places id.slot below2 tables2 reserves keeps buffers admits sends orderly.read kept.rest
+      admitted_rest limits below tables handle q buffer kept.sound admissible untaken called below1 tables1 places sent.spot id.slot below2 tables2 reserves keeps buffers sent.admits sent.sends orderly.read kept.rest
       below3 tables3 collects in (
         subst (λ (l : Limits). IsRightCall old handle q.kind q.offset buffer (Requested id) (view_of l below3 tables3)) (sym same)
             (subst (λ v. IsRightCall v handle q.kind q.offset buffer (Requested id) (view_of limits below3 tables3)) shown right),

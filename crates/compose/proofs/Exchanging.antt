@@ -1,21 +1,33 @@
 -- A command sent to an idle adapter, and its way back.
-use Rattle.std.proofs.Common.{append-nil, ◌≡◌, ◌≤◌, ℕ, ◌==◌, false, true, Bool, ◌+◌, List, [], ◌∷◌, All, refl, sym, ◌∙◌, ap, subst, length, arith, inl, inr, IsPermutation, rules}
+use Rattle.std.proofs.Common.{append-nil, ◌≡◌, ◌<◌, ◌≤◌, get_or, ℕ, ◌==◌, false, true, Bool, ◌+◌, ◌⊎◌, List, [], ◌∷◌, All, refl, sym, ◌∙◌, ap, subst, length, arith, inl, inr, IsPermutation, rules}
+use Rattle.std.specs.Prelude.{bit_and, slice_range, if◌then◌else◌}
+use Rattle.sector.specs.Extents.{IsSector}
 use Rattle.std.specs.List.{concat}
 use Rattle.std.proofs.lemmas.List.Sorted.{length_permutation, All-permutation, IsPermutation-sym, IsPermutation-trans}
 use Rattle.std.proofs.lemmas.List.Elements.{All-head, All-cons}
 use Rattle.cdb.specs.declared.Cdb.{Cdb}
 use Rattle.cdb.specs.declared.Cdb.TheVariants.{Read10, Write10, Sync10, ReadCapacity10}
 use Rattle.cdb.specs.Meaning.{Means}
+use Rattle.ntstatus.specs.declared.NtStatus.{NtStatus}
+use Rattle.ntstatus.specs.Table.{status_of}
+use Rattle.srb.specs.declared.DeviceLabel.{DeviceLabel}
+use Rattle.srb.specs.declared.DeviceLabel.TheVariants.{Act, Fault}
+use Rattle.device.specs.Served.{IsActOrFault}
+use Rattle.adapter.proofs.Joining.{reserves_none}
 use Rattle.cdb.proofs.Once.{means_once}
 use Rattle.srb.specs.declared.Srb.{Srb}
 use Rattle.srb.specs.declared.Completion.{Completion}
 use Rattle.srb.specs.declared.Class.{Class}
 use Rattle.srb.specs.declared.Class.TheVariants.{Good, Busy, Bad}
 use Rattle.srb.specs.Fate.{Fresh, Acted, class_of}
-use Rattle.adapter.specs.View.{AdapterView, TagInUse, HasNotTag, IsFree, Accepts, in_use_from, acted, faulted, MayReturn}
+use Rattle.adapter.specs.View.{AdapterView, IsInOrder, TagInUse, HasNotTag, IsFree, Accepts, in_use_from, acted, faulted, MayReturn, ActsOn, FaultsOn, ReturnsOn, MovesOn}
 use Rattle.adapter.specs.Performing.{Performs, CarriesOut}
 use Rattle.adapter.specs.Calls.{Acts, ActsNot, Finishes, FinishesNot}
-use Rattle.compose.specs.Start.{IsIdle, Looks, bytes_brought, Brings, AsksOnce}
+use Rattle.compose.specs.declared.Settings.{Settings}
+use Rattle.compose.specs.declared.StartFault.{StartFault}
+use Rattle.compose.specs.declared.StartFault.TheVariants.{NoMemory, Device as DeviceFault, Mbr as TableFault, Settings as SettingsFault}
+use Rattle.compose.specs.Mbr.{first_entry}
+use Rattle.compose.specs.Start.{IsIdle, Looks, LooksBy, Exchanges, bytes_brought, Brings, AsksOnce, Fails, AreInRange, IsSameDisk, IsReadFault, IsStartFault, table_read}
 
 -- a list in which one item stands is just that item
 pub just_one : {X : Type 0} (x y : X) (xs ys : List X) → IsPermutation xs (x ∷ []) → IsPermutation xs (y ∷ ys) → (x ≡ y) × (ys ≡ [])
@@ -59,6 +71,59 @@ brings_by old new command use' bytes last Good acts good before after may = good
 brings_by old new command use' bytes last Busy acts good before after may = acts may.0
 brings_by old new command use' bytes last (Bad completion) acts good before after may = let h = may.0 in omega (arith, before, after, h)
 
+-- WHAT WAS SENT, AND HOW IT CAME BACK
+
+one_tag : (old first : AdapterView) (sent : Srb) → IsIdle old → Accepts old 0 0 sent first → IsPermutation first.tags (in_use_from old 0 0 sent ∷ [])
+one_tag old first sent idle accepts =
+    subst (λ (v : AdapterView). IsPermutation v.tags (in_use_from old 0 0 sent ∷ [])) (sym accepts.after)
+    (subst (λ (ts : List TagInUse). IsPermutation accepts.tags (in_use_from old 0 0 sent ∷ ts)) idle.no_tags accepts.in_use)
+
+-- the piece on the only tag is piece 0
+returned : (second last : AdapterView) (only : TagInUse) (srb : Srb) (completion : Completion) → IsPermutation second.tags (only ∷ []) → only.piece ≡ 0 → Finishes second 0 srb completion last
+    → ReturnsOn second 0 0 (class_of completion) last
+returned second last only srb completion one first h =
+    let alone = just_one only h.returns.use' second.tags h.returns.others one h.returns.is_on.in_use in
+    let none : h.piece ≡ 0 = sym h.returns.is_piece ∙ sym (ap (λ (u : TagInUse). u.piece) alone.0) ∙ first in
+    subst (λ (n : ℕ). ReturnsOn second 0 n (class_of completion) last) none h.returns
+
+exchanges : (old first second last : AdapterView) (command : Cdb) (sent : Srb) (class : Class) (told : DeviceLabel) → LooksBy old command sent → Accepts old 0 0 sent first → IsActOrFault 0 told
+    → MovesOn first 0 told second → ReturnsOn second 0 0 class last → Exchanges old command class (record last { labels = [] })
+exchanges old first second last command sent class told looks accepts acts moves returns = record {
+  srb = sent;
+  accepted = first;
+  told = told;
+  looks = looks;
+  accepts = accepts;
+  acts = acts;
+  moves = record {
+    moved = last;
+    moves = (first, second, reserves_none first, (0, moves), (second, last, reserves_none second, (0, returns), reserves_none last));
+    taken = refl;
+  };
+}
+
+exchanged_once : (old first second last : AdapterView) (command : Cdb) (sent srb : Srb) (completion : Completion) → IsIdle old → LooksBy old command sent → Accepts old 0 0 sent first → Acts first 0 second
+    → Finishes second 0 srb completion last → Exchanges old command (class_of completion) (record last { labels = [] })
+exchanged_once old first second last command sent srb completion idle looks accepts acts finishes =
+    elim acts.one_of [
+      | inl h ↦
+          let alone = just_one (in_use_from old 0 0 sent) h.1.use' first.tags h.1.others (one_tag old first sent idle accepts) h.1.is_on.in_use in
+          let none : acts.piece ≡ 0 = sym h.1.is_piece ∙ sym (ap (λ (u : TagInUse). u.piece) alone.0) in
+          let one : IsPermutation second.tags (acted h.1.moved h.1.left h.1.use' ∷ []) =
+          subst (λ (v : AdapterView). IsPermutation v.tags (acted h.1.moved h.1.left h.1.use' ∷ [])) (sym h.1.after)
+          (subst (λ (os : List TagInUse). IsPermutation h.1.tags (acted h.1.moved h.1.left h.1.use' ∷ os)) alone.1 h.1.in_use) in
+          exchanges old first second last command sent (class_of completion) (Act 0 h.0) looks accepts refl (subst (λ (n : ℕ). ActsOn first 0 n h.0 second) none h.1)
+          (returned second last (acted h.1.moved h.1.left h.1.use') srb completion one (sym (ap (λ (u : TagInUse). u.piece) alone.0)) finishes)
+      | inr h ↦
+          let alone = just_one (in_use_from old 0 0 sent) h.use' first.tags h.others (one_tag old first sent idle accepts) h.is_on.in_use in
+          let none : acts.piece ≡ 0 = sym h.is_piece ∙ sym (ap (λ (u : TagInUse). u.piece) alone.0) in
+          let one : IsPermutation second.tags (faulted h.use' ∷ []) =
+          subst (λ (v : AdapterView). IsPermutation v.tags (faulted h.use' ∷ [])) (sym h.after)
+          (subst (λ (os : List TagInUse). IsPermutation h.tags (faulted h.use' ∷ os)) alone.1 h.in_use) in
+          exchanges old first second last command sent (class_of completion) (Fault 0) looks accepts refl (subst (λ (n : ℕ). FaultsOn first 0 n second) none h)
+          (returned second last (faulted h.use') srb completion one (sym (ap (λ (u : TagInUse). u.piece) alone.0)) finishes)
+    ]
+
 -- the piece on the only tag comes back
 came_back : (old view : AdapterView) (command : Cdb) (use' : TagInUse) (srb : Srb) (completion : Completion) (last : AdapterView)
     → IsPermutation view.tags (use' ∷ [])
@@ -66,8 +131,8 @@ came_back : (old view : AdapterView) (command : Cdb) (use' : TagInUse) (srb : Sr
     → use'.failures_before ≡ old.failures
     → view.sector_size ≡ old.sector_size → view.sectors ≡ old.sectors → view.faithful ≡ old.faithful → view.max_transfer ≡ old.max_transfer → view.depth ≡ old.depth
     → view.accepted ≡ old.accepted + 1 → old.failures ≤ view.failures
-    → Finishes view 0 srb completion last → AsksOnce old command srb completion last
-came_back old view command use' srb completion last one acts good before size sectors faith most depth counted fails h =
+    → Finishes view 0 srb completion last → Exchanges old command (class_of completion) (record last { labels = [] }) → AsksOnce old command srb completion last
+came_back old view command use' srb completion last one acts good before size sectors faith most depth counted fails h exchanged =
     let alone = just_one use' h.returns.use' view.tags h.returns.others one h.returns.is_on.in_use in
     let tags : h.returns.tags ≡ [] = none_left _ (subst (λ (os : List TagInUse). IsPermutation h.returns.tags os) alone.1 h.returns.in_use) in
     let after = h.returns.after in
@@ -89,12 +154,14 @@ came_back old view command use' srb completion last one acts good before size se
           (sym (ap (λ (u : TagInUse). u.failures_before) alone.0) ∙ before)
           failures
           h.returns.may;
+      exchanged = exchanged;
     }
 
 pub asks_once : (old first second last : AdapterView) (command : Cdb) (sent srb : Srb) (completion : Completion) → IsIdle old
-    → Means sent.block command → Looks command → Accepts old 0 0 sent first → Acts first 0 second → Finishes second 0 srb completion last
+    → LooksBy old command sent → Looks command → Accepts old 0 0 sent first → Acts first 0 second → Finishes second 0 srb completion last
     → AsksOnce old command srb completion last
-asks_once old first second last command sent srb completion idle means looks accepts acts finishes =
+asks_once old first second last command sent srb completion idle by looks accepts acts finishes =
+    let exchanged : Exchanges old command (class_of completion) (record last { labels = [] }) = exchanged_once old first second last command sent srb completion idle by accepts acts finishes in
     let one : IsPermutation accepts.tags (in_use_from old 0 0 sent ∷ []) =
     subst (λ (ts : List TagInUse). IsPermutation accepts.tags (in_use_from old 0 0 sent ∷ ts)) idle.no_tags accepts.in_use in
     let acts' = subst (λ (v : AdapterView). Acts v 0 second) accepts.after acts in
@@ -104,7 +171,7 @@ asks_once old first second last command sent srb completion idle means looks acc
           let alone = just_one (in_use_from old 0 0 sent) h.1.use' accepts.tags h.1.others one h.1.is_on.in_use in
           let same_srb : sent ≡ h.1.use'.srb = ap (λ (u : TagInUse). u.srb) alone.0 in
           let is_command : h.1.command ≡ command =
-          means_once sent.block h.1.command command (subst (λ (s : Srb). Means s.block h.1.command) (sym same_srb) h.1.means) means in
+          means_once sent.block h.1.command command (subst (λ (s : Srb). Means s.block h.1.command) (sym same_srb) h.1.means) by.reading.asks in
           let none : acts'.piece ≡ 0 = sym h.1.is_piece ∙ sym (ap (λ (u : TagInUse). u.piece) alone.0) in
           let told : (acts'.piece == 0) ≡ true = ap (λ (n : ℕ). n == 0) none in
           let seen = looked_at old.faithful old h.1.use'.srb.data command h.1.moved h.1.sectors looks
@@ -117,7 +184,7 @@ asks_once old first second last command sent srb completion idle means looks acc
           (λ moved e. let same : h.1.moved ≡ moved = cc (e) in ap concat (sym same) ∙ seen.1)
           (sym (ap (λ (u : TagInUse). u.failures_before) alone.0))
           refl seen.0 refl refl refl refl (omega arith)
-          finishes'
+          finishes' exchanged
       | inr h ↦
           let alone = just_one (in_use_from old 0 0 sent) h.use' accepts.tags h.others one h.is_on.in_use in
           let finishes' = subst (λ (v : AdapterView). Finishes v 0 srb completion last) h.after finishes in
@@ -128,7 +195,7 @@ asks_once old first second last command sent srb completion idle means looks acc
           (λ moved e. cc (e))
           (sym (ap (λ (u : TagInUse). u.failures_before) alone.0))
           refl refl refl refl refl refl (omega (arith, counted))
-          finishes'
+          finishes' exchanged
     ]
 
 -- the piece that was just accepted can act
@@ -150,3 +217,67 @@ finishes_after first second last acts not =
           let free : All (HasNotTag 0) h.tags = subst (λ (v : AdapterView). IsFree v 0) h.after not.is_free in
           All-head (HasNotTag 0) (faulted h.use') h.others (All-permutation (HasNotTag 0) _ _ h.in_use free) h.is_on.has_tag
     ]
+
+-- A COMMAND THAT FAILED
+
+is_itself : (completion other : Completion) → class_of completion ≡ Bad other → other ≡ completion
+is_itself completion other = by_tests (bit_and completion.srb_status 63 == 1) (bit_and completion.srb_status 63 == 5)
+  where
+    by_tests : (good busy : Bool) → (if good then Good else if busy then Busy else Bad completion) ≡ Bad other → other ≡ completion
+    by_tests true busy e = cc (e)
+    by_tests false true e = cc (e)
+    by_tests false false e = cc (e)
+
+pub not_good : (class : Class) (completion : Completion) → class ≡ class_of completion → (class ≡ Busy) ⊎ ((other : Completion) × (class ≡ Bad other)) → class_of completion ≡ Good → ⊥
+not_good class completion is (inl busy) good = cc (is, busy, good)
+not_good class completion is (inr (other, bad)) good = cc (is, bad, good)
+
+-- what came back neither good nor busy came back bad
+pub failed : (old new after : AdapterView) (command : Cdb) (srb : Srb) (completion : Completion) (status : NtStatus) → AsksOnce old command srb completion new → after ≡ record new { labels = [] }
+    → (class_of completion ≡ Good → ⊥) → status ≡ status_of completion.srb_status completion.scsi_status completion.sense → Fails old command status after
+failed old new after command srb completion status asks taken bad means = by_class (class_of completion) refl asks.brings asks.exchanged
+  where
+    by_class : (class : Class) → class_of completion ≡ class → Brings old command srb.data class new → Exchanges old command class (record new { labels = [] }) → Fails old command status after
+    by_class Good is brings exchanged = absurd (bad is)
+    by_class Busy is brings exchanged = absurd brings
+    by_class (Bad other) is brings exchanged =
+        let same : other ≡ completion = is_itself completion other is in
+        record {
+          failure = record { completion = completion; is_bad = is ∙ ap Bad same; means = means };
+          counted = subst (λ (v : AdapterView). old.failures < v.failures) (sym taken) brings;
+          exchanged = subst (λ (v : AdapterView). Exchanges old command (Bad completion) v) (sym taken) (subst (λ (c : Completion). Exchanges old command (Bad c) (record new { labels = [] })) same exchanged);
+        }
+
+-- the first command of a start
+pub first_fault : (disk after : AdapterView) (settings : Settings) (fault : StartFault) → AreInRange settings → IsReadFault ReadCapacity10 disk fault after → IsStartFault disk settings fault after
+first_fault disk after settings NoMemory ranges h = (ranges, tt)
+first_fault disk after settings (DeviceFault status) ranges h = (ranges, record { failure = h.failure; counted = h.counted; one_of = inl h.exchanged })
+first_fault disk after settings (TableFault fault) ranges h = (ranges, h)
+first_fault disk after settings SettingsFault ranges h = absurd h
+
+-- the second
+pub second_fault : (disk between after : AdapterView) (settings : Settings) (fault : StartFault) → AreInRange settings → IsSameDisk 1 disk between → Exchanges disk ReadCapacity10 Good between
+    → IsReadFault table_read between fault after → IsStartFault disk settings fault after
+second_fault disk between after settings NoMemory ranges same first h = (ranges, tt)
+second_fault disk between after settings (DeviceFault status) ranges same first h =
+    let low : disk.failures ≤ between.failures = same.failures in
+    let high : between.failures < after.failures = h.counted in
+    (ranges, record { failure = h.failure; counted = omega arith; one_of = inr (between, first, h.exchanged) })
+second_fault disk between after settings (TableFault fault) ranges same first h = (ranges, sym (ap (λ (xs : List (List ℕ)). first_entry (length xs) (get_or xs 0 [])) same.sectors) ∙ h)
+second_fault disk between after settings SettingsFault ranges same first h = absurd h
+
+-- THE FIRST SECTOR
+
+pub first_sector_long : (disk : AdapterView) → IsInOrder disk → 512 ≤ length (bytes_brought disk table_read)
+first_sector_long disk order = by_sectors disk.sectors order.sectors.0 order.whole_sectors
+  where
+    size : 512 ≤ disk.sector_size
+    size = elim order.sector_size [ inl small ↦ omega arith | inr large ↦ omega arith ]
+
+    by_sectors : (sectors : List (List ℕ)) → 1 ≤ length sectors → All (IsSector disk.sector_size) sectors → 512 ≤ length (concat (slice_range sectors 0 (0 + 1)))
+    by_sectors [] some whole = absurd (omega arith)
+    by_sectors (first ∷ rest) some whole =
+        let one : length first ≡ disk.sector_size = All-head (IsSector disk.sector_size) first rest whole in
+        let alone : concat (slice_range (first ∷ rest) 0 (0 + 1)) ≡ first = append-nil first in
+        let long : 512 ≤ disk.sector_size = size in
+        subst (λ (xs : List ℕ). 512 ≤ length xs) (sym alone) (omega arith)

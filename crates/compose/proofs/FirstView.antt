@@ -4,7 +4,7 @@ use Rattle.std.specs.Prelude.{◌==◌, nat_lt, if◌then◌else◌}
 use Rattle.std.proofs.lemmas.Bool.{eqb-false, ltb-false}
 use Rattle.std.proofs.lemmas.List.Elements.{All-nil, All-cons}
 use Rattle.sector.specs.declared.Extent.{Extent}
-use Rattle.adapter.specs.View.{AdapterView}
+use Rattle.adapter.specs.View.{AdapterView, IsInOrder}
 use Rattle.machine.specs.Map.{IsMap, IsPartition, sectors_in}
 use Rattle.machine.specs.State.{opening}
 use Rattle.device.specs.Seen.{Seen}
@@ -18,9 +18,9 @@ use Rattle.compose.specs.declared.tables.Tables.{Tables}
 use Rattle.ntstatus.proofs.First.{none_first}
 use Rattle.compose.specs.Mbr.{is_signed, first_type, first_extent, extent_fault, checked, first_entry}
 use Rattle.compose.specs.Sound.{partitions_of, rules_of, holders_of, view_of}
-use Rattle.compose.specs.Start.{IsSameDisk, sector_zero, AreLimits}
+use Rattle.compose.specs.Start.{IsSameDisk, sector_zero, AreLimits, IsReadBy}
 use Rattle.compose.specs.Shown.{StackView}
-use Rattle.compose.specs.Opening.{IsUnasked, AreEmpty, first_rules, IsFirstView, ShowsEmpty}
+use Rattle.compose.specs.Opening.{IsUnasked, AreFor, AreEmpty, first_rules, IsFirstView, ShowsEmpty}
 use Rattle.compose.proofs.Opened.{opening-view}
 
 -- THE FIRST ENTRY IS A MAP
@@ -73,7 +73,7 @@ IsUnasked-opening v none = record {
   no_labels = none;
 }
 
-module _ (disk v : AdapterView) (settings : Settings) (limits : Limits) (same : IsSameDisk 2 disk v) (are : AreLimits disk settings limits) where
+module _ (disk v : AdapterView) (settings : Settings) (limits : Limits) (same : IsSameDisk 2 disk v) (are : AreLimits disk settings limits) (read : IsReadBy disk v) where
   is_map : IsMap (length disk.sectors) (partitions_of limits.partition)
   is_map = IsMap-first_entry (length disk.sectors) (sector_zero disk) limits.partition are.partition
 
@@ -97,12 +97,31 @@ module _ (disk v : AdapterView) (settings : Settings) (limits : Limits) (same : 
         opening-view limits (opening_seen v) tables (IsUnasked-opening v same.idle.no_labels) empty
         ∙ ap (λ (xs : List (List ℕ)). opening (map (sectors_in xs) (partitions_of limits.partition))) same.sectors;
     same_disk = same;
+    read = read;
     no_handles = empty.no_handles;
     first_handle = empty.first_handle;
     no_requests = ap (λ (xs : List (Option OpenRequest)). holders_of (record tables.requests { slots = xs })) empty.no_requests;
     no_labels = empty.no_labels;
     no_answers = empty.no_answers;
   }
+
+  pub AreFor-over : (below : Seen) → below ≡ opening_seen v → IsInOrder v → AreFor below limits
+  AreFor-over below whole order =
+      subst (λ (b : Seen). AreFor b limits) (sym whole)
+      (let longest : limits.longest ≡ v.max_transfer = ap (λ (l : Limits). l.longest) are.sizes ∙ sym same.max_transfer in
+      let most : v.max_transfer ≤ 65535 = order.max_transfer.1 in
+      let open_requests : limits.open_requests ≡ settings.open_requests = ap (λ (l : Limits). l.open_requests) are.sizes in
+      let window : limits.window ≡ settings.window = ap (λ (l : Limits). l.window) are.sizes in
+      let some : 1 ≤ settings.open_requests = are.in_range.open_requests.0 in
+      let few : settings.open_requests ≤ settings.window = are.in_range.open_requests.1 in
+      let short : settings.window ≤ 64 = are.in_range.window.1 in
+      record {
+        sector_size = ap (λ (l : Limits). l.sector_size) are.sizes ∙ sym same.sector_size;
+        longest = longest;
+        short = omega arith;
+        some_open = (omega arith, omega arith, omega arith);
+        is_map = subst (λ (xs : List (List ℕ)). IsMap (length xs) (partitions_of limits.partition)) (sym same.sectors) is_map;
+      })
 
   pub IsFirstView-over : (below : Seen) (view : StackView) → below ≡ opening_seen v → ShowsEmpty limits below view → IsFirstView disk settings view
   IsFirstView-over below view whole (tables, empty, shows) =

@@ -1,10 +1,10 @@
 -- One request that has ended after another is taken: the run that they make, and what holds meanwhile.
-use Rattle.std.proofs.Common.{◌≡◌, ◌≢◌, ◌≤◌, ℕ, ◌+◌, Bool, true, false, List, [], ◌∷◌, ◌++◌, Option, Some, None, refl, sym, ◌∙◌, ap, subst, arith, map, length, nat_eq, eq-eqb, eqb-true}
+use Rattle.std.proofs.Common.{◌≡◌, ◌≢◌, ◌<◌, ◌≤◌, ℕ, ◌+◌, Bool, true, false, List, [], ◌∷◌, ◌++◌, Option, Some, None, refl, sym, ◌∙◌, ap, subst, arith, map, length, nat_eq, eq-eqb, eqb-true}
 use Rattle.std.specs.Prelude.{IsPermutation, IsNone, All, option_map, ◌==◌}
 use Rattle.std.specs.VecDeque.{deque_len, deque_capacity}
 use Rattle.std.proofs.lemmas.Bool.Decides.{nat_tests}
 use Rattle.std.proofs.lemmas.List.Sorted.{IsPermutation-refl, IsPermutation-sym, IsPermutation-trans, IsPermutation-append_left, IsPermutation-cons, All-permutation, length_permutation}
-use Rattle.std.proofs.lemmas.List.Elements.{All-nil, All-head, All-tail, All-cons, All-append}
+use Rattle.std.proofs.lemmas.List.Elements.{All-nil, All-head, All-tail, All-cons, All-append, All-weaker}
 use Rattle.slab.specs.Slab.{get, slab_len}
 use Rattle.ntstatus.specs.declared.NtStatus.{NtStatus}
 use Rattle.sector.specs.declared.Extent.{Extent}
@@ -31,7 +31,7 @@ use Rattle.compose.specs.OnDisk.{rules_over, IsOnDisk}
 use Rattle.compose.specs.Shown.{Holder}
 use Rattle.compose.specs.Ordering.{inserted, HasOtherNumber}
 use Rattle.compose.specs.Right.{as_answer, unless_answered}
-use Rattle.compose.specs.Sound.{HasPlaces, WasGiven, AreApart, AreHeld, IsTopmost, IsOnMap, IsSound, IsSoundWith, Collects, partitions_of, holder_of}
+use Rattle.compose.specs.Sound.{HasPlaces, WasGiven, AreApart, AreHeld, IsTopmost, IsSpotted, IsOnMap, IsSound, IsSoundWith, SamePlaces, Collects, partitions_of, holder_of}
 use Rattle.compose.specs.Collecting.{Closes, TakesEnded, Gathers, brought, answer_for, unlabelled}
 use Rattle.compose.proofs.AdapterJoins.{labels_moved}
 use Rattle.compose.proofs.Askings.{KeepsAsked, KeepsAsked-same, KeepsAsked-trans, run_keeps, AreHeld-along}
@@ -130,15 +130,15 @@ module _ (takes_srb : Bool) (old new : Seen) (request : Request) (done : Done) (
       let now : deque_len t'.waiting ≡ length t'.waiting.items = t'.waiting.ok.0 in
       let before : deque_len t.waiting ≡ length t.waiting.items = t.waiting.ok.0 in
       let room : deque_len t.waiting + slab_len t.requests ≤ deque_capacity t.waiting = p.waiting in
-      let more : deque_capacity t.waiting ≤ deque_capacity t'.waiting = c.waiting_place in
+      let more : deque_capacity t'.waiting ≡ deque_capacity t.waiting = c.places.waiting in
       let some : 64 ≤ deque_capacity t.answered = p.answered in
-      let as_many : deque_capacity t.answered ≤ deque_capacity t'.answered = c.answered_place in
+      let as_many : deque_capacity t'.answered ≡ deque_capacity t.answered = c.places.answered in
       record {
         labels = rw c.same_labels p.labels;
         answered = omega arith;
         waiting = omega arith;
         handles = rw c.same_handles p.handles;
-        requests = rw c.slots p.requests;
+        requests = rw c.places.requests p.requests;
       }
 
   -- one more is put by, and one fewer is open
@@ -159,6 +159,18 @@ module _ (takes_srb : Bool) (old new : Seen) (request : Request) (done : Done) (
       let P : ℕ → List Answer → Type 0 = λ n xs. All (WasGiven n) xs in
       subst (λ n. P n t'.waiting.items) (sym c.same_next_request) (subst (λ xs. P t.next_request xs) (sym c.waiting) inserted_all)
 
+  -- what the table still holds it held before
+  spots_after : All (IsSpotted t.next_request t.requests) old.packets → All (IsSpotted t'.next_request t'.requests) new.packets
+  spots_after spots =
+      let before : All (IsSpotted t.next_request t.requests) new.packets =
+      All-permutation (IsSpotted t.next_request t.requests) _ _ (IsPermutation-sym _ _ h.moves.same_packets)
+      (All-tail (IsSpotted t.next_request t.requests) h.packet h.others (All-permutation (IsSpotted t.next_request t.requests) _ _ h.is_in spots)) in
+      All-weaker (IsSpotted t.next_request t.requests) (IsSpotted t'.next_request t'.requests)
+      (λ packet s. record {
+        given = subst (λ n. packet.number < n) (sym c.same_next_request) s.given;
+        spot = λ slot x there same. s.spot slot x (kept_slot t t' done c old.state.requests k slot x there).1 same;
+      }) new.packets before
+
   pub sound_after : (put_by : List Answer) (limits : Limits) → IsSoundWith put_by limits old t → IsSoundWith t'.answered.items limits new t'
   sound_after put_by limits s = record {
     fits = FitsBelow-same limits old new h.moves.same_rules h.moves.same_most s.fits;
@@ -174,6 +186,7 @@ module _ (takes_srb : Bool) (old new : Seen) (request : Request) (done : Done) (
     on_map = subst (λ handles. IsOnMap limits handles) (sym c.same_handles) s.on_map;
     on_disk = on_disk_after (partitions_of limits.partition) limits.open_requests limits.window s.on_disk;
     topmost = All-permutation IsTopmost _ _ (IsPermutation-sym _ _ h.moves.same_packets) (All-tail IsTopmost h.packet h.others (All-permutation IsTopmost _ _ h.is_in s.topmost));
+    spots = spots_after s.spots;
     not_paused = keeps.paused ∙ s.not_paused;
     not_removing = keeps.removing ∙ s.not_removing;
     none_put_by = refl;
@@ -183,6 +196,15 @@ module _ (takes_srb : Bool) (old new : Seen) (request : Request) (done : Done) (
   }
 
 -- ONE AFTER ANOTHER
+
+SamePlaces-trans : (a b c : Tables) → SamePlaces a b → SamePlaces b c → SamePlaces a c
+SamePlaces-trans a b c p q = record {
+  labels = q.labels ∙ p.labels;
+  answered = q.answered ∙ p.answered;
+  waiting = q.waiting ∙ p.waiting;
+  handles = q.handles ∙ p.handles;
+  requests = q.requests ∙ p.requests;
+}
 
 -- none yet
 pub gathers_none : (below : Seen) (tables : Tables) → tables.answered.items ≡ [] → Gathers below tables below tables
@@ -199,6 +221,7 @@ gathers_none below tables none = record {
   same_handles = refl;
   same_next_handle = refl;
   same_next_request = refl;
+  places = record { labels = refl; answered = refl; waiting = refl; handles = refl; requests = refl };
   quiet = λ unfinished. (refl, refl, none);
 }
   where
@@ -280,6 +303,7 @@ module _ (below mid new : Seen) (first t t' : Tables) (g : Gathers below first m
     same_handles = e.closes.same_handles ∙ g.same_handles;
     same_next_handle = e.closes.same_next_handle ∙ g.same_next_handle;
     same_next_request = e.closes.same_next_request ∙ g.same_next_request;
+    places = SamePlaces-trans first t t' g.places e.closes.places;
     quiet = λ unfinished. absurd (not_quiet (subst (λ v. All (IsUnfinished v.rules v.state) v.state.requests) (sym (g.quiet unfinished).0) unfinished));
   }
     where
@@ -289,8 +313,9 @@ module _ (below mid new : Seen) (first t t' : Tables) (g : Gathers below first m
 
 -- then the device's labels are told, and the answers
 pub collects : (below mid new : Seen) (first t t' : Tables) → Gathers below first mid t → new ≡ unlabelled mid → Settled mid.rules mid.state → All (IsUnfinished mid.rules mid.state) mid.state.requests → t' ≡ record t { labels = t'.labels; answered = t'.answered }
+    → deque_capacity t'.labels ≡ deque_capacity t.labels → deque_capacity t'.answered ≡ deque_capacity t.answered
     → t'.labels.items ≡ (t.labels.items ++ map as_label mid.adapter.labels) ++ map as_answer t.answered.items → Collects below first new t'
-collects below mid new first t t' g taken settled unfinished kept labels = record {
+collects below mid new first t t' g taken settled unfinished kept label_places answer_places labels = record {
   starts = g.starts;
   answers = t.answered.items;
   only_starts = g.only_starts;
@@ -306,6 +331,14 @@ collects below mid new first t t' g taken settled unfinished kept labels = recor
   same_handles = ap (λ x. x.handles) kept ∙ g.same_handles;
   same_next_handle = ap (λ x. x.next_handle) kept ∙ g.same_next_handle;
   same_next_request = ap (λ x. x.next_request) kept ∙ g.same_next_request;
+  places =
+      SamePlaces-trans first t t' g.places (record {
+        labels = label_places;
+        answered = answer_places;
+        waiting = ap (λ x. deque_capacity x.waiting) kept;
+        handles = ap (λ x. x.handles.capacity) kept;
+        requests = ap (λ x. x.requests.capacity) kept;
+      });
   settled = subst (λ v. Settled v.rules v.state) (sym taken) settled;
   quiet = λ nothing. ((g.quiet nothing).1, (g.quiet nothing).2);
   unfinished = subst (λ v. All (IsUnfinished v.rules v.state) v.state.requests) (sym taken) unfinished;

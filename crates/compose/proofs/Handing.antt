@@ -71,6 +71,7 @@ given_sound limits below old handles partition slot number h admitted updates sl
       on_map = on_map limits old.handles handles slot _ updates (leb-false (length (partitions_of limits.partition)) partition b.0) h.on_map;
       on_disk = h.on_disk;
       topmost = h.topmost;
+      spots = h.spots;
       not_paused = h.not_paused;
       not_removing = h.not_removing;
       none_put_by = h.none_put_by;
@@ -96,7 +97,7 @@ opened_right limits below old partition (HandleReply handle) new h none_told non
     subst (λ t. IsRight (view_of limits below old) (Open partition) (HandleReply handle) (view_of limits below t)) (sym opens.after) (record {
       told = tells_nothing (view_of limits below old);
       replies = (
-        record { nothing = refl; same_state = refl },
+        record { nothing = refl; same_state = refl; same_adapter = refl },
         record {
           not_refused = open_refusal_is limits below old partition h.not_removing ∙ opens.not_refused;
           next_number = opens.next_number;
@@ -113,7 +114,7 @@ opened_right limits below old partition (Refused reason bytes) new h none_told n
     subst (λ t. IsRight (view_of limits below old) (Open partition) (Refused reason bytes) (view_of limits below t)) (sym opens.2) (record {
       told = tells_nothing (view_of limits below old);
       replies = (
-        record { nothing = refl; same_state = refl },
+        record { nothing = refl; same_state = refl; same_adapter = refl },
         open_refusal_is limits below old partition h.not_removing ∙ opens.0,
         opens.1,
         record { handles = refl; next_handle = refl },

@@ -1,7 +1,9 @@
 -- Answers put in their place by number.
-use Rattle.std.proofs.Common.{◌≡◌, ◌≤◌, ℕ, suc, true, false, List, [], ◌∷◌, Option, Some, None, refl, ◌∙◌, ap, arith, length}
+use Rattle.std.proofs.Common.{◌≡◌, ◌≤◌, ℕ, suc, ◌+◌, ◌-◌, true, false, List, [], ◌∷◌, ◌++◌, take, drop, Option, Some, None, refl, ◌∙◌, ap, arith, length}
 use Rattle.std.specs.Prelude.{IsPermutation, nat_lt, ◌==◌, ◌||◌, if◌then◌else◌}
-use Rattle.std.specs.List.{insert, list_any}
+use Rattle.std.specs.List.{list_any}
+use Rattle.std.proofs.Math.Seq.{drop-append_seam, take-append_seam}
+use Rattle.std.proofs.lemmas.List.{length-drop}
 use Rattle.std.proofs.Math.Bool.{or-true}
 use Rattle.std.proofs.lemmas.List.Sorted.{list_any-IsPermutation}
 use Rattle.compose.specs.declared.Answer.{Answer}
@@ -15,13 +17,32 @@ lower_first_within number (first ∷ rest) =
     let below : lower_first number rest ≤ length rest = lower_first_within number rest in
     elim (nat_lt first.number number) as (λ b. (if b then suc (lower_first number rest) else 0) ≤ length (first ∷ rest)) [ true ↦ omega arith | false ↦ omega arith ]
 
-pub inserted_at : (answer : Answer) (answers : List Answer) → insert answers (lower_first answer.number answers) answer ≡ inserted answer answers
-inserted_at answer [] = refl
-inserted_at answer (first ∷ rest) =
-    elim (nat_lt first.number answer.number) as (λ b. insert (first ∷ rest) (if b then suc (lower_first answer.number rest) else 0) answer ≡ (if b then first ∷ inserted answer rest else answer ∷ first ∷ rest)) [
-      | true ↦ ap (λ xs. first ∷ xs) (inserted_at answer rest)
+-- between the first answers with lower numbers and the rest
+between : (answer : Answer) (answers : List Answer) → take (lower_first answer.number answers) answers ++ answer ∷ drop (lower_first answer.number answers) answers ≡ inserted answer answers
+between answer [] = refl
+between answer (first ∷ rest) =
+    elim (nat_lt first.number answer.number) as (λ b. take (if b then suc (lower_first answer.number rest) else 0) (first ∷ rest) ++ answer ∷ drop (if b then suc (lower_first answer.number rest) else 0) (first ∷ rest)
+    ≡ (if b then first ∷ inserted answer rest else answer ∷ first ∷ rest)) [
+      | true ↦ ap (λ xs. first ∷ xs) (between answer rest)
       | false ↦ refl
     ]
+
+-- the rest to the front, the answer before it, and the first ones back
+pub turned_in : (answer : Answer) (answers : List Answer) (place : ℕ) (turned longer last : List Answer) (count : ℕ) → place ≡ lower_first answer.number answers → count ≡ length answers + 1
+    → turned ≡ drop place answers ++ take place answers → longer ≡ answer ∷ turned → last ≡ drop (count - place) longer ++ take (count - place) longer → last ≡ inserted answer answers
+turned_in answer answers place turned longer last count at counted first second third =
+    let within : lower_first answer.number answers ≤ length answers = lower_first_within answer.number answers in
+    let front : List Answer = answer ∷ drop place answers in
+    let left : length (drop place answers) ≡ length answers - place = length-drop place answers in
+    let long : count - place ≡ length front = omega arith in
+    let parts : longer ≡ front ++ take place answers = second ∙ ap (λ xs. answer ∷ xs) first in
+    third
+    ∙ ap (λ xs. drop (count - place) xs ++ take (count - place) xs) parts
+    ∙ ap (λ n. drop n (front ++ take place answers) ++ take n (front ++ take place answers)) long
+    ∙ ap (λ xs. xs ++ take (length front) (front ++ take place answers)) (drop-append_seam front (take place answers))
+    ∙ ap (λ xs. take place answers ++ xs) (take-append_seam front (take place answers))
+    ∙ ap (λ n. take n answers ++ answer ∷ drop n answers) at
+    ∙ between answer answers
 
 -- one more answer takes its holder away
 pub unless_one_more : (answer : Answer) (answers more : List Answer) (slot : Option Holder) → IsPermutation more (answer ∷ answers)

@@ -126,10 +126,10 @@ module _ (partitions : List Extent) (many window : ℕ) (below : Rules) where
       let inside' : end_of partitions ≤ length all = rw same_all inside in
       let new : arrays' ≡ splice all (first_sector below q + places.first) sectors ∷ [] =
       e ∙ ap (λ i. set s.arrays i (splice (get_or s.arrays i []) (first_sector below q + places.first) sectors)) mine.number ∙ set_only s.arrays disk_sectors _ one in
-        ap (λ arrays. map (sectors_in (get_or arrays 0 [])) partitions) new
-            ∙ ap (λ m. map (sectors_in (splice all m sectors)) partitions) at
-            ∙ sym (write_of_partition partitions all from sectors single some fits inside')
-            ∙ sym (ap (λ i. set parts i (splice (get_or parts i []) from sectors)) mine.number)
+      ap (λ arrays. map (sectors_in (get_or arrays 0 [])) partitions) new
+      ∙ ap (λ m. map (sectors_in (splice all m sectors)) partitions) at
+      ∙ sym (write_of_partition partitions all from sectors single some fits inside')
+      ∙ sym (ap (λ i. set parts i (splice (get_or parts i []) from sectors)) mine.number)
 
   moves_is : (next : ℕ) (s : State) (disk_sectors : List (List ℕ)) (q : ClientRequest) (places : Extent) (kind : Kind) (sectors : List (List ℕ)) (arrays' : List (List (List ℕ)))
       → length partitions ≤ 1 → s.arrays ≡ disk_sectors ∷ [] → end_of partitions ≤ length disk_sectors → IsPart q places kind → length sectors ≡ places.count

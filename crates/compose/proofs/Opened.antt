@@ -16,7 +16,7 @@ use Rattle.compose.specs.declared.tables.Tables.{Tables}
 use Rattle.compose.specs.declared.Answer.{Answer}
 use Rattle.compose.specs.OnDisk.{end_of, rules_over, on_partition, IsOnDisk}
 use Rattle.compose.specs.Right.{AreRising, answer_number}
-use Rattle.compose.specs.Sound.{partitions_of, rules_of, FitsBelow, HasNumbers, IsHeldAt, AreHeld, HasPlaces, IsTopmost, WasGiven, IsSound, IsKept}
+use Rattle.compose.specs.Sound.{partitions_of, rules_of, FitsBelow, HasNumbers, IsHeldAt, AreHeld, HasPlaces, IsTopmost, IsSpotted, WasGiven, IsSound, IsKept}
 use Rattle.compose.specs.Opening.{IsUnasked, AreFor, AreEmpty}
 use Rattle.compose.proofs.PartSlices.{slice_is_part, length-part}
 use Rattle.compose.proofs.OnDiskOpening.{IsOnDisk-opening}
@@ -149,6 +149,7 @@ module _ (limits : Limits) (below : Seen) (tables : Tables) (orderly : IsOrderly
     on_map = λ slot handle there. absurd (none_there tables.handles slot handle empty.no_handles there);
     on_disk = on_disk;
     topmost = subst (All IsTopmost) (sym unasked.no_packets) (All-nil IsTopmost);
+    spots = subst (All (IsSpotted tables.next_request tables.requests)) (sym unasked.no_packets) (All-nil (IsSpotted tables.next_request tables.requests));
     not_paused = at_first (λ (s : State). s.paused ≡ false) refl;
     not_removing = at_first (λ (s : State). s.removing ≡ false) refl;
     none_put_by = empty.none_put_by;

@@ -18,7 +18,7 @@ use Rattle.compose.specs.declared.admission.Limits.{Limits}
 use Rattle.compose.specs.declared.tables.Tables.{Tables}
 use Rattle.compose.specs.OnDisk.{on_partition, IsOnDisk}
 use Rattle.compose.specs.Right.{as_answer, labels_of, Told, AdapterMoves, IsRightBy, unless_answered}
-use Rattle.compose.specs.Sound.{partitions_of, rules_of, holder_of, holders_of, view_of, FitsBelow, IsTopmost, IsSound, IsAtRest, Collects}
+use Rattle.compose.specs.Sound.{partitions_of, rules_of, holder_of, holders_of, view_of, FitsBelow, IsTopmost, IsSpotted, IsSound, IsAtRest, Collects}
 use Rattle.compose.proofs.OnDiskSteps.{Run-over}
 use Rattle.compose.proofs.OnDiskRuns.{are_told, KeepsSectors, Run-told, same_sectors, keeps_outside}
 use Rattle.compose.proofs.AdapterJoins.{labels_moved, taken_joined}
@@ -59,6 +59,7 @@ IsSound-moves limits below tables labels below' h moves =
       on_map = h.on_map;
       on_disk = subst (λ r. IsOnDisk (rules_of limits r) r below'.state) (sym moves.same_rules) over.1;
       topmost = All-permutation IsTopmost _ _ (IsPermutation-sym _ _ moves.same_packets) h.topmost;
+      spots = All-permutation (IsSpotted tables.next_request tables.requests) _ _ (IsPermutation-sym _ _ moves.same_packets) h.spots;
       not_paused = rw keeps.paused h.not_paused;
       not_removing = rw keeps.removing h.not_removing;
       none_put_by = h.none_put_by;

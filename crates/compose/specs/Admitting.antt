@@ -1,5 +1,5 @@
 -- A call at the stack's door: what it is answered at once, and the request and the packet of one that is admitted.
-use Rattle.std.specs.Prelude.{◌≡◌, ◌<◌, ◌≤◌, ℕ, false, ◌+◌, ◌/◌, ◌^◌, nat_le, List, [], ◌∷◌, ◌++◌, Option, Some, None, length, IsTrue}
+use Rattle.std.specs.Prelude.{◌≡◌, ◌<◌, ◌≤◌, ℕ, false, ◌+◌, ◌/◌, ◌^◌, nat_le, List, [], ◌∷◌, ◌++◌, Option, Some, None, length, IsTrue, if◌then◌else◌}
 use Rattle.std.specs.VecDeque.{deque_len, deque_capacity}
 use Rattle.slab.specs.Slab.{get, slab_len, Updates}
 use Rattle.ntstatus.specs.declared.NtStatus.{NtStatus}
@@ -20,12 +20,16 @@ use Rattle.compose.specs.declared.Reply.TheVariants.{Handle as HandleReply, Ok a
 use Rattle.compose.specs.declared.tables.Tables.{Tables}
 use Rattle.cdb.specs.declared.Cdb.{Cdb}
 use Rattle.cdb.specs.declared.Cdb.TheVariants.{Read10, Write10, Sync10}
+use Rattle.irp.specs.declared.Driver.TheVariants.{Port}
 use Rattle.irp.specs.declared.Irp.{Irp}
+use Rattle.irp.specs.declared.MajorFunction.TheVariants.{InternalDeviceControl}
+use Rattle.irp.specs.declared.StackLocation.{StackLocation}
 use Rattle.irp.specs.declared.Payload.{Payload}
 use Rattle.sector.specs.declared.Extent.{Extent}
 use Rattle.compose.specs.declared.admission.AtOnce.{AtOnce}
 use Rattle.compose.specs.declared.admission.AtOnce.TheVariants.{Empty, Refused as RefusedFor}
 use Rattle.compose.specs.declared.admission.Limits.{Limits}
+use Rattle.compose.specs.declared.admission.Copies.{Copies}
 use Rattle.compose.specs.declared.admission.Places.{Places}
 use Rattle.compose.specs.Calls.{status_of_refusal, bytes_called, are_used_up, handle_limit}
 use Rattle.compose.specs.OnDisk.{first_of}
@@ -78,14 +82,26 @@ disk_command r Flush = Sync10 0 0
 -- the buffers that a request of the caller's length needs
 pub record HasBuffers (kind : Kind) (buffer : List ℕ) (places : Places) : Type 0 where
   pub for_label : length places.for_label ≡ length buffer
-  pub call_bytes : places.call_bytes ≡ bytes_called kind buffer
-  pub label_bytes : kind ≡ Read → length places.label_bytes ≡ length buffer
+  pub call_bytes : places.copies.call_bytes ≡ bytes_called kind buffer
+  pub label_bytes : kind ≡ Read → length places.copies.label_bytes ≡ length buffer
 
--- a packet on its way to the topmost driver
-pub record IsOnTop (number : ℕ) (irp : Irp) : Type 0 where
+-- the port's location of a request: a SCSI request of its extent, with SL_WRITE_THROUGH or no flags, and no routine
+abbrev pub port_location : Request → StackLocation
+port_location r = record {
+  driver = Port;
+  major = InternalDeviceControl;
+  minor = None;
+  control = record { 0 = 0 };
+  flags = record { 0 = if r.through then 0x04 else 0 };
+  volume = r.volume;
+  extent = r.extent;
+}
+
+-- a packet on its way to the port, which is the topmost driver and the last
+pub record IsOnTop (number : ℕ) (request : Request) (irp : Irp) : Type 0 where
   pub is_number : irp.number ≡ number
   pub not_cancelled : irp.cancelled ≡ false
-  pub one_location : length irp.locations.items ≡ 1
+  pub location : irp.locations.items ≡ port_location request ∷ []
 
 -- a call and its answer are told, and a number is used
 pub record AnswersAtOnce (old : Tables) (q : ClientRequest) (status : NtStatus) (new : Tables) : Type 0 where
@@ -99,13 +115,13 @@ reply_at_once number buffer Empty = Answered (record { number = number; status =
 reply_at_once number buffer (RefusedFor refusal) = Refused refusal buffer
 
 -- a request is open under the next number, in a slot that was free, and its call is told
-pub record Admits (old : Tables) (handle : Handle) (q : ClientRequest) (places : Places) (slot : ℕ) (new : Tables) : Type 0 where
+pub record Admits (old : Tables) (handle : Handle) (q : ClientRequest) (copies : Copies) (spot slot : ℕ) (new : Tables) : Type 0 where
   pub was_free : get old.requests slot ≡ None
   pub holds : Updates old.requests new.requests slot
-      (Some (record { number = old.next_request; handle = handle.number; kind = q.kind; label_bytes = places.label_bytes }))
+      (Some (record { number = old.next_request; handle = handle.number; kind = q.kind; label_bytes = copies.label_bytes; spot = spot }))
   pub counted : slab_len new.requests ≡ slab_len old.requests + 1
   pub slots : new.requests.capacity ≡ old.requests.capacity
-  pub tells : new.labels.items ≡ old.labels.items ++ Call old.next_request (record q { bytes = places.call_bytes }) ∷ []
+  pub tells : new.labels.items ≡ old.labels.items ++ Call old.next_request (record q { bytes = copies.call_bytes }) ∷ []
   pub one_more : deque_len new.labels ≡ deque_len old.labels + 1
   pub label_places : deque_capacity new.labels ≡ deque_capacity old.labels
   pub after : new ≡ record old { next_request = old.next_request + 1; requests = new.requests; labels = new.labels }
@@ -144,14 +160,21 @@ pub record KeepsAnswers (old new : Tables) : Type 0 where
   pub answer_places : deque_capacity old.waiting ≤ deque_capacity new.waiting
   pub after : new ≡ record old { waiting = new.waiting }
 
--- the packet of a request goes down as the topmost, with the caller's buffer
-pub record SendsDown (old : Seen) (number : ℕ) (request : Request) (buffer : List ℕ) (new : Seen) : Type 0 where
+-- the packet of a request goes down as the topmost, with the caller's buffer, to this spot
+pub record SendsDown (old : Seen) (number spot : ℕ) (request : Request) (buffer : List ℕ) (new : Seen) : Type 0 where
   pub packet : Packet
   pub payload : Payload
   pub is_number : packet.number ≡ number
+  pub is_spot : packet.spot ≡ spot
   pub topmost : IsTopmost packet
   pub brings : payload_bytes payload ≡ buffer
   pub submits : Submits old packet request payload new
+
+-- a request is open, and its packet is below at the spot that its entry keeps
+pub record IsSent (below : Seen) (tables : Tables) (handle : Handle) (q : ClientRequest) (request : Request) (copies : Copies) (buffer : List ℕ) (slot : ℕ) (below' : Seen) (tables' : Tables) : Type 0 where
+  pub spot : ℕ
+  pub admits : Admits tables handle q copies spot slot tables'
+  pub sends : SendsDown below tables.next_request spot request buffer below'
 
 -- a call that nothing refuses, on a partition that is there, with a number and a free slot for it
 pub record IsAdmissible (v : StackView) (q : ClientRequest) : Type 0 where

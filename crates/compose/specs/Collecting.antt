@@ -1,6 +1,5 @@
 -- What becomes of requests that have ended, until their answers are told.
-use Rattle.std.specs.Prelude.{◌≡◌, ◌≢◌, ◌<◌, ◌≤◌, ℕ, ◌+◌, List, [], ◌++◌, Some, None, option_map, map, length, All, IsPermutation}
-use Rattle.std.specs.VecDeque.{deque_capacity}
+use Rattle.std.specs.Prelude.{◌≡◌, ◌≢◌, ◌<◌, ℕ, ◌+◌, List, [], ◌++◌, Some, None, option_map, map, length, All, IsPermutation}
 use Rattle.slab.specs.Slab.{Slab, get, slab_len, Updates}
 use Rattle.ntstatus.specs.declared.NtStatus.{NtStatus}
 use Rattle.ntstatus.specs.declared.NtStatus.TheVariants.{Success}
@@ -12,15 +11,15 @@ use Rattle.machine.specs.declared.Kind.TheVariants.{Read}
 use Rattle.machine.specs.State.{State}
 use Rattle.machine.specs.Answering.{Answers}
 use Rattle.machine.specs.Step.{Run, as_label}
-use Rattle.device.specs.Seen.{Seen, paylouse Rattle.machine.specs.Sending.{IsStart}
-ad_bytes}
+use Rattle.machine.specs.Sending.{IsStart}
+use Rattle.device.specs.Seen.{Seen, payload_bytes}
 use Rattle.device.specs.Served.{IsUnfinished}
 use Rattle.compose.specs.declared.Answer.{Answer}
 use Rattle.compose.specs.declared.tables.OpenRequest.{OpenRequest}
 use Rattle.compose.specs.declared.tables.Tables.{Tables}
 use Rattle.compose.specs.Ordering.{inserted}
 use Rattle.compose.specs.Right.{AreRising, answer_number, as_answer, unless_answered}
-use Rattle.compose.specs.Sound.{holder_of}
+use Rattle.compose.specs.Sound.{holder_of, SamePlaces}
 
 -- a layer whose adapter's labels are all taken
 abbrev pub unlabelled : Seen → Seen
@@ -65,15 +64,13 @@ pub record Closes (old : Tables) (done : Done) (new : Tables) : Type 0 where
   pub same_number : request.number ≡ done.number
   pub leaves : Updates old.requests new.requests slot None
   pub fewer : slab_len new.requests + 1 ≡ slab_len old.requests
-  pub slots : new.requests.capacity ≡ old.requests.capacity
   pub answered : new.answered.items ≡ inserted (answer_for request done) old.answered.items
-  pub answered_place : deque_capacity old.answered ≤ deque_capacity new.answered
   pub waiting : new.waiting.items ≡ inserted (answer_for request done) old.waiting.items
-  pub waiting_place : deque_capacity old.waiting ≤ deque_capacity new.waiting
   pub same_labels : new.labels ≡ old.labels
   pub same_handles : new.handles ≡ old.handles
   pub same_next_handle : new.next_handle ≡ old.next_handle
   pub same_next_request : new.next_request ≡ old.next_request
+  pub places : SamePlaces old new
 
 -- one request that has ended is taken from the device and closed
 pub record TakesEnded (below : Seen) (tables : Tables) (below' : Seen) (tables' : Tables) : Type 0 where
@@ -102,5 +99,6 @@ pub record Gathers (below : Seen) (tables : Tables) (below' : Seen) (tables' : T
   pub same_handles : tables'.handles ≡ tables.handles
   pub same_next_handle : tables'.next_handle ≡ tables.next_handle
   pub same_next_request : tables'.next_request ≡ tables.next_request
+  pub places : SamePlaces tables tables'
   -- where nothing had ended, nothing was taken
   pub quiet : All (IsUnfinished below.rules below.state) below.state.requests → (below' ≡ below) × (starts ≡ []) × (tables'.answered.items ≡ [])

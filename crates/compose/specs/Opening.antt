@@ -12,7 +12,7 @@ use Rattle.compose.specs.declared.tables.Tables.{Tables}
 use Rattle.compose.specs.Shown.{StackView}
 use Rattle.compose.specs.Calls.{number_limit}
 use Rattle.compose.specs.Sound.{partitions_of, view_of}
-use Rattle.compose.specs.Start.{AreInRange, told_partition, IsSameDisk}
+use Rattle.compose.specs.Start.{AreInRange, told_partition, IsSameDisk, IsReadBy}
 
 -- the device below has the whole disk, and nothing was asked of it yet
 pub record IsUnasked (below : Seen) : Type 0 where
@@ -70,6 +70,7 @@ pub record IsFirstView (disk : AdapterView) (settings : Settings) (view : StackV
   pub rules : view.rules ≡ first_rules disk settings (partitions_of partition)
   pub state : view.state ≡ opening (map (sectors_in disk.sectors) (partitions_of partition))
   pub same_disk : IsSameDisk 2 disk view.adapter
+  pub read : IsReadBy disk view.adapter
   pub no_handles : view.handles ≡ []
   pub first_handle : view.next_handle ≡ 1
   pub no_requests : view.holders ≡ []

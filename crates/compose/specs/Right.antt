@@ -84,18 +84,25 @@ pub record SameHandles (old new : StackView) : Type 0 where
   pub handles : new.handles ≡ old.handles
   pub next_handle : new.next_handle ≡ old.next_handle
 
--- nothing happened
+-- nothing happened, and nothing was reserved
 pub record IsUnmoved (old : StackView) (told : Told) (new : StackView) : Type 0 where
   pub nothing : told ≡ tells_nothing old
   pub same_state : new.state ≡ old.state
+  pub same_adapter : new.adapter ≡ old.adapter
 
--- a call that is refused, or one of no bytes: its two labels, and no more
-pub record IsAnsweredAtOnce (old : StackView) (q : ClientRequest) (status : NtStatus) (told : Told) : Type 0 where
+-- nothing happened, but that more may be reserved
+pub record ReservesAlone (old : StackView) (told : Told) (new : StackView) : Type 0 where
+  pub nothing : told ≡ tells_nothing old
+  pub same_state : new.state ≡ old.state
+
+-- a call that is refused, or one of no bytes: its two labels, and no more; nothing was reserved
+pub record IsAnsweredAtOnce (old : StackView) (q : ClientRequest) (status : NtStatus) (told : Told) (new : StackView) : Type 0 where
   pub numbers_last : are_used_up old.state.next_request ≡ false
   pub is_refused : refusal old.rules old.state q ≡ Some status
   pub tells : told ≡ record (tells_nothing old) {
     own = Call old.state.next_request (without_bytes q) ∷ AnswerLabel old.state.next_request status [] ∷ [];
   }
+  pub same_adapter : new.adapter ≡ old.adapter
 
 -- a call that opens a request, under the next number and in a slot that was free
 pub record IsAdmitted (old : StackView) (handle : Handle) (q : ClientRequest) (slot number : ℕ) (told : Told) : Type 0 where
@@ -107,20 +114,21 @@ pub record IsAdmitted (old : StackView) (handle : Handle) (q : ClientRequest) (s
   pub was_free : slice_index_or old.holders slot None ≡ None
   pub holds : Updates old.holders told.admitted slot (Some (record { number = number; handle = handle.number }))
 
--- a call for which there is no number left, or whose memory was refused: nothing happens
-abbrev pub IsTurnedAway : StackView → ClientRequest → Refusal → Type 0
-IsTurnedAway old q DeviceBusy = are_used_up old.state.next_request ≡ true
-IsTurnedAway old q InsufficientResources = (are_used_up old.state.next_request ≡ false) × (refusal old.rules old.state q ≡ None)
-IsTurnedAway old q _ = ⊥
+-- a call for which there is no number left: nothing happens; or whose memory was refused: a part may have been reserved
+abbrev pub IsTurnedAway : StackView → ClientRequest → Refusal → Told → StackView → Type 0
+IsTurnedAway old q DeviceBusy told new = (are_used_up old.state.next_request ≡ true) × IsUnmoved old told new
+IsTurnedAway old q InsufficientResources told new =
+    (are_used_up old.state.next_request ≡ false) × (refusal old.rules old.state q ≡ None) × ReservesAlone old told new
+IsTurnedAway old q _ told new = ⊥
 
 -- a read or a write with this buffer
 abbrev pub CallReplies : StackView → Handle → ClientRequest → List ℕ → Reply → Told → StackView → Type 0
 CallReplies old handle q buffer (Requested id) told new = IsAdmitted old handle q id.slot id.number told
 CallReplies old handle q buffer (Answered answer) told new =
-    IsAnsweredAtOnce old q Success told × (answer ≡ record { number = old.state.next_request; status = Success; bytes = [] })
+    IsAnsweredAtOnce old q Success told new × (answer ≡ record { number = old.state.next_request; status = Success; bytes = [] })
 CallReplies old handle q buffer (Refused reason bytes) told new =
     (bytes ≡ buffer)
-    × (IsAnsweredAtOnce old q (status_of_refusal reason) told ⊎ (IsTurnedAway old q reason × IsUnmoved old told new))
+    × (IsAnsweredAtOnce old q (status_of_refusal reason) told new ⊎ IsTurnedAway old q reason told new)
 CallReplies old handle q buffer (HandleReply given) told new = ⊥
 CallReplies old handle q buffer OkReply told new = ⊥
 CallReplies old handle q buffer Ignored told new = ⊥

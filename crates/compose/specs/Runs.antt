@@ -23,15 +23,17 @@ use Rattle.compose.specs.declared.Event.{Event}
 use Rattle.compose.specs.declared.Shown.{Shown}
 use Rattle.compose.specs.declared.RunStopped.{RunStopped}
 use Rattle.compose.specs.Shown.{StackView}
-use Rattle.compose.specs.Right.{IsRight, KeepsOutside}
+use Rattle.compose.specs.Right.{IsRight, IsWhole, KeepsOutside}
 
 -- EVENTS
 
--- a right step that leaves the stack settled, and all its labels taken
+-- a right step that leaves the stack settled and whole, and all its labels taken
 pub record Carries (old : StackView) (event : Event) (shown : Shown) (new : StackView) : Type 0 where
   pub stepped : StackView
   pub right : IsRight old event shown.reply stepped
   pub settled : Settled stepped.rules stepped.state
+  -- read from the adapter
+  pub whole : IsWhole stepped
   pub labels : shown.labels.items ≡ stepped.labels
   pub taken : new ≡ record stepped { labels = [] }
 

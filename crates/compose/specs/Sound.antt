@@ -10,8 +10,8 @@ use Rattle.machine.specs.State.{OpenRequest as OpenBelow}
 use Rattle.machine.specs.Numbers.{request_number}
 use Rattle.machine.specs.Settled.{Settled}
 use Rattle.machine.specs.Step.{Run, as_label}
-use Rattle.device.specs.Seen.{Seenuse Rattle.machine.specs.Sending.{IsStart}
-, Packet}
+use Rattle.machine.specs.Sending.{IsStart}
+use Rattle.device.specs.Seen.{Seen, Packet}
 use Rattle.device.specs.Served.{IsUnfinished}
 use Rattle.machine_laws.specs.Reached.{IsReached}
 use Rattle.compose.specs.declared.Answer.{Answer}
@@ -102,6 +102,11 @@ pub record HasPlaces (limits : Limits) (tables : Tables) : Type 0 where
 abbrev pub IsTopmost : Packet → Type 0
 IsTopmost packet = packet.above ≡ []
 
+-- a packet below has a number that was given, and the spot that the entry of its number keeps
+pub record IsSpotted (next : ℕ) (requests : Slab OpenRequest) (packet : Packet) : Type 0 where
+  pub given : packet.number < next
+  pub spot : (slot : ℕ) (request : OpenRequest) → get requests slot ≡ Some request → request.number ≡ packet.number → packet.spot ≡ request.spot
+
 -- an open handle is on a partition that is there
 abbrev pub IsOnMap : Limits → Slab OpenHandle → Type 0
 IsOnMap limits handles = (slot : ℕ) (handle : OpenHandle) → get handles slot ≡ Some handle → handle.partition < length (partitions_of limits.partition)
@@ -124,6 +129,7 @@ pub record IsSoundWith (put_by : List Answer) (limits : Limits) (below : Seen) (
   pub on_map : IsOnMap limits tables.handles
   pub on_disk : IsOnDisk (rules_of limits below.rules) below.rules below.state
   pub topmost : All IsTopmost below.packets
+  pub spots : All (IsSpotted tables.next_request tables.requests) below.packets
   pub not_paused : IsFalse below.state.paused
   pub not_removing : IsFalse below.state.removing
   pub none_put_by : tables.answered.items ≡ put_by
@@ -140,6 +146,14 @@ pub record IsAtRest (below : Seen) : Type 0 where
   pub all_sectors : length below.adapter.sectors ≡ length (get_or below.state.arrays 0 [])
   pub unfinished : All (IsUnfinished below.rules below.state) below.state.requests
 
+-- the tables have as many places as before, so nothing took memory
+pub record SamePlaces (old new : Tables) : Type 0 where
+  pub labels : deque_capacity new.labels ≡ deque_capacity old.labels
+  pub answered : deque_capacity new.answered ≡ deque_capacity old.answered
+  pub waiting : deque_capacity new.waiting ≡ deque_capacity old.waiting
+  pub handles : new.handles.capacity ≡ old.handles.capacity
+  pub requests : new.requests.capacity ≡ old.requests.capacity
+
 -- all that has ended is taken: the device's labels and the answers are told, and the device is settled
 pub record Collects (below : Seen) (tables : Tables) (below' : Seen) (tables' : Tables) : Type 0 where
   pub starts : List DeviceLabel
@@ -155,6 +169,7 @@ pub record Collects (below : Seen) (tables : Tables) (below' : Seen) (tables' : 
   pub same_handles : tables'.handles ≡ tables.handles
   pub same_next_handle : tables'.next_handle ≡ tables.next_handle
   pub same_next_request : tables'.next_request ≡ tables.next_request
+  pub places : SamePlaces tables tables'
   pub settled : Settled below'.rules below'.state
   -- where nothing has ended, nothing starts and nothing is answered; afterwards nothing has
   pub quiet : All (IsUnfinished below.rules below.state) below.state.requests → (starts ≡ []) × (answers ≡ [])

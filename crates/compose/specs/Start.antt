@@ -1,24 +1,30 @@
 -- What a stack asks of its adapter before its first event, and what it starts as.
-use Rattle.std.specs.Prelude.{◌≡◌, ◌<◌, ◌≤◌, ℕ, ◌+◌, List, [], Option, Result, Ok, Err, length, slice_range, get_or}
+use Rattle.std.specs.Prelude.{◌≡◌, ◌<◌, ◌≤◌, ◌⊎◌, ℕ, ◌+◌, ◌*◌, false, List, [], ◌∷◌, Option, Result, Ok, Err, length, slice_range, get_or}
 use Rattle.std.specs.List.{concat}
 use Rattle.ntstatus.specs.declared.NtStatus.{NtStatus}
 use Rattle.ntstatus.specs.Table.{status_of}
 use Rattle.sector.specs.declared.Extent.{Extent}
 use Rattle.cdb.specs.declared.Cdb.{Cdb}
 use Rattle.cdb.specs.declared.Cdb.TheVariants.{Read10, Write10, Sync10, ReadCapacity10}
+use Rattle.cdb.specs.Meaning.{Means}
 use Rattle.srb.specs.declared.Srb.{Srb}
+use Rattle.srb.specs.declared.SrbFunction.TheVariants.{ExecuteScsi}
+use Rattle.srb.specs.declared.DeviceLabel.{DeviceLabel}
+use Rattle.srb.specs.declared.DeviceLabel.TheVariants.{Return}
 use Rattle.srb.specs.declared.Completion.{Completion}
 use Rattle.srb.specs.declared.Class.{Class}
 use Rattle.srb.specs.declared.Class.TheVariants.{Good, Busy, Bad}
 use Rattle.srb.specs.Fate.{class_of}
-use Rattle.adapter.specs.View.{AdapterView}
+use Rattle.adapter.specs.View.{AdapterView, Accepts}
+use Rattle.device.specs.Served.{IsActOrFault}
 use Rattle.compose.specs.declared.StartFault.{StartFault}
 use Rattle.compose.specs.declared.StartFault.TheVariants.{NoMemory, Device as DeviceFault, Mbr as TableFault, Settings as SettingsFault}
 use Rattle.compose.specs.declared.MbrFault.{MbrFault}
 use Rattle.compose.specs.declared.Settings.{Settings}
 use Rattle.compose.specs.declared.admission.Limits.{Limits}
-use Rattle.compose.specs.declared.start.Capacity.{Capacity}
+use Rattle.compose.specs.declared.sizing.Capacity.{Capacity}
 use Rattle.compose.specs.Mbr.{first_entry}
+use Rattle.compose.specs.Right.{AdapterMoves}
 use Rattle.adapter.specs.Performing.{capacity_data}
 
 -- an adapter with nothing on its tags, whose labels were all taken
@@ -39,6 +45,39 @@ Looks (Read10 lba count fua) = Unit {0}
 Looks ReadCapacity10 = Unit {0}
 Looks (Write10 lba count fua) = ⊥
 Looks (Sync10 lba blocks) = Unit {0}
+
+-- the second command of a start: a read of sector 0, where the partition table stands
+abbrev pub table_read : Cdb
+table_read = Read10 0 1 false
+
+-- bytes that a command brings: of READ CAPACITY(10) eight, of a read its sectors
+abbrev pub brought_length : AdapterView → Cdb → ℕ
+brought_length disk ReadCapacity10 = 8
+brought_length disk (Read10 lba count fua) = count * disk.sector_size
+brought_length disk (Write10 lba count fua) = 0
+brought_length disk (Sync10 lba blocks) = 0
+
+-- an SRB that asks for a command whose data come in: EXECUTE_SCSI with DATA_IN
+pub record IsReading (command : Cdb) (srb : Srb) : Type 0 where
+  pub function : srb.function ≡ ExecuteScsi
+  pub flags : srb.flags.0 ≡ 0x40
+  pub asks : Means srb.block command
+
+-- such an SRB with two buffers of the length that the command brings
+pub record LooksBy (disk : AdapterView) (command : Cdb) (srb : Srb) : Type 0 where
+  pub reading : IsReading command srb
+  pub data_length : length srb.data ≡ brought_length disk command
+  pub label_length : length srb.for_label ≡ brought_length disk command
+
+-- such an SRB was piece 0 on tag 0, which acted or faulted and came back in this class; all labels were then taken
+pub record Exchanges (old : AdapterView) (command : Cdb) (class : Class) (new : AdapterView) : Type 0 where
+  pub srb : Srb
+  pub accepted : AdapterView
+  pub told : DeviceLabel
+  pub looks : LooksBy old command srb
+  pub accepts : Accepts old 0 0 srb accepted
+  pub acts : IsActOrFault 0 told
+  pub moves : AdapterMoves accepted (told ∷ Return 0 class ∷ []) new
 
 -- the same disk, with nothing on its tags, after at most so many pieces more
 pub record IsSameDisk (asked : ℕ) (old new : AdapterView) : Type 0 where
@@ -61,6 +100,7 @@ Brings old command bytes (Bad completion) new = old.failures < new.failures
 pub record AsksOnce (old : AdapterView) (command : Cdb) (srb : Srb) (completion : Completion) (new : AdapterView) : Type 0 where
   pub same : IsSameDisk 1 old (record new { labels = [] })
   pub brings : Brings old command srb.data (class_of completion) new
+  pub exchanged : Exchanges old command (class_of completion) (record new { labels = [] })
 
 -- the first sector of a disk, where the partition table stands
 abbrev pub sector_zero : AdapterView → List ℕ
@@ -81,12 +121,38 @@ pub record IsOfFailure (status : NtStatus) : Type 0 where
   pub is_bad : class_of completion ≡ Bad completion
   pub means : status ≡ status_of completion.srb_status completion.scsi_status completion.sense
 
--- why a disk could not be read: memory was refused, the adapter counted a failure, or the table is wrong
-abbrev pub IsReadFault : AdapterView → StartFault → AdapterView → Type 0
-IsReadFault disk NoMemory after = Unit {0}
-IsReadFault disk (DeviceFault status) after = (disk.failures < after.failures) × IsOfFailure status
-IsReadFault disk (TableFault fault) after = told_partition disk ≡ Err fault
-IsReadFault disk SettingsFault after = ⊥
+-- a command came back bad, as a completion of this status, and the adapter counted a failure
+pub record Fails (disk : AdapterView) (command : Cdb) (status : NtStatus) (after : AdapterView) : Type 0 where
+  pub failure : IsOfFailure status
+  pub counted : disk.failures < after.failures
+  pub exchanged : Exchanges disk command (Bad failure.completion) after
+
+-- why a command of the start led no further: memory was refused, it failed, or the table is wrong
+abbrev pub IsReadFault : Cdb → AdapterView → StartFault → AdapterView → Type 0
+IsReadFault command disk NoMemory after = Unit {0}
+IsReadFault command disk (DeviceFault status) after = Fails disk command status after
+IsReadFault command disk (TableFault fault) after = told_partition disk ≡ Err fault
+IsReadFault command disk SettingsFault after = ⊥
+
+-- both commands of a start came back good
+pub record IsReadBy (disk after : AdapterView) : Type 0 where
+  pub between : AdapterView
+  pub capacity : Exchanges disk ReadCapacity10 Good between
+  pub table : Exchanges between table_read Good after
+
+-- a command of a start failed with this status: the first, or the second after the first was good
+pub record FailsOne (disk : AdapterView) (status : NtStatus) (after : AdapterView) : Type 0 where
+  pub failure : IsOfFailure status
+  pub counted : disk.failures < after.failures
+  pub one_of : Exchanges disk ReadCapacity10 (Bad failure.completion) after
+      ⊎ ((between : AdapterView) × Exchanges disk ReadCapacity10 Good between × Exchanges between table_read (Bad failure.completion) after)
+
+-- why a disk could not be read: memory was refused, a command failed, or the table is wrong
+abbrev pub IsDiskFault : AdapterView → StartFault → AdapterView → Type 0
+IsDiskFault disk NoMemory after = Unit {0}
+IsDiskFault disk (DeviceFault status) after = FailsOne disk status after
+IsDiskFault disk (TableFault fault) after = told_partition disk ≡ Err fault
+IsDiskFault disk SettingsFault after = ⊥
 
 -- settings that a stack can be started with
 pub record AreInRange (settings : Settings) : Type 0 where
@@ -96,7 +162,7 @@ pub record AreInRange (settings : Settings) : Type 0 where
 -- why a stack could not be started: a setting is out of range, and nothing was sent; or else the disk could not be read
 abbrev pub IsStartFault : AdapterView → Settings → StartFault → AdapterView → Type 0
 IsStartFault disk settings SettingsFault after = (¬ (AreInRange settings)) × (after ≡ disk)
-IsStartFault disk settings fault after = AreInRange settings × IsReadFault disk fault after
+IsStartFault disk settings fault after = AreInRange settings × IsDiskFault disk fault after
 
 -- what was left of an adapter over which no stack could be started
 pub record IsSpent (disk : AdapterView) (settings : Settings) (fault : StartFault) (after : AdapterView) : Type 0 where

@@ -8,7 +8,7 @@ ghost use Rattle.device.specs.Seen.{Carries, payload_bytes, transfer_length, dir
 ghost use Rattle.compose.specs.Calls.{status_of_refusal};
 ghost use Rattle.compose.specs.OnDisk.{first_of};
 ghost use Rattle.compose.specs.Sound.{partitions_of, rules_of};
-ghost use Rattle.compose.specs.Admitting.{status_at_once, IsKnown, HasSizes, request_on_disk, IsWholeDisk, FitsBlock, disk_command, HasBuffers, IsOnTop};
+ghost use Rattle.compose.specs.Admitting.{status_at_once, IsKnown, HasSizes, request_on_disk, IsWholeDisk, FitsBlock, disk_command, HasBuffers, port_location, IsOnTop};
 
 use crate::Refusal;
 use cdb::{Cdb, encode};
@@ -152,6 +152,12 @@ pub(crate) fn refusal_of(
 pub(crate) struct Places {
     /// For the label of its act.
     pub(crate) for_label: Bytes,
+    pub(crate) copies: Copies,
+}
+
+/// The buffers that a request needs for the labels of the stack itself.
+#[derive(Drop)]
+pub(crate) struct Copies {
     /// The bytes of a write, for the label of its call.
     pub(crate) call_bytes: Bytes,
     /// For the label of a read's answer.
@@ -175,47 +181,57 @@ pub(crate) fn places_for(alloc: Global, kind: Kind, buffer: &Bytes) -> Result<Pl
     };
     Ok(Places {
         for_label,
-        call_bytes,
-        label_bytes,
+        copies: Copies {
+            call_bytes,
+            label_bytes,
+        },
     })
 }
 
-/// What a request of the disk asks its driver for, which way its data go, and its command.
-fn command_of(request: &Request) -> (MajorFunction, SrbFlags, Cdb)
+/// Which way the data of a request of the disk go, and its command.
+fn command_of(request: &Request) -> (SrbFlags, Cdb)
     requires { FitsBlock request.now }
-    ensures flags { result.1.0 ≡ direction request.now.kind }
-    ensures command { result.2 ≡ disk_command request.now request.now.kind }
+    ensures flags { result.0.0 ≡ direction request.now.kind }
+    ensures command { result.1 ≡ disk_command request.now request.now.kind }
 {
     let (lba, count) = (request.extent.first as u32, request.extent.count as u16);
     let fua = request.through;
     match request.kind {
-        Kind::Read => (
-            MajorFunction::Read,
-            SrbFlags::DATA_IN,
-            Cdb::Read10 { lba, count, fua },
-        ),
-        Kind::Write => (
-            MajorFunction::Write,
-            SrbFlags::DATA_OUT,
-            Cdb::Write10 { lba, count, fua },
-        ),
-        Kind::Flush => (
-            MajorFunction::FlushBuffers,
-            SrbFlags(0),
-            Cdb::Sync10 { lba: 0, blocks: 0 },
-        ),
+        Kind::Read => (SrbFlags::DATA_IN, Cdb::Read10 { lba, count, fua }),
+        Kind::Write => (SrbFlags::DATA_OUT, Cdb::Write10 { lba, count, fua }),
+        Kind::Flush => (SrbFlags(0), Cdb::Sync10 { lba: 0, blocks: 0 }),
+    }
+}
+
+/// The port's location of a request, which asks for no completion routine.
+fn location_of(request: &Request) -> StackLocation
+    ensures { result ≡ port_location request.now }
+{
+    let flags = if request.through {
+        LocationFlags::WRITE_THROUGH
+    } else {
+        LocationFlags(0)
+    };
+    StackLocation {
+        driver: Driver::Port,
+        major: MajorFunction::InternalDeviceControl,
+        minor: None,
+        control: Control(0),
+        flags,
+        volume: request.volume,
+        extent: request.extent,
     }
 }
 
 /// The packet of a request, with an SRB that asks for its sectors.
 pub(crate) fn packet_for(number: u64, request: &Request, buffer: Bytes, for_label: Bytes) -> Irp
     requires { FitsBlock request.now }
-    ensures top { IsOnTop number result }
+    ensures top { IsOnTop number request.now result }
     ensures bytes { payload_bytes result.payload ≡ buffer }
     ensures asks { (rules : Rules) → IsWholeDisk rules → length buffer ≡ transfer_length rules request.now → length for_label ≡ transfer_length rules request.now
         → Carries true rules request.now result.payload }
 {
-    let (major, flags, command) = command_of(request);
+    let (flags, command) = command_of(request);
     let srb = Srb {
         function: SrbFunction::ExecuteScsi,
         flags,
@@ -225,14 +241,6 @@ pub(crate) fn packet_for(number: u64, request: &Request, buffer: Bytes, for_labe
         sense: None,
     };
     let mut irp = Irp::new(number as u128, Payload::Srb(srb));
-    irp.next_location(StackLocation {
-        driver: Driver::Port,
-        major,
-        minor: None,
-        control: Control(0),
-        flags: LocationFlags(0),
-        volume: request.volume,
-        extent: request.extent,
-    });
+    irp.next_location(location_of(request));
     irp
 }

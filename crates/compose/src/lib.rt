@@ -16,8 +16,8 @@ mod mbr;
 mod opening;
 mod parts;
 mod rising;
+mod sizing;
 mod stack;
-mod start;
 mod tables;
 #[cfg(test)]
 mod tests;

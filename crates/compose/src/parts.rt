@@ -5,7 +5,7 @@ ghost use Rattle.std.specs.VecDeque.{deque_len, deque_capacity};
 ghost use Rattle.slab.specs.Slab.{slab_len};
 ghost use Rattle.device.specs.Seen.{IsBounded};
 ghost use Rattle.device.specs.Served.{Reserves};
-ghost use Rattle.compose.specs.Admitting.{request_on_disk, HasBuffers, Admits, KeepsAnswers, SendsDown, IsAdmissible};
+ghost use Rattle.compose.specs.Admitting.{request_on_disk, HasBuffers, IsSent, KeepsAnswers, IsAdmissible};
 ghost use Rattle.compose.specs.Sound.{IsSound, view_of};
 
 use crate::admission::{Limits, Places, packet_for, places_for};
@@ -43,7 +43,8 @@ impl<D: Device> Parts<D> {
         ensures tables { KeepsAnswers self.old.tables self.new.tables }
         ensures buffers { IfOk result (λ made. HasBuffers below.now.kind buffer.now made.1) }
         ensures room { IfOk result (λ made. D.request_of made.0 ≡ below.now) }
-        ensures rooms { OnOk result (D.rooms_out self.new.device (below.now ∷ [])) }
+        ensures ready { IfOk result (λ made. D.ready made.0) }
+        ensures rooms { IfOk result (λ made. D.rooms_out self.new.device (made.0 ∷ [])) }
         ensures place { OnOk result (deque_len self.new.tables.waiting + (slab_len self.new.tables.requests + 1) ≤ deque_capacity self.new.tables.waiting) }
         ensures refused { OnErr result (D.rooms_out self.new.device []) }
     {
@@ -65,7 +66,8 @@ impl<D: Device> Parts<D> {
     ) -> Id
         requires takes_srb { D.TAKES_SRB ≡ true }
         requires locations { D.STACK_SIZE ≤ 4 }
-        requires rooms { D.rooms_out self.old.device (D.request_of room ∷ []) }
+        requires rooms { D.rooms_out self.old.device (room ∷ []) }
+        requires ready { D.ready room }
         requires sound { IsSound self.old.limits (D.seen self.old.device) self.old.tables }
         requires untold { self.old.tables.labels.items ≡ [] }
         requires admissible { IsAdmissible (view_of self.old.limits (D.seen self.old.device) self.old.tables) request }
@@ -77,14 +79,13 @@ impl<D: Device> Parts<D> {
         ensures limits { self.new.limits ≡ self.old.limits }
         ensures sound { IsSound self.new.limits (D.seen self.new.device) self.new.tables }
         ensures number { result.number ≡ self.old.tables.next_request }
-        ensures admits { Admits self.old.tables handle request places result.slot self.new.tables }
-        ensures sends { SendsDown (D.seen self.old.device) self.old.tables.next_request (request_on_disk self.old.limits request) buffer (D.seen self.new.device) }
+        ensures sent { IsSent (D.seen self.old.device) self.old.tables handle request (request_on_disk self.old.limits request) places.copies buffer result.slot (D.seen self.new.device) self.new.tables }
     {
         let below = self.limits.request_below(&request);
         let number = self.tables.next_request;
-        let (slot, for_label) = self.tables.admit(handle, request, places);
-        self.device
-            .submit(packet_for(number, &below, buffer, for_label), room);
+        let irp = packet_for(number, &below, buffer, places.for_label);
+        let spot = self.device.submit(irp, room);
+        let slot = self.tables.admit(handle, request, spot, places.copies);
         Id { slot, number }
     }
 }

@@ -1,6 +1,6 @@
 //! Queues of answers by rising numbers.
 
-ghost use Rattle.std.specs.Prelude.{◌≡◌, ◌<◌, ◌≤◌, ◌+◌};
+ghost use Rattle.std.specs.Prelude.{◌≡◌, ◌<◌, ◌+◌};
 ghost use Rattle.std.specs.VecDeque.{deque_len, deque_capacity};
 ghost use Rattle.compose.specs.Ordering.{inserted, lower_first};
 
@@ -23,10 +23,11 @@ pub(crate) fn insert_rising(answers: &mut VecDeque<Answer>, answer: Answer)
     requires { deque_len answers.old < deque_capacity answers.old }
     ensures items { answers.new.items ≡ inserted answer answers.old.items }
     ensures len { deque_len answers.new ≡ deque_len answers.old + 1 }
-    ensures capacity { deque_capacity answers.old ≤ deque_capacity answers.new }
+    ensures capacity { deque_capacity answers.new ≡ deque_capacity answers.old }
 {
+    // `insert` may take memory; these never do.
     let place = place_of(answers, answer.number);
-    let Ok(()) = answers.insert(place, answer) else {
-        unreachable!()
-    };
+    answers.rotate_left(place);
+    answers.push_front_reserved(answer);
+    answers.rotate_right(place);
 }

@@ -8,7 +8,7 @@ ghost use Rattle.compose.specs.Runs.{CarriesAll, IsLawful, StopsAfter};
 ghost use Rattle.compose.specs.Start.{IsIdle, IsSpent};
 
 use crate::io_manager::IoManager;
-use crate::start::start;
+use crate::sizing::prepare;
 use crate::{Answer, Event, Reply, RunStopped, Settings, Shown, StartFault};
 use device::Label;
 use miniport::Adapter;
@@ -45,7 +45,7 @@ impl<A: Adapter> Stack<A> {
         ensures view { IfOk result (IsFirstView (A.view adapter) settings) }
         ensures fault { IfErr result (λ fault. (spent : A) × IsSpent (A.view adapter) settings fault (A.view spent)) }
     {
-        match start(alloc, adapter, settings) {
+        match manager_over(alloc, adapter, settings) {
             Ok(manager) => Ok(Stack { manager }),
             Err(fault) => Err(fault),
         }
@@ -93,4 +93,27 @@ impl<A: Adapter> Stack<A> {
     {
         self.manager.run(alloc, events)
     }
+}
+
+/// A stack over an adapter that has accepted nothing. It sends READ CAPACITY(10) and READ(10) of sector 0, and takes
+/// their labels.
+///
+/// # Errors
+///
+/// [`StartFault::Settings`] just where a setting is out of range, before anything is sent; [`StartFault::Device`] where
+/// the adapter failed a command; [`StartFault::Mbr`] where the partition table is wrong; [`StartFault::NoMemory`]. The
+/// adapter is spent.
+fn manager_over<A: Adapter>(
+    alloc: Global,
+    mut adapter: A,
+    settings: Settings,
+) -> Result<IoManager<Port<A>>, StartFault>
+    requires idle { IsIdle (A.view adapter) }
+    requires unasked { (A.view adapter).accepted ≡ 0 }
+    ensures view { IfOk result (IsFirstView (A.view adapter) settings) }
+    ensures fault { IfErr result (λ fault. (spent : A) × IsSpent (A.view adapter) settings fault (A.view spent)) }
+{
+    let limits = prepare(alloc, &mut adapter, settings)?;
+    let port = Port::new(alloc, adapter)?;
+    Ok(IoManager::new(alloc, port, limits)?)
 }

@@ -7,7 +7,7 @@ ghost use Rattle.compose.specs.declared.Reply.TheVariants.{Refused as RefusedRep
 ghost use Rattle.compose.specs.Calls.{partition_of, are_used_up, handle_limit};
 ghost use Rattle.compose.specs.Admitting.{AnswersAtOnce, Admits, OpensHandle, status_at_once, reply_at_once};
 
-use crate::admission::{AtOnce, Places};
+use crate::admission::{AtOnce, Copies};
 use crate::{Answer, Handle, OpenHandle, Refusal, Reply};
 use device::{ClientRequest, Kind, Label};
 use ntstatus::NtStatus;
@@ -32,6 +32,8 @@ pub(crate) struct OpenRequest {
     /// The number of its call's handle.
     pub(crate) handle: u64,
     pub(crate) kind: Kind,
+    /// Where the device below has its packet.
+    pub(crate) spot: usize,
     /// As many bytes as a read brings, for its answer's label; a write has none here.
     pub(crate) label_bytes: Bytes,
 }
@@ -132,31 +134,31 @@ impl Tables {
         }
     }
 
-    /// Opens a request under the next number, tells its call, and gives its slot and the buffer for its act's label.
+    /// Opens a request under the next number, whose packet is at this spot below, tells its call, and gives its slot.
     pub(crate) fn admit(
         &mut self,
         handle: Handle,
         request: ClientRequest,
-        places: Places,
-    ) -> (u32, Bytes)
+        spot: usize,
+        copies: Copies,
+    ) -> u32
         requires numbers_last { are_used_up self.old.next_request ≡ false }
         requires label_place { deque_len self.old.labels < deque_capacity self.old.labels }
         requires free_slot { HasRoomFor self.old.requests 1 }
         requires slots { self.old.requests.capacity < 2 ^ 32 }
-        ensures admits { Admits self.old handle request places result.0 self.new }
-        ensures for_label { result.1 ≡ places.for_label }
+        ensures { Admits self.old handle request copies spot result self.new }
     {
-        let Places {
-            for_label,
+        let Copies {
             call_bytes,
             label_bytes,
-        } = places;
+        } = copies;
         let number = self.next_request;
         self.next_request = number + 1;
         let slot = self.requests.insert_reserved(OpenRequest {
             number,
             handle: handle.number,
             kind: request.kind,
+            spot,
             label_bytes,
         });
         let request = ClientRequest {
@@ -165,6 +167,6 @@ impl Tables {
         };
         self.labels
             .push_back_reserved(Label::Call { number, request });
-        (slot as u32, for_label)
+        slot as u32
     }
 }

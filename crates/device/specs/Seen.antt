@@ -1,5 +1,5 @@
 -- What a layer shows of itself.
-use Rattle.std.specs.Prelude.{◌≡◌, ◌<◌, ◌≤◌, ℕ, ◌+◌, ◌-◌, ◌*◌, Bool, true, false, List, [], Some, None, map, length, slice_range, IsNone, IsTrue, IsFalse, All, IsPermutation, if◌then◌else◌}
+use Rattle.std.specs.Prelude.{◌≡◌, ◌<◌, ◌≤◌, ℕ, ◌+◌, ◌-◌, ◌*◌, Bool, true, false, List, [], Option, Some, None, map, length, slice_range, IsNone, IsTrue, IsFalse, All, IsPermutation, if◌then◌else◌}
 use Rattle.sector.specs.declared.Extent.{Extent}
 use Rattle.cdb.specs.declared.Cdb.{Cdb}
 use Rattle.cdb.specs.Meaning.{Means}
@@ -7,9 +7,13 @@ use Rattle.srb.specs.declared.Srb.{Srb}
 use Rattle.srb.specs.declared.SrbFunction.TheVariants.{ExecuteScsi}
 use Rattle.srb.specs.Fate.{Fate}
 use Rattle.adapter.specs.View.{AdapterView, TagInUse, IsInOrder}
+use Rattle.irp.specs.declared.CancelRoutine.{CancelRoutine}
+use Rattle.irp.specs.declared.MajorFunction.{MajorFunction}
+use Rattle.irp.specs.declared.MajorFunction.TheVariants.{InternalDeviceControl, FlushBuffers, Read as MajorRead, Write as MajorWrite}
 use Rattle.irp.specs.declared.StackLocation.{StackLocation}
 use Rattle.irp.specs.declared.Irp.{Irp}
 use Rattle.irp.specs.Climb.{above as locations_above}
+use Rattle.irp.specs.Packet.{HasOwn, cancel_routine_of}
 use Rattle.irp.specs.declared.Payload.{Payload}
 use Rattle.irp.specs.declared.Payload.TheVariants.{Buffer, Srb as Packed, Sent as AtAdapter}
 use Rattle.machine.specs.declared.Kind.{Kind}
@@ -29,6 +33,8 @@ pub record Packet : Type 0 where
   pub number : ℕ
   pub spot : ℕ
   pub above : List StackLocation
+  -- whom a cancellation is to tell, if anybody
+  pub cancel_routine : Option CancelRoutine
 
 -- the number of a packet
 abbrev pub packet_number : Packet → ℕ
@@ -36,7 +42,7 @@ packet_number packet = packet.number
 
 -- a packet as the layer that takes it in has it
 abbrev pub packet_of : Irp → ℕ → Packet
-packet_of irp spot = record { number = irp.number; spot = spot; above = locations_above irp }
+packet_of irp spot = record { number = irp.number; spot = spot; above = locations_above irp; cancel_routine = cancel_routine_of irp }
 
 -- what a layer shows: its machine, its packets and the adapter below
 pub record Seen : Type 0 where
@@ -94,6 +100,23 @@ abbrev pub sent_bytes : Kind → Payload → List ℕ
 sent_bytes Write payload = payload_bytes payload
 sent_bytes Read payload = []
 sent_bytes Flush payload = []
+
+-- the major function of a request's location: that of a SCSI request where the packet has an SRB
+abbrev pub major_of : Bool → Kind → MajorFunction
+major_of true kind = InternalDeviceControl
+major_of false Read = MajorRead
+major_of false Write = MajorWrite
+major_of false Flush = FlushBuffers
+
+-- the packet's last location, the layer's own, asks for this request; its flags are SL_WRITE_THROUGH or none
+pub record AsksInLocation (takes_srb : Bool) (r : Request) (irp : Irp) : Type 0 where
+  pub higher : List StackLocation
+  pub own : StackLocation
+  pub is_own : HasOwn irp higher own
+  pub major : own.major ≡ major_of takes_srb r.kind
+  pub flags : own.flags.0 ≡ (if r.through then 0x04 else 0)
+  pub volume : own.volume ≡ r.volume
+  pub extent : own.extent ≡ r.extent
 
 -- a request that a layer takes: of some sectors of a volume, no more than its longest; a flush has none
 pub record IsBounded (rules : Rules) (r : Request) : Type 0 where

@@ -10,7 +10,7 @@ use Rattle.srb.specs.Fate.{Fresh, is_fresh}
 use Rattle.adapter.specs.View.{AdapterView, ReservesMore, MovesByAll, NotesReset}
 use Rattle.irp.specs.declared.Payload.{Payload}
 use Rattle.irp.specs.declared.Climb.{Climb}
-use Rattle.irp.specs.Climb.{Climbs}
+use Rattle.irp.specs.Climb.{Climbs, BringsRoutine}
 use Rattle.machine.specs.declared.Kind.TheVariants.{Read}
 use Rattle.machine.specs.declared.Request.{Request}
 use Rattle.machine.specs.declared.ClientRequest.{ClientRequest}
@@ -21,7 +21,7 @@ use Rattle.machine.specs.State.{Mark, Done, Back, OpenRequest, Piece, State}
 use Rattle.machine.specs.Calling.{Opens}
 use Rattle.machine.specs.Sending.{IsStart, HasOtherTag}
 use Rattle.machine.specs.Answering.{HasEnded, Answers}
-use Rattle.machine.specs.Holding.{Cancels, Drains}
+use Rattle.machine.specs.Holding.{Cancels, Pauses, Resumes, Drains}
 use Rattle.machine.specs.Settled.{Settled}
 use Rattle.machine.specs.Step.{as_label, Run}
 use Rattle.device.specs.Seen.{Seen, Packet, Carries, payload_bytes, sent_bytes}
@@ -145,6 +145,19 @@ pub record DrainsAll (old new : Seen) : Type 0 where
   pub drains : Drains old.rules old.state new.state
   pub beside : IsBeside old new
 
+-- the layer holds from now on, and no label is recorded
+pub record PausesAll (old new : Seen) : Type 0 where
+  pub pauses : Pauses old.rules old.state new.state
+  pub beside : IsBeside old new
+
+-- the layer holds no longer, and then pieces are started
+pub record ResumesAll (old new : Seen) : Type 0 where
+  pub resumed : State
+  pub starts : List DeviceLabel
+  pub resumes : Resumes old.state resumed
+  pub only_starts : All IsStart starts
+  pub moves : Moves (record old { state = resumed }) starts new
+
 -- the bytes that a request of this length has moved: all where it succeeds
 abbrev pub information : ClientRequest → NtStatus → ℕ
 information q Success = if is_transfer q.kind then q.length else 0
@@ -185,6 +198,7 @@ pub record HandsUp (takes_srb : Bool) (old : Seen) (request : Request) (climb : 
   -- as many as it asked for
   pub filled : request.kind ≡ Read → status ≡ Success → length bytes ≡ request.extent.count * old.rules.sector_size
   pub climbs : Climbs packet.above packet.number answers.request.cancelled status (information answers.request.request status) payload climb
+  pub brings_routine : BringsRoutine packet.cancel_routine climb
   pub only_starts : All IsStart starts
   pub moves : Moves (record old { state = answered; packets = others }) starts new
 

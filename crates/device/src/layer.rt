@@ -1,8 +1,8 @@
-ghost use Rattle.std.specs.Prelude.{◌≡◌, ◌<◌, ◌≤◌, ◌+◌, ◌∷◌, ℕ, Bool, true, List, length, Some, IsFalse, IfOk, IfSome, OnErr, IfNone, MatchBool, MatchOption, IsPermutation};
+ghost use Rattle.std.specs.Prelude.{◌≡◌, ◌<◌, ◌≤◌, ◌+◌, ◌∷◌, ℕ, Bool, true, List, length, Some, IsTrue, IsFalse, IfOk, IfSome, OnErr, IfNone, MatchBool, MatchOption, IsPermutation};
 ghost use Rattle.machine.specs.declared.Request.{Request};
 ghost use Rattle.machine.specs.Rules.{sectors_of};
-ghost use Rattle.device.specs.Seen.{Seen, IsBounded, IsOrderly, Carries, label_places, packet_of};
-ghost use Rattle.device.specs.Served.{Reserves, Submits, ActsOn, ActsNot, Finishes, FinishesNot, Resets, CancelsIfOpen, CancelsAt, DrainsAll, HandsUp, HandsUpNone, TakesLabel};
+ghost use Rattle.device.specs.Seen.{Seen, IsBounded, IsOrderly, AsksInLocation, Carries, label_places, packet_of};
+ghost use Rattle.device.specs.Served.{Reserves, Submits, ActsOn, ActsNot, Finishes, FinishesNot, Resets, CancelsIfOpen, CancelsAt, DrainsAll, PausesAll, ResumesAll, HandsUp, HandsUpNone, TakesLabel};
 
 use crate::Request;
 use irp::{Climb, Irp};
@@ -76,8 +76,9 @@ pub trait Device: Drop {
         ensures rooms { IfOk result (λ room. (rooms : List Self.Room) → rooms_out self.old rooms → rooms_out self.new (room ∷ rooms)) }
         ensures refused { OnErr result ((rooms : List Self.Room) → rooms_out self.old rooms → rooms_out self.new rooms) };
 
-    /// Takes a packet in (WDK: IoCallDriver). Its last stack location is the layer's own, and with the others that the
-    /// layer and those below need it has four at most. Its number is above all submitted before.
+    /// Takes a packet in (WDK: IoCallDriver). Its last stack location is the layer's own and asks for the room's request,
+    /// as its payload does; with the others that the layer and those below need it has four at most. Its number is above
+    /// all submitted before.
     ///
     /// The answer is the packet's spot, by which `cancel_at` finds it.
     fn submit(&mut self, irp: Irp, room: Self::Room) -> usize
@@ -86,7 +87,7 @@ pub trait Device: Drop {
         requires not_removing { IsFalse (seen self.old).state.removing }
         requires number { (seen self.old).state.next_request ≤ irp.number }
         requires few { (seen self.old).submitted < (seen self.old).most }
-        requires own_location { 0 < length irp.locations.items }
+        requires own_location { AsksInLocation TAKES_SRB (request_of room) irp }
         requires locations { length irp.locations.items + STACK_SIZE ≤ 5 }
         requires not_cancelled { IsFalse irp.cancelled }
         requires carries { Carries TAKES_SRB (seen self.old).rules (request_of room) irp.payload }
@@ -162,4 +163,23 @@ pub trait Device: Drop {
 
     /// What a layer in order shows.
     ghost in_order: { (device : Self) (rooms : List Self.Room) → rooms_out device rooms → IsOrderly (seen device) };
+}
+
+/// A layer that holds requests back while a removal is pending (WDK: IRP_MN_QUERY_REMOVE_DEVICE and
+/// IRP_MN_CANCEL_REMOVE_DEVICE). When to pause, and when to resume, is its caller's to know.
+pub trait Hold: Device {
+    /// From now on each new request is held, and of those that are held none is released.
+    fn pause(&mut self)
+        requires in_order { (rooms : List Self.Room) × Self.rooms_out self.old rooms }
+        requires not_paused { IsFalse (Self.seen self.old).state.paused }
+        requires not_removing { IsFalse (Self.seen self.old).state.removing }
+        ensures rooms { (rooms : List Self.Room) → Self.rooms_out self.old rooms → Self.rooms_out self.new rooms }
+        ensures pauses { PausesAll (Self.seen self.old) (Self.seen self.new) };
+
+    /// Ends a pause: requests that were held go on as the window allows.
+    fn resume(&mut self)
+        requires in_order { (rooms : List Self.Room) × Self.rooms_out self.old rooms }
+        requires paused { IsTrue (Self.seen self.old).state.paused }
+        ensures rooms { (rooms : List Self.Room) → Self.rooms_out self.old rooms → Self.rooms_out self.new rooms }
+        ensures resumes { ResumesAll (Self.seen self.old) (Self.seen self.new) };
 }

@@ -1,7 +1,8 @@
 -- Completion runs upward: which location's routine is called, and what of the packet reaches it.
-use Rattle.std.specs.Prelude.{⊤, ◌≡◌, ◌==◌, ◌&&◌, ◌||◌, ◌-◌, ◌^◌, nat_lt, ℕ, Bool, true, false, not, List, [], ◌∷◌, ◌++◌, All, take, length, bit_and}
+use Rattle.std.specs.Prelude.{⊤, ◌≡◌, ◌==◌, ◌&&◌, ◌||◌, ◌-◌, ◌^◌, nat_lt, ℕ, Bool, true, false, not, List, [], ◌∷◌, ◌++◌, Option, All, take, length, bit_and}
 use Rattle.ntstatus.specs.declared.NtStatus.{NtStatus}
 use Rattle.ntstatus.specs.Codes.{value_of}
+use Rattle.irp.specs.declared.CancelRoutine.{CancelRoutine}
 use Rattle.irp.specs.declared.Climb.{Climb}
 use Rattle.irp.specs.declared.Climb.TheVariants.{Routine, Finished}
 use Rattle.irp.specs.declared.Done.{Done}
@@ -60,7 +61,7 @@ abbrev pub Climbs : (above : List StackLocation) (number : ℕ) (cancelled : Boo
 Climbs above number cancelled status information payload (Routine driver irp) = CallsRoutine above number cancelled status information payload driver irp
 Climbs above number cancelled status information payload (Finished done) = Finishes above number cancelled status information payload done
 
--- a completion neither sets nor takes the packet's cancel routine
-abbrev pub KeepsCancelRoutine : Irp → Climb → Type 0
-KeepsCancelRoutine irp (Routine driver left) = cancel_routine_of left ≡ cancel_routine_of irp
-KeepsCancelRoutine irp (Finished done) = ⊤
+-- a packet on its way up has this cancel routine, or none
+abbrev pub BringsRoutine : Option CancelRoutine → Climb → Type 0
+BringsRoutine routine (Routine driver irp) = cancel_routine_of irp ≡ routine
+BringsRoutine routine (Finished done) = ⊤

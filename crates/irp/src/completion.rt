@@ -1,5 +1,6 @@
 ghost use Rattle.std.specs.Prelude.{◌≡◌};
-ghost use Rattle.irp.specs.Climb.{Climbs, KeepsCancelRoutine, above};
+ghost use Rattle.irp.specs.Climb.{Climbs, BringsRoutine, above};
+ghost use Rattle.irp.specs.Packet.{cancel_routine_of};
 
 use crate::{Climb, Done, IoStatus, Irp};
 use ntstatus::NtStatus;
@@ -12,7 +13,7 @@ use ntstatus::NtStatus;
 /// its own choice, or `resume`, and the packet climbs on with the status that it has.
 pub fn complete(mut irp: Irp, status: NtStatus, information: u64) -> Climb
     ensures climbs { Climbs (above irp) irp.number irp.cancelled status information irp.payload result }
-    ensures cancel_routine { KeepsCancelRoutine irp result }
+    ensures cancel_routine { BringsRoutine (cancel_routine_of irp) result }
 {
     irp.io_status = IoStatus {
         status,
@@ -25,7 +26,7 @@ pub fn complete(mut irp: Irp, status: NtStatus, information: u64) -> Climb
 /// finished.
 pub fn resume(mut irp: Irp) -> Climb
     ensures climbs { Climbs (above irp) irp.number irp.cancelled irp.io_status.status irp.io_status.information irp.payload result }
-    ensures cancel_routine { KeepsCancelRoutine irp result }
+    ensures cancel_routine { BringsRoutine (cancel_routine_of irp) result }
 {
     irp.locations.pop();
     climb(irp)
@@ -34,7 +35,7 @@ pub fn resume(mut irp: Irp) -> Climb
 /// The packet goes to its last location that asks, and those below that one are taken off.
 fn climb(mut irp: Irp) -> Climb
     ensures climbs { Climbs irp.locations.items irp.number irp.cancelled irp.io_status.status irp.io_status.information irp.payload result }
-    ensures cancel_routine { KeepsCancelRoutine irp result }
+    ensures cancel_routine { BringsRoutine (cancel_routine_of irp) result }
 {
     let success = irp.io_status.status.is_success();
     while let Some(location) = irp.locations.last().copied() {

@@ -18,9 +18,9 @@ use Rattle.machine.proofs.Numbers.{AreDistinct-same, AreDistinct-Step}
 use Rattle.port.specs.declared.queues.Held.{Held}
 use Rattle.port.specs.declared.queues.Ended.{Ended}
 use Rattle.port.specs.declared.queues.Outcome.{Outcome}
-use Rattle.port.specs.declared.queues.Outcome.TheVariants.{Returned, Flushed, Gone}
+use Rattle.port.specs.declared.queues.Outcome.TheVariants.{Returned, Withdrawn, Gone}
 use Rattle.port.specs.Books.{Entry, Books, entry_of, ended_entry}
-use Rattle.port.specs.Turns.{gone, drained, cancelled, is_cancellable, Flushes}
+use Rattle.port.specs.Turns.{gone, drained, cancelled, is_cancellable, Withdraws}
 use Rattle.port.specs.Shown.{rules_of, waiting_open, done_open, open_on, packet as packet_as, of_packets, of_waiting, of_tag, of_done, state_of, seen_of, requests_of}
 use Rattle.port.specs.Kept.{asked, IsKept, IsInHand, IsRoom, IsWaiting, IsBefore, AreInTurn, HasEnded, HasOutcome}
 use Rattle.port.proofs.Lists.{last_front}
@@ -65,7 +65,7 @@ ended_at_removal rules removing d h = record { bounded = h.bounded; why = by_out
     by_outcome (Returned Good) h = h
     by_outcome (Returned Busy) h = h
     by_outcome (Returned (Bad completion)) h = h
-    by_outcome Flushed h = h
+    by_outcome Withdrawn h = h
     by_outcome Gone h = refl
 
 kept_drained : (b : Books) (v : AdapterView) (rooms : List Request) → IsKept b v rooms → IsKept (drained b) v rooms
@@ -134,20 +134,20 @@ turn_without [] held behind h = h.1
 turn_without (x ∷ xs) held behind h =
     (All-tail (IsBefore x) held (xs ++ behind) (All-permutation (IsBefore x) _ _ (IsPermutation-middle xs held behind) h.0), turn_without xs held behind h.1)
 
-abbrev books_flushed : Books → List Held → Ended → Books
-books_flushed b waiting flushed = record b { waiting = waiting; done = b.done ++ flushed ∷ [] }
+abbrev books_withdrawn : Books → List Held → Ended → Books
+books_withdrawn b waiting withdrawn = record b { waiting = waiting; done = b.done ++ withdrawn ∷ [] }
 
-module _ (b : Books) (v : AdapterView) (number : ℕ) (before : List Held) (held : Held) (behind : List Held) (flushed : Ended)
-    (waits : b.waiting ≡ before ++ held ∷ behind) (can : is_cancellable number (entry_of held) ≡ true) (same_entry : ended_entry flushed ≡ cancelled (entry_of held))
-    (carries : flushed.irp.payload ≡ held.irp.payload) (ends : flushed.outcome ≡ Flushed) where
+module _ (b : Books) (v : AdapterView) (number : ℕ) (before : List Held) (held : Held) (behind : List Held) (withdrawn : Ended)
+    (waits : b.waiting ≡ before ++ held ∷ behind) (can : is_cancellable number (entry_of held) ≡ true) (same_entry : ended_entry withdrawn ≡ cancelled (entry_of held))
+    (carries : withdrawn.irp.payload ≡ held.irp.payload) (ends : withdrawn.outcome ≡ Withdrawn) where
   front : IsPermutation b.waiting (held ∷ (before ++ behind))
   front = subst (λ hs. IsPermutation hs (held ∷ (before ++ behind))) (sym waits) (IsPermutation-middle before held behind)
 
-  flush_cancels : Cancels (state_of b v) number (state_of (books_flushed b (before ++ behind) flushed) v)
-  flush_cancels =
+  withdraw_cancels : Cancels (state_of b v) number (state_of (books_withdrawn b (before ++ behind) withdrawn) v)
+  withdraw_cancels =
       let rules : Rules = rules_of b.sizes in
-      let is : done_open rules flushed ≡ as_cancelled (waiting_open rules held) = done_is rules flushed (cancelled (entry_of held)) held.irp.payload Flushed same_entry carries ends in
-      let more : map (done_open rules) (b.done ++ flushed ∷ []) ≡ map (done_open rules) b.done ++ done_open rules flushed ∷ [] = map-append (done_open rules) b.done (flushed ∷ []) in
+      let is : done_open rules withdrawn ≡ as_cancelled (waiting_open rules held) = done_is rules withdrawn (cancelled (entry_of held)) held.irp.payload Withdrawn same_entry carries ends in
+      let more : map (done_open rules) (b.done ++ withdrawn ∷ []) ≡ map (done_open rules) b.done ++ done_open rules withdrawn ∷ [] = map-append (done_open rules) b.done (withdrawn ∷ []) in
       record {
         request = waiting_open rules held;
         others = map (waiting_open rules) (before ++ behind) ++ (map (open_on rules b.started) v.tags ++ map (done_open rules) b.done);
@@ -158,8 +158,8 @@ module _ (b : Books) (v : AdapterView) (number : ℕ) (before : List Held) (held
           arrays = refl;
           next_request = refl;
           next_piece = refl;
-          requests = subst (λ (x : OpenRequest). IsPermutation (requests_of (books_flushed b (before ++ behind) flushed) v) (x ∷ (map (waiting_open rules) (before ++ behind) ++ (map (open_on rules b.started) v.tags ++ map (done_open rules) b.done)))) is
-              (rw more (last_front (map (waiting_open rules) (before ++ behind)) (map (open_on rules b.started) v.tags) (map (done_open rules) b.done) (done_open rules flushed)));
+          requests = subst (λ (x : OpenRequest). IsPermutation (requests_of (books_withdrawn b (before ++ behind) withdrawn) v) (x ∷ (map (waiting_open rules) (before ++ behind) ++ (map (open_on rules b.started) v.tags ++ map (done_open rules) b.done)))) is
+              (rw more (last_front (map (waiting_open rules) (before ++ behind)) (map (open_on rules b.started) v.tags) (map (done_open rules) b.done) (done_open rules withdrawn)));
           pieces = IsPermutation-refl _;
           owed = refl;
           paused = refl;
@@ -168,26 +168,26 @@ module _ (b : Books) (v : AdapterView) (number : ℕ) (before : List Held) (held
         };
       }
 
-  packets_flushed : {Y : Type 0} (f : Entry → Y) → ((e : Entry) → f (cancelled e) ≡ f e) → IsPermutation (of_packets f (books_flushed b (before ++ behind) flushed) v) (of_packets f b v)
-  packets_flushed {Y} f keeps =
-      let more : map (of_done f) (b.done ++ flushed ∷ []) ≡ map (of_done f) b.done ++ of_done f flushed ∷ [] = map-append (of_done f) b.done (flushed ∷ []) in
-      let is : of_done f flushed ≡ of_waiting f held = ap f same_entry ∙ keeps (entry_of held) in
+  packets_withdrawn : {Y : Type 0} (f : Entry → Y) → ((e : Entry) → f (cancelled e) ≡ f e) → IsPermutation (of_packets f (books_withdrawn b (before ++ behind) withdrawn) v) (of_packets f b v)
+  packets_withdrawn {Y} f keeps =
+      let more : map (of_done f) (b.done ++ withdrawn ∷ []) ≡ map (of_done f) b.done ++ of_done f withdrawn ∷ [] = map-append (of_done f) b.done (withdrawn ∷ []) in
+      let is : of_done f withdrawn ≡ of_waiting f held = ap f same_entry ∙ keeps (entry_of held) in
       let rest : List Y = map (of_waiting f) (before ++ behind) ++ (map (of_tag f b.started) v.tags ++ map (of_done f) b.done) in
-      let after : IsPermutation (of_packets f (books_flushed b (before ++ behind) flushed) v) (of_done f flushed ∷ rest) =
-      rw more (last_front (map (of_waiting f) (before ++ behind)) (map (of_tag f b.started) v.tags) (map (of_done f) b.done) (of_done f flushed)) in
+      let after : IsPermutation (of_packets f (books_withdrawn b (before ++ behind) withdrawn) v) (of_done f withdrawn ∷ rest) =
+      rw more (last_front (map (of_waiting f) (before ++ behind)) (map (of_tag f b.started) v.tags) (map (of_done f) b.done) (of_done f withdrawn)) in
       let old : IsPermutation (of_packets f b v) (of_waiting f held ∷ rest) = IsPermutation-append_left (map (of_tag f b.started) v.tags ++ map (of_done f) b.done) _ _ (IsPermutation-map (of_waiting f) _ _ front) in
-      IsPermutation-trans _ _ _ (subst (λ y. IsPermutation (of_packets f (books_flushed b (before ++ behind) flushed) v) (y ∷ rest)) is after) (IsPermutation-sym _ _ old)
+      IsPermutation-trans _ _ _ (subst (λ y. IsPermutation (of_packets f (books_withdrawn b (before ++ behind) withdrawn) v) (y ∷ rest)) is after) (IsPermutation-sym _ _ old)
 
   not_empty : b.waiting ≡ [] → ⊥
   not_empty e = let l = length_permutation _ _ front in let z = ap (λ (hs : List Held). length hs) e in absurd (omega arith)
 
-  kept_flushed : (rooms : List Request) → IsKept b v rooms → IsKept (books_flushed b (before ++ behind) flushed) v rooms
-  kept_flushed rooms k =
+  kept_withdrawn : (rooms : List Request) → IsKept b v rooms → IsKept (books_withdrawn b (before ++ behind) withdrawn) v rooms
+  kept_withdrawn rooms k =
       let rules : Rules = rules_of b.sizes in
       let all : All (IsWaiting rules v) (held ∷ (before ++ behind)) = All-permutation (IsWaiting rules v) _ _ front k.waiting in
       let w : IsWaiting rules v held = All-head (IsWaiting rules v) held (before ++ behind) all in
       let l = length_permutation _ _ front in
-      let m = length-append b.done (flushed ∷ []) in
+      let m = length-append b.done (withdrawn ∷ []) in
       record {
         adapter = k.adapter;
         sizes = k.sizes;
@@ -195,14 +195,14 @@ module _ (b : Books) (v : AdapterView) (number : ℕ) (before : List Held) (held
         waiting = All-tail (IsWaiting rules v) held (before ++ behind) all;
         in_turn = turn_without before held behind (subst AreInTurn waits k.in_turn);
         at_work = k.at_work;
-        ended = All-push (HasEnded rules b.removing) b.done flushed k.ended (record {
+        ended = All-push (HasEnded rules b.removing) b.done withdrawn k.ended (record {
           bounded = subst (λ (e : Entry). IsBounded rules e.request) (sym same_entry) w.room.bounded;
-          why = subst (HasOutcome rules b.removing flushed) (sym ends) (ap (λ (e : Entry). e.cancelled) same_entry);
+          why = subst (HasOutcome rules b.removing withdrawn) (sym ends) (ap (λ (e : Entry). e.cancelled) same_entry);
         });
-        reserved = All-permutation (IsRoom rules v) _ _ (IsPermutation-sym _ _ (packets_flushed asked (λ e. refl))) k.reserved;
+        reserved = All-permutation (IsRoom rules v) _ _ (IsPermutation-sym _ _ (packets_withdrawn asked (λ e. refl))) k.reserved;
         rooms_out = k.rooms_out;
         removing = λ r. absurd (not_empty (k.removing r));
-        distinct = AreDistinct-Step rules (state_of b v) (Cancel number) _ k.distinct (inl (refl, flush_cancels));
+        distinct = AreDistinct-Step rules (state_of b v) (Cancel number) _ k.distinct (inl (refl, withdraw_cancels));
         places = let c = k.places in omega arith;
         submitted = k.submitted;
         accepted = let c = k.accepted in omega arith;
@@ -210,11 +210,11 @@ module _ (b : Books) (v : AdapterView) (number : ℕ) (before : List Held) (held
         labels = k.labels;
       }
 
-  flushed_fields : IsCancelled b v number (books_flushed b (before ++ behind) flushed)
-  flushed_fields = record {
-    rooms = λ rooms i. in_hand (books_flushed b (before ++ behind) flushed) v rooms (kept_flushed rooms i.kept) (λ free. absurd (not_empty (i.busy free)));
-    cancels = record { one_of = inl (flush_cancels, record { same_rules = refl; same_packets = packets_flushed packet_as (λ e. refl); same_submitted = refl; same_most = refl; same_adapter = refl }) };
+  withdrawn_fields : IsCancelled b v number (books_withdrawn b (before ++ behind) withdrawn)
+  withdrawn_fields = record {
+    rooms = λ rooms i. in_hand (books_withdrawn b (before ++ behind) withdrawn) v rooms (kept_withdrawn rooms i.kept) (λ free. absurd (not_empty (i.busy free)));
+    cancels = record { one_of = inl (withdraw_cancels, record { same_rules = refl; same_packets = packets_withdrawn packet_as (λ e. refl); same_submitted = refl; same_most = refl; same_adapter = refl }) };
   }
 
-pub cancelled_waiting : (b b' : Books) (v : AdapterView) (number : ℕ) → Flushes b number b' → IsCancelled b v number b'
-cancelled_waiting b b' v number h = subst (λ x. IsCancelled b v number x) (sym h.after) (flushed_fields b v number h.before h.held h.behind h.flushed h.waits h.can h.same_entry h.carries h.ends)
+pub cancelled_waiting : (b b' : Books) (v : AdapterView) (number : ℕ) → Withdraws b number b' → IsCancelled b v number b'
+cancelled_waiting b b' v number h = subst (λ x. IsCancelled b v number x) (sym h.after) (withdrawn_fields b v number h.before h.held h.behind h.withdrawn h.waits h.can h.same_entry h.carries h.ends)

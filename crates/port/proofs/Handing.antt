@@ -10,7 +10,7 @@ use Rattle.ntstatus.specs.declared.NtStatus.TheVariants.{Success, DeviceBusy, Ca
 use Rattle.srb.specs.declared.Class.TheVariants.{Good, Busy, Bad}
 use Rattle.adapter.specs.View.{AdapterView, TagInUse}
 use Rattle.irp.specs.declared.Climb.{Climb}
-use Rattle.irp.specs.Climb.{Climbs}
+use Rattle.irp.specs.Climb.{Climbs, BringsRoutine}
 use Rattle.irp.specs.declared.Payload.{Payload}
 use Rattle.machine.specs.declared.Kind.TheVariants.{Read}
 use Rattle.machine.specs.declared.Request.{Request}
@@ -30,7 +30,7 @@ use Rattle.machine.proofs.Commuting.{out_ends_not, untouched_ends_not}
 use Rattle.port.specs.declared.queues.Held.{Held}
 use Rattle.port.specs.declared.queues.Ended.{Ended}
 use Rattle.port.specs.declared.queues.Outcome.{Outcome}
-use Rattle.port.specs.declared.queues.Outcome.TheVariants.{Returned, Flushed, Gone}
+use Rattle.port.specs.declared.queues.Outcome.TheVariants.{Returned, Withdrawn, Gone}
 use Rattle.port.specs.Books.{Entry, Books, entry, ended_entry}
 use Rattle.port.specs.Turns.{Leaves, LeavesNot}
 use Rattle.port.specs.Shown.{rules_of, places_of, marks_left, busy_left, status_left, waiting_open, done_open, open_on, piece_on, entry_or_nobody, packet as packet_as, of_packets, of_waiting, of_tag, of_done, state_of, seen_of, requests_of}
@@ -193,7 +193,7 @@ handed rules s o d (Returned Busy) limit some timely same are busy why =
 handed rules s o d (Returned (Bad completion)) limit some timely same are busy why =
     let b = bad_status completion why in
     handed_alike rules s o d.request d.irp.payload (status_of_completion completion) (Failed (status_of_completion completion)) are some refl refl b.0 (λ e. absurd (b.1 e)) (λ e. absurd (cc (e)))
-handed rules s o d Flushed limit some timely same are busy why =
+handed rules s o d Withdrawn limit some timely same are busy why =
     handed_alike rules s o d.request d.irp.payload Cancelled Untouched are some refl (inl (same ∙ why, refl)) (λ e. absurd (cc (e))) (λ e. absurd (cc (e))) (λ e. absurd (cc (e)))
 handed rules s o d Gone limit some timely same are busy why =
     handed_alike rules s o d.request d.irp.payload NoSuchDevice Untouched are some refl (inr (why, late_is o.late timely)) (λ e. absurd (cc (e))) (λ e. absurd (cc (e))) (λ e. absurd (cc (e)))
@@ -272,9 +272,9 @@ hand_left b b' v d h rooms k = subst (λ x. IsInHand x v (d.request ∷ rooms)) 
 -- the status and the information are as they were computed
 pub hands_up : (b b' : Books) (v : AdapterView) (rooms : List Request) (d : Ended) (status : NtStatus) (bytes_moved : ℕ) (climb : Climb) → IsInHand b v rooms → Leaves b d b'
     → status ≡ status_left d.outcome → bytes_moved ≡ information (as_client (rules_of b'.sizes) d.request []) status
-    → Climbs (entry d.irp d.request d.spot).above d.irp.number d.irp.cancelled status bytes_moved d.irp.payload climb → HandsUp true (seen_of b v) d.request climb (seen_of b' v)
+    → Climbs (entry d.irp d.request d.spot).above d.irp.number d.irp.cancelled status bytes_moved d.irp.payload climb → BringsRoutine (entry d.irp d.request d.spot).cancel_routine climb → HandsUp true (seen_of b v) d.request climb (seen_of b' v)
 unfolding answers_left
-hands_up b b' v rooms d status bytes_moved climb k h status_is moved_is climbs =
+hands_up b b' v rooms d status bytes_moved climb k h status_is moved_is climbs brings =
     let rules : Rules = rules_of b.sizes in
     let x = is_handed b v rooms d h.rest k.kept h.is_front in
     subst (λ (y : Books). HandsUp true (seen_of b v) d.request climb (seen_of y v)) (sym h.after) (record {
@@ -298,6 +298,7 @@ hands_up b b' v rooms d status bytes_moved climb k h status_is moved_is climbs =
           ap (λ (bytes : List ℕ). length bytes) (sym (x.brings is succeeds)) ∙ long ∙ whole;
       climbs = subst (λ (st : NtStatus). Climbs (entry d.irp d.request d.spot).above d.irp.number d.irp.cancelled st (information (as_client rules d.request []) st) d.irp.payload climb) status_is
           (subst (λ (n : ℕ). Climbs (entry d.irp d.request d.spot).above d.irp.number d.irp.cancelled status n d.irp.payload climb) (subst (λ (y : Books). bytes_moved ≡ information (as_client (rules_of y.sizes) d.request []) status) h.after moved_is) climbs);
+      brings_routine = brings;
       only_starts = All-nil IsStart;
       moves = record { same_rules = refl; same_packets = IsPermutation-refl _; same_submitted = refl; same_most = refl; run = IsSame-refl _; adapter = reserves_none v };
     })

@@ -21,9 +21,9 @@ use Rattle.machine.proofs.Numbers.{AreDistinct-Step}
 use Rattle.port.specs.declared.queues.Held.{Held}
 use Rattle.port.specs.declared.queues.Ended.{Ended}
 use Rattle.port.specs.declared.queues.Outcome.{Outcome}
-use Rattle.port.specs.declared.queues.Outcome.TheVariants.{Returned, Flushed, Gone}
+use Rattle.port.specs.declared.queues.Outcome.TheVariants.{Returned, Withdrawn, Gone}
 use Rattle.port.specs.Books.{Entry, Books, entry_of, ended_entry}
-use Rattle.port.specs.Turns.{held_on, cancelled, is_cancellable, CannotCancelHeld, CannotCancelOn, FlushesNot, CancelsOn, CancelsEnded, CancelsNoEnded}
+use Rattle.port.specs.Turns.{held_on, cancelled, is_cancellable, CannotCancelHeld, CannotCancelOn, WithdrawsNot, CancelsOn, CancelsEnded, CancelsNoEnded}
 use Rattle.port.specs.Cancelling.{CancelsAt, CancelsNotAt, CancelsNoStarted}
 use Rattle.port.specs.Shown.{rules_of, waiting_open, done_open, out_open, out_piece, open_on, entry_on, entry_or_nobody, packet as packet_as, of_packets, of_waiting, of_tag, of_done, state_of, seen_of, requests_of}
 use Rattle.port.specs.Kept.{asked, IsKept, IsInHand, IsRoom, IsAtWork, IsDoing, HasEnded, HasOutcome}
@@ -203,7 +203,7 @@ module _ (b : Books) (v : AdapterView) (number : ℕ) (before : List Ended) (end
           subst (λ p. P marked.request p) (sym carries) (subst (λ r. P r ended.irp.payload) (sym request_is) h)
       by_outcome (Returned Busy) h = subst (λ p. Carries true rules marked.request p) (sym carries) (subst (λ r. Carries true rules r ended.irp.payload) (sym request_is) h)
       by_outcome (Returned (Bad completion)) h = h
-      by_outcome Flushed h = ap (λ (e : Entry). e.cancelled) same_entry
+      by_outcome Withdrawn h = ap (λ (e : Entry). e.cancelled) same_entry
       by_outcome Gone h = h
 
   kept_ended : (rooms : List Request) → IsKept b v rooms → IsKept (books_ended b (before ++ behind) marked) v rooms
@@ -290,14 +290,14 @@ none_to_here b c b' v w number tag e f h none lower below = by_case (cases_lt lo
 
 -- THE THREE IN TURN
 
-pub hand_cancelled_out : (b c b' : Books) (v v' : AdapterView) (rooms : List Request) (number : ℕ) → IsInHand b v rooms → FlushesNot b number c → v' ≡ v → ((tag : ℕ) × CancelsAt c v tag number b') → IsCancelledTo b v number b' v'
+pub hand_cancelled_out : (b c b' : Books) (v v' : AdapterView) (rooms : List Request) (number : ℕ) → IsInHand b v rooms → WithdrawsNot b number c → v' ≡ v → ((tag : ℕ) × CancelsAt c v tag number b') → IsCancelledTo b v number b' v'
 hand_cancelled_out b c b' v v' rooms number k f e h =
     let h' : CancelsAt b v h.0 number b' = cancels_first b c b' v v number h.0 f.same refl h.1 in
     let x = cancelled_out b b' v rooms number h.0 k h'.in_use h'.cancels in
     subst (λ y. IsCancelledTo b v number b' y) (sym e) (record { rooms = x.rooms; cancels = x.cancels })
 
 -- after two that found nobody
-pub hand_cancelled_last : (b c d b' : Books) (v v' : AdapterView) (rooms : List Request) (number : ℕ) (result : Bool) → IsInHand b v rooms → FlushesNot b number c → v' ≡ v → CancelsNoStarted c v number d
+pub hand_cancelled_last : (b c d b' : Books) (v v' : AdapterView) (rooms : List Request) (number : ℕ) (result : Bool) → IsInHand b v rooms → WithdrawsNot b number c → v' ≡ v → CancelsNoStarted c v number d
     → MatchBool result (CancelsEnded d number b') (CancelsNoEnded d number b') → IsCancelledTo b v number b' v'
 hand_cancelled_last b c d b' v v' rooms number true k f e s h =
     let x = cancelled_ended d b' v number h in

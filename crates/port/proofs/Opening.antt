@@ -11,7 +11,7 @@ use Rattle.machine.specs.Sending.{is_untouched, is_started, IsUnsent}
 use Rattle.machine.specs.Settled.{is_out}
 use Rattle.port.specs.declared.queues.Ended.{Ended}
 use Rattle.port.specs.declared.queues.Outcome.{Outcome}
-use Rattle.port.specs.declared.queues.Outcome.TheVariants.{Returned, Flushed, Gone}
+use Rattle.port.specs.declared.queues.Outcome.TheVariants.{Returned, Withdrawn, Gone}
 use Rattle.port.specs.Shown.{marks_left, places_of, done_open}
 use Rattle.device.specs.Served.{sectors_moved}
 use Rattle.port.proofs.Lists.{length-cut}
@@ -47,12 +47,12 @@ true_false false h k = absurd (cc (h))
 
 -- what ended was started, or cancelled, or waited at a removal
 pub ended_started : (rules : Rules) (d : Ended) → 0 < places_of rules d.request
-    → (d.outcome ≡ Flushed → IsTrue d.irp.cancelled) → (d.outcome ≡ Gone → ⊥) → d.irp.cancelled ≡ false → is_started (done_open rules d) ≡ true
-ended_started rules d some flushed stays timely = by_outcome d.outcome refl
+    → (d.outcome ≡ Withdrawn → IsTrue d.irp.cancelled) → (d.outcome ≡ Gone → ⊥) → d.irp.cancelled ≡ false → is_started (done_open rules d) ≡ true
+ended_started rules d some withdrawn stays timely = by_outcome d.outcome refl
   where
     by_outcome : (outcome : Outcome) → d.outcome ≡ outcome → not (list_all is_untouched (marks_left rules d.request d.irp.payload d.outcome)) ≡ true
     by_outcome (Returned Good) is = rw is (done_started (sectors_moved rules d.request d.irp.payload) (rw length-cut some))
     by_outcome (Returned Busy) is = rw is (started_by _ Back _ some refl refl)
     by_outcome (Returned (Bad completion)) is = rw is (started_by _ (Failed _) _ some refl refl)
-    by_outcome Flushed is = true_false d.irp.cancelled (flushed is) timely
+    by_outcome Withdrawn is = true_false d.irp.cancelled (withdrawn is) timely
     by_outcome Gone is = absurd (stays is)

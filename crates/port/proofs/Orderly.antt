@@ -17,7 +17,7 @@ use Rattle.device.specs.Seen.{packet_number, IsSending, WaitsForTag, piece_on_ta
 use Rattle.port.specs.declared.queues.Held.{Held}
 use Rattle.port.specs.declared.queues.Ended.{Ended}
 use Rattle.port.specs.declared.queues.Outcome.{Outcome}
-use Rattle.port.specs.declared.queues.Outcome.TheVariants.{Returned, Flushed, Gone}
+use Rattle.port.specs.declared.queues.Outcome.TheVariants.{Returned, Withdrawn, Gone}
 use Rattle.port.specs.Books.{Books}
 use Rattle.port.specs.Shown.{entry_on, rules_of, places_of, marks_left, busy_left, waiting_open, open_on, piece_on, done_open, packet, of_waiting, of_tag, of_done, state_of, requests_of, packets_of}
 use Rattle.device.specs.Served.{sectors_moved}
@@ -44,7 +44,7 @@ pub marks_some : (rules : Rules) (r : Request) (payload : Payload) (outcome : Ou
 marks_some rules r payload (Returned Good) some = rw (length-map, length-cut) some
 marks_some rules r payload (Returned Busy) some = rw length-replicate some
 marks_some rules r payload (Returned (Bad completion)) some = rw length-replicate some
-marks_some rules r payload Flushed some = rw length-replicate some
+marks_some rules r payload Withdrawn some = rw length-replicate some
 marks_some rules r payload Gone some = rw length-replicate some
 
 have_places : (b : Books) (v : AdapterView) (rooms : List Request) → IsKept b v rooms → HavePlaces (state_of b v)
@@ -79,7 +79,7 @@ ended_sent : (rules : Rules) (o : OpenRequest) (r : Request) (payload : Payload)
 ended_sent rules o r payload (Returned Good) e busy limit started = subst (All (HasGone rules o)) (sym e) (All-map (HasGone rules o) Done (sectors_moved rules r payload) (λ k x low. tt))
 ended_sent rules o r payload (Returned Busy) e busy limit started = subst (All (HasGone rules o)) (sym e) (All-replicate (HasGone rules o) (places_of rules r) Back (omega arith))
 ended_sent rules o r payload (Returned (Bad completion)) e busy limit started = subst (All (HasGone rules o)) (sym e) (All-replicate (HasGone rules o) (places_of rules r) (Failed (status_of_completion completion)) tt)
-ended_sent rules o r payload Flushed e busy limit started = true_false _ started (rw (e, untouched_all) refl)
+ended_sent rules o r payload Withdrawn e busy limit started = true_false _ started (rw (e, untouched_all) refl)
 ended_sent rules o r payload Gone e busy limit started = true_false _ started (rw (e, untouched_all) refl)
 
 pub ended_is_started : (b : Books) (d : Ended) → 0 < b.sizes.sector_size → HasEnded (rules_of b.sizes) b.removing d → b.removing ≡ false → d.irp.cancelled ≡ false → is_started (done_open (rules_of b.sizes) d) ≡ true

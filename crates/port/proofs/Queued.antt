@@ -9,9 +9,9 @@ use Rattle.linked.specs.Queue.{Queue, HasNone, Lacks, Pops, RemovesNumber, Remov
 use Rattle.port.specs.declared.queues.Waiting.{Waiting}
 use Rattle.port.specs.declared.queues.Held.{Held}
 use Rattle.port.specs.declared.queues.Ended.{Ended}
-use Rattle.port.specs.declared.queues.Outcome.TheVariants.{Flushed}
+use Rattle.port.specs.declared.queues.Outcome.TheVariants.{Withdrawn}
 use Rattle.port.specs.Books.{Books, entry_of, ended_entry, held_at}
-use Rattle.port.specs.Turns.{cancelled, is_cancellable, CannotCancelHeld, IsUncancelled, IsPacked, Flushes, FlushesNot, FlushesAt, FlushesNotAt, IsNotAt}
+use Rattle.port.specs.Turns.{cancelled, is_cancellable, CannotCancelHeld, IsUncancelled, IsPacked, Withdraws, WithdrawsNot, WithdrawsAt, WithdrawsNotAt, IsNotAt}
 use Rattle.port.proofs.Draining.{can_facts}
 
 -- the number of a packet that waits
@@ -32,8 +32,8 @@ not_at : (spot number : ℕ) (entries : List (ℕ × Waiting)) → HasNone waiti
 not_at spot number [] h = All-nil (IsNotAt spot number)
 not_at spot number (e ∷ entries) h = All-cons (IsNotAt spot number) (held_at e) (map held_at entries) h.0 (not_at spot number entries h.1)
 
-pub flushed_none : (b b' : Books) (q q' : Queue Waiting) (spot number : ℕ) → b.waiting ≡ packets_in q → RemovesNone waiting_number q spot number q' → b' ≡ record b { waiting = packets_in q' } → FlushesNotAt b spot number b'
-flushed_none b b' q q' spot number is h after = record {
+pub withdrawn_none : (b b' : Books) (q q' : Queue Waiting) (spot number : ℕ) → b.waiting ≡ packets_in q → RemovesNone waiting_number q spot number q' → b' ≡ record b { waiting = packets_in q' } → WithdrawsNotAt b spot number b'
+withdrawn_none b b' q q' spot number is h after = record {
   none = subst (λ hs. All (IsNotAt spot number) hs) (sym is) (not_at spot number q.entries h.none);
   same = after ∙ ap (λ (x : Queue Waiting). record b { waiting = packets_in x }) h.same ∙ ap (λ hs. record b { waiting = hs }) (sym is);
 }
@@ -42,10 +42,10 @@ flushed_none b b' q q' spot number is h after = record {
 can_cancel : (number : ℕ) (held : Held) → held.irp.number ≡ number → IsUncancelled held → is_cancellable number (entry_of held) ≡ true
 can_cancel number held same timely = let equal = eq-eqb held.irp.number number same in rw (equal, timely) refl
 
-pub flushed : (b b' : Books) (q q' : Queue Waiting) (spot number : ℕ) (item : Waiting) (ended : Ended) (done' : List Ended) → b.waiting ≡ packets_in q → All IsUncancelled b.waiting → RemovesNumber waiting_number q spot number item q'
-    → ended_entry ended ≡ cancelled (entry_of (held_at (spot, item))) → ended.irp.payload ≡ item.irp.payload → ended.outcome ≡ Flushed → done' ≡ b.done ++ ended ∷ [] → b' ≡ record b { waiting = packets_in q'; done = done' }
-    → FlushesAt b spot number b'
-flushed b b' q q' spot number item ended done' is timely h entry carries ends more after =
+pub withdrawn : (b b' : Books) (q q' : Queue Waiting) (spot number : ℕ) (item : Waiting) (ended : Ended) (done' : List Ended) → b.waiting ≡ packets_in q → All IsUncancelled b.waiting → RemovesNumber waiting_number q spot number item q'
+    → ended_entry ended ≡ cancelled (entry_of (held_at (spot, item))) → ended.irp.payload ≡ item.irp.payload → ended.outcome ≡ Withdrawn → done' ≡ b.done ++ ended ∷ [] → b' ≡ record b { waiting = packets_in q'; done = done' }
+    → WithdrawsAt b spot number b'
+withdrawn b b' q q' spot number item ended done' is timely h entry carries ends more after =
     let r = h.removes in
     let held = held_at (spot, item) in
     let before = map held_at r.before in
@@ -53,11 +53,11 @@ flushed b b' q q' spot number item ended done' is timely h entry carries ends mo
     let waits : b.waiting ≡ before ++ held ∷ behind = is ∙ ap (map held_at) r.stood ∙ map-append held_at r.before ((spot, item) ∷ r.behind) in
     let front : IsUncancelled held = All-head IsUncancelled held (before ++ behind) (All-permutation IsUncancelled _ _ (IsPermutation-middle before held behind) (subst (λ hs. All IsUncancelled hs) waits timely)) in
     record {
-      flushes = record {
+      withdraws = record {
         before = before;
         held = held;
         behind = behind;
-        flushed = ended;
+        withdrawn = ended;
         waits = waits;
         can = can_cancel number held h.is_number front;
         same_entry = entry;
@@ -81,18 +81,18 @@ lacking : (number : ℕ) (entries : List (ℕ × Waiting)) → Lacks waiting_num
 lacking number [] h = All-nil (CannotCancelHeld number)
 lacking number (e ∷ entries) h = All-cons (CannotCancelHeld number) (held_at e) (map held_at entries) (cannot number (held_at e) h.0) (lacking number entries h.1)
 
-pub found_none : (b b' : Books) (q q' : Queue Waiting) (number : ℕ) → b.waiting ≡ packets_in q → Lacks waiting_number number q.entries → q'.entries ≡ q.entries → b' ≡ record b { waiting = packets_in q' } → FlushesNot b number b'
+pub found_none : (b b' : Books) (q q' : Queue Waiting) (number : ℕ) → b.waiting ≡ packets_in q → Lacks waiting_number number q.entries → q'.entries ≡ q.entries → b' ≡ record b { waiting = packets_in q' } → WithdrawsNot b number b'
 found_none b b' q q' number is h same after = record {
   none = subst (λ hs. All (CannotCancelHeld number) hs) (sym is) (lacking number q.entries h);
   same = after ∙ ap (λ es. record b { waiting = map held_at es }) same ∙ ap (λ hs. record b { waiting = hs }) (sym is);
 }
 
 pub found : (b b' : Books) (q q' : Queue Waiting) (number spot : ℕ) (result : Bool) → b.waiting ≡ packets_in q → Finds waiting_number q number spot q'
-    → MatchBool result (FlushesAt (record b { waiting = packets_in q' }) spot number b') (FlushesNotAt (record b { waiting = packets_in q' }) spot number b')
-    → MatchBool result (Flushes b number b') (FlushesNot b number b')
+    → MatchBool result (WithdrawsAt (record b { waiting = packets_in q' }) spot number b') (WithdrawsNotAt (record b { waiting = packets_in q' }) spot number b')
+    → MatchBool result (Withdraws b number b') (WithdrawsNot b number b')
 found b b' q q' number spot true is f h =
     let same : record b { waiting = packets_in q' } ≡ b = ap (λ (x : Queue Waiting). record b { waiting = packets_in x }) f.after ∙ ap (λ hs. record b { waiting = hs }) (sym is) in
-    subst (λ x. Flushes x number b') same h.flushes
+    subst (λ x. Withdraws x number b') same h.withdraws
 found b b' q q' number spot false is f h =
     let held = held_at (spot, f.item) in
     let before = map held_at f.before in

@@ -30,7 +30,7 @@ use Rattle.machine.proofs.Numbers.{AreDistinct-DeviceStep}
 use Rattle.port.specs.declared.queues.Held.{Held}
 use Rattle.port.specs.declared.queues.Ended.{Ended}
 use Rattle.port.specs.declared.queues.Outcome.{Outcome}
-use Rattle.port.specs.declared.queues.Outcome.TheVariants.{Returned, Flushed, Gone}
+use Rattle.port.specs.declared.queues.Outcome.TheVariants.{Returned, Withdrawn, Gone}
 use Rattle.port.specs.Books.{Entry, Books, entry_of, ended_entry}
 use Rattle.port.specs.Turns.{held_on, EndsAs, Ends}
 use Rattle.port.specs.Shown.{rules_of, places_of, marks_left, busy_left, open_as, waiting_open, done_open, out_open, out_piece, open_on, piece_on, entry_on, packet as packet_as, of_packets, of_waiting, of_tag, of_done, state_of, seen_of, requests_of}
@@ -82,7 +82,7 @@ pub length_marks : (rules : Rules) (r : Request) (payload : Payload) (outcome : 
 length_marks rules r payload (Returned Good) = rw (length-map, length-cut) refl
 length_marks rules r payload (Returned Busy) = length-replicate _ _
 length_marks rules r payload (Returned (Bad completion)) = length-replicate _ _
-length_marks rules r payload Flushed = length-replicate _ _
+length_marks rules r payload Withdrawn = length-replicate _ _
 length_marks rules r payload Gone = length-replicate _ _
 
 abbrev pub with_sense : Srb → Option Sense → Srb

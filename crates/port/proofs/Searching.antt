@@ -8,9 +8,9 @@ use Rattle.std.proofs.lemmas.List.Quantifiers.{position-Some}
 use Rattle.std.proofs.lemmas.Iterator.Adapters.{position_from-zero}
 use Rattle.port.specs.declared.queues.Held.{Held}
 use Rattle.port.specs.declared.queues.Ended.{Ended}
-use Rattle.port.specs.declared.queues.Outcome.TheVariants.{Flushed}
+use Rattle.port.specs.declared.queues.Outcome.TheVariants.{Withdrawn}
 use Rattle.port.specs.Books.{Books, entry_of, ended_entry}
-use Rattle.port.specs.Turns.{gone, drained, cancelled, can_cancel_held, can_cancel_ended, Flushes, FlushesNot, CancelsEnded, CancelsNoEnded}
+use Rattle.port.specs.Turns.{gone, drained, cancelled, can_cancel_held, can_cancel_ended, Withdraws, WithdrawsNot, CancelsEnded, CancelsNoEnded}
 
 pub drained_by : (b x : Books) (before after : List Held) → b.waiting ≡ before ++ x.waiting → x.done ≡ b.done ++ map gone before → x ≡ record b { waiting = x.waiting; done = x.done }
     → length x.waiting ≡ 0 → length after ≡ 0 → record x { waiting = after; removing = true } ≡ drained b
@@ -42,16 +42,16 @@ split_at {X} xs i x low is =
     let n : i + 1 ≡ suc i = omega arith in
     sym (take-append-drop i xs) ∙ ap (λ (ys : List X). take i xs ++ ys) (e ∙ ap (λ (y : X). y ∷ drop (i + 1) xs) (sym is) ∙ ap (λ (k : ℕ). x ∷ drop k xs) n)
 
-pub flushes : (b b' : Books) (number index : ℕ) (held : Held) (flushed : Ended) (waiting' : List Held) (done' : List Ended) → Some index ≡ position (can_cancel_held number) b.waiting → held ≡ get_or b.waiting index held
-    → waiting' ≡ remove b.waiting index → ended_entry flushed ≡ cancelled (entry_of held) → flushed.irp.payload ≡ held.irp.payload → flushed.outcome ≡ Flushed → done' ≡ b.done ++ flushed ∷ []
-    → b' ≡ record b { waiting = waiting'; done = done' } → Flushes b number b'
-flushes b b' number index held flushed waiting' done' found is left entry carries ends more after =
+pub withdraws : (b b' : Books) (number index : ℕ) (held : Held) (withdrawn : Ended) (waiting' : List Held) (done' : List Ended) → Some index ≡ position (can_cancel_held number) b.waiting → held ≡ get_or b.waiting index held
+    → waiting' ≡ remove b.waiting index → ended_entry withdrawn ≡ cancelled (entry_of held) → withdrawn.irp.payload ≡ held.irp.payload → withdrawn.outcome ≡ Withdrawn → done' ≡ b.done ++ withdrawn ∷ []
+    → b' ≡ record b { waiting = waiting'; done = done' } → Withdraws b number b'
+withdraws b b' number index held withdrawn waiting' done' found is left entry carries ends more after =
     let at = position-Some (can_cancel_held number) b.waiting index held (sym found) in
     record {
       before = take index b.waiting;
       held = held;
       behind = drop (suc index) b.waiting;
-      flushed = flushed;
+      withdrawn = withdrawn;
       waits = split_at b.waiting index held at.0 is;
       can = ap (can_cancel_held number) is ∙ at.1;
       same_entry = entry;
@@ -60,8 +60,8 @@ flushes b b' number index held flushed waiting' done' found is left entry carrie
       after = after ∙ ap (λ (hs : List Held). record b { waiting = hs; done = done' }) left ∙ ap (λ (ds : List Ended). record b { waiting = remove b.waiting index; done = ds }) more;
     }
 
-pub flushes_not : (b : Books) (number : ℕ) → None ≡ position (can_cancel_held number) b.waiting → FlushesNot b number b
-flushes_not b number h = record { none = none_found (can_cancel_held number) b.waiting (sym h); same = refl }
+pub withdraws_not : (b : Books) (number : ℕ) → None ≡ position (can_cancel_held number) b.waiting → WithdrawsNot b number b
+withdraws_not b number h = record { none = none_found (can_cancel_held number) b.waiting (sym h); same = refl }
 
 pub cancels_ended : (b b' : Books) (number index : ℕ) (ended marked : Ended) (done' done'' : List Ended) → Some index ≡ position (can_cancel_ended number) b.done → ended ≡ get_or b.done index ended
     → done' ≡ remove b.done index → ended_entry marked ≡ cancelled (ended_entry ended) → marked.irp.payload ≡ ended.irp.payload → marked.outcome ≡ ended.outcome → done'' ≡ done' ++ marked ∷ []

@@ -14,7 +14,7 @@ use Rattle.machine.specs.Holding.{Cancels}
 use Rattle.machine.proofs.Permuting.{distinct_first}
 use Rattle.port.specs.declared.queues.Held.{Held}
 use Rattle.port.specs.Books.{Books, entry_of}
-use Rattle.port.specs.Turns.{CannotCancelHeld, CannotCancelOn, FlushesAt, FlushesNotAt, IsNotAt, is_cancellable, CancelsEnded, CancelsNoEnded}
+use Rattle.port.specs.Turns.{CannotCancelHeld, CannotCancelOn, WithdrawsAt, WithdrawsNotAt, IsNotAt, is_cancellable, CancelsEnded, CancelsNoEnded}
 use Rattle.port.specs.Cancelling.{IsQueued, CancelsQueued, CancelsAt as CancelsOnTag, CancelsNoStarted}
 use Rattle.port.specs.Shown.{packet as packet_as, packets_of, seen_of, of_waiting, of_tag, of_done}
 use Rattle.port.specs.Kept.{IsInHand}
@@ -44,12 +44,12 @@ gone_same old new number o c none = by_case c.one_of
 
 pub record Queues (b : Books) (v : AdapterView) (spot number : ℕ) (result : Bool) (b' : Books) : Type 0 where
   pub rooms : (rooms : List Request) → IsInHand b v rooms → IsInHand b' v rooms
-  pub cancels : MatchBool result (CancelsQueued b v spot number b') (FlushesNotAt b spot number b')
+  pub cancels : MatchBool result (CancelsQueued b v spot number b') (WithdrawsNotAt b spot number b')
 
-pub queued : (b b' : Books) (v : AdapterView) (spot number : ℕ) (result : Bool) → MatchBool result (FlushesAt b spot number b') (FlushesNotAt b spot number b') → Queues b v spot number result b'
+pub queued : (b b' : Books) (v : AdapterView) (spot number : ℕ) (result : Bool) → MatchBool result (WithdrawsAt b spot number b') (WithdrawsNotAt b spot number b') → Queues b v spot number result b'
 queued b b' v spot number true h =
-    let x = cancelled_waiting b b' v number h.flushes in
-    let f = h.flushes in
+    let x = cancelled_waiting b b' v number h.withdraws in
+    let f = h.withdraws in
     record {
       rooms = x.rooms;
       cancels = record {
@@ -109,13 +109,13 @@ pub record Cancelled (b : Books) (v : AdapterView) (spot number : ℕ) (b' : Boo
 as_cancelled : (b b' : Books) (v : AdapterView) (rooms : List Request) (spot number : ℕ) → IsInHand b v rooms → IsCancelled b v number b' → Cancelled b v spot number b' v
 as_cancelled b b' v rooms spot number k x = record { rooms = x.rooms; cancels = at_number b b' v v rooms spot number k x.cancels }
 
-pub at_started : (b c b' : Books) (v w v' : AdapterView) (rooms : List Request) (spot number : ℕ) → IsInHand b v rooms → FlushesNotAt b spot number c → w ≡ v → v' ≡ w → ((tag : ℕ) × CancelsOnTag c w tag number b')
+pub at_started : (b c b' : Books) (v w v' : AdapterView) (rooms : List Request) (spot number : ℕ) → IsInHand b v rooms → WithdrawsNotAt b spot number c → w ≡ v → v' ≡ w → ((tag : ℕ) × CancelsOnTag c w tag number b')
     → Cancelled b v spot number b' v'
 at_started b c b' v w v' rooms spot number k f e e' h =
     let h' : CancelsOnTag b v h.0 number b' = cancels_first b c b' v w number h.0 f.same e h.1 in
     subst (λ y. Cancelled b v spot number b' y) (sym (e' ∙ e)) (as_cancelled b b' v rooms spot number k (cancelled_out b b' v rooms number h.0 k h'.in_use h'.cancels))
 
-pub at_last : (b c d b' : Books) (v w v' : AdapterView) (rooms : List Request) (spot number : ℕ) (result : Bool) → IsInHand b v rooms → FlushesNotAt b spot number c → w ≡ v → v' ≡ w → CancelsNoStarted c w number d
+pub at_last : (b c d b' : Books) (v w v' : AdapterView) (rooms : List Request) (spot number : ℕ) (result : Bool) → IsInHand b v rooms → WithdrawsNotAt b spot number c → w ≡ v → v' ≡ w → CancelsNoStarted c w number d
     → MatchBool result (CancelsEnded d number b') (CancelsNoEnded d number b') → Cancelled b v spot number b' v'
 at_last b c d b' v w v' rooms spot number true k f e e' s h =
     let same : d ≡ b = s.same ∙ f.same in

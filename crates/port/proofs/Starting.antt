@@ -32,7 +32,7 @@ use Rattle.machine.proofs.Same.{IsSame-refl, Run-append, Any-permutation}
 use Rattle.machine.proofs.Numbers.{AreDistinct-DeviceStep}
 use Rattle.port.specs.declared.queues.Held.{Held}
 use Rattle.port.specs.declared.queues.Ended.{Ended}
-use Rattle.port.specs.declared.queues.Outcome.TheVariants.{Flushed, Gone}
+use Rattle.port.specs.declared.queues.Outcome.TheVariants.{Withdrawn, Gone}
 use Rattle.port.specs.Books.{Entry, Books, entry_of}
 use Rattle.port.specs.Turns.{held_on, IsPacked}
 use Rattle.port.specs.declared.queues.Sizes.{Sizes}
@@ -78,10 +78,10 @@ front_in_turn b v rooms front rest k is stays some =
   where
     ended : (d : Ended) → HasEnded (rules_of b.sizes) b.removing d → d.irp.cancelled ≡ false → is_started (done_open (rules_of b.sizes) d) ≡ true
     ended d e timely = ended_started (rules_of b.sizes) d (places_some b.sizes d.request some e.bounded)
-        (λ o. flushed d o e.why) (λ o. true_false b.removing (gone d o e.why) stays) timely
+        (λ o. withdrawn d o e.why) (λ o. true_false b.removing (gone d o e.why) stays) timely
       where
-        flushed : (d : Ended) → d.outcome ≡ Flushed → HasOutcome (rules_of b.sizes) b.removing d d.outcome → IsTrue d.irp.cancelled
-        flushed d o h = subst (HasOutcome (rules_of b.sizes) b.removing d) o h
+        withdrawn : (d : Ended) → d.outcome ≡ Withdrawn → HasOutcome (rules_of b.sizes) b.removing d d.outcome → IsTrue d.irp.cancelled
+        withdrawn d o h = subst (HasOutcome (rules_of b.sizes) b.removing d) o h
 
         gone : (d : Ended) → d.outcome ≡ Gone → HasOutcome (rules_of b.sizes) b.removing d d.outcome → IsTrue b.removing
         gone d o h = subst (HasOutcome (rules_of b.sizes) b.removing d) o h

@@ -1,16 +1,20 @@
 -- What a client knows, from call to call.
 use Rattle.std.proofs.Common.{◌≡◌, ◌≤◌, ◌⊎◌, inl, inr, ℕ, ◌+◌, Bool, true, false, List, [], ◌∷◌, Option, Some, None, refl, sym, subst, ap, ◌∙◌, arith, map, length}
-use Rattle.std.specs.Prelude.{MatchBool}
+use Rattle.std.specs.Prelude.{MatchBool, if◌then◌else◌}
 use Rattle.srb.specs.declared.DeviceLabel.{DeviceLabel}
 use Rattle.srb.specs.declared.DeviceLabel.TheVariants.{Start, Act, Fault, Return}
+use Rattle.irp.specs.declared.Irp.{Irp}
+use Rattle.irp.specs.declared.MajorFunction.TheVariants.{InternalDeviceControl}
 use Rattle.irp.specs.declared.Payload.{Payload}
+use Rattle.irp.specs.declared.StackLocation.{StackLocation}
 use Rattle.irp.specs.declared.Climb.{Climb}
+use Rattle.irp.specs.Packet.{HasOwn}
 use Rattle.machine.specs.declared.Request.{Request}
 use Rattle.machine.specs.Rules.{Rules}
 use Rattle.machine.specs.State.{State}
 use Rattle.machine.specs.Holding.{Cancels}
 use Rattle.machine.specs.Step.{Run, DeviceStep, as_label}
-use Rattle.device.specs.Seen.{Seen, Packet, label_places}
+use Rattle.device.specs.Seen.{Seen, Packet, AsksInLocation, label_places}
 use Rattle.device.specs.Served.{Moves, Reserves, Submits, ActsOn, ActsNot, Finishes, FinishesNot, Resets, CancelsIfOpen, DrainsAll, HandsUp, HandsUpNone, TakesLabel, IsBeside, NoneToCancel}
 use Rattle.adapter.specs.View.{AdapterView}
 use Rattle.port.specs.Shown.{rules_of}
@@ -42,6 +46,13 @@ ready_moves v v' labels rules next removed h r =
       submitted = let n = r.submitted in let e = h.same_submitted in omega arith;
       removing = k.1 ∙ r.removing;
     }
+
+-- a location asks for a request under another name of it
+pub asks_here : (takes : Bool) (asked r : Request) (irp : Irp) (higher : List StackLocation) (own : StackLocation) → takes ≡ true → asked ≡ r → HasOwn irp higher own → own.major ≡ InternalDeviceControl
+    → own.flags.0 ≡ (if r.through then 0x04 else 0) → own.volume ≡ r.volume → own.extent ≡ r.extent → AsksInLocation takes asked irp
+asks_here takes asked r irp higher own takes_is asked_is has major flags volume extent =
+    subst (λ (x : Request). AsksInLocation takes x irp) (sym asked_is)
+    (subst (λ (t : Bool). AsksInLocation t r irp) (sym takes_is) (record { higher = higher; own = own; is_own = has; major = major; flags = flags; volume = volume; extent = extent }))
 
 ready_same : (v v' : Seen) (rules : Rules) (next : ℕ) (removed : Bool) → v' ≡ v → IsReady v rules next removed → IsReady v' rules next removed
 ready_same v v' rules next removed e r = subst (λ x. IsReady x rules next removed) (sym e) r

@@ -1,8 +1,11 @@
 -- What the port has in its queues.
-use Rattle.std.specs.Prelude.{ℕ, Bool, List, map, Option}
+use Rattle.std.specs.Prelude.{ℕ, ◌+◌, ◌^◌, ◌<◌, Bool, List, map, Option}
+use Rattle.std.specs.VecDeque.{deque_capacity}
+use Rattle.irp.specs.declared.CancelRoutine.{CancelRoutine}
 use Rattle.irp.specs.declared.StackLocation.{StackLocation}
 use Rattle.irp.specs.declared.Irp.{Irp}
 use Rattle.irp.specs.Climb.{above as locations_above}
+use Rattle.irp.specs.Packet.{cancel_routine_of}
 use Rattle.machine.specs.declared.Request.{Request}
 use Rattle.port.specs.declared.queues.Sizes.{Sizes}
 use Rattle.port.specs.declared.queues.Waiting.{Waiting}
@@ -15,19 +18,32 @@ pub record Entry : Type 0 where
   pub number : ℕ
   pub above : List StackLocation
   pub cancelled : Bool
+  -- whom a cancellation is to tell, if anybody
+  pub cancel_routine : Option CancelRoutine
   pub request : Request
   -- where it stood in the queue
   pub spot : ℕ
 
+-- a packet with its request, as it stands in the books
 abbrev pub entry : Irp → Request → ℕ → Entry
-entry irp request spot = record { number = irp.number; above = locations_above irp; cancelled = irp.cancelled; request = request; spot = spot }
+entry irp request spot = record {
+  number = irp.number;
+  above = locations_above irp;
+  cancelled = irp.cancelled;
+  cancel_routine = cancel_routine_of irp;
+  request = request;
+  spot = spot;
+}
 
+-- what the books say of a packet that waits, or that is at the adapter
 abbrev pub entry_of : Held → Entry
 entry_of held = entry held.irp held.request held.spot
 
+-- what they say of one that ended
 abbrev pub ended_entry : Ended → Entry
 ended_entry ended = entry ended.irp ended.request ended.spot
 
+-- the packet with its request and its spot
 abbrev pub held_with : Irp → Request → ℕ → Held
 held_with irp request spot = record { irp = irp; request = request; spot = spot }
 
@@ -35,6 +51,7 @@ held_with irp request spot = record { irp = irp; request = request; spot = spot 
 abbrev pub held_at : ℕ × Waiting → Held
 held_at e = held_with e.1.irp e.1.request e.0
 
+-- the queues, each as the list of its packets
 pub record Books : Type 0 where
   pub sizes : Sizes
   -- the packets that wait, the one that waited longest first
@@ -50,6 +67,7 @@ pub record Books : Type 0 where
   -- as many packets as can be taken in, those that are in and the rooms out among them
   pub places : ℕ
 
+-- the books that the queues are
 abbrev pub books_of : Queues → Books
 books_of q = record {
   sizes = q.sizes;
@@ -66,3 +84,9 @@ books_of q = record {
 -- how often an entry of the queue was visited
 abbrev pub visits_of : Queues → ℕ
 visits_of q = q.waiting.visits
+
+-- both queues have room for one packet more than there are places
+pub record HasRoomForMore (q : Queues) : Type 0 where
+  pub countable : q.places + 1 < 2 ^ 64
+  pub waiting : q.places < q.waiting.places
+  pub done : q.places < deque_capacity q.done

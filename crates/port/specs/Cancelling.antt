@@ -27,6 +27,7 @@ pub record CancelsNotAt (old : Books) (v : AdapterView) (tag number : ℕ) (new 
   pub cannot : Any (HasTag tag) v.tags → CannotCancelOn old.started number tag
   pub same : new ≡ old
 
+-- the packet of a tag in use cannot be cancelled
 abbrev pub CannotCancelUse : Books → ℕ → TagInUse → Type 0
 CannotCancelUse b number use' = CannotCancelOn b.started number use'.tag
 

@@ -15,7 +15,7 @@ use Rattle.port.specs.declared.queues.Sizes.{Sizes}
 use Rattle.port.specs.declared.queues.Held.{Held}
 use Rattle.port.specs.declared.queues.Ended.{Ended}
 use Rattle.port.specs.declared.queues.Outcome.{Outcome}
-use Rattle.port.specs.declared.queues.Outcome.TheVariants.{Returned, Flushed, Gone}
+use Rattle.port.specs.declared.queues.Outcome.TheVariants.{Returned, Withdrawn, Gone}
 use Rattle.port.specs.Books.{Entry, Books}
 use Rattle.port.specs.Turns.{held_on}
 use Rattle.port.specs.Shown.{rules_of, of_packets, state_of, seen_of, most}
@@ -34,6 +34,7 @@ pub record IsRoom (rules : Rules) (v : AdapterView) (r : Request) : Type 0 where
   pub bounded : IsBounded rules r
   pub reserved : r.kind ≡ Write → IsReserved v r.extent
 
+-- a packet that waits carries what its request asks for, has its room, and is not cancelled
 pub record IsWaiting (rules : Rules) (v : AdapterView) (held : Held) : Type 0 where
   pub room : IsRoom rules v held.request
   pub carries : Carries true rules held.request held.irp.payload
@@ -43,6 +44,7 @@ pub record IsWaiting (rules : Rules) (v : AdapterView) (held : Held) : Type 0 wh
 abbrev pub IsBefore : Held → Held → Type 0
 IsBefore held other = held.irp.number < other.irp.number
 
+-- packets in the order in which they were submitted
 abbrev pub AreInTurn : List Held → Type 0
 AreInTurn [] = Unit {0}
 AreInTurn (held ∷ rest) = All (IsBefore held) rest × AreInTurn rest
@@ -54,6 +56,7 @@ IsDoing rules r (Acted moved) srb =
     (srb.data ≡ concat moved) × (sectors_moved rules r (Packed srb) ≡ moved) × (r.kind ≡ Read → length srb.data ≡ transfer_length rules r)
 IsDoing rules r Faulted srb = Unit {0}
 
+-- the packet of a tag in use
 pub record IsAtWork (rules : Rules) (started : List (Option Held)) (use' : TagInUse) : Type 0 where
   pub held : Held
   pub on_tag : held_on started use'.tag ≡ Some held
@@ -67,9 +70,10 @@ HasOutcome rules removing d (Returned Good) =
     × (d.request.kind ≡ Read → length (payload_bytes d.irp.payload) ≡ transfer_length rules d.request)
 HasOutcome rules removing d (Returned Busy) = Carries true rules d.request d.irp.payload
 HasOutcome rules removing d (Returned (Bad completion)) = class_of completion ≡ Bad completion
-HasOutcome rules removing d Flushed = IsTrue d.irp.cancelled
+HasOutcome rules removing d Withdrawn = IsTrue d.irp.cancelled
 HasOutcome rules removing d Gone = IsTrue removing
 
+-- a packet that ended for a reason
 pub record HasEnded (rules : Rules) (removing : Bool) (d : Ended) : Type 0 where
   pub bounded : IsBounded rules d.request
   pub why : HasOutcome rules removing d d.outcome

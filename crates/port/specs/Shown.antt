@@ -1,5 +1,5 @@
 -- What the port shows: the sector machine, as its queues and the adapter below say.
-use Rattle.std.specs.Prelude.{ℕ, ◌+◌, ◌^◌, true, false, zero, suc, List, [], ◌∷◌, ◌++◌, map, take, drop, replicate, Option, Some, None}
+use Rattle.std.specs.Prelude.{ℕ, ◌+◌, ◌^◌, true, false, List, [], ◌∷◌, ◌++◌, map, replicate, Option, Some, None}
 use Rattle.ntstatus.specs.declared.NtStatus.{NtStatus}
 use Rattle.ntstatus.specs.declared.NtStatus.TheVariants.{Success, DeviceBusy}
 use Rattle.ntstatus.specs.Table.{status_of}
@@ -21,7 +21,7 @@ use Rattle.port.specs.declared.queues.Sizes.{Sizes}
 use Rattle.port.specs.declared.queues.Held.{Held}
 use Rattle.port.specs.declared.queues.Ended.{Ended}
 use Rattle.port.specs.declared.queues.Outcome.{Outcome}
-use Rattle.port.specs.declared.queues.Outcome.TheVariants.{Returned, Flushed, Gone}
+use Rattle.port.specs.declared.queues.Outcome.TheVariants.{Returned, Withdrawn, Gone}
 use Rattle.port.specs.Books.{Entry, Books, entry_of, ended_entry}
 use Rattle.port.specs.Turns.{held_on}
 
@@ -44,6 +44,7 @@ rules_of sizes = record {
 abbrev pub places_of : Rules → Request → ℕ
 places_of rules r = place_count rules (as_client rules r [])
 
+-- all places of a request with one mark
 abbrev pub all_places : Rules → Request → Mark → List Mark
 all_places rules r mark = replicate (places_of rules r) mark
 
@@ -52,14 +53,15 @@ abbrev pub marks_left : Rules → Request → Payload → Outcome → List Mark
 marks_left rules r payload (Returned Good) = map Done (sectors_moved rules r payload)
 marks_left rules r payload (Returned Busy) = all_places rules r Back
 marks_left rules r payload (Returned (Bad completion)) = all_places rules r (Failed (status_of_completion completion))
-marks_left rules r payload Flushed = all_places rules r Untouched
+marks_left rules r payload Withdrawn = all_places rules r Untouched
 marks_left rules r payload Gone = all_places rules r Untouched
 
+-- the busy returns of a packet that ended
 abbrev pub busy_left : Outcome → ℕ
 busy_left (Returned Good) = 0
 busy_left (Returned Busy) = 1
 busy_left (Returned (Bad completion)) = 0
-busy_left Flushed = 0
+busy_left Withdrawn = 0
 busy_left Gone = 0
 
 -- how a packet ended: as its piece came back, or as the port itself ended it, by the status of its SRB
@@ -67,11 +69,12 @@ abbrev pub status_left : Outcome → NtStatus
 status_left (Returned Good) = Success
 status_left (Returned Busy) = DeviceBusy
 status_left (Returned (Bad completion)) = status_of_completion completion
-status_left Flushed = status_of (code_of RequestFlushed) 0 None
+status_left Withdrawn = status_of (code_of RequestFlushed) 0 None
 status_left Gone = status_of (code_of NoDevice) 0 None
 
 -- OPEN REQUESTS AND PIECES
 
+-- a packet as an open request of the machine
 abbrev pub open_as : Rules → Entry → Payload → ℕ → List Mark → OpenRequest
 open_as rules e payload busy marks = record {
   number = e.number;
@@ -82,9 +85,11 @@ open_as rules e payload busy marks = record {
   marks = marks;
 }
 
+-- the open request of a packet that waits: nothing of it was sent
 abbrev pub waiting_open : Rules → Held → OpenRequest
 waiting_open rules held = open_as rules (entry_of held) held.irp.payload 0 (all_places rules held.request Untouched)
 
+-- that of a packet that ended
 abbrev pub done_open : Rules → Ended → OpenRequest
 done_open rules d = open_as rules (ended_entry d) d.irp.payload (busy_left d.outcome) (marks_left rules d.request d.irp.payload d.outcome)
 
@@ -94,14 +99,17 @@ nobody = record {
   number = 0;
   above = [];
   cancelled = false;
+  cancel_routine = None;
   spot = 0;
   request = record { volume = 0; kind = Flush; extent = record { first = 0; count = 0 }; through = false };
 }
 
+-- a packet, or what stands for none
 abbrev pub entry_or_nobody : Option Held → Entry
 entry_or_nobody None = nobody
 entry_or_nobody (Some held) = entry_of held
 
+-- the packet of a tag
 abbrev pub entry_on : List (Option Held) → ℕ → Entry
 entry_on started tag = entry_or_nobody (held_on started tag)
 
@@ -109,6 +117,7 @@ entry_on started tag = entry_or_nobody (held_on started tag)
 abbrev pub out_open : Rules → Entry → TagInUse → OpenRequest
 out_open rules e use' = open_as rules e (Packed use'.srb) 0 (all_places rules e.request Out)
 
+-- its one piece, which is all of its places
 abbrev pub out_piece : Rules → Entry → TagInUse → Piece
 out_piece rules e use' = record {
   number = use'.piece;
@@ -118,26 +127,33 @@ out_piece rules e use' = record {
   fate = use'.fate;
 }
 
+-- the packet as the layer above sees it
 abbrev pub packet : Entry → Packet
-packet e = record { number = e.number; spot = e.spot; above = e.above }
+packet e = record { number = e.number; spot = e.spot; above = e.above; cancel_routine = e.cancel_routine }
 
+-- the open request of a tag in use
 abbrev pub open_on : Rules → List (Option Held) → TagInUse → OpenRequest
 open_on rules started use' = out_open rules (entry_on started use'.tag) use'
 
+-- the piece of a tag in use
 abbrev pub piece_on : Rules → List (Option Held) → TagInUse → Piece
 piece_on rules started use' = out_piece rules (entry_on started use'.tag) use'
 
+-- something of a packet that waits
 abbrev pub of_waiting : {Y : Type 0} → (Entry → Y) → Held → Y
 of_waiting f held = f (entry_of held)
 
+-- the same of the packet of a tag in use
 abbrev pub of_tag : {Y : Type 0} → (Entry → Y) → List (Option Held) → TagInUse → Y
 of_tag f started use' = f (entry_on started use'.tag)
 
+-- and of a packet that ended
 abbrev pub of_done : {Y : Type 0} → (Entry → Y) → Ended → Y
 of_done f d = f (ended_entry d)
 
 -- WHAT IS SHOWN
 
+-- the open requests: of packets that wait, at the adapter and that ended
 abbrev pub requests_of : Books → AdapterView → List OpenRequest
 requests_of b v =
     map (waiting_open (rules_of b.sizes)) b.waiting
@@ -147,9 +163,11 @@ requests_of b v =
 abbrev pub of_packets : {Y : Type 0} → (Entry → Y) → Books → AdapterView → List Y
 of_packets {Y} f b v = map (of_waiting f) b.waiting ++ (map (of_tag f b.started) v.tags ++ map (of_done f) b.done)
 
+-- all packets as the layer above sees them
 abbrev pub packets_of : Books → AdapterView → List Packet
 packets_of b v = of_packets packet b v
 
+-- the machine
 abbrev pub state_of : Books → AdapterView → State
 state_of b v = record {
   arrays = map (sectors_in v.sectors) (rules_of b.sizes).partitions;
@@ -167,6 +185,7 @@ state_of b v = record {
 abbrev pub most : ℕ
 most = 2 ^ 96
 
+-- all that the port shows
 abbrev pub seen_of : Books → AdapterView → Seen
 seen_of b v = record {
   rules = rules_of b.sizes;

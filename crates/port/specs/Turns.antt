@@ -10,7 +10,7 @@ use Rattle.port.specs.declared.queues.Sizes.{Sizes}
 use Rattle.port.specs.declared.queues.Held.{Held}
 use Rattle.port.specs.declared.queues.Ended.{Ended}
 use Rattle.port.specs.declared.queues.Outcome.{Outcome}
-use Rattle.port.specs.declared.queues.Outcome.TheVariants.{Returned, Flushed, Gone}
+use Rattle.port.specs.declared.queues.Outcome.TheVariants.{Returned, Withdrawn, Gone}
 use Rattle.port.specs.Books.{Entry, Books, held_with, entry_of, ended_entry}
 
 -- nothing is in, and nothing ever was
@@ -52,6 +52,7 @@ pub record Starts (old : Books) (tag piece : ℕ) (srb : Srb) (new : Books) : Ty
   pub same_entry : entry_of sent ≡ entry_of front
   pub after : new ≡ record old { waiting = rest; started = slice_set old.started tag (Some sent); next_piece = old.next_piece + 1 }
 
+-- nothing waits, and nothing changes
 pub record StartsNot (old new : Books) : Type 0 where
   pub none_waits : old.waiting ≡ []
   pub same : new ≡ old
@@ -76,6 +77,7 @@ pub record Leaves (old : Books) (ended : Ended) (new : Books) : Type 0 where
   pub is_front : old.done ≡ ended ∷ rest
   pub after : new ≡ record old { done = rest }
 
+-- nothing has ended, and nothing changes
 pub record LeavesNot (old new : Books) : Type 0 where
   pub none_ended : old.done ≡ []
   pub same : new ≡ old
@@ -84,6 +86,7 @@ pub record LeavesNot (old new : Books) : Type 0 where
 abbrev pub gone : Held → Ended
 gone held = record { irp = held.irp; request = held.request; spot = held.spot; outcome = Gone }
 
+-- the books after a removal
 abbrev pub drained : Books → Books
 drained old = record old { waiting = []; done = old.done ++ map gone old.waiting; removing = true }
 
@@ -91,41 +94,49 @@ drained old = record old { waiting = []; done = old.done ++ map gone old.waiting
 abbrev pub is_cancellable : ℕ → Entry → Bool
 is_cancellable number e = (e.number == number) && not e.cancelled
 
+-- the packet has another number, or is cancelled already
 abbrev pub CannotCancel : ℕ → Entry → Type 0
 CannotCancel number e = IsFalse (is_cancellable number e)
 
+-- the packet is cancelled, and is else as it was
 abbrev pub cancelled : Entry → Entry
 cancelled e = record e { cancelled = true }
 
+-- the same test of a packet that has not ended
 abbrev pub can_cancel_held : ℕ → Held → Bool
 can_cancel_held number held = is_cancellable number (entry_of held)
 
+-- and of one that has
 abbrev pub can_cancel_ended : ℕ → Ended → Bool
 can_cancel_ended number ended = is_cancellable number (ended_entry ended)
 
+-- a packet that has not ended, and that the number does not cancel
 abbrev pub CannotCancelHeld : ℕ → Held → Type 0
 CannotCancelHeld number held = CannotCancel number (entry_of held)
 
+-- one that has ended, and that the number does not cancel
 abbrev pub CannotCancelEnded : ℕ → Ended → Type 0
 CannotCancelEnded number ended = CannotCancel number (ended_entry ended)
 
+-- nobody cancelled the packet
 abbrev pub IsUncancelled : Held → Type 0
 IsUncancelled held = IsFalse held.irp.cancelled
 
--- the packet of this number that waits is flushed; those before and behind it stay
-pub record Flushes (old : Books) (number : ℕ) (new : Books) : Type 0 where
+-- the packet of this number that waits is withdrawn; those before and behind it stay
+pub record Withdraws (old : Books) (number : ℕ) (new : Books) : Type 0 where
   pub before : List Held
   pub held : Held
   pub behind : List Held
-  pub flushed : Ended
+  pub withdrawn : Ended
   pub waits : old.waiting ≡ before ++ held ∷ behind
   pub can : IsTrue (is_cancellable number (entry_of held))
-  pub same_entry : ended_entry flushed ≡ cancelled (entry_of held)
-  pub carries : flushed.irp.payload ≡ held.irp.payload
-  pub ends : flushed.outcome ≡ Flushed
-  pub after : new ≡ record old { waiting = before ++ behind; done = old.done ++ flushed ∷ [] }
+  pub same_entry : ended_entry withdrawn ≡ cancelled (entry_of held)
+  pub carries : withdrawn.irp.payload ≡ held.irp.payload
+  pub ends : withdrawn.outcome ≡ Withdrawn
+  pub after : new ≡ record old { waiting = before ++ behind; done = old.done ++ withdrawn ∷ [] }
 
-pub record FlushesNot (old : Books) (number : ℕ) (new : Books) : Type 0 where
+-- no packet that waits can be cancelled by the number
+pub record WithdrawsNot (old : Books) (number : ℕ) (new : Books) : Type 0 where
   pub none : All (CannotCancelHeld number) old.waiting
   pub same : new ≡ old
 
@@ -138,19 +149,22 @@ pub record CancelsIn (old : Option Held) (number : ℕ) (new : Option Held) : Ty
   pub same_entry : entry_of marked ≡ cancelled (entry_of held)
   pub after : new ≡ Some marked
 
+-- there is none, or the number does not cancel it
 pub record CancelsNotIn (old : Option Held) (number : ℕ) (new : Option Held) : Type 0 where
   pub cannot : (held : Held) → old ≡ Some held → CannotCancelHeld number held
   pub same : new ≡ old
 
--- the packet at this spot of the queue has this number, and is flushed
-pub record FlushesAt (old : Books) (spot number : ℕ) (new : Books) : Type 0 where
-  pub flushes : Flushes old number new
-  pub at_spot : flushes.held.spot ≡ spot
+-- the packet at this spot of the queue has this number, and is withdrawn
+pub record WithdrawsAt (old : Books) (spot number : ℕ) (new : Books) : Type 0 where
+  pub withdraws : Withdraws old number new
+  pub at_spot : withdraws.held.spot ≡ spot
 
+-- the packet is at another spot, or has another number
 abbrev pub IsNotAt : ℕ → ℕ → Held → Type 0
 IsNotAt spot number held = held.spot ≡ spot → held.irp.number ≢ number
 
-pub record FlushesNotAt (old : Books) (spot number : ℕ) (new : Books) : Type 0 where
+-- no packet that waits has this spot and this number
+pub record WithdrawsNotAt (old : Books) (spot number : ℕ) (new : Books) : Type 0 where
   pub none : All (IsNotAt spot number) old.waiting
   pub same : new ≡ old
 
@@ -163,9 +177,11 @@ pub record CancelsOn (old : Books) (tag number : ℕ) (new : Books) : Type 0 whe
   pub same_entry : entry_of marked ≡ cancelled (entry_of held)
   pub after : new ≡ record old { started = slice_set old.started tag (Some marked) }
 
+-- the number does not cancel the packet on a tag
 abbrev pub CannotCancelOn : List (Option Held) → ℕ → ℕ → Type 0
 CannotCancelOn started number tag = (held : Held) → held_on started tag ≡ Some held → CannotCancelHeld number held
 
+-- so it is of this tag, and nothing changes
 pub record CancelsNotOn (old : Books) (tag number : ℕ) (new : Books) : Type 0 where
   pub cannot : CannotCancelOn old.started number tag
   pub same : new ≡ old
@@ -183,6 +199,7 @@ pub record CancelsEnded (old : Books) (number : ℕ) (new : Books) : Type 0 wher
   pub ends : marked.outcome ≡ ended.outcome
   pub after : new ≡ record old { done = (before ++ behind) ++ marked ∷ [] }
 
+-- the number cancels none of those that ended
 pub record CancelsNoEnded (old : Books) (number : ℕ) (new : Books) : Type 0 where
   pub none : All (CannotCancelEnded number) old.done
   pub same : new ≡ old

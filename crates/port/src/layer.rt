@@ -1,5 +1,5 @@
 // The port as a layer of the stack.
-ghost use Rattle.std.specs.Prelude.{⊤, map, ◌≡◌, ◌≢◌, ◌<◌, ◌≤◌, ◌*◌, ◌+◌, ◌^◌, ℕ, Bool, true, List, [], ◌∷◌, length, OnOk, MatchBool};
+ghost use Rattle.std.specs.Prelude.{⊤, map, ◌≡◌, ◌≢◌, ◌<◌, ◌≤◌, ◌*◌, ◌+◌, ◌^◌, ℕ, Bool, true, List, [], ◌∷◌, length, OnOk, OnErr, MatchBool};
 ghost use Rattle.adapter.specs.View.{IsInOrder, IsReserved, ReservesMore};
 ghost use Rattle.machine.specs.declared.Kind.TheVariants.{Write};
 ghost use Rattle.machine.specs.declared.Request.{Request};
@@ -8,7 +8,7 @@ ghost use Rattle.machine.specs.Rules.{as_client};
 ghost use Rattle.device.specs.Served.{information as information_of};
 ghost use Rattle.port.specs.Cancelling.{CancelsQueued, CancelsAt, CancelsNotAt, CancelsNoStarted};
 ghost use Rattle.port.specs.Shown.{seen_of, rules_of};
-ghost use Rattle.port.specs.Turns.{FlushesNotAt};
+ghost use Rattle.port.specs.Turns.{WithdrawsNotAt};
 ghost use Rattle.linked.specs.Queue.{VisitsAtMost};
 ghost use Rattle.port.specs.Kept.{IsInHand, IsKept};
 ghost use Rattle.port.specs.Releases.{Releases, AreLowerInUse};
@@ -55,7 +55,7 @@ impl<A: Adapter> Port<A> {
         }
     }
 
-    /// Has the adapter make room for a write; other requests need none.
+    /// Has the adapter make room for a write; other requests need none, and are not refused.
     fn reserve_extent(&mut self, request: &Request) -> Result<(), AllocError>
         requires inside { request.now.extent.first + request.now.extent.count ≤ length (A.view self.old.adapter).sectors }
         requires order { IsInOrder (A.view self.old.adapter) }
@@ -63,14 +63,12 @@ impl<A: Adapter> Port<A> {
         ensures reserved { OnOk result (request.now.kind ≡ Write → IsReserved (A.view self.new.adapter) request.now.extent) }
         ensures reserves { ReservesMore (A.view self.old.adapter) (A.view self.new.adapter) }
         ensures order { IsInOrder (A.view self.new.adapter) }
+        ensures refused { OnErr result (request.now.kind ≡ Write) }
     {
         if request.kind != Kind::Write {
             return Ok(());
         }
-        let Ok(()) = self.adapter.reserve(request.extent) else {
-            return Err(AllocError);
-        };
-        Ok(())
+        self.adapter.reserve(request.extent)
     }
 
     /// Cancels the packet that waits at this spot, where it has this number; false where none does. At most three entries
@@ -79,10 +77,10 @@ impl<A: Adapter> Port<A> {
         requires in_order { (rooms : List Request) × IsInHand (books_of self.old.queues) (A.view self.old.adapter) rooms }
         ensures rooms { (rooms : List Request) → IsInHand (books_of self.old.queues) (A.view self.old.adapter) rooms → IsInHand (books_of self.new.queues) (A.view self.new.adapter) rooms }
         ensures adapter { A.view self.new.adapter ≡ A.view self.old.adapter }
-        ensures cancels { MatchBool result (CancelsQueued (books_of self.old.queues) (A.view self.old.adapter) spot number (books_of self.new.queues)) (FlushesNotAt (books_of self.old.queues) spot number (books_of self.new.queues)) }
+        ensures cancels { MatchBool result (CancelsQueued (books_of self.old.queues) (A.view self.old.adapter) spot number (books_of self.new.queues)) (WithdrawsNotAt (books_of self.old.queues) spot number (books_of self.new.queues)) }
         ensures visits { VisitsAtMost 3 (visits_of self.old.queues) (visits_of self.new.queues) }
     {
-        self.queues.flush_at(spot, number)
+        self.queues.withdraw_at(spot, number)
     }
 
     /// Cancels the packet on this tag, where the tag is in use and the packet has this number and is not cancelled yet.
@@ -195,7 +193,7 @@ impl<A: Adapter> Device for Port<A> {
     }
 
     fn cancel(&mut self, number: u128) {
-        if self.queues.flush(number) {
+        if self.queues.withdraw(number) {
             return;
         }
         if self.cancel_started(number) {

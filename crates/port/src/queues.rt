@@ -29,7 +29,7 @@ pub enum Outcome {
     /// Its piece came back.
     Returned(Class),
     /// It was cancelled while it waited (WDK: SRB_STATUS_REQUEST_FLUSHED).
-    Flushed,
+    Withdrawn,
     /// It waited when the device was removed (WDK: SRB_STATUS_NO_DEVICE).
     Gone,
 }

@@ -1,6 +1,6 @@
 //! Runs of a port over an adapter in memory, each call by the contract of a layer.
 
-ghost use Rattle.std.specs.Prelude.{◌≡◌, ◌≤◌, ◌<◌, ◌+◌, ◌^◌, ◌∷◌, [], true, false, length, IfOk, OnOk};
+ghost use Rattle.std.specs.Prelude.{◌≡◌, ◌≤◌, ◌<◌, ◌+◌, ◌^◌, ◌∷◌, [], true, false, length, IfOk, OnOk, if◌then◌else◌};
 ghost use Rattle.device.specs.Seen.{AsksFor, IsBounded, whole_command};
 ghost use Rattle.port.specs.Client.{IsReady, four_sectors};
 
@@ -18,10 +18,13 @@ use srb::{Class, CommandBlock, DeviceLabel, Srb, SrbFlags, SrbFunction};
 use std::process::Abort;
 use std::test::Fail;
 
-/// The next number to be given, and whether the device is removed.
+/// What a client knows.
 #[derive(Drop)]
 struct Client {
+    /// The next number to be given.
     next: u64,
+    /// The spot of the last packet that was submitted.
+    spot: usize,
     removed: bool,
 }
 
@@ -84,16 +87,21 @@ fn srb_for(alloc: Global, request: &Request) -> Result<Srb, AllocError>
     })
 }
 
-/// The port's own location, which asks for nothing.
-fn own_location() -> StackLocation {
+/// The port's own location, which asks for the request.
+fn own_location(request: &Request) -> StackLocation
+    ensures major { result.major ≡ MajorFunction.InternalDeviceControl }
+    ensures flags { result.flags.0 ≡ (if request.now.through then 0x04 else 0) }
+    ensures volume { result.volume ≡ request.now.volume }
+    ensures extent { result.extent ≡ request.now.extent }
+{
     StackLocation {
         driver: Driver::Port,
         major: MajorFunction::InternalDeviceControl,
         minor: None,
         control: Control(0),
-        flags: LocationFlags(0),
-        volume: 0,
-        extent: Extent { first: 0, count: 0 },
+        flags: LocationFlags(if request.through { 0x04 } else { 0 }),
+        volume: request.volume,
+        extent: request.extent,
     }
 }
 
@@ -125,9 +133,9 @@ fn submit<D: Device>(
     };
     let srb = srb_for(alloc, &request)?;
     let mut irp = Irp::new(client.next as u128, Payload::Srb(srb));
-    irp.next_location(own_location());
+    irp.next_location(own_location(&request));
     let room = device.reserve(&request)?;
-    device.submit(irp, room);
+    client.spot = device.submit(irp, room);
     client.next += 1;
     Ok(())
 }
@@ -233,6 +241,20 @@ fn take_done<D: Device>(device: &mut D, client: &Client) -> Option<Done>
     }
 }
 
+/// Cancels by a spot; then the packet that comes up, finished, and its room given back.
+fn cancel_at<D: Device>(device: &mut D, spot: usize, number: u128) -> Option<Done>
+    requires { D.rooms_out device.old [] }
+    ensures { D.rooms_out device.new [] }
+{
+    device.cancel_at(spot, number);
+    let (climb, room) = device.take_done()?;
+    device.free(room);
+    match climb {
+        Climb::Finished(done) => Some(done),
+        Climb::Routine { driver: _, irp: _ } => None,
+    }
+}
+
 /// One step, and what it must answer.
 fn try_step<D: Device>(
     rt: &impl Abort,
@@ -314,6 +336,7 @@ fn new_client() -> Client
 {
     Client {
         next: 1,
+        spot: 0,
         removed: false,
     }
 }
@@ -415,6 +438,47 @@ fn cancels_and_removes(rt: HostRuntime) -> Result<(), Fail> {
             Step::NoneDone,
         ],
     )
+}
+
+// The fourth packet gets the spot that the third one left: the old number finds nothing there, the new one cancels.
+#[test]
+fn cancels_at_a_spot_used_again(rt: HostRuntime) -> Result<(), Fail> {
+    let mut port = port(rt.alloc())?;
+    let mut client = new_client();
+    try_all(
+        &rt,
+        rt.alloc(),
+        &mut port,
+        &mut client,
+        &[
+            Step::Submit(Kind::Read, 0, 1),
+            Step::Submit(Kind::Read, 0, 1),
+            Step::Submit(Kind::Read, 0, 1),
+        ],
+    )?;
+    let spot = client.spot;
+    try_all(
+        &rt,
+        rt.alloc(),
+        &mut port,
+        &mut client,
+        &[
+            Step::Cancel(3),
+            Step::Done(3, NtStatus::Cancelled),
+            Step::Submit(Kind::Read, 0, 1),
+            Step::NoneDone,
+        ],
+    )?;
+    assert_eq!(rt; client.spot, spot);
+    for (number, want) in &[(3, None), (4, Some((4, NtStatus::Cancelled))), (4, None)] {
+        let done = cancel_at(&mut port, spot, *number);
+        assert_eq!(rt;
+            done.map(|done| (done.number, done.status)),
+            *want,
+            "{number}"
+        );
+    }
+    Ok(())
 }
 
 // A reset with one piece that acted and one that did nothing: both come back as bad.

@@ -1,9 +1,9 @@
 // What the queues do.
-ghost use Rattle.std.specs.Prelude.{◌≡◌, ◌==◌, ◌&&◌, not, ◌<◌, ◌≤◌, ◌+◌, ◌^◌, ◌-◌, ℕ, [], All, Option, Some, None, IfOk, IsSome, OnOk, OnErr, IsTrue, MatchBool, MatchOption, length, position};
+ghost use Rattle.std.specs.Prelude.{◌≡◌, ◌==◌, ◌&&◌, not, ◌<◌, ◌≤◌, ◌+◌, ◌^◌, ◌-◌, ℕ, [], All, Option, Some, None, IfOk, IsOk, IsSome, OnOk, OnErr, IsTrue, MatchBool, MatchOption, length, position};
 ghost use Rattle.irp.specs.declared.Payload.TheVariants.{Srb as Packed};
 ghost use Rattle.machine.specs.declared.Request.{Request};
-ghost use Rattle.port.specs.Books.{books_of, visits_of, entry, entry_of};
-ghost use Rattle.port.specs.Turns.{IsEmpty, IsPacked, Queued, cancelled, can_cancel_held, can_cancel_ended, held_on, Starts, StartsNot, Ends, Leaves, LeavesNot, drained, IsUncancelled, Flushes, FlushesNot, FlushesAt, FlushesNotAt, CancelsIn, CancelsNotIn, CancelsOn, CancelsNotOn, CancelsEnded, CancelsNoEnded};
+ghost use Rattle.port.specs.Books.{books_of, visits_of, entry, entry_of, HasRoomForMore};
+ghost use Rattle.port.specs.Turns.{IsEmpty, IsPacked, Queued, cancelled, can_cancel_held, can_cancel_ended, held_on, Starts, StartsNot, Ends, Leaves, LeavesNot, drained, IsUncancelled, Withdraws, WithdrawsNot, WithdrawsAt, WithdrawsNotAt, CancelsIn, CancelsNotIn, CancelsOn, CancelsNotOn, CancelsEnded, CancelsNoEnded};
 ghost use Rattle.port.specs.Shown.{status_left};
 ghost use Rattle.linked.specs.Queue.{VisitsAtMost};
 
@@ -25,13 +25,13 @@ impl Outcome {
             Outcome::Returned(Class::Good) => NtStatus::Success,
             Outcome::Returned(Class::Busy) => NtStatus::DeviceBusy,
             Outcome::Returned(Class::Bad(completion)) => completion.status(),
-            Outcome::Flushed => NtStatus::from_device(SrbStatus::RequestFlushed.code(), 0, None),
+            Outcome::Withdrawn => NtStatus::from_device(SrbStatus::RequestFlushed.code(), 0, None),
             Outcome::Gone => NtStatus::from_device(SrbStatus::NoDevice.code(), 0, None),
         }
     }
 }
 
-/// Takes the SRB out of a packet that carries one.
+/// Takes the SRB out of a packet that carries one; all else of the packet stays, its cancel routine too.
 fn take_srb(held: &mut Held) -> Srb
     requires { IsPacked held.old }
     ensures srb { held.old.irp.payload ≡ Packed result }
@@ -43,7 +43,7 @@ fn take_srb(held: &mut Held) -> Srb
     }
 }
 
-/// Cancels the packet, whatever becomes of it.
+/// Cancels the packet, whatever becomes of it; its cancel routine stays, and nobody is told.
 fn mark_cancelled(irp: &mut Irp)
     ensures entry { (request : Request) (spot : ℕ) → entry irp.new request spot ≡ cancelled (entry irp.old request spot) }
     ensures payload { irp.new.payload ≡ irp.old.payload }
@@ -95,16 +95,21 @@ impl Queues {
     }
 
     /// Makes a place for one more packet.
+    ///
+    /// # Errors
+    ///
+    /// [`AllocError`] where a queue has no room for it, and memory was refused.
     pub fn add_place(&mut self) -> Result<(), AllocError>
+        requires { length (books_of self.old).waiting + length (books_of self.old).done ≤ (books_of self.old).places }
         ensures added { OnOk result (books_of self.new ≡ record (books_of self.old) { places = (books_of self.old).places + 1 }) }
         ensures refused { OnErr result (books_of self.new ≡ books_of self.old) }
+        ensures succeeds { HasRoomForMore self.old → IsOk result }
     {
         let Some(places) = self.places.checked_add(1) else {
             return Err(AllocError);
         };
-        self.waiting
-            .reserve(places.saturating_sub(self.waiting.len()))?;
-        self.done.reserve(places.saturating_sub(self.done.len()))?;
+        self.waiting.reserve(places - self.waiting.len())?;
+        self.done.reserve(places - self.done.len())?;
         self.places = places;
         Ok(())
     }
@@ -204,30 +209,30 @@ impl Queues {
             .position(|ended| is_cancellable(&ended.irp, number))
     }
 
-    /// The packet of this number is flushed, where it waits.
-    pub fn flush(&mut self, number: u128) -> bool
+    /// The packet of this number ends as cancelled, where it waits (WDK: SRB_STATUS_REQUEST_FLUSHED).
+    pub fn withdraw(&mut self, number: u128) -> bool
         requires places { length (books_of self.old).waiting + length (books_of self.old).done ≤ (books_of self.old).places }
         requires not_cancelled { All IsUncancelled (books_of self.old).waiting }
-        ensures { MatchBool result (Flushes (books_of self.old) number (books_of self.new)) (FlushesNot (books_of self.old) number (books_of self.new)) }
+        ensures { MatchBool result (Withdraws (books_of self.old) number (books_of self.new)) (WithdrawsNot (books_of self.old) number (books_of self.new)) }
     {
         let Some(spot) = self.waiting.find(number) else {
             return false;
         };
-        self.flush_at(spot, number)
+        self.withdraw_at(spot, number)
     }
 
-    /// The packet at this spot of the queue is flushed, where it has this number.
-    pub fn flush_at(&mut self, spot: usize, number: u128) -> bool
+    /// The packet at this spot of the queue ends as cancelled, where it has this number.
+    pub fn withdraw_at(&mut self, spot: usize, number: u128) -> bool
         requires places { length (books_of self.old).waiting + length (books_of self.old).done ≤ (books_of self.old).places }
         requires not_cancelled { All IsUncancelled (books_of self.old).waiting }
-        ensures flushes { MatchBool result (FlushesAt (books_of self.old) spot number (books_of self.new)) (FlushesNotAt (books_of self.old) spot number (books_of self.new)) }
+        ensures withdraws { MatchBool result (WithdrawsAt (books_of self.old) spot number (books_of self.new)) (WithdrawsNotAt (books_of self.old) spot number (books_of self.new)) }
         ensures visits { VisitsAtMost 3 (visits_of self.old) (visits_of self.new) }
     {
         let Some(Waiting { mut irp, request }) = self.waiting.remove_number(spot, number) else {
             return false;
         };
         mark_cancelled(&mut irp);
-        let outcome = Outcome::Flushed;
+        let outcome = Outcome::Withdrawn;
         self.done.push_back_reserved(Ended {
             irp,
             request,

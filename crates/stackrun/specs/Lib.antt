@@ -1,11 +1,4 @@
 pub mod CommandLine
-pub mod Events
 pub mod Faults
-pub mod Lengths
-pub mod PartitionTable
-pub mod Printing
-pub mod Script
-pub mod Settings
-pub mod SettingsFaults
-pub mod Started
+pub mod Input
 pub mod Trace

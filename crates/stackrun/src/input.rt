@@ -1,5 +1,9 @@
 //! A file that may not be there.
 
+ghost use Rattle.std.specs.Prelude.{◌≡◌, MatchResult};
+ghost use Rattle.std.specs.IoError.{error_kind};
+ghost use Rattle.stackrun.specs.declared.input.Input.TheVariants.{Opened, Refused};
+
 use std::fs::File;
 use std::io;
 use std::io::{ErrorKind, Read};
@@ -12,7 +16,23 @@ pub enum Input<F: Read + Drop> {
     Refused(ErrorKind),
 }
 
+impl<F: Read + Drop> Input<F> {
+    /// What became of opening a file.
+    pub fn of(opened: io::Result<F>) -> Input<F>
+        ensures { MatchResult opened (λ file. result ≡ Opened file) (λ error. result ≡ Refused (error_kind error)) }
+    {
+        match opened {
+            Ok(file) => Input::Opened(file),
+            Err(error) => Input::Refused(error.kind()),
+        }
+    }
+}
+
 impl<F: Read + Drop> Read for Input<F> {
+    ghost use Rattle.stackrun.specs.Input.{remaining_of};
+
+    ghost remaining = { remaining_of F.remaining };
+
     fn read(&mut self, buf: &mut [u8]) -> io::Result<usize> {
         match self {
             Input::Opened(file) => file.read(buf),
@@ -23,8 +43,5 @@ impl<F: Read + Drop> Read for Input<F> {
 
 /// Opens a file for its reads.
 pub fn open<R: Files>(rt: &R, path: &str) -> Input<R::File> {
-    match File::open(rt, path) {
-        Ok(file) => Input::Opened(file),
-        Err(error) => Input::Refused(error.kind()),
-    }
+    Input::of(File::open(rt, path))
 }

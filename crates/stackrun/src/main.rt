@@ -1,60 +1,51 @@
 //! The program: runs a script of events through a stack over a disk in memory, and prints the trace.
 //!
-//! It promises, by the contract of [`trace::trace`] (`text`), that a run which ends with status 0 has printed just the
-//! text of its script's run over the stack that its settings start. Below that: by [`config::config`] (`settings`,
-//! `fault`), that settings which were accepted are those of the document, each in its range, or its default, and that a
-//! document is refused for its first fault, or for want of memory; by [`script::lines`] (`events`, `fault`), that the
-//! lines of a script are read as the events that they ask for, or that the first bad one is named; by [`start::start`]
-//! (`view`, `fault`), that the stack is the one of the settings; by [`words::command`], that the two paths are those
-//! that the parser of the command line found under their names. Which of several inputs is blamed first, and the texts
-//! of faults, are tested and not proved.
+//! It promises, by the contract of [`trace::trace`] (`text`), that a run that succeeds has printed just the text of its
+//! script's run over the stack that its settings start; by [`words::command`], that the two paths are those that the
+//! parser of the command line found under their names; by [`ending::ended`] and [`ending::say`], the exit status and the
+//! line of each fault. Settings and scripts themselves are of the crates `settings` and `script`. Which of several
+//! inputs is blamed first is tested and not proved, and no contract says what a file holds.
 #![tactic(auto)]
 
-mod config;
+mod ending;
 mod faults;
 mod input;
-mod lengths;
-mod printing;
-mod runs;
-mod script;
-mod start;
 #[cfg(test)]
 mod tests;
 mod trace;
 mod words;
 
+use crate::ending::ended;
+use crate::faults::Fault;
 use crate::trace::trace;
-use crate::words::asked::{Command, CommandFault};
+use crate::words::asked::Command;
 use crate::words::command;
 use std::env;
+use std::io::BufWriter;
 use std::process::ExitCode;
 
-/// Says on standard error why nothing was run, and gives the exit status.
-fn refused(rt: &impl Eprint, fault: CommandFault) -> ExitCode {
-    let status = match fault {
-        CommandFault::Usage => 2,
-        CommandFault::NoMemory => 1,
+/// Bytes of output that are written at once.
+const BUFFER: usize = 65_536;
+
+/// Does what the command line asks for.
+fn run(rt: &HostRuntime) -> Result<(), Fault> {
+    let alloc = rt.alloc();
+    let words = match env::args(rt) {
+        Ok(words) => words.collect::<Vec<String>>(alloc)?,
+        Err(error) => return Err(Fault::of_words(&error)),
     };
-    // Nobody is left to hear of a fault of this writer.
-    let _ = eprintln!(rt; "{fault}");
-    ExitCode::from(status)
+    match command(alloc, words.as_slice())? {
+        Command::Trace { config, script } => {
+            let config = input::open(rt, config);
+            let script = input::open(rt, script);
+            let Ok(mut out) = BufWriter::with_capacity(alloc, BUFFER, rt.stdout()) else {
+                return Err(Fault::NoMemory);
+            };
+            trace(alloc, config, script, &mut out)
+        }
+    }
 }
 
 fn main(rt: HostRuntime) -> ExitCode {
-    let alloc = rt.alloc();
-    let given = match env::args(&rt) {
-        Ok(words) => words.collect::<Vec<String>>(alloc),
-        Err(error) => return refused(&rt, CommandFault::of_words(&error)),
-    };
-    let Ok(words) = given else {
-        return refused(&rt, CommandFault::NoMemory);
-    };
-    match command(alloc, words.as_slice()) {
-        Ok(Command::Trace { config, script }) => {
-            let config = input::open(&rt, config);
-            let script = input::open(&rt, script);
-            ExitCode::from(trace(alloc, config, script, rt.stdout(), rt.stderr()))
-        }
-        Err(fault) => refused(&rt, fault),
-    }
+    ExitCode::from(ended(run(&rt), &mut rt.stderr()))
 }

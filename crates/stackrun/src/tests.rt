@@ -1,10 +1,11 @@
-//! What no contract says: printed text, the order of faults, and what a failed read or write gives.
+//! What no contract says: the order of faults, what a failed read or write gives, and traces as they are printed.
 
+mod endings;
 mod given;
-mod settings;
 mod traces;
 
-use crate::words::asked::{Command, CommandFault};
+use crate::faults::Fault;
+use crate::words::asked::Command;
 use crate::words::command;
 use std::test::Fail;
 
@@ -42,7 +43,7 @@ fn refuses_other_command_lines(rt: HostRuntime) {
         unknown.as_slice(),
     ];
     for words in lines {
-        let refused = command(alloc, words) == Err(CommandFault::Usage);
+        let refused = command(alloc, words) == Err(Fault::Usage);
         assert!(rt; refused, "at {words:?}");
     }
 }

@@ -1,85 +1,53 @@
-//! A script run through a stack, and its trace in print.
+//! A script run through the stack of its settings, and its trace in print.
 
-ghost use Rattle.std.specs.Prelude.{◌≡◌, ◌⊎◌, ◌++◌, [], IfErr, IfOk, OnOk, MatchResult, codes, replicate};
-ghost use Rattle.std.specs.Io.KnownBytes.{Appends};
-ghost use Rattle.toml.specs.Data.{Members};
-ghost use Rattle.compose.specs.declared.Refusal.TheVariants.{InsufficientResources};
-ghost use Rattle.compose.specs.declared.Reply.TheVariants.{Refused};
-ghost use Rattle.stackrun.specs.Events.{AreNamed, IsEventOf, IsReplyTo, Keeps, KeepsHandle, handle_of};
-ghost use Rattle.stackrun.specs.Printing.{labels_text, line_end};
-ghost use Rattle.stackrun.specs.Settings.{AreSettings};
-ghost use Rattle.stackrun.specs.Trace.{AreRead, IsAllOf, IsAllTaken, IsCarriedOut, IsLinePlayed, IsPrintFault, IsPrintOf, IsTrace, Prints, left_by, waiting_after_all, without_labels};
+ghost use Rattle.std.specs.Prelude.{IfOk, OnOk};
+ghost use Rattle.script.specs.Trace.{Prints};
+ghost use Rattle.settings.specs.InRange.{AreInRange};
+ghost use Rattle.stackrun.specs.Trace.{AreRead, IsAllOf, IsPrintOf};
 
-use crate::config::config;
-use crate::config::values::{Config, ConfigFault};
 use crate::faults::Fault;
-use crate::lengths::Lengths;
-use crate::printing::{write_label, write_reply};
-use crate::script::{Line, Order, lines};
-use crate::start::start;
-use compose::{Event, Handle, Refusal, Reply, Stack};
-use device::Label;
-use miniport::Adapter;
-use sector::Bytes;
-use std::alloc::{AllocError, Global};
-use std::collections::BTreeMap;
-use std::io;
-use std::io::{BufWriter, Read, Write};
-
-/// Bytes of output that are written at once.
-const BUFFER: usize = 65_536;
-
-/// Tags that an adapter can have.
-const TAGS: u64 = 32;
+use script::{ScriptFault, lines, play};
+use settings::document::config;
+use settings::{Config, ConfigFault, start};
+use std::alloc::Global;
+use std::io::{Read, Write};
 
 /// Runs a script through a stack over a disk in memory, and writes what comes of each event.
 ///
-/// Answers the exit status: 0, or 1 after a line about a fault, which goes to `faults`.
-pub fn trace<C: Read + Drop, S: Read + Drop, O: Write + Drop, F: Write + Drop>(
+/// # Errors
+///
+/// The first of these that fits: the settings can't be read, or are refused; the script can't be read, or has a bad
+/// line; no stack of the settings could be started; `out` failed, after a beginning of the text. [`Fault::NoMemory`], or
+/// that of the step, in place of any of them, where memory was refused.
+pub fn trace<C: Read + Drop, S: Read + Drop, O: Write>(
     alloc: Global,
     config: C,
     script: S,
-    out: O,
-    mut faults: F,
-) -> u8
-    ensures status { (result ≡ 0) ⊎ (result ≡ 1) }
-    ensures text { result ≡ 0 → (last : O) × Prints (O.contents out) (O.contents last) (IsPrintOf (C.remaining config) (S.remaining script)) }
-{
-    match run(alloc, config, script, out) {
-        Ok(_) => 0,
-        Err(fault) => {
-            // Nobody is left to hear of a fault of this writer.
-            let _ = writeln!(faults, "{fault}");
-            let _ = faults.flush();
-            1
-        }
-    }
-}
-
-fn run<C: Read + Drop, S: Read + Drop, O: Write + Drop>(
-    alloc: Global,
-    config: C,
-    script: S,
-    out: O,
-) -> Result<O, Fault>
-    ensures text { IfOk result (λ last. Prints (O.contents out) (O.contents last) (IsPrintOf (C.remaining config) (S.remaining script))) }
+    out: &mut O,
+) -> Result<(), Fault>
+    ensures text { OnOk result (Prints (O.contents out.old) (O.contents out.new) (IsPrintOf (C.remaining config) (S.remaining script))) }
 {
     let config = settings(alloc, config)?;
     let script = contents(alloc, script, Fault::ScriptUnreadable)?;
     let Ok(text) = std::str::from_utf8(script.as_slice()) else {
-        return Err(Fault::BadLine(1));
+        return Err(Fault::Script(ScriptFault::BadLine { line: 1 }));
     };
     let lines = lines(alloc, text)?;
     let mut stack = start(alloc, config)?;
-    let Ok(mut out) = BufWriter::with_capacity(alloc, BUFFER, out) else {
-        return Err(Fault::NoMemory);
+    play(alloc, &mut stack, lines.as_slice(), out)?;
+    Ok(())
+}
+
+/// The settings that an input gives.
+fn settings<R: Read + Drop>(alloc: Global, input: R) -> Result<Config, Fault>
+    ensures in_range { IfOk result AreInRange }
+    ensures read { IfOk result (AreRead (R.remaining input)) }
+{
+    let bytes = contents(alloc, input, Fault::ConfigUnreadable)?;
+    let Ok(text) = std::str::from_utf8(bytes.as_slice()) else {
+        return Err(Fault::Settings(ConfigFault::NotToml));
     };
-    play(alloc, &mut stack, lines.as_slice(), &mut out)?;
-    let Ok(mut out) = out.into_inner() else {
-        return Err(Fault::OutputFailed);
-    };
-    out.flush()?;
-    Ok(out)
+    Ok(config(alloc, text)?)
 }
 
 /// All bytes of an input.
@@ -94,191 +62,5 @@ fn contents<R: Read + Drop>(
     match input.read_to_end(&mut bytes) {
         Ok(_) => Ok(bytes),
         Err(error) => Err(Fault::of_read(&error, unreadable)),
-    }
-}
-
-fn settings<R: Read + Drop>(alloc: Global, input: R) -> Result<Config, Fault>
-    ensures settings { IfOk result (λ config. (document : Members) × AreSettings document config) }
-    ensures read { IfOk result (AreRead (R.remaining input)) }
-{
-    let bytes = contents(alloc, input, Fault::ConfigUnreadable)?;
-    match std::str::from_utf8(bytes.as_slice()) {
-        Ok(text) => config(alloc, text).map_err(Fault::Config),
-        Err(_) => Err(Fault::Config(ConfigFault::NotToml)),
-    }
-}
-
-/// Runs the lines of a script through a stack of which all labels were taken.
-fn play<A: Adapter, W: Write>(
-    alloc: Global,
-    stack: &mut Stack<A>,
-    lines: &[Line<'_>],
-    out: &mut W,
-) -> Result<(), Fault>
-    requires taken { IsAllTaken stack.old }
-    ensures text { OnOk result (Prints (W.contents out.old) (W.contents out.new) (λ text. IsTrace stack.old lines.now text stack.new)) }
-    ensures fault { IfErr result IsPrintFault }
-{
-    let mut handles = BTreeMap::new(alloc);
-    let mut lengths = Lengths::new(alloc)?;
-    for line in lines {
-        play_line(alloc, stack, line, &mut handles, &mut lengths, out)?;
-    }
-    Ok(())
-}
-
-/// Carries out what a line asks for, and writes the line, the reply and the labels.
-fn play_line<A: Adapter, W: Write>(
-    alloc: Global,
-    stack: &mut Stack<A>,
-    line: &Line<'_>,
-    handles: &mut BTreeMap<u64, Handle>,
-    lengths: &mut Lengths,
-    out: &mut W,
-) -> Result<(), Fault>
-    requires taken { IsAllTaken stack.old }
-    requires named { AreNamed handles.old }
-    ensures named { OnOk result (AreNamed handles.new) }
-    ensures text { OnOk result (Prints (W.contents out.old) (W.contents out.new) (λ text. IsLinePlayed (record { stack = stack.old; handles = handles.old; waiting = lengths.old }) line.now text (record { stack = stack.new; handles = handles.new; waiting = lengths.new }))) }
-    ensures fault { IfErr result IsPrintFault }
-{
-    let reply = carry_out(alloc, stack, line.order, handles);
-    write_line(out, line.text)?;
-    write_reply(out, &reply)?;
-    keep_given(handles, &reply)?;
-    write_labels(stack, out, lengths)?;
-    Ok(())
-}
-
-/// Writes a line of the script.
-fn write_line<W: Write>(out: &mut W, text: &str) -> io::Result<()>
-    ensures { OnOk result (Appends (W.contents out.old) (W.contents out.new) (codes "> " ++ (text.now ++ line_end))) }
-{
-    writeln!(out, "> {text}")
-}
-
-/// Carries out what a line asks for.
-fn carry_out<A: Adapter>(
-    alloc: Global,
-    stack: &mut Stack<A>,
-    order: Order,
-    handles: &BTreeMap<u64, Handle>,
-) -> Reply
-    requires taken { IsAllTaken stack.old }
-    requires named { AreNamed handles.now }
-    ensures { IsCarriedOut handles.now order stack.old result stack.new }
-{
-    match event(alloc, order, handles) {
-        Ok(event) => stack.step(alloc, event),
-        Err(reply) => reply,
-    }
-}
-
-/// Writes all labels that a stack has not given yet, and takes the answers that go with them.
-fn write_labels<A: Adapter, W: Write>(
-    stack: &mut Stack<A>,
-    out: &mut W,
-    lengths: &mut Lengths,
-) -> Result<(), Fault>
-    ensures taken { OnOk result (stack.new ≡ without_labels stack.old) }
-    ensures text { OnOk result (Appends (W.contents out.old) (W.contents out.new) (labels_text lengths.old stack.old.labels)) }
-    ensures waiting { OnOk result (lengths.new ≡ waiting_after_all lengths.old stack.old.labels) }
-    ensures fault { IfErr result IsPrintFault }
-{
-    while let Some(label) = stack.take_label() {
-        write_label(out, &label, lengths)?;
-        take_answer_of(stack, label);
-    }
-    Ok(())
-}
-
-/// Takes the answer that goes with a label, if one does.
-#[tactic(auto, using(crate::proofs::PrintedLabels::answer_taken))]
-fn take_answer_of<A: Adapter>(stack: &mut Stack<A>, label: Label)
-    ensures { stack.new ≡ record stack.old { answers = left_by label stack.old.answers } }
-{
-    if let Label::Answer { .. } = label {
-        let _ = stack.take_answer();
-    }
-}
-
-/// The event of an order, or the reply to one that can't be made.
-fn event(alloc: Global, order: Order, handles: &BTreeMap<u64, Handle>) -> Result<Event, Reply>
-    requires { AreNamed handles.now }
-    ensures { MatchResult result (IsEventOf handles.now order) (IsReplyTo order) }
-{
-    match order {
-        Order::Open { partition } => Ok(Event::Open {
-            partition: u8::try_from(partition).unwrap_or(u8::MAX),
-        }),
-        Order::Read {
-            handle,
-            offset,
-            length,
-        } => Ok(Event::Read {
-            handle: handle_of(handle, handles),
-            offset,
-            buffer: filled(alloc, 0, length)?,
-        }),
-        Order::Write {
-            handle,
-            offset,
-            length,
-            byte,
-        } => Ok(Event::Write {
-            handle: handle_of(handle, handles),
-            offset,
-            bytes: filled(alloc, byte, length)?,
-        }),
-        Order::Act { tag } if tag < TAGS => Ok(Event::Act { tag: tag as u8 }),
-        Order::Finish { tag } if tag < TAGS => Ok(Event::Finish { tag: tag as u8 }),
-        Order::Act { .. } | Order::Finish { .. } => Err(Reply::Ignored),
-    }
-}
-
-/// Keeps the handle that a reply gives, if it gives one.
-fn keep_given(handles: &mut BTreeMap<u64, Handle>, reply: &Reply) -> Result<(), AllocError>
-    requires { AreNamed handles.old }
-    ensures named { OnOk result (AreNamed handles.new) }
-    ensures given { OnOk result (Keeps reply.now handles.old handles.new) }
-{
-    match reply {
-        Reply::Handle(handle) => keep_handle(handles, *handle),
-        _ => Ok(()),
-    }
-}
-
-/// Keeps a handle under its number.
-fn keep_handle(handles: &mut BTreeMap<u64, Handle>, handle: Handle) -> Result<(), AllocError>
-    requires { AreNamed handles.old }
-    ensures named { OnOk result (AreNamed handles.new) }
-    ensures kept { OnOk result (KeepsHandle handle handles.old handles.new) }
-{
-    handles.insert(handle.number, handle)?;
-    Ok(())
-}
-
-/// The handle of a number; one that isn't there, where the number was not given out.
-fn handle_of(number: u64, handles: &BTreeMap<u64, Handle>) -> Handle
-    requires { AreNamed handles.now }
-    ensures handle { result ≡ handle_of handles.now number }
-    ensures number { result.number ≡ number }
-{
-    match handles.get(&number) {
-        Some(handle) => *handle,
-        None => Handle { slot: 0, number },
-    }
-}
-
-/// So many equal bytes, or the reply where memory for them is refused.
-fn filled(alloc: Global, byte: u8, length: u64) -> Result<Bytes, Reply>
-    ensures { MatchResult result (λ bytes. bytes ≡ replicate length byte) (λ reply. reply ≡ Refused InsufficientResources []) }
-{
-    match vec![in alloc; byte; length as usize] {
-        Ok(bytes) => Ok(Bytes::new(bytes)),
-        Err(_) => Err(Reply::Refused {
-            refusal: Refusal::InsufficientResources,
-            bytes: Bytes::new(Vec::new(alloc)),
-        }),
     }
 }

@@ -2,12 +2,15 @@
 
 pub mod asked;
 
-ghost use Rattle.std.specs.Prelude.{◌≡◌, IfOk, false, map};
+ghost use Rattle.std.specs.Prelude.{◌≡◌, ◌≢◌, ◌⊎◌, IfErr, IfOk, false, map};
 ghost use Rattle.clap.specs.Words.{app_of, found_of, rule_of, subcommand_rows_of};
 ghost use Rattle.clap.specs.Walk.{rows_of};
+ghost use Rattle.clap.specs.declared.error.ErrorKind.TheVariants.{OutOfMemory};
+ghost use Rattle.stackrun.specs.declared.faults.Fault.TheVariants.{NoMemory, Usage};
 ghost use Rattle.stackrun.specs.CommandLine.{HasPaths, IsAsked, IsFoundIn, path_rule, program};
 
-use crate::words::asked::{Command, CommandFault};
+use crate::faults::Fault;
+use crate::words::asked::Command;
 use clap::error::ErrorKind;
 use clap::{Arg, ArgAction, ArgMatches};
 use std::alloc::{AllocError, Global};
@@ -17,12 +20,13 @@ use std::convert::AsStr;
 ///
 /// # Errors
 ///
-/// [`CommandFault::NoMemory`] where memory was refused, else [`CommandFault::Usage`].
-pub fn command<'a, S: AsStr>(alloc: Global, words: &'a [S]) -> Result<Command<'a>, CommandFault>
-    ensures { IfOk result (IsAsked (map S.text words.now)) }
+/// [`Fault::NoMemory`] where memory was refused, else [`Fault::Usage`].
+pub fn command<'a, S: AsStr>(alloc: Global, words: &'a [S]) -> Result<Command<'a>, Fault>
+    ensures asked { IfOk result (IsAsked (map S.text words.now)) }
+    ensures fault { IfErr result (λ fault. (fault ≡ NoMemory) ⊎ (fault ≡ Usage)) }
 {
     let Ok(grammar) = grammar(alloc) else {
-        return Err(CommandFault::NoMemory);
+        return Err(Fault::NoMemory);
     };
     match grammar.try_get_matches_from(words) {
         Ok(matches) => trace_of(&matches),
@@ -47,30 +51,37 @@ fn path<'a>(alloc: Global, name: &'a str) -> Arg<'a>
     Arg::new(alloc, name).required(true).action(ArgAction::Set)
 }
 
-fn trace_of<'a>(matches: &ArgMatches<'a>) -> Result<Command<'a>, CommandFault>
-    ensures { IfOk result (IsFoundIn (subcommand_rows_of matches.now)) }
+fn trace_of<'a>(matches: &ArgMatches<'a>) -> Result<Command<'a>, Fault>
+    ensures found { IfOk result (IsFoundIn (subcommand_rows_of matches.now)) }
+    ensures fault { IfErr result (λ fault. fault ≡ Usage) }
 {
     match matches.subcommand_matches("trace") {
         Some(trace) => paths_of(trace),
-        None => Err(CommandFault::Usage),
+        None => Err(Fault::Usage),
     }
 }
 
-fn paths_of<'a>(trace: &ArgMatches<'a>) -> Result<Command<'a>, CommandFault>
-    ensures { IfOk result (HasPaths (rows_of (found_of trace.now))) }
+fn paths_of<'a>(trace: &ArgMatches<'a>) -> Result<Command<'a>, Fault>
+    ensures paths { IfOk result (HasPaths (rows_of (found_of trace.now))) }
+    ensures fault { IfErr result (λ fault. fault ≡ Usage) }
 {
     let Some(config) = trace.get_str("CONFIG") else {
-        return Err(CommandFault::Usage);
+        return Err(Fault::Usage);
     };
     let Some(script) = trace.get_str("SCRIPT") else {
-        return Err(CommandFault::Usage);
+        return Err(Fault::Usage);
     };
     Ok(Command::Trace { config, script })
 }
 
-fn fault_of(kind: ErrorKind) -> CommandFault {
+/// What it means that the words were refused.
+fn fault_of(kind: ErrorKind) -> Fault
+    ensures memory { kind ≡ OutOfMemory → result ≡ NoMemory }
+    ensures usage { kind ≢ OutOfMemory → result ≡ Usage }
+    ensures either { (result ≡ NoMemory) ⊎ (result ≡ Usage) }
+{
     match kind {
-        ErrorKind::OutOfMemory => CommandFault::NoMemory,
-        _ => CommandFault::Usage,
+        ErrorKind::OutOfMemory => Fault::NoMemory,
+        _ => Fault::Usage,
     }
 }

@@ -65,7 +65,7 @@ pub(crate) fn adapter<M: Medium>(
 }
 
 /// A stack over an adapter, or no memory for it.
-pub(crate) fn start<A: Adapter>(
+pub(crate) fn stack_on<A: Adapter>(
     rt: &impl Abort,
     alloc: Global,
     adapter: A,
@@ -96,5 +96,5 @@ pub(crate) fn stack_over<M: Medium>(
         open_requests: 2,
     };
     let adapter = adapter(rt, alloc, medium, write_protected)?;
-    start(rt, alloc, adapter, two)
+    stack_on(rt, alloc, adapter, two)
 }

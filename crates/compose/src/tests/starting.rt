@@ -1,6 +1,6 @@
 //! What a stack can't be started over, and what it can.
 
-use crate::tests::disks::{MIDDLE, Table, adapter, disk, start};
+use crate::tests::disks::{MIDDLE, Table, adapter, disk, stack_on};
 use crate::tests::steps::{Step, go};
 use crate::{MbrFault, RunStopped, Settings, Stack, StartFault};
 use disk::VecDisk;
@@ -121,7 +121,7 @@ fn starts_with_no_partition(rt: HostRuntime) -> Result<(), Fail> {
     let alloc = rt.alloc();
     let medium = disk(alloc, &entry(0, 2048, 1024), &[])?;
     let adapter = adapter(&rt, alloc, medium, false)?;
-    let mut stack = start(&rt, alloc, adapter, TWO)?;
+    let mut stack = stack_on(&rt, alloc, adapter, TWO)?;
     go(
         &rt,
         alloc,

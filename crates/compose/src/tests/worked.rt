@@ -1,7 +1,7 @@
 //! Runs worked by hand.
 
 use crate::Settings;
-use crate::tests::disks::{MIDDLE, adapter, disk, stack_over, start};
+use crate::tests::disks::{MIDDLE, adapter, disk, stack_on, stack_over};
 use crate::tests::steps::{Step, answers, go, read, runs, write};
 use std::test::Fail;
 
@@ -56,7 +56,7 @@ fn two_tags_serve_three_reads(rt: HostRuntime) -> Result<(), Fail> {
         window: 4,
         open_requests: 4,
     };
-    let mut stack = start(&rt, alloc, adapter, four)?;
+    let mut stack = stack_on(&rt, alloc, adapter, four)?;
     go(
         &rt,
         alloc,

@@ -1,5 +1,6 @@
-//! Readers and writers that fail, and a run of a trace over texts.
+//! Readers and writers that fail, and runs of a trace over readers and writers.
 
+use crate::ending::ended;
 use crate::trace::trace;
 use std::alloc::Global;
 use std::io;
@@ -9,12 +10,13 @@ use std::io::{ErrorKind, Read, Write};
 #[derive(Drop)]
 pub struct Torn<'a> {
     pub bytes: &'a [u8],
+    pub kind: ErrorKind,
 }
 
 impl Read for Torn<'_> {
     fn read(&mut self, buf: &mut [u8]) -> io::Result<usize> {
         match self.bytes.read(buf)? {
-            0 => Err(io::Error::from(ErrorKind::PermissionDenied)),
+            0 => Err(io::Error::from(self.kind)),
             count => Ok(count),
         }
     }
@@ -25,13 +27,14 @@ impl Read for Torn<'_> {
 pub struct Narrow<'a> {
     pub taken: &'a mut Vec<u8>,
     pub room: usize,
+    pub kind: ErrorKind,
 }
 
 impl Write for Narrow<'_> {
     fn write(&mut self, buf: &[u8]) -> io::Result<usize> {
         let count = self.room.min(buf.len());
         if count == 0 {
-            return Err(io::Error::from(ErrorKind::BrokenPipe));
+            return Err(io::Error::from(self.kind));
         }
         self.taken.extend_from_slice(&buf[..count])?;
         self.room -= count;
@@ -43,21 +46,38 @@ impl Write for Narrow<'_> {
     }
 }
 
-/// What a trace wrote, and its exit status.
+/// A writer that takes all, and can't be flushed.
+#[derive(Drop)]
+pub struct Stuck<'a> {
+    pub taken: &'a mut Vec<u8>,
+    pub kind: ErrorKind,
+}
+
+impl Write for Stuck<'_> {
+    fn write(&mut self, buf: &[u8]) -> io::Result<usize> {
+        self.taken.extend_from_slice(buf)?;
+        Ok(buf.len())
+    }
+
+    fn flush(&mut self) -> io::Result<()> {
+        Err(io::Error::from(self.kind))
+    }
+}
+
+/// What was said of a run, and its exit status.
 #[derive(Debug, Drop)]
 pub struct Outcome {
-    pub out: Vec<u8>,
     pub faults: Vec<u8>,
     pub status: u8,
 }
 
-pub fn run_texts(alloc: Global, config: &[u8], script: &[u8]) -> Outcome {
-    let mut out = Vec::new(alloc);
+pub fn run<C: Read + Drop, S: Read + Drop, O: Write>(
+    alloc: Global,
+    config: C,
+    script: S,
+    out: &mut O,
+) -> Outcome {
     let mut faults = Vec::new(alloc);
-    let status = trace(alloc, config, script, &mut out, &mut faults);
-    Outcome {
-        out,
-        faults,
-        status,
-    }
+    let status = ended(trace(alloc, config, script, out), &mut faults);
+    Outcome { faults, status }
 }

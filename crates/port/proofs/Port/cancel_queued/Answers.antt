@@ -3,7 +3,7 @@ use Rattle.port.proofs.Spots.{queued}
 use Rattle.port.proofs.Port.cancel_queued.Goals as goal
 
 pub returns-clause-rooms : goal.returns-clause-rooms
-returns-clause-rooms g c = (queued (books_of c.args.self.now.queues) (books_of c.flush_at.new.self) (g.A.Adapter.view c.args.self.now.adapter) c.args.spot c.args.number c.flush_at.result c.flush_at.ensures.flushes).rooms
+returns-clause-rooms g c = (queued (books_of c.args.self.now.queues) (books_of c.withdraw_at.new.self) (g.A.Adapter.view c.args.self.now.adapter) c.args.spot c.args.number c.withdraw_at.result c.withdraw_at.ensures.withdraws).rooms
 
 pub returns-clause-cancels : goal.returns-clause-cancels
-returns-clause-cancels g c = (queued (books_of c.args.self.now.queues) (books_of c.flush_at.new.self) (g.A.Adapter.view c.args.self.now.adapter) c.args.spot c.args.number c.flush_at.result c.flush_at.ensures.flushes).cancels
+returns-clause-cancels g c = (queued (books_of c.args.self.now.queues) (books_of c.withdraw_at.new.self) (g.A.Adapter.view c.args.self.now.adapter) c.args.spot c.args.number c.withdraw_at.result c.withdraw_at.ensures.withdraws).cancels

@@ -2,13 +2,16 @@
 use Rattle.std.proofs.Common.{◌≡◌, ◌∙◌}
 use Rattle.device.specs.Seen.{packet_of}
 use Rattle.port.specs.Client.{four_sectors}
-use Rattle.port.proofs.Trying.{ready_reserves, ready_submits}
+use Rattle.port.proofs.Trying.{ready_reserves, ready_submits, asks_here}
 use Rattle.port.proofs.tests.submit.Goals as goal
+
+pub submit-client-requires-clause-own_location : goal.submit-client-requires-clause-own_location
+submit-client-requires-clause-own_location g c = asks_here g.D.Device.TAKES_SRB (g.D.Device.request_of c.in_ok-room.room) _ c.next_location.new.self _ _ c.requires.takes c.in_ok-room.ensures.room c.next_location.ensures.locations c.own_location.ensures.major c.own_location.ensures.flags c.own_location.ensures.volume c.own_location.ensures.extent
 
 pub returns-clause-ready : goal.returns-clause-ready
 returns-clause-ready g c =
     let number : c.next_location.new.self.number ≡ c.args.client.now.next = c.next_location.ensures.kept.number ∙ c.new-irp.ensures.number in
-    ready_submits (g.D.Device.seen c.reserve.new.self) (g.D.Device.seen c.submit.new.self) (packet_of c.next_location.new.self c.submit.result) (g.D.Device.request_of c.in_ok-room.room) c.next_location.new.self.payload four_sectors c.args.client.now.next c.args.client.now.removed number c.submit.ensures.submits
+    ready_submits (g.D.Device.seen c.reserve.new.self) (g.D.Device.seen c.submit-client.new.self) (packet_of c.next_location.new.self c.submit-client.result) (g.D.Device.request_of c.in_ok-room.room) c.next_location.new.self.payload four_sectors c.args.client.now.next c.args.client.now.removed number c.submit-client.ensures.submits
     (ready_reserves (g.D.Device.seen c.args.device.now) (g.D.Device.seen c.reserve.new.self) four_sectors c.args.client.now.next c.args.client.now.removed c.reserve.ensures.reserves c.requires.ready)
 
 -- no room was made: the device shows what it showed

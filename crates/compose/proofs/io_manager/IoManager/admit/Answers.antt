@@ -2,7 +2,7 @@ use Rattle.std.proofs.Common.{[], sym, ◌∙◌, subst}
 use Rattle.machine.specs.declared.Request.{Request}
 use Rattle.compose.specs.declared.Reply.TheVariants.{Request as Requested}
 use Rattle.compose.specs.declared.admission.Limits.{Limits}
-use Rattle.compose.specs.Admitting.{request_on_disk, HasBuffers, SendsDown}
+use Rattle.compose.specs.Admitting.{request_on_disk, HasBuffers, IsSent}
 use Rattle.compose.specs.Right.{IsRightCall}
 use Rattle.compose.specs.Sound.{IsSound, IsKept, view_of}
 use Rattle.compose.proofs.Calling.{reserved_sound, turned_away_kept, admitted_kept}
@@ -38,10 +38,12 @@ made : (g : _) (c : goal.After-collect g) → HasBuffers c.args.request.kind c.a
 made g c = subst (λ (r : Request). HasBuffers r.kind c.args.buffer c.in-Ok.places) c.request_below-below.ensures c.in-Ok.ensures.buffers
 
 sent : (g : _) (c : goal.After-collect g)
-    → SendsDown (g.D.Device.seen c.reserve.new.self.device) c.reserve.new.self.tables.next_request (request_on_disk c.self.inside.parts.limits c.args.request) c.args.buffer (g.D.Device.seen c.send-id.new.self.device)
+    → IsSent (g.D.Device.seen c.reserve.new.self.device) c.reserve.new.self.tables c.args.handle c.args.request (request_on_disk c.self.inside.parts.limits c.args.request) c.in-Ok.places.copies c.args.buffer c.send-id.result.slot
+    (g.D.Device.seen c.send-id.new.self.device) c.send-id.new.self.tables
 sent g c =
-    subst (λ (limits : Limits). SendsDown (g.D.Device.seen c.reserve.new.self.device) c.reserve.new.self.tables.next_request (request_on_disk limits c.args.request) c.args.buffer (g.D.Device.seen c.send-id.new.self.device))
-    c.reserve.ensures.limits c.send-id.ensures.sends
+    subst (λ (limits : Limits). IsSent (g.D.Device.seen c.reserve.new.self.device) c.reserve.new.self.tables c.args.handle c.args.request (request_on_disk limits c.args.request) c.in-Ok.places.copies c.args.buffer c.send-id.result.slot
+    (g.D.Device.seen c.send-id.new.self.device) c.send-id.new.self.tables)
+    c.reserve.ensures.limits c.send-id.ensures.sent
 
 admitted : (g : _) (c : goal.After-collect g)
     → IsRightCall c.args.self.now c.args.handle c.args.request.kind c.args.request.offset c.args.buffer (Requested c.send-id.result)
@@ -52,7 +54,7 @@ admitted g c =
     c.self.invariant.kept c.self.view_is c.requires.admissible c.requires.taken c.requires.is_call
     (g.D.Device.seen c.reserve.new.self.device) c.reserve.new.self.tables c.in-Ok.places (g.D.Device.seen c.send-id.new.self.device) c.send-id.new.self.tables
     c.collect.new.self.limits (g.D.Device.seen c.collect.new.self.device) c.collect.new.self.tables c.send-id.result
-    c.reserve.ensures.device c.reserve.ensures.tables (made g c) c.send-id.ensures.admits (sent g c) c.send-id.ensures.number (g.met.D.Device.in_order c.self.inside.parts.device [] c.self.invariant.rooms)
+    c.reserve.ensures.device c.reserve.ensures.tables (made g c) (sent g c) c.send-id.ensures.number (g.met.D.Device.in_order c.self.inside.parts.device [] c.self.invariant.rooms)
     (c.collect.ensures.limits ∙ c.send-id.ensures.limits ∙ c.reserve.ensures.limits) c.collect.ensures.sound c.collect.ensures.collects (g.met.D.Device.in_order c.collect.new.self.device [] c.collect.ensures.rooms)
 
 pub invariant_of-self-2 : goal.invariant_of-self-2

@@ -37,6 +37,7 @@ loop-event-preserved g c =
       stepped = c.step-reply.new.self;
       right = c.step-reply.ensures.right;
       settled = c.step-reply.ensures.settled;
+      whole = c.step-reply.ensures.whole;
       labels = c.take_labels-labels.ensures.labels;
       taken = c.take_labels-labels.ensures.taken;
     } in

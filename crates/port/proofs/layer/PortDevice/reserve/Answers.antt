@@ -1,8 +1,13 @@
-use Rattle.std.proofs.Common.{◌∙◌, map}
-use Rattle.port.specs.Books.{books_of}
+use Rattle.std.proofs.Common.{◌∙◌, ◌+◌, ◌≤◌, length, map, sym, subst, arith}
+use Rattle.port.specs.Books.{Books, books_of}
 use Rattle.port.proofs.Rooms.{on_err, hand_after, hand_made}
 use Rattle.port.specs.Order.{asked_for}
 use Rattle.port.proofs.layer.PortDevice.reserve.Goals as goal
+
+pub add_place-requires : goal.add_place-requires
+add_place-requires g c =
+    let k = c.requires.in_order.1.kept.places in
+    subst (λ (b : Books). length b.waiting + length b.done ≤ b.places) (sym c.reserve_extent.ensures.queues) (omega arith)
 
 pub returns-in_err-reserve_extent-clause-refused : goal.returns-in_err-reserve_extent-clause-refused
 returns-in_err-reserve_extent-clause-refused g c = on_err c.from_residual.result (λ rooms k. hand_after _ _ _ _ (map asked_for rooms) c.reserve_extent.ensures.queues c.reserve_extent.ensures.reserves c.reserve_extent.ensures.order k)

@@ -13,4 +13,4 @@ pub returns-clause-rooms : goal.returns-clause-rooms
 returns-clause-rooms g c = λ rooms k. hand_left _ _ _ _ c.in-Some.ensures (map asked_for rooms) k
 
 pub returns-clause-hands_up : goal.returns-clause-hands_up
-returns-clause-hands_up g c = hands_up _ _ _ _ c.in-Some.field-0 _ _ _ c.requires.1 c.in-Some.ensures c.status-status.ensures c.information-information.ensures c.complete.ensures.climbs
+returns-clause-hands_up g c = hands_up _ _ _ _ c.in-Some.field-0 _ _ _ c.requires.1 c.in-Some.ensures c.status-status.ensures c.information-information.ensures c.complete.ensures.climbs c.complete.ensures.cancel_routine

@@ -1,0 +1,11 @@
+mod Asked
+mod EqualBytes
+mod Flushed
+mod Parted
+mod Playing
+mod Printed
+mod PrintedLabels
+mod Reading
+mod Spelled
+mod Trims
+mod Zipped

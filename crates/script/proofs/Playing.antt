@@ -1,0 +1,130 @@
+-- The lines of a script, played one after the other.
+use Rattle.std.proofs.Common.{◌≡◌, ◌≤◌, ◌<◌, ◌+◌, ◌-◌, inl, inr, ℕ, suc, List, [], ◌∷◌, ◌++◌, Option, ap, subst, sym, refl, ◌∙◌, drop, take, map, length, get_or, arith}
+use Rattle.std.specs.Prelude.{codes, IsPermutation}
+use Rattle.std.proofs.lemmas.List.{append_assoc, append-nil, drop_all, length-drop, take_more}
+use Rattle.std.proofs.lemmas.List.Sorted.{length_permutation}
+use Rattle.std.specs.Io.KnownBytes.{Appends}
+use Rattle.machine.specs.declared.Label.{Label}
+use Rattle.machine.specs.declared.Label.TheVariants.{Call, Device, Answer as AnswerLabel, Cancel, Pause, Resume, Remove, Removed}
+use Rattle.machine.specs.Step.{as_label}
+use Rattle.compose.specs.declared.Answer.{Answer}
+use Rattle.compose.specs.declared.Event.{Event}
+use Rattle.compose.specs.declared.Reply.{Reply}
+use Rattle.compose.specs.Right.{IsRight, as_answer}
+use Rattle.compose.specs.Shown.{StackView}
+use Rattle.script.specs.declared.Line.{Line}
+use Rattle.script.specs.declared.Order.{Order}
+use Rattle.script.specs.Events.{Handles, Keeps}
+use Rattle.script.specs.Lengths.{Waiting}
+use Rattle.script.specs.Printing.{labels_text, line_end, reply_line}
+use Rattle.script.specs.Trace.{left_by, left_by_all, waiting_after_all, without_labels, Between, IsAllTaken, IsCarriedOut, IsLinePlayed, IsPlayed, IsTrace, IsTraceTo, Prints, line_text}
+use Rattle.std.specs.BTreeMap.{IsEmpty}
+use Rattle.script.proofs.Printed.{both, nothing}
+
+-- NO ANSWER IS LEFT
+
+-- an answer that goes with a label leaves no more than there were
+fewer : (label : Label) (answers : List Answer) → length (left_by label answers) ≤ length answers
+fewer (Call number request) answers = omega arith
+fewer (Device label) answers = omega arith
+fewer (AnswerLabel number status bytes) answers = let e : length (drop 1 answers) ≡ length answers - 1 = length-drop 1 answers in omega arith
+fewer (Cancel number) answers = omega arith
+fewer Pause answers = omega arith
+fewer Resume answers = omega arith
+fewer Remove answers = omega arith
+fewer Removed answers = omega arith
+
+-- labels, and then those of as many answers as wait
+none_left : (labels : List Label) (told answers : List Answer) → length answers ≤ length told → left_by_all (labels ++ map as_answer told) answers ≡ []
+none_left [] [] answers few = drop_all 0 answers few
+none_left [] (one ∷ told) answers few =
+    let e : length (drop 1 answers) ≡ length answers - 1 = length-drop 1 answers in
+    let f : length (one ∷ told) ≡ suc (length told) = refl in
+    none_left [] told (drop 1 answers) (omega arith)
+none_left (label ∷ labels) told answers few =
+    let e : length (left_by label answers) ≤ length answers = fewer label answers in
+    none_left labels told (left_by label answers) (omega arith)
+
+-- a right step's labels take all answers with them, where none waited before
+of_right : (old : StackView) (event : Event) (reply : Reply) (new : StackView) → IsAllTaken old → IsRight old event reply new → left_by_all new.labels new.answers ≡ []
+of_right old event reply new taken h =
+    let all : IsPermutation new.answers h.told.answers =
+    subst (λ (xs : List Answer). IsPermutation new.answers xs) (ap (λ (xs : List Answer). h.told.answers ++ xs) taken.answers ∙ append-nil h.told.answers) h.by.waiting in
+    let same : length h.told.answers ≡ length new.answers = length_permutation new.answers h.told.answers all in
+    ap (λ (ls : List Label). left_by_all ls new.answers) h.by.in_order
+    ∙ none_left (h.told.own ++ map as_label h.told.device) h.told.answers new.answers (omega arith)
+
+of_carried : (handles : Handles) (order : Order) (old : StackView) (reply : Reply) (new : StackView) → IsAllTaken old → IsCarriedOut handles order old reply new
+    → left_by_all new.labels new.answers ≡ []
+of_carried handles order old reply new taken (inl h) = of_right old h.event reply new taken h.right
+of_carried handles order old reply new taken (inr h) =
+    ap (λ (v : StackView). left_by_all v.labels v.answers) h.1 ∙ (ap (λ (ls : List Label). left_by_all ls old.answers) taken.labels ∙ taken.answers)
+
+-- A LINE
+
+-- what the steps of a line give
+pub line_played : (old new : Between) (line : Line) (reply : Reply) (stepped : StackView) (a b c d : Option (List ℕ)) → IsAllTaken old.stack
+    → IsCarriedOut old.handles line.order old.stack reply stepped → Appends a b (codes "> " ++ (line.text.now ++ line_end)) → Appends b c (reply_line reply)
+    → Keeps reply old.handles new.handles → new.stack ≡ without_labels stepped → Appends c d (labels_text old.waiting stepped.labels)
+    → new.waiting ≡ waiting_after_all old.waiting stepped.labels → Prints a d (λ text. IsLinePlayed old line text new)
+line_played old new line reply stepped a b c d taken carried first second keeps gone third waits = record {
+  text = line_text line reply old.waiting stepped.labels;
+  is = record {
+    reply = reply;
+    stepped = stepped;
+    carried = carried;
+    printed = refl;
+    taken = gone ∙ ap (λ (xs : List Answer). record stepped { labels = []; answers = xs }) (of_carried old.handles line.order old.stack reply stepped taken carried);
+    handles = keeps;
+    waiting = waits;
+  };
+  appends = both a b d (codes "> " ++ (line.text.now ++ line_end)) (reply_line reply ++ labels_text old.waiting stepped.labels) first
+      (both b c d (reply_line reply) (labels_text old.waiting stepped.labels) second third);
+}
+
+-- after a line all labels and answers are taken
+pub all_taken : (old new : Between) (line : Line) (text : List ℕ) → IsLinePlayed old line text new → IsAllTaken new.stack
+all_taken old new line text h = record { labels = ap (λ (v : StackView). v.labels) h.taken; answers = ap (λ (v : StackView). v.answers) h.taken }
+
+-- ALL LINES
+
+-- one line more
+played_more : (old : Between) (lines : List Line) (text : List ℕ) (mid : Between) (line : Line) (more : List ℕ) (new : Between) → IsPlayed old lines text mid
+    → IsLinePlayed mid line more new → IsPlayed old (lines ++ line ∷ []) (text ++ more) new
+played_more old [] text mid line more new h one =
+    let start : IsLinePlayed old line more new = subst (λ (b : Between). IsLinePlayed b line more new) h.1 one in
+    (more, [], new, start, (refl, refl), ap (λ (t : List ℕ). t ++ more) h.0 ∙ sym (append-nil more))
+played_more old (next ∷ lines) text mid line more new h one =
+    (h.0, h.1 ++ more, h.2, h.3, played_more h.2 lines h.1 mid line more new h.4 one, ap (λ (t : List ℕ). t ++ more) h.5 ∙ append_assoc h.0 h.1 more)
+
+pub none_played : (stack : StackView) (handles : Handles) (waiting : Waiting) (known : Option (List ℕ)) → IsEmpty handles → waiting ≡ []
+    → Prints known known (λ text. IsTraceTo stack [] text (record { stack = stack; handles = handles; waiting = waiting }))
+none_played stack handles waiting known none no_writes = record {
+  text = [];
+  is = record { handles = handles; none = none; played = (refl, ap (λ (w : Waiting). record { stack = stack; handles = handles; waiting = w }) no_writes) };
+  appends = nothing known;
+}
+
+pub one_played : (stack : StackView) (lines : List Line) (i : ℕ) (d : Line) (mid new : Between) (a b c : Option (List ℕ)) → i < length lines
+    → Prints a b (λ text. IsTraceTo stack (take i lines) text mid) → Prints b c (λ text. IsLinePlayed mid (get_or lines i d) text new)
+    → Prints a c (λ text. IsTraceTo stack (take (i + 1) lines) text new)
+one_played stack lines i d mid new a b c inside h one = record {
+  text = h.text ++ one.text;
+  is = record {
+    handles = h.is.handles;
+    none = h.is.none;
+    played =
+        subst (λ (ls : List Line). IsPlayed (record { stack = stack; handles = h.is.handles; waiting = [] }) ls (h.text ++ one.text) new) (sym (take_more lines i d inside))
+        (played_more (record { stack = stack; handles = h.is.handles; waiting = [] }) (take i lines) h.text mid (get_or lines i d) one.text new h.is.played one.is);
+  };
+  appends = both a b c h.text one.text h.appends one.appends;
+}
+
+-- all lines
+pub all_played : (stack : StackView) (lines : List Line) (i : ℕ) (end : Between) (a b : Option (List ℕ)) → take i lines ≡ lines
+    → Prints a b (λ text. IsTraceTo stack (take i lines) text end) → Prints a b (λ text. IsTrace stack lines text end.stack)
+all_played stack lines i end a b all h = record {
+  text = h.text;
+  is = (end, subst (λ (ls : List Line). IsTraceTo stack ls h.text end) all h.is, refl);
+  appends = h.appends;
+}

@@ -1,0 +1,132 @@
+-- What is printed of a reply or a label: one line each.
+use Rattle.std.specs.Prelude.{ℕ, ◌+◌, ◌-◌, ◌^◌, ◌==◌, Bool, true, false, List, [], ◌∷◌, ◌++◌, map, length, codes, if◌then◌else◌}
+use Rattle.std.specs.Fmt.{decimal, digits, format_spec, padded_integral}
+use Rattle.std.specs.List.{concat}
+use Rattle.ntstatus.specs.declared.NtStatus.{NtStatus}
+use Rattle.ntstatus.specs.declared.NtStatus.TheVariants.{Success}
+use Rattle.ntstatus.specs.Codes.{name_of}
+use Rattle.srb.specs.declared.DeviceLabel.{DeviceLabel}
+use Rattle.srb.specs.declared.DeviceLabel.TheVariants.{Start, Act, Fault, Return}
+use Rattle.machine.specs.declared.ClientRequest.{ClientRequest}
+use Rattle.machine.specs.declared.Kind.{Kind}
+use Rattle.machine.specs.declared.Kind.TheVariants.{Read, Write, Flush}
+use Rattle.machine.specs.declared.Label.{Label}
+use Rattle.machine.specs.declared.Label.TheVariants.{Call, Device, Answer, Cancel, Pause, Resume, Remove, Removed}
+use Rattle.script.specs.Lengths.{Waiting, length_of, without}
+use Rattle.srb.specs.declared.Class.{Class}
+use Rattle.srb.specs.declared.Class.TheVariants.{Good, Busy, Bad}
+use Rattle.compose.specs.declared.Refusal.{Refusal}
+use Rattle.compose.specs.declared.Refusal.TheVariants.{InvalidHandle, InvalidParameter, DeletePending, DeviceBusy, InsufficientResources, InvalidDeviceRequest, NotFound}
+use Rattle.compose.specs.declared.Reply.{Reply}
+use Rattle.compose.specs.declared.Reply.TheVariants.{Handle, Ok, Request, Answered, Refused, Ignored}
+
+-- the end of a line
+abbrev pub line_end : List ℕ
+line_end = 10 ∷ []
+
+-- the number of a refusal, behind its E
+abbrev pub number_of : Refusal → ℕ
+number_of InvalidHandle = 1
+number_of InvalidParameter = 2
+number_of DeletePending = 3
+number_of DeviceBusy = 4
+number_of InsufficientResources = 5
+number_of InvalidDeviceRequest = 6
+number_of NotFound = 7
+
+-- the line of a reply
+abbrev pub reply_line : Reply → List ℕ
+reply_line (Handle handle) = codes "handle " ++ (decimal handle.number ++ line_end)
+reply_line Ok = codes "ok" ++ line_end
+reply_line (Request id) = codes "request " ++ (decimal id.number ++ line_end)
+reply_line (Answered answer) = codes "answered" ++ line_end
+reply_line (Refused refusal bytes) = codes "refused E" ++ (decimal (number_of refusal) ++ line_end)
+reply_line Ignored = codes "ignored" ++ line_end
+
+-- the word of a class
+abbrev pub word_of : Class → List ℕ
+word_of Good = codes "good"
+word_of Busy = codes "busy"
+word_of (Bad completion) = codes "bad"
+
+-- a byte as two hexadecimal digits
+abbrev pub hex_of : ℕ → List ℕ
+hex_of byte = padded_integral (format_spec 32 0 4 2 (2 ^ 64 - 1)) false [] (digits 16 false byte)
+
+-- bytes as hexadecimal digits
+abbrev pub hex_bytes : List ℕ → List ℕ
+hex_bytes bytes = concat (map hex_of bytes)
+
+-- a byte that joins the runs of the bytes behind it
+abbrev pub joined : ℕ → List (ℕ × ℕ) → List (ℕ × ℕ)
+joined byte [] = (byte, 1) ∷ []
+joined byte (run ∷ runs) = if run.0 == byte then (byte, run.1 + 1) ∷ runs else (byte, 1) ∷ run ∷ runs
+
+-- the longest runs of equal bytes, each with its length
+abbrev pub runs_of : List ℕ → List (ℕ × ℕ)
+runs_of [] = []
+runs_of (byte ∷ bytes) = joined byte (runs_of bytes)
+
+-- a run: its byte, *, and its length
+abbrev pub run_text : ℕ × ℕ → List ℕ
+run_text run = hex_of run.0 ++ (codes "*" ++ decimal run.1)
+
+-- what stands behind a run: nothing behind the last one
+abbrev pub comma : Bool → List ℕ
+comma true = []
+comma false = codes ","
+
+-- runs, joined by commas
+abbrev pub runs_text : List (ℕ × ℕ) → List ℕ
+runs_text [] = []
+runs_text (run ∷ []) = run_text run
+runs_text (run ∷ next ∷ runs) = run_text run ++ (codes "," ++ runs_text (next ∷ runs))
+
+-- the line of a call: for a read or a write the first byte and the length
+abbrev pub call_text : Kind → ClientRequest → List ℕ
+call_text Read q = codes " read " ++ (decimal q.offset ++ (codes " " ++ (decimal q.length ++ line_end)))
+call_text Write q = codes " write " ++ (decimal q.offset ++ (codes " " ++ (decimal q.length ++ ((if q.through then codes " through" else []) ++ line_end))))
+call_text Flush q = codes " flush" ++ line_end
+
+abbrev pub call_line : ℕ → ClientRequest → List ℕ
+call_line number q = codes "call " ++ (decimal number ++ call_text q.kind q)
+
+-- the line of a label of the adapter: of the piece, and of its command block or of its class
+abbrev pub device_line : DeviceLabel → List ℕ
+device_line (Start piece tag block) = codes "start " ++ (decimal piece ++ (codes " tag " ++ (decimal tag ++ (codes " " ++ (hex_bytes block ++ line_end)))))
+device_line (Act piece bytes) = codes "act " ++ (decimal piece ++ line_end)
+device_line (Fault piece) = codes "fault " ++ (decimal piece ++ line_end)
+device_line (Return piece class) = codes "return " ++ (decimal piece ++ (codes " " ++ (word_of class ++ line_end)))
+
+-- how many bytes an answer moved, and of a read which; nothing is moved without success
+abbrev pub moved_text : NtStatus → ℕ → List ℕ → List ℕ
+moved_text Success written [] = decimal written ++ line_end
+moved_text Success written (byte ∷ bytes) = decimal (length (byte ∷ bytes)) ++ (codes " " ++ (runs_text (runs_of (byte ∷ bytes)) ++ line_end))
+moved_text _ written bytes = codes "0" ++ line_end
+
+-- the line of an answer; `written` is the length of a write, and 0 for another request
+abbrev pub answer_line : ℕ → NtStatus → ℕ → List ℕ → List ℕ
+answer_line number status written bytes =
+    codes "answer " ++ (decimal number ++ (codes " " ++ (name_of status ++ (codes " " ++ moved_text status written bytes))))
+
+-- the line of a label, where these writes wait for their answers
+abbrev pub label_line : Waiting → Label → List ℕ
+label_line waiting (Call number request) = call_line number request
+label_line waiting (Device label) = device_line label
+label_line waiting (Answer number status bytes) = answer_line number status (length_of number waiting) bytes
+label_line waiting (Cancel number) = codes "cancel " ++ (decimal number ++ line_end)
+label_line waiting Pause = codes "pause" ++ line_end
+label_line waiting Resume = codes "resume" ++ line_end
+label_line waiting Remove = codes "remove" ++ line_end
+label_line waiting Removed = codes "removed" ++ line_end
+
+-- the writes that wait after a label
+abbrev pub waiting_after : Waiting → Label → Waiting
+waiting_after waiting (Call number request) = elim request.kind [ Write ↦ waiting ++ (number, request.length) ∷ [] | Read ↦ waiting | Flush ↦ waiting ]
+waiting_after waiting (Answer number status bytes) = without number waiting
+waiting_after waiting _ = waiting
+
+-- the lines of labels, one after the other
+abbrev pub labels_text : Waiting → List Label → List ℕ
+labels_text waiting [] = []
+labels_text waiting (label ∷ labels) = label_line waiting label ++ labels_text (waiting_after waiting label) labels

@@ -1,0 +1,124 @@
+//! A script of events: its lines, what they ask a stack for, and what is printed of a stack that carries them out.
+//!
+//! It promises to the crate above, by the contract of [`lines`] (`events`, `fault`), that the lines of a script are read
+//! as the events that they ask for, or that the first bad one is named; by [`event`], which event of a stack an order
+//! is; by [`write_reply`] and [`write_labels`], the text of a reply and of the labels that a stack has not given yet; and
+//! by [`play`] (`text`, `fault`), that what it wrote is just the text of these lines, carried out one after the other by
+//! the stack that it was given. It does not promise that a writer takes all.
+#![tactic(auto)]
+
+mod lengths;
+mod orders;
+mod player;
+mod printing;
+mod runs;
+#[cfg(test)]
+mod tests;
+
+pub use lengths::Lengths;
+pub use orders::lines;
+pub use player::{event, play, write_labels};
+pub use printing::{write_label, write_reply};
+use std::alloc::{AllocError, AllocFailed};
+use std::error::Error;
+use std::io::ErrorKind;
+use std::{fmt, io};
+
+/// What a line asks for. Handles, partitions and tags are numbers as they were written, there or not.
+#[derive(Debug, Clone, Copy, PartialEq, Eq)]
+pub enum Order {
+    Open {
+        partition: u64,
+    },
+    /// Offset and length are in bytes.
+    Read {
+        handle: u64,
+        offset: u64,
+        length: u64,
+    },
+    /// A write of `length` equal bytes.
+    Write {
+        handle: u64,
+        offset: u64,
+        length: u64,
+        byte: u8,
+    },
+    Act {
+        tag: u64,
+    },
+    Finish {
+        tag: u64,
+    },
+}
+
+/// A line that asks for an event, without the spaces at its ends.
+#[derive(Debug, Clone, Copy, PartialEq, Eq)]
+pub struct Line<'a> {
+    pub text: &'a str,
+    pub order: Order,
+}
+
+/// Why a script was not read, or not played to its end.
+#[derive(Debug, Clone, Copy, PartialEq, Eq)]
+pub enum ScriptFault {
+    /// The line of this number, from 1, is neither empty, nor a remark, nor an event.
+    BadLine { line: u64 },
+    /// Memory was refused.
+    NoMemory,
+    /// The writer failed.
+    OutputFailed,
+}
+
+impl fmt::Display for ScriptFault {
+    ghost use Rattle.std.specs.Prelude.{Some};
+    ghost use Rattle.script.specs.Faults.{text_of};
+
+    ghost output = { λ fault. Some (text_of fault) };
+
+    fn fmt<W: fmt::Write>(&self, f: &mut fmt::Formatter<W>) -> fmt::Result {
+        match self {
+            ScriptFault::BadLine { line } => write!(f, "script line {line}: bad line"),
+            ScriptFault::NoMemory => f.write_str("no memory"),
+            ScriptFault::OutputFailed => f.write_str("output failed"),
+        }
+    }
+}
+
+impl Error for ScriptFault {}
+
+impl From<AllocError> for ScriptFault {
+    ghost use Rattle.std.specs.Prelude.{◌≡◌};
+    ghost use Rattle.script.specs.declared.ScriptFault.TheVariants.{NoMemory};
+
+    ghost from_gives = { λ _ fault. fault ≡ NoMemory };
+
+    fn from(_error: AllocError) -> ScriptFault {
+        ScriptFault::NoMemory
+    }
+}
+
+impl<T: Drop> From<AllocFailed<T>> for ScriptFault {
+    ghost use Rattle.std.specs.Prelude.{◌≡◌};
+    ghost use Rattle.script.specs.declared.ScriptFault.TheVariants.{NoMemory};
+
+    ghost from_gives = { λ _ fault. fault ≡ NoMemory };
+
+    fn from(_error: AllocFailed<T>) -> ScriptFault {
+        ScriptFault::NoMemory
+    }
+}
+
+/// What a failed write means: a writer that holds what it is given may want memory.
+impl From<io::Error> for ScriptFault {
+    ghost use Rattle.std.specs.IoError.{error_kind};
+    ghost use Rattle.script.specs.Faults.{IsOfWrite};
+
+    ghost from_gives = { λ error fault. IsOfWrite (error_kind error) fault };
+
+    fn from(error: io::Error) -> ScriptFault {
+        match error.kind() {
+            ErrorKind::OutOfMemory => ScriptFault::NoMemory,
+            _ => ScriptFault::OutputFailed,
+        }
+    }
+}

@@ -1,0 +1,9 @@
+mod FirstFault
+mod FoundLists
+mod Keys
+mod Opening
+mod SettingFaults
+mod Starting
+mod UsedPartitions
+mod WholeSectors
+mod Zipped

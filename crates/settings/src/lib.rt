@@ -1,0 +1,89 @@
+//! The settings of a disk in memory, of the adapter over it and of the stack over both: how they are read, and what they
+//! start.
+//!
+//! It promises to the crate above, by the contract of [`document::config`] (`settings`, `in_range`, `fault`), that settings which
+//! were accepted are those of the document, each in its range, or its default, and that a document is refused for its
+//! first fault, or for want of memory; by [`start`] (`view`, `fault`), that the stack is the one of the settings, over a
+//! disk of zeros with their partition table, and why none was started. Settings need no document: [`start`] takes all
+//! that are in range. It does not promise that memory for a disk is there.
+#![tactic(auto)]
+
+pub mod document;
+mod startup;
+mod table;
+#[cfg(test)]
+mod tests;
+
+pub use startup::start;
+use std::error::Error;
+use std::fmt;
+
+/// A partition of the disk.
+#[derive(Debug, Clone, Copy, PartialEq, Eq)]
+pub struct Partition {
+    /// The type byte of its entry in the partition table, 1 to 255.
+    pub kind: u8,
+    /// Its first sector.
+    pub first: u32,
+    /// The number of its sectors.
+    pub count: u32,
+}
+
+/// A disk, an adapter and a stack.
+#[derive(Debug, Drop)]
+pub struct Config {
+    /// Bytes of a sector, 512 or 4096.
+    pub sector_size: u32,
+    /// Sectors of the disk, 1 to 4,294,967,295.
+    pub sectors: u32,
+    /// Sectors of the longest transfer of the adapter, 1 to 65,535.
+    pub max_transfer: u32,
+    /// Tags of the adapter, 1 to 32.
+    pub depth: u8,
+    /// Requests at work at once, 1 to 64.
+    pub window: u32,
+    /// Requests open at once, 1 to `window`.
+    pub open_requests: u32,
+    pub write_protected: bool,
+    /// Sectors that can't be read or written, each below `sectors`.
+    pub bad_sectors: Vec<u64>,
+    /// At most one.
+    pub partitions: Vec<Partition>,
+}
+
+/// Why settings were refused.
+#[derive(Debug, Clone, Copy, PartialEq, Eq)]
+pub enum ConfigFault {
+    /// The text is no TOML document.
+    NotToml,
+    /// There is a key that no setting has.
+    UnknownKey,
+    /// A key is not there that has to be.
+    MissingKey,
+    /// A value is not in its range, or of another kind.
+    OutOfRange,
+    /// There is more than one partition.
+    TooManyPartitions,
+    /// Memory was refused.
+    NoMemory,
+}
+
+impl fmt::Display for ConfigFault {
+    ghost use Rattle.std.specs.Prelude.{Some};
+    ghost use Rattle.settings.specs.FaultTexts.{text_of};
+
+    ghost output = { λ fault. Some (text_of fault) };
+
+    fn fmt<W: fmt::Write>(&self, f: &mut fmt::Formatter<W>) -> fmt::Result {
+        match self {
+            ConfigFault::NotToml => f.write_str("config: not TOML"),
+            ConfigFault::UnknownKey => f.write_str("config: unknown key"),
+            ConfigFault::MissingKey => f.write_str("config: missing key"),
+            ConfigFault::OutOfRange => f.write_str("config: out of range"),
+            ConfigFault::TooManyPartitions => f.write_str("config: too many partitions"),
+            ConfigFault::NoMemory => f.write_str("no memory"),
+        }
+    }
+}
+
+impl Error for ConfigFault {}

@@ -1,7 +1,0 @@
-use Rattle.std.proofs.Common.{lit<, sym, ◌∙◌}
-use Rattle.stackrun.proofs.Spelled.{byte_found}
-use Rattle.stackrun.proofs.script.words.byte.Goals as goal
-
-pub returns : goal.returns
-returns c = byte_found c.args.word.now c.from_str_radix.result c.ok.result c.from_str_radix.ensures.value
-    (sym (c.starts_with.ensures.byte (lit< tt) (lit< tt) (λ t o h. h)) ∙ c.if-starts_with.false) c.if-word-ne2.false c.ok.ensures.value

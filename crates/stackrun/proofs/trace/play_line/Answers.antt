@@ -1,7 +1,0 @@
-use Rattle.stackrun.proofs.Playing.{line_played}
-use Rattle.stackrun.proofs.trace.play_line.Goals as goal
-
-pub returns-clause-text : goal.returns-clause-text
-returns-clause-text g c =
-    line_played _ _ _ _ _ _ _ _ _ c.requires.taken c.carry_out-reply.ensures c.in_ok-write_line.ensures c.in_ok-write_reply.ensures c.in_ok-keep_given.ensures.given
-    c.in_ok-write_labels.ensures.taken c.in_ok-write_labels.ensures.text c.in_ok-write_labels.ensures.waiting
