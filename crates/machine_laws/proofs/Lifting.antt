@@ -10,6 +10,7 @@ use Rattle.machine.specs.Rules.{Rules, as_faithful}
 use Rattle.machine.specs.State.{State, IsSame}
 use Rattle.machine.specs.Calling.{refusal, Admits}
 use Rattle.machine.specs.Sending.{Transfers, IsFreshPiece}
+use Rattle.machine.specs.Answering.{Answers}
 use Rattle.machine.specs.Step.{DeviceStep, FreeStep, OwingStep, Step}
 
 -- the state with other arrays
