@@ -145,6 +145,7 @@ use_on_tag in_use = record { number = in_use.piece; tag = in_use.tag; fate = in_
 -- the arrays are the adapter's sectors by the partitions, and the pieces out are those of its tags
 pub record IsRead (rules : Rules) (s : State) (adapter : AdapterView) : Type 0 where
   pub same_size : rules.sector_size ≡ adapter.sector_size
+  pub same_sectors : rules.disk_sectors ≡ length adapter.sectors
   pub same_depth : rules.depth ≡ adapter.depth
   pub arrays : s.arrays ≡ map (sectors_in adapter.sectors) rules.partitions
   pub pieces : IsPermutation (map piece_on_tag s.pieces) (map use_on_tag adapter.tags)

@@ -1,5 +1,5 @@
 -- What each call does to what a layer shows.
-use Rattle.std.specs.Prelude.{◌≡◌, ◌≢◌, ◌⊎◌, ℕ, zero, suc, ◌+◌, ◌*◌, Bool, List, [], ◌∷◌, Option, Some, None, map, filter, take, drop, length, IsTrue, All, Any, Contains, IsPermutation, if◌then◌else◌}
+use Rattle.std.specs.Prelude.{◌≡◌, ◌≢◌, ◌⊎◌, ℕ, zero, suc, ◌+◌, ◌*◌, Bool, List, [], ◌∷◌, Option, Some, None, map, filter, take, drop, length, IsTrue, All, Any, Contains, IsPermutation}
 use Rattle.std.specs.List.Sorted.{IsStrictlyIncreasing}
 use Rattle.ntstatus.specs.declared.NtStatus.{NtStatus}
 use Rattle.ntstatus.specs.declared.NtStatus.TheVariants.{Success, DeviceBusy}
@@ -13,14 +13,13 @@ use Rattle.irp.specs.declared.Climb.{Climb}
 use Rattle.irp.specs.Climb.{Climbs, BringsRoutine}
 use Rattle.machine.specs.declared.Kind.TheVariants.{Read}
 use Rattle.machine.specs.declared.Request.{Request}
-use Rattle.machine.specs.declared.ClientRequest.{ClientRequest}
 use Rattle.machine.specs.declared.Label.{Label}
 use Rattle.machine.specs.declared.Label.TheVariants.{Device}
-use Rattle.machine.specs.Rules.{Rules, is_transfer, place_count, as_client}
+use Rattle.machine.specs.Rules.{Rules, place_count, as_client}
 use Rattle.machine.specs.State.{Mark, Done, Back, OpenRequest, Piece, State}
 use Rattle.machine.specs.Calling.{Opens}
 use Rattle.machine.specs.Sending.{IsStart, HasOtherTag}
-use Rattle.machine.specs.Answering.{HasEnded, Answers}
+use Rattle.machine.specs.Answering.{HasEnded, Answers, information}
 use Rattle.machine.specs.Holding.{Cancels, Pauses, Resumes, Drains}
 use Rattle.machine.specs.Settled.{Settled}
 use Rattle.machine.specs.Step.{as_label, Run}
@@ -157,11 +156,6 @@ pub record ResumesAll (old new : Seen) : Type 0 where
   pub resumes : Resumes old.state resumed
   pub only_starts : All IsStart starts
   pub moves : Moves (record old { state = resumed }) starts new
-
--- the bytes that a request of this length has moved: all where it succeeds
-abbrev pub information : ClientRequest → NtStatus → ℕ
-information q Success = if is_transfer q.kind then q.length else 0
-information q status = 0
 
 -- the place came back busy
 abbrev pub IsBack : Mark → Type 0
