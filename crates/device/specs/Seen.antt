@@ -1,6 +1,5 @@
 -- What a layer shows of itself.
-use Rattle.std.specs.Prelude.{◌≡◌, ◌<◌, ◌≤◌, ℕ, ◌+◌, ◌-◌, ◌*◌, Bool, true, false, List, [], Option, Some, None, map, length, slice_range, IsNone, IsTrue, IsFalse, All, IsPermutation, if◌then◌else◌}
-use Rattle.sector.specs.declared.Extent.{Extent}
+use Rattle.std.specs.Prelude.{◌≡◌, ◌<◌, ◌≤◌, ℕ, ◌+◌, ◌-◌, ◌*◌, Bool, true, false, List, [], Option, Some, None, map, length, IsNone, IsTrue, IsFalse, All, IsPermutation, if◌then◌else◌}
 use Rattle.cdb.specs.declared.Cdb.{Cdb}
 use Rattle.cdb.specs.Meaning.{Means}
 use Rattle.srb.specs.declared.Srb.{Srb}

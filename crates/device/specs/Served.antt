@@ -13,8 +13,6 @@ use Rattle.irp.specs.declared.Climb.{Climb}
 use Rattle.irp.specs.Climb.{Climbs, BringsRoutine}
 use Rattle.machine.specs.declared.Kind.TheVariants.{Read}
 use Rattle.machine.specs.declared.Request.{Request}
-use Rattle.machine.specs.declared.Label.{Label}
-use Rattle.machine.specs.declared.Label.TheVariants.{Device}
 use Rattle.machine.specs.Rules.{Rules, place_count, as_client}
 use Rattle.machine.specs.State.{Mark, Done, Back, OpenRequest, Piece, State}
 use Rattle.machine.specs.Calling.{Opens}

@@ -7,8 +7,8 @@ use Rattle.std.proofs.lemmas.List.Elements.{All-head, All-tail, All-take, All-dr
 use Rattle.sector.specs.Extents.{IsSector}
 use Rattle.sector.specs.Splice.{splice}
 use Rattle.cdb.specs.declared.Cdb.{Cdb}
-use Rattle.cdb.specs.declared.Cdb.TheVariants.{Read10, Write10, Sync10, ReadCapacity10}
-use Rattle.cdb.specs.Meaning.{Means}
+use Rattle.cdb.specs.declared.Cdb.TheVariants.{Read10, Write10, Sync10, ReadCapacity10, Read16, Write16, Sync16, ReadCapacity16}
+use Rattle.cdb.specs.Meaning.{Means, AsksToRead, AsksToWrite}
 use Rattle.srb.specs.declared.Srb.{Srb}
 use Rattle.adapter.specs.Performing.{CarriesOut}
 use Rattle.irp.specs.declared.Payload.TheVariants.{Srb as Packed}
@@ -17,14 +17,16 @@ use Rattle.machine.specs.declared.Kind.TheVariants.{Read, Write, Flush}
 use Rattle.machine.specs.declared.Request.{Request}
 use Rattle.machine.specs.Rules.{Rules, as_client, home, is_transfer}
 use Rattle.machine.specs.State.{State}
-use Rattle.machine.specs.Sending.{Transfers, command_for}
+use Rattle.machine.specs.Sending.{Transfers, command_for, read_command, write_command, flush_command}
 use Rattle.machine.specs.Map.{sectors_in}
+use Rattle.machine.proofs.Forms.{read_forms, write_forms, flush_forms, one_read, one_write}
 use Rattle.device.specs.Seen.{AsksFor, IsBounded, sent_bytes, transfer_length}
 use Rattle.sector.proofs.Splicing.{length-splice}
 use Rattle.port.specs.declared.queues.Sizes.{Sizes}
 use Rattle.port.specs.Shown.{rules_of, places_of}
 use Rattle.device.specs.Served.{cut}
 use Rattle.port.proofs.Lists.{cut-concat}
+use Rattle.port.proofs.Codes.{read_code, write_code, flush_code, clash}
 use Rattle.port.proofs.Sizing.{volume_zero, sectors_are, places_transfer, places_flush}
 
 -- the one array is the disk
@@ -33,37 +35,60 @@ whole_disk sectors count e = take_all (0 + count - 0) sectors (omega arith)
 
 -- WHICH COMMAND IS CARRIED OUT
 
-clash : (code a b : ℕ) → code ≡ a → code ≡ b → (a < b) ⊎ (b < a) → ⊥
-clash code a b h k (inl low) = absurd (omega arith)
-clash code a b h k (inr low) = absurd (omega arith)
-
 as_read : (faithful told : Bool) (block : List ℕ) (size : ℕ) (sectors : List (List ℕ)) (bytes : List ℕ) (command : Cdb) (moved after : List (List ℕ)) (first count : ℕ) (through : Bool)
-    → Means block (Read10 first count through) → Means block command → CarriesOut faithful told size sectors bytes command moved after → CarriesOut faithful told size sectors bytes (Read10 first count through) moved after
+    → AsksToRead block first count through → Means block command → CarriesOut faithful told size sectors bytes command moved after → CarriesOut faithful told size sectors bytes (Read10 first count through) moved after
 as_read true told block size sectors bytes (Read10 lba blocks fua) moved after first count through m w p =
-    subst (λ x. CarriesOut true told size sectors bytes (Read10 x count through) moved after) (sym w.1.address ∙ m.1.address) (subst (λ x. CarriesOut true told size sectors bytes (Read10 lba x through) moved after) (sym w.1.blocks ∙ m.1.blocks) p)
+    let e = one_read block lba blocks first count fua through (inl w) m in
+    subst (λ x. CarriesOut true told size sectors bytes (Read10 x count through) moved after) e.0 (subst (λ x. CarriesOut true told size sectors bytes (Read10 lba x through) moved after) e.1 p)
 as_read false told block size sectors bytes (Read10 lba blocks fua) moved after first count through m w p =
-    subst (λ x. CarriesOut false told size sectors bytes (Read10 x count through) moved after) (sym w.1.address ∙ m.1.address) (subst (λ x. CarriesOut false told size sectors bytes (Read10 lba x through) moved after) (sym w.1.blocks ∙ m.1.blocks) p)
-as_read faithful told block size sectors bytes (Write10 lba blocks fua) moved after first count through m w p = absurd (clash (slice_index block 0) 40 42 m.0.operation w.0.operation (inl (omega arith)))
-as_read faithful told block size sectors bytes (Sync10 lba blocks) moved after first count through m w p = absurd (clash (slice_index block 0) 40 53 m.0.operation w.0.operation (inl (omega arith)))
-as_read faithful told block size sectors bytes ReadCapacity10 moved after first count through m w p = absurd (clash (slice_index block 0) 40 37 m.0.operation w.operation (inr (omega arith)))
+    let e = one_read block lba blocks first count fua through (inl w) m in
+    subst (λ x. CarriesOut false told size sectors bytes (Read10 x count through) moved after) e.0 (subst (λ x. CarriesOut false told size sectors bytes (Read10 lba x through) moved after) e.1 p)
+as_read true told block size sectors bytes (Read16 lba blocks fua) moved after first count through m w p =
+    let e = one_read block lba blocks first count fua through (inr w) m in
+    subst (λ x. CarriesOut true told size sectors bytes (Read10 x count through) moved after) e.0 (subst (λ x. CarriesOut true told size sectors bytes (Read10 lba x through) moved after) e.1 p)
+as_read false told block size sectors bytes (Read16 lba blocks fua) moved after first count through m w p =
+    let e = one_read block lba blocks first count fua through (inr w) m in
+    subst (λ x. CarriesOut false told size sectors bytes (Read10 x count through) moved after) e.0 (subst (λ x. CarriesOut false told size sectors bytes (Read10 lba x through) moved after) e.1 p)
+as_read faithful told block size sectors bytes (Write10 lba blocks fua) moved after first count through m w p = absurd (clash (slice_index block 0) 40 136 42 (read_code block first count through m) w.0.operation refl refl)
+as_read faithful told block size sectors bytes (Sync10 lba blocks) moved after first count through m w p = absurd (clash (slice_index block 0) 40 136 53 (read_code block first count through m) w.0.operation refl refl)
+as_read faithful told block size sectors bytes ReadCapacity10 moved after first count through m w p = absurd (clash (slice_index block 0) 40 136 37 (read_code block first count through m) w.operation refl refl)
+as_read faithful told block size sectors bytes (Write16 lba blocks fua) moved after first count through m w p = absurd (clash (slice_index block 0) 40 136 138 (read_code block first count through m) w.0.operation refl refl)
+as_read faithful told block size sectors bytes (Sync16 lba blocks) moved after first count through m w p = absurd (clash (slice_index block 0) 40 136 145 (read_code block first count through m) w.0.operation refl refl)
+as_read faithful told block size sectors bytes (ReadCapacity16 allocation) moved after first count through m w p = absurd (clash (slice_index block 0) 40 136 158 (read_code block first count through m) w.0.operation refl refl)
 
 as_write : (faithful told : Bool) (block : List ℕ) (size : ℕ) (sectors : List (List ℕ)) (bytes : List ℕ) (command : Cdb) (moved after : List (List ℕ)) (first count : ℕ) (through : Bool)
-    → Means block (Write10 first count through) → Means block command → CarriesOut faithful told size sectors bytes command moved after → CarriesOut faithful told size sectors bytes (Write10 first count through) moved after
+    → AsksToWrite block first count through → Means block command → CarriesOut faithful told size sectors bytes command moved after → CarriesOut faithful told size sectors bytes (Write10 first count through) moved after
 as_write true told block size sectors bytes (Write10 lba blocks fua) moved after first count through m w p =
-    subst (λ x. CarriesOut true told size sectors bytes (Write10 x count through) moved after) (sym w.1.address ∙ m.1.address) (subst (λ x. CarriesOut true told size sectors bytes (Write10 lba x through) moved after) (sym w.1.blocks ∙ m.1.blocks) p)
+    let e = one_write block lba blocks first count fua through (inl w) m in
+    subst (λ x. CarriesOut true told size sectors bytes (Write10 x count through) moved after) e.0 (subst (λ x. CarriesOut true told size sectors bytes (Write10 lba x through) moved after) e.1 p)
 as_write false told block size sectors bytes (Write10 lba blocks fua) moved after first count through m w p =
-    subst (λ x. CarriesOut false told size sectors bytes (Write10 x count through) moved after) (sym w.1.address ∙ m.1.address) (subst (λ x. CarriesOut false told size sectors bytes (Write10 lba x through) moved after) (sym w.1.blocks ∙ m.1.blocks) p)
-as_write faithful told block size sectors bytes (Read10 lba blocks fua) moved after first count through m w p = absurd (clash (slice_index block 0) 42 40 m.0.operation w.0.operation (inr (omega arith)))
-as_write faithful told block size sectors bytes (Sync10 lba blocks) moved after first count through m w p = absurd (clash (slice_index block 0) 42 53 m.0.operation w.0.operation (inl (omega arith)))
-as_write faithful told block size sectors bytes ReadCapacity10 moved after first count through m w p = absurd (clash (slice_index block 0) 42 37 m.0.operation w.operation (inr (omega arith)))
+    let e = one_write block lba blocks first count fua through (inl w) m in
+    subst (λ x. CarriesOut false told size sectors bytes (Write10 x count through) moved after) e.0 (subst (λ x. CarriesOut false told size sectors bytes (Write10 lba x through) moved after) e.1 p)
+as_write true told block size sectors bytes (Write16 lba blocks fua) moved after first count through m w p =
+    let e = one_write block lba blocks first count fua through (inr w) m in
+    subst (λ x. CarriesOut true told size sectors bytes (Write10 x count through) moved after) e.0 (subst (λ x. CarriesOut true told size sectors bytes (Write10 lba x through) moved after) e.1 p)
+as_write false told block size sectors bytes (Write16 lba blocks fua) moved after first count through m w p =
+    let e = one_write block lba blocks first count fua through (inr w) m in
+    subst (λ x. CarriesOut false told size sectors bytes (Write10 x count through) moved after) e.0 (subst (λ x. CarriesOut false told size sectors bytes (Write10 lba x through) moved after) e.1 p)
+as_write faithful told block size sectors bytes (Read10 lba blocks fua) moved after first count through m w p = absurd (clash (slice_index block 0) 42 138 40 (write_code block first count through m) w.0.operation refl refl)
+as_write faithful told block size sectors bytes (Sync10 lba blocks) moved after first count through m w p = absurd (clash (slice_index block 0) 42 138 53 (write_code block first count through m) w.0.operation refl refl)
+as_write faithful told block size sectors bytes ReadCapacity10 moved after first count through m w p = absurd (clash (slice_index block 0) 42 138 37 (write_code block first count through m) w.operation refl refl)
+as_write faithful told block size sectors bytes (Read16 lba blocks fua) moved after first count through m w p = absurd (clash (slice_index block 0) 42 138 136 (write_code block first count through m) w.0.operation refl refl)
+as_write faithful told block size sectors bytes (Sync16 lba blocks) moved after first count through m w p = absurd (clash (slice_index block 0) 42 138 145 (write_code block first count through m) w.0.operation refl refl)
+as_write faithful told block size sectors bytes (ReadCapacity16 allocation) moved after first count through m w p = absurd (clash (slice_index block 0) 42 138 158 (write_code block first count through m) w.0.operation refl refl)
 
-as_flush : (faithful told : Bool) (block : List ℕ) (size : ℕ) (sectors : List (List ℕ)) (bytes : List ℕ) (command : Cdb) (moved after : List (List ℕ)) (first count : ℕ)
-    → Means block (Sync10 first count) → Means block command → CarriesOut faithful told size sectors bytes command moved after → CarriesOut faithful told size sectors bytes (Sync10 first count) moved after
-as_flush true told block size sectors bytes (Sync10 lba blocks) moved after first count m w p = p
-as_flush false told block size sectors bytes (Sync10 lba blocks) moved after first count m w p = p
-as_flush faithful told block size sectors bytes (Read10 lba blocks fua) moved after first count m w p = absurd (clash (slice_index block 0) 53 40 m.0.operation w.0.operation (inr (omega arith)))
-as_flush faithful told block size sectors bytes (Write10 lba blocks fua) moved after first count m w p = absurd (clash (slice_index block 0) 53 42 m.0.operation w.0.operation (inr (omega arith)))
-as_flush faithful told block size sectors bytes ReadCapacity10 moved after first count m w p = absurd (clash (slice_index block 0) 53 37 m.0.operation w.operation (inr (omega arith)))
+as_flush : (faithful told : Bool) (block : List ℕ) (size : ℕ) (sectors : List (List ℕ)) (bytes : List ℕ) (command : Cdb) (moved after : List (List ℕ))
+    → Means block (Sync10 0 0) ⊎ Means block (Sync16 0 0) → Means block command → CarriesOut faithful told size sectors bytes command moved after → CarriesOut faithful told size sectors bytes (Sync10 0 0) moved after
+as_flush true told block size sectors bytes (Sync10 lba blocks) moved after m w p = p
+as_flush false told block size sectors bytes (Sync10 lba blocks) moved after m w p = p
+as_flush true told block size sectors bytes (Sync16 lba blocks) moved after m w p = p
+as_flush false told block size sectors bytes (Sync16 lba blocks) moved after m w p = p
+as_flush faithful told block size sectors bytes (Read10 lba blocks fua) moved after m w p = absurd (clash (slice_index block 0) 53 145 40 (flush_code block m) w.0.operation refl refl)
+as_flush faithful told block size sectors bytes (Write10 lba blocks fua) moved after m w p = absurd (clash (slice_index block 0) 53 145 42 (flush_code block m) w.0.operation refl refl)
+as_flush faithful told block size sectors bytes ReadCapacity10 moved after m w p = absurd (clash (slice_index block 0) 53 145 37 (flush_code block m) w.operation refl refl)
+as_flush faithful told block size sectors bytes (Read16 lba blocks fua) moved after m w p = absurd (clash (slice_index block 0) 53 145 136 (flush_code block m) w.0.operation refl refl)
+as_flush faithful told block size sectors bytes (Write16 lba blocks fua) moved after m w p = absurd (clash (slice_index block 0) 53 145 138 (flush_code block m) w.0.operation refl refl)
+as_flush faithful told block size sectors bytes (ReadCapacity16 allocation) moved after m w p = absurd (clash (slice_index block 0) 53 145 158 (flush_code block m) w.0.operation refl refl)
 
 -- WHAT IT SAYS OF THE SECTORS, WHERE THE ADAPTER IS FAITHFUL TO THEM AND WHERE IT ISN'T
 
@@ -150,8 +175,8 @@ module _ (sizes : Sizes) (faithful told : Bool) (same_faith : sizes.faithful ≡
       let rules : Rules = rules_of sizes in
       let n : ℕ = places_of rules r in
       let x : ℕ = r.extent.first * sizes.sector_size / sizes.sector_size + 0 in
-      let m : Means srb.block (Read10 (home rules (Some r.volume) x) n r.through) = subst (λ k. Means srb.block (command_for rules (as_client rules r []) (record { first = 0; count = n }) k)) is asks.asks in
-      let p : CarriesOut faithful told sizes.sector_size sectors srb.data (Read10 (home rules (Some r.volume) x) n r.through) moved after = as_read faithful told srb.block _ sectors srb.data command moved after _ n r.through m means performs in
+      let m : Means srb.block (read_command (home rules (Some r.volume) x) n r.through) = subst (λ k. Means srb.block (command_for rules (as_client rules r []) (record { first = 0; count = n }) k)) is asks.asks in
+      let p : CarriesOut faithful told sizes.sector_size sectors srb.data (Read10 (home rules (Some r.volume) x) n r.through) moved after = as_read faithful told srb.block _ sectors srb.data command moved after _ n r.through (read_forms srb.block (home rules (Some r.volume) x) n r.through m) means performs in
       let p' : CarriesOut faithful told sizes.sector_size sectors srb.data (Read10 x n r.through) moved after = subst (λ y. CarriesOut faithful told sizes.sector_size sectors srb.data (Read10 y n r.through) moved after) home_is p in
       let out : IsReadOut faithful sizes.sector_size sectors x n moved after = read_out faithful told sizes.sector_size sectors srb.data x n r.through moved after sized p' in
       let within : All (IsSector sizes.sector_size) moved = out.whole in
@@ -175,8 +200,8 @@ module _ (sizes : Sizes) (faithful told : Bool) (same_faith : sizes.faithful ≡
       let rules : Rules = rules_of sizes in
       let n : ℕ = places_of rules r in
       let x : ℕ = r.extent.first * sizes.sector_size / sizes.sector_size + 0 in
-      let m : Means srb.block (Write10 (home rules (Some r.volume) x) n r.through) = subst (λ k. Means srb.block (command_for rules (as_client rules r []) (record { first = 0; count = n }) k)) is asks.asks in
-      let p : CarriesOut faithful told sizes.sector_size sectors srb.data (Write10 (home rules (Some r.volume) x) n r.through) moved after = as_write faithful told srb.block _ sectors srb.data command moved after _ n r.through m means performs in
+      let m : Means srb.block (write_command (home rules (Some r.volume) x) n r.through) = subst (λ k. Means srb.block (command_for rules (as_client rules r []) (record { first = 0; count = n }) k)) is asks.asks in
+      let p : CarriesOut faithful told sizes.sector_size sectors srb.data (Write10 (home rules (Some r.volume) x) n r.through) moved after = as_write faithful told srb.block _ sectors srb.data command moved after _ n r.through (write_forms srb.block (home rules (Some r.volume) x) n r.through m) means performs in
       let p' : CarriesOut faithful told sizes.sector_size sectors srb.data (Write10 x n r.through) moved after = subst (λ y. CarriesOut faithful told sizes.sector_size sectors srb.data (Write10 y n r.through) moved after) home_is p in
       let out : IsWrittenOut faithful sizes.sector_size sectors srb.data x n moved after = written_out faithful told sizes.sector_size sectors srb.data x n r.through moved after p' in
       let fits = out.inside in
@@ -229,8 +254,8 @@ module _ (sizes : Sizes) (faithful told : Bool) (same_faith : sizes.faithful ≡
       → IsCarried (rules_of sizes) s r Flush srb sectors moved after left
   carried_flush is asks means performs =
       let rules : Rules = rules_of sizes in
-      let m : Means srb.block (Sync10 0 0) = subst (λ k. Means srb.block (command_for rules (as_client rules r []) (record { first = 0; count = places_of rules r }) k)) is asks.asks in
-      let p : CarriesOut faithful told sizes.sector_size sectors srb.data (Sync10 0 0) moved after = as_flush faithful told srb.block _ sectors srb.data command moved after 0 0 m means performs in
+      let m : Means srb.block (flush_command rules.disk_sectors) = subst (λ k. Means srb.block (command_for rules (as_client rules r []) (record { first = 0; count = places_of rules r }) k)) is asks.asks in
+      let p : CarriesOut faithful told sizes.sector_size sectors srb.data (Sync10 0 0) moved after = as_flush faithful told srb.block _ sectors srb.data command moved after (flush_forms srb.block rules.disk_sectors m) means performs in
       let out = flushed_out faithful told sizes.sector_size sectors srb.data 0 0 moved after p in
       let one : places_of rules r ≡ 1 = places_flush sizes r (ap is_transfer is) in
       let none : take sizes.sector_size [] ≡ [] = take_all sizes.sector_size [] (omega arith) in

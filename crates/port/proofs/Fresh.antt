@@ -40,7 +40,7 @@ fresh_is v h = ap (λ (x : List TagInUse). record v { tags = x }) h.tags ∙ ap 
 abbrev pub sizes_by : ℕ → ℕ → ℕ → ℕ → Bool → Sizes
 sizes_by sector_size sectors max_transfer depth faithful = record { sector_size = sector_size; sectors = sectors; max_transfer = max_transfer; depth = depth; faithful = faithful }
 
-hand_empty : (b : Books) (v : AdapterView) → v.accepted ≤ 2 → length b.started ≡ v.depth → IsInOrder (view_fresh v) → IsInHand (books_empty b (sizes_of v)) (view_fresh v) []
+hand_empty : (b : Books) (v : AdapterView) → v.accepted ≤ 3 → length b.started ≡ v.depth → IsInOrder (view_fresh v) → IsInHand (books_empty b (sizes_of v)) (view_fresh v) []
 hand_empty b v few long order =
     let rules : Rules = rules_of (sizes_of v) in
     let depth = order.depth.1 in

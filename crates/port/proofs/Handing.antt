@@ -17,11 +17,11 @@ use Rattle.machine.specs.declared.Request.{Request}
 use Rattle.machine.specs.Rules.{Rules, as_client}
 use Rattle.machine.specs.State.{Mark, Untouched, Out, Done, Failed, Back, OpenRequest, Piece, State}
 use Rattle.machine.specs.Sending.{is_started, status_of_completion, IsStart}
-use Rattle.machine.specs.Answering.{HasEnded, HasCause, Cause, Answers, is_done, answer_bytes}
+use Rattle.machine.specs.Answering.{HasEnded, HasCause, Cause, Answers, is_done, answer_bytes, information}
 use Rattle.machine.specs.Settled.{Settled, IsHeld, WaitsIfCancelled, Waits, IsHeldBack, HasMore, IsAtWork, has_out}
 use Rattle.device.specs.Seen.{Carries, payload_bytes, transfer_length}
 use Rattle.port.proofs.Lists.{length-cut}
-use Rattle.device.specs.Served.{HandsUp, HandsUpNone, IsUnfinished, information, sectors_moved, IsBack}
+use Rattle.device.specs.Served.{HandsUp, HandsUpNone, IsUnfinished, sectors_moved, IsBack}
 use Rattle.machine.proofs.Same.{IsSame-refl}
 use Rattle.machine.specs.declared.Label.TheVariants.{Answer}
 use Rattle.machine.proofs.Numbers.{AreDistinct-Step}
@@ -243,6 +243,7 @@ is_handed b v rooms d rest k is =
     handed rules (state_of b v) (done_open rules d) d d.outcome (omega arith) (places_some b.sizes d.request (kept_sector_some b v rooms k) e.bounded) refl refl refl refl e.why
 
 kept_left : (b : Books) (v : AdapterView) (rooms : List Request) (d : Ended) (rest : List Ended) → IsKept b v rooms → b.done ≡ d ∷ rest → IsKept (books_left b rest) v (d.request ∷ rooms)
+unfolding answers_left
 kept_left b v rooms d rest k is =
     let rules : Rules = rules_of b.sizes in
     let all : All (IsRoom rules v) (d.request ∷ of_packets asked (books_left b rest) v) = All-permutation (IsRoom rules v) _ _ (packets_left asked b v d rest is) k.reserved in
@@ -258,7 +259,8 @@ kept_left b v rooms d rest k is =
       reserved = All-tail (IsRoom rules v) d.request _ all;
       rooms_out = All-cons (IsRoom rules v) d.request rooms (All-head (IsRoom rules v) d.request _ all) k.rooms_out;
       removing = k.removing;
-      distinct = AreDistinct-Step rules (state_of b v) (Answer d.irp.number (status_left d.outcome) (answer_bytes d.request.kind (marks_left rules d.request d.irp.payload d.outcome))) _ k.distinct (inl (refl, answers_left b v rooms d rest k is (is_handed b v rooms d rest k is)));
+      distinct = AreDistinct-Step rules (state_of b v) (Answer d.irp.number (status_left d.outcome) (information (done_open rules d).request (status_left d.outcome)) (answer_bytes d.request.kind (marks_left rules d.request d.irp.payload d.outcome))) _ k.distinct
+          (inl (refl, record { answers = answers_left b v rooms d rest k is (is_handed b v rooms d rest k is); informs = refl }));
       places = let c = k.places in omega arith;
       submitted = k.submitted;
       accepted = k.accepted;

@@ -9,6 +9,7 @@ pub mod Rooms
 pub mod Returning
 pub mod Handing
 pub mod Acting
+pub mod Codes
 pub mod Turning
 pub mod Resetting
 pub mod Searching

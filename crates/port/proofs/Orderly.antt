@@ -119,6 +119,7 @@ in_hand b v rooms k busy = record {
     adapter = k.adapter;
     read = record {
       same_size = k.sizes.sector_size;
+      same_sectors = k.sizes.sectors;
       same_depth = k.sizes.depth;
       arrays = refl;
       pieces = subst (λ xs. IsPermutation (map piece_on_tag (map (piece_on (rules_of b.sizes) b.started) v.tags)) xs) (maps_are (piece_on (rules_of b.sizes) b.started) piece_on_tag use_on_tag (λ u. refl) v.tags) (IsPermutation-refl _);

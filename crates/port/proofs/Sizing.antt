@@ -2,14 +2,13 @@
 use Rattle.std.proofs.Common.{◌≡◌, ◌<◌, ◌≤◌, ◌⊎◌, inl, inr, ℕ, zero, suc, ◌+◌, ◌*◌, ◌/◌, ◌%◌, ◌^◌, ◌==◌, ◌&&◌, Bool, true, false, nat_le, List, [], Some, None, refl, subst, ◌∙◌, arith, length}
 use Rattle.std.proofs.lemmas.Bool.Decides.{nat_tests}
 use Rattle.std.proofs.lemmas.Nat.{div-mul-add, mod-mul-add, mul-le}
-use Rattle.cdb.specs.declared.Cdb.TheVariants.{Write10}
 use Rattle.machine.specs.declared.Kind.{Kind}
 use Rattle.machine.specs.declared.Kind.TheVariants.{Read, Write, Flush}
 use Rattle.machine.specs.declared.Request.{Request}
 use Rattle.machine.specs.Rules.{Rules, is_transfer, as_client, place_count, sectors_of, is_in_bounds}
 use Rattle.machine.specs.State.{State}
 use Rattle.machine.specs.Calling.{refusal, bytes_carried}
-use Rattle.machine.specs.Sending.{command_for}
+use Rattle.machine.specs.Sending.{command_for, write_command}
 use Rattle.device.specs.Seen.{IsBounded, whole_command, transfer_length, Carries, sent_bytes, payload_bytes}
 use Rattle.irp.specs.declared.Payload.{Payload}
 use Rattle.irp.specs.declared.Payload.TheVariants.{Srb as Packed, Buffer, Sent as AtAdapter}
@@ -62,7 +61,7 @@ same_command rules r bytes Read e = refl
 same_command rules r bytes Write e = refl
 same_command rules r bytes Flush e = refl
 
-pub whole_write : (sizes : Sizes) (r : Request) → 0 < sizes.sector_size → IsBounded (rules_of sizes) r → r.kind ≡ Write → whole_command (rules_of sizes) r ≡ Write10 r.extent.first r.extent.count r.through
+pub whole_write : (sizes : Sizes) (r : Request) → 0 < sizes.sector_size → IsBounded (rules_of sizes) r → r.kind ≡ Write → whole_command (rules_of sizes) r ≡ write_command r.extent.first r.extent.count r.through
 whole_write sizes r some b is =
     let v = volume_zero sizes r b in
     let count : (r.extent.count * sizes.sector_size) / sizes.sector_size ≡ r.extent.count = sectors_are _ _ some in
@@ -70,10 +69,10 @@ whole_write sizes r some b is =
     let z : 0 + (r.extent.first + 0) ≡ r.extent.first = omega arith in
     rw (is, v, count, first, z) refl
 
-pub bytes_short : (sizes : Sizes) (r : Request) → sizes.max_transfer ≤ 65535 → sizes.sector_size ≤ 4096 → IsBounded (rules_of sizes) r → r.extent.count * sizes.sector_size < 2 ^ 64
+pub bytes_short : (sizes : Sizes) (r : Request) → sizes.max_transfer ≤ 2 ^ 16 → sizes.sector_size ≤ 4096 → IsBounded (rules_of sizes) r → r.extent.count * sizes.sector_size < 2 ^ 64
 bytes_short sizes r few small b =
     let s = b.short in
-    let m : r.extent.count * sizes.sector_size ≤ 65535 * 4096 = mul-le r.extent.count sizes.sector_size 65535 4096 (omega arith) small in
+    let m : r.extent.count * sizes.sector_size ≤ 2 ^ 16 * 4096 = mul-le r.extent.count sizes.sector_size (2 ^ 16) 4096 (omega arith) small in
     omega arith
 
 in_bounds : (sizes : Sizes) (r : Request) (bytes : List ℕ) → 0 < sizes.sector_size → IsBounded (rules_of sizes) r → is_in_bounds (rules_of sizes) (as_client (rules_of sizes) r bytes) ≡ true

@@ -10,9 +10,8 @@ use Rattle.srb.specs.declared.Srb.{Srb}
 use Rattle.srb.specs.declared.DeviceLabel.{DeviceLabel}
 use Rattle.srb.specs.declared.DeviceLabel.TheVariants.{Start}
 use Rattle.adapter.specs.View.{AdapterView, TagInUse, IsInOrder, IsFree, HasTag as UseHasTag, HasNotTag, in_use_from, Accepts, IsReserved, IsWritable}
-use Rattle.cdb.specs.declared.Cdb.{Cdb}
-use Rattle.cdb.specs.declared.Cdb.TheVariants.{Write10}
-use Rattle.cdb.specs.Meaning.{Means}
+use Rattle.cdb.specs.declared.Cdb.TheVariants.{Sync10, Sync16}
+use Rattle.cdb.specs.Meaning.{Means, AsksToRead, AsksToWrite}
 use Rattle.sector.specs.declared.Extent.{Extent}
 use Rattle.sector.specs.Splice.{splice}
 use Rattle.irp.specs.declared.Payload.{Payload}
@@ -21,14 +20,15 @@ use Rattle.machine.specs.declared.Kind.{Kind}
 use Rattle.machine.specs.declared.Kind.TheVariants.{Read, Write, Flush}
 use Rattle.machine.specs.declared.ClientRequest.{ClientRequest}
 use Rattle.machine.specs.declared.Request.{Request}
-use Rattle.machine.specs.Rules.{Rules, as_client}
+use Rattle.machine.specs.Rules.{Rules, as_client, home, first_sector}
 use Rattle.machine.specs.State.{Mark, Untouched, Out, OpenRequest}
-use Rattle.machine.specs.Sending.{command_for, HasOtherTag, HasTag, IsInTurn, Starts, is_started, sent, IsStart}
-use Rattle.device.specs.Seen.{whole_command, AsksFor, Carries, IsBounded, Seen, sent_bytes}
+use Rattle.machine.specs.Sending.{command_for, write_command, HasOtherTag, HasTag, IsInTurn, Starts, is_started, sent, IsStart}
+use Rattle.device.specs.Seen.{AsksFor, Carries, IsBounded, Seen, sent_bytes}
 use Rattle.device.specs.Served.{Moves}
 use Rattle.machine.specs.Step.{Run, as_label}
 use Rattle.machine.specs.Solo.{all_places as all_places_of}
 use Rattle.machine.proofs.Same.{IsSame-refl, Run-append, Any-permutation}
+use Rattle.machine.proofs.Forms.{read_forms, write_forms, flush_forms, one_write}
 use Rattle.machine.proofs.Numbers.{AreDistinct-DeviceStep}
 use Rattle.port.specs.declared.queues.Held.{Held}
 use Rattle.port.specs.declared.queues.Ended.{Ended}
@@ -43,6 +43,7 @@ use Rattle.port.proofs.Lists.{splice_whole, second_front}
 use Rattle.port.proofs.Tags.{others_same, free_leaves}
 use Rattle.adapter.proofs.Joining.{moves_one, moves_joined, reserves_none}
 use Rattle.port.proofs.Sizing.{whole_write, places_some, places_short, same_command}
+use Rattle.port.proofs.Codes.{write_code, clash}
 use Rattle.port.proofs.Opening.{Any-map, untouched_all, all_unsent, started_by, ended_started, true_false}
 
 -- the queues and the view after the start
@@ -112,27 +113,28 @@ packed b v rooms k = All-weaker (IsWaiting (rules_of b.sizes) v) IsPacked (λ h 
     has_srb (Buffer bytes) rules r c = absurd c
     has_srb AtAdapter rules r c = absurd c
 
--- a block asks for one write at most
-write_is_one : (block : List ℕ) (command : Cdb) (first count : ℕ) (through : Bool) (lba blocks : ℕ) (fua : Bool)
-    → command ≡ Write10 first count through → Means block command → Means block (Write10 lba blocks fua) → (first ≡ lba) × (count ≡ blocks)
-write_is_one block command first count through lba blocks fua is m w =
-    let m' : Means block (Write10 first count through) = subst (Means block) is m in
-    (sym m'.1.address ∙ w.1.address, sym m'.1.blocks ∙ w.1.blocks)
+-- a block that asks for a write asks for no read and no flush
+no_read : (block : List ℕ) (first count : ℕ) (through : Bool) (lba blocks : ℕ) (fua : Bool) → AsksToRead block first count through → AsksToWrite block lba blocks fua → ⊥
+no_read block first count through lba blocks fua (inl m) w = clash (slice_index block 0) 42 138 40 (write_code block lba blocks fua w) m.0.operation refl refl
+no_read block first count through lba blocks fua (inr m) w = clash (slice_index block 0) 42 138 136 (write_code block lba blocks fua w) m.0.operation refl refl
 
-other_code : (code : ℕ) → code ≡ 42 → (code ≡ 40) ⊎ (code ≡ 53) → ⊥
-other_code code h (inl k) = absurd (omega arith)
-other_code code h (inr k) = absurd (omega arith)
+no_flush : (block : List ℕ) (lba blocks : ℕ) (fua : Bool) → Means block (Sync10 0 0) ⊎ Means block (Sync16 0 0) → AsksToWrite block lba blocks fua → ⊥
+no_flush block lba blocks fua (inl m) w = clash (slice_index block 0) 42 138 53 (write_code block lba blocks fua w) m.0.operation refl refl
+no_flush block lba blocks fua (inr m) w = clash (slice_index block 0) 42 138 145 (write_code block lba blocks fua w) m.0.operation refl refl
 
 no_write : (rules : Rules) (q : ClientRequest) (places : Extent) (kind : Kind) (block : List ℕ) (lba blocks : ℕ) (fua : Bool)
-    → Means block (command_for rules q places kind) → Means block (Write10 lba blocks fua) → kind ≡ Write
-no_write rules q places Read block lba blocks fua m w = absurd (other_code (slice_index block 0) w.0.operation (inl m.0.operation))
+    → Means block (command_for rules q places kind) → AsksToWrite block lba blocks fua → kind ≡ Write
+no_write rules q places Read block lba blocks fua m w =
+    let x : ℕ = home rules q.partition (first_sector rules q + places.first) in
+    absurd (no_read block x places.count q.through lba blocks fua (read_forms block x places.count q.through m) w)
 no_write rules q places Write block lba blocks fua m w = refl
-no_write rules q places Flush block lba blocks fua m w = absurd (other_code (slice_index block 0) w.0.operation (inr m.0.operation))
+no_write rules q places Flush block lba blocks fua m w = absurd (no_flush block lba blocks fua (flush_forms block rules.disk_sectors m) w)
 
 pub is_writable : (sizes : Sizes) (v : AdapterView) (r : Request) (srb : Srb) → 0 < sizes.sector_size → IsRoom (rules_of sizes) v r → AsksFor (rules_of sizes) r srb → IsWritable v srb
 is_writable sizes v r srb some room asks lba count fua w inside =
     let is : r.kind ≡ Write = no_write (rules_of sizes) (as_client (rules_of sizes) r []) (all_places_of (rules_of sizes) (as_client (rules_of sizes) r [])) r.kind srb.block lba count fua asks.asks w in
-    let one = write_is_one srb.block (whole_command (rules_of sizes) r) r.extent.first r.extent.count r.through lba count fua (whole_write sizes r some room.bounded is) asks.asks w in
+    let m : Means srb.block (write_command r.extent.first r.extent.count r.through) = subst (Means srb.block) (whole_write sizes r some room.bounded is) asks.asks in
+    let one = one_write srb.block r.extent.first r.extent.count lba count r.through fua (write_forms srb.block r.extent.first r.extent.count r.through m) w in
     subst (λ (c : ℕ). IsReserved v (record { first = lba; count = c })) one.1 (subst (λ (f : ℕ). IsReserved v (record { first = f; count = r.extent.count })) one.0 (room.reserved is))
 
 -- the machine's start

@@ -98,7 +98,7 @@ pub record IsKept (b : Books) (v : AdapterView) (rooms : List Request) : Type 0 
   -- each packet has a place, and each room that is out
   pub places : length rooms + (length b.waiting + (length v.tags + length b.done)) ≡ b.places
   pub submitted : b.submitted ≤ most
-  pub accepted : v.accepted + length b.waiting ≤ b.submitted + 2
+  pub accepted : v.accepted + length b.waiting ≤ b.submitted + 3
   pub numbered : b.next_piece + length b.waiting ≤ b.submitted + 1
   pub labels : length v.labels + (v.depth - length v.tags) ≤ 64
 

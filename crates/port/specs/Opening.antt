@@ -8,11 +8,11 @@ use Rattle.device.specs.Seen.{Seen}
 use Rattle.port.specs.declared.queues.Sizes.{Sizes}
 use Rattle.port.specs.Shown.{rules_of, most}
 
--- an adapter with no piece on a tag and no label, which accepted two pieces at most
+-- an adapter with no piece on a tag and no label, which accepted three pieces at most
 pub record IsFresh (v : AdapterView) : Type 0 where
   pub tags : v.tags ≡ []
   pub labels : v.labels ≡ []
-  pub accepted : v.accepted ≤ 2
+  pub accepted : v.accepted ≤ 3
 
 -- the sizes of the adapter's disk
 abbrev pub sizes_of : AdapterView → Sizes

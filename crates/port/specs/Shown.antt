@@ -29,6 +29,7 @@ use Rattle.port.specs.Turns.{held_on}
 abbrev pub rules_of : Sizes → Rules
 rules_of sizes = record {
   sector_size = sizes.sector_size;
+  disk_sectors = sizes.sectors;
   partitions = record { first = 0; count = sizes.sectors } ∷ [];
   longest = sizes.max_transfer;
   max_transfer = sizes.max_transfer;

@@ -5,7 +5,7 @@ ghost use Rattle.machine.specs.declared.Kind.TheVariants.{Write};
 ghost use Rattle.machine.specs.declared.Request.{Request};
 ghost use Rattle.port.specs.Books.{books_of, visits_of};
 ghost use Rattle.machine.specs.Rules.{as_client};
-ghost use Rattle.device.specs.Served.{information as information_of};
+ghost use Rattle.machine.specs.Answering.{information as information_of};
 ghost use Rattle.port.specs.Cancelling.{CancelsQueued, CancelsAt, CancelsNotAt, CancelsNoStarted};
 ghost use Rattle.port.specs.Shown.{seen_of, rules_of};
 ghost use Rattle.port.specs.Turns.{WithdrawsNotAt};

@@ -39,8 +39,8 @@ pub struct Port<A: Adapter> {
 }
 
 impl<A: Adapter> Port<A> {
-    /// The port of an adapter whose tags are free and whose labels are all taken, and which accepted two commands at
-    /// most: those of a start that read its size and its partition table.
+    /// The port of an adapter whose tags are free and whose labels are all taken, and which accepted three commands at
+    /// most: those of a start that read its size, in ten bytes or in sixteen, and its partition table.
     ///
     /// # Errors
     ///
