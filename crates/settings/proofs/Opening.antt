@@ -43,9 +43,9 @@ extents_told : (c : Config) (view : MemView) (partition : Option Extent) → tol
     → told_partition view.shown ≡ Ok partition → partitions_of partition ≡ extents_of (partition_of c)
 extents_told c view partition says told = same_extents c.sectors (partition_of c) partition (sym says ∙ told)
 
-rules_started : (c : Config) (view : MemView) (partitions : List Extent) → IsNewAdapter c view → partitions ≡ extents_of (partition_of c)
+rules_started : (c : Config) (view : MemView) (partitions : List Extent) → IsNewAdapter c view → length view.shown.sectors ≡ c.sectors → partitions ≡ extents_of (partition_of c)
     → first_rules view.shown (record { window = c.window; open_requests = c.open_requests }) partitions ≡ rules_of c
-rules_started c view partitions new same =
+rules_started c view partitions new count same =
     let sector_size = new.sector_size in
     let max_transfer = new.max_transfer in
     let depth = new.depth in
@@ -65,7 +65,7 @@ started c view stack settings new says first =
     ap (λ (xs : List (List ℕ)). map (sectors_in xs) (partitions_of first.partition)) new.sectors
     ∙ (ap (map (sectors_in (disk_of c))) same ∙ zero_sectors c (partition_of c) (table_of c.sector_size (partition_of c)) is_map) in
     record {
-      rules = first.rules ∙ rules_started c view (partitions_of first.partition) new same;
+      rules = first.rules ∙ rules_started c view (partitions_of first.partition) new count same;
       is_map = is_map;
       state = first.state ∙ ap opening arrays;
       adapter = record {

@@ -13,9 +13,9 @@ pub record HasNumbers (document : Members) (end many : ℕ) : Type 0 where
   pub known_keys : has_known_keys document ≡ true
   pub one_partition : nat_le (length (values_of (get_member (codes "partition") document))) 1 ≡ true
   pub sector_size : None ≡ needed_fault (is_number is_sector_size) (get_member (codes "sector_size") document)
-  pub sectors : None ≡ needed_fault (is_number (is_from 1 4294967295)) (get_member (codes "sectors") document)
+  pub sectors : None ≡ needed_fault (is_number (is_from 1 1099511627776)) (get_member (codes "sectors") document)
   pub sectors_is : IsNumber (get_member (codes "sectors") document) end
-  pub max_transfer : None ≡ needed_fault (is_number (is_from 1 65535)) (get_member (codes "max_transfer") document)
+  pub max_transfer : None ≡ needed_fault (is_number (is_from 1 65536)) (get_member (codes "max_transfer") document)
   pub depth : None ≡ needed_fault (is_number (is_from 1 32)) (get_member (codes "depth") document)
   pub window : None ≡ needed_fault (is_number (is_from 1 64)) (get_member (codes "window") document)
   pub window_is : IsNumber (get_member (codes "window") document) many

@@ -77,8 +77,8 @@ setting_faults document =
     unless (has_known_keys document) UnknownKey
     ∷ unless (nat_le (length (values_of (get_member (codes "partition") document))) 1) TooManyPartitions
     ∷ needed_fault (is_number is_sector_size) (get_member (codes "sector_size") document)
-    ∷ needed_fault (is_number (is_from 1 4294967295)) (get_member (codes "sectors") document)
-    ∷ needed_fault (is_number (is_from 1 65535)) (get_member (codes "max_transfer") document)
+    ∷ needed_fault (is_number (is_from 1 1099511627776)) (get_member (codes "sectors") document)
+    ∷ needed_fault (is_number (is_from 1 65536)) (get_member (codes "max_transfer") document)
     ∷ needed_fault (is_number (is_from 1 32)) (get_member (codes "depth") document)
     ∷ needed_fault (is_number (is_from 1 64)) (get_member (codes "window") document)
     ∷ optional_fault (whole 64) (is_number (is_from 1 window)) (get_member (codes "open_requests") document)

@@ -14,8 +14,8 @@ IsUsed p = IsFrom 1 255 p.kind
 -- each setting is in its range
 pub record AreInRange (c : Config) : Type 0 where
   pub sector_size : (c.sector_size ≡ 512) ⊎ (c.sector_size ≡ 4096)
-  pub sectors : IsFrom 1 4294967295 c.sectors
-  pub max_transfer : IsFrom 1 65535 c.max_transfer
+  pub sectors : IsFrom 1 1099511627776 c.sectors
+  pub max_transfer : IsFrom 1 65536 c.max_transfer
   pub depth : IsFrom 1 32 c.depth
   pub window : IsFrom 1 64 c.window
   pub open_requests : IsFrom 1 c.window c.open_requests

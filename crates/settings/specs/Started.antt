@@ -36,6 +36,7 @@ disk_of c = table_of c.sector_size (partition_of c) ∷ zeros c (c.sectors - 1)
 abbrev pub rules_of : Config → Rules
 rules_of c = record {
   sector_size = c.sector_size;
+  disk_sectors = c.sectors;
   partitions = extents_of (partition_of c);
   longest = c.max_transfer;
   max_transfer = c.max_transfer;

@@ -44,8 +44,8 @@ fn of_table(alloc: Global, table: &Table) -> Result<Config, ConfigFault>
         return Err(ConfigFault::TooManyPartitions);
     }
     let sector_size = table::sector_size(table)?;
-    let sectors = table::number(table, "sectors", 1, u32::MAX)?;
-    let max_transfer = table::number(table, "max_transfer", 1, 65_535)?;
+    let sectors = table::number(table, "sectors", 1, 1_099_511_627_776)?;
+    let max_transfer = table::number(table, "max_transfer", 1, 65_536)?;
     let depth = table::number(table, "depth", 1, 32)?;
     let window = table::number(table, "window", 1, 64)?;
     let open_requests = table::number_or(table, "open_requests", 1, window, 64)?;
@@ -55,10 +55,10 @@ fn of_table(alloc: Global, table: &Table) -> Result<Config, ConfigFault>
     Ok(Config {
         sector_size,
         sectors,
-        max_transfer,
+        max_transfer: max_transfer as u32,
         depth: depth as u8,
-        window,
-        open_requests,
+        window: window as u32,
+        open_requests: open_requests as u32,
         write_protected,
         bad_sectors,
         partitions,

@@ -34,9 +34,9 @@ pub struct Partition {
 pub struct Config {
     /// Bytes of a sector, 512 or 4096.
     pub sector_size: u32,
-    /// Sectors of the disk, 1 to 4,294,967,295.
-    pub sectors: u32,
-    /// Sectors of the longest transfer of the adapter, 1 to 65,535.
+    /// Sectors of the disk, 1 to 1,099,511,627,776.
+    pub sectors: u64,
+    /// Sectors of the longest transfer of the adapter, 1 to 65,536.
     pub max_transfer: u32,
     /// Tags of the adapter, 1 to 32.
     pub depth: u8,

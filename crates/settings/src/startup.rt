@@ -73,7 +73,7 @@ fn disk(alloc: Global, config: Config) -> Result<VecDisk, NoMemory>
     let disk = VecDisk::starting_with(
         alloc,
         config.sector_size,
-        config.sectors as u64,
+        config.sectors,
         table.as_slice(),
         config.bad_sectors,
     )?;

@@ -16,6 +16,9 @@ use crate::{ConfigFault, Partition};
 use std::alloc::Global;
 use toml::{Table, Value};
 
+/// The largest number that an entry of a partition table has room for.
+const MOST: u64 = 4_294_967_295;
+
 /// The value at a key.
 fn value_at<'a>(table: &'a Table, key: &str) -> Option<&'a Value>
     ensures { option_map (λ value. view value.now) result ≡ get_member key.now (table_view table.now) }
@@ -114,7 +117,7 @@ fn is_partition_key(key: &str) -> bool
 }
 
 /// A value as a whole number from `least` to `most`.
-fn in_range(value: &Value, least: u32, most: u32) -> Result<u32, ConfigFault>
+fn in_range(value: &Value, least: u64, most: u64) -> Result<u64, ConfigFault>
     ensures value { IfOk result (λ n. view value.now ≡ whole n) }
     ensures range { IfOk result (IsFrom least most) }
     ensures fault { result_err result ≡ unless (is_number (is_from least most) (view value.now)) OutOfRange }
@@ -122,14 +125,14 @@ fn in_range(value: &Value, least: u32, most: u32) -> Result<u32, ConfigFault>
     let Value::Integer(number) = value else {
         return Err(ConfigFault::OutOfRange);
     };
-    match u32::try_from(*number) {
+    match u64::try_from(*number) {
         Ok(number) if least <= number && number <= most => Ok(number),
         _ => Err(ConfigFault::OutOfRange),
     }
 }
 
 /// The whole number at a key that has to be there.
-pub fn number(table: &Table, key: &str, least: u32, most: u32) -> Result<u32, ConfigFault>
+pub fn number(table: &Table, key: &str, least: u64, most: u64) -> Result<u64, ConfigFault>
     ensures value { IfOk result (IsNumber (get_member key.now (table_view table.now))) }
     ensures range { IfOk result (IsFrom least most) }
     ensures fault { result_err result ≡ needed_fault (is_number (is_from least most)) (get_member key.now (table_view table.now)) }
@@ -144,10 +147,10 @@ pub fn number(table: &Table, key: &str, least: u32, most: u32) -> Result<u32, Co
 pub fn number_or(
     table: &Table,
     key: &str,
-    least: u32,
-    most: u32,
-    default: u32,
-) -> Result<u32, ConfigFault>
+    least: u64,
+    most: u64,
+    default: u64,
+) -> Result<u64, ConfigFault>
     ensures value { IfOk result (IsNumberOr default (get_member key.now (table_view table.now))) }
     ensures range { IfOk result (IsFrom least most) }
     ensures fault { result_err result ≡ optional_fault (whole default) (is_number (is_from least most)) (get_member key.now (table_view table.now)) }
@@ -165,7 +168,7 @@ pub fn sector_size(table: &Table) -> Result<u32, ConfigFault>
     ensures fault { result_err result ≡ needed_fault (is_number is_sector_size) (get_member (codes "sector_size") (table_view table.now)) }
 {
     match number(table, "sector_size", 512, 4096)? {
-        size @ (512 | 4096) => Ok(size),
+        size @ (512 | 4096) => Ok(size as u32),
         _ => Err(ConfigFault::OutOfRange),
     }
 }
@@ -182,7 +185,7 @@ pub fn write_protected(table: &Table) -> Result<bool, ConfigFault>
 }
 
 /// The sectors at `bad_sectors`, each below `sectors`.
-pub fn bad_sectors(alloc: Global, table: &Table, sectors: u32) -> Result<Vec<u64>, ConfigFault>
+pub fn bad_sectors(alloc: Global, table: &Table, sectors: u64) -> Result<Vec<u64>, ConfigFault>
     requires { 0 < sectors }
     ensures value { IfOk result (λ bad. AreNumbers (get_member (codes "bad_sectors") (table_view table.now)) bad.items) }
     ensures range { IfOk result (λ bad. All (λ sector. sector < sectors) bad.items) }
@@ -195,7 +198,7 @@ pub fn bad_sectors(alloc: Global, table: &Table, sectors: u32) -> Result<Vec<u64
     }
 }
 
-fn sectors_of(alloc: Global, items: &[Value], sectors: u32) -> Result<Vec<u64>, ConfigFault>
+fn sectors_of(alloc: Global, items: &[Value], sectors: u64) -> Result<Vec<u64>, ConfigFault>
     requires { 0 < sectors }
     ensures value { IfOk result (λ bad. map view items.now ≡ map whole bad.items) }
     ensures range { IfOk result (λ bad. All (λ sector. sector < sectors) bad.items) }
@@ -204,8 +207,7 @@ fn sectors_of(alloc: Global, items: &[Value], sectors: u32) -> Result<Vec<u64>, 
     let mut bad = Vec::new(alloc);
     for item in items {
         let sector = in_range(item, 0, sectors - 1)?;
-        bad.push(u64::from(sector))
-            .map_err(|_| ConfigFault::NoMemory)?;
+        bad.push(sector).map_err(|_| ConfigFault::NoMemory)?;
     }
     Ok(bad)
 }
@@ -249,12 +251,12 @@ fn partition_of(settings: &Table) -> Result<Partition, ConfigFault>
     ensures value { IfOk result (IsPartition (table_view settings.now)) }
     ensures fault { result_err result ≡ partition_fault (table (table_view settings.now)) }
 {
-    let first = number(settings, "first", 0, u32::MAX)?;
-    let count = number(settings, "count", 0, u32::MAX)?;
+    let first = number(settings, "first", 0, MOST)?;
+    let count = number(settings, "count", 0, MOST)?;
     let kind = number_or(settings, "type", 1, 255, 7)?;
     Ok(Partition {
         kind: kind as u8,
-        first,
-        count,
+        first: first as u32,
+        count: count as u32,
     })
 }

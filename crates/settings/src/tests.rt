@@ -15,18 +15,18 @@ const GOOD: &str =
 fn reads_settings(rt: HostRuntime) -> Result<(), Fail> {
     let alloc = rt.alloc();
     let text =
-        "sector_size = 4096\nsectors = 4294967295\nmax_transfer = 65535\ndepth = 32\nwindow = 64\nwrite_protected = true\nbad_sectors = [7, 4294967294]\npartition = [{ first = 1, count = 2, type = 255 }]\n";
+        "sector_size = 4096\nsectors = 1099511627776\nmax_transfer = 65536\ndepth = 32\nwindow = 64\nwrite_protected = true\nbad_sectors = [7, 1099511627775]\npartition = [{ first = 1, count = 2, type = 255 }]\n";
     let settings = config(alloc, text)?;
     assert_eq!(rt; settings.sector_size, 4096);
-    assert_eq!(rt; settings.sectors, u32::MAX);
-    assert_eq!(rt; settings.max_transfer, 65_535);
+    assert_eq!(rt; settings.sectors, 1_099_511_627_776);
+    assert_eq!(rt; settings.max_transfer, 65_536);
     assert_eq!(rt; settings.depth, 32);
     assert_eq!(rt; settings.window, 64);
     assert_eq!(rt; settings.open_requests, 64);
     assert!(rt; settings.write_protected);
     assert_eq!(rt;
         settings.bad_sectors.as_slice(),
-        [7, 4_294_967_294].as_slice()
+        [7, 1_099_511_627_775].as_slice()
     );
     let partition = Partition {
         kind: 255,
@@ -74,13 +74,13 @@ static DAMAGES: [(&str, &str, ConfigFault); 40] = [
     ("sectors = 4096", "sectors = -1", ConfigFault::OutOfRange),
     (
         "sectors = 4096",
-        "sectors = 4294967296",
+        "sectors = 1099511627777",
         ConfigFault::OutOfRange,
     ),
     ("max_transfer = 64\n", "", ConfigFault::MissingKey),
     (
         "max_transfer = 64",
-        "max_transfer = 65536",
+        "max_transfer = 65537",
         ConfigFault::OutOfRange,
     ),
     (
@@ -262,6 +262,24 @@ fn starts_stacks(rt: HostRuntime) -> Result<(), Fail> {
         let text = format!(in alloc; "{DISK}{more}")?;
         let settings = config(alloc, text.as_str())?;
         assert_eq!(rt; start(alloc, settings).err(), fault, "at {more:?}");
+    }
+    Ok(())
+}
+
+/// Disks of as many sectors as there may be, and of one less: more bytes than an address has room for.
+#[test]
+fn refuses_disks_past_memory(rt: HostRuntime) -> Result<(), Fail> {
+    let alloc = rt.alloc();
+    for sectors in [1_099_511_627_775u64, 1_099_511_627_776] {
+        let text = format!(in alloc;
+            "sector_size = 4096\nsectors = {sectors}\nmax_transfer = 64\ndepth = 1\nwindow = 1\nopen_requests = 1\n"
+        )?;
+        let settings = config(alloc, text.as_str())?;
+        assert_eq!(rt;
+            start(alloc, settings).err(),
+            Some(StartFault::NoMemory),
+            "at {sectors}"
+        );
     }
     Ok(())
 }
