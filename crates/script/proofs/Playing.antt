@@ -5,7 +5,7 @@ use Rattle.std.proofs.lemmas.List.{append_assoc, append-nil, drop_all, length-dr
 use Rattle.std.proofs.lemmas.List.Sorted.{length_permutation}
 use Rattle.std.specs.Io.KnownBytes.{Appends}
 use Rattle.machine.specs.declared.Label.{Label}
-use Rattle.machine.specs.declared.Label.TheVariants.{Call, Device, Answer as AnswerLabel, Cancel, Pause, Resume, Remove, Removed}
+use Rattle.machine.specs.declared.Label.TheVariants.{Call, Device, Answer as AnswerLabel, Cancel, Pause, Resume, Remove, Surprise, Removed}
 use Rattle.machine.specs.Step.{as_label}
 use Rattle.compose.specs.declared.Answer.{Answer}
 use Rattle.compose.specs.declared.Event.{Event}
@@ -15,9 +15,8 @@ use Rattle.compose.specs.Shown.{StackView}
 use Rattle.script.specs.declared.Line.{Line}
 use Rattle.script.specs.declared.Order.{Order}
 use Rattle.script.specs.Events.{Handles, Keeps}
-use Rattle.script.specs.Lengths.{Waiting}
 use Rattle.script.specs.Printing.{labels_text, line_end, reply_line}
-use Rattle.script.specs.Trace.{left_by, left_by_all, waiting_after_all, without_labels, Between, IsAllTaken, IsCarriedOut, IsLinePlayed, IsPlayed, IsTrace, IsTraceTo, Prints, line_text}
+use Rattle.script.specs.Trace.{left_by, left_by_all, without_labels, Between, IsAllTaken, IsCarriedOut, IsLinePlayed, IsPlayed, IsTrace, IsTraceTo, Prints, line_text}
 use Rattle.std.specs.BTreeMap.{IsEmpty}
 use Rattle.script.proofs.Printed.{both, nothing}
 
@@ -27,11 +26,12 @@ use Rattle.script.proofs.Printed.{both, nothing}
 fewer : (label : Label) (answers : List Answer) → length (left_by label answers) ≤ length answers
 fewer (Call number request) answers = omega arith
 fewer (Device label) answers = omega arith
-fewer (AnswerLabel number status bytes) answers = let e : length (drop 1 answers) ≡ length answers - 1 = length-drop 1 answers in omega arith
+fewer (AnswerLabel number status information bytes) answers = let e : length (drop 1 answers) ≡ length answers - 1 = length-drop 1 answers in omega arith
 fewer (Cancel number) answers = omega arith
 fewer Pause answers = omega arith
 fewer Resume answers = omega arith
 fewer Remove answers = omega arith
+fewer Surprise answers = omega arith
 fewer Removed answers = omega arith
 
 -- labels, and then those of as many answers as wait
@@ -65,10 +65,10 @@ of_carried handles order old reply new taken (inr h) =
 -- what the steps of a line give
 pub line_played : (old new : Between) (line : Line) (reply : Reply) (stepped : StackView) (a b c d : Option (List ℕ)) → IsAllTaken old.stack
     → IsCarriedOut old.handles line.order old.stack reply stepped → Appends a b (codes "> " ++ (line.text.now ++ line_end)) → Appends b c (reply_line reply)
-    → Keeps reply old.handles new.handles → new.stack ≡ without_labels stepped → Appends c d (labels_text old.waiting stepped.labels)
-    → new.waiting ≡ waiting_after_all old.waiting stepped.labels → Prints a d (λ text. IsLinePlayed old line text new)
-line_played old new line reply stepped a b c d taken carried first second keeps gone third waits = record {
-  text = line_text line reply old.waiting stepped.labels;
+    → Keeps reply old.handles new.handles → new.stack ≡ without_labels stepped → Appends c d (labels_text stepped.labels)
+    → Prints a d (λ text. IsLinePlayed old line text new)
+line_played old new line reply stepped a b c d taken carried first second keeps gone third = record {
+  text = line_text line reply stepped.labels;
   is = record {
     reply = reply;
     stepped = stepped;
@@ -76,10 +76,9 @@ line_played old new line reply stepped a b c d taken carried first second keeps 
     printed = refl;
     taken = gone ∙ ap (λ (xs : List Answer). record stepped { labels = []; answers = xs }) (of_carried old.handles line.order old.stack reply stepped taken carried);
     handles = keeps;
-    waiting = waits;
   };
-  appends = both a b d (codes "> " ++ (line.text.now ++ line_end)) (reply_line reply ++ labels_text old.waiting stepped.labels) first
-      (both b c d (reply_line reply) (labels_text old.waiting stepped.labels) second third);
+  appends = both a b d (codes "> " ++ (line.text.now ++ line_end)) (reply_line reply ++ labels_text stepped.labels) first
+      (both b c d (reply_line reply) (labels_text stepped.labels) second third);
 }
 
 -- after a line all labels and answers are taken
@@ -97,11 +96,11 @@ played_more old [] text mid line more new h one =
 played_more old (next ∷ lines) text mid line more new h one =
     (h.0, h.1 ++ more, h.2, h.3, played_more h.2 lines h.1 mid line more new h.4 one, ap (λ (t : List ℕ). t ++ more) h.5 ∙ append_assoc h.0 h.1 more)
 
-pub none_played : (stack : StackView) (handles : Handles) (waiting : Waiting) (known : Option (List ℕ)) → IsEmpty handles → waiting ≡ []
-    → Prints known known (λ text. IsTraceTo stack [] text (record { stack = stack; handles = handles; waiting = waiting }))
-none_played stack handles waiting known none no_writes = record {
+pub none_played : (stack : StackView) (handles : Handles) (known : Option (List ℕ)) → IsEmpty handles
+    → Prints known known (λ text. IsTraceTo stack [] text (record { stack = stack; handles = handles }))
+none_played stack handles known none = record {
   text = [];
-  is = record { handles = handles; none = none; played = (refl, ap (λ (w : Waiting). record { stack = stack; handles = handles; waiting = w }) no_writes) };
+  is = record { handles = handles; none = none; played = (refl, refl) };
   appends = nothing known;
 }
 
@@ -114,8 +113,8 @@ one_played stack lines i d mid new a b c inside h one = record {
     handles = h.is.handles;
     none = h.is.none;
     played =
-        subst (λ (ls : List Line). IsPlayed (record { stack = stack; handles = h.is.handles; waiting = [] }) ls (h.text ++ one.text) new) (sym (take_more lines i d inside))
-        (played_more (record { stack = stack; handles = h.is.handles; waiting = [] }) (take i lines) h.text mid (get_or lines i d) one.text new h.is.played one.is);
+        subst (λ (ls : List Line). IsPlayed (record { stack = stack; handles = h.is.handles }) ls (h.text ++ one.text) new) (sym (take_more lines i d inside))
+        (played_more (record { stack = stack; handles = h.is.handles }) (take i lines) h.text mid (get_or lines i d) one.text new h.is.played one.is);
   };
   appends = both a b c h.text one.text h.appends one.appends;
 }

@@ -3,7 +3,6 @@ use Rattle.std.specs.Prelude.{ℕ, ◌+◌, ◌-◌, ◌^◌, ◌==◌, Bool, tr
 use Rattle.std.specs.Fmt.{decimal, digits, format_spec, padded_integral}
 use Rattle.std.specs.List.{concat}
 use Rattle.ntstatus.specs.declared.NtStatus.{NtStatus}
-use Rattle.ntstatus.specs.declared.NtStatus.TheVariants.{Success}
 use Rattle.ntstatus.specs.Codes.{name_of}
 use Rattle.srb.specs.declared.DeviceLabel.{DeviceLabel}
 use Rattle.srb.specs.declared.DeviceLabel.TheVariants.{Start, Act, Fault, Return}
@@ -11,8 +10,7 @@ use Rattle.machine.specs.declared.ClientRequest.{ClientRequest}
 use Rattle.machine.specs.declared.Kind.{Kind}
 use Rattle.machine.specs.declared.Kind.TheVariants.{Read, Write, Flush}
 use Rattle.machine.specs.declared.Label.{Label}
-use Rattle.machine.specs.declared.Label.TheVariants.{Call, Device, Answer, Cancel, Pause, Resume, Remove, Removed}
-use Rattle.script.specs.Lengths.{Waiting, length_of, without}
+use Rattle.machine.specs.declared.Label.TheVariants.{Call, Device, Answer, Cancel, Pause, Resume, Remove, Surprise, Removed}
 use Rattle.srb.specs.declared.Class.{Class}
 use Rattle.srb.specs.declared.Class.TheVariants.{Good, Busy, Bad}
 use Rattle.compose.specs.declared.Refusal.{Refusal}
@@ -98,35 +96,28 @@ device_line (Act piece bytes) = codes "act " ++ (decimal piece ++ line_end)
 device_line (Fault piece) = codes "fault " ++ (decimal piece ++ line_end)
 device_line (Return piece class) = codes "return " ++ (decimal piece ++ (codes " " ++ (word_of class ++ line_end)))
 
--- how many bytes an answer moved, and of a read which; nothing is moved without success
-abbrev pub moved_text : NtStatus → ℕ → List ℕ → List ℕ
-moved_text Success written [] = decimal written ++ line_end
-moved_text Success written (byte ∷ bytes) = decimal (length (byte ∷ bytes)) ++ (codes " " ++ (runs_text (runs_of (byte ∷ bytes)) ++ line_end))
-moved_text _ written bytes = codes "0" ++ line_end
+-- what stands behind the number of bytes that were moved: of a read its bytes
+abbrev pub bytes_text : List ℕ → List ℕ
+bytes_text [] = line_end
+bytes_text (byte ∷ bytes) = codes " " ++ (runs_text (runs_of (byte ∷ bytes)) ++ line_end)
 
--- the line of an answer; `written` is the length of a write, and 0 for another request
+-- the line of an answer: its status, how many bytes were moved, and of a read which
 abbrev pub answer_line : ℕ → NtStatus → ℕ → List ℕ → List ℕ
-answer_line number status written bytes =
-    codes "answer " ++ (decimal number ++ (codes " " ++ (name_of status ++ (codes " " ++ moved_text status written bytes))))
+answer_line number status information bytes =
+    codes "answer " ++ (decimal number ++ (codes " " ++ (name_of status ++ (codes " " ++ (decimal information ++ bytes_text bytes)))))
 
--- the line of a label, where these writes wait for their answers
-abbrev pub label_line : Waiting → Label → List ℕ
-label_line waiting (Call number request) = call_line number request
-label_line waiting (Device label) = device_line label
-label_line waiting (Answer number status bytes) = answer_line number status (length_of number waiting) bytes
-label_line waiting (Cancel number) = codes "cancel " ++ (decimal number ++ line_end)
-label_line waiting Pause = codes "pause" ++ line_end
-label_line waiting Resume = codes "resume" ++ line_end
-label_line waiting Remove = codes "remove" ++ line_end
-label_line waiting Removed = codes "removed" ++ line_end
-
--- the writes that wait after a label
-abbrev pub waiting_after : Waiting → Label → Waiting
-waiting_after waiting (Call number request) = elim request.kind [ Write ↦ waiting ++ (number, request.length) ∷ [] | Read ↦ waiting | Flush ↦ waiting ]
-waiting_after waiting (Answer number status bytes) = without number waiting
-waiting_after waiting _ = waiting
+-- the line of a label
+abbrev pub label_line : Label → List ℕ
+label_line (Call number request) = call_line number request
+label_line (Device label) = device_line label
+label_line (Answer number status information bytes) = answer_line number status information bytes
+label_line (Cancel number) = codes "cancel " ++ (decimal number ++ line_end)
+label_line Pause = codes "pause" ++ line_end
+label_line Resume = codes "resume" ++ line_end
+label_line Remove = codes "remove" ++ line_end
+label_line Surprise = codes "surprise" ++ line_end
+label_line Removed = codes "removed" ++ line_end
 
 -- the lines of labels, one after the other
-abbrev pub labels_text : Waiting → List Label → List ℕ
-labels_text waiting [] = []
-labels_text waiting (label ∷ labels) = label_line waiting label ++ labels_text (waiting_after waiting label) labels
+abbrev pub labels_text : List Label → List ℕ
+labels_text labels = concat (map label_line labels)

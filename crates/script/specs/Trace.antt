@@ -12,14 +12,13 @@ use Rattle.compose.specs.Shown.{StackView}
 use Rattle.script.specs.declared.Line.{Line}
 use Rattle.script.specs.declared.Order.{Order}
 use Rattle.script.specs.Events.{Handles, IsEventOf, IsReplyTo, Keeps}
-use Rattle.script.specs.Lengths.{Waiting}
-use Rattle.script.specs.Printing.{labels_text, line_end, reply_line, waiting_after}
+use Rattle.script.specs.Printing.{labels_text, line_end, reply_line}
 
 -- WHAT IS TAKEN
 
 -- the waiting answers that are left when the one that goes with a label was taken, if one does
 abbrev pub left_by : Label → List Answer → List Answer
-left_by (AnswerLabel number status bytes) answers = drop 1 answers
+left_by (AnswerLabel number status information bytes) answers = drop 1 answers
 left_by _ answers = answers
 
 abbrev pub left_by_all : List Label → List Answer → List Answer
@@ -29,11 +28,6 @@ left_by_all (label ∷ labels) answers = left_by_all labels (left_by label answe
 -- the stack after its labels were taken, and the answers that go with them
 abbrev pub without_labels : StackView → StackView
 without_labels v = record v { labels = []; answers = left_by_all v.labels v.answers }
-
--- the writes that wait after labels
-abbrev pub waiting_after_all : Waiting → List Label → Waiting
-waiting_after_all waiting [] = waiting
-waiting_after_all waiting (label ∷ labels) = waiting_after_all (waiting_after waiting label) labels
 
 -- no label and no answer waits to be taken
 pub record IsAllTaken (v : StackView) : Type 0 where
@@ -52,25 +46,23 @@ pub record IsStepOf (handles : Handles) (order : Order) (old : StackView) (reply
 abbrev pub IsCarriedOut : Handles → Order → StackView → Reply → StackView → Type 0
 IsCarriedOut handles order old reply new = IsStepOf handles order old reply new ⊎ (IsReplyTo order reply × (new ≡ old))
 
--- between two lines: the stack, its handles by their numbers, and the writes that wait for their answers
+-- between two lines: the stack, and its handles by their numbers
 pub record Between : Type 0 where
   pub stack : StackView
   pub handles : Handles
-  pub waiting : Waiting
 
 -- the line behind "> ", the line of its reply, and the lines of the labels
-abbrev pub line_text : Line → Reply → Waiting → List Label → List ℕ
-line_text line reply waiting labels = (codes "> " ++ (line.text.now ++ line_end)) ++ (reply_line reply ++ labels_text waiting labels)
+abbrev pub line_text : Line → Reply → List Label → List ℕ
+line_text line reply labels = (codes "> " ++ (line.text.now ++ line_end)) ++ (reply_line reply ++ labels_text labels)
 
 -- a line is carried out, this is printed of it, and then all labels and answers are taken
 pub record IsLinePlayed (old : Between) (line : Line) (text : List ℕ) (new : Between) : Type 0 where
   pub reply : Reply
   pub stepped : StackView
   pub carried : IsCarriedOut old.handles line.order old.stack reply stepped
-  pub printed : text ≡ line_text line reply old.waiting stepped.labels
+  pub printed : text ≡ line_text line reply stepped.labels
   pub taken : new.stack ≡ record stepped { labels = []; answers = [] }
   pub handles : Keeps reply old.handles new.handles
-  pub waiting : new.waiting ≡ waiting_after_all old.waiting stepped.labels
 
 -- ALL LINES
 
@@ -80,11 +72,11 @@ IsPlayed old [] text new = (text ≡ []) × (new ≡ old)
 IsPlayed old (line ∷ lines) text new =
     (first : List ℕ) × (rest : List ℕ) × (mid : Between) × IsLinePlayed old line first mid × IsPlayed mid lines rest new × (text ≡ first ++ rest)
 
--- lines are run through a stack that has given no handles and has no open writes, and this is printed of them
+-- lines are run through a stack that has given no handles, and this is printed of them
 pub record IsTraceTo (stack : StackView) (lines : List Line) (text : List ℕ) (end : Between) : Type 0 where
   pub handles : Handles
   pub none : IsEmpty handles
-  pub played : IsPlayed (record { stack = stack; handles = handles; waiting = [] }) lines text end
+  pub played : IsPlayed (record { stack = stack; handles = handles }) lines text end
 
 -- the same, with the stack that is left
 abbrev pub IsTrace : StackView → List Line → List ℕ → StackView → Type 0

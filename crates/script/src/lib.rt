@@ -7,7 +7,6 @@
 //! the stack that it was given. It does not promise that a writer takes all.
 #![tactic(auto)]
 
-mod lengths;
 mod orders;
 mod player;
 mod printing;
@@ -15,7 +14,6 @@ mod runs;
 #[cfg(test)]
 mod tests;
 
-pub use lengths::Lengths;
 pub use orders::lines;
 pub use player::{event, play, write_labels};
 pub use printing::{write_label, write_reply};

@@ -7,14 +7,13 @@ ghost use Rattle.compose.specs.declared.Reply.TheVariants.{Refused};
 ghost use Rattle.script.specs.Events.{AreNamed, IsEventOf, IsReplyTo, Keeps, KeepsHandle, handle_of};
 ghost use Rattle.script.specs.Faults.{IsPrintFault};
 ghost use Rattle.script.specs.Printing.{labels_text, line_end};
-ghost use Rattle.script.specs.Trace.{IsAllTaken, IsCarriedOut, IsLinePlayed, IsTrace, Prints, left_by, waiting_after_all, without_labels};
+ghost use Rattle.script.specs.Trace.{IsAllTaken, IsCarriedOut, IsLinePlayed, IsTrace, Prints, left_by, without_labels};
 
-use crate::lengths::Lengths;
 use crate::printing::{write_label, write_reply};
 use crate::{Line, Order, ScriptFault};
+use adapter::Adapter;
 use compose::{Event, Handle, Refusal, Reply, Stack};
 use machine::Label;
-use adapter::Adapter;
 use sector::Bytes;
 use std::alloc::{AllocError, Global};
 use std::collections::BTreeMap;
@@ -58,9 +57,8 @@ fn play_lines<A: Adapter, W: Write>(
     ensures fault { IfErr result IsPrintFault }
 {
     let mut handles = BTreeMap::new(alloc);
-    let mut lengths = Lengths::new(alloc)?;
     for line in lines {
-        play_line(alloc, stack, line, &mut handles, &mut lengths, out)?;
+        play_line(alloc, stack, line, &mut handles, out)?;
     }
     Ok(())
 }
@@ -71,20 +69,19 @@ fn play_line<A: Adapter, W: Write>(
     stack: &mut Stack<A>,
     line: &Line<'_>,
     handles: &mut BTreeMap<u64, Handle>,
-    lengths: &mut Lengths,
     out: &mut W,
 ) -> Result<(), ScriptFault>
     requires taken { IsAllTaken stack.old }
     requires named { AreNamed handles.old }
     ensures named { OnOk result (AreNamed handles.new) }
-    ensures text { OnOk result (Prints (W.contents out.old) (W.contents out.new) (λ text. IsLinePlayed (record { stack = stack.old; handles = handles.old; waiting = lengths.old }) line.now text (record { stack = stack.new; handles = handles.new; waiting = lengths.new }))) }
+    ensures text { OnOk result (Prints (W.contents out.old) (W.contents out.new) (λ text. IsLinePlayed (record { stack = stack.old; handles = handles.old }) line.now text (record { stack = stack.new; handles = handles.new }))) }
     ensures fault { IfErr result IsPrintFault }
 {
     let reply = carry_out(alloc, stack, line.order, handles);
     write_line(out, line.text)?;
     write_reply(out, &reply)?;
     keep_given(handles, &reply)?;
-    write_labels(stack, out, lengths)?;
+    write_labels(stack, out)?;
     Ok(())
 }
 
@@ -112,24 +109,13 @@ fn carry_out<A: Adapter>(
     }
 }
 
-/// Writes all labels that a stack has not given yet, and takes the answers that go with them. `lengths` has those of the
-/// writes that were called and not answered before.
-///
-/// # Errors
-///
-/// [`ScriptFault::NoMemory`], or [`ScriptFault::OutputFailed`].
-pub fn write_labels<A: Adapter, W: Write>(
-    stack: &mut Stack<A>,
-    out: &mut W,
-    lengths: &mut Lengths,
-) -> Result<(), ScriptFault>
+/// Writes all labels that a stack has not given yet, and takes the answers that go with them.
+pub fn write_labels<A: Adapter, W: Write>(stack: &mut Stack<A>, out: &mut W) -> io::Result<()>
     ensures taken { OnOk result (stack.new ≡ without_labels stack.old) }
-    ensures text { OnOk result (Appends (W.contents out.old) (W.contents out.new) (labels_text lengths.old stack.old.labels)) }
-    ensures waiting { OnOk result (lengths.new ≡ waiting_after_all lengths.old stack.old.labels) }
-    ensures fault { IfErr result IsPrintFault }
+    ensures text { OnOk result (Appends (W.contents out.old) (W.contents out.new) (labels_text stack.old.labels)) }
 {
     while let Some(label) = stack.take_label() {
-        write_label(out, &label, lengths)?;
+        write_label(out, &label)?;
         take_answer_of(stack, label);
     }
     Ok(())

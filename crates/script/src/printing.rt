@@ -1,12 +1,9 @@
 //! Replies and labels in print, one a line.
 
-ghost use Rattle.std.specs.Prelude.{◌≡◌, IfErr, OnOk};
+ghost use Rattle.std.specs.Prelude.{◌≡◌, OnOk};
 ghost use Rattle.std.specs.Io.KnownBytes.{Appends};
-ghost use Rattle.script.specs.Printing.{answer_line, call_line, device_line, hex_bytes, hex_of, label_line, number_of, reply_line, waiting_after, word_of};
-ghost use Rattle.script.specs.Faults.{IsPrintFault};
+ghost use Rattle.script.specs.Printing.{answer_line, call_line, device_line, hex_bytes, hex_of, label_line, number_of, reply_line, word_of};
 
-use crate::ScriptFault;
-use crate::lengths::Lengths;
 use crate::runs::write_runs;
 use compose::{Refusal, Reply};
 use machine::{ClientRequest, Kind, Label};
@@ -44,39 +41,26 @@ fn number_of(refusal: Refusal) -> u8
     }
 }
 
-/// Writes the line of a label, and keeps the lengths of the writes that are open.
-pub fn write_label<W: Write>(
-    out: &mut W,
-    label: &Label,
-    lengths: &mut Lengths,
-) -> Result<(), ScriptFault>
-    ensures line { OnOk result (Appends (W.contents out.old) (W.contents out.new) (label_line lengths.old label.now)) }
-    ensures waiting { OnOk result (lengths.new ≡ waiting_after lengths.old label.now) }
-    ensures fault { IfErr result IsPrintFault }
+/// Writes the line of a label.
+pub fn write_label<W: Write>(out: &mut W, label: &Label) -> io::Result<()>
+    ensures { OnOk result (Appends (W.contents out.old) (W.contents out.new) (label_line label.now)) }
 {
     match label {
-        Label::Call { number, request } => {
-            if request.kind == Kind::Write {
-                lengths.keep(*number, request.length)?;
-            }
-            write_call(out, *number, request)?;
-        }
-        Label::Device(label) => write_device_label(out, label)?,
+        Label::Call { number, request } => write_call(out, *number, request),
+        Label::Device(label) => write_device_label(out, label),
         Label::Answer {
             number,
             status,
+            information,
             bytes,
-        } => {
-            let written = lengths.take(*number);
-            write_answer(out, *number, *status, written, bytes.as_slice())?;
-        }
-        Label::Cancel { number } => writeln!(out, "cancel {number}")?,
-        Label::Pause => out.write_all(b"pause\n")?,
-        Label::Resume => out.write_all(b"resume\n")?,
-        Label::Remove => out.write_all(b"remove\n")?,
-        Label::Removed => out.write_all(b"removed\n")?,
+        } => write_answer(out, *number, *status, *information, bytes.as_slice()),
+        Label::Cancel { number } => writeln!(out, "cancel {number}"),
+        Label::Pause => out.write_all(b"pause\n"),
+        Label::Resume => out.write_all(b"resume\n"),
+        Label::Remove => out.write_all(b"remove\n"),
+        Label::Surprise => out.write_all(b"surprise\n"),
+        Label::Removed => out.write_all(b"removed\n"),
     }
-    Ok(())
 }
 
 /// Writes a call, without the bytes of a write.
@@ -139,24 +123,21 @@ fn word_of(class: &Class) -> &'static str
     }
 }
 
-/// Writes an answer; `written` is the length of a write, and 0 for another request.
+/// Writes an answer; `information` is the number of bytes that were moved.
 fn write_answer<W: Write>(
     out: &mut W,
     number: u64,
     status: NtStatus,
-    written: u64,
+    information: u64,
     bytes: &[u8],
 ) -> io::Result<()>
-    ensures { OnOk result (Appends (W.contents out.old) (W.contents out.new) (answer_line number status written bytes.now)) }
+    ensures { OnOk result (Appends (W.contents out.old) (W.contents out.new) (answer_line number status information bytes.now)) }
 {
-    write!(out, "answer {number} {} ", status.name())?;
-    if status != NtStatus::Success {
-        return out.write_all(b"0\n");
-    }
+    write!(out, "answer {number} {} {information}", status.name())?;
     if bytes.is_empty() {
-        return writeln!(out, "{written}");
+        return out.write_all(b"\n");
     }
-    write!(out, "{} ", bytes.len())?;
+    out.write_all(b" ")?;
     write_runs(out, bytes)?;
     out.write_all(b"\n")
 }

@@ -1,6 +1,6 @@
 //! Scripts that are refused, and what is printed of replies and labels.
 
-use crate::{Lengths, Line, Order, ScriptFault, lines, write_label, write_reply};
+use crate::{Line, Order, ScriptFault, lines, write_label, write_reply};
 use compose::{Handle, Id, Refusal, Reply};
 use machine::{ClientRequest, Kind, Label};
 use ntstatus::NtStatus;
@@ -115,10 +115,11 @@ fn call(alloc: Global, number: u64, kind: Kind, through: bool) -> Label {
     Label::Call { number, request }
 }
 
-fn answer(number: u64, status: NtStatus, bytes: Bytes) -> Label {
+fn answer(number: u64, status: NtStatus, information: u64, bytes: Bytes) -> Label {
     Label::Answer {
         number,
         status,
+        information,
         bytes,
     }
 }
@@ -151,35 +152,35 @@ fn prints_labels(rt: HostRuntime) -> Result<(), Fail> {
             "return 5 busy\n",
         ),
         (
-            answer(3, NtStatus::Success, none(alloc)),
+            answer(3, NtStatus::Success, 512, none(alloc)),
             "answer 3 SUCCESS 512\n",
         ),
         (
-            answer(3, NtStatus::Success, none(alloc)),
+            answer(3, NtStatus::Success, 0, none(alloc)),
             "answer 3 SUCCESS 0\n",
         ),
         (
-            answer(2, NtStatus::Cancelled, none(alloc)),
+            answer(2, NtStatus::Cancelled, 0, none(alloc)),
             "answer 2 CANCELLED 0\n",
         ),
         (
-            answer(4, NtStatus::Success, none(alloc)),
+            answer(4, NtStatus::Success, 0, none(alloc)),
             "answer 4 SUCCESS 0\n",
         ),
         (
-            answer(1, NtStatus::Success, Bytes::new(runs)),
+            answer(1, NtStatus::Success, 6, Bytes::new(runs)),
             "answer 1 SUCCESS 6 00*3,ff*1,0a*2\n",
         ),
         (Label::Cancel { number: 6 }, "cancel 6\n"),
         (Label::Pause, "pause\n"),
         (Label::Resume, "resume\n"),
         (Label::Remove, "remove\n"),
+        (Label::Surprise, "surprise\n"),
         (Label::Removed, "removed\n"),
     ];
-    let mut lengths = Lengths::new(alloc)?;
     for (label, wanted) in cases {
         let mut out = Vec::new(alloc);
-        write_label(&mut out, &label, &mut lengths)?;
+        write_label(&mut out, &label)?;
         assert_eq!(rt; out.as_slice(), wanted.as_bytes());
     }
     Ok(())

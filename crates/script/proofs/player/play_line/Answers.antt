@@ -4,4 +4,4 @@ use Rattle.script.proofs.player.play_line.Goals as goal
 pub returns-clause-text : goal.returns-clause-text
 returns-clause-text g c =
     line_played _ _ _ _ _ _ _ _ _ c.requires.taken c.carry_out-reply.ensures c.in_ok-write_line.ensures c.in_ok-write_reply.ensures c.in_ok-keep_given.ensures.given
-    c.in_ok-write_labels.ensures.taken c.in_ok-write_labels.ensures.text c.in_ok-write_labels.ensures.waiting
+    c.in_ok-write_labels.ensures.taken c.in_ok-write_labels.ensures.text

@@ -9,5 +9,5 @@ invariant-loop-line g l = record {
   taken : IsAllTaken l.stack;
   named : AreNamed l.handles;
   text : Prints (g.W.Write.contents l.initial.out) (g.W.Write.contents l.out)
-      (λ text. IsTraceTo l.initial.stack (take l.line-index l.lines) text (record { stack = l.stack; handles = l.handles; waiting = l.lengths }));
+      (λ text. IsTraceTo l.initial.stack (take l.line-index l.lines) text (record { stack = l.stack; handles = l.handles }));
 }

@@ -4,8 +4,7 @@ use Rattle.script.proofs.player.write_labels.Given as goal
 
 -- the labels before those that are left are written
 abbrev pub invariant-loop-label : goal.invariant-loop-label
-invariant-loop-label g l =
-    AreWritten (g.W.Write.contents l.initial.out) l.initial.lengths l.initial.stack l.lengths l.stack (g.W.Write.contents l.out)
+invariant-loop-label g l = AreWritten (g.W.Write.contents l.initial.out) l.initial.stack l.stack (g.W.Write.contents l.out)
 
 abbrev pub decreases-loop-label : goal.decreases-loop-label
 decreases-loop-label g l = length l.stack.labels
