@@ -184,6 +184,7 @@ module _ (limits : Limits) (below : Seen) (tables : Tables) (q : ClientRequest) 
           record {
             fits = record {
               sector_size = h.fits.sector_size;
+              disk_sectors = h.fits.disk_sectors;
               some_bytes = h.fits.some_bytes;
               longest = h.fits.longest;
               short = h.fits.short;

@@ -104,7 +104,7 @@ module _ (limits : Limits) (below : Seen) (tables : Tables) (handle : Handle) (k
       })
 
   abbrev own : NtStatus → List Label
-  own status = Call tables.next_request (without_bytes called) ∷ AnswerLabel tables.next_request status [] ∷ []
+  own status = Call tables.next_request (without_bytes called) ∷ AnswerLabel tables.next_request status 0 [] ∷ []
 
   replied : (at_once : AtOnce) (new : StackView) → new.adapter ≡ view.adapter → are_used_up tables.next_request ≡ false → refusal view.rules view.state called ≡ Some (status_at_once at_once)
       → CallReplies view handle called buffer (reply_at_once tables.next_request buffer at_once) (tells_own view (own (status_at_once at_once))) new
@@ -132,8 +132,8 @@ module _ (limits : Limits) (below : Seen) (tables : Tables) (handle : Handle) (k
 
       told : tables1.labels.items ≡ own (status_at_once at_once)
       told =
-          answers.tells ∙ ap (λ before. before ++ Call tables.next_request q ∷ AnswerLabel tables.next_request (status_at_once at_once) [] ∷ []) taken.0
-          ∙ ap (λ r. Call tables.next_request r ∷ AnswerLabel tables.next_request (status_at_once at_once) [] ∷ []) is_call
+          answers.tells ∙ ap (λ before. before ++ Call tables.next_request q ∷ AnswerLabel tables.next_request (status_at_once at_once) 0 [] ∷ []) taken.0
+          ∙ ap (λ r. Call tables.next_request r ∷ AnswerLabel tables.next_request (status_at_once at_once) 0 [] ∷ []) is_call
 
 -- AS IT IS SHOWN: what holds between two steps holds after it
 

@@ -3,7 +3,6 @@ use Rattle.std.proofs.Common.{◌≡◌, ℕ, ◌+◌, ◌*◌, ◌/◌, true, L
 use Rattle.std.specs.Prelude.{slice_get, if◌then◌else◌}
 use Rattle.std.proofs.Math.Nat.{mul-div_cancel}
 use Rattle.sector.specs.declared.Extent.{Extent}
-use Rattle.cdb.specs.declared.Cdb.TheVariants.{Read10, Write10}
 use Rattle.cdb.specs.Meaning.{Means}
 use Rattle.srb.specs.declared.Srb.{Srb}
 use Rattle.srb.specs.declared.SrbFunction.TheVariants.{ExecuteScsi}
@@ -12,7 +11,7 @@ use Rattle.machine.specs.declared.Kind.{Kind}
 use Rattle.machine.specs.declared.Kind.TheVariants.{Read, Write, Flush}
 use Rattle.machine.specs.declared.Request.{Request}
 use Rattle.machine.specs.Rules.{Rules, home, as_client, is_transfer, place_count}
-use Rattle.machine.specs.Sending.{command_for}
+use Rattle.machine.specs.Sending.{command_for, read_command, write_command, flush_command}
 use Rattle.machine.specs.Solo.{all_places}
 use Rattle.irp.specs.declared.Irp.{Irp}
 use Rattle.device.specs.Seen.{Carries, AsksInLocation, transfer_length, direction}
@@ -33,7 +32,7 @@ home_at rules volume i = cases (slice_get rules.partitions volume)
     cases None = refl
     cases (Some extent) = refl
 
-module _ (rules : Rules) (r : Request) (whole : IsWholeDisk rules) (top : r.volume ≡ 0) where
+module _ (disk_sectors : ℕ) (rules : Rules) (r : Request) (whole : IsWholeDisk disk_sectors rules) (top : r.volume ≡ 0) where
   first_is : home rules (Some r.volume) (r.extent.first * rules.sector_size / rules.sector_size + 0) ≡ r.extent.first
   first_is =
       home_at rules r.volume _ ∙ home_is rules.partitions whole.disk r.volume _ whole.one_extent whole.from_first top
@@ -45,17 +44,17 @@ module _ (rules : Rules) (r : Request) (whole : IsWholeDisk rules) (top : r.volu
       ∙ ap (λ b. if b then r.extent.count * rules.sector_size / rules.sector_size else 1) moves
       ∙ mul-div_cancel r.extent.count whole.some_bytes
 
-  command_is : (kind : Kind) → r.kind ≡ kind → command_for rules (as_client rules r []) (all_places rules (as_client rules r [])) kind ≡ disk_command r kind
-  command_is Read same = ap (λ lba. Read10 lba (place_count rules (as_client rules r [])) r.through) first_is ∙ ap (λ count. Read10 r.extent.first count r.through) (count_is Read same refl)
-  command_is Write same = ap (λ lba. Write10 lba (place_count rules (as_client rules r [])) r.through) first_is ∙ ap (λ count. Write10 r.extent.first count r.through) (count_is Write same refl)
-  command_is Flush same = refl
+  command_is : (kind : Kind) → r.kind ≡ kind → command_for rules (as_client rules r []) (all_places rules (as_client rules r [])) kind ≡ disk_command disk_sectors r kind
+  command_is Read same = ap (λ lba. read_command lba (place_count rules (as_client rules r [])) r.through) first_is ∙ ap (λ count. read_command r.extent.first count r.through) (count_is Read same refl)
+  command_is Write same = ap (λ lba. write_command lba (place_count rules (as_client rules r [])) r.through) first_is ∙ ap (λ count. write_command r.extent.first count r.through) (count_is Write same refl)
+  command_is Flush same = ap flush_command whole.as_many
 
-pub asks_for : (rules : Rules) (r : Request) (srb : Srb) → IsWholeDisk rules → r.volume ≡ 0 → srb.function ≡ ExecuteScsi → srb.flags.0 ≡ direction r.kind
-    → Means srb.block (disk_command r r.kind) → length srb.data ≡ transfer_length rules r → length srb.for_label ≡ transfer_length rules r → Carries true rules r (Packed srb)
-asks_for rules r srb whole top function flags means data_length label_length = record {
+pub asks_for : (disk_sectors : ℕ) (rules : Rules) (r : Request) (srb : Srb) → IsWholeDisk disk_sectors rules → r.volume ≡ 0 → srb.function ≡ ExecuteScsi → srb.flags.0 ≡ direction r.kind
+    → Means srb.block (disk_command disk_sectors r r.kind) → length srb.data ≡ transfer_length rules r → length srb.for_label ≡ transfer_length rules r → Carries true rules r (Packed srb)
+asks_for disk_sectors rules r srb whole top function flags means data_length label_length = record {
   function = function;
   flags = flags;
-  asks = subst (Means srb.block) (sym (command_is rules r whole top r.kind refl)) means;
+  asks = subst (Means srb.block) (sym (command_is disk_sectors rules r whole top r.kind refl)) means;
   data_length = data_length;
   label_length = label_length;
 }

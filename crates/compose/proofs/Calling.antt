@@ -49,6 +49,7 @@ reserved_sound limits below tables below' tables' h reserves keeps =
     subst (λ b. IsSound limits b tables') (sym reserves.same) (subst (IsSound limits (record below { adapter = record below.adapter { reserved = below'.adapter.reserved } })) (sym keeps.after) (record {
       fits = record {
         sector_size = h.fits.sector_size;
+        disk_sectors = h.fits.disk_sectors;
         some_bytes = h.fits.some_bytes;
         longest = h.fits.longest;
         short = h.fits.short;

@@ -1,12 +1,13 @@
 -- A command sent to an idle adapter, and its way back.
 use Rattle.std.proofs.Common.{append-nil, ◌≡◌, ◌<◌, ◌≤◌, get_or, ℕ, ◌==◌, false, true, Bool, ◌+◌, ◌⊎◌, List, [], ◌∷◌, All, refl, sym, ◌∙◌, ap, subst, length, arith, inl, inr, IsPermutation, rules}
-use Rattle.std.specs.Prelude.{bit_and, slice_range, if◌then◌else◌}
+use Rattle.std.specs.Prelude.{◌-◌, ◌^◌, min, bit_and, slice_range, if◌then◌else◌}
 use Rattle.sector.specs.Extents.{IsSector}
 use Rattle.std.specs.List.{concat}
+use Rattle.std.proofs.lemmas.Bool.Decides.{nat_tests}
 use Rattle.std.proofs.lemmas.List.Sorted.{length_permutation, All-permutation, IsPermutation-sym, IsPermutation-trans}
 use Rattle.std.proofs.lemmas.List.Elements.{All-head, All-cons}
 use Rattle.cdb.specs.declared.Cdb.{Cdb}
-use Rattle.cdb.specs.declared.Cdb.TheVariants.{Read10, Write10, Sync10, ReadCapacity10}
+use Rattle.cdb.specs.declared.Cdb.TheVariants.{Read10, Write10, Sync10, ReadCapacity10, Read16, Write16, Sync16, ReadCapacity16}
 use Rattle.cdb.specs.Meaning.{Means}
 use Rattle.ntstatus.specs.declared.NtStatus.{NtStatus}
 use Rattle.ntstatus.specs.Table.{status_of}
@@ -26,8 +27,9 @@ use Rattle.adapter.specs.Calls.{Acts, ActsNot, Finishes, FinishesNot}
 use Rattle.compose.specs.declared.Settings.{Settings}
 use Rattle.compose.specs.declared.StartFault.{StartFault}
 use Rattle.compose.specs.declared.StartFault.TheVariants.{NoMemory, Device as DeviceFault, Mbr as TableFault, Settings as SettingsFault}
+use Rattle.compose.specs.declared.sizing.Capacity.{Capacity}
 use Rattle.compose.specs.Mbr.{first_entry}
-use Rattle.compose.specs.Start.{IsIdle, Looks, LooksBy, Exchanges, bytes_brought, Brings, AsksOnce, Fails, AreInRange, IsSameDisk, IsReadFault, IsStartFault, table_read}
+use Rattle.compose.specs.Start.{IsIdle, Looks, LooksBy, Exchanges, bytes_brought, Brings, AsksOnce, Fails, AreInRange, IsSameDisk, IsReadFault, IsCapacityFault, IsStartFault, TellsCapacity, is_long, long_capacity, IsToldShort, table_read}
 
 -- a list in which one item stands is just that item
 pub just_one : {X : Type 0} (x y : X) (xs ys : List X) → IsPermutation xs (x ∷ []) → IsPermutation xs (y ∷ ys) → (x ≡ y) × (ys ≡ [])
@@ -53,6 +55,10 @@ looked view bytes (Read10 lba count fua) moved after looks h = (h.2, ap concat h
 looked view bytes (Write10 lba count fua) moved after looks h = absurd looks
 looked view bytes (Sync10 lba blocks) moved after looks h = (h.1, ap concat h.0)
 looked view bytes ReadCapacity10 moved after looks h = (h.1, ap concat h.0 ∙ append-nil _)
+looked view bytes (Read16 lba count fua) moved after looks h = (h.2, ap concat h.1)
+looked view bytes (Write16 lba count fua) moved after looks h = absurd looks
+looked view bytes (Sync16 lba blocks) moved after looks h = (h.1, ap concat h.0)
+looked view bytes (ReadCapacity16 allocation) moved after looks h = (h.1, ap concat h.0 ∙ append-nil _)
 
 -- also where the adapter's sectors stand elsewhere
 looked_at : (faithful : Bool) (view : AdapterView) (bytes : List ℕ) (command : Cdb) (moved after : List (List ℕ)) → Looks command
@@ -62,6 +68,10 @@ looked_at false view bytes (Read10 lba count fua) moved after looks h = (h.1, ap
 looked_at false view bytes (Write10 lba count fua) moved after looks h = absurd looks
 looked_at false view bytes (Sync10 lba blocks) moved after looks h = (h.1, ap concat h.0)
 looked_at false view bytes ReadCapacity10 moved after looks h = (h.1, ap concat h.0 ∙ append-nil _)
+looked_at false view bytes (Read16 lba count fua) moved after looks h = (h.1, ap concat (h.0.3 refl))
+looked_at false view bytes (Write16 lba count fua) moved after looks h = absurd looks
+looked_at false view bytes (Sync16 lba blocks) moved after looks h = (h.1, ap concat h.0)
+looked_at false view bytes (ReadCapacity16 allocation) moved after looks h = (h.1, ap concat h.0 ∙ append-nil _)
 
 -- what a class of return says of a piece that acted or faulted
 brings_by : (old new : AdapterView) (command : Cdb) (use' : TagInUse) (bytes : List ℕ) (last : AdapterView) (class : Class)
@@ -248,23 +258,42 @@ failed old new after command srb completion status asks taken bad means = by_cla
           exchanged = subst (λ (v : AdapterView). Exchanges old command (Bad completion) v) (sym taken) (subst (λ (c : Completion). Exchanges old command (Bad c) (record new { labels = [] })) same exchanged);
         }
 
--- the first command of a start
-pub first_fault : (disk after : AdapterView) (settings : Settings) (fault : StartFault) → AreInRange settings → IsReadFault ReadCapacity10 disk fault after → IsStartFault disk settings fault after
+-- the command that asks for the capacity in ten bytes
+pub short_fault : (disk after : AdapterView) (fault : StartFault) → IsReadFault ReadCapacity10 disk fault after → IsCapacityFault disk fault after
+short_fault disk after NoMemory h = tt
+short_fault disk after (DeviceFault status) h = record { failure = h.failure; counted = h.counted; misses = inl h.exchanged }
+short_fault disk after (TableFault fault) h = h
+short_fault disk after SettingsFault h = absurd h
+
+-- the one that asks in sixteen, of a long disk
+pub long_fault : (disk between after : AdapterView) (fault : StartFault) → is_long disk ≡ true → IsSameDisk 1 disk between → Exchanges disk ReadCapacity10 Good between
+    → IsReadFault long_capacity between fault after → IsCapacityFault disk fault after
+long_fault disk between after NoMemory long same first h = tt
+long_fault disk between after (DeviceFault status) long same first h =
+    let low : disk.failures ≤ between.failures = same.failures in
+    let high : between.failures < after.failures = h.counted in
+    record { failure = h.failure; counted = omega arith; misses = inr (long, (between, first, h.exchanged)) }
+long_fault disk between after (TableFault fault) long same first h = sym (ap (λ (xs : List (List ℕ)). first_entry (length xs) (get_or xs 0 [])) same.sectors) ∙ h
+long_fault disk between after SettingsFault long same first h = absurd h
+
+-- the capacity is not known
+pub first_fault : (disk after : AdapterView) (settings : Settings) (fault : StartFault) → AreInRange settings → IsCapacityFault disk fault after → IsStartFault disk settings fault after
 first_fault disk after settings NoMemory ranges h = (ranges, tt)
-first_fault disk after settings (DeviceFault status) ranges h = (ranges, record { failure = h.failure; counted = h.counted; one_of = inl h.exchanged })
+first_fault disk after settings (DeviceFault status) ranges h = (ranges, record { failure = h.failure; counted = h.counted; one_of = inl h.misses })
 first_fault disk after settings (TableFault fault) ranges h = (ranges, h)
 first_fault disk after settings SettingsFault ranges h = absurd h
 
--- the second
-pub second_fault : (disk between after : AdapterView) (settings : Settings) (fault : StartFault) → AreInRange settings → IsSameDisk 1 disk between → Exchanges disk ReadCapacity10 Good between
+-- the last command
+pub last_fault : (disk between after : AdapterView) (asked : ℕ) (settings : Settings) (fault : StartFault) → AreInRange settings → IsSameDisk asked disk between
+    → TellsCapacity (is_long disk) disk between
     → IsReadFault table_read between fault after → IsStartFault disk settings fault after
-second_fault disk between after settings NoMemory ranges same first h = (ranges, tt)
-second_fault disk between after settings (DeviceFault status) ranges same first h =
+last_fault disk between after asked settings NoMemory ranges same first h = (ranges, tt)
+last_fault disk between after asked settings (DeviceFault status) ranges same first h =
     let low : disk.failures ≤ between.failures = same.failures in
     let high : between.failures < after.failures = h.counted in
     (ranges, record { failure = h.failure; counted = omega arith; one_of = inr (between, first, h.exchanged) })
-second_fault disk between after settings (TableFault fault) ranges same first h = (ranges, sym (ap (λ (xs : List (List ℕ)). first_entry (length xs) (get_or xs 0 [])) same.sectors) ∙ h)
-second_fault disk between after settings SettingsFault ranges same first h = absurd h
+last_fault disk between after asked settings (TableFault fault) ranges same first h = (ranges, sym (ap (λ (xs : List (List ℕ)). first_entry (length xs) (get_or xs 0 [])) same.sectors) ∙ h)
+last_fault disk between after asked settings SettingsFault ranges same first h = absurd h
 
 -- THE FIRST SECTOR
 
@@ -281,3 +310,12 @@ first_sector_long disk order = by_sectors disk.sectors order.sectors.0 order.who
         let alone : concat (slice_range (first ∷ rest) 0 (0 + 1)) ≡ first = append-nil first in
         let long : 512 ≤ disk.sector_size = size in
         subst (λ (xs : List ℕ). 512 ≤ length xs) (sym alone) (omega arith)
+
+-- WHAT THE CAPACITY TELLS
+
+-- where READ CAPACITY(10) tells of 2^32 sectors the disk is long
+pub not_told : (disk : AdapterView) (capacity : Capacity) → IsToldShort disk capacity → 2 ^ 32 ≤ capacity.sectors → is_long disk ≡ true
+not_told disk capacity told high =
+    let sectors : capacity.sectors ≡ min (length disk.sectors - 1) (2 ^ 32 - 1) + 1 = told.sectors in
+    let long : 2 ^ 32 ≤ length disk.sectors = omega arith in
+    grind (arith, nat_tests)

@@ -1,5 +1,5 @@
 -- What a stack shows before its first event.
-use Rattle.std.proofs.Common.{◌≡◌, ◌≤◌, ℕ, ◌+◌, Bool, false, true, not, List, [], ◌∷◌, Option, Some, None, Result, Ok, Err, refl, sym, ◌∙◌, ap, subst, map, length, arith}
+use Rattle.std.proofs.Common.{◌≡◌, ◌≤◌, ℕ, ◌+◌, ◌^◌, Bool, false, true, not, List, [], ◌∷◌, Option, Some, None, Result, Ok, Err, refl, sym, ◌∙◌, ap, subst, map, length, arith}
 use Rattle.std.specs.Prelude.{◌==◌, nat_lt, if◌then◌else◌}
 use Rattle.std.proofs.lemmas.Bool.{eqb-false, ltb-false}
 use Rattle.std.proofs.lemmas.List.Elements.{All-nil, All-cons}
@@ -18,7 +18,7 @@ use Rattle.compose.specs.declared.tables.Tables.{Tables}
 use Rattle.ntstatus.proofs.First.{none_first}
 use Rattle.compose.specs.Mbr.{is_signed, first_type, first_extent, extent_fault, checked, first_entry}
 use Rattle.compose.specs.Sound.{partitions_of, rules_of, holders_of, view_of}
-use Rattle.compose.specs.Start.{IsSameDisk, sector_zero, AreLimits, IsReadBy}
+use Rattle.compose.specs.Start.{asked_at_start, IsSameDisk, sector_zero, AreLimits, IsReadBy}
 use Rattle.compose.specs.Shown.{StackView}
 use Rattle.compose.specs.Opening.{IsUnasked, AreFor, AreEmpty, first_rules, IsFirstView, ShowsEmpty}
 use Rattle.compose.proofs.Opened.{opening-view}
@@ -73,7 +73,7 @@ IsUnasked-opening v none = record {
   no_labels = none;
 }
 
-module _ (disk v : AdapterView) (settings : Settings) (limits : Limits) (same : IsSameDisk 2 disk v) (are : AreLimits disk settings limits) (read : IsReadBy disk v) where
+module _ (disk v : AdapterView) (settings : Settings) (limits : Limits) (same : IsSameDisk (asked_at_start disk) disk v) (are : AreLimits disk settings limits) (read : IsReadBy disk v) where
   is_map : IsMap (length disk.sectors) (partitions_of limits.partition)
   is_map = IsMap-first_entry (length disk.sectors) (sector_zero disk) limits.partition are.partition
 
@@ -82,6 +82,7 @@ module _ (disk v : AdapterView) (settings : Settings) (limits : Limits) (same : 
       let sizes = are.sizes in
       let sector_size = same.sector_size in
       let max_transfer = same.max_transfer in
+      let sectors : length v.sectors ≡ length disk.sectors = ap length same.sectors in
       let depth = same.depth in
       let faithful = same.faithful in
       cc
@@ -109,7 +110,7 @@ module _ (disk v : AdapterView) (settings : Settings) (limits : Limits) (same : 
   AreFor-over below whole order =
       subst (λ (b : Seen). AreFor b limits) (sym whole)
       (let longest : limits.longest ≡ v.max_transfer = ap (λ (l : Limits). l.longest) are.sizes ∙ sym same.max_transfer in
-      let most : v.max_transfer ≤ 65535 = order.max_transfer.1 in
+      let most : v.max_transfer ≤ 2 ^ 16 = order.max_transfer.1 in
       let open_requests : limits.open_requests ≡ settings.open_requests = ap (λ (l : Limits). l.open_requests) are.sizes in
       let window : limits.window ≡ settings.window = ap (λ (l : Limits). l.window) are.sizes in
       let some : 1 ≤ settings.open_requests = are.in_range.open_requests.0 in
@@ -117,6 +118,7 @@ module _ (disk v : AdapterView) (settings : Settings) (limits : Limits) (same : 
       let short : settings.window ≤ 64 = are.in_range.window.1 in
       record {
         sector_size = ap (λ (l : Limits). l.sector_size) are.sizes ∙ sym same.sector_size;
+        disk_sectors = ap (λ (l : Limits). l.disk_sectors) are.sizes ∙ sym (ap length same.sectors);
         longest = longest;
         short = omega arith;
         some_open = (omega arith, omega arith, omega arith);

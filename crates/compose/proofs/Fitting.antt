@@ -1,4 +1,4 @@
--- A request that nothing refuses fits the disk below and a ten-byte command block.
+-- A request that nothing refuses fits the disk below and a command block.
 use Rattle.std.proofs.Common.{◌≡◌, ◌<◌, ◌≤◌, ℕ, zero, suc, ◌+◌, ◌*◌, ◌/◌, ◌%◌, ◌^◌, Bool, true, false, Option, Some, None, refl, sym, ◌∙◌, ap, subst, arith, length, map}
 use Rattle.std.specs.Prelude.{is_none, ◌&&◌, ◌==◌, if◌then◌else◌}
 use Rattle.std.proofs.lemmas.Bool.{leb-false, leb-true, not-false, and_parts}
@@ -90,8 +90,8 @@ module _ (limits : Limits) (below : Seen) (tables : Tables) (q : ClientRequest) 
       let counted : slab_len tables.requests ≡ length below.state.requests = h.held.counted in
       omega arith
 
-  pub is_whole_disk : IsWholeDisk below.rules
-  is_whole_disk = record { disk = h.on_disk.disk; one_extent = h.on_disk.one_array; from_first = h.on_disk.from_first; some_bytes = h.on_disk.some_bytes }
+  pub is_whole_disk : IsWholeDisk limits.disk_sectors below.rules
+  is_whole_disk = record { as_many = sym h.fits.disk_sectors; disk = h.on_disk.disk; one_extent = h.on_disk.one_array; from_first = h.on_disk.from_first; some_bytes = h.on_disk.some_bytes }
 
   pub fits_block : FitsBlock (request_on_disk limits q)
   fits_block =
@@ -100,9 +100,9 @@ module _ (limits : Limits) (below : Seen) (tables : Tables) (q : ClientRequest) 
       let inside : q.offset / limits.sector_size + q.length / limits.sector_size ≤ sectors_of over (Some 0) = asks.inside in
       let some : 0 < q.length / limits.sector_size = asks.some in
       let short : q.length / limits.sector_size ≤ below.rules.longest = asks.short in
-      let small : end_of (partitions_of limits.partition) ≤ 2 ^ 32 = h.fits.small in
+      let small : end_of (partitions_of limits.partition) ≤ 2 ^ 40 = h.fits.small in
       let longest : limits.longest ≡ below.rules.longest = h.fits.longest in
-      let few : limits.longest < 2 ^ 16 = h.fits.short in
+      let few : limits.longest ≤ 2 ^ 16 = h.fits.short in
       record { volume = refl; first = omega arith; count = omega arith }
 
   pub transfer_is : transfer_length below.rules (request_on_disk limits q) ≡ q.length

@@ -14,7 +14,7 @@ use Rattle.irp.specs.declared.Done.{Done}
 use Rattle.machine.specs.declared.Request.{Request}
 use Rattle.machine.specs.Rules.{Rules}
 use Rattle.machine.specs.State.{OpenRequest as OpenBelow}
-use Rattle.machine.specs.Answering.{Answers}
+use Rattle.machine.specs.Answering.{AnswersWith, information}
 use Rattle.machine.specs.Numbers.{AreDistinct, HavePlaces, request_number}
 use Rattle.device.specs.Seen.{Seen, payload_bytes}
 use Rattle.machine.specs.Sending.{IsStart}
@@ -56,12 +56,16 @@ module _ (takes_srb : Bool) (old new : Seen) (request : Request) (done : Done) (
       ∙ ap (λ s. brought c.request.kind s (payload_bytes h.payload)) (sym h.climbs.status_is)
       ∙ ap (λ p. brought c.request.kind done.status (payload_bytes p)) (sym h.climbs.payload_is)
 
-  answers_are : Answers old.rules old.state done.number done.status (answer_for c.request done).bytes h.answered
+  answered_with : AnswersWith old.rules old.state h.packet.number h.status (information h.answers.request.request h.status) h.bytes h.answered
+  answered_with = record { answers = h.answers; informs = refl }
+
+  answers_are : AnswersWith old.rules old.state done.number done.status done.information (answer_for c.request done).bytes h.answered
   answers_are =
-      let P : ℕ → Type 0 = λ n. Answers old.rules old.state n done.status (answer_for c.request done).bytes h.answered in
-      let Q : NtStatus → Type 0 = λ s. Answers old.rules old.state h.packet.number s (answer_for c.request done).bytes h.answered in
-      let R : List ℕ → Type 0 = λ b. Answers old.rules old.state h.packet.number h.status b h.answered in
-      subst P (sym h.climbs.number_is) (subst Q (sym h.climbs.status_is) (subst R bytes_are h.answers))
+      let P : ℕ → Type 0 = λ n. AnswersWith old.rules old.state n done.status done.information (answer_for c.request done).bytes h.answered in
+      let Q : NtStatus → Type 0 = λ s. AnswersWith old.rules old.state h.packet.number s done.information (answer_for c.request done).bytes h.answered in
+      let I : ℕ → Type 0 = λ n. AnswersWith old.rules old.state h.packet.number h.status n (answer_for c.request done).bytes h.answered in
+      let R : List ℕ → Type 0 = λ b. AnswersWith old.rules old.state h.packet.number h.status (information h.answers.request.request h.status) b h.answered in
+      subst P (sym h.climbs.number_is) (subst Q (sym h.climbs.status_is) (subst I (sym h.climbs.information_is) (subst R bytes_are answered_with)))
 
   pub takes_ended : TakesEnded old t new t'
   takes_ended =
@@ -112,7 +116,7 @@ module _ (takes_srb : Bool) (old new : Seen) (request : Request) (done : Done) (
   on_disk_after : (partitions : List Extent) (many window : ℕ) → IsOnDisk (rules_over partitions many window old.rules) old.rules old.state → IsOnDisk (rules_over partitions many window new.rules) new.rules new.state
   on_disk_after partitions many window d =
       let mid : IsOnDisk (rules_over partitions many window old.rules) old.rules h.answered =
-      (Answers-over partitions many window old.rules 0 old.state h.packet.number h.status h.bytes h.answered d h.answers).2 in
+      (Answers-over partitions many window old.rules 0 old.state h.packet.number h.status (information h.answers.request.request h.status) h.bytes h.answered d answered_with).2 in
       let last : IsOnDisk (rules_over partitions many window old.rules) old.rules new.state = (Run-over partitions many window old.rules 0 h.starts h.answered new.state mid h.moves.run).1 in
       let P : Rules → Type 0 = λ r. IsOnDisk (rules_over partitions many window r) r new.state in
       subst P (sym h.moves.same_rules) last
@@ -269,7 +273,7 @@ module _ (below mid new : Seen) (first t t' : Tables) (g : Gathers below first m
 
   run_more : HavePlaces below.state → IsNone below.state.owed → Run below.rules below.state (map as_label (g.starts ++ e.starts) ++ map as_answer t'.answered.items) new.state
   run_more places free =
-      let P : Rules → Type 0 = λ r. Answers r mid.state e.done.number e.done.status (answer_for e.closes.request e.done).bytes e.answered in
+      let P : Rules → Type 0 = λ r. AnswersWith r mid.state e.done.number e.done.status e.done.information (answer_for e.closes.request e.done).bytes e.answered in
       let Q : Rules → Type 0 = λ r. Run r e.answered (map as_label e.starts) new.state in
       let R : List Answer → Type 0 = λ xs. Run below.rules below.state (map as_label (g.starts ++ e.starts) ++ map as_answer xs) new.state in
       subst R (sym e.closes.answered)
@@ -309,7 +313,7 @@ module _ (below mid new : Seen) (first t t' : Tables) (g : Gathers below first m
     where
       -- the request that was taken had ended
       not_quiet : All (IsUnfinished mid.rules mid.state) mid.state.requests → ⊥
-      not_quiet unfinished = none_answered mid.rules mid.state _ _ _ _ unfinished e.answers
+      not_quiet unfinished = none_answered mid.rules mid.state _ _ _ _ unfinished e.answers.answers
 
 -- then the device's labels are told, and the answers
 pub collects : (below mid new : Seen) (first t t' : Tables) → Gathers below first mid t → new ≡ unlabelled mid → Settled mid.rules mid.state → All (IsUnfinished mid.rules mid.state) mid.state.requests → t' ≡ record t { labels = t'.labels; answered = t'.answered }

@@ -32,7 +32,7 @@ module _ (reads : SoloReadsHold) (writes : SoloWritesHold) (failed : FailedWrite
   -- the request of a run that is called and answered there
   of_one : (rules : Rules) (s : State) (labels : List Label) (s' : State) (number : ℕ) (q : ClientRequest) (status : NtStatus) (bytes : List ℕ) (before after : State)
       → (h : IsOfRun rules s labels s' number q status bytes before after) → Opens rules before number q h.called × Answers rules h.ended number status bytes after
-  of_one rules s labels s' number q status bytes before after h = one rules number q status bytes before h.called h.between h.ended after h.not_refused h.calls h.run h.answers
+  of_one rules s labels s' number q status bytes before after h = one rules number q status h.informed bytes before h.called h.between h.ended after h.not_refused h.calls h.run h.answers
 
   -- its state at its answer can be reached
   ended_reached : (rules : Rules) (s : State) (labels : List Label) (s' : State) (number : ℕ) (q : ClientRequest) (status : NtStatus) (bytes : List ℕ) (before after : State)

@@ -6,6 +6,7 @@ use Rattle.std.proofs.lemmas.List.{length-replicate}
 use Rattle.std.proofs.lemmas.List.Sorted.{IsPermutation-refl, IsPermutation-sym, IsPermutation-map, All-permutation}
 use Rattle.std.proofs.lemmas.List.Elements.{All-tail, All-cons, All-weaker}
 use Rattle.ntstatus.specs.declared.NtStatus.{NtStatus}
+use Rattle.ntstatus.specs.declared.NtStatus.TheVariants.{Success}
 use Rattle.sector.specs.declared.Extent.{Extent}
 use Rattle.machine.specs.declared.Request.{Request}
 use Rattle.machine.specs.declared.ClientRequest.{ClientRequest}
@@ -13,7 +14,7 @@ use Rattle.machine.specs.declared.Label.TheVariants.{Call, Answer}
 use Rattle.machine.specs.Rules.{Rules, is_transfer, place_count, sectors_of, as_client}
 use Rattle.machine.specs.State.{Mark, Untouched, Out, Done, Failed, Back, OpenRequest, State, IsSame}
 use Rattle.machine.specs.Calling.{refusal, Opens, Admits, Calls, new_request}
-use Rattle.machine.specs.Answering.{Answers, Cause, HasEnded, HasCause}
+use Rattle.machine.specs.Answering.{Answers, AnswersWith, Cause, HasEnded, HasCause, information}
 use Rattle.machine.specs.Step.{Run}
 use Rattle.machine.proofs.Same.{IsSame-refl}
 use Rattle.machine.proofs.Numbers.{AreDistinct-Step, AreDistinct-Admits}
@@ -28,7 +29,7 @@ none_is (Some x) h = cc (h)
 
 -- a refused call and its answer change the next number alone
 pub Run-refused : (rules : Rules) (next : ℕ) (s : State) (q : ClientRequest) (status : NtStatus) → IsNone s.owed → q.bytes ≡ [] → refusal rules (on_partition rules next s) q ≡ Some status
-    → Run rules (on_partition rules next s) (Call next q ∷ Answer next status [] ∷ []) (on_partition rules (next + 1) s)
+    → Run rules (on_partition rules next s) (Call next q ∷ Answer next status 0 [] ∷ []) (on_partition rules (next + 1) s)
 Run-refused rules next s q status free no_bytes refused =
     let mid : State = record (on_partition rules (next + 1) s) { owed = Some (record { number = next; status = status }) } in
     let called : Admits rules (on_partition rules next s) next q (Some status) mid = record { no_bytes = no_bytes; after = IsSame-refl mid } in (
@@ -38,6 +39,7 @@ Run-refused rules next s q status free no_bytes refused =
         on_partition rules (next + 1) s,
         inr (record {
           is_owed = refl;
+          none_moved = refl;
           no_bytes = refl;
           after = record {
             arrays = refl;
@@ -54,6 +56,11 @@ Run-refused rules next s q status free no_bytes refused =
         IsSame-refl (on_partition rules (next + 1) s),
       ),
     )
+
+-- what a request moved doesn't depend on where it begins
+informed_as_called : (rules : Rules) (q : ClientRequest) (status : NtStatus) → information (as_called rules q) status ≡ information q status
+informed_as_called rules q Success = refl
+informed_as_called rules q status = refl
 
 -- offsets from the disk's first byte and from the partition's
 offset_is : (first from size : ℕ) → (first + from) * size - first * size ≡ from * size
@@ -84,9 +91,12 @@ module _ (partitions : List Extent) (many window : ℕ) (below : Rules) where
   has_cause_is next s o (Back ∷ marks) status h = h
   has_cause_is next s o (Out ∷ marks) status h = h
 
-  pub Answers-over : (next : ℕ) (s : State) (number : ℕ) (status : NtStatus) (bytes : List ℕ) (s' : State) → IsOnDisk over below s → (h : Answers below s number status bytes s')
-      → (up : Answers over (on_partition over next s) number status bytes (on_partition over next s')) × (up.request ≡ open_as_called over h.request) × IsOnDisk over below s'
-  Answers-over next s number status bytes s' k h =
+  pub Answers-over : (next : ℕ) (s : State) (number : ℕ) (status : NtStatus) (informed : ℕ) (bytes : List ℕ) (s' : State) → IsOnDisk over below s
+      → (h : AnswersWith below s number status informed bytes s')
+      → (up : AnswersWith over (on_partition over next s) number status informed bytes (on_partition over next s'))
+      × (up.answers.request ≡ open_as_called over h.answers.request) × IsOnDisk over below s'
+  Answers-over next s number status informed bytes s' k w =
+      let h : Answers below s number status bytes s' = w.answers in
       let up : Answers over (on_partition over next s) number status bytes (on_partition over next s') = record {
         request = open_as_called over h.request;
         others = map (open_as_called over) h.others;
@@ -100,10 +110,10 @@ module _ (partitions : List Extent) (many window : ℕ) (below : Rules) where
       } in
       let inside : All (LiesInside over) s'.requests =
       All-permutation (LiesInside over) _ _ (IsPermutation-sym _ _ h.after.requests) (All-tail (LiesInside over) h.request h.others (All-permutation (LiesInside over) _ _ h.is_open k.inside)) in (
-        up,
+        record { answers = up; informs = w.informs ∙ sym (informed_as_called over h.request.request status) },
         refl,
         moved partitions many window below s k s' (get_or s.arrays 0 []) (h.after.arrays ∙ only_array partitions many window below s k) refl inside
-            (AreDistinct-Step below s (Answer number status bytes) s' k.distinct (inl (k.none_owed, h))) (ArePlaced-Answers below s number status bytes s' k.placed h) (rw h.after.owed k.none_owed),
+            (AreDistinct-Step below s (Answer number status informed bytes) s' k.distinct (inl (k.none_owed, w))) (ArePlaced-Answers below s number status bytes s' k.placed h) (rw h.after.owed k.none_owed),
       )
 
   -- CALLS

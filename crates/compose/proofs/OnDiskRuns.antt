@@ -8,10 +8,10 @@ use Rattle.sector.specs.Extents.{IsIn}
 use Rattle.adapter.specs.View.{AdapterView}
 use Rattle.srb.specs.declared.DeviceLabel.{DeviceLabel}
 use Rattle.machine.specs.declared.Label.{Label}
-use Rattle.machine.specs.declared.Label.TheVariants.{Call, Device, Answer as AnswerLabel, Cancel, Pause, Resume, Remove, Removed}
+use Rattle.machine.specs.declared.Label.TheVariants.{Call, Device, Answer as AnswerLabel, Cancel, Pause, Resume, Remove, Surprise, Removed}
 use Rattle.machine.specs.Rules.{Rules}
 use Rattle.machine.specs.State.{State}
-use Rattle.machine.specs.Answering.{Answers}
+use Rattle.machine.specs.Answering.{AnswersWith}
 use Rattle.device.specs.Seen.{IsRead}
 use Rattle.machine.specs.Step.{Run, as_label}
 use Rattle.compose.specs.declared.Answer.{Answer}
@@ -27,12 +27,13 @@ use Rattle.compose.proofs.Ordering.{not_owed}
 -- a label of the device or an answer
 abbrev pub IsToldBelow : Label → Type 0
 IsToldBelow (Device label) = Unit {0}
-IsToldBelow (AnswerLabel number status bytes) = Unit {0}
+IsToldBelow (AnswerLabel number status informed bytes) = Unit {0}
 IsToldBelow (Call number q) = ⊥
 IsToldBelow (Cancel number) = ⊥
 IsToldBelow Pause = ⊥
 IsToldBelow Resume = ⊥
 IsToldBelow Remove = ⊥
+IsToldBelow Surprise = ⊥
 IsToldBelow Removed = ⊥
 
 answers_told : (answers : List Answer) → All IsToldBelow (map as_answer answers)
@@ -64,21 +65,22 @@ module _ (partitions : List Extent) (many window : ℕ) (below : Rules) where
         λ i apart. rest.2 i apart ∙ ap (λ ys. slice_get (get_or ys 0 []) i) a.1 ∙ a.2.outside i apart,
       )
   Run-told next (Device label ∷ labels) s s' told k (mid, inr none, run) = absurd none
-  Run-told next (AnswerLabel number status bytes ∷ labels) s s' told k (mid, inl (free, step), run) =
-      let up : (up : Answers over (on_partition over next s) number status bytes (on_partition over next mid)) × (up.request ≡ open_as_called over step.request) × IsOnDisk over below mid =
-      Answers-over partitions many window below next s number status bytes mid k step in
+  Run-told next (AnswerLabel number status informed bytes ∷ labels) s s' told k (mid, inl (free, step), run) =
+      let up : (up : AnswersWith over (on_partition over next s) number status informed bytes (on_partition over next mid)) × (up.answers.request ≡ open_as_called over step.answers.request) × IsOnDisk over below mid =
+      Answers-over partitions many window below next s number status informed bytes mid k step in
       let rest : Run over (on_partition over next mid) labels (on_partition over next s') × IsOnDisk over below s' × KeepsSectors mid s' =
-      Run-told next labels mid s' (All-tail IsToldBelow (AnswerLabel number status bytes) labels told) up.2 run in (
+      Run-told next labels mid s' (All-tail IsToldBelow (AnswerLabel number status informed bytes) labels told) up.2 run in (
         (on_partition over next mid, inl (free, up.0), rest.0),
         rest.1,
-        λ i apart. rest.2 i apart ∙ ap (λ ys. slice_get (get_or ys 0 []) i) step.after.arrays,
+        λ i apart. rest.2 i apart ∙ ap (λ ys. slice_get (get_or ys 0 []) i) step.answers.after.arrays,
       )
-  Run-told next (AnswerLabel number status bytes ∷ labels) s s' told k (mid, inr owed, run) = absurd (not_owed below s number status bytes mid k.none_owed owed)
+  Run-told next (AnswerLabel number status informed bytes ∷ labels) s s' told k (mid, inr owed, run) = absurd (not_owed below s number status informed bytes mid k.none_owed owed)
   Run-told next (Call number q ∷ labels) s s' told k run = absurd (All-head IsToldBelow (Call number q) labels told)
   Run-told next (Cancel number ∷ labels) s s' told k run = absurd (All-head IsToldBelow (Cancel number) labels told)
   Run-told next (Pause ∷ labels) s s' told k run = absurd (All-head IsToldBelow Pause labels told)
   Run-told next (Resume ∷ labels) s s' told k run = absurd (All-head IsToldBelow Resume labels told)
   Run-told next (Remove ∷ labels) s s' told k run = absurd (All-head IsToldBelow Remove labels told)
+  Run-told next (Surprise ∷ labels) s s' told k run = absurd (All-head IsToldBelow Surprise labels told)
   Run-told next (Removed ∷ labels) s s' told k run = absurd (All-head IsToldBelow Removed labels told)
 
   -- the disk has as many sectors as before

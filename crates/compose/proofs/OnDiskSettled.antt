@@ -78,6 +78,7 @@ module _ (partitions : List Extent) (many window : ℕ) (below : Rules) where
   pub IsRead-over : (next : ℕ) (s : State) (adapter : AdapterView) → IsOnDisk over below s → IsRead below s adapter → IsRead over (on_partition over next s) adapter
   IsRead-over next s adapter k h = record {
     same_size = h.same_size;
+    same_sectors = h.same_sectors;
     same_depth = h.same_depth;
     arrays = ap (λ xs. map (sectors_in xs) partitions) (disk_is s adapter k h) ∙ sectors_of_front partitions adapter.sectors k.disk.count k.single (rw k.covers k.partition);
     pieces = h.pieces;

@@ -6,7 +6,6 @@ use Rattle.std.proofs.lemmas.List.Sorted.{IsPermutation-sym, IsPermutation-map, 
 use Rattle.std.proofs.lemmas.List.Elements.{All-head, All-tail, All-cons, All-map, All-contains}
 use Rattle.sector.specs.declared.Extent.{Extent}
 use Rattle.sector.specs.Splice.{splice}
-use Rattle.cdb.specs.declared.Cdb.TheVariants.{Read10, Write10}
 use Rattle.cdb.specs.Meaning.{Means}
 use Rattle.srb.specs.declared.DeviceLabel.{DeviceLabel}
 use Rattle.srb.specs.declared.DeviceLabel.TheVariants.{Start, Act, Fault, Return}
@@ -15,7 +14,7 @@ use Rattle.machine.specs.declared.Kind.TheVariants.{Read, Write, Flush}
 use Rattle.machine.specs.declared.ClientRequest.{ClientRequest}
 use Rattle.machine.specs.Rules.{Rules, is_transfer, first_sector, place_count, home}
 use Rattle.machine.specs.State.{Mark, Out, OpenRequest, Piece, State, IsSame}
-use Rattle.machine.specs.Sending.{Starts, Acts, IsInTurn, IsFreshPiece, Transfers, partition_number, written, command_for}
+use Rattle.machine.specs.Sending.{Starts, Acts, IsInTurn, IsFreshPiece, Transfers, partition_number, written, command_for, read_command, write_command}
 use Rattle.machine.specs.Step.{DeviceStep, Run, as_label}
 use Rattle.machine.specs.Numbers.{AreDistinct}
 use Rattle.machine.specs.Pieces.{IsPlaced, ArePlaced}
@@ -104,8 +103,8 @@ module _ (partitions : List Extent) (many window : ℕ) (below : Rules) where
           ∙ sym (ap (λ part. home over part (first_sector over (as_called over q) + places.first)) on_disk)
 
       by_kind : (kind : Kind) → command_for below q places kind ≡ command_for over (as_called over q) places kind
-      by_kind Read = ap (λ lba. Read10 lba places.count q.through) same
-      by_kind Write = ap (λ lba. Write10 lba places.count q.through) same
+      by_kind Read = ap (λ lba. read_command lba places.count q.through) same
+      by_kind Write = ap (λ lba. write_command lba places.count q.through) same
       by_kind Flush = refl
 
   -- WHAT AN ACT MOVES

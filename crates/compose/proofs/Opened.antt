@@ -108,6 +108,7 @@ module _ (limits : Limits) (below : Seen) (tables : Tables) (orderly : IsOrderly
   fits : FitsBelow limits below
   fits = record {
     sector_size = size_below;
+    disk_sectors = for.disk_sectors ∙ sym orderly.read.same_sectors;
     some_bytes = some_bytes;
     longest = for.longest;
     short = for.short;

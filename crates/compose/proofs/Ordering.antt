@@ -13,10 +13,10 @@ use Rattle.machine.specs.Rules.{Rules}
 use Rattle.machine.specs.State.{State}
 use Rattle.machine.specs.Calling.{AnswersRefused}
 use Rattle.machine.specs.Sending.{Starts, sent, IsStart}
-use Rattle.machine.specs.Answering.{Answers}
+use Rattle.machine.specs.Answering.{AnswersWith}
 use Rattle.machine.specs.Numbers.{HasPlaces, HavePlaces}
 use Rattle.machine.specs.Step.{Run, as_label}
-use Rattle.machine.proofs.Same.{IsSame-refl, IsSame-sym, Answers-same, Run-same, Run-append}
+use Rattle.machine.proofs.Same.{IsSame-refl, IsSame-sym, AnswersWith-same, Run-same, Run-append}
 use Rattle.machine.proofs.Commuting.{swapped, Start-first, Answers-swap, HasPlaces-with_marks}
 use Rattle.compose.specs.declared.Answer.{Answer}
 use Rattle.compose.specs.Right.{as_answer, answer_number, IsAbove, AreRising}
@@ -29,12 +29,12 @@ module _ (rules : Rules) where
       All-permutation HasPlaces _ _ (IsPermutation-sym _ _ h.after.requests)
       (All-cons HasPlaces (sent h.places h.owner) h.others (HasPlaces-with_marks h.owner h.places.first _ (All-head HasPlaces h.owner h.others all)) (All-tail HasPlaces h.owner h.others all))
 
-  answer_keeps : (s : State) (number : ℕ) (status : NtStatus) (bytes : List ℕ) (s' : State) → HavePlaces s → Answers rules s number status bytes s' → HavePlaces s'
-  answer_keeps s number status bytes s' places h =
-      All-permutation HasPlaces _ _ (IsPermutation-sym _ _ h.after.requests) (All-tail HasPlaces h.request h.others (All-permutation HasPlaces _ _ h.is_open places))
+  answer_keeps : (s : State) (number : ℕ) (status : NtStatus) (informed : ℕ) (bytes : List ℕ) (s' : State) → HavePlaces s → AnswersWith rules s number status informed bytes s' → HavePlaces s'
+  answer_keeps s number status informed bytes s' places h =
+      All-permutation HasPlaces _ _ (IsPermutation-sym _ _ h.answers.after.requests) (All-tail HasPlaces h.answers.request h.answers.others (All-permutation HasPlaces _ _ h.answers.is_open places))
 
-  pub not_owed : (s : State) (number : ℕ) (status : NtStatus) (bytes : List ℕ) (s' : State) → IsNone s.owed → AnswersRefused s number status bytes s' → ⊥
-  not_owed s number status bytes s' free h = cc (rw h.is_owed at free)
+  pub not_owed : (s : State) (number : ℕ) (status : NtStatus) (informed : ℕ) (bytes : List ℕ) (s' : State) → IsNone s.owed → AnswersRefused s number status informed bytes s' → ⊥
+  not_owed s number status informed bytes s' free h = cc (rw h.is_owed at free)
 
   -- starts owe nothing, and leave each request its places
   owes_none : (starts : List DeviceLabel) (s s' : State) → IsNone s.owed → All IsStart starts → Run rules s (map as_label starts) s' → IsNone s'.owed
@@ -46,20 +46,20 @@ module _ (rules : Rules) where
   owes_none (Return piece class ∷ starts) s s' free only run = absurd (All-head IsStart _ starts only)
 
   -- an answer, then starts
-  one_later : (number : ℕ) (status : NtStatus) (bytes : List ℕ) (starts : List DeviceLabel) (s mid s' : State) → IsNone s.owed → HavePlaces s
-      → Answers rules s number status bytes mid → All IsStart starts → Run rules mid (map as_label starts) s'
-      → (mid' : State) × Run rules s (map as_label starts) mid' × Answers rules mid' number status bytes s'
-  one_later number status bytes [] s mid s' free places answer only run = (s, IsSame-refl s, Answers-same rules number status bytes s s mid s' (IsSame-refl s) run answer)
-  one_later number status bytes (Start piece tag block ∷ starts) s mid s' free places answer only (next, inl (free', start), run) =
-      let turned : (mid' : State) × Starts rules s piece tag block mid' × Answers rules mid' number status bytes next =
-      Start-first rules s number status bytes mid piece tag block next places answer start in
-      let rest : (mid' : State) × Run rules turned.0 (map as_label starts) mid' × Answers rules mid' number status bytes s' =
-      one_later number status bytes starts turned.0 next s' (rw turned.1.after.owed free) (start_keeps s piece tag block turned.0 places turned.1) turned.2 (All-tail IsStart _ starts only) run in
+  one_later : (number : ℕ) (status : NtStatus) (informed : ℕ) (bytes : List ℕ) (starts : List DeviceLabel) (s mid s' : State) → IsNone s.owed → HavePlaces s
+      → AnswersWith rules s number status informed bytes mid → All IsStart starts → Run rules mid (map as_label starts) s'
+      → (mid' : State) × Run rules s (map as_label starts) mid' × AnswersWith rules mid' number status informed bytes s'
+  one_later number status informed bytes [] s mid s' free places answer only run = (s, IsSame-refl s, AnswersWith-same rules number status informed bytes s s mid s' (IsSame-refl s) run answer)
+  one_later number status informed bytes (Start piece tag block ∷ starts) s mid s' free places answer only (next, inl (free', start), run) =
+      let turned : (mid' : State) × Starts rules s piece tag block mid' × AnswersWith rules mid' number status informed bytes next =
+      Start-first rules s number status informed bytes mid piece tag block next places answer start in
+      let rest : (mid' : State) × Run rules turned.0 (map as_label starts) mid' × AnswersWith rules mid' number status informed bytes s' =
+      one_later number status informed bytes starts turned.0 next s' (rw turned.1.after.owed free) (start_keeps s piece tag block turned.0 places turned.1) turned.2 (All-tail IsStart _ starts only) run in
       (rest.0, (turned.0, inl (free, turned.1), rest.1), rest.2)
-  one_later number status bytes (Start piece tag block ∷ starts) s mid s' free places answer only (next, inr none, run) = absurd none
-  one_later number status bytes (Act piece bytes' ∷ starts) s mid s' free places answer only run = absurd (All-head IsStart _ starts only)
-  one_later number status bytes (Fault piece ∷ starts) s mid s' free places answer only run = absurd (All-head IsStart _ starts only)
-  one_later number status bytes (Return piece class ∷ starts) s mid s' free places answer only run = absurd (All-head IsStart _ starts only)
+  one_later number status informed bytes (Start piece tag block ∷ starts) s mid s' free places answer only (next, inr none, run) = absurd none
+  one_later number status informed bytes (Act piece bytes' ∷ starts) s mid s' free places answer only run = absurd (All-head IsStart _ starts only)
+  one_later number status informed bytes (Fault piece ∷ starts) s mid s' free places answer only run = absurd (All-head IsStart _ starts only)
+  one_later number status informed bytes (Return piece class ∷ starts) s mid s' free places answer only run = absurd (All-head IsStart _ starts only)
 
   -- answers, then starts: the starts may all come first
   pub starts_before : (answers : List Answer) (starts : List DeviceLabel) (s mid s' : State) → IsNone s.owed → HavePlaces s → All IsStart starts
@@ -68,43 +68,43 @@ module _ (rules : Rules) where
   starts_before [] starts s mid s' free places only run later = (s', Run-same rules (map as_label starts) mid s s' s' (IsSame-sym s mid run) (IsSame-refl s') later, IsSame-refl s')
   starts_before (answer ∷ answers) starts s mid s' free places only (next, inl (free', first), run) later =
       let rest : (mid' : State) × Run rules next (map as_label starts) mid' × Run rules mid' (map as_answer answers) s' =
-      starts_before answers starts next mid s' (rw first.after.owed free) (answer_keeps s answer.number answer.status answer.bytes next places first) only run later in
-      let one : (mid' : State) × Run rules s (map as_label starts) mid' × Answers rules mid' answer.number answer.status answer.bytes rest.0 =
-      one_later answer.number answer.status answer.bytes starts s next rest.0 free places first only rest.1 in
+      starts_before answers starts next mid s' (rw first.answers.after.owed free) (answer_keeps s answer.number answer.status answer.information answer.bytes next places first) only run later in
+      let one : (mid' : State) × Run rules s (map as_label starts) mid' × AnswersWith rules mid' answer.number answer.status answer.information answer.bytes rest.0 =
+      one_later answer.number answer.status answer.information answer.bytes starts s next rest.0 free places first only rest.1 in
       (one.0, one.1, (rest.0, inl (owes_none starts s one.0 free only one.1, one.2), rest.2))
-  starts_before (answer ∷ answers) starts s mid s' free places only (next, inr owed, run) later = absurd (not_owed s answer.number answer.status answer.bytes next free owed)
+  starts_before (answer ∷ answers) starts s mid s' free places only (next, inr owed, run) later = absurd (not_owed s answer.number answer.status answer.information answer.bytes next free owed)
 
   -- ANSWERS BY THEIR NUMBERS
 
   -- an answer before those that it followed
   to_front : (answers : List Answer) (s mid : State) (answer : Answer) (s' : State) → IsNone s.owed → Run rules s (map as_answer answers) mid
-      → Answers rules mid answer.number answer.status answer.bytes s'
-      → (mid' : State) × Answers rules s answer.number answer.status answer.bytes mid' × Run rules mid' (map as_answer answers) s'
-  to_front [] s mid answer s' free run last = (s', Answers-same rules answer.number answer.status answer.bytes mid s s' s' (IsSame-sym s mid run) (IsSame-refl s') last, IsSame-refl s')
+      → AnswersWith rules mid answer.number answer.status answer.information answer.bytes s'
+      → (mid' : State) × AnswersWith rules s answer.number answer.status answer.information answer.bytes mid' × Run rules mid' (map as_answer answers) s'
+  to_front [] s mid answer s' free run last = (s', AnswersWith-same rules answer.number answer.status answer.information answer.bytes mid s s' s' (IsSame-sym s mid run) (IsSame-refl s') last, IsSame-refl s')
   to_front (first ∷ answers) s mid answer s' free (next, inl (free', step), run) last =
-      let rest : (mid' : State) × Answers rules next answer.number answer.status answer.bytes mid' × Run rules mid' (map as_answer answers) s' =
-      to_front answers next mid answer s' (rw step.after.owed free) run last in
-      let turned : (mid' : State) × Answers rules s answer.number answer.status answer.bytes mid' × Answers rules mid' first.number first.status first.bytes rest.0 =
-      Answers-swap rules s first.number first.status first.bytes next answer.number answer.status answer.bytes rest.0 step rest.1 in
-      (turned.0, turned.1, (rest.0, inl (rw turned.1.after.owed free, turned.2), rest.2))
-  to_front (first ∷ answers) s mid answer s' free (next, inr owed, run) last = absurd (not_owed s first.number first.status first.bytes next free owed)
+      let rest : (mid' : State) × AnswersWith rules next answer.number answer.status answer.information answer.bytes mid' × Run rules mid' (map as_answer answers) s' =
+      to_front answers next mid answer s' (rw step.answers.after.owed free) run last in
+      let turned : (mid' : State) × AnswersWith rules s answer.number answer.status answer.information answer.bytes mid' × AnswersWith rules mid' first.number first.status first.information first.bytes rest.0 =
+      Answers-swap rules s first.number first.status first.information first.bytes next answer.number answer.status answer.information answer.bytes rest.0 step rest.1 in
+      (turned.0, turned.1, (rest.0, inl (rw turned.1.answers.after.owed free, turned.2), rest.2))
+  to_front (first ∷ answers) s mid answer s' free (next, inr owed, run) last = absurd (not_owed s first.number first.status first.information first.bytes next free owed)
 
 module _ (rules : Rules) where
   -- an answer may come before those of higher numbers
   pub Run-inserted : (answers : List Answer) (s mid : State) (answer : Answer) (s' : State) → IsNone s.owed → Run rules s (map as_answer answers) mid
-      → Answers rules mid answer.number answer.status answer.bytes s' → Run rules s (map as_answer (inserted answer answers)) s'
+      → AnswersWith rules mid answer.number answer.status answer.information answer.bytes s' → Run rules s (map as_answer (inserted answer answers)) s'
   Run-inserted [] s mid answer s' free run last =
-      (s', inl (free, Answers-same rules answer.number answer.status answer.bytes mid s s' s' (IsSame-sym s mid run) (IsSame-refl s') last), IsSame-refl s')
+      (s', inl (free, AnswersWith-same rules answer.number answer.status answer.information answer.bytes mid s s' s' (IsSame-sym s mid run) (IsSame-refl s') last), IsSame-refl s')
   Run-inserted (first ∷ answers) s mid answer s' free (next, inl (free', step), run) last =
-      by_test (nat_lt first.number answer.number) (Run-inserted answers next mid answer s' (rw step.after.owed free) run last)
+      by_test (nat_lt first.number answer.number) (Run-inserted answers next mid answer s' (rw step.answers.after.owed free) run last)
     where
       by_test : (b : Bool) → Run rules next (map as_answer (inserted answer answers)) s' → Run rules s (map as_answer (if b then first ∷ inserted answer answers else answer ∷ first ∷ answers)) s'
       by_test false later =
-          let front : (mid' : State) × Answers rules s answer.number answer.status answer.bytes mid' × Run rules mid' (map as_answer (first ∷ answers)) s' =
+          let front : (mid' : State) × AnswersWith rules s answer.number answer.status answer.information answer.bytes mid' × Run rules mid' (map as_answer (first ∷ answers)) s' =
           to_front rules (first ∷ answers) s mid answer s' free (next, inl (free', step), run) last in
           (front.0, inl (free, front.1), front.2)
       by_test true later = (next, inl (free', step), later)
-  Run-inserted (first ∷ answers) s mid answer s' free (next, inr owed, run) last = absurd (not_owed rules s first.number first.status first.bytes next free owed)
+  Run-inserted (first ∷ answers) s mid answer s' free (next, inr owed, run) last = absurd (not_owed rules s first.number first.status first.information first.bytes next free owed)
 
   Run-split : (xs ys : List Label) (s s' : State) → Run rules s (xs ++ ys) s' → (mid : State) × Run rules s xs mid × Run rules mid ys s'
   Run-split [] ys s s' run = (s, IsSame-refl s, run)
@@ -123,7 +123,7 @@ module _ (rules : Rules) where
 
   -- starts and answers by their numbers, then one more answer and the starts after it: again starts and answers by their numbers
   pub Run-collected : (starts more : List DeviceLabel) (answers : List Answer) (answer : Answer) (s mid answered s' : State) → IsNone s.owed → HavePlaces s → All IsStart starts → All IsStart more
-      → Run rules s (map as_label starts ++ map as_answer answers) mid → Answers rules mid answer.number answer.status answer.bytes answered → Run rules answered (map as_label more) s'
+      → Run rules s (map as_label starts ++ map as_answer answers) mid → AnswersWith rules mid answer.number answer.status answer.information answer.bytes answered → Run rules answered (map as_label more) s'
       → Run rules s (map as_label (starts ++ more) ++ map as_answer (inserted answer answers)) s'
   Run-collected starts more answers answer s mid answered s' free places only only_more run last later =
       let a : (first : State) × Run rules s (map as_label starts) first × Run rules first (map as_answer answers) mid = Run-split (map as_label starts) (map as_answer answers) s mid run in

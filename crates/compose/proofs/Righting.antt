@@ -30,6 +30,7 @@ use Rattle.compose.proofs.Askings.{KeepsAsked, run_keeps, AreHeld-along}
 pub FitsBelow-same : (limits : Limits) (below below' : Seen) → below'.rules ≡ below.rules → below'.most ≡ below.most → FitsBelow limits below → FitsBelow limits below'
 FitsBelow-same limits below below' rules most h = record {
   sector_size = h.sector_size ∙ ap (λ (r : Rules). r.sector_size) (sym rules);
+  disk_sectors = h.disk_sectors ∙ ap (λ (r : Rules). r.disk_sectors) (sym rules);
   some_bytes = h.some_bytes;
   longest = h.longest ∙ ap (λ (r : Rules). r.longest) (sym rules);
   short = h.short;

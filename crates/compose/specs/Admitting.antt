@@ -12,6 +12,7 @@ use Rattle.machine.specs.declared.Label.TheVariants.{Call, Answer as AnswerLabel
 use Rattle.machine.specs.Rules.{Rules, is_transfer}
 use Rattle.ntstatus.specs.First.{when, first_some}
 use Rattle.machine.specs.Calling.{refusal}
+use Rattle.machine.specs.Sending.{read_command, write_command, flush_command}
 use Rattle.device.specs.Seen.{Seen, Packet, payload_bytes}
 use Rattle.device.specs.Served.{Submits}
 use Rattle.compose.specs.declared.Handle.{Handle}
@@ -19,7 +20,6 @@ use Rattle.compose.specs.declared.Reply.{Reply}
 use Rattle.compose.specs.declared.Reply.TheVariants.{Handle as HandleReply, Ok as OkReply, Request as Requested, Answered, Refused, Ignored}
 use Rattle.compose.specs.declared.tables.Tables.{Tables}
 use Rattle.cdb.specs.declared.Cdb.{Cdb}
-use Rattle.cdb.specs.declared.Cdb.TheVariants.{Read10, Write10, Sync10}
 use Rattle.irp.specs.declared.Driver.TheVariants.{Port}
 use Rattle.irp.specs.declared.Irp.{Irp}
 use Rattle.irp.specs.declared.MajorFunction.TheVariants.{InternalDeviceControl}
@@ -60,24 +60,25 @@ request_on_disk limits q = record {
   through = q.through;
 }
 
--- the rules of a whole disk from its first sector on
-pub record IsWholeDisk (rules : Rules) : Type 0 where
+-- the rules of a whole disk of so many sectors, from its first on
+pub record IsWholeDisk (disk_sectors : ℕ) (rules : Rules) : Type 0 where
+  pub as_many : rules.disk_sectors ≡ disk_sectors
   pub disk : Extent
   pub one_extent : rules.partitions ≡ disk ∷ []
   pub from_first : disk.first ≡ 0
   pub some_bytes : 0 < rules.sector_size
 
--- a request of a whole disk that a ten-byte command block can ask for
+-- a request of a whole disk that a command block can ask for
 pub record FitsBlock (request : Request) : Type 0 where
   pub volume : request.volume ≡ 0
-  pub first : request.extent.first < 2 ^ 32
-  pub count : request.extent.count < 2 ^ 16
+  pub first : request.extent.first < 2 ^ 64
+  pub count : request.extent.count < 2 ^ 32
 
--- the command that asks a disk for all of a request
-abbrev pub disk_command : Request → Kind → Cdb
-disk_command r Read = Read10 r.extent.first r.extent.count r.through
-disk_command r Write = Write10 r.extent.first r.extent.count r.through
-disk_command r Flush = Sync10 0 0
+-- the command that asks a disk of so many sectors for all of a request
+abbrev pub disk_command : ℕ → Request → Kind → Cdb
+disk_command disk_sectors r Read = read_command r.extent.first r.extent.count r.through
+disk_command disk_sectors r Write = write_command r.extent.first r.extent.count r.through
+disk_command disk_sectors r Flush = flush_command disk_sectors
 
 -- the buffers that a request of the caller's length needs
 pub record HasBuffers (kind : Kind) (buffer : List ℕ) (places : Places) : Type 0 where
@@ -105,13 +106,13 @@ pub record IsOnTop (number : ℕ) (request : Request) (irp : Irp) : Type 0 where
 
 -- a call and its answer are told, and a number is used
 pub record AnswersAtOnce (old : Tables) (q : ClientRequest) (status : NtStatus) (new : Tables) : Type 0 where
-  pub tells : new.labels.items ≡ old.labels.items ++ Call old.next_request q ∷ AnswerLabel old.next_request status [] ∷ []
+  pub tells : new.labels.items ≡ old.labels.items ++ Call old.next_request q ∷ AnswerLabel old.next_request status 0 [] ∷ []
   pub label_places : deque_capacity new.labels ≡ deque_capacity old.labels
   pub after : new ≡ record old { next_request = old.next_request + 1; labels = new.labels }
 
 -- the reply to a call that ends where it begins
 abbrev pub reply_at_once : ℕ → List ℕ → AtOnce → Reply
-reply_at_once number buffer Empty = Answered (record { number = number; status = Success; bytes = [] })
+reply_at_once number buffer Empty = Answered (record { number = number; status = Success; information = 0; bytes = [] })
 reply_at_once number buffer (RefusedFor refusal) = Refused refusal buffer
 
 -- a request is open under the next number, in a slot that was free, and its call is told

@@ -9,7 +9,7 @@ use Rattle.irp.specs.declared.Done.{Done}
 use Rattle.machine.specs.declared.Kind.{Kind}
 use Rattle.machine.specs.declared.Kind.TheVariants.{Read}
 use Rattle.machine.specs.State.{State}
-use Rattle.machine.specs.Answering.{Answers}
+use Rattle.machine.specs.Answering.{AnswersWith}
 use Rattle.machine.specs.Step.{Run, as_label}
 use Rattle.machine.specs.Sending.{IsStart}
 use Rattle.device.specs.Seen.{Seen, payload_bytes}
@@ -45,6 +45,7 @@ abbrev pub answer_for : OpenRequest → Done → Answer
 answer_for request done = record {
   number = done.number;
   status = done.status;
+  information = done.information;
   bytes = brought request.kind done.status (payload_bytes done.payload);
 }
 
@@ -78,7 +79,7 @@ pub record TakesEnded (below : Seen) (tables : Tables) (below' : Seen) (tables' 
   pub closes : Closes tables done tables'
   pub answered : State
   pub starts : List DeviceLabel
-  pub answers : Answers below.rules below.state done.number done.status (answer_for closes.request done).bytes answered
+  pub answers : AnswersWith below.rules below.state done.number done.status done.information (answer_for closes.request done).bytes answered
   pub only_starts : All IsStart starts
   pub same_rules : below'.rules ≡ below.rules
   pub run : Run below.rules answered (map as_label starts) below'.state

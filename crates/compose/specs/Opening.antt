@@ -1,5 +1,5 @@
 -- A stack before its first event.
-use Rattle.std.specs.Prelude.{◌≡◌, ◌<◌, ◌≤◌, ◌^◌, false, List, [], ◌∷◌, Option, Some, None, Ok, map, length}
+use Rattle.std.specs.Prelude.{◌≡◌, ◌≤◌, ◌^◌, false, List, [], ◌∷◌, Option, Some, None, Ok, map, length}
 use Rattle.sector.specs.declared.Extent.{Extent}
 use Rattle.adapter.specs.View.{AdapterView}
 use Rattle.machine.specs.Map.{IsMap, sectors_in}
@@ -12,7 +12,7 @@ use Rattle.compose.specs.declared.tables.Tables.{Tables}
 use Rattle.compose.specs.Shown.{StackView}
 use Rattle.compose.specs.Calls.{number_limit}
 use Rattle.compose.specs.Sound.{partitions_of, view_of}
-use Rattle.compose.specs.Start.{AreInRange, told_partition, IsSameDisk, IsReadBy}
+use Rattle.compose.specs.Start.{AreInRange, told_partition, asked_at_start, IsSameDisk, IsReadBy}
 
 -- the device below has the whole disk, and nothing was asked of it yet
 pub record IsUnasked (below : Seen) : Type 0 where
@@ -27,8 +27,9 @@ pub record IsUnasked (below : Seen) : Type 0 where
 -- sizes of a stack over this device
 pub record AreFor (below : Seen) (limits : Limits) : Type 0 where
   pub sector_size : limits.sector_size ≡ below.adapter.sector_size
+  pub disk_sectors : limits.disk_sectors ≡ length below.adapter.sectors
   pub longest : limits.longest ≡ below.rules.longest
-  pub short : limits.longest < 2 ^ 16
+  pub short : limits.longest ≤ 2 ^ 16
   pub some_open : (1 ≤ limits.open_requests) × (limits.open_requests ≤ limits.window) × (limits.window ≤ 64)
   pub is_map : IsMap (length below.adapter.sectors) (partitions_of limits.partition)
 
@@ -50,6 +51,7 @@ ShowsEmpty limits below view = (tables : Tables) × AreEmpty tables × (view ≡
 abbrev pub first_rules : AdapterView → Settings → List Extent → Rules
 first_rules disk settings partitions = record {
   sector_size = disk.sector_size;
+  disk_sectors = length disk.sectors;
   partitions = partitions;
   longest = disk.max_transfer;
   max_transfer = disk.max_transfer;
@@ -69,7 +71,7 @@ pub record IsFirstView (disk : AdapterView) (settings : Settings) (view : StackV
   pub is_map : IsMap (length disk.sectors) (partitions_of partition)
   pub rules : view.rules ≡ first_rules disk settings (partitions_of partition)
   pub state : view.state ≡ opening (map (sectors_in disk.sectors) (partitions_of partition))
-  pub same_disk : IsSameDisk 2 disk view.adapter
+  pub same_disk : IsSameDisk (asked_at_start disk) disk view.adapter
   pub read : IsReadBy disk view.adapter
   pub no_handles : view.handles ≡ []
   pub first_handle : view.next_handle ≡ 1

@@ -34,7 +34,7 @@ use Rattle.compose.specs.Calls.{are_used_up, status_of_refusal, call_on, without
 
 -- the label of an answer
 abbrev pub as_answer : Answer → Label
-as_answer answer = AnswerLabel answer.number answer.status answer.bytes
+as_answer answer = AnswerLabel answer.number answer.status answer.information answer.bytes
 
 -- the number of the request that it answers
 abbrev pub answer_number : Answer → ℕ
@@ -100,7 +100,7 @@ pub record IsAnsweredAtOnce (old : StackView) (q : ClientRequest) (status : NtSt
   pub numbers_last : are_used_up old.state.next_request ≡ false
   pub is_refused : refusal old.rules old.state q ≡ Some status
   pub tells : told ≡ record (tells_nothing old) {
-    own = Call old.state.next_request (without_bytes q) ∷ AnswerLabel old.state.next_request status [] ∷ [];
+    own = Call old.state.next_request (without_bytes q) ∷ AnswerLabel old.state.next_request status 0 [] ∷ [];
   }
   pub same_adapter : new.adapter ≡ old.adapter
 
@@ -125,7 +125,7 @@ IsTurnedAway old q _ told new = ⊥
 abbrev pub CallReplies : StackView → Handle → ClientRequest → List ℕ → Reply → Told → StackView → Type 0
 CallReplies old handle q buffer (Requested id) told new = IsAdmitted old handle q id.slot id.number told
 CallReplies old handle q buffer (Answered answer) told new =
-    IsAnsweredAtOnce old q Success told new × (answer ≡ record { number = old.state.next_request; status = Success; bytes = [] })
+    IsAnsweredAtOnce old q Success told new × (answer ≡ record { number = old.state.next_request; status = Success; information = 0; bytes = [] })
 CallReplies old handle q buffer (Refused reason bytes) told new =
     (bytes ≡ buffer)
     × (IsAnsweredAtOnce old q (status_of_refusal reason) told new ⊎ IsTurnedAway old q reason told new)

@@ -63,12 +63,13 @@ pub record IsOfRun (rules : Rules) (s : State) (labels : List Label) (s' : State
   pub last : List Label
   pub called : State
   pub ended : State
-  pub split : labels ≡ first ++ Call number q ∷ (between ++ Answer number status bytes ∷ last)
+  pub informed : ℕ
+  pub split : labels ≡ first ++ Call number q ∷ (between ++ Answer number status informed bytes ∷ last)
   pub comes : Run rules s first before
   pub calls : Step rules before (Call number q) called
   pub not_refused : refusal rules before q ≡ None
   pub run : Run rules called between ended
-  pub answers : Step rules ended (Answer number status bytes) after
+  pub answers : Step rules ended (Answer number status informed bytes) after
   pub goes : Run rules after last s'
 
 -- no other write that shares a place with it is open from its call to its answer

@@ -55,13 +55,14 @@ view_of limits below tables = record {
   answers = tables.waiting.items;
 }
 
--- the sizes that the stack keeps are those of the device below, and fit a ten-byte command block
+-- the sizes that the stack keeps are those of the device below, and fit a command block
 pub record FitsBelow (limits : Limits) (below : Seen) : Type 0 where
   pub sector_size : limits.sector_size ≡ below.rules.sector_size
+  pub disk_sectors : limits.disk_sectors ≡ below.rules.disk_sectors
   pub some_bytes : 512 ≤ limits.sector_size
   pub longest : limits.longest ≡ below.rules.longest
-  pub short : limits.longest < 2 ^ 16
-  pub small : end_of (partitions_of limits.partition) ≤ 2 ^ 32
+  pub short : limits.longest ≤ 2 ^ 16
+  pub small : end_of (partitions_of limits.partition) ≤ 2 ^ 40
   pub some_open : (1 ≤ limits.open_requests) × (limits.open_requests ≤ limits.window) × (limits.window ≤ 64)
   pub no_window : below.rules.window ≡ None
   pub many : number_limit ≤ below.most

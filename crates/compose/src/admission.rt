@@ -4,6 +4,7 @@ ghost use Rattle.std.specs.Prelude.{◌≡◌, ◌<◌, ◌≤◌, ℕ, ◌+◌,
 ghost use Rattle.machine.specs.Rules.{Rules, is_transfer, is_in_bounds};
 ghost use Rattle.machine.specs.State.{State};
 ghost use Rattle.machine.specs.Calling.{refusal};
+ghost use Rattle.machine.specs.Sending.{fits_ten, read_command, write_command, flush_command};
 ghost use Rattle.device.specs.Seen.{Carries, payload_bytes, transfer_length, direction};
 ghost use Rattle.compose.specs.Calls.{status_of_refusal};
 ghost use Rattle.compose.specs.OnDisk.{first_of};
@@ -24,6 +25,8 @@ use std::alloc::{AllocError, Global};
 pub(crate) struct Limits {
     /// Bytes.
     pub(crate) sector_size: u64,
+    /// The sectors of the whole disk.
+    pub(crate) disk_sectors: u64,
     pub(crate) partition: Option<Extent>,
     /// Sectors of the longest request.
     pub(crate) longest: u64,
@@ -188,18 +191,76 @@ pub(crate) fn places_for(alloc: Global, kind: Kind, buffer: &Bytes) -> Result<Pl
     })
 }
 
-/// Which way the data of a request of the disk go, and its command.
-fn command_of(request: &Request) -> (SrbFlags, Cdb)
+/// Whether a block of ten bytes has room for an address and a number of blocks.
+fn is_short(lba: u64, count: u64) -> bool
+    ensures { result ≡ fits_ten lba count }
+{
+    lba < 1 << 32 && count < 1 << 16
+}
+
+/// A read, in the form of ten bytes where that has room for it, else of sixteen.
+fn read_of(lba: u64, count: u64, fua: bool) -> Cdb
+    requires { count < 2 ^ 32 }
+    ensures { result ≡ read_command lba count fua }
+{
+    if is_short(lba, count) {
+        Cdb::Read10 {
+            lba: lba as u32,
+            count: count as u16,
+            fua,
+        }
+    } else {
+        Cdb::Read16 {
+            lba,
+            count: count as u32,
+            fua,
+        }
+    }
+}
+
+/// A write, likewise.
+fn write_of(lba: u64, count: u64, fua: bool) -> Cdb
+    requires { count < 2 ^ 32 }
+    ensures { result ≡ write_command lba count fua }
+{
+    if is_short(lba, count) {
+        Cdb::Write10 {
+            lba: lba as u32,
+            count: count as u16,
+            fua,
+        }
+    } else {
+        Cdb::Write16 {
+            lba,
+            count: count as u32,
+            fua,
+        }
+    }
+}
+
+/// A flush of a whole disk of so many sectors, likewise.
+fn flush_of(disk_sectors: u64) -> Cdb
+    ensures { result ≡ flush_command disk_sectors }
+{
+    if disk_sectors <= 1 << 32 {
+        Cdb::Sync10 { lba: 0, blocks: 0 }
+    } else {
+        Cdb::Sync16 { lba: 0, blocks: 0 }
+    }
+}
+
+/// Which way the data of a request of a disk of so many sectors go, and its command.
+fn command_of(request: &Request, disk_sectors: u64) -> (SrbFlags, Cdb)
     requires { FitsBlock request.now }
     ensures flags { result.0.0 ≡ direction request.now.kind }
-    ensures command { result.1 ≡ disk_command request.now request.now.kind }
+    ensures command { result.1 ≡ disk_command disk_sectors request.now request.now.kind }
 {
-    let (lba, count) = (request.extent.first as u32, request.extent.count as u16);
+    let Extent { first, count } = request.extent;
     let fua = request.through;
     match request.kind {
-        Kind::Read => (SrbFlags::DATA_IN, Cdb::Read10 { lba, count, fua }),
-        Kind::Write => (SrbFlags::DATA_OUT, Cdb::Write10 { lba, count, fua }),
-        Kind::Flush => (SrbFlags(0), Cdb::Sync10 { lba: 0, blocks: 0 }),
+        Kind::Read => (SrbFlags::DATA_IN, read_of(first, count, fua)),
+        Kind::Write => (SrbFlags::DATA_OUT, write_of(first, count, fua)),
+        Kind::Flush => (SrbFlags(0), flush_of(disk_sectors)),
     }
 }
 
@@ -223,15 +284,21 @@ fn location_of(request: &Request) -> StackLocation
     }
 }
 
-/// The packet of a request, with an SRB that asks for its sectors.
-pub(crate) fn packet_for(number: u64, request: &Request, buffer: Bytes, for_label: Bytes) -> Irp
+/// The packet of a request of a disk of so many sectors, with an SRB that asks for its own.
+pub(crate) fn packet_for(
+    number: u64,
+    request: &Request,
+    disk_sectors: u64,
+    buffer: Bytes,
+    for_label: Bytes,
+) -> Irp
     requires { FitsBlock request.now }
     ensures top { IsOnTop number request.now result }
     ensures bytes { payload_bytes result.payload ≡ buffer }
-    ensures asks { (rules : Rules) → IsWholeDisk rules → length buffer ≡ transfer_length rules request.now → length for_label ≡ transfer_length rules request.now
+    ensures asks { (rules : Rules) → IsWholeDisk disk_sectors rules → length buffer ≡ transfer_length rules request.now → length for_label ≡ transfer_length rules request.now
         → Carries true rules request.now result.payload }
 {
-    let (flags, command) = command_of(request);
+    let (flags, command) = command_of(request, disk_sectors);
     let srb = Srb {
         function: SrbFunction::ExecuteScsi,
         flags,

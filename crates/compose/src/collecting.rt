@@ -79,7 +79,7 @@ impl Tables {
         let Done {
             number,
             status,
-            information: _,
+            information,
             payload,
         } = done;
         let number = number as u64;
@@ -96,6 +96,7 @@ impl Tables {
             Answer {
                 number,
                 status,
+                information,
                 bytes: label_bytes,
             },
         );
@@ -104,6 +105,7 @@ impl Tables {
             Answer {
                 number,
                 status,
+                information,
                 bytes,
             },
         );
@@ -122,11 +124,13 @@ fn tell_answers(answered: &mut VecDeque<Answer>, labels: &mut VecDeque<Label>)
         let Answer {
             number,
             status,
+            information,
             bytes,
         } = answer;
         labels.push_back_reserved(Label::Answer {
             number,
             status,
+            information,
             bytes,
         });
     }

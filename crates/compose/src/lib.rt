@@ -115,6 +115,8 @@ pub struct Answer {
     /// The request's.
     pub number: u64,
     pub status: NtStatus,
+    /// The number of bytes transferred (WDK: IO_STATUS_BLOCK): the length of a read or write that succeeded, else 0.
+    pub information: u64,
     /// Those of a read that succeeded, else none.
     pub bytes: Bytes,
 }
@@ -182,7 +184,7 @@ pub enum StartFault {
     /// A setting is out of range; nothing was sent.
     #[error("a setting is out of range")]
     Settings,
-    /// The adapter failed READ CAPACITY(10) or the read of sector 0, with this status.
+    /// The adapter failed READ CAPACITY or the read of sector 0, with this status.
     #[error("the device failed a command of the start: {0}")]
     Device(NtStatus),
     /// Sector 0 holds no partition table that is right.

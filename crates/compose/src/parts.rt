@@ -83,7 +83,13 @@ impl<D: Device> Parts<D> {
     {
         let below = self.limits.request_below(&request);
         let number = self.tables.next_request;
-        let irp = packet_for(number, &below, buffer, places.for_label);
+        let irp = packet_for(
+            number,
+            &below,
+            self.limits.disk_sectors,
+            buffer,
+            places.for_label,
+        );
         let spot = self.device.submit(irp, room);
         let slot = self.tables.admit(handle, request, spot, places.copies);
         Id { slot, number }

@@ -6,7 +6,7 @@ ghost use Rattle.cdb.specs.declared.Cdb.TheVariants.{ReadCapacity10};
 ghost use Rattle.srb.specs.declared.Class.TheVariants.{Good};
 ghost use Rattle.adapter.specs.View.{IsInOrder};
 ghost use Rattle.compose.specs.declared.StartFault.TheVariants.{NoMemory};
-ghost use Rattle.compose.specs.Start.{IsIdle, Looks, IsReading, AsksOnce, bytes_brought, brought_length, table_read, Exchanges, IsReadBy, IsSameDisk, IsReadFault, IsCapacityOf, told_partition, AreInRange, AreLimits, IsStartFault};
+ghost use Rattle.compose.specs.Start.{IsIdle, Looks, IsReading, AsksOnce, bytes_brought, brought_length, table_read, Exchanges, IsReadBy, IsSameDisk, IsReadFault, IsToldShort, IsCapacityOf, IsCapacityFault, TellsCapacity, is_long, long_capacity, asked_for_capacity, asked_at_start, told_partition, AreInRange, AreLimits, IsStartFault};
 
 use crate::admission::Limits;
 use crate::mbr::parse_first;
@@ -120,7 +120,13 @@ fn ask<A: Adapter>(
     }
 }
 
-/// What READ CAPACITY(10) tells.
+/// READ CAPACITY(10) tells of no more sectors than this, which stands for as many or more.
+const SHORT_LIMIT: u64 = 1 << 32;
+
+/// The bytes that READ CAPACITY(16) is asked for.
+const LONG_LENGTH: u32 = 32;
+
+/// What READ CAPACITY tells.
 #[derive(Debug, Clone, Copy, PartialEq, Eq)]
 struct Capacity {
     sectors: u64,
@@ -140,7 +146,61 @@ fn capacity_of(told: &[u8]) -> Capacity
     }
 }
 
-/// The sizes of an adapter's disk, by READ CAPACITY(10).
+/// The number of the last sector and the bytes of a sector, from the data of READ CAPACITY(16).
+fn long_capacity_of(told: &[u8]) -> Capacity
+    requires long { 12 ≤ length told.now }
+    requires small { big_number 8 told.now < 2 ^ 40 }
+    ensures sectors { result.sectors ≡ big_number 8 told.now + 1 }
+    ensures sector_size { result.sector_size ≡ big_number 4 (drop 8 told.now) }
+{
+    Capacity {
+        sectors: BigEndian::read_u64(told) + 1,
+        sector_size: BigEndian::read_u32(&told[8..]),
+    }
+}
+
+/// What READ CAPACITY(10) tells of an adapter's disk.
+///
+/// # Errors
+///
+/// As [`ask`].
+fn read_short_capacity<A: Adapter>(alloc: Global, adapter: &mut A) -> Result<Capacity, StartFault>
+    requires idle { IsIdle (A.view adapter.old) }
+    requires order { IsInOrder (A.view adapter.old) }
+    requires few { (A.view adapter.old).accepted < 2 ^ 100 }
+    ensures same { IsSameDisk 1 (A.view adapter.old) (A.view adapter.new) }
+    ensures order { IsInOrder (A.view adapter.new) }
+    ensures capacity { IfOk result (IsToldShort (A.view adapter.old)) }
+    ensures exchanged { OnOk result (Exchanges (A.view adapter.old) ReadCapacity10 Good (A.view adapter.new)) }
+    ensures fault { IfErr result (λ fault. IsReadFault ReadCapacity10 (A.view adapter.old) fault (A.view adapter.new)) }
+{
+    let told = ask(alloc, adapter, &Cdb::ReadCapacity10, 8)?;
+    Ok(capacity_of(told.as_slice()))
+}
+
+/// The sizes of an adapter's disk, by READ CAPACITY(16).
+///
+/// # Errors
+///
+/// As [`ask`].
+fn read_long_capacity<A: Adapter>(alloc: Global, adapter: &mut A) -> Result<Capacity, StartFault>
+    requires idle { IsIdle (A.view adapter.old) }
+    requires order { IsInOrder (A.view adapter.old) }
+    requires few { (A.view adapter.old).accepted < 2 ^ 100 }
+    ensures same { IsSameDisk 1 (A.view adapter.old) (A.view adapter.new) }
+    ensures order { IsInOrder (A.view adapter.new) }
+    ensures capacity { IfOk result (IsCapacityOf (A.view adapter.old)) }
+    ensures exchanged { OnOk result (Exchanges (A.view adapter.old) long_capacity Good (A.view adapter.new)) }
+    ensures fault { IfErr result (λ fault. IsReadFault long_capacity (A.view adapter.old) fault (A.view adapter.new)) }
+{
+    let command = Cdb::ReadCapacity16 {
+        allocation: LONG_LENGTH,
+    };
+    let told = ask(alloc, adapter, &command, LONG_LENGTH as usize)?;
+    Ok(long_capacity_of(told.as_slice()))
+}
+
+/// The sizes of an adapter's disk, by READ CAPACITY(10), and by READ CAPACITY(16) where the first can't tell them.
 ///
 /// # Errors
 ///
@@ -148,15 +208,19 @@ fn capacity_of(told: &[u8]) -> Capacity
 fn read_capacity<A: Adapter>(alloc: Global, adapter: &mut A) -> Result<Capacity, StartFault>
     requires idle { IsIdle (A.view adapter.old) }
     requires order { IsInOrder (A.view adapter.old) }
-    requires few { (A.view adapter.old).accepted < 2 ^ 100 }
-    ensures same { IsSameDisk 1 (A.view adapter.old) (A.view adapter.new) }
+    requires few { (A.view adapter.old).accepted < 2 ^ 99 }
+    ensures same { IsSameDisk (asked_for_capacity (A.view adapter.old)) (A.view adapter.old) (A.view adapter.new) }
     ensures order { IsInOrder (A.view adapter.new) }
     ensures capacity { IfOk result (IsCapacityOf (A.view adapter.old)) }
-    ensures exchanged { OnOk result (Exchanges (A.view adapter.old) ReadCapacity10 Good (A.view adapter.new)) }
-    ensures fault { IfErr result (λ fault. IsReadFault ReadCapacity10 (A.view adapter.old) fault (A.view adapter.new)) }
+    ensures tells { OnOk result (TellsCapacity (is_long (A.view adapter.old)) (A.view adapter.old) (A.view adapter.new)) }
+    ensures fault { IfErr result (λ fault. IsCapacityFault (A.view adapter.old) fault (A.view adapter.new)) }
 {
-    let told = ask(alloc, adapter, &Cdb::ReadCapacity10, 8)?;
-    Ok(capacity_of(told.as_slice()))
+    let short = read_short_capacity(alloc, adapter)?;
+    if short.sectors < SHORT_LIMIT {
+        return Ok(short);
+    }
+    let long = read_long_capacity(alloc, adapter)?;
+    Ok(long)
 }
 
 /// The partition that the table in sector 0 gives, if any.
@@ -203,7 +267,7 @@ impl Settings {
     }
 }
 
-/// The sizes of a stack over an adapter that has accepted nothing, from two commands to it.
+/// The sizes of a stack over an adapter that has accepted nothing, from two commands to it, or three on a long disk.
 ///
 /// # Errors
 ///
@@ -215,7 +279,7 @@ pub(crate) fn prepare<A: Adapter>(
 ) -> Result<Limits, StartFault>
     requires idle { IsIdle (A.view adapter.old) }
     requires unasked { (A.view adapter.old).accepted ≡ 0 }
-    ensures same { IsSameDisk 2 (A.view adapter.old) (A.view adapter.new) }
+    ensures same { IsSameDisk (asked_at_start (A.view adapter.old)) (A.view adapter.old) (A.view adapter.new) }
     ensures limits { IfOk result (AreLimits (A.view adapter.old) settings) }
     ensures read { OnOk result (IsReadBy (A.view adapter.old) (A.view adapter.new)) }
     ensures order { OnOk result (IsInOrder (A.view adapter.new)) }
@@ -229,6 +293,7 @@ pub(crate) fn prepare<A: Adapter>(
     let partition = read_partition(alloc, adapter, capacity)?;
     Ok(Limits {
         sector_size: capacity.sector_size as u64,
+        disk_sectors: capacity.sectors,
         partition,
         longest,
         window: settings.window,

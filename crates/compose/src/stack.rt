@@ -32,7 +32,8 @@ impl<A: Adapter> Model for Stack<A> {
 
 impl<A: Adapter> Stack<A> {
     /// A stack over an adapter that has accepted nothing, with the partition of the first table entry, if that is used.
-    /// It sends READ CAPACITY(10) and READ(10) of sector 0, and takes their labels.
+    /// It sends READ CAPACITY(10), where that can't tell the number of sectors READ CAPACITY(16) as well, and READ(10) of
+    /// sector 0, and takes their labels.
     ///
     /// # Errors
     ///
@@ -95,8 +96,8 @@ impl<A: Adapter> Stack<A> {
     }
 }
 
-/// A stack over an adapter that has accepted nothing. It sends READ CAPACITY(10) and READ(10) of sector 0, and takes
-/// their labels.
+/// A stack over an adapter that has accepted nothing. It sends READ CAPACITY(10), where that can't tell the number of
+/// sectors READ CAPACITY(16) as well, and READ(10) of sector 0, and takes their labels.
 ///
 /// # Errors
 ///

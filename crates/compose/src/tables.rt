@@ -122,12 +122,14 @@ impl Tables {
         self.labels.push_back_reserved(Label::Answer {
             number,
             status: at_once.status(),
+            information: 0,
             bytes: Bytes::new(Vec::new(alloc)),
         });
         match at_once {
             AtOnce::Empty => Reply::Answered(Answer {
                 number,
                 status: NtStatus::Success,
+                information: 0,
                 bytes: buffer.emptied(),
             }),
             AtOnce::Refused(refusal) => refused(refusal, buffer),

@@ -22,45 +22,45 @@ fn refuses_wrong_calls(rt: HostRuntime) -> Result<(), Fail> {
         &[
             (
                 read(0, 512),
-                "refused InvalidHandle 00*512 / call 1 read 0 512 nowhere / answer 1 INVALID_HANDLE none",
+                "refused InvalidHandle 00*512 / call 1 read 0 512 nowhere / answer 1 INVALID_HANDLE 0 none",
             ),
             (Step::Open(1), "refused InvalidParameter none"),
             (Step::Open(0), "handle 1"),
             (
                 Step::Write(SECOND, 0, 512, 0xA5),
-                "refused InvalidHandle a5*512 / call 2 write 0 512 nowhere / answer 2 INVALID_HANDLE none",
+                "refused InvalidHandle a5*512 / call 2 write 0 512 nowhere / answer 2 INVALID_HANDLE 0 none",
             ),
             (
                 Step::Read(ELSEWHERE, 0, 512),
-                "refused InvalidHandle 00*512 / call 3 read 0 512 nowhere / answer 3 INVALID_HANDLE none",
+                "refused InvalidHandle 00*512 / call 3 read 0 512 nowhere / answer 3 INVALID_HANDLE 0 none",
             ),
             (
                 read(511, 512),
-                "refused InvalidParameter 00*512 / call 4 read 511 512 / answer 4 INVALID_PARAMETER none",
+                "refused InvalidParameter 00*512 / call 4 read 511 512 / answer 4 INVALID_PARAMETER 0 none",
             ),
             (
                 write(0, 511, 0x5A),
-                "refused InvalidParameter 5a*511 / call 5 write 0 511 / answer 5 INVALID_PARAMETER none",
+                "refused InvalidParameter 5a*511 / call 5 write 0 511 / answer 5 INVALID_PARAMETER 0 none",
             ),
             (
                 read(523_776, 1024),
-                "refused InvalidParameter 00*1024 / call 6 read 523776 1024 / answer 6 INVALID_PARAMETER none",
+                "refused InvalidParameter 00*1024 / call 6 read 523776 1024 / answer 6 INVALID_PARAMETER 0 none",
             ),
             (
                 read(18_446_744_073_709_551_104, 512),
-                "refused InvalidParameter 00*512 / call 7 read 18446744073709551104 512 / answer 7 INVALID_PARAMETER none",
+                "refused InvalidParameter 00*512 / call 7 read 18446744073709551104 512 / answer 7 INVALID_PARAMETER 0 none",
             ),
             (
                 write(0, 33_280, 0x11),
-                "refused InvalidParameter 11*33280 / call 8 write 0 33280 / answer 8 INVALID_PARAMETER none",
+                "refused InvalidParameter 11*33280 / call 8 write 0 33280 / answer 8 INVALID_PARAMETER 0 none",
             ),
             (
                 read(524_288, 0),
-                "answered 9 SUCCESS none / call 9 read 524288 0 / answer 9 SUCCESS none",
+                "answered 9 SUCCESS 0 none / call 9 read 524288 0 / answer 9 SUCCESS 0 none",
             ),
             (
                 read(524_800, 0),
-                "refused InvalidParameter none / call 10 read 524800 0 / answer 10 INVALID_PARAMETER none",
+                "refused InvalidParameter none / call 10 read 524800 0 / answer 10 INVALID_PARAMETER 0 none",
             ),
         ],
     )?;
@@ -90,20 +90,20 @@ fn opens_no_third_request(rt: HostRuntime) -> Result<(), Fail> {
             ),
             (
                 write(512, 512, 0x11),
-                "refused DeviceBusy 11*512 / call 3 write 512 512 / answer 3 DEVICE_BUSY none",
+                "refused DeviceBusy 11*512 / call 3 write 512 512 / answer 3 DEVICE_BUSY 0 none",
             ),
             (
                 read(511, 512),
-                "refused InvalidParameter 00*512 / call 4 read 511 512 / answer 4 INVALID_PARAMETER none",
+                "refused InvalidParameter 00*512 / call 4 read 511 512 / answer 4 INVALID_PARAMETER 0 none",
             ),
             (
                 read(0, 0),
-                "answered 5 SUCCESS none / call 5 read 0 0 / answer 5 SUCCESS none",
+                "answered 5 SUCCESS 0 none / call 5 read 0 0 / answer 5 SUCCESS 0 none",
             ),
             (Step::Act(0), "ok / act 1 00*512"),
             (
                 Step::Finish(0),
-                "ok / return 1 good / answer 1 SUCCESS 00*512",
+                "ok / return 1 good / answer 1 SUCCESS 512 00*512",
             ),
             (
                 read(512, 512),
@@ -158,7 +158,7 @@ fn fails_and_ignores(rt: HostRuntime) -> Result<(), Fail> {
             ),
             (
                 Step::Finish(0),
-                "ok / return 1 busy / answer 1 DEVICE_BUSY none",
+                "ok / return 1 busy / answer 1 DEVICE_BUSY 0 none",
             ),
             (Step::Finish(0), "ignored"),
             (
@@ -175,11 +175,11 @@ fn fails_and_ignores(rt: HostRuntime) -> Result<(), Fail> {
             (Step::Act(1), "ignored"),
             (
                 Step::Finish(0),
-                "ok / return 2 bad / answer 2 DEVICE_DATA_ERROR none",
+                "ok / return 2 bad / answer 2 DEVICE_DATA_ERROR 0 none",
             ),
             (
                 Step::Finish(1),
-                "ok / return 3 good / answer 3 SUCCESS 00*1024",
+                "ok / return 3 good / answer 3 SUCCESS 1024 00*1024",
             ),
             (Step::Act(1), "ignored"),
         ],
@@ -189,9 +189,9 @@ fn fails_and_ignores(rt: HostRuntime) -> Result<(), Fail> {
         alloc,
         &mut stack,
         &[
-            "1 DEVICE_BUSY none",
-            "2 DEVICE_DATA_ERROR none",
-            "3 SUCCESS 00*1024",
+            "1 DEVICE_BUSY 0 none",
+            "2 DEVICE_DATA_ERROR 0 none",
+            "3 SUCCESS 1024 00*1024",
         ],
     )?;
     Ok(())
@@ -215,7 +215,7 @@ fn writes_nothing_on_a_protected_disk(rt: HostRuntime) -> Result<(), Fail> {
             (Step::Act(0), "ok / fault 1"),
             (
                 Step::Finish(0),
-                "ok / return 1 bad / answer 1 MEDIA_WRITE_PROTECTED none",
+                "ok / return 1 bad / answer 1 MEDIA_WRITE_PROTECTED 0 none",
             ),
             (
                 read(512, 512),
@@ -224,7 +224,7 @@ fn writes_nothing_on_a_protected_disk(rt: HostRuntime) -> Result<(), Fail> {
             (Step::Act(0), "ok / act 2 00*512"),
             (
                 Step::Finish(0),
-                "ok / return 2 good / answer 2 SUCCESS 00*512",
+                "ok / return 2 good / answer 2 SUCCESS 512 00*512",
             ),
         ],
     )?;

@@ -86,11 +86,11 @@ fn refuses_a_write_twice(rt: HostRuntime) -> Result<(), Fail> {
             (Step::Act(1), "ok / act 2 a5*512"),
             (
                 Step::Finish(1),
-                "ok / return 2 good / answer 2 SUCCESS none",
+                "ok / return 2 good / answer 2 SUCCESS 512 none",
             ),
         ],
     )?;
-    answers(&rt, alloc, &mut stack, &["2 SUCCESS none"])?;
+    answers(&rt, alloc, &mut stack, &["2 SUCCESS 512 none"])?;
     Ok(())
 }
 
@@ -147,7 +147,7 @@ fn serve(rt: &impl Abort, alloc: Global) -> Result<(), AllocError> {
         (Step::Open(0), "handle 1"),
         (
             read(511, 512),
-            "refused InvalidParameter 00*512 / call 1 read 511 512 / answer 1 INVALID_PARAMETER none",
+            "refused InvalidParameter 00*512 / call 1 read 511 512 / answer 1 INVALID_PARAMETER 0 none",
         ),
         (Step::Act(0), "ignored"),
         (Step::Finish(0), "ignored"),
@@ -162,7 +162,7 @@ fn serve(rt: &impl Abort, alloc: Global) -> Result<(), AllocError> {
         (Step::Act(0), "ok / act 1 a5*512"),
         (
             Step::Finish(0),
-            "ok / return 1 good / answer 2 SUCCESS none",
+            "ok / return 1 good / answer 2 SUCCESS 512 none",
         ),
         (
             read(0, 512),
@@ -171,7 +171,7 @@ fn serve(rt: &impl Abort, alloc: Global) -> Result<(), AllocError> {
         (Step::Act(0), "ok / act 2 a5*512"),
         (
             Step::Finish(0),
-            "ok / return 2 good / answer 3 SUCCESS a5*512",
+            "ok / return 2 good / answer 3 SUCCESS 512 a5*512",
         ),
     ];
     for row in rows {
@@ -185,7 +185,7 @@ fn serve(rt: &impl Abort, alloc: Global) -> Result<(), AllocError> {
         rt,
         alloc,
         &mut stack,
-        &["2 SUCCESS none", "3 SUCCESS a5*512"],
+        &["2 SUCCESS 512 none", "3 SUCCESS 512 a5*512"],
     )
 }
 

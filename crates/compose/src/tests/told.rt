@@ -6,7 +6,7 @@ use sector::Bytes;
 use srb::{Class, CommandBlock, DeviceLabel};
 use std::alloc::{AllocError, Global};
 
-/// The reply and then the labels, as `ok / return 1 good / answer 1 SUCCESS a5*512`.
+/// The reply and then the labels, as `ok / return 1 good / answer 1 SUCCESS 512 a5*512`.
 pub(crate) fn told(alloc: Global, shown: &Shown) -> Result<String, AllocError> {
     let mut text = String::new(alloc);
     tell_reply(&mut text, &shown.reply)?;
@@ -17,9 +17,13 @@ pub(crate) fn told(alloc: Global, shown: &Shown) -> Result<String, AllocError> {
     Ok(text)
 }
 
-/// An answer, as `1 SUCCESS a5*512`.
+/// An answer, as `1 SUCCESS 512 a5*512`.
 pub(crate) fn tell_answer(text: &mut String, answer: &Answer) -> Result<(), AllocError> {
-    write!(text, "{} {} ", answer.number, answer.status)?;
+    write!(
+        text,
+        "{} {} {} ",
+        answer.number, answer.status, answer.information
+    )?;
     tell_bytes(text, &answer.bytes)
 }
 
@@ -51,9 +55,10 @@ fn tell_label(text: &mut String, label: &Label) -> Result<(), AllocError> {
         Label::Answer {
             number,
             status,
+            information,
             bytes,
         } => {
-            write!(text, "answer {number} {status} ")?;
+            write!(text, "answer {number} {status} {information} ")?;
             tell_bytes(text, bytes)
         }
         _ => write!(text, "another label"),

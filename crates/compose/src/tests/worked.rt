@@ -24,7 +24,7 @@ fn writes_and_reads_a_sector(rt: HostRuntime) -> Result<(), Fail> {
             (Step::Act(0), "ok / act 1 a5*512"),
             (
                 Step::Finish(0),
-                "ok / return 1 good / answer 1 SUCCESS none",
+                "ok / return 1 good / answer 1 SUCCESS 512 none",
             ),
             (
                 read(0, 512),
@@ -33,7 +33,7 @@ fn writes_and_reads_a_sector(rt: HostRuntime) -> Result<(), Fail> {
             (Step::Act(0), "ok / act 2 a5*512"),
             (
                 Step::Finish(0),
-                "ok / return 2 good / answer 2 SUCCESS a5*512",
+                "ok / return 2 good / answer 2 SUCCESS 512 a5*512",
             ),
         ],
     )?;
@@ -41,7 +41,7 @@ fn writes_and_reads_a_sector(rt: HostRuntime) -> Result<(), Fail> {
         &rt,
         alloc,
         &mut stack,
-        &["1 SUCCESS none", "2 SUCCESS a5*512"],
+        &["1 SUCCESS 512 none", "2 SUCCESS 512 a5*512"],
     )?;
     Ok(())
 }
@@ -75,17 +75,17 @@ fn two_tags_serve_three_reads(rt: HostRuntime) -> Result<(), Fail> {
             (Step::Act(1), "ok / act 2 00*512"),
             (
                 Step::Finish(1),
-                "ok / return 2 good / start 3 tag 1 28000000080200000100 / answer 2 SUCCESS 00*512",
+                "ok / return 2 good / start 3 tag 1 28000000080200000100 / answer 2 SUCCESS 512 00*512",
             ),
             (Step::Act(1), "ok / act 3 00*512"),
             (
                 Step::Finish(1),
-                "ok / return 3 good / answer 3 SUCCESS 00*512",
+                "ok / return 3 good / answer 3 SUCCESS 512 00*512",
             ),
             (Step::Act(0), "ok / act 1 00*512"),
             (
                 Step::Finish(0),
-                "ok / return 1 good / answer 1 SUCCESS 00*512",
+                "ok / return 1 good / answer 1 SUCCESS 512 00*512",
             ),
         ],
     )?;
@@ -93,7 +93,11 @@ fn two_tags_serve_three_reads(rt: HostRuntime) -> Result<(), Fail> {
         &rt,
         alloc,
         &mut stack,
-        &["1 SUCCESS 00*512", "2 SUCCESS 00*512", "3 SUCCESS 00*512"],
+        &[
+            "1 SUCCESS 512 00*512",
+            "2 SUCCESS 512 00*512",
+            "3 SUCCESS 512 00*512",
+        ],
     )?;
     Ok(())
 }

@@ -19,6 +19,6 @@ returns-clause-asks c = λ rules whole data_length label_length.
       sense = None;
     } in
     let block : c.new.result ≡ c.encode.result.items = c.new.ensures in
-    let means : Means c.new.result (disk_command c.args.request.now c.args.request.now.kind) = subst (λ b. Means b (disk_command c.args.request.now c.args.request.now.kind)) (sym block) (subst (λ k. Means c.encode.result.items k) c.command_of-command.ensures.command c.encode.ensures.meaning) in
-    let asks : Carries true rules c.args.request.now (Packed srb) = asks_for rules c.args.request.now srb whole c.requires.volume refl c.command_of-command.ensures.flags means data_length label_length in
+    let means : Means c.new.result (disk_command c.args.disk_sectors c.args.request.now c.args.request.now.kind) = subst (λ b. Means b (disk_command c.args.disk_sectors c.args.request.now c.args.request.now.kind)) (sym block) (subst (λ k. Means c.encode.result.items k) c.command_of-command.ensures.command c.encode.ensures.meaning) in
+    let asks : Carries true rules c.args.request.now (Packed srb) = asks_for c.args.disk_sectors rules c.args.request.now srb whole c.requires.volume refl c.command_of-command.ensures.flags means data_length label_length in
     subst (Carries true rules c.args.request.now) (sym (c.next_location.ensures.kept.payload ∙ c.new-irp.ensures.payload)) asks

@@ -18,7 +18,7 @@ pub submit-spot-requires-clause-carries : goal.submit-spot-requires-clause-carri
 submit-spot-requires-clause-carries g c =
     let asked : transfer_length (g.D.Device.seen c.args.self.now.device).rules (request_on_disk c.args.self.now.limits c.args.request) ≡ length c.args.buffer =
     transfer_is c.args.self.now.limits (g.D.Device.seen c.args.self.now.device) c.args.self.now.tables c.args.request c.requires.sound c.requires.admissible ∙ c.requires.length in
-    let whole : IsWholeDisk (g.D.Device.seen c.args.self.now.device).rules = is_whole_disk c.args.self.now.limits (g.D.Device.seen c.args.self.now.device) c.args.self.now.tables c.args.request c.requires.sound c.requires.admissible in
+    let whole : IsWholeDisk c.args.self.now.limits.disk_sectors (g.D.Device.seen c.args.self.now.device).rules = is_whole_disk c.args.self.now.limits (g.D.Device.seen c.args.self.now.device) c.args.self.now.tables c.args.request c.requires.sound c.requires.admissible in
     let as_below : Request → Type 0 = λ r. Carries true (g.D.Device.seen c.args.self.now.device).rules r c.packet_for-irp.result.payload in
     let asked_below : transfer_length (g.D.Device.seen c.args.self.now.device).rules c.request_below-below.result ≡ length c.args.buffer = ap (transfer_length (g.D.Device.seen c.args.self.now.device).rules) c.request_below-below.ensures ∙ asked in
     subst (λ (b : Bool). Carries b (g.D.Device.seen c.args.self.now.device).rules (g.D.Device.request_of c.args.room) c.packet_for-irp.result.payload) (sym c.requires.takes_srb)
