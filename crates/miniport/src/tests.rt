@@ -4,7 +4,7 @@ ghost use Rattle.std.specs.Prelude.{◌≡◌, ◌≤◌, ◌<◌, ◌^◌, ◌+
 ghost use Rattle.miniport.specs.Memory.{MemView};
 
 use super::*;
-use crate::carrying::{Outcome, last_told, tell_capacity};
+use crate::carrying::{Outcome, last_told, long_capacity, tell_capacity};
 use arrayvec::ArrayVec;
 use disk::{Medium, NoMemory, VecDisk};
 use ntstatus::Sense;
@@ -351,6 +351,10 @@ fn tells_the_highest_number(rt: HostRuntime) -> Result<(), Fail> {
     ] {
         assert_eq!(rt; last_told(sectors), last, "{sectors}");
     }
+    assert_eq!(rt;
+        long_capacity((1 << 40) - 1, 512).as_slice(),
+        [0, 0, 0, 0xFF, 0xFF, 0xFF, 0xFF, 0xFF, 0, 0, 2, 0].as_slice()
+    );
     let srb = srb(rt.alloc(), SrbFunction::ExecuteScsi, 0x40, &CAPACITY, 8, 0)?;
     assert!(rt; srb.data.len() == 8);
     let Outcome::Moved { srb, .. } = tell_capacity(last_told(1 << 40), 512, srb) else {
