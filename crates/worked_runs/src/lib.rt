@@ -1,11 +1,11 @@
-//! Worked runs of the sector machine. The definitions of `device` are computed here on small cases, so that a slip in
+//! Worked runs of the sector machine. The definitions of `machine` are computed here on small cases, so that a slip in
 //! one of them shows before any layer stands on it.
 //!
 //! Each function does nothing, and its contract is the run: labels from an opening state to the state that they reach.
 //! `impossible` has what wrong bodies would do. A run there leads to a state, and from that state no step of the wrong
 //! kind leads anywhere.
 //!
-//! The runs are examples: they say nothing of other sizes or orders, which is what the laws of `device` are for. No crate
+//! The runs are examples: they say nothing of other sizes or orders, which is what the laws of `machine_laws` are for. No crate
 //! stands on this one.
 #![tactic(auto)]
 
