@@ -10,7 +10,7 @@ use Rattle.srb.specs.Fate.{Fate, Fresh, Acted, Faulted, is_fresh, class_of}
 use Rattle.adapter.specs.View.{TagInUse, AdapterView, IsFree, IsOn, ActsOn, FaultsOn, ReturnsOn, MovesByAll, NotesReset}
 
 -- the tag's piece, which had done nothing yet, acts or faults
-pub record Acts (old : AdapterView) (tag : ℕ) (new : AdapterView) : Type 0 where
+pub record ActsOrFaults (old : AdapterView) (tag : ℕ) (new : AdapterView) : Type 0 where
   pub piece : ℕ
   pub one_of : ((bytes : List ℕ) × ActsOn old tag piece bytes new) ⊎ FaultsOn old tag piece new
 

@@ -11,7 +11,7 @@ use std::alloc::AllocError;
 pub trait Adapter: Drop {
     ghost use Rattle.std.specs.Prelude.{◌≡◌, ◌⊎◌, ◌<◌, ◌≤◌, ◌^◌, ◌+◌, ℕ, length, Any, OnOk, MatchBool, MatchOption};
     ghost use Rattle.adapter.specs.View.{AdapterView, HasTag, IsFree, IsInOrder, IsReserved, IsWritable, ReservesMore, Accepts};
-    ghost use Rattle.adapter.specs.Calls.{Acts, ActsNot, Finishes, FinishesNot, Resets, LeavesFirst, HasNoLabel};
+    ghost use Rattle.adapter.specs.Calls.{ActsOrFaults, ActsNot, Finishes, FinishesNot, Resets, LeavesFirst, HasNoLabel};
 
     ghost view: { Self → AdapterView };
 
@@ -75,7 +75,7 @@ pub trait Adapter: Drop {
     /// failed before.
     fn act(&mut self, tag: u8) -> bool
         requires { length (view self.old).labels < 64 }
-        ensures acts { MatchBool result (Acts (view self.old) tag (view self.new)) (ActsNot (view self.old) tag (view self.new)) }
+        ensures acts { MatchBool result (ActsOrFaults (view self.old) tag (view self.new)) (ActsNot (view self.old) tag (view self.new)) }
         ensures order { IsInOrder (view self.new) };
 
     /// Hands the tag's piece back and frees the tag. None where the tag is free.

@@ -3,7 +3,7 @@ use Rattle.std.proofs.Common.{◌≡◌, ℕ, List, [], ◌∷◌, ◌∙◌, ap
 use Rattle.srb.specs.declared.DeviceLabel.{DeviceLabel}
 use Rattle.srb.specs.declared.DeviceLabel.TheVariants.{Start, Act, Fault, Return}
 use Rattle.adapter.specs.View.{AdapterView, MovesOn, MovesByAll}
-use Rattle.miniport.proofs.Performing.{CarriesOut-length}
+use Rattle.adapter.proofs.Performing.{CarriesOut-length}
 
 MovesOn-length : (old : AdapterView) (tag : ℕ) (label : DeviceLabel) (new : AdapterView) → MovesOn old tag label new → length new.sectors ≡ length old.sectors
 MovesOn-length old tag (Start piece started block) new h = ap (λ v. length v.sectors) h.1.accepts.after

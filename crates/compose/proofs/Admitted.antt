@@ -12,7 +12,7 @@ use Rattle.machine.specs.Rules.{Rules, as_client}
 use Rattle.machine.specs.State.{OpenRequest as OpenBelow, State}
 use Rattle.machine.specs.Calling.{Opens, new_request}
 use Rattle.machine.specs.Numbers.{request_number, IsGiven}
-use Rattle.device.specs.Seen.{Seen, Packet, sent_bytes}
+use Rattle.device.specs.View.{DeviceView, Packet, sent_bytes}
 use Rattle.machine.proofs.Same.{IsSame-sym}
 use Rattle.compose.specs.declared.Answer.{Answer}
 use Rattle.compose.specs.declared.Handle.{Handle}
@@ -127,7 +127,7 @@ AreApart-more old new slot entry answers updates before h = λ other request the
   | inr (apart, still) ↦ h other request still
 ]
 
-module _ (limits : Limits) (below : Seen) (tables : Tables) (q : ClientRequest) (h : IsSound limits below tables) (k : IsAdmissible (view_of limits below tables) q) where
+module _ (limits : Limits) (below : DeviceView) (tables : Tables) (q : ClientRequest) (h : IsSound limits below tables) (k : IsAdmissible (view_of limits below tables) q) where
   abbrev over : Rules
   over = rules_of limits below.rules
 
@@ -157,8 +157,8 @@ module _ (limits : Limits) (below : Seen) (tables : Tables) (q : ClientRequest) 
       Opens-over (partitions_of limits.partition) limits.open_requests limits.window below.rules tables.next_request below.state number (request_on_disk limits q) bytes (q.offset / limits.sector_size)
       (as_told bytes) opened h.on_disk opens same refl refl asks.inside (as_asked bytes) k.not_refused
 
-  pub admitted_sound : (handle : Handle) (places : Places) (spot slot : ℕ) (tables1 : Tables) (buffer : List ℕ) (below1 : Seen) → HasBuffers q.kind buffer places → q.length ≡ length buffer
-      → deque_len tables.waiting + (slab_len tables.requests + 1) ≤ deque_capacity tables.waiting → Admits tables handle q places.copies spot slot tables1
+  pub admitted_sound : (handle : Handle) (places : Places) (spot slot : ℕ) (tables1 : Tables) (buffer : List ℕ) (below1 : DeviceView) → HasBuffers q.kind buffer places → q.length ≡ length buffer
+      → deque_len tables.untaken + (slab_len tables.requests + 1) ≤ deque_capacity tables.untaken → Admits tables handle q places.copies spot slot tables1
       → SendsDown below tables.next_request spot (request_on_disk limits q) buffer below1 → IsSound limits below1 tables1
   admitted_sound handle places spot slot tables1 buffer below1 buffers same_length place admits sends =
       subst (IsSound limits below1) (sym admits.after)
@@ -204,7 +204,7 @@ module _ (limits : Limits) (below : Seen) (tables : Tables) (q : ClientRequest) 
             places = record {
               labels = subst (λ capacity. 192 ≤ capacity) (sym labels) h.places.labels;
               answered = h.places.answered;
-              waiting = subst (λ count. deque_len tables.waiting + count ≤ deque_capacity tables.waiting) (sym counted) place;
+              untaken = subst (λ count. deque_len tables.untaken + count ≤ deque_capacity tables.untaken) (sym counted) place;
               handles = h.places.handles;
               requests = subst (λ capacity. (limits.open_requests ≤ capacity) × (capacity < 2 ^ 32)) (sym slots) h.places.requests;
             };
@@ -220,6 +220,6 @@ module _ (limits : Limits) (below : Seen) (tables : Tables) (q : ClientRequest) 
             not_removing = subst IsFalse (sym sends.submits.opens.after.removing) h.not_removing;
             none_put_by = h.none_put_by;
             rising = h.rising;
-            given = All-weaker (WasGiven tables.next_request) (WasGiven (tables.next_request + 1)) (λ answer low. omega arith) tables.waiting.items h.given;
-            apart = AreApart-more tables.requests tables1.requests slot _ tables.waiting.items admits.holds h.given h.apart;
+            given = All-weaker (WasGiven tables.next_request) (WasGiven (tables.next_request + 1)) (λ answer low. omega arith) tables.untaken.items h.given;
+            apart = AreApart-more tables.requests tables1.requests slot _ tables.untaken.items admits.holds h.given h.apart;
           }

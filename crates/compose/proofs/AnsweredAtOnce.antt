@@ -14,7 +14,7 @@ use Rattle.machine.specs.Rules.{Rules, is_transfer}
 use Rattle.machine.specs.State.{State}
 use Rattle.machine.specs.Calling.{refusal}
 use Rattle.machine.specs.Step.{Run}
-use Rattle.device.specs.Seen.{Seen}
+use Rattle.device.specs.View.{DeviceView}
 use Rattle.compose.specs.declared.Handle.{Handle}
 use Rattle.compose.specs.declared.OpenHandle.{OpenHandle}
 use Rattle.compose.specs.declared.Refusal.TheVariants.{DeviceBusy}
@@ -28,11 +28,11 @@ use Rattle.compose.specs.Shown.{StackView}
 use Rattle.compose.specs.Calls.{number_limit, are_used_up, partition_at, partition_of, call_on, without_bytes}
 use Rattle.compose.specs.OnDisk.{open_as_called, on_partition}
 use Rattle.compose.specs.Right.{tells_nothing, CallReplies, IsRightCall}
-use Rattle.compose.specs.Sound.{partitions_of, rules_of, view_of, IsOnMap, IsSpotted, WasGiven, IsSound, IsKept}
+use Rattle.compose.specs.Sound.{partitions_of, rules_of, view_of, IsOnMap, IsSpotted, WasGiven, IsSound, ManagerKept}
 use Rattle.compose.specs.Admitting.{status_at_once, IsKnown, HasSizes, AnswersAtOnce, reply_at_once, IsAdmissible}
 use Rattle.compose.proofs.OnDiskCalls.{Run-refused}
 use Rattle.compose.proofs.Handing.{numbers_last}
-use Rattle.compose.proofs.Stepping.{IsKept-still}
+use Rattle.compose.proofs.Stepping.{ManagerKept-still}
 use Rattle.compose.proofs.Quiet.{right_alone, tells_own, IsRightBy-unmoved}
 
 -- the partition of an open handle is there
@@ -47,14 +47,14 @@ known_handle limits handles handle on_map = at_slot (get handles handle.slot) ha
         tested true = h open' refl
         tested false = tt
 
-has_sizes : (limits : Limits) (below : Seen) (tables : Tables) → IsSound limits below tables → HasSizes limits below.rules
+has_sizes : (limits : Limits) (below : DeviceView) (tables : Tables) → IsSound limits below tables → HasSizes limits below.rules
 has_sizes limits below tables h = record { sector_size = h.fits.sector_size; longest = h.fits.longest }
 
 -- as many requests are open in the partition's machine as in the table
-open_count : (limits : Limits) (below : Seen) (tables : Tables) → IsSound limits below tables → length (view_of limits below tables).state.requests ≡ slab_len tables.requests
+open_count : (limits : Limits) (below : DeviceView) (tables : Tables) → IsSound limits below tables → length (view_of limits below tables).state.requests ≡ slab_len tables.requests
 open_count limits below tables h = length-map below.state.requests (open_as_called (rules_of limits below.rules)) ∙ sym h.held.counted
 
-at_once_sound : (limits : Limits) (below : Seen) (tables : Tables) (q : ClientRequest) (status : NtStatus) (tables1 : Tables) → IsSound limits below tables → are_used_up tables.next_request ≡ false
+at_once_sound : (limits : Limits) (below : DeviceView) (tables : Tables) (q : ClientRequest) (status : NtStatus) (tables1 : Tables) → IsSound limits below tables → are_used_up tables.next_request ≡ false
     → AnswersAtOnce tables q status tables1 → IsSound limits below tables1
 at_once_sound limits below tables q status tables1 h last answers =
     let low : tables.next_request < number_limit = numbers_last tables.next_request last in
@@ -68,7 +68,7 @@ at_once_sound limits below tables q status tables1 h last answers =
       places = record {
         labels = subst (λ capacity. 192 ≤ capacity) (sym answers.label_places) h.places.labels;
         answered = h.places.answered;
-        waiting = h.places.waiting;
+        untaken = h.places.untaken;
         handles = h.places.handles;
         requests = h.places.requests;
       };
@@ -82,11 +82,11 @@ at_once_sound limits below tables q status tables1 h last answers =
       not_removing = h.not_removing;
       none_put_by = h.none_put_by;
       rising = h.rising;
-      given = All-weaker (WasGiven tables.next_request) (WasGiven (tables.next_request + 1)) (λ answer low. omega arith) tables.waiting.items h.given;
+      given = All-weaker (WasGiven tables.next_request) (WasGiven (tables.next_request + 1)) (λ answer low. omega arith) tables.untaken.items h.given;
       apart = h.apart;
     })
 
-module _ (limits : Limits) (below : Seen) (tables : Tables) (handle : Handle) (kind : Kind) (offset : ℕ) (buffer : List ℕ) (h : IsSound limits below tables)
+module _ (limits : Limits) (below : DeviceView) (tables : Tables) (handle : Handle) (kind : Kind) (offset : ℕ) (buffer : List ℕ) (h : IsSound limits below tables)
     (taken : (tables.labels.items ≡ []) × (below.adapter.labels ≡ [])) where
   abbrev view : StackView
   view = view_of limits below tables
@@ -122,7 +122,7 @@ module _ (limits : Limits) (below : Seen) (tables : Tables) (handle : Handle) (k
         handles = record { handles = refl; next_handle = refl };
         by =
             right_alone view (own (status_at_once at_once)) (on_partition view.rules (tables.next_request + 1) below.state) below.adapter.reserved tables.handles.slots tables.next_handle
-            tables1.labels.items tables.waiting.items run (reserves_none below.adapter) taken.1 told refl;
+            tables1.labels.items tables.untaken.items run (reserves_none below.adapter) taken.1 told refl;
       }))
     where
       run : Run view.rules view.state (own (status_at_once at_once)) (on_partition view.rules (tables.next_request + 1) below.state)
@@ -137,7 +137,7 @@ module _ (limits : Limits) (below : Seen) (tables : Tables) (handle : Handle) (k
 
 -- AS IT IS SHOWN: what holds between two steps holds after it
 
-module _ (limits : Limits) (below : Seen) (tables : Tables) (old : StackView) (handle : Handle) (kind : Kind) (offset : ℕ) (buffer : List ℕ) (kept : IsKept limits below tables)
+module _ (limits : Limits) (below : DeviceView) (tables : Tables) (old : StackView) (handle : Handle) (kind : Kind) (offset : ℕ) (buffer : List ℕ) (kept : ManagerKept limits below tables)
     (shown : view_of limits below tables ≡ old) (taken : old.labels ≡ []) where
   untaken : (tables.labels.items ≡ []) × (below.adapter.labels ≡ [])
   untaken = (ap (λ (v : StackView). v.labels) shown ∙ taken, kept.none_recorded)
@@ -167,11 +167,11 @@ module _ (limits : Limits) (below : Seen) (tables : Tables) (old : StackView) (h
 
   pub at_once_kept : (q : ClientRequest) (at_once : AtOnce) (reply : Reply) (tables1 : Tables) → are_used_up tables.next_request ≡ false → q ≡ without_bytes (call_on old handle kind offset buffer)
       → refusal old.rules old.state q ≡ Some (status_at_once at_once) → AnswersAtOnce tables q (status_at_once at_once) tables1 → reply ≡ reply_at_once tables.next_request buffer at_once
-      → IsRightCall old handle kind offset buffer reply (view_of limits below tables1) × IsKept limits below tables1
+      → IsRightCall old handle kind offset buffer reply (view_of limits below tables1) × ManagerKept limits below tables1
   at_once_kept q at_once reply tables1 last is_call refused answers is_reply =
       let right : IsRightCall (view_of limits below tables) handle kind offset buffer reply (view_of limits below tables1) =
       at_once_right limits below tables handle kind offset buffer kept.sound untaken q at_once reply tables1 last (subst (λ v. q ≡ without_bytes (call_on v handle kind offset buffer)) (sym shown) is_call)
       (subst (λ (v : StackView). refusal v.rules v.state q ≡ Some (status_at_once at_once)) (sym shown) refused) answers is_reply in (
         subst (λ v. IsRightCall v handle kind offset buffer reply (view_of limits below tables1)) shown right,
-        IsKept-still limits below tables tables1 right.told kept right.by (at_once_sound limits below tables q (status_at_once at_once) tables1 kept.sound last answers),
+        ManagerKept-still limits below tables tables1 right.told kept right.by (at_once_sound limits below tables q (status_at_once at_once) tables1 kept.sound last answers),
       )

@@ -14,7 +14,7 @@ use Rattle.machine.specs.Rules.{Rules, home, as_client, is_transfer, place_count
 use Rattle.machine.specs.Sending.{command_for, read_command, write_command, flush_command}
 use Rattle.machine.specs.Solo.{all_places}
 use Rattle.irp.specs.declared.Irp.{Irp}
-use Rattle.device.specs.Seen.{Carries, AsksInLocation, transfer_length, direction}
+use Rattle.device.specs.View.{Carries, AsksInLocation, transfer_length, direction}
 use Rattle.compose.specs.Admitting.{IsWholeDisk, disk_command, port_location}
 
 abbrev at_home : Option Extent → ℕ → ℕ

@@ -18,7 +18,7 @@ use Rattle.machine.specs.declared.Request.{Request}
 use Rattle.machine.specs.State.{Mark, OpenRequest as OpenBelow}
 use Rattle.machine.specs.Answering.{answer_bytes, is_done}
 use Rattle.machine.specs.Numbers.{AreDistinct, IsGiven, request_number}
-use Rattle.device.specs.Seen.{Seen, payload_bytes}
+use Rattle.device.specs.View.{DeviceView, payload_bytes}
 use Rattle.device.specs.Served.{HandsUp}
 use Rattle.compose.specs.declared.tables.OpenRequest.{OpenRequest}
 use Rattle.compose.specs.declared.tables.Tables.{Tables}
@@ -31,21 +31,21 @@ no_middle : {X : Type 0} (xs : List X) (x : X) (ys : List X) → [] ≡ (xs ++ x
 no_middle [] x ys e = cc
 no_middle (z ∷ zs) x ys e = cc
 
-pub no_routine : (takes_srb : Bool) (old new : Seen) (request : Request) (driver : Driver) (irp : Irp) → All IsTopmost old.packets → HandsUp takes_srb old request (Routine driver irp) new → ⊥
+pub no_routine : (takes_srb : Bool) (old new : DeviceView) (request : Request) (driver : Driver) (irp : Irp) → All IsTopmost old.packets → HandsUp takes_srb old request (Routine driver irp) new → ⊥
 no_routine takes_srb old new request driver irp topmost h =
     let top : IsTopmost h.packet = All-head IsTopmost h.packet h.others (All-permutation IsTopmost _ _ h.is_in topmost) in
     no_middle h.climbs.higher h.climbs.own h.climbs.nearer (sym top ∙ h.climbs.are_above)
 
-pub handed : (takes_srb : Bool) (old new free : Seen) (request : Request) (climb : Climb) (done : Done) → climb ≡ Finished done → free ≡ new → HandsUp takes_srb old request climb new
+pub handed : (takes_srb : Bool) (old new free : DeviceView) (request : Request) (climb : Climb) (done : Done) → climb ≡ Finished done → free ≡ new → HandsUp takes_srb old request climb new
     → HandsUp takes_srb old request (Finished done) free
 handed takes_srb old new free request climb done e same h =
     let P : Climb → Type 0 = λ x. HandsUp takes_srb old request x new in
-    let Q : Seen → Type 0 = λ x. HandsUp takes_srb old request (Finished done) x in
+    let Q : DeviceView → Type 0 = λ x. HandsUp takes_srb old request (Finished done) x in
     subst Q (sym same) (subst P e h)
 
 -- THE REQUEST OF THE PACKET
 
-module _ (takes_srb : Bool) (old new : Seen) (request : Request) (done : Done) (requests : Slab OpenRequest) (h : HandsUp takes_srb old request (Finished done) new) (k : AreHeld requests old.state.requests) where
+module _ (takes_srb : Bool) (old new : DeviceView) (request : Request) (done : Done) (requests : Slab OpenRequest) (h : HandsUp takes_srb old request (Finished done) new) (k : AreHeld requests old.state.requests) where
   pub is_ended : h.answers.request.number ≡ done.number
   is_ended = h.answers.is_number ∙ sym h.climbs.number_is
 

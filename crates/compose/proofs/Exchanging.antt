@@ -23,7 +23,7 @@ use Rattle.srb.specs.declared.Class.TheVariants.{Good, Busy, Bad}
 use Rattle.srb.specs.Fate.{Fresh, Acted, class_of}
 use Rattle.adapter.specs.View.{AdapterView, IsInOrder, TagInUse, HasNotTag, IsFree, Accepts, in_use_from, acted, faulted, MayReturn, ActsOn, FaultsOn, ReturnsOn, MovesOn}
 use Rattle.adapter.specs.Performing.{Performs, CarriesOut}
-use Rattle.adapter.specs.Calls.{Acts, ActsNot, Finishes, FinishesNot}
+use Rattle.adapter.specs.Calls.{ActsOrFaults, ActsNot, Finishes, FinishesNot}
 use Rattle.compose.specs.declared.Settings.{Settings}
 use Rattle.compose.specs.declared.StartFault.{StartFault}
 use Rattle.compose.specs.declared.StartFault.TheVariants.{NoMemory, Device as DeviceFault, Mbr as TableFault, Settings as SettingsFault}
@@ -112,7 +112,7 @@ exchanges old first second last command sent class told looks accepts acts moves
   };
 }
 
-exchanged_once : (old first second last : AdapterView) (command : Cdb) (sent srb : Srb) (completion : Completion) → IsIdle old → LooksBy old command sent → Accepts old 0 0 sent first → Acts first 0 second
+exchanged_once : (old first second last : AdapterView) (command : Cdb) (sent srb : Srb) (completion : Completion) → IsIdle old → LooksBy old command sent → Accepts old 0 0 sent first → ActsOrFaults first 0 second
     → Finishes second 0 srb completion last → Exchanges old command (class_of completion) (record last { labels = [] })
 exchanged_once old first second last command sent srb completion idle looks accepts acts finishes =
     elim acts.one_of [
@@ -168,13 +168,13 @@ came_back old view command use' srb completion last one acts good before size se
     }
 
 pub asks_once : (old first second last : AdapterView) (command : Cdb) (sent srb : Srb) (completion : Completion) → IsIdle old
-    → LooksBy old command sent → Looks command → Accepts old 0 0 sent first → Acts first 0 second → Finishes second 0 srb completion last
+    → LooksBy old command sent → Looks command → Accepts old 0 0 sent first → ActsOrFaults first 0 second → Finishes second 0 srb completion last
     → AsksOnce old command srb completion last
 asks_once old first second last command sent srb completion idle by looks accepts acts finishes =
     let exchanged : Exchanges old command (class_of completion) (record last { labels = [] }) = exchanged_once old first second last command sent srb completion idle by accepts acts finishes in
     let one : IsPermutation accepts.tags (in_use_from old 0 0 sent ∷ []) =
     subst (λ (ts : List TagInUse). IsPermutation accepts.tags (in_use_from old 0 0 sent ∷ ts)) idle.no_tags accepts.in_use in
-    let acts' = subst (λ (v : AdapterView). Acts v 0 second) accepts.after acts in
+    let acts' = subst (λ (v : AdapterView). ActsOrFaults v 0 second) accepts.after acts in
     elim acts'.one_of [
       | inl h ↦
           let use' = h.1.use' in
@@ -217,7 +217,7 @@ acts_after old first second sent idle accepts not =
     not'.none_fresh (in_use_from old 0 0 sent) [] (record { in_use = one; has_tag = refl }) refl
 
 -- after its act the piece is still on the tag
-pub finishes_after : (first second last : AdapterView) → Acts first 0 second → FinishesNot second 0 last → ⊥
+pub finishes_after : (first second last : AdapterView) → ActsOrFaults first 0 second → FinishesNot second 0 last → ⊥
 finishes_after first second last acts not =
     elim acts.one_of [
       | inl h ↦

@@ -7,8 +7,8 @@ use Rattle.sector.specs.declared.Extent.{Extent}
 use Rattle.adapter.specs.View.{AdapterView, IsInOrder}
 use Rattle.machine.specs.Map.{IsMap, IsPartition, sectors_in}
 use Rattle.machine.specs.State.{opening}
-use Rattle.device.specs.Seen.{Seen}
-use Rattle.port.specs.Opening.{rules_over, opening_seen}
+use Rattle.device.specs.View.{DeviceView}
+use Rattle.port.specs.Opening.{rules_over, opening_view}
 use Rattle.compose.specs.declared.MbrFault.{MbrFault}
 use Rattle.compose.specs.declared.MbrFault.TheVariants.{NoSignature, EmptyEntry, CoversTable, PastEnd}
 use Rattle.compose.specs.declared.Settings.{Settings}
@@ -62,7 +62,7 @@ IsMap-first_entry sectors table partition told = by_tests (is_signed table) (fir
 
 -- A PORT OF THE WHOLE DISK
 
-IsUnasked-opening : (v : AdapterView) → v.labels ≡ [] → IsUnasked (opening_seen v)
+IsUnasked-opening : (v : AdapterView) → v.labels ≡ [] → IsUnasked (opening_view v)
 IsUnasked-opening v none = record {
   whole_disk = refl;
   state = refl;
@@ -87,7 +87,7 @@ module _ (disk v : AdapterView) (settings : Settings) (limits : Limits) (same : 
       let faithful = same.faithful in
       cc
 
-  IsFirstView-opening : (tables : Tables) → AreEmpty tables → IsFirstView disk settings (view_of limits (opening_seen v) tables)
+  IsFirstView-opening : (tables : Tables) → AreEmpty tables → IsFirstView disk settings (view_of limits (opening_view v) tables)
   IsFirstView-opening tables empty = record {
     in_range = are.in_range;
     partition = limits.partition;
@@ -95,7 +95,7 @@ module _ (disk v : AdapterView) (settings : Settings) (limits : Limits) (same : 
     is_map = is_map;
     rules = rules_are;
     state =
-        opening-view limits (opening_seen v) tables (IsUnasked-opening v same.idle.no_labels) empty
+        opening-view limits (opening_view v) tables (IsUnasked-opening v same.idle.no_labels) empty
         ∙ ap (λ (xs : List (List ℕ)). opening (map (sectors_in xs) (partitions_of limits.partition))) same.sectors;
     same_disk = same;
     read = read;
@@ -106,9 +106,9 @@ module _ (disk v : AdapterView) (settings : Settings) (limits : Limits) (same : 
     no_answers = empty.no_answers;
   }
 
-  pub AreFor-over : (below : Seen) → below ≡ opening_seen v → IsInOrder v → AreFor below limits
+  pub AreFor-over : (below : DeviceView) → below ≡ opening_view v → IsInOrder v → AreFor below limits
   AreFor-over below whole order =
-      subst (λ (b : Seen). AreFor b limits) (sym whole)
+      subst (λ (b : DeviceView). AreFor b limits) (sym whole)
       (let longest : limits.longest ≡ v.max_transfer = ap (λ (l : Limits). l.longest) are.sizes ∙ sym same.max_transfer in
       let most : v.max_transfer ≤ 2 ^ 16 = order.max_transfer.1 in
       let open_requests : limits.open_requests ≡ settings.open_requests = ap (λ (l : Limits). l.open_requests) are.sizes in
@@ -125,7 +125,7 @@ module _ (disk v : AdapterView) (settings : Settings) (limits : Limits) (same : 
         is_map = subst (λ (xs : List (List ℕ)). IsMap (length xs) (partitions_of limits.partition)) (sym same.sectors) is_map;
       })
 
-  pub IsFirstView-over : (below : Seen) (view : StackView) → below ≡ opening_seen v → ShowsEmpty limits below view → IsFirstView disk settings view
+  pub IsFirstView-over : (below : DeviceView) (view : StackView) → below ≡ opening_view v → ShowsEmpty limits below view → IsFirstView disk settings view
   IsFirstView-over below view whole (tables, empty, shows) =
       subst (IsFirstView disk settings) (sym shows)
-      (subst (λ (b : Seen). IsFirstView disk settings (view_of limits b tables)) (sym whole) (IsFirstView-opening tables empty))
+      (subst (λ (b : DeviceView). IsFirstView disk settings (view_of limits b tables)) (sym whole) (IsFirstView-opening tables empty))

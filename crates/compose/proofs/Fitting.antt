@@ -10,7 +10,7 @@ use Rattle.slab.specs.Slab.{slab_len}
 use Rattle.machine.specs.declared.ClientRequest.{ClientRequest}
 use Rattle.machine.specs.Rules.{Rules, is_transfer, is_in_bounds, sectors_of}
 use Rattle.machine.specs.State.{State}
-use Rattle.device.specs.Seen.{Seen, transfer_length}
+use Rattle.device.specs.View.{DeviceView, transfer_length}
 use Rattle.machine.proofs.Places.{IsTakenIn, taken_in}
 use Rattle.compose.specs.declared.admission.Limits.{Limits}
 use Rattle.compose.specs.declared.tables.Tables.{Tables}
@@ -52,7 +52,7 @@ some_sectors size n some whole' not_empty =
     let n_some : 0 < n = grind (arith, nat_tests) in
     positive size (n / size) n whole' n_some
 
-module _ (limits : Limits) (below : Seen) (tables : Tables) (q : ClientRequest) (h : IsSound limits below tables) (k : IsAdmissible (view_of limits below tables) q) where
+module _ (limits : Limits) (below : DeviceView) (tables : Tables) (q : ClientRequest) (h : IsSound limits below tables) (k : IsAdmissible (view_of limits below tables) q) where
   abbrev over : Rules
   over = rules_of limits below.rules
 

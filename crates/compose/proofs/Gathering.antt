@@ -16,7 +16,7 @@ use Rattle.machine.specs.Rules.{Rules}
 use Rattle.machine.specs.State.{OpenRequest as OpenBelow}
 use Rattle.machine.specs.Answering.{AnswersWith, information}
 use Rattle.machine.specs.Numbers.{AreDistinct, HavePlaces, request_number}
-use Rattle.device.specs.Seen.{Seen, payload_bytes}
+use Rattle.device.specs.View.{DeviceView, payload_bytes}
 use Rattle.machine.specs.Sending.{IsStart}
 use Rattle.device.specs.Served.{HandsUp, IsUnfinished}
 use Rattle.machine.specs.Settled.{Settled}
@@ -43,7 +43,7 @@ use Rattle.compose.proofs.Righting.{FitsBelow-same}
 use Rattle.compose.proofs.Unfinished.{none_answered}
 use Rattle.compose.proofs.Ordering.{Run-collected, inserted_is, inserted_rises}
 
-module _ (takes_srb : Bool) (old new : Seen) (request : Request) (done : Done) (t t' : Tables) (h : HandsUp takes_srb old request (Finished done) new) (k : AreHeld t.requests old.state.requests) (c : Closes t done t') where
+module _ (takes_srb : Bool) (old new : DeviceView) (request : Request) (done : Done) (t t' : Tables) (h : HandsUp takes_srb old request (Finished done) new) (k : AreHeld t.requests old.state.requests) (c : Closes t done t') where
   -- THE STEP
 
   bytes_are : h.bytes ≡ (answer_for c.request done).bytes
@@ -102,16 +102,16 @@ module _ (takes_srb : Bool) (old new : Seen) (request : Request) (done : Done) (
       (AreHeld-less t t' done c old.state.requests k h.answers.request h.answers.others number_is h.answers.is_open differ)
 
   -- the answer is of a request that was open, so of no other answer's number
-  others_waiting : AreApart t.requests t.waiting.items → All (HasOtherNumber (answer_for c.request done).number) t.waiting.items
-  others_waiting apart = λ i d low same. apart c.slot c.request c.there i d low (same ∙ sym c.same_number)
+  others_untaken : AreApart t.requests t.untaken.items → All (HasOtherNumber (answer_for c.request done).number) t.untaken.items
+  others_untaken apart = λ i d low same. apart c.slot c.request c.there i d low (same ∙ sym c.same_number)
 
-  apart_after : AreApart t.requests t.waiting.items → AreApart t'.requests t'.waiting.items
+  apart_after : AreApart t.requests t.untaken.items → AreApart t'.requests t'.untaken.items
   apart_after apart slot x there =
       let kept : (slot ≢ c.slot) × (get t.requests slot ≡ Some x) = kept_slot t t' done c old.state.requests k slot x there in
       let other : x.number ≢ done.number = kept_number t t' done c old.state.requests k slot x there in
-      let all : All (HasOtherNumber x.number) (answer_for c.request done ∷ t.waiting.items) =
-      All-cons (HasOtherNumber x.number) (answer_for c.request done) t.waiting.items (λ same. other (sym same)) (apart slot x kept.1) in
-      subst (λ xs. All (HasOtherNumber x.number) xs) (sym c.waiting) (All-permutation (HasOtherNumber x.number) _ _ (IsPermutation-sym _ _ (inserted_is (answer_for c.request done) t.waiting.items)) all)
+      let all : All (HasOtherNumber x.number) (answer_for c.request done ∷ t.untaken.items) =
+      All-cons (HasOtherNumber x.number) (answer_for c.request done) t.untaken.items (λ same. other (sym same)) (apart slot x kept.1) in
+      subst (λ xs. All (HasOtherNumber x.number) xs) (sym c.untaken) (All-permutation (HasOtherNumber x.number) _ _ (IsPermutation-sym _ _ (inserted_is (answer_for c.request done) t.untaken.items)) all)
 
   on_disk_after : (partitions : List Extent) (many window : ℕ) → IsOnDisk (rules_over partitions many window old.rules) old.rules old.state → IsOnDisk (rules_over partitions many window new.rules) new.rules new.state
   on_disk_after partitions many window d =
@@ -130,17 +130,17 @@ module _ (takes_srb : Bool) (old new : Seen) (request : Request) (done : Done) (
   places_after : (limits : Limits) → HasPlaces limits t → HasPlaces limits t'
   places_after limits p =
       let n : slab_len t'.requests + 1 ≡ slab_len t.requests = c.fewer in
-      let m : length t'.waiting.items ≡ length t.waiting.items + 1 = count_after (answer_for c.request done) t.waiting.items t'.waiting.items c.waiting in
-      let now : deque_len t'.waiting ≡ length t'.waiting.items = t'.waiting.ok.0 in
-      let before : deque_len t.waiting ≡ length t.waiting.items = t.waiting.ok.0 in
-      let room : deque_len t.waiting + slab_len t.requests ≤ deque_capacity t.waiting = p.waiting in
-      let more : deque_capacity t'.waiting ≡ deque_capacity t.waiting = c.places.waiting in
+      let m : length t'.untaken.items ≡ length t.untaken.items + 1 = count_after (answer_for c.request done) t.untaken.items t'.untaken.items c.untaken in
+      let now : deque_len t'.untaken ≡ length t'.untaken.items = t'.untaken.ok.0 in
+      let before : deque_len t.untaken ≡ length t.untaken.items = t.untaken.ok.0 in
+      let room : deque_len t.untaken + slab_len t.requests ≤ deque_capacity t.untaken = p.untaken in
+      let more : deque_capacity t'.untaken ≡ deque_capacity t.untaken = c.places.untaken in
       let some : 64 ≤ deque_capacity t.answered = p.answered in
       let as_many : deque_capacity t'.answered ≡ deque_capacity t.answered = c.places.answered in
       record {
         labels = rw c.same_labels p.labels;
         answered = omega arith;
-        waiting = omega arith;
+        untaken = omega arith;
         handles = rw c.same_handles p.handles;
         requests = rw c.places.requests p.requests;
       }
@@ -154,14 +154,14 @@ module _ (takes_srb : Bool) (old new : Seen) (request : Request) (done : Done) (
       let before : deque_len t.answered ≡ length t.answered.items = t.answered.ok.0 in
       omega arith
 
-  given_after : AreDistinct old.state → old.state.next_request ≤ t.next_request → All (WasGiven t.next_request) t.waiting.items → All (WasGiven t'.next_request) t'.waiting.items
+  given_after : AreDistinct old.state → old.state.next_request ≤ t.next_request → All (WasGiven t.next_request) t.untaken.items → All (WasGiven t'.next_request) t'.untaken.items
   given_after distinct rising given =
-      let all : All (WasGiven t.next_request) (answer_for c.request done ∷ t.waiting.items) =
-      All-cons (WasGiven t.next_request) (answer_for c.request done) t.waiting.items (is_given takes_srb old new request done t.requests h k distinct t.next_request rising) given in
-      let inserted_all : All (WasGiven t.next_request) (inserted (answer_for c.request done) t.waiting.items) =
-      All-permutation (WasGiven t.next_request) _ _ (IsPermutation-sym _ _ (inserted_is (answer_for c.request done) t.waiting.items)) all in
+      let all : All (WasGiven t.next_request) (answer_for c.request done ∷ t.untaken.items) =
+      All-cons (WasGiven t.next_request) (answer_for c.request done) t.untaken.items (is_given takes_srb old new request done t.requests h k distinct t.next_request rising) given in
+      let inserted_all : All (WasGiven t.next_request) (inserted (answer_for c.request done) t.untaken.items) =
+      All-permutation (WasGiven t.next_request) _ _ (IsPermutation-sym _ _ (inserted_is (answer_for c.request done) t.untaken.items)) all in
       let P : ℕ → List Answer → Type 0 = λ n xs. All (WasGiven n) xs in
-      subst (λ n. P n t'.waiting.items) (sym c.same_next_request) (subst (λ xs. P t.next_request xs) (sym c.waiting) inserted_all)
+      subst (λ n. P n t'.untaken.items) (sym c.same_next_request) (subst (λ xs. P t.next_request xs) (sym c.untaken) inserted_all)
 
   -- what the table still holds it held before
   spots_after : All (IsSpotted t.next_request t.requests) old.packets → All (IsSpotted t'.next_request t'.requests) new.packets
@@ -194,7 +194,7 @@ module _ (takes_srb : Bool) (old new : Seen) (request : Request) (done : Done) (
     not_paused = keeps.paused ∙ s.not_paused;
     not_removing = keeps.removing ∙ s.not_removing;
     none_put_by = refl;
-    rising = rw c.waiting (inserted_rises (answer_for c.request done) t.waiting.items (others_waiting s.apart) s.rising);
+    rising = rw c.untaken (inserted_rises (answer_for c.request done) t.untaken.items (others_untaken s.apart) s.rising);
     given = given_after s.on_disk.distinct s.numbers.rising s.given;
     apart = apart_after s.apart;
   }
@@ -205,13 +205,13 @@ SamePlaces-trans : (a b c : Tables) → SamePlaces a b → SamePlaces b c → Sa
 SamePlaces-trans a b c p q = record {
   labels = q.labels ∙ p.labels;
   answered = q.answered ∙ p.answered;
-  waiting = q.waiting ∙ p.waiting;
+  untaken = q.untaken ∙ p.untaken;
   handles = q.handles ∙ p.handles;
   requests = q.requests ∙ p.requests;
 }
 
 -- none yet
-pub gathers_none : (below : Seen) (tables : Tables) → tables.answered.items ≡ [] → Gathers below tables below tables
+pub gathers_none : (below : DeviceView) (tables : Tables) → tables.answered.items ≡ [] → Gathers below tables below tables
 gathers_none below tables none = record {
   starts = [];
   only_starts = All-nil IsStart;
@@ -219,13 +219,13 @@ gathers_none below tables none = record {
   same_rules = refl;
   run = rw none (IsSame-refl below.state);
   adapter = reserves_none below.adapter;
-  waiting = rw none (IsPermutation-refl tables.waiting.items);
+  untaken = rw none (IsPermutation-refl tables.untaken.items);
   holders = λ slot. rw none (sym (unless_none (option_map holder_of (get tables.requests slot))));
   same_labels = refl;
   same_handles = refl;
   same_next_handle = refl;
   same_next_request = refl;
-  places = record { labels = refl; answered = refl; waiting = refl; handles = refl; requests = refl };
+  places = record { labels = refl; answered = refl; untaken = refl; handles = refl; requests = refl };
   quiet = λ unfinished. (refl, refl, none);
 }
   where
@@ -237,7 +237,7 @@ all_left : {X : Type 0} (P : X → Type 0) (xs ys : List X) → All P (xs ++ ys)
 all_left P [] ys h = All-nil P
 all_left P (x ∷ xs) ys h = All-cons P x xs (All-head P x (xs ++ ys) h) (all_left P xs ys (All-tail P x (xs ++ ys) h))
 
-module _ (below mid new : Seen) (first t t' : Tables) (g : Gathers below first mid t) (e : TakesEnded mid t new t') (k : AreHeld t.requests mid.state.requests) where
+module _ (below mid new : DeviceView) (first t t' : Tables) (g : Gathers below first mid t) (e : TakesEnded mid t new t') (k : AreHeld t.requests mid.state.requests) where
   -- its slot alone loses its holder
   one_gone : (slot : ℕ) → option_map holder_of (get t'.requests slot) ≡ unless_answered (answer_for e.closes.request e.done ∷ []) (option_map holder_of (get t.requests slot))
   one_gone slot = by_test (nat_eq slot e.closes.slot) refl
@@ -264,12 +264,12 @@ module _ (below mid new : Seen) (first t t' : Tables) (g : Gathers below first m
           ap (λ s. option_map holder_of s) (e.closes.leaves.others slot other) ∙ by_slot other (get t.requests slot) refl
 
   -- it is another's than all that were put by
-  others_put_by : AreApart t.requests t.waiting.items → All (HasOtherNumber (answer_for e.closes.request e.done).number) t.answered.items
+  others_put_by : AreApart t.requests t.untaken.items → All (HasOtherNumber (answer_for e.closes.request e.done).number) t.answered.items
   others_put_by apart =
-      let waiting : All (HasOtherNumber (answer_for e.closes.request e.done).number) t.waiting.items =
+      let untaken : All (HasOtherNumber (answer_for e.closes.request e.done).number) t.untaken.items =
       λ i d low same. apart e.closes.slot e.closes.request e.closes.there i d low (same ∙ sym e.closes.same_number) in
-      all_left (HasOtherNumber (answer_for e.closes.request e.done).number) t.answered.items first.waiting.items
-      (All-permutation (HasOtherNumber (answer_for e.closes.request e.done).number) _ _ g.waiting waiting)
+      all_left (HasOtherNumber (answer_for e.closes.request e.done).number) t.answered.items first.untaken.items
+      (All-permutation (HasOtherNumber (answer_for e.closes.request e.done).number) _ _ g.untaken untaken)
 
   run_more : HavePlaces below.state → IsNone below.state.owed → Run below.rules below.state (map as_label (g.starts ++ e.starts) ++ map as_answer t'.answered.items) new.state
   run_more places free =
@@ -280,17 +280,17 @@ module _ (below mid new : Seen) (first t t' : Tables) (g : Gathers below first m
       (Run-collected below.rules g.starts e.starts t.answered.items (answer_for e.closes.request e.done) below.state mid.state e.answered new.state free places g.only_starts e.only_starts g.run
       (subst P g.same_rules e.answers) (subst Q g.same_rules e.run))
 
-  waiting_more : IsPermutation t'.waiting.items (t'.answered.items ++ first.waiting.items)
-  waiting_more =
+  untaken_more : IsPermutation t'.untaken.items (t'.answered.items ++ first.untaken.items)
+  untaken_more =
       let a : Answer = answer_for e.closes.request e.done in
-      let one : IsPermutation (inserted a t.waiting.items) (a ∷ (t.answered.items ++ first.waiting.items)) =
-      IsPermutation-trans _ _ _ (inserted_is a t.waiting.items) (IsPermutation-cons a _ _ g.waiting) in
-      let two : IsPermutation ((a ∷ t.answered.items) ++ first.waiting.items) (inserted a t.answered.items ++ first.waiting.items) =
-      IsPermutation-append_left first.waiting.items _ _ (IsPermutation-sym _ _ (inserted_is a t.answered.items)) in
-      let P : List Answer → List Answer → Type 0 = λ xs ys. IsPermutation xs (ys ++ first.waiting.items) in
-      subst (λ xs. P xs t'.answered.items) (sym e.closes.waiting) (subst (λ ys. P (inserted a t.waiting.items) ys) (sym e.closes.answered) (IsPermutation-trans _ _ _ one two))
+      let one : IsPermutation (inserted a t.untaken.items) (a ∷ (t.answered.items ++ first.untaken.items)) =
+      IsPermutation-trans _ _ _ (inserted_is a t.untaken.items) (IsPermutation-cons a _ _ g.untaken) in
+      let two : IsPermutation ((a ∷ t.answered.items) ++ first.untaken.items) (inserted a t.answered.items ++ first.untaken.items) =
+      IsPermutation-append_left first.untaken.items _ _ (IsPermutation-sym _ _ (inserted_is a t.answered.items)) in
+      let P : List Answer → List Answer → Type 0 = λ xs ys. IsPermutation xs (ys ++ first.untaken.items) in
+      subst (λ xs. P xs t'.answered.items) (sym e.closes.untaken) (subst (λ ys. P (inserted a t.untaken.items) ys) (sym e.closes.answered) (IsPermutation-trans _ _ _ one two))
 
-  pub gathers_more : AreApart t.requests t.waiting.items → HavePlaces below.state → IsNone below.state.owed → Gathers below first new t'
+  pub gathers_more : AreApart t.requests t.untaken.items → HavePlaces below.state → IsNone below.state.owed → Gathers below first new t'
   gathers_more apart places free = record {
     starts = g.starts ++ e.starts;
     only_starts = All-append IsStart g.starts e.starts g.only_starts e.only_starts;
@@ -298,7 +298,7 @@ module _ (below mid new : Seen) (first t t' : Tables) (g : Gathers below first m
     same_rules = e.same_rules ∙ g.same_rules;
     run = run_more places free;
     adapter = moves_joined below.adapter g.starts mid.adapter e.starts new.adapter g.adapter e.adapter;
-    waiting = waiting_more;
+    untaken = untaken_more;
     holders = λ slot.
         one_gone slot
         ∙ ap (unless_answered (answer_for e.closes.request e.done ∷ [])) (g.holders slot)
@@ -316,7 +316,7 @@ module _ (below mid new : Seen) (first t t' : Tables) (g : Gathers below first m
       not_quiet unfinished = none_answered mid.rules mid.state _ _ _ _ unfinished e.answers.answers
 
 -- then the device's labels are told, and the answers
-pub collects : (below mid new : Seen) (first t t' : Tables) → Gathers below first mid t → new ≡ unlabelled mid → Settled mid.rules mid.state → All (IsUnfinished mid.rules mid.state) mid.state.requests → t' ≡ record t { labels = t'.labels; answered = t'.answered }
+pub collects : (below mid new : DeviceView) (first t t' : Tables) → Gathers below first mid t → new ≡ unlabelled mid → Settled mid.rules mid.state → All (IsUnfinished mid.rules mid.state) mid.state.requests → t' ≡ record t { labels = t'.labels; answered = t'.answered }
     → deque_capacity t'.labels ≡ deque_capacity t.labels → deque_capacity t'.answered ≡ deque_capacity t.answered
     → t'.labels.items ≡ (t.labels.items ++ map as_label mid.adapter.labels) ++ map as_answer t.answered.items → Collects below first new t'
 collects below mid new first t t' g taken settled unfinished kept label_places answer_places labels = record {
@@ -330,7 +330,7 @@ collects below mid new first t t' g taken settled unfinished kept label_places a
   labels = labels
       ∙ ap (λ q. (q.items ++ map as_label mid.adapter.labels) ++ map as_answer t.answered.items) g.same_labels
       ∙ ap (λ ls. (first.labels.items ++ map as_label ls) ++ map as_answer t.answered.items) (labels_moved below.adapter g.starts mid.adapter g.adapter);
-  waiting = subst (λ q. IsPermutation q.items (t.answered.items ++ first.waiting.items)) (sym (ap (λ x. x.waiting) kept)) g.waiting;
+  untaken = subst (λ q. IsPermutation q.items (t.answered.items ++ first.untaken.items)) (sym (ap (λ x. x.untaken) kept)) g.untaken;
   holders = λ slot. ap (λ x. option_map holder_of (get x.requests slot)) kept ∙ g.holders slot;
   same_handles = ap (λ x. x.handles) kept ∙ g.same_handles;
   same_next_handle = ap (λ x. x.next_handle) kept ∙ g.same_next_handle;
@@ -339,7 +339,7 @@ collects below mid new first t t' g taken settled unfinished kept label_places a
       SamePlaces-trans first t t' g.places (record {
         labels = label_places;
         answered = answer_places;
-        waiting = ap (λ x. deque_capacity x.waiting) kept;
+        untaken = ap (λ x. deque_capacity x.untaken) kept;
         handles = ap (λ x. x.handles.capacity) kept;
         requests = ap (λ x. x.requests.capacity) kept;
       });
@@ -349,7 +349,7 @@ collects below mid new first t t' g taken settled unfinished kept label_places a
 }
 
 -- the bounds of the tables' places
-pub few_open : (limits : Limits) (below : Seen) (tables : Tables) → IsSound limits below tables → deque_len tables.answered + slab_len tables.requests ≤ 64
+pub few_open : (limits : Limits) (below : DeviceView) (tables : Tables) → IsSound limits below tables → deque_len tables.answered + slab_len tables.requests ≤ 64
 few_open limits below tables s =
     let none : length tables.answered.items ≡ 0 = ap length s.none_put_by in
     let same : deque_len tables.answered ≡ length tables.answered.items = tables.answered.ok.0 in

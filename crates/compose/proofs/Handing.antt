@@ -7,7 +7,7 @@ use Rattle.ntstatus.specs.declared.NtStatus.{NtStatus}
 use Rattle.ntstatus.specs.declared.NtStatus.TheVariants.{DeviceBusy as BusyStatus, DeletePending as PendingStatus, InvalidParameter as ParameterStatus}
 use Rattle.adapter.proofs.Joining.{reserves_none}
 use Rattle.ntstatus.specs.First.{when, first_some}
-use Rattle.device.specs.Seen.{Seen}
+use Rattle.device.specs.View.{DeviceView}
 use Rattle.machine.proofs.Same.{IsSame-refl}
 use Rattle.ntstatus.proofs.First.{none_first}
 use Rattle.compose.specs.declared.OpenHandle.{OpenHandle}
@@ -19,10 +19,10 @@ use Rattle.compose.specs.declared.tables.Tables.{Tables}
 use Rattle.compose.specs.Calls.{number_limit, are_used_up, handle_limit, open_refusal}
 use Rattle.compose.specs.Shown.{StackView}
 use Rattle.compose.specs.Right.{tells_nothing, IsRight}
-use Rattle.compose.specs.Sound.{partitions_of, view_of, IsOnMap, IsSound, IsKept}
+use Rattle.compose.specs.Sound.{partitions_of, view_of, IsOnMap, IsSound, ManagerKept}
 use Rattle.compose.specs.Admitting.{handle_refusal, OpensHandle}
 use Rattle.compose.proofs.Quiet.{right_alone, IsRightBy-unmoved}
-use Rattle.compose.proofs.Stepping.{IsKept-still}
+use Rattle.compose.proofs.Stepping.{ManagerKept-still}
 
 -- numbers that are not used up are below the limit
 pub numbers_last : (next : ℕ) → are_used_up next ≡ false → next < number_limit
@@ -32,7 +32,7 @@ skipped : (first : Option NtStatus) (rest : List (Option NtStatus)) → first_so
 skipped None rest = refl
 skipped (Some status) rest = refl
 
-open_refusal_is : (limits : Limits) (below : Seen) (tables : Tables) (partition : ℕ) → IsFalse below.state.removing
+open_refusal_is : (limits : Limits) (below : DeviceView) (tables : Tables) (partition : ℕ) → IsFalse below.state.removing
     → open_refusal (view_of limits below tables) partition ≡ handle_refusal tables partition (length (partitions_of limits.partition))
 open_refusal_is limits below tables partition staying =
     let rest : List (Option NtStatus) = when (nat_le (length (partitions_of limits.partition)) partition) ParameterStatus ∷ when (nat_le handle_limit (slab_len tables.handles)) BusyStatus ∷ [] in
@@ -48,7 +48,7 @@ on_map limits old new slot given updates known h other handle there = elim (case
   | inr apart ↦ h other handle (sym (updates.others other apart) ∙ there)
 ]
 
-given_sound : (limits : Limits) (below : Seen) (old : Tables) (handles : Slab OpenHandle) (partition slot number : ℕ) → IsSound limits below old
+given_sound : (limits : Limits) (below : DeviceView) (old : Tables) (handles : Slab OpenHandle) (partition slot number : ℕ) → IsSound limits below old
     → handle_refusal old partition (length (partitions_of limits.partition)) ≡ None
     → SlabUpdates old.handles handles slot (Some (record { number = number; partition = partition })) → handles.capacity ≡ old.handles.capacity
     → IsSound limits below (record old { next_handle = old.next_handle + 1; handles = handles })
@@ -64,7 +64,7 @@ given_sound limits below old handles partition slot number h admitted updates sl
       places = record {
         labels = h.places.labels;
         answered = h.places.answered;
-        waiting = h.places.waiting;
+        untaken = h.places.untaken;
         handles = subst (λ capacity. (handle_limit ≤ capacity) × (capacity < 2 ^ 32)) (sym slots) h.places.handles;
         requests = h.places.requests;
       };
@@ -80,7 +80,7 @@ given_sound limits below old handles partition slot number h admitted updates sl
       apart = h.apart;
     }
 
-opened_sound : (limits : Limits) (below : Seen) (old : Tables) (partition : ℕ) (reply : Reply) (new : Tables) → IsSound limits below old
+opened_sound : (limits : Limits) (below : DeviceView) (old : Tables) (partition : ℕ) (reply : Reply) (new : Tables) → IsSound limits below old
     → OpensHandle old partition (length (partitions_of limits.partition)) reply new → IsSound limits below new
 opened_sound limits below old partition (HandleReply handle) new h opens =
     subst (IsSound limits below) (sym opens.after) (given_sound limits below old new.handles partition handle.slot handle.number h opens.not_refused opens.opens opens.slots)
@@ -90,7 +90,7 @@ opened_sound limits below old partition (Requested id) new h opens = absurd open
 opened_sound limits below old partition (Answered answer) new h opens = absurd opens
 opened_sound limits below old partition Ignored new h opens = absurd opens
 
-opened_right : (limits : Limits) (below : Seen) (old : Tables) (partition : ℕ) (reply : Reply) (new : Tables) → IsSound limits below old
+opened_right : (limits : Limits) (below : DeviceView) (old : Tables) (partition : ℕ) (reply : Reply) (new : Tables) → IsSound limits below old
     → old.labels.items ≡ [] → below.adapter.labels ≡ [] → OpensHandle old partition (length (partitions_of limits.partition)) reply new
     → IsRight (view_of limits below old) (Open partition) reply (view_of limits below new)
 opened_right limits below old partition (HandleReply handle) new h none_told none_recorded opens =
@@ -107,7 +107,7 @@ opened_right limits below old partition (HandleReply handle) new h none_told non
         },
       );
       by =
-          right_alone (view_of limits below old) [] (view_of limits below old).state below.adapter.reserved new.handles.slots (old.next_handle + 1) old.labels.items old.waiting.items
+          right_alone (view_of limits below old) [] (view_of limits below old).state below.adapter.reserved new.handles.slots (old.next_handle + 1) old.labels.items old.untaken.items
           (IsSame-refl _) (reserves_none below.adapter) none_recorded none_told refl;
     })
 opened_right limits below old partition (Refused reason bytes) new h none_told none_recorded opens =
@@ -127,12 +127,12 @@ opened_right limits below old partition (Answered answer) new h none_told none_r
 opened_right limits below old partition Ignored new h none_told none_recorded opens = absurd opens
 
 -- as it is shown: what holds between two steps holds after it
-pub opened_kept : (limits : Limits) (below : Seen) (tables : Tables) (old : StackView) → IsKept limits below tables → view_of limits below tables ≡ old → old.labels ≡ []
+pub opened_kept : (limits : Limits) (below : DeviceView) (tables : Tables) (old : StackView) → ManagerKept limits below tables → view_of limits below tables ≡ old → old.labels ≡ []
     → (partition : ℕ) (reply : Reply) (new : Tables) → OpensHandle tables partition (length (partitions_of limits.partition)) reply new
-    → IsRight old (Open partition) reply (view_of limits below new) × IsKept limits below new
+    → IsRight old (Open partition) reply (view_of limits below new) × ManagerKept limits below new
 opened_kept limits below tables old kept shown taken partition reply new opens =
     let right : IsRight (view_of limits below tables) (Open partition) reply (view_of limits below new) =
     opened_right limits below tables partition reply new kept.sound (ap (λ (v : StackView). v.labels) shown ∙ taken) kept.none_recorded opens in (
       subst (λ v. IsRight v (Open partition) reply (view_of limits below new)) shown right,
-      IsKept-still limits below tables new right.told kept right.by (opened_sound limits below tables partition reply new kept.sound opens),
+      ManagerKept-still limits below tables new right.told kept right.by (opened_sound limits below tables partition reply new kept.sound opens),
     )

@@ -12,7 +12,7 @@ use Rattle.machine.specs.declared.Label.TheVariants.{Call, Device, Answer as Ans
 use Rattle.machine.specs.Rules.{Rules}
 use Rattle.machine.specs.State.{State}
 use Rattle.machine.specs.Answering.{AnswersWith}
-use Rattle.device.specs.Seen.{IsRead}
+use Rattle.device.specs.View.{IsRead}
 use Rattle.machine.specs.Step.{Run, as_label}
 use Rattle.compose.specs.declared.Answer.{Answer}
 use Rattle.compose.specs.OnDisk.{end_of, rules_over, open_as_called, on_partition, IsOnDisk}

@@ -11,7 +11,7 @@ use Rattle.machine.specs.State.{Mark, Untouched, Out, Done, Failed, Back, OpenRe
 use Rattle.machine.specs.Sending.{is_started}
 use Rattle.machine.specs.Settled.{Settled, IsHeld, HasGone, WaitsIfCancelled, Waits, IsAllSent, IsHeldBack, HasMore, IsAtWork, IsFull, started_count}
 use Rattle.machine.specs.Map.{sectors_in}
-use Rattle.device.specs.Seen.{IsRead}
+use Rattle.device.specs.View.{IsRead}
 use Rattle.compose.specs.OnDisk.{rules_over, open_as_called, on_partition, IsOnDisk}
 use Rattle.compose.proofs.PartSlices.{part, sectors_of_front}
 

@@ -282,7 +282,7 @@ module _ (partitions : List Extent) (many window : ℕ) (below : Rules) where
           not_held = h.may_start.not_held;
           in_turn = All-map (IsInTurn (open_as_called over h.owner)) (open_as_called over) s.requests h.may_start.in_turn;
         };
-        sendable = record { some = h.sendable.some; short = h.sendable.short; inside = h.sendable.inside; waiting = h.sendable.waiting; whole = λ one. cc (one) };
+        sendable = record { some = h.sendable.some; short = h.sendable.short; inside = h.sendable.inside; unsent = h.sendable.unsent; whole = λ one. cc (one) };
         asks = subst (λ command. Means block command) same h.asks;
         after = IsSame-on_partition over next s' _ h.after;
       }

@@ -7,7 +7,7 @@ use Rattle.machine.specs.Map.{IsMap, IsPartition, sectors_in}
 use Rattle.machine.specs.Rules.{Rules}
 use Rattle.machine.specs.State.{State, opening}
 use Rattle.machine.specs.Settled.{Settled, IsHeld, WaitsIfCancelled, Waits, IsAllSent, IsHeldBack, HasMore, IsAtWork, IsWithin}
-use Rattle.device.specs.Seen.{Seen, IsOrderly}
+use Rattle.device.specs.View.{DeviceView, IsOrderly}
 use Rattle.device.specs.Served.{IsUnfinished}
 use Rattle.machine.proofs.Same.{IsSame-refl}
 use Rattle.machine_laws.specs.Reached.{AreWhole, IsReached}
@@ -16,7 +16,7 @@ use Rattle.compose.specs.declared.tables.Tables.{Tables}
 use Rattle.compose.specs.declared.Answer.{Answer}
 use Rattle.compose.specs.OnDisk.{end_of, rules_over, on_partition, IsOnDisk}
 use Rattle.compose.specs.Right.{AreRising, answer_number}
-use Rattle.compose.specs.Sound.{partitions_of, rules_of, FitsBelow, HasNumbers, IsHeldAt, AreHeld, HasPlaces, IsTopmost, IsSpotted, WasGiven, IsSound, IsKept}
+use Rattle.compose.specs.Sound.{partitions_of, rules_of, FitsBelow, HasNumbers, IsHeldAt, AreHeld, HasPlaces, IsTopmost, IsSpotted, WasGiven, IsSound, ManagerKept}
 use Rattle.compose.specs.Opening.{IsUnasked, AreFor, AreEmpty}
 use Rattle.compose.proofs.PartSlices.{slice_is_part, length-part}
 use Rattle.compose.proofs.OnDiskOpening.{IsOnDisk-opening}
@@ -64,7 +64,7 @@ none_there {X} slab slot x empty there = let e : None ≡ Some x = sym (ap (λ (
 none_counted : {X : Type 0} (slab : Slab X) → slab.slots ≡ [] → slab_len slab ≡ 0
 none_counted {X} slab empty = ap (λ (xs : List (Option X)). slab_len (record slab { slots = xs })) empty
 
-module _ (limits : Limits) (below : Seen) (tables : Tables) (unasked : IsUnasked below) (empty : AreEmpty tables) where
+module _ (limits : Limits) (below : DeviceView) (tables : Tables) (unasked : IsUnasked below) (empty : AreEmpty tables) where
   abbrev arrays : List (List (List ℕ))
   arrays = map (sectors_in below.adapter.sectors) below.rules.partitions
 
@@ -85,7 +85,7 @@ module _ (limits : Limits) (below : Seen) (tables : Tables) (unasked : IsUnasked
       ∙ ap (λ (disk : List (List ℕ)). opening (map (sectors_in disk) (partitions_of limits.partition)))
       (sym (along (λ (s : State). get_or s.arrays 0 [] ≡ get_or arrays 0 []) refl) ∙ array_is)
 
-module _ (limits : Limits) (below : Seen) (tables : Tables) (orderly : IsOrderly below) (unasked : IsUnasked below) (for : AreFor below limits)
+module _ (limits : Limits) (below : DeviceView) (tables : Tables) (orderly : IsOrderly below) (unasked : IsUnasked below) (for : AreFor below limits)
     (empty : AreEmpty tables) (places : HasPlaces limits tables) where
   abbrev partitions : List Extent
   partitions = partitions_of limits.partition
@@ -159,8 +159,8 @@ module _ (limits : Limits) (below : Seen) (tables : Tables) (orderly : IsOrderly
     apart = λ slot request there. absurd (none_there tables.requests slot request empty.no_requests there);
   }
 
-  pub IsKept-opening : IsKept limits below tables
-  IsKept-opening = record {
+  pub ManagerKept-opening : ManagerKept limits below tables
+  ManagerKept-opening = record {
     sound = sound;
     rest = record {
       all_sectors = ap (λ (xs : List (List ℕ)). length xs) (sym (array_is limits below tables unasked empty));

@@ -9,7 +9,7 @@ use Rattle.adapter.proofs.Joining.{reserves_none}
 use Rattle.machine.specs.declared.Label.{Label}
 use Rattle.machine.specs.State.{State}
 use Rattle.machine.specs.Step.{Run}
-use Rattle.device.specs.Seen.{Seen}
+use Rattle.device.specs.View.{DeviceView}
 use Rattle.device.specs.Served.{Reserves}
 use Rattle.machine.proofs.Same.{IsSame-refl}
 use Rattle.compose.specs.declared.Answer.{Answer}
@@ -42,7 +42,7 @@ right_alone v own s reserved handles next_handle labels answers run moves none_r
   };
   outside = λ sector apart. refl;
   holders = λ slot. none_answered _;
-  waiting = subst (λ now. IsPermutation now v.answers) (sym waits) (IsPermutation-refl v.answers);
+  untaken = subst (λ now. IsPermutation now v.answers) (sym waits) (IsPermutation-refl v.answers);
 }
 
 -- nothing is told, and nothing changes
@@ -50,5 +50,5 @@ pub IsRightBy-unmoved : (v : StackView) → v.labels ≡ [] → v.adapter.labels
 IsRightBy-unmoved v none_told none_recorded =
     right_alone v [] v.state v.adapter.reserved v.handles v.next_handle v.labels v.answers (IsSame-refl v.state) (reserves_none v.adapter) none_recorded none_told refl
 
-pub none_reserved : (v : Seen) → Reserves v v
+pub none_reserved : (v : DeviceView) → Reserves v v
 none_reserved v = record { same = refl; adapter = reserves_none v.adapter }

@@ -10,7 +10,7 @@ use Rattle.machine.specs.declared.Label.{Label}
 use Rattle.machine.specs.Rules.{Rules}
 use Rattle.machine.specs.State.{State}
 use Rattle.machine.specs.Step.{Run, as_label}
-use Rattle.device.specs.Seen.{Seen, Packet, IsRead}
+use Rattle.device.specs.View.{DeviceView, Packet, IsRead}
 use Rattle.device.specs.Served.{Moves}
 use Rattle.machine.proofs.Same.{Run-append}
 use Rattle.compose.specs.declared.Answer.{Answer}
@@ -27,7 +27,7 @@ use Rattle.compose.proofs.Askings.{KeepsAsked, run_keeps, AreHeld-along}
 
 -- THE TABLES STAY SOUND WHILE THE DEVICE MOVES
 
-pub FitsBelow-same : (limits : Limits) (below below' : Seen) → below'.rules ≡ below.rules → below'.most ≡ below.most → FitsBelow limits below → FitsBelow limits below'
+pub FitsBelow-same : (limits : Limits) (below below' : DeviceView) → below'.rules ≡ below.rules → below'.most ≡ below.most → FitsBelow limits below → FitsBelow limits below'
 FitsBelow-same limits below below' rules most h = record {
   sector_size = h.sector_size ∙ ap (λ (r : Rules). r.sector_size) (sym rules);
   disk_sectors = h.disk_sectors ∙ ap (λ (r : Rules). r.disk_sectors) (sym rules);
@@ -40,7 +40,7 @@ FitsBelow-same limits below below' rules most h = record {
   many = rw most h.many;
 }
 
-pub IsSound-moves : (limits : Limits) (below : Seen) (tables : Tables) (labels : List DeviceLabel) (below' : Seen) → IsSound limits below tables → Moves below labels below' → IsSound limits below' tables
+pub IsSound-moves : (limits : Limits) (below : DeviceView) (tables : Tables) (labels : List DeviceLabel) (below' : DeviceView) → IsSound limits below tables → Moves below labels below' → IsSound limits below' tables
 IsSound-moves limits below tables labels below' h moves =
     let keeps : KeepsAsked below.state below'.state = run_keeps below.rules below.state labels below'.state moves.run in
     let over : Run (rules_of limits below.rules) (on_partition (rules_of limits below.rules) 0 below.state) (map as_label labels) (on_partition (rules_of limits below.rules) 0 below'.state)
@@ -72,7 +72,7 @@ IsSound-moves limits below tables labels below' h moves =
 -- A RIGHT STEP
 
 -- own labels of a step lead the stack's machine to where the device below opened what it opens, and the device moved on
-pub record IsServed (limits : Limits) (below : Seen) (tables : Tables) (own : List Label) (labels : List DeviceLabel) (below1 : Seen) (tables1 : Tables) : Type 0 where
+pub record IsServed (limits : Limits) (below : DeviceView) (tables : Tables) (own : List Label) (labels : List DeviceLabel) (below1 : DeviceView) (tables1 : Tables) : Type 0 where
   pub opened : State
   pub packets : List Packet
   pub submitted : ℕ
@@ -85,14 +85,14 @@ pub record IsServed (limits : Limits) (below : Seen) (tables : Tables) (own : Li
   pub run : Run (rules_of limits below.rules) (on_partition (rules_of limits below.rules) tables.next_request below.state) own (on_partition (rules_of limits below.rules) tables1.next_request opened)
   pub moves : Moves (record below { state = opened; packets = packets; submitted = submitted }) labels below1
   pub own_labels : tables1.labels.items ≡ own
-  pub same_waiting : tables1.waiting.items ≡ tables.waiting.items
+  pub same_untaken : tables1.untaken.items ≡ tables.untaken.items
 
 told_labels : (starts more : List DeviceLabel) (answers : List Answer)
     → map as_label starts ++ (map as_label more ++ map as_answer answers) ≡ map as_label (starts ++ more) ++ map as_answer answers
 told_labels starts more answers =
     sym (append_assoc (map as_label starts) (map as_label more) (map as_answer answers)) ∙ ap (λ first. first ++ map as_answer answers) (sym (map-append as_label starts more))
 
-module _ (limits : Limits) (below : Seen) (tables : Tables) (own : List Label) (labels : List DeviceLabel) (below1 : Seen) (tables1 : Tables) (below2 : Seen) (tables2 : Tables)
+module _ (limits : Limits) (below : DeviceView) (tables : Tables) (own : List Label) (labels : List DeviceLabel) (below1 : DeviceView) (tables1 : Tables) (below2 : DeviceView) (tables2 : Tables)
     (h : IsServed limits below tables own labels below1 tables1) (c : Collects below1 tables1 below2 tables2) where
   abbrev over : Rules
   over = rules_of limits below.rules
@@ -172,5 +172,5 @@ module _ (limits : Limits) (below : Seen) (tables : Tables) (own : List Label) (
         keeps_outside (partitions_of limits.partition) limits.open_requests limits.window below.rules below.state below2.state below.adapter below2.adapter h.on_disk over_run.1 h.read
         (subst (λ r. IsRead r below2.state below2.adapter) same_rules read) h.rest.all_sectors as_many keeps;
     holders = holders_are;
-    waiting = subst (λ waiting. IsPermutation tables2.waiting.items (c.answers ++ waiting)) h.same_waiting c.waiting;
+    untaken = subst (λ untaken. IsPermutation tables2.untaken.items (c.answers ++ untaken)) h.same_untaken c.untaken;
   }

@@ -9,7 +9,7 @@ use Rattle.machine.specs.Rules.{Rules}
 use Rattle.machine.specs.State.{OpenRequest}
 use Rattle.machine.specs.Numbers.{request_number}
 use Rattle.machine.specs.Settled.{Settled}
-use Rattle.device.specs.Seen.{Seen, IsRead}
+use Rattle.device.specs.View.{DeviceView, IsRead}
 use Rattle.device.specs.Served.{Reserves}
 use Rattle.machine.proofs.Same.{Run-append}
 use Rattle.machine_laws.specs.Reached.{IsReached}
@@ -18,8 +18,8 @@ use Rattle.compose.specs.declared.tables.OpenRequest.{OpenRequest as OpenEntry}
 use Rattle.compose.specs.declared.tables.Tables.{Tables}
 use Rattle.compose.specs.Shown.{StackView, Holder}
 use Rattle.compose.specs.OnDisk.{open_as_called}
-use Rattle.compose.specs.Right.{Told, HasSlot, IsRightBy, IsWhole}
-use Rattle.compose.specs.Sound.{partitions_of, rules_of, holder_of, holders_of, view_of, IsHeldAt, IsSound, IsAtRest, Collects, IsKept}
+use Rattle.compose.specs.Right.{Told, HasSlot, IsRightBy, FitsTogether}
+use Rattle.compose.specs.Sound.{partitions_of, rules_of, holder_of, holders_of, view_of, IsHeldAt, IsSound, IsAtRest, Collects, ManagerKept}
 use Rattle.compose.proofs.OnDiskSettled.{Settled-over, IsRead-over}
 
 -- THE SLOTS OF OPEN REQUESTS
@@ -39,7 +39,7 @@ numbers_as_called : (over : Rules) (xs : List OpenRequest) → map request_numbe
 numbers_as_called over [] = refl
 numbers_as_called over (o ∷ xs) = ap (λ numbers. o.number ∷ numbers) (numbers_as_called over xs)
 
-module _ (limits : Limits) (below : Seen) (tables : Tables) (sound : IsSound limits below tables) where
+module _ (limits : Limits) (below : DeviceView) (tables : Tables) (sound : IsSound limits below tables) where
   abbrev over : Rules
   over = rules_of limits below.rules
 
@@ -50,8 +50,8 @@ module _ (limits : Limits) (below : Seen) (tables : Tables) (sound : IsSound lim
       → (request : OpenEntry) × (get tables.requests slot ≡ Some request) × (request.number ≡ holder.number)
   holder_is slot holder there = request_of_holder (get tables.requests slot) holder (sym (shown_at tables.requests slot) ∙ there)
 
-  pub IsWhole-view : IsRead below.rules below.state below.adapter → IsWhole (view_of limits below tables)
-  IsWhole-view read = record {
+  pub FitsTogether-view : IsRead below.rules below.state below.adapter → FitsTogether (view_of limits below tables)
+  FitsTogether-view read = record {
     read = IsRead-over (partitions_of limits.partition) limits.open_requests limits.window below.rules tables.next_request below.state below.adapter sound.on_disk read;
     has_slot =
         All-map (HasSlot (holders_of tables.requests)) (open_as_called over) below.state.requests
@@ -86,9 +86,9 @@ reached_on old new told by h =
       run = Run-append old.rules _ h.labels old.state new.labels new.state h.run by.run;
     })
 
-IsKept-step : (limits : Limits) (below below' : Seen) (tables tables' : Tables) (told : Told) → IsKept limits below tables → IsRightBy told (view_of limits below tables) (view_of limits below' tables')
-    → IsSound limits below' tables' → IsAtRest below' → (Settled below.rules below.state → Settled below'.rules below'.state) → below'.adapter.labels ≡ [] → IsKept limits below' tables'
-IsKept-step limits below below' tables tables' told kept by sound rest settled taken = record {
+ManagerKept-step : (limits : Limits) (below below' : DeviceView) (tables tables' : Tables) (told : Told) → ManagerKept limits below tables → IsRightBy told (view_of limits below tables) (view_of limits below' tables')
+    → IsSound limits below' tables' → IsAtRest below' → (Settled below.rules below.state → Settled below'.rules below'.state) → below'.adapter.labels ≡ [] → ManagerKept limits below' tables'
+ManagerKept-step limits below below' tables tables' told kept by sound rest settled taken = record {
   sound = sound;
   rest = rest;
   settled = settled kept.settled;
@@ -97,22 +97,22 @@ IsKept-step limits below below' tables tables' told kept by sound rest settled t
 }
 
 -- where the device is as it was
-pub IsKept-still : (limits : Limits) (below : Seen) (tables tables' : Tables) (told : Told) → IsKept limits below tables → IsRightBy told (view_of limits below tables) (view_of limits below tables')
-    → IsSound limits below tables' → IsKept limits below tables'
-IsKept-still limits below tables tables' told kept by sound = IsKept-step limits below below tables tables' told kept by sound kept.rest (λ settled. settled) kept.none_recorded
+pub ManagerKept-still : (limits : Limits) (below : DeviceView) (tables tables' : Tables) (told : Told) → ManagerKept limits below tables → IsRightBy told (view_of limits below tables) (view_of limits below tables')
+    → IsSound limits below tables' → ManagerKept limits below tables'
+ManagerKept-still limits below tables tables' told kept by sound = ManagerKept-step limits below below tables tables' told kept by sound kept.rest (λ settled. settled) kept.none_recorded
 
 -- where the device made room and no more
-pub IsKept-reserved : (limits : Limits) (below below' : Seen) (tables tables' : Tables) (told : Told) → IsKept limits below tables → IsRightBy told (view_of limits below tables) (view_of limits below' tables')
-    → Reserves below below' → IsSound limits below' tables' → IsAtRest below' → IsKept limits below' tables'
-IsKept-reserved limits below below' tables tables' told kept by reserves sound rest =
-    IsKept-step limits below below' tables tables' told kept by sound rest
-    (λ settled. subst (λ (b : Seen). Settled b.rules b.state) (sym reserves.same) settled)
-    (ap (λ (b : Seen). b.adapter.labels) reserves.same ∙ kept.none_recorded)
+pub ManagerKept-reserved : (limits : Limits) (below below' : DeviceView) (tables tables' : Tables) (told : Told) → ManagerKept limits below tables → IsRightBy told (view_of limits below tables) (view_of limits below' tables')
+    → Reserves below below' → IsSound limits below' tables' → IsAtRest below' → ManagerKept limits below' tables'
+ManagerKept-reserved limits below below' tables tables' told kept by reserves sound rest =
+    ManagerKept-step limits below below' tables tables' told kept by sound rest
+    (λ settled. subst (λ (b : DeviceView). Settled b.rules b.state) (sym reserves.same) settled)
+    (ap (λ (b : DeviceView). b.adapter.labels) reserves.same ∙ kept.none_recorded)
 
 -- where all that has ended is told; the limits are the same
-pub IsKept-collected : (limits limits' : Limits) (below below1 below' : Seen) (tables tables1 tables' : Tables) (told : Told) → limits' ≡ limits → IsKept limits below tables
-    → IsRightBy told (view_of limits below tables) (view_of limits below' tables') → IsSound limits' below' tables' → IsAtRest below' → Collects below1 tables1 below' tables' → IsKept limits' below' tables'
-IsKept-collected limits limits' below below1 below' tables tables1 tables' told same kept by sound rest collects =
-    subst (λ (l : Limits). IsKept l below' tables') (sym same)
-    (IsKept-step limits below below' tables tables' told kept by (subst (λ (l : Limits). IsSound l below' tables') same sound) rest (λ _. collects.settled)
+pub ManagerKept-collected : (limits limits' : Limits) (below below1 below' : DeviceView) (tables tables1 tables' : Tables) (told : Told) → limits' ≡ limits → ManagerKept limits below tables
+    → IsRightBy told (view_of limits below tables) (view_of limits below' tables') → IsSound limits' below' tables' → IsAtRest below' → Collects below1 tables1 below' tables' → ManagerKept limits' below' tables'
+ManagerKept-collected limits limits' below below1 below' tables tables1 tables' told same kept by sound rest collects =
+    subst (λ (l : Limits). ManagerKept l below' tables') (sym same)
+    (ManagerKept-step limits below below' tables tables' told kept by (subst (λ (l : Limits). IsSound l below' tables') same sound) rest (λ _. collects.settled)
     (ap (λ (v : AdapterView). v.labels) collects.adapter.taken))

@@ -13,7 +13,7 @@ use Rattle.machine.specs.Rules.{Rules, is_transfer}
 use Rattle.ntstatus.specs.First.{when, first_some}
 use Rattle.machine.specs.Calling.{refusal}
 use Rattle.machine.specs.Sending.{read_command, write_command, flush_command}
-use Rattle.device.specs.Seen.{Seen, Packet, payload_bytes}
+use Rattle.device.specs.View.{DeviceView, Packet, payload_bytes}
 use Rattle.device.specs.Served.{Submits}
 use Rattle.compose.specs.declared.Handle.{Handle}
 use Rattle.compose.specs.declared.Reply.{Reply}
@@ -156,13 +156,13 @@ OpensHandle old partition partitions Ignored new = ⊥
 
 -- places for more answers may be made, and no more
 pub record KeepsAnswers (old new : Tables) : Type 0 where
-  pub same_waiting : new.waiting.items ≡ old.waiting.items
-  pub same_count : deque_len new.waiting ≡ deque_len old.waiting
-  pub answer_places : deque_capacity old.waiting ≤ deque_capacity new.waiting
-  pub after : new ≡ record old { waiting = new.waiting }
+  pub same_untaken : new.untaken.items ≡ old.untaken.items
+  pub same_count : deque_len new.untaken ≡ deque_len old.untaken
+  pub answer_places : deque_capacity old.untaken ≤ deque_capacity new.untaken
+  pub after : new ≡ record old { untaken = new.untaken }
 
 -- the packet of a request goes down as the topmost, with the caller's buffer, to this spot
-pub record SendsDown (old : Seen) (number spot : ℕ) (request : Request) (buffer : List ℕ) (new : Seen) : Type 0 where
+pub record SendsDown (old : DeviceView) (number spot : ℕ) (request : Request) (buffer : List ℕ) (new : DeviceView) : Type 0 where
   pub packet : Packet
   pub payload : Payload
   pub is_number : packet.number ≡ number
@@ -172,7 +172,7 @@ pub record SendsDown (old : Seen) (number spot : ℕ) (request : Request) (buffe
   pub submits : Submits old packet request payload new
 
 -- a request is open, and its packet is below at the spot that its entry keeps
-pub record IsSent (below : Seen) (tables : Tables) (handle : Handle) (q : ClientRequest) (request : Request) (copies : Copies) (buffer : List ℕ) (slot : ℕ) (below' : Seen) (tables' : Tables) : Type 0 where
+pub record IsSent (below : DeviceView) (tables : Tables) (handle : Handle) (q : ClientRequest) (request : Request) (copies : Copies) (buffer : List ℕ) (slot : ℕ) (below' : DeviceView) (tables' : Tables) : Type 0 where
   pub spot : ℕ
   pub admits : Admits tables handle q copies spot slot tables'
   pub sends : SendsDown below tables.next_request spot request buffer below'

@@ -12,7 +12,7 @@ use Rattle.machine.specs.State.{State}
 use Rattle.machine.specs.Answering.{AnswersWith}
 use Rattle.machine.specs.Step.{Run, as_label}
 use Rattle.machine.specs.Sending.{IsStart}
-use Rattle.device.specs.Seen.{Seen, payload_bytes}
+use Rattle.device.specs.View.{DeviceView, payload_bytes}
 use Rattle.device.specs.Served.{IsUnfinished}
 use Rattle.compose.specs.declared.Answer.{Answer}
 use Rattle.compose.specs.declared.tables.OpenRequest.{OpenRequest}
@@ -22,7 +22,7 @@ use Rattle.compose.specs.Right.{AreRising, answer_number, as_answer, unless_answ
 use Rattle.compose.specs.Sound.{holder_of, SamePlaces}
 
 -- a layer whose adapter's labels are all taken
-abbrev pub unlabelled : Seen → Seen
+abbrev pub unlabelled : DeviceView → DeviceView
 unlabelled below = record below { adapter = record below.adapter { labels = [] } }
 
 -- an open request of this number at this slot
@@ -66,7 +66,7 @@ pub record Closes (old : Tables) (done : Done) (new : Tables) : Type 0 where
   pub leaves : Updates old.requests new.requests slot None
   pub fewer : slab_len new.requests + 1 ≡ slab_len old.requests
   pub answered : new.answered.items ≡ inserted (answer_for request done) old.answered.items
-  pub waiting : new.waiting.items ≡ inserted (answer_for request done) old.waiting.items
+  pub untaken : new.untaken.items ≡ inserted (answer_for request done) old.untaken.items
   pub same_labels : new.labels ≡ old.labels
   pub same_handles : new.handles ≡ old.handles
   pub same_next_handle : new.next_handle ≡ old.next_handle
@@ -74,7 +74,7 @@ pub record Closes (old : Tables) (done : Done) (new : Tables) : Type 0 where
   pub places : SamePlaces old new
 
 -- one request that has ended is taken from the device and closed
-pub record TakesEnded (below : Seen) (tables : Tables) (below' : Seen) (tables' : Tables) : Type 0 where
+pub record TakesEnded (below : DeviceView) (tables : Tables) (below' : DeviceView) (tables' : Tables) : Type 0 where
   pub done : Done
   pub closes : Closes tables done tables'
   pub answered : State
@@ -87,14 +87,14 @@ pub record TakesEnded (below : Seen) (tables : Tables) (below' : Seen) (tables' 
   pub fewer : length below'.packets < length below.packets
 
 -- some were taken and closed: first the machine starts all pieces that they made room for, then it gives their answers
-pub record Gathers (below : Seen) (tables : Tables) (below' : Seen) (tables' : Tables) : Type 0 where
+pub record Gathers (below : DeviceView) (tables : Tables) (below' : DeviceView) (tables' : Tables) : Type 0 where
   pub starts : List DeviceLabel
   pub only_starts : All IsStart starts
   pub rising : AreRising (map answer_number tables'.answered.items)
   pub same_rules : below'.rules ≡ below.rules
   pub run : Run below.rules below.state (map as_label starts ++ map as_answer tables'.answered.items) below'.state
   pub adapter : MovesByAll below.adapter starts below'.adapter
-  pub waiting : IsPermutation tables'.waiting.items (tables'.answered.items ++ tables.waiting.items)
+  pub untaken : IsPermutation tables'.untaken.items (tables'.answered.items ++ tables.untaken.items)
   pub holders : (slot : ℕ) → option_map holder_of (get tables'.requests slot) ≡ unless_answered tables'.answered.items (option_map holder_of (get tables.requests slot))
   pub same_labels : tables'.labels ≡ tables.labels
   pub same_handles : tables'.handles ≡ tables.handles

@@ -5,7 +5,7 @@ use Rattle.adapter.specs.View.{AdapterView}
 use Rattle.machine.specs.Map.{IsMap, sectors_in}
 use Rattle.machine.specs.Rules.{Rules}
 use Rattle.machine.specs.State.{opening}
-use Rattle.device.specs.Seen.{Seen}
+use Rattle.device.specs.View.{DeviceView}
 use Rattle.compose.specs.declared.Settings.{Settings}
 use Rattle.compose.specs.declared.admission.Limits.{Limits}
 use Rattle.compose.specs.declared.tables.Tables.{Tables}
@@ -15,7 +15,7 @@ use Rattle.compose.specs.Sound.{partitions_of, view_of}
 use Rattle.compose.specs.Start.{AreInRange, told_partition, asked_at_start, IsSameDisk, IsReadBy}
 
 -- the device below has the whole disk, and nothing was asked of it yet
-pub record IsUnasked (below : Seen) : Type 0 where
+pub record IsUnasked (below : DeviceView) : Type 0 where
   pub whole_disk : below.rules.partitions ≡ record { first = 0; count = length below.adapter.sectors } ∷ []
   pub state : below.state ≡ opening (map (sectors_in below.adapter.sectors) below.rules.partitions)
   pub no_window : below.rules.window ≡ None
@@ -25,7 +25,7 @@ pub record IsUnasked (below : Seen) : Type 0 where
   pub no_labels : below.adapter.labels ≡ []
 
 -- sizes of a stack over this device
-pub record AreFor (below : Seen) (limits : Limits) : Type 0 where
+pub record AreFor (below : DeviceView) (limits : Limits) : Type 0 where
   pub sector_size : limits.sector_size ≡ below.adapter.sector_size
   pub disk_sectors : limits.disk_sectors ≡ length below.adapter.sectors
   pub longest : limits.longest ≡ below.rules.longest
@@ -41,10 +41,10 @@ pub record AreEmpty (tables : Tables) : Type 0 where
   pub no_requests : tables.requests.slots ≡ []
   pub no_labels : tables.labels.items ≡ []
   pub none_put_by : tables.answered.items ≡ []
-  pub no_answers : tables.waiting.items ≡ []
+  pub no_answers : tables.untaken.items ≡ []
 
 -- what a stack of these sizes over this device shows while its tables are empty
-abbrev pub ShowsEmpty : Limits → Seen → StackView → Type 0
+abbrev pub ShowsEmpty : Limits → DeviceView → StackView → Type 0
 ShowsEmpty limits below view = (tables : Tables) × AreEmpty tables × (view ≡ view_of limits below tables)
 
 -- the rules of a stack over this disk

@@ -19,7 +19,7 @@ use Rattle.machine.specs.Calling.{refusal}
 use Rattle.machine.specs.Sending.{HasOtherTag, IsStart}
 use Rattle.machine.specs.Step.{Run, as_label}
 use Rattle.machine.specs.Numbers.{request_number}
-use Rattle.device.specs.Seen.{IsRead}
+use Rattle.device.specs.View.{IsRead}
 use Rattle.device.specs.Served.{IsFreshOn, IsActOrFault}
 use Rattle.compose.specs.declared.Answer.{Answer}
 use Rattle.compose.specs.declared.Handle.{Handle}
@@ -90,10 +90,11 @@ pub record IsUnmoved (old : StackView) (told : Told) (new : StackView) : Type 0 
   pub same_state : new.state ≡ old.state
   pub same_adapter : new.adapter ≡ old.adapter
 
--- nothing happened, but that more may be reserved
-pub record ReservesAlone (old : StackView) (told : Told) (new : StackView) : Type 0 where
+-- nothing happened, but that more may be reserved for a write
+pub record ReservesAlone (old : StackView) (kind : Kind) (told : Told) (new : StackView) : Type 0 where
   pub nothing : told ≡ tells_nothing old
   pub same_state : new.state ≡ old.state
+  pub unless_write : kind ≢ Write → new.adapter ≡ old.adapter
 
 -- a call that is refused, or one of no bytes: its two labels, and no more; nothing was reserved
 pub record IsAnsweredAtOnce (old : StackView) (q : ClientRequest) (status : NtStatus) (told : Told) (new : StackView) : Type 0 where
@@ -114,11 +115,11 @@ pub record IsAdmitted (old : StackView) (handle : Handle) (q : ClientRequest) (s
   pub was_free : slice_index_or old.holders slot None ≡ None
   pub holds : Updates old.holders told.admitted slot (Some (record { number = number; handle = handle.number }))
 
--- a call for which there is no number left: nothing happens; or whose memory was refused: a part may have been reserved
+-- a call for which there is no number left: nothing happens; or whose memory was refused: a part of a write may have been reserved
 abbrev pub IsTurnedAway : StackView → ClientRequest → Refusal → Told → StackView → Type 0
 IsTurnedAway old q DeviceBusy told new = (are_used_up old.state.next_request ≡ true) × IsUnmoved old told new
 IsTurnedAway old q InsufficientResources told new =
-    (are_used_up old.state.next_request ≡ false) × (refusal old.rules old.state q ≡ None) × ReservesAlone old told new
+    (are_used_up old.state.next_request ≡ false) × (refusal old.rules old.state q ≡ None) × ReservesAlone old q.kind told new
 IsTurnedAway old q _ told new = ⊥
 
 -- a read or a write with this buffer
@@ -234,7 +235,7 @@ pub record IsRightBy (told : Told) (old new : StackView) : Type 0 where
   -- an open request keeps its slot and its handle until it is answered
   pub holders : (slot : ℕ) → slice_index_or new.holders slot None ≡ unless_answered told.answers (slice_index_or told.admitted slot None)
   -- each answer of an admitted request waits to be taken
-  pub waiting : IsPermutation new.answers (told.answers ++ old.answers)
+  pub untaken : IsPermutation new.answers (told.answers ++ old.answers)
 
 -- a read or a write that is right
 pub record IsRightCall (old : StackView) (handle : Handle) (kind : Kind) (offset : ℕ) (buffer : List ℕ) (reply : Reply) (new : StackView) : Type 0 where
@@ -256,7 +257,7 @@ abbrev pub HasSlot : List (Option Holder) → OpenRequest → Type 0
 HasSlot holders o = (slot : ℕ) × (holder : Holder) × (slice_index_or holders slot None ≡ Some holder) × (holder.number ≡ o.number)
 
 -- what a stack shows fits together
-pub record IsWhole (v : StackView) : Type 0 where
+pub record FitsTogether (v : StackView) : Type 0 where
   -- the arrays and the pieces out are read from the adapter
   pub read : IsRead v.rules v.state v.adapter
   -- each open request has a slot, each slot in use an open request, and no two slots the same

@@ -23,7 +23,7 @@ use Rattle.compose.specs.declared.Event.{Event}
 use Rattle.compose.specs.declared.Shown.{Shown}
 use Rattle.compose.specs.declared.RunStopped.{RunStopped}
 use Rattle.compose.specs.Shown.{StackView}
-use Rattle.compose.specs.Right.{IsRight, IsWhole, KeepsOutside}
+use Rattle.compose.specs.Right.{IsRight, FitsTogether, KeepsOutside}
 
 -- EVENTS
 
@@ -33,7 +33,7 @@ pub record Carries (old : StackView) (event : Event) (shown : Shown) (new : Stac
   pub right : IsRight old event shown.reply stepped
   pub settled : Settled stepped.rules stepped.state
   -- read from the adapter
-  pub whole : IsWhole stepped
+  pub whole : FitsTogether stepped
   pub labels : shown.labels.items ≡ stepped.labels
   pub taken : new ≡ record stepped { labels = [] }
 

@@ -11,7 +11,7 @@ use Rattle.machine.specs.Numbers.{request_number}
 use Rattle.machine.specs.Settled.{Settled}
 use Rattle.machine.specs.Step.{Run, as_label}
 use Rattle.machine.specs.Sending.{IsStart}
-use Rattle.device.specs.Seen.{Seen, Packet}
+use Rattle.device.specs.View.{DeviceView, Packet}
 use Rattle.device.specs.Served.{IsUnfinished}
 use Rattle.machine_laws.specs.Reached.{IsReached}
 use Rattle.compose.specs.declared.Answer.{Answer}
@@ -43,7 +43,7 @@ abbrev pub holders_of : Slab OpenRequest → List (Option Holder)
 holders_of requests = map (option_map holder_of) requests.slots
 
 -- what the stack shows
-abbrev pub view_of : Limits → Seen → Tables → StackView
+abbrev pub view_of : Limits → DeviceView → Tables → StackView
 view_of limits below tables = record {
   rules = rules_of limits below.rules;
   state = on_partition (rules_of limits below.rules) tables.next_request below.state;
@@ -52,11 +52,11 @@ view_of limits below tables = record {
   next_handle = tables.next_handle;
   holders = holders_of tables.requests;
   labels = tables.labels.items;
-  answers = tables.waiting.items;
+  answers = tables.untaken.items;
 }
 
 -- the sizes that the stack keeps are those of the device below, and fit a command block
-pub record FitsBelow (limits : Limits) (below : Seen) : Type 0 where
+pub record FitsBelow (limits : Limits) (below : DeviceView) : Type 0 where
   pub sector_size : limits.sector_size ≡ below.rules.sector_size
   pub disk_sectors : limits.disk_sectors ≡ below.rules.disk_sectors
   pub some_bytes : 512 ≤ limits.sector_size
@@ -68,7 +68,7 @@ pub record FitsBelow (limits : Limits) (below : Seen) : Type 0 where
   pub many : number_limit ≤ below.most
 
 -- the next numbers are above all that were given, here and below
-pub record HasNumbers (below : Seen) (tables : Tables) : Type 0 where
+pub record HasNumbers (below : DeviceView) (tables : Tables) : Type 0 where
   pub requests : tables.next_request ≤ number_limit
   pub handles : tables.next_handle ≤ number_limit
   pub rising : below.state.next_request ≤ tables.next_request
@@ -95,7 +95,7 @@ pub record AreHeld (requests : Slab OpenRequest) (below : List OpenBelow) : Type
 pub record HasPlaces (limits : Limits) (tables : Tables) : Type 0 where
   pub labels : 192 ≤ deque_capacity tables.labels
   pub answered : 64 ≤ deque_capacity tables.answered
-  pub waiting : deque_len tables.waiting + slab_len tables.requests ≤ deque_capacity tables.waiting
+  pub untaken : deque_len tables.untaken + slab_len tables.requests ≤ deque_capacity tables.untaken
   pub handles : (handle_limit ≤ tables.handles.capacity) × (tables.handles.capacity < 2 ^ 32)
   pub requests : (limits.open_requests ≤ tables.requests.capacity) × (tables.requests.capacity < 2 ^ 32)
 
@@ -121,7 +121,7 @@ abbrev pub AreApart : Slab OpenRequest → List Answer → Type 0
 AreApart requests answers = (slot : ℕ) (request : OpenRequest) → get requests slot ≡ Some request → All (HasOtherNumber request.number) answers
 
 -- what holds while these answers are put by, whose labels are not told yet
-pub record IsSoundWith (put_by : List Answer) (limits : Limits) (below : Seen) (tables : Tables) : Type 0 where
+pub record IsSoundWith (put_by : List Answer) (limits : Limits) (below : DeviceView) (tables : Tables) : Type 0 where
   pub fits : FitsBelow limits below
   pub numbers : HasNumbers below tables
   pub held : AreHeld tables.requests below.state.requests
@@ -134,16 +134,16 @@ pub record IsSoundWith (put_by : List Answer) (limits : Limits) (below : Seen) (
   pub not_paused : IsFalse below.state.paused
   pub not_removing : IsFalse below.state.removing
   pub none_put_by : tables.answered.items ≡ put_by
-  pub rising : AreRising (map answer_number tables.waiting.items)
-  pub given : All (WasGiven tables.next_request) tables.waiting.items
-  pub apart : AreApart tables.requests tables.waiting.items
+  pub rising : AreRising (map answer_number tables.untaken.items)
+  pub given : All (WasGiven tables.next_request) tables.untaken.items
+  pub apart : AreApart tables.requests tables.untaken.items
 
 -- between two calls no answer is put by
-abbrev pub IsSound : Limits → Seen → Tables → Type 0
+abbrev pub IsSound : Limits → DeviceView → Tables → Type 0
 IsSound limits below tables = IsSoundWith [] limits below tables
 
 -- between two calls the disk's array has all sectors of the adapter, and no request that has ended waits to be taken
-pub record IsAtRest (below : Seen) : Type 0 where
+pub record IsAtRest (below : DeviceView) : Type 0 where
   pub all_sectors : length below.adapter.sectors ≡ length (get_or below.state.arrays 0 [])
   pub unfinished : All (IsUnfinished below.rules below.state) below.state.requests
 
@@ -151,12 +151,12 @@ pub record IsAtRest (below : Seen) : Type 0 where
 pub record SamePlaces (old new : Tables) : Type 0 where
   pub labels : deque_capacity new.labels ≡ deque_capacity old.labels
   pub answered : deque_capacity new.answered ≡ deque_capacity old.answered
-  pub waiting : deque_capacity new.waiting ≡ deque_capacity old.waiting
+  pub untaken : deque_capacity new.untaken ≡ deque_capacity old.untaken
   pub handles : new.handles.capacity ≡ old.handles.capacity
   pub requests : new.requests.capacity ≡ old.requests.capacity
 
 -- all that has ended is taken: the device's labels and the answers are told, and the device is settled
-pub record Collects (below : Seen) (tables : Tables) (below' : Seen) (tables' : Tables) : Type 0 where
+pub record Collects (below : DeviceView) (tables : Tables) (below' : DeviceView) (tables' : Tables) : Type 0 where
   pub starts : List DeviceLabel
   pub answers : List Answer
   pub only_starts : All IsStart starts
@@ -165,7 +165,7 @@ pub record Collects (below : Seen) (tables : Tables) (below' : Seen) (tables' : 
   pub run : Run below.rules below.state (map as_label starts ++ map as_answer answers) below'.state
   pub adapter : AdapterMoves below.adapter starts below'.adapter
   pub labels : tables'.labels.items ≡ (tables.labels.items ++ map as_label (below.adapter.labels ++ starts)) ++ map as_answer answers
-  pub waiting : IsPermutation tables'.waiting.items (answers ++ tables.waiting.items)
+  pub untaken : IsPermutation tables'.untaken.items (answers ++ tables.untaken.items)
   pub holders : (slot : ℕ) → option_map holder_of (get tables'.requests slot) ≡ unless_answered answers (option_map holder_of (get tables.requests slot))
   pub same_handles : tables'.handles ≡ tables.handles
   pub same_next_handle : tables'.next_handle ≡ tables.next_handle
@@ -178,7 +178,7 @@ pub record Collects (below : Seen) (tables : Tables) (below' : Seen) (tables' : 
 
 -- what holds between two steps, beside the order of the device: all is sound, at rest and settled, the adapter's labels
 -- are taken, and a run leads from an opening state to the state that is shown
-pub record IsKept (limits : Limits) (below : Seen) (tables : Tables) : Type 0 where
+pub record ManagerKept (limits : Limits) (below : DeviceView) (tables : Tables) : Type 0 where
   pub sound : IsSound limits below tables
   pub rest : IsAtRest below
   pub settled : Settled below.rules below.state

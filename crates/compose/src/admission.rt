@@ -5,7 +5,7 @@ ghost use Rattle.machine.specs.Rules.{Rules, is_transfer, is_in_bounds};
 ghost use Rattle.machine.specs.State.{State};
 ghost use Rattle.machine.specs.Calling.{refusal};
 ghost use Rattle.machine.specs.Sending.{fits_ten, read_command, write_command, flush_command};
-ghost use Rattle.device.specs.Seen.{Carries, payload_bytes, transfer_length, direction};
+ghost use Rattle.device.specs.View.{Carries, payload_bytes, transfer_length, direction};
 ghost use Rattle.compose.specs.Calls.{status_of_refusal};
 ghost use Rattle.compose.specs.OnDisk.{first_of};
 ghost use Rattle.compose.specs.Sound.{partitions_of, rules_of};

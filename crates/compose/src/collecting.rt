@@ -5,7 +5,7 @@ ghost use Rattle.std.specs.VecDeque.{deque_len, deque_capacity};
 ghost use Rattle.slab.specs.Slab.{slab_len};
 ghost use Rattle.ntstatus.specs.declared.NtStatus.TheVariants.{Success};
 ghost use Rattle.machine.specs.declared.Kind.TheVariants.{Read};
-ghost use Rattle.device.specs.Seen.{payload_bytes};
+ghost use Rattle.device.specs.View.{payload_bytes};
 ghost use Rattle.machine.specs.Step.{as_label};
 ghost use Rattle.device.specs.Served.{HandsUpNone, IsUnfinished};
 ghost use Rattle.machine.specs.Settled.{Settled};
@@ -73,7 +73,7 @@ impl Tables {
         requires held { (slot : ℕ) × IsAt self.old.requests done.number slot }
         requires filled { AreFilled self.old.requests done }
         requires answered_place { deque_len self.old.answered < deque_capacity self.old.answered }
-        requires waiting_place { deque_len self.old.waiting < deque_capacity self.old.waiting }
+        requires untaken_place { deque_len self.old.untaken < deque_capacity self.old.untaken }
         ensures { Closes self.old done self.new }
     {
         let Done {
@@ -89,7 +89,7 @@ impl Tables {
         let Some(open) = self.requests.try_remove(slot) else {
             unreachable!()
         };
-        let brought = bytes_of(*self.waiting.allocator(), payload);
+        let brought = bytes_of(*self.untaken.allocator(), payload);
         let (bytes, label_bytes) = open.answer_bytes(status, brought);
         insert_rising(
             &mut self.answered,
@@ -101,7 +101,7 @@ impl Tables {
             },
         );
         insert_rising(
-            &mut self.waiting,
+            &mut self.untaken,
             Answer {
                 number,
                 status,
@@ -139,10 +139,10 @@ fn tell_answers(answered: &mut VecDeque<Answer>, labels: &mut VecDeque<Label>)
 /// Moves all labels of the device to the end of these, which have places for them.
 fn move_labels<D: Device>(device: &mut D, labels: &mut VecDeque<Label>)
     requires rooms { D.rooms_out device.old [] }
-    requires places { deque_len labels.old + length (D.seen device.old).adapter.labels ≤ deque_capacity labels.old }
+    requires places { deque_len labels.old + length (D.view device.old).adapter.labels ≤ deque_capacity labels.old }
     ensures rooms { D.rooms_out device.new [] }
-    ensures moved { labels.new.items ≡ labels.old.items ++ map as_label (D.seen device.old).adapter.labels }
-    ensures taken { D.seen device.new ≡ unlabelled (D.seen device.old) }
+    ensures moved { labels.new.items ≡ labels.old.items ++ map as_label (D.view device.old).adapter.labels }
+    ensures taken { D.view device.new ≡ unlabelled (D.view device.old) }
     ensures places { deque_capacity labels.new ≡ deque_capacity labels.old }
 {
     while let Some(label) = device.take_label() {
@@ -154,13 +154,13 @@ impl<D: Device> Parts<D> {
     /// Takes a request that has ended and closes it; false where there is none.
     fn take_ended(&mut self) -> bool
         requires rooms { D.rooms_out self.old.device [] }
-        requires sound { IsSoundWith self.old.tables.answered.items self.old.limits (D.seen self.old.device) self.old.tables }
+        requires sound { IsSoundWith self.old.tables.answered.items self.old.limits (D.view self.old.device) self.old.tables }
         requires few { deque_len self.old.tables.answered + slab_len self.old.tables.requests ≤ 64 }
         ensures rooms { D.rooms_out self.new.device [] }
         ensures limits { self.new.limits ≡ self.old.limits }
-        ensures sound { IsSoundWith self.new.tables.answered.items self.new.limits (D.seen self.new.device) self.new.tables }
+        ensures sound { IsSoundWith self.new.tables.answered.items self.new.limits (D.view self.new.device) self.new.tables }
         ensures few { deque_len self.new.tables.answered + slab_len self.new.tables.requests ≤ 64 }
-        ensures takes { MatchBool result (TakesEnded (D.seen self.old.device) self.old.tables (D.seen self.new.device) self.new.tables) (HandsUpNone (D.seen self.old.device) (D.seen self.new.device)) }
+        ensures takes { MatchBool result (TakesEnded (D.view self.old.device) self.old.tables (D.view self.new.device) self.new.tables) (HandsUpNone (D.view self.old.device) (D.view self.new.device)) }
         ensures same { result ≡ false → self.new.tables ≡ self.old.tables }
     {
         let Some((climb, room)) = self.device.take_done() else {
@@ -177,14 +177,14 @@ impl<D: Device> Parts<D> {
     /// Takes all requests that have ended, and closes them.
     fn take_all_ended(&mut self)
         requires rooms { D.rooms_out self.old.device [] }
-        requires sound { IsSound self.old.limits (D.seen self.old.device) self.old.tables }
+        requires sound { IsSound self.old.limits (D.view self.old.device) self.old.tables }
         ensures rooms { D.rooms_out self.new.device [] }
         ensures limits { self.new.limits ≡ self.old.limits }
-        ensures sound { IsSoundWith self.new.tables.answered.items self.new.limits (D.seen self.new.device) self.new.tables }
+        ensures sound { IsSoundWith self.new.tables.answered.items self.new.limits (D.view self.new.device) self.new.tables }
         ensures few { deque_len self.new.tables.answered ≤ 64 }
-        ensures gathers { Gathers (D.seen self.old.device) self.old.tables (D.seen self.new.device) self.new.tables }
-        ensures settled { Settled (D.seen self.new.device).rules (D.seen self.new.device).state }
-        ensures unfinished { All (IsUnfinished (D.seen self.new.device).rules (D.seen self.new.device).state) (D.seen self.new.device).state.requests }
+        ensures gathers { Gathers (D.view self.old.device) self.old.tables (D.view self.new.device) self.new.tables }
+        ensures settled { Settled (D.view self.new.device).rules (D.view self.new.device).state }
+        ensures unfinished { All (IsUnfinished (D.view self.new.device).rules (D.view self.new.device).state) (D.view self.new.device).state.requests }
     {
         'ended: while self.take_ended() {}
     }
@@ -192,12 +192,12 @@ impl<D: Device> Parts<D> {
     /// Takes all requests that have ended, tells what the device did, and then the answers.
     pub(crate) fn collect(&mut self)
         requires rooms { D.rooms_out self.old.device [] }
-        requires sound { IsSound self.old.limits (D.seen self.old.device) self.old.tables }
+        requires sound { IsSound self.old.limits (D.view self.old.device) self.old.tables }
         requires few_labels { deque_len self.old.tables.labels ≤ 2 }
         ensures rooms { D.rooms_out self.new.device [] }
         ensures limits { self.new.limits ≡ self.old.limits }
-        ensures sound { IsSound self.new.limits (D.seen self.new.device) self.new.tables }
-        ensures collects { Collects (D.seen self.old.device) self.old.tables (D.seen self.new.device) self.new.tables }
+        ensures sound { IsSound self.new.limits (D.view self.new.device) self.new.tables }
+        ensures collects { Collects (D.view self.old.device) self.old.tables (D.view self.new.device) self.new.tables }
     {
         self.take_all_ended();
         move_labels(&mut self.device, &mut self.tables.labels);

@@ -4,7 +4,7 @@ ghost use Rattle.std.specs.Prelude.{◌≡◌, ◌≤◌, [], MatchResult};
 ghost use Rattle.std.specs.VecDeque.{deque_capacity};
 ghost use Rattle.machine.specs.Settled.{Settled};
 ghost use Rattle.machine_laws.specs.Reached.{IsReached};
-ghost use Rattle.compose.specs.Right.{IsRight, IsWhole, TakesAnswer, TakesLabel as TakesFirst};
+ghost use Rattle.compose.specs.Right.{IsRight, FitsTogether, TakesAnswer, TakesLabel as TakesFirst};
 ghost use Rattle.compose.specs.Runs.{CarriesAll, IsLawful, RunsObeyLaws, StopsAfter};
 
 use crate::io_manager::IoManager;
@@ -35,7 +35,7 @@ impl<D: Device> IoManager<D> {
         requires taken { self.old.labels ≡ [] }
         ensures right { IsRight self.old event result self.new }
         ensures settled { Settled self.new.rules self.new.state }
-        ensures whole { IsWhole self.new }
+        ensures whole { FitsTogether self.new }
     {
         let reply = match event {
             Event::Open { partition } => self.open(alloc, partition),
@@ -59,7 +59,7 @@ impl<D: Device> IoManager<D> {
     /// What is shown between two steps is settled and whole, and a run leads to it, for who calls it.
     fn shows_whole(&self)
         ensures settled { Settled self.now.rules self.now.state }
-        ensures whole { IsWhole self.now }
+        ensures whole { FitsTogether self.now }
         ensures reached { IsReached self.now.rules self.now.state }
     {
         // The invariant is known where a field is used.
@@ -77,7 +77,7 @@ impl<D: Device> IoManager<D> {
     pub(crate) fn take_answer(&mut self) -> Option<Answer>
         ensures takes { TakesAnswer self.old result self.new }
     {
-        self.parts.tables.waiting.pop_front()
+        self.parts.tables.untaken.pop_front()
     }
 
     /// Takes all labels of the last step, for an empty queue with places for those of the next. The places that they
@@ -108,7 +108,7 @@ impl<D: Device> IoManager<D> {
         ensures lawful { MatchResult result (λ shown. IsLawful self.old shown.items self.new) (λ stopped. IsLawful self.old stopped.shown.items self.new) }
         ensures taken { self.new.labels ≡ [] }
         ensures settled { Settled self.new.rules self.new.state }
-        ensures whole { IsWhole self.new }
+        ensures whole { FitsTogether self.new }
     {
         laws_of_runs();
         self.shows_whole();

@@ -26,17 +26,17 @@ pub(crate) struct IoManager<D: Device> {
 impl<D: Device> Model for IoManager<D> {
     ghost use Rattle.std.specs.Prelude.{◌≡◌, ◌≤◌, true, []};
     ghost use Rattle.compose.specs.Shown.{StackView};
-    ghost use Rattle.compose.specs.Sound.{IsKept, view_of};
+    ghost use Rattle.compose.specs.Sound.{ManagerKept, view_of};
 
     ghost Value = { StackView };
 
-    ghost view = { λ s. view_of s.parts.limits (D.seen s.parts.device) s.parts.tables };
+    ghost view = { λ s. view_of s.parts.limits (D.view s.parts.device) s.parts.tables };
 
     ghost invariant = { λ s. record {
       takes_srb : D.TAKES_SRB ≡ true;
       locations : D.STACK_SIZE ≤ 4;
       rooms : D.rooms_out s.parts.device [];
-      kept : IsKept s.parts.limits (D.seen s.parts.device) s.parts.tables;
+      kept : ManagerKept s.parts.limits (D.view s.parts.device) s.parts.tables;
     } };
 }
 

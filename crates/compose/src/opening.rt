@@ -50,7 +50,7 @@ impl Tables {
             requests: slots(alloc, limits.open_requests as usize)?,
             labels: VecDeque::with_capacity(alloc, LABEL_PLACES)?,
             answered: VecDeque::with_capacity(alloc, ANSWER_PLACES)?,
-            waiting: VecDeque::new(alloc),
+            untaken: VecDeque::new(alloc),
         })
     }
 }
@@ -65,9 +65,9 @@ impl<D: Device> IoManager<D> {
         requires takes_srb { D.TAKES_SRB ≡ true }
         requires locations { D.STACK_SIZE ≤ 4 }
         requires rooms { D.rooms_out device [] }
-        requires unasked { IsUnasked (D.seen device) }
-        requires limits { AreFor (D.seen device) limits }
-        ensures view { IfOk result (ShowsEmpty limits (D.seen device)) }
+        requires unasked { IsUnasked (D.view device) }
+        requires limits { AreFor (D.view device) limits }
+        ensures view { IfOk result (ShowsEmpty limits (D.view device)) }
     {
         let tables = Tables::new(alloc, &limits)?;
         let parts = Parts {

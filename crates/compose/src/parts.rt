@@ -1,9 +1,10 @@
 //! The parts of a stack in the middle of a step, where a room may be out and answers not told yet.
 
-ghost use Rattle.std.specs.Prelude.{◌≡◌, ◌≤◌, ◌<◌, ◌+◌, ◌^◌, true, [], ◌∷◌, length, IfOk, OnOk, OnErr};
+ghost use Rattle.std.specs.Prelude.{◌≡◌, ◌≢◌, ◌≤◌, ◌<◌, ◌+◌, ◌^◌, true, [], ◌∷◌, length, IfOk, OnOk, OnErr};
 ghost use Rattle.std.specs.VecDeque.{deque_len, deque_capacity};
 ghost use Rattle.slab.specs.Slab.{slab_len};
-ghost use Rattle.device.specs.Seen.{IsBounded};
+ghost use Rattle.machine.specs.declared.Kind.TheVariants.{Write};
+ghost use Rattle.device.specs.View.{IsBounded};
 ghost use Rattle.device.specs.Served.{Reserves};
 ghost use Rattle.compose.specs.Admitting.{request_on_disk, HasBuffers, IsSent, KeepsAnswers, IsAdmissible};
 ghost use Rattle.compose.specs.Sound.{IsSound, view_of};
@@ -36,20 +37,21 @@ impl<D: Device> Parts<D> {
         buffer: &Bytes,
     ) -> Result<(D::Room, Places), AllocError>
         requires rooms { D.rooms_out self.old.device [] }
-        requires bounded { IsBounded (D.seen self.old.device).rules below.now }
+        requires bounded { IsBounded (D.view self.old.device).rules below.now }
         requires few { slab_len self.old.tables.requests < 2 ^ 32 }
         ensures limits { self.new.limits ≡ self.old.limits }
-        ensures device { Reserves (D.seen self.old.device) (D.seen self.new.device) }
+        ensures device { Reserves (D.view self.old.device) (D.view self.new.device) }
+        ensures unless_write { below.now.kind ≢ Write → D.view self.new.device ≡ D.view self.old.device }
         ensures tables { KeepsAnswers self.old.tables self.new.tables }
         ensures buffers { IfOk result (λ made. HasBuffers below.now.kind buffer.now made.1) }
         ensures room { IfOk result (λ made. D.request_of made.0 ≡ below.now) }
         ensures ready { IfOk result (λ made. D.ready made.0) }
         ensures rooms { IfOk result (λ made. D.rooms_out self.new.device (made.0 ∷ [])) }
-        ensures place { OnOk result (deque_len self.new.tables.waiting + (slab_len self.new.tables.requests + 1) ≤ deque_capacity self.new.tables.waiting) }
+        ensures place { OnOk result (deque_len self.new.tables.untaken + (slab_len self.new.tables.requests + 1) ≤ deque_capacity self.new.tables.untaken) }
         ensures refused { OnErr result (D.rooms_out self.new.device []) }
     {
         let most = self.tables.requests.len() + 1;
-        self.tables.waiting.reserve(most)?;
+        self.tables.untaken.reserve(most)?;
         let places = places_for(alloc, below.kind, buffer)?;
         let room = self.device.reserve(below)?;
         Ok((room, places))
@@ -68,18 +70,18 @@ impl<D: Device> Parts<D> {
         requires locations { D.STACK_SIZE ≤ 4 }
         requires rooms { D.rooms_out self.old.device (room ∷ []) }
         requires ready { D.ready room }
-        requires sound { IsSound self.old.limits (D.seen self.old.device) self.old.tables }
+        requires sound { IsSound self.old.limits (D.view self.old.device) self.old.tables }
         requires untold { self.old.tables.labels.items ≡ [] }
-        requires admissible { IsAdmissible (view_of self.old.limits (D.seen self.old.device) self.old.tables) request }
+        requires admissible { IsAdmissible (view_of self.old.limits (D.view self.old.device) self.old.tables) request }
         requires room { D.request_of room ≡ request_on_disk self.old.limits request }
         requires buffers { HasBuffers request.kind buffer places }
         requires length { request.length ≡ length buffer }
-        requires place { deque_len self.old.tables.waiting + (slab_len self.old.tables.requests + 1) ≤ deque_capacity self.old.tables.waiting }
+        requires place { deque_len self.old.tables.untaken + (slab_len self.old.tables.requests + 1) ≤ deque_capacity self.old.tables.untaken }
         ensures rooms { D.rooms_out self.new.device [] }
         ensures limits { self.new.limits ≡ self.old.limits }
-        ensures sound { IsSound self.new.limits (D.seen self.new.device) self.new.tables }
+        ensures sound { IsSound self.new.limits (D.view self.new.device) self.new.tables }
         ensures number { result.number ≡ self.old.tables.next_request }
-        ensures sent { IsSent (D.seen self.old.device) self.old.tables handle request (request_on_disk self.old.limits request) places.copies buffer result.slot (D.seen self.new.device) self.new.tables }
+        ensures sent { IsSent (D.view self.old.device) self.old.tables handle request (request_on_disk self.old.limits request) places.copies buffer result.slot (D.view self.new.device) self.new.tables }
     {
         let below = self.limits.request_below(&request);
         let number = self.tables.next_request;

@@ -2,7 +2,7 @@
 
 ghost use Rattle.std.specs.Prelude.{◌≡◌, [], IfOk, IfErr, MatchResult};
 ghost use Rattle.machine.specs.Settled.{Settled};
-ghost use Rattle.compose.specs.Right.{IsRight, IsWhole, TakesAnswer, TakesLabel as TakesFirst};
+ghost use Rattle.compose.specs.Right.{IsRight, FitsTogether, TakesAnswer, TakesLabel as TakesFirst};
 ghost use Rattle.compose.specs.Opening.{IsFirstView};
 ghost use Rattle.compose.specs.Runs.{CarriesAll, IsLawful, StopsAfter};
 ghost use Rattle.compose.specs.Start.{IsIdle, IsSpent};
@@ -58,7 +58,7 @@ impl<A: Adapter> Stack<A> {
         requires taken { self.old.labels ≡ [] }
         ensures right { IsRight self.old event result self.new }
         ensures settled { Settled self.new.rules self.new.state }
-        ensures whole { IsWhole self.new }
+        ensures whole { FitsTogether self.new }
     {
         self.manager.step(alloc, event)
     }
@@ -90,7 +90,7 @@ impl<A: Adapter> Stack<A> {
         ensures lawful { MatchResult result (λ shown. IsLawful self.old shown.items self.new) (λ stopped. IsLawful self.old stopped.shown.items self.new) }
         ensures taken { self.new.labels ≡ [] }
         ensures settled { Settled self.new.rules self.new.state }
-        ensures whole { IsWhole self.new }
+        ensures whole { FitsTogether self.new }
     {
         self.manager.run(alloc, events)
     }

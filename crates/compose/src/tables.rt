@@ -52,7 +52,7 @@ pub(crate) struct Tables {
     /// The labels of the answers of this step, by rising numbers.
     pub(crate) answered: VecDeque<Answer>,
     /// Answers not yet taken, by rising numbers.
-    pub(crate) waiting: VecDeque<Answer>,
+    pub(crate) untaken: VecDeque<Answer>,
 }
 
 /// A refusal, with the caller's bytes.

@@ -21,10 +21,10 @@ use Rattle.machine.specs.Answering.{HasEnded, Answers, information}
 use Rattle.machine.specs.Holding.{Cancels, Pauses, Resumes, Drains}
 use Rattle.machine.specs.Settled.{Settled}
 use Rattle.machine.specs.Step.{as_label, Run}
-use Rattle.device.specs.Seen.{Seen, Packet, Carries, payload_bytes, sent_bytes}
+use Rattle.device.specs.View.{DeviceView, Packet, Carries, payload_bytes, sent_bytes}
 
 -- the machine and the adapter move by just these labels
-pub record Moves (old : Seen) (labels : List DeviceLabel) (new : Seen) : Type 0 where
+pub record Moves (old : DeviceView) (labels : List DeviceLabel) (new : DeviceView) : Type 0 where
   pub same_rules : new.rules ≡ old.rules
   pub same_packets : IsPermutation new.packets old.packets
   pub same_submitted : new.submitted ≡ old.submitted
@@ -33,7 +33,7 @@ pub record Moves (old : Seen) (labels : List DeviceLabel) (new : Seen) : Type 0 
   pub adapter : MovesByAll old.adapter labels new.adapter
 
 -- all but the machine stays
-pub record IsBeside (old new : Seen) : Type 0 where
+pub record IsBeside (old new : DeviceView) : Type 0 where
   pub same_rules : new.rules ≡ old.rules
   pub same_packets : IsPermutation new.packets old.packets
   pub same_submitted : new.submitted ≡ old.submitted
@@ -41,12 +41,12 @@ pub record IsBeside (old new : Seen) : Type 0 where
   pub same_adapter : new.adapter ≡ old.adapter
 
 -- places are made, and no more
-pub record Reserves (old new : Seen) : Type 0 where
+pub record Reserves (old new : DeviceView) : Type 0 where
   pub same : new ≡ record old { adapter = record old.adapter { reserved = new.adapter.reserved } }
   pub adapter : ReservesMore old.adapter new.adapter
 
 -- a packet is taken in: its request is opened, and then pieces are started
-pub record Submits (old : Seen) (packet : Packet) (request : Request) (payload : Payload) (new : Seen) : Type 0 where
+pub record Submits (old : DeviceView) (packet : Packet) (request : Request) (payload : Payload) (new : DeviceView) : Type 0 where
   pub opened : State
   pub starts : List DeviceLabel
   pub opens : Opens old.rules old.state packet.number (as_client old.rules request (sent_bytes request.kind payload)) opened
@@ -67,7 +67,7 @@ IsActOrFault number (Start piece tag block) = ⊥
 IsActOrFault number (Return piece class) = ⊥
 
 -- the fresh piece of the tag acts or faults
-pub record ActsOn (old : Seen) (tag : ℕ) (new : Seen) : Type 0 where
+pub record ActsOrFaults (old : DeviceView) (tag : ℕ) (new : DeviceView) : Type 0 where
   pub piece : Piece
   pub label : DeviceLabel
   pub fresh : IsFreshOn old.state tag piece
@@ -75,12 +75,12 @@ pub record ActsOn (old : Seen) (tag : ℕ) (new : Seen) : Type 0 where
   pub moves : Moves old (label ∷ []) new
 
 -- no fresh piece is on the tag, and nothing changes
-pub record ActsNot (old : Seen) (tag : ℕ) (new : Seen) : Type 0 where
+pub record ActsNot (old : DeviceView) (tag : ℕ) (new : DeviceView) : Type 0 where
   pub none : (piece : Piece) → IsFreshOn old.state tag piece → ⊥
   pub same : new ≡ old
 
 -- the piece of the tag comes back, and then pieces are started
-pub record Finishes (old : Seen) (tag : ℕ) (new : Seen) : Type 0 where
+pub record Finishes (old : DeviceView) (tag : ℕ) (new : DeviceView) : Type 0 where
   pub piece : Piece
   pub class : Class
   pub starts : List DeviceLabel
@@ -90,7 +90,7 @@ pub record Finishes (old : Seen) (tag : ℕ) (new : Seen) : Type 0 where
   pub moves : Moves old (Return piece.number class ∷ starts) new
 
 -- no piece is on the tag, and nothing changes
-pub record FinishesNot (old : Seen) (tag : ℕ) (new : Seen) : Type 0 where
+pub record FinishesNot (old : DeviceView) (tag : ℕ) (new : DeviceView) : Type 0 where
   pub free : All (HasOtherTag tag) old.state.pieces
   pub same : new ≡ old
 
@@ -107,7 +107,7 @@ abbrev pub piece_tag : Piece → ℕ
 piece_tag piece = piece.tag
 
 -- each fresh piece faults, by rising tags, and then the adapter notes the reset
-pub record Resets (old new : Seen) : Type 0 where
+pub record Resets (old new : DeviceView) : Type 0 where
   pub fresh : List Piece
   pub all_faulted : AdapterView
   pub all_fresh : IsPermutation fresh (filter is_fresh_piece old.state.pieces)
@@ -120,7 +120,7 @@ abbrev pub NoneToCancel : State → ℕ → Type 0
 NoneToCancel s number = (s' : State) → Cancels s number s' → ⊥
 
 -- the request of this number is cancelled, where it is open and not cancelled yet, and no label is recorded
-pub record CancelsIfOpen (old : Seen) (number : ℕ) (new : Seen) : Type 0 where
+pub record CancelsIfOpen (old : DeviceView) (number : ℕ) (new : DeviceView) : Type 0 where
   pub one_of : (Cancels old.state number new.state × IsBeside old new) ⊎ (NoneToCancel old.state number × (new ≡ old))
 
 -- the packet with this spot and this number
@@ -133,22 +133,22 @@ abbrev pub HasOtherNumber : ℕ → Packet → Type 0
 HasOtherNumber number packet = packet.number ≢ number
 
 -- a packet is cancelled by its spot as by its number; where no packet has the number, nothing changes
-pub record CancelsAt (old : Seen) (spot number : ℕ) (new : Seen) : Type 0 where
+pub record CancelsAt (old : DeviceView) (spot number : ℕ) (new : DeviceView) : Type 0 where
   pub there : Any (IsAt spot number) old.packets → CancelsIfOpen old number new
   pub gone : All (HasOtherNumber number) old.packets → new ≡ old
 
 -- the layer's removal, and no label is recorded
-pub record DrainsAll (old new : Seen) : Type 0 where
+pub record DrainsAll (old new : DeviceView) : Type 0 where
   pub drains : Drains old.rules old.state new.state
   pub beside : IsBeside old new
 
 -- the layer holds from now on, and no label is recorded
-pub record PausesAll (old new : Seen) : Type 0 where
+pub record PausesAll (old new : DeviceView) : Type 0 where
   pub pauses : Pauses old.rules old.state new.state
   pub beside : IsBeside old new
 
 -- the layer holds no longer, and then pieces are started
-pub record ResumesAll (old new : Seen) : Type 0 where
+pub record ResumesAll (old new : DeviceView) : Type 0 where
   pub resumed : State
   pub starts : List DeviceLabel
   pub resumes : Resumes old.state resumed
@@ -169,7 +169,7 @@ abbrev pub sectors_moved : Rules → Request → Payload → List (List ℕ)
 sectors_moved rules r payload = cut (place_count rules (as_client rules r [])) rules.sector_size (payload_bytes payload)
 
 -- the request of a packet is answered, the packet climbs with its room, and then pieces of others are started
-pub record HandsUp (takes_srb : Bool) (old : Seen) (request : Request) (climb : Climb) (new : Seen) : Type 0 where
+pub record HandsUp (takes_srb : Bool) (old : DeviceView) (request : Request) (climb : Climb) (new : DeviceView) : Type 0 where
   pub packet : Packet
   pub others : List Packet
   pub payload : Payload
@@ -193,19 +193,21 @@ pub record HandsUp (takes_srb : Bool) (old : Seen) (request : Request) (climb : 
   pub brings_routine : BringsRoutine packet.cancel_routine climb
   pub only_starts : All IsStart starts
   pub moves : Moves (record old { state = answered; packets = others }) starts new
+  -- where nothing is held back by a window and none is started, the adapter stays as it was
+  pub still : old.rules.window ≡ None → starts ≡ [] → new.adapter ≡ old.adapter
 
 -- some place of the request has not ended
 abbrev pub IsUnfinished : Rules → State → OpenRequest → Type 0
 IsUnfinished rules s o = All (HasEnded rules s o) o.marks → ⊥
 
 -- nothing that has ended waits, and the layer is settled
-pub record HandsUpNone (old new : Seen) : Type 0 where
+pub record HandsUpNone (old new : DeviceView) : Type 0 where
   pub unfinished : All (IsUnfinished old.rules old.state) old.state.requests
   pub settled : Settled old.rules old.state
   pub same : new ≡ old
 
 -- the earliest label of the adapter is taken
-abbrev pub TakesLabel : Seen → Option DeviceLabel → Seen → Type 0
+abbrev pub TakesLabel : DeviceView → Option DeviceLabel → DeviceView → Type 0
 TakesLabel old None new = (old.adapter.labels ≡ []) × (new ≡ old)
 TakesLabel old (Some label) new =
     (rest : List DeviceLabel) × (old.adapter.labels ≡ label ∷ rest) × (new ≡ record old { adapter = record old.adapter { labels = rest } })

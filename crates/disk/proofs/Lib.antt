@@ -1,4 +1,7 @@
+mod Chunked
 mod Cutting
 pub mod Laws
 mod Looking
+mod Overwriting
 mod Shown
+mod SparseShown

@@ -7,10 +7,9 @@ use Rattle.disk.specs.Medium.{IsWithin, StartsWith, IsBlank}
 use Rattle.disk.specs.VecDisk.{shown}
 use Rattle.disk.proofs.Cutting.{length-first_chunks, blank_from_concat}
 
--- an extent within what is shown lies within the disk that passed
-pub within_sectors : (old new : VecDisk) (extent : Extent) → new ≡ old → IsWithin (shown old) extent → extent.first + extent.count ≤ new.sectors
-within_sectors old new extent same within =
-    omega (arith, within, ap (λ (disk : VecDisk). disk.sectors) same, length-first_chunks old.sector_size old.sectors old.bytes.items)
+-- an extent within what is shown lies within the disk
+pub within_sectors : (disk : VecDisk) (extent : Extent) → IsWithin (shown disk) extent → extent.first + extent.count ≤ disk.sectors
+within_sectors disk extent within = omega (arith, within, length-first_chunks disk.sector_size disk.sectors disk.bytes.items)
 
 -- a disk that starts with no bytes is blank
 blank_from_start : (size count : ℕ) (disk : VecDisk) → StartsWith (shown disk) size count [] → IsBlank (shown disk) size count

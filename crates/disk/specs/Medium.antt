@@ -19,8 +19,8 @@ pub record MediumView : Type 0 where
   pub failures : ℕ
 
 -- each sector is as long as a sector has to be
-abbrev pub IsWhole : MediumView → Type 0
-IsWhole view = All (IsSector view.sector_size) view.sectors
+abbrev pub HasWholeSectors : MediumView → Type 0
+HasWholeSectors view = All (IsSector view.sector_size) view.sectors
 
 -- the extent lies within the medium
 abbrev pub IsWithin : MediumView → Extent → Type 0

@@ -11,5 +11,5 @@ shown disk = record {
   sectors = first_chunks disk.sector_size disk.sectors disk.bytes.items;
   bad = disk.bad.sectors.items;
   reserved = (record { first = 0; count = disk.sectors }) ∷ [];
-  failures = disk.failures;
+  failures = disk.bad.failures;
 }

@@ -1,30 +1,50 @@
-//! The sectors that can't be read or written, looked up by halves.
+//! The sectors that can't be read or written, looked up by halves, and the calls that failed at one.
 
-ghost use Rattle.std.specs.Prelude.{◌≡◌, ℕ, ◌<◌, ◌≤◌, ◌↔◌, IsTrue, Contains, length, slice_index};
+ghost use Rattle.std.specs.Prelude.{◌≡◌, ℕ, ◌+◌, ◌^◌, ◌<◌, ◌≤◌, ◌↔◌, IsTrue, IsErr, OnOk, OnErr, Contains, length, slice_index};
 ghost use Rattle.std.specs.List.Sorted.{IsStrictlyIncreasing};
 ghost use Rattle.sector.specs.Extents.{IsIn};
 
+use crate::BadSector;
 use sector::Extent;
 
-/// Numbers of sectors, each once and in rising order.
+/// Numbers of sectors, each once and in rising order, and how many calls failed at one of them.
 #[derive(Debug, Drop)]
 pub struct BadList {
     pub sectors: Vec<u64>,
+    pub failures: u128,
     ghost rising: { IsStrictlyIncreasing sectors.items },
 }
 
 impl BadList {
-    /// The numbers, in any order and perhaps more than once, put in order in the same memory.
+    /// The numbers, in any order and perhaps more than once, put in order in the same memory. No call failed yet.
     pub fn new(mut sectors: Vec<u64>) -> BadList
-        ensures { (sector : ℕ) → Contains result.sectors.items sector ↔ Contains sectors.items sector }
+        ensures same { (sector : ℕ) → Contains result.sectors.items sector ↔ Contains sectors.items sector }
+        ensures none_failed { result.failures ≡ 0 }
     {
         sectors.sort_unstable();
         sectors.dedup();
-        BadList { sectors }
+        BadList {
+            sectors,
+            failures: 0,
+        }
+    }
+
+    /// Counts a failure where a sector of the extent is one of these.
+    pub fn check(&mut self, extent: Extent) -> Result<(), BadSector>
+        requires { self.old.failures < 2 ^ 120 }
+        ensures refused { IsErr result ↔ ((sector : ℕ) × Contains self.old.sectors.items sector × IsIn sector extent) }
+        ensures passes { OnOk result (self.new ≡ self.old) }
+        ensures fails { OnErr result (self.new ≡ record self.old { failures = self.old.failures + 1 }) }
+    {
+        if self.meets(extent) {
+            self.failures += 1;
+            return Err(BadSector);
+        }
+        Ok(())
     }
 
     /// Whether a sector of the extent is one of these.
-    pub fn meets(&self, extent: Extent) -> bool
+    fn meets(&self, extent: Extent) -> bool
         ensures { IsTrue result ↔ ((sector : ℕ) × Contains self.now.sectors.items sector × IsIn sector extent) }
     {
         let bad = self.sectors.as_slice();

@@ -2,15 +2,20 @@
 //!
 //! Promises to the crate above, by the contract of [`Medium`]: it is seen as a list of sectors, each of `sector_size`
 //! bytes; a read gives the bytes that stand in its extent, a write replaces the sectors of its extent alone, and a call
-//! whose extent holds a bad sector fails whole, changes nothing and is counted. No other call fails.
+//! whose extent holds a bad sector fails whole, changes nothing and is counted. No other call fails. [`VecDisk`] keeps all
+//! sectors in one block of memory, [`SparseDisk`] those chunks alone that were reserved.
 //!
 //! Doesn't promise that anything stands after the process ends.
 #![tactic(auto)]
 
 mod bad_list;
+mod chunks;
+mod places;
+mod sparse_disk;
 mod vec_disk;
 
 use sector::Extent;
+pub use sparse_disk::SparseDisk;
 use std::alloc::AllocError;
 use thiserror::Error;
 pub use vec_disk::VecDisk;
@@ -34,21 +39,21 @@ pub struct BadSector;
 /// The sectors of a disk.
 pub trait Medium: Drop {
     ghost use Rattle.std.specs.Prelude.{◌≡◌, ◌<◌, ◌^◌, ◌*◌, ◌↔◌, ℕ, length, IsErr, OnOk, OnErr};
-    ghost use Rattle.disk.specs.Medium.{MediumView, IsWhole, IsWithin, IsReserved, HasBad, Reserves, Reads, Writes, failed};
+    ghost use Rattle.disk.specs.Medium.{MediumView, HasWholeSectors, IsWithin, IsReserved, HasBad, Reserves, Reads, Writes, failed};
 
-    ghost seen: { Self → MediumView };
+    ghost view: { Self → MediumView };
 
     /// The bytes of one sector.
     fn sector_size(&self) -> u32
-        ensures { result ≡ (seen self.now).sector_size };
+        ensures { result ≡ (view self.now).sector_size };
 
     /// The number of sectors.
     fn sectors(&self) -> u64
-        ensures { result ≡ length (seen self.now).sectors };
+        ensures { result ≡ length (view self.now).sectors };
 
     /// The number of calls that failed.
     fn failures(&self) -> u128
-        ensures { result ≡ (seen self.now).failures };
+        ensures { result ≡ (view self.now).failures };
 
     /// Makes room for writes of an extent, for good.
     ///
@@ -56,9 +61,9 @@ pub trait Medium: Drop {
     ///
     /// [`NoMemory`] where a growth was refused; room may then have been made for a part of the extent.
     fn reserve(&mut self, extent: Extent) -> Result<(), NoMemory>
-        requires { IsWithin (seen self.old) extent }
-        ensures reserved { OnOk result (IsReserved (seen self.new) extent) }
-        ensures reserves { Reserves (seen self.old) (seen self.new) };
+        requires { IsWithin (view self.old) extent }
+        ensures reserved { OnOk result (IsReserved (view self.new) extent) }
+        ensures reserves { Reserves (view self.old) (view self.new) };
 
     /// Reads the bytes of an extent within the medium into a buffer of just as many bytes.
     ///
@@ -66,13 +71,13 @@ pub trait Medium: Drop {
     ///
     /// [`BadSector`], counted, exactly where a sector of the extent is bad; the buffer then stays as it was.
     fn read(&mut self, extent: Extent, buffer: &mut [u8]) -> Result<(), BadSector>
-        requires within { IsWithin (seen self.old) extent }
-        requires long { length buffer.old ≡ extent.count * (seen self.old).sector_size }
-        requires countable { (seen self.old).failures < 2 ^ 120 }
-        ensures refused { IsErr result ↔ HasBad (seen self.old) extent }
-        ensures reads { OnOk result (Reads (seen self.old) extent buffer.new (seen self.new)) }
+        requires within { IsWithin (view self.old) extent }
+        requires long { length buffer.old ≡ extent.count * (view self.old).sector_size }
+        requires countable { (view self.old).failures < 2 ^ 120 }
+        ensures refused { IsErr result ↔ HasBad (view self.old) extent }
+        ensures reads { OnOk result (Reads (view self.old) extent buffer.new (view self.new)) }
         ensures buffer { OnErr result (buffer.new ≡ buffer.old) }
-        ensures fails { OnErr result (seen self.new ≡ failed (seen self.old)) };
+        ensures fails { OnErr result (view self.new ≡ failed (view self.old)) };
 
     /// Writes the bytes of an extent within the medium that was reserved before.
     ///
@@ -80,15 +85,15 @@ pub trait Medium: Drop {
     ///
     /// [`BadSector`], counted, exactly where a sector of the extent is bad; nothing is then written.
     fn write(&mut self, extent: Extent, bytes: &[u8]) -> Result<(), BadSector>
-        requires within { IsWithin (seen self.old) extent }
-        requires reserved { IsReserved (seen self.old) extent }
-        requires long { length bytes.now ≡ extent.count * (seen self.old).sector_size }
-        requires countable { (seen self.old).failures < 2 ^ 120 }
-        ensures refused { IsErr result ↔ HasBad (seen self.old) extent }
-        ensures writes { OnOk result (Writes (seen self.old) extent bytes.now (seen self.new)) }
-        ensures fails { OnErr result (seen self.new ≡ failed (seen self.old)) };
+        requires within { IsWithin (view self.old) extent }
+        requires reserved { IsReserved (view self.old) extent }
+        requires long { length bytes.now ≡ extent.count * (view self.old).sector_size }
+        requires countable { (view self.old).failures < 2 ^ 120 }
+        ensures refused { IsErr result ↔ HasBad (view self.old) extent }
+        ensures writes { OnOk result (Writes (view self.old) extent bytes.now (view self.new)) }
+        ensures fails { OnErr result (view self.new ≡ failed (view self.old)) };
 
-    ghost whole: { (medium : Self) → IsWhole (seen medium) };
+    ghost whole: { (medium : Self) → HasWholeSectors (view medium) };
 }
 
 #[cfg(test)]

@@ -3,6 +3,7 @@
 ghost use Rattle.std.specs.Prelude.{◌≡◌, ℕ, ◌*◌, ◌<◌, ◌≤◌, ◌+◌, ◌^◌, ◌↔◌, length, IfOk, IsOk, IsErr, OnOk, OnErr, Contains};
 
 use crate::bad_list::BadList;
+use crate::places::places;
 use crate::{BadSector, Medium, NoMemory};
 use sector::Extent;
 use std::alloc::Global;
@@ -14,7 +15,6 @@ pub struct VecDisk {
     sectors: u64,
     bytes: Vec<u8>,
     bad: BadList,
-    failures: u128,
     ghost filled: { length bytes.items ≡ sectors * sector_size },
 }
 
@@ -70,22 +70,7 @@ impl VecDisk {
             sectors,
             bytes,
             bad: BadList::new(bad),
-            failures: 0,
         })
-    }
-
-    /// Counts a failure where a sector of the extent is bad.
-    fn check(&mut self, extent: Extent) -> Result<(), BadSector>
-        requires { self.old.failures < 2 ^ 120 }
-        ensures refused { IsErr result ↔ HasBad (shown self.old) extent }
-        ensures passes { OnOk result (self.new ≡ self.old) }
-        ensures fails { OnErr result (shown self.new ≡ failed (shown self.old)) }
-    {
-        if self.bad.meets(extent) {
-            self.failures += 1;
-            return Err(BadSector);
-        }
-        Ok(())
     }
 
     /// The places of the first byte of an extent and of the byte after its last.
@@ -96,10 +81,11 @@ impl VecDisk {
         ensures ordered { result.0 ≤ result.1 }
         ensures within { result.1 ≤ length self.now.bytes.items }
     {
-        let size = self.sector_size as u64;
-        let start = extent.first * size;
-        let end = (extent.first + extent.count) * size;
-        (start as usize, end as usize)
+        let whole = Extent {
+            first: 0,
+            count: self.sectors,
+        };
+        places(self.sector_size, whole, extent)
     }
 }
 
@@ -108,18 +94,19 @@ impl Medium for VecDisk {
     ghost use Rattle.disk.specs.VecDisk.{shown};
     ghost use Rattle.disk.specs.Chunks.{All-first_chunks};
 
-    ghost seen = { shown };
+    ghost view = { shown };
 
     fn sector_size(&self) -> u32 {
         self.sector_size
     }
 
     fn sectors(&self) -> u64 {
+        // Sectors, not bytes.
         self.sectors
     }
 
     fn failures(&self) -> u128 {
-        self.failures
+        self.bad.failures
     }
 
     /// Takes no memory, since the block holds all sectors.
@@ -134,14 +121,14 @@ impl Medium for VecDisk {
     }
 
     fn read(&mut self, extent: Extent, buffer: &mut [u8]) -> Result<(), BadSector> {
-        self.check(extent)?;
+        self.bad.check(extent)?;
         let (start, end) = self.places(extent);
         buffer.copy_from_slice(&self.bytes[start..end]);
         Ok(())
     }
 
     fn write(&mut self, extent: Extent, bytes: &[u8]) -> Result<(), BadSector> {
-        self.check(extent)?;
+        self.bad.check(extent)?;
         let (start, end) = self.places(extent);
         self.bytes[start..end].copy_from_slice(bytes);
         Ok(())

@@ -16,7 +16,7 @@ use Rattle.machine.specs.declared.Label.TheVariants.{Device}
 use Rattle.machine.specs.Rules.{Rules, place_count}
 use Rattle.machine.specs.State.{Mark, Untouched, Out, Done, Failed, Back, OpenRequest, Piece, State, IsSame, opening}
 use Rattle.machine.specs.Calling.{Opens, new_request}
-use Rattle.machine.specs.Sending.{Leaves, status_of_completion, is_untouched, Returns, sent, given_back, one_if_busy}
+use Rattle.machine.specs.Sending.{LeavesMarks, status_of_completion, is_untouched, Returns, sent, given_back, one_if_busy}
 use Rattle.machine.specs.Answering.{Answers}
 use Rattle.machine.specs.Holding.{Cancels, held_back, beyond, as_cancelled, Drains}
 use Rattle.machine.specs.Step.{DeviceStep, Run, as_label}
@@ -42,7 +42,7 @@ none_yet busy (Failed status ∷ marks) some waits h = absurd (cc (waits))
 none_yet busy (Back ∷ marks) some waits h = absurd (cc (waits))
 
 -- what a piece leaves, where its request did not come back before
-left_counted : (piece : Piece) (class : Class) (marks : List Mark) (busy : ℕ) → busy ≡ 0 → Leaves piece class marks → All (IsBusyBy (busy + one_if_busy class)) marks
+left_counted : (piece : Piece) (class : Class) (marks : List Mark) (busy : ℕ) → busy ≡ 0 → LeavesMarks piece class marks → All (IsBusyBy (busy + one_if_busy class)) marks
 left_counted piece Good marks busy none h = rw h.2 (All-map (IsBusyBy (busy + 0)) Done h.0 (λ j d low. omega (arith, none)))
 left_counted piece Busy marks busy none h = rw h.1 (All-replicate (IsBusyBy (busy + 1)) piece.places.count Back (omega (arith, none)))
 left_counted piece (Bad completion) marks busy none h =

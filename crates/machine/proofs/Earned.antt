@@ -20,7 +20,7 @@ use Rattle.machine.specs.declared.Label.TheVariants.{Call, Device, Answer, Cance
 use Rattle.machine.specs.Rules.{Rules, place_count}
 use Rattle.machine.specs.State.{Mark, Untouched, Out, Done, Failed, Back, OpenRequest, Piece, State, IsSame, opening}
 use Rattle.machine.specs.Calling.{Opens, Admits, refusal, new_request}
-use Rattle.machine.specs.Sending.{Leaves, status_of_completion, sent, given_back}
+use Rattle.machine.specs.Sending.{LeavesMarks, status_of_completion, sent, given_back}
 use Rattle.machine.specs.Answering.{Answers}
 use Rattle.machine.specs.Holding.{held_back, beyond, as_timely, as_cancelled, Drains}
 use Rattle.machine.specs.Step.{DeviceStep, FreeStep, OwingStep, Step, Run}
@@ -57,10 +57,10 @@ bad_status c e =
 -- EACH STEP KEEPS IT
 
 -- the marks that a piece leaves, in the request that it leaves them in
-Leaves-earned : (piece : Piece) (class : Class) (marks : List Mark) (marked : List Mark) (o : OpenRequest) → Leaves piece class marks → All (IsEarned (given_back piece class marked o)) marks
-Leaves-earned piece Good marks marked o h = rw h.2 (All-map (IsEarned (given_back piece Good marked o)) Done h.0 (λ k d low. tt))
-Leaves-earned piece Busy marks marked o h = rw h.1 (All-replicate (IsEarned (given_back piece Busy marked o)) piece.places.count Back (omega arith))
-Leaves-earned piece (Bad completion) marks marked o h =
+LeavesMarks-earned : (piece : Piece) (class : Class) (marks : List Mark) (marked : List Mark) (o : OpenRequest) → LeavesMarks piece class marks → All (IsEarned (given_back piece class marked o)) marks
+LeavesMarks-earned piece Good marks marked o h = rw h.2 (All-map (IsEarned (given_back piece Good marked o)) Done h.0 (λ k d low. tt))
+LeavesMarks-earned piece Busy marks marked o h = rw h.1 (All-replicate (IsEarned (given_back piece Busy marked o)) piece.places.count Back (omega arith))
+LeavesMarks-earned piece (Bad completion) marks marked o h =
     rw h.1 (All-replicate (IsEarned (given_back piece (Bad completion) marked o)) piece.places.count (Failed (status_of_completion completion)) (bad_status completion h.0))
 
 -- more busy returns, and the marks that were earned with fewer
@@ -97,7 +97,7 @@ module _ (rules : Rules) where
       HaveEarned-same s' _ h.after (All-changed HasEarned s.requests h.owner (given_back h.piece class h.marks h.owner) h.others h.is_open k
       (λ all. All-splice (IsEarned (given_back h.piece class h.marks h.owner)) h.owner.marks h.piece.places.first h.marks
       (All-weaker (IsEarned h.owner) (IsEarned (given_back h.piece class h.marks h.owner)) (IsEarned-more h.owner (given_back h.piece class h.marks h.owner) _ refl) h.owner.marks all)
-      (Leaves-earned h.piece class h.marks h.marks h.owner h.leaves)))
+      (LeavesMarks-earned h.piece class h.marks h.marks h.owner h.leaves)))
 
   held_earned : (window : Option ℕ) (xs : List OpenRequest) → All HasEarned xs → All HasEarned (held_back window xs)
   held_earned None xs h = h

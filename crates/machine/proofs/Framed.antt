@@ -35,7 +35,7 @@ IsSame-framed f s t h = record {
 }
 
 module _ (f : Frame) (window : Option ℕ) (rules : Rules) where
-  DeviceStep-framed : (s : State) (label : DeviceLabel) (s' : State) → AllMayPass f s → DeviceStep rules s label s' → DeviceStep (with_window window rules) (framed f s) label (framed f s')
+  pub DeviceStep-framed : (s : State) (label : DeviceLabel) (s' : State) → AllMayPass f s → DeviceStep rules s label s' → DeviceStep (with_window window rules) (framed f s) label (framed f s')
   DeviceStep-framed s (Start number tag block) s' pass h =
       let mine : MayPass f h.owner = All-head (MayPass f) h.owner h.others (All-permutation (MayPass f) _ _ h.is_open pass) in
       record {
@@ -51,7 +51,7 @@ module _ (f : Frame) (window : Option ℕ) (rules : Rules) where
           not_held = mine.timely;
           in_turn = All-append (IsInTurn h.owner) _ _ h.may_start.in_turn mine.ahead;
         };
-        sendable = record { some = h.sendable.some; short = h.sendable.short; inside = h.sendable.inside; waiting = h.sendable.waiting; whole = h.sendable.whole };
+        sendable = record { some = h.sendable.some; short = h.sendable.short; inside = h.sendable.inside; unsent = h.sendable.unsent; whole = h.sendable.whole };
         asks = h.asks;
         after = IsSame-framed f s' _ h.after;
       }
@@ -90,7 +90,7 @@ module _ (f : Frame) (window : Option ℕ) (rules : Rules) where
   }
 
   -- a step of the device changes no number and no lateness, so those below may still pass
-  DeviceStep-passes : (s : State) (label : DeviceLabel) (s' : State) → AllMayPass f s → DeviceStep rules s label s' → AllMayPass f s'
+  pub DeviceStep-passes : (s : State) (label : DeviceLabel) (s' : State) → AllMayPass f s → DeviceStep rules s label s' → AllMayPass f s'
   DeviceStep-passes s (Start number tag block) s' pass h =
       All-permutation (MayPass f) _ _ (IsPermutation-sym _ _ h.after.requests)
       (All-changed (MayPass f) s.requests h.owner _ h.others h.is_open pass (λ mine. record { timely = mine.timely; ahead = mine.ahead }))
@@ -100,13 +100,13 @@ module _ (f : Frame) (window : Option ℕ) (rules : Rules) where
       All-permutation (MayPass f) _ _ (IsPermutation-sym _ _ h.after.requests)
       (All-changed (MayPass f) s.requests h.owner _ h.others h.is_open pass (λ mine. record { timely = mine.timely; ahead = mine.ahead }))
 
-  Run-framed : (s : State) (labels : List DeviceLabel) (s' : State) → AllMayPass f s → Run rules s (map Device labels) s' → Run (with_window window rules) (framed f s) (map Device labels) (framed f s')
+  pub Run-framed : (s : State) (labels : List DeviceLabel) (s' : State) → AllMayPass f s → Run rules s (map Device labels) s' → Run (with_window window rules) (framed f s) (map Device labels) (framed f s')
   Run-framed s [] s' pass h = IsSame-framed f s s' h
   Run-framed s (label ∷ labels) s' pass (mid, inl (free, step), rest) =
       (framed f mid, inl (free, DeviceStep-framed s label mid pass step), Run-framed mid labels s' (DeviceStep-passes s label mid pass step) rest)
   Run-framed s (label ∷ labels) s' pass (mid, inr none, rest) = absurd none
 
-  Answers-framed : (s : State) (number : ℕ) (status : NtStatus) (bytes : List ℕ) (s' : State) → Answers rules s number status bytes s' → Answers (with_window window rules) (framed f s) number status bytes (framed f s')
+  pub Answers-framed : (s : State) (number : ℕ) (status : NtStatus) (bytes : List ℕ) (s' : State) → Answers rules s number status bytes s' → Answers (with_window window rules) (framed f s) number status bytes (framed f s')
   Answers-framed s number status bytes s' h = record {
     request = h.request;
     others = h.others ++ f.held;
@@ -119,7 +119,7 @@ module _ (f : Frame) (window : Option ℕ) (rules : Rules) where
     after = IsSame-framed f s' _ h.after;
   }
 
-  Cancels-framed : (s : State) (number : ℕ) (s' : State) → Cancels s number s' → Cancels (framed f s) number (framed f s')
+  pub Cancels-framed : (s : State) (number : ℕ) (s' : State) → Cancels s number s' → Cancels (framed f s) number (framed f s')
   Cancels-framed s number s' h = record {
     request = h.request;
     others = h.others ++ f.held;
@@ -130,7 +130,7 @@ module _ (f : Frame) (window : Option ℕ) (rules : Rules) where
   }
 
   -- a held request that is sent down leaves the layer's own machine as it was
-  Opens-framed : (s : State) (number : ℕ) (q : ClientRequest) (s' : State) → Opens rules s number q s' → IsSame (framed (record f { held = new_request rules s number q ∷ f.held }) s) (framed f s')
+  pub Opens-framed : (s : State) (number : ℕ) (q : ClientRequest) (s' : State) → Opens rules s number q s' → IsSame (framed (record f { held = new_request rules s number q ∷ f.held }) s) (framed f s')
   Opens-framed s number q s' h = record {
     arrays = sym h.after.arrays;
     next_request = refl;

@@ -18,7 +18,7 @@ use Rattle.machine.specs.declared.Label.TheVariants.{Call, Device, Answer, Cance
 use Rattle.machine.specs.Rules.{Rules, place_count}
 use Rattle.machine.specs.State.{Mark, Untouched, Out, Done, Failed, Back, OpenRequest, Piece, State, IsSame, opening}
 use Rattle.machine.specs.Calling.{Opens, Admits, refusal, new_request}
-use Rattle.machine.specs.Sending.{Leaves, status_of_completion, sent, given_back, new_piece, with_fate}
+use Rattle.machine.specs.Sending.{LeavesMarks, status_of_completion, sent, given_back, new_piece, with_fate}
 use Rattle.machine.specs.Answering.{Answers}
 use Rattle.machine.specs.Holding.{held_back, beyond, as_timely, as_cancelled, Drains}
 use Rattle.machine.specs.Step.{DeviceStep, FreeStep, OwingStep, Step, Run}
@@ -99,10 +99,10 @@ module _ (s : State) (k : AreOnePiece s) where
       }
 
 -- what a piece leaves is alike
-pub Leaves-alike : (piece : Piece) (class : Class) (marks : List Mark) → Leaves piece class marks → AreAlike marks
-Leaves-alike piece Good marks h = (Done [], rw h.2 (All-map (IsLike (Done [])) Done h.0 (λ j d low. refl)))
-Leaves-alike piece Busy marks h = (Back, rw h.1 (All-replicate (IsLike Back) piece.places.count Back refl))
-Leaves-alike piece (Bad completion) marks h =
+pub LeavesMarks-alike : (piece : Piece) (class : Class) (marks : List Mark) → LeavesMarks piece class marks → AreAlike marks
+LeavesMarks-alike piece Good marks h = (Done [], rw h.2 (All-map (IsLike (Done [])) Done h.0 (λ j d low. refl)))
+LeavesMarks-alike piece Busy marks h = (Back, rw h.1 (All-replicate (IsLike Back) piece.places.count Back refl))
+LeavesMarks-alike piece (Bad completion) marks h =
     (Failed (status_of_completion completion), rw h.1 (All-replicate (IsLike (Failed (status_of_completion completion))) piece.places.count (Failed (status_of_completion completion)) refl))
 
 AreOnePiece-same : (s t : State) → IsSame s t → AreOnePiece t → AreOnePiece s
@@ -147,7 +147,7 @@ module _ (rules : Rules) (one : IsTrue rules.one_piece) where
       let inside : p.places.first + p.places.count ≤ length o.marks = is_inside s.pieces p h.other_pieces o h.is_out covered h.is_owner mine.some in
       let n : length h.marks ≡ p.places.count = (leaves p class h.marks mine.filled h.leaves).0 in
       let e : splice o.marks p.places.first h.marks ≡ h.marks = whole_splice o.marks p.places.first h.marks (omega arith) (omega arith) in
-      AreOnePiece-same s' _ h.after (changed s k o (given_back p class h.marks o) h.others h.other_pieces refl (rw e (omega arith)) (rw e (Leaves-alike p class h.marks h.leaves)) h.is_open (All-tail (IsAll s.requests) p h.other_pieces whole))
+      AreOnePiece-same s' _ h.after (changed s k o (given_back p class h.marks o) h.others h.other_pieces refl (rw e (omega arith)) (rw e (LeavesMarks-alike p class h.marks h.leaves)) h.is_open (All-tail (IsAll s.requests) p h.other_pieces whole))
 
   pub AreOnePiece-Answers : (s : State) (number : ℕ) (status : NtStatus) (bytes : List ℕ) (s' : State) → AreOnePiece s → Answers rules s number status bytes s' → AreOnePiece s'
   AreOnePiece-Answers s number status bytes s' k h = AreOnePiece-same s' _ h.after (ended s k h.request h.others h.is_open)

@@ -23,7 +23,7 @@ use Rattle.machine.specs.declared.Label.TheVariants.{Call, Device, Answer, Cance
 use Rattle.machine.specs.Rules.{Rules, place_count}
 use Rattle.machine.specs.State.{Mark, Untouched, Out, Done, Failed, Back, OpenRequest, Piece, State, IsSame, opening}
 use Rattle.machine.specs.Calling.{Opens, Admits, refusal}
-use Rattle.machine.specs.Sending.{Leaves, IsUnsent, sent, given_back, new_piece, with_fate}
+use Rattle.machine.specs.Sending.{LeavesMarks, IsUnsent, sent, given_back, new_piece, with_fate}
 use Rattle.machine.specs.Answering.{Answers, HasEnded}
 use Rattle.machine.specs.Holding.{held_back, beyond, as_timely, as_cancelled, Drains}
 use Rattle.machine.specs.Settled.{is_out}
@@ -343,7 +343,7 @@ module _ (s : State) (k : ArePlaced s) where
 
 -- THE STEPS
 
-pub leaves : (p : Piece) (class : Class) (marks : List Mark) → HasFilled p.places.count p.fate → Leaves p class marks → (length marks ≡ p.places.count) × All (λ m. is_out m ≡ false) marks
+pub leaves : (p : Piece) (class : Class) (marks : List Mark) → HasFilled p.places.count p.fate → LeavesMarks p class marks → (length marks ≡ p.places.count) × All (λ m. is_out m ≡ false) marks
 leaves p Good marks filled h =
     let filled' : length h.0 ≡ p.places.count = subst (λ fate. HasFilled p.places.count fate) h.1 filled in
     (rw h.2 (length-map h.0 Done ∙ filled'), rw h.2 (All-map (λ m. is_out m ≡ false) Done h.0 (λ j d low. refl)))
@@ -378,7 +378,7 @@ module _ (rules : Rules) where
 
   pub ArePlaced-DeviceStep : (s : State) (label : DeviceLabel) (s' : State) → AreDistinct s → ArePlaced s → DeviceStep rules s label s' → ArePlaced s'
   ArePlaced-DeviceStep s (Start number tag block) s' d k h =
-      ArePlaced-same s' _ h.after (started s k tag h.owner h.others h.places (differ_first s h.owner h.others d h.is_open) h.sendable.some h.sendable.inside h.sendable.waiting h.is_open)
+      ArePlaced-same s' _ h.after (started s k tag h.owner h.others h.places (differ_first s h.owner h.others d h.is_open) h.sendable.some h.sendable.inside h.sendable.unsent h.is_open)
   ArePlaced-DeviceStep s (Act number bytes) s' d k h =
       ArePlaced-same s' _ h.after (same_placed (record s { pieces = with_fate (Acted h.sectors) h.piece ∷ h.other_pieces }) _ refl refl (met s k h.piece h.other_pieces (Acted h.sectors) h.covers h.fresh.is_out))
   ArePlaced-DeviceStep s (Fault number) s' d k h = ArePlaced-same s' _ h.after (met s k h.piece h.other_pieces Faulted tt h.fresh.is_out)

@@ -58,7 +58,7 @@ all_lower o (b ∷ bs) h =
     let rest : lower bs o ≡ length bs = all_lower o bs (All-tail (λ x. x.number < o.number) b bs h) in
     sum_by-cons (one_if o) b bs ∙ rw (one, rest) (omega arith)
 
-none_lower : (o : OpenRequest) (held : List OpenRequest) → All (λ b. o.number < b.number) held → lower held o ≡ 0
+pub none_lower : (o : OpenRequest) (held : List OpenRequest) → All (λ b. o.number < b.number) held → lower held o ≡ 0
 none_lower o [] h = refl
 none_lower o (b ∷ bs) h =
     let high : o.number < b.number = All-head (λ x. o.number < x.number) b bs h in
@@ -67,7 +67,7 @@ none_lower o (b ∷ bs) h =
     sum_by-cons (one_if o) b bs ∙ rw (none, rest) (omega arith)
 
 -- one of them is not lower than itself
-few_lower : (below : List OpenRequest) (k : ℕ) (d : OpenRequest) → k < length below → lower below (get_or below k d) < length below
+pub few_lower : (below : List OpenRequest) (k : ℕ) (d : OpenRequest) → k < length below → lower below (get_or below k d) < length below
 few_lower below k d within =
     let o : OpenRequest = get_or below k d in
     let self : one_if o o ≡ 0 = grind (arith, nat_tests) in
@@ -77,7 +77,7 @@ few_lower below k d within =
     omega arith
 
 module _ (window : ℕ) (rs : List OpenRequest) where
-  kept : (xs : List OpenRequest) → All IsTimely xs → All (λ o. lower rs o < window) xs → map (beyond window rs) xs ≡ xs
+  pub kept : (xs : List OpenRequest) → All IsTimely xs → All (λ o. lower rs o < window) xs → map (beyond window rs) xs ≡ xs
   kept [] timely few = refl
   kept (x ∷ xs) timely few =
       let t : x.late ≡ false = All-head IsTimely x xs timely in

@@ -68,7 +68,7 @@ pub record MayStart (s : State) (o : OpenRequest) : Type 0 where
   pub in_turn : All (IsInTurn o) s.requests
 
 -- all places of a request that was never started
-pub record IsWhole (o : OpenRequest) (places : Extent) : Type 0 where
+pub record IsWholeRequest (o : OpenRequest) (places : Extent) : Type 0 where
   pub all_places : places.count ≡ length o.marks
   pub not_before : IsFalse (is_started o)
 
@@ -77,8 +77,8 @@ pub record IsSendable (rules : Rules) (o : OpenRequest) (places : Extent) : Type
   pub some : 0 < places.count
   pub short : places.count ≤ rules.max_transfer
   pub inside : places.first + places.count ≤ length o.marks
-  pub waiting : All IsUnsent (slice_range o.marks places.first (places.first + places.count))
-  pub whole : IsTrue rules.one_piece → IsWhole o places
+  pub unsent : All IsUnsent (slice_range o.marks places.first (places.first + places.count))
+  pub whole : IsTrue rules.one_piece → IsWholeRequest o places
 
 -- an address and a number of blocks that a block of ten bytes has room for
 abbrev pub fits_ten : ℕ → ℕ → Bool
@@ -198,10 +198,10 @@ abbrev pub status_of_completion : Completion → NtStatus
 status_of_completion c = status_of c.srb_status c.scsi_status c.sense
 
 -- the marks that a piece leaves on its places, by how it came back
-abbrev pub Leaves : Piece → Class → List Mark → Type 0
-Leaves piece Good marks = (sectors : List (List ℕ)) × (piece.fate ≡ Acted sectors) × (marks ≡ map Done sectors)
-Leaves piece Busy marks = (piece.fate ≡ Fresh) × (marks ≡ replicate piece.places.count Back)
-Leaves piece (Bad completion) marks =
+abbrev pub LeavesMarks : Piece → Class → List Mark → Type 0
+LeavesMarks piece Good marks = (sectors : List (List ℕ)) × (piece.fate ≡ Acted sectors) × (marks ≡ map Done sectors)
+LeavesMarks piece Busy marks = (piece.fate ≡ Fresh) × (marks ≡ replicate piece.places.count Back)
+LeavesMarks piece (Bad completion) marks =
     (class_of completion ≡ Bad completion) × (marks ≡ replicate piece.places.count (Failed (status_of_completion completion)))
 
 -- what a return adds to the count of busy returns
@@ -226,7 +226,7 @@ pub record Returns (s : State) (number : ℕ) (class : Class) (s' : State) : Typ
   pub is_number : piece.number ≡ number
   pub is_open : IsPermutation s.requests (owner ∷ others)
   pub is_owner : owner.number ≡ piece.owner
-  pub leaves : Leaves piece class marks
+  pub leaves : LeavesMarks piece class marks
   pub after : IsSame s' (record s { requests = given_back piece class marks owner ∷ others; pieces = other_pieces })
 
 -- the label is a start

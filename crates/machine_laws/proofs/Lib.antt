@@ -18,3 +18,8 @@ pub mod Ending
 pub mod Removal
 pub mod Going
 pub mod Once
+pub mod Starting
+pub mod ByPieces
+pub mod Tidy
+pub mod UsedUp
+pub mod Awaiting

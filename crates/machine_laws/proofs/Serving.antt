@@ -18,7 +18,7 @@ use Rattle.machine.specs.declared.Label.TheVariants.{Call, Device, Answer, Cance
 use Rattle.machine.specs.Rules.{Rules, is_transfer, first_sector, place_count, sectors_of}
 use Rattle.machine.specs.State.{Mark, Untouched, Out, Done, Failed, Back, OpenRequest, Owed, Piece, State, IsSame}
 use Rattle.machine.specs.Calling.{refusal, Admits, Opens, new_request}
-use Rattle.machine.specs.Sending.{Starts, Acts, Leaves, status_of_completion, sent, given_back, new_piece, with_fate, partition_number, array_of, array_at}
+use Rattle.machine.specs.Sending.{Starts, Acts, LeavesMarks, status_of_completion, sent, given_back, new_piece, with_fate, partition_number, array_of, array_at}
 use Rattle.machine.specs.Holding.{held_back, beyond, as_timely, as_cancelled}
 use Rattle.machine.specs.Step.{DeviceStep, FreeStep, OwingStep, Step}
 use Rattle.machine.specs.Numbers.{request_number, IsGiven, AreDistinct}
@@ -109,7 +109,7 @@ replicated right first count m marks e all j x within =
     rw same (all (first + j))
 
 -- a piece that comes back leaves right marks
-pub leaves_right : (right : ℕ → List ℕ → Type 0) (number : ℕ) (p : Piece) (class : Class) (marks : List Mark) → Fills p.places.count p.fate → (p.owner ≡ number → IsRightFate right p.places.first p.fate) → Leaves p class marks
+pub leaves_right : (right : ℕ → List ℕ → Type 0) (number : ℕ) (p : Piece) (class : Class) (marks : List Mark) → Fills p.places.count p.fate → (p.owner ≡ number → IsRightFate right p.places.first p.fate) → LeavesMarks p class marks
     → (length marks ≡ p.places.count) × (p.owner ≡ number → (j : ℕ) (x : Mark) → j < length marks → IsRightMark right (p.places.first + j) (get_or marks j x))
 leaves_right right number p Good marks fills is_right h =
     let fills' : length h.0 ≡ p.places.count = subst (λ fate. Fills p.places.count fate) h.1 fills in

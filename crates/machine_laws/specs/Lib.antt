@@ -6,3 +6,5 @@ pub mod WriteLaws
 pub mod EndLaws
 pub mod Lifting
 pub mod NumberLaws
+pub mod LabelsLeft
+pub mod CountedLabels

@@ -3,24 +3,44 @@
 //!
 //! They hold at each state that a run reaches from an opening state whose arrays have the sectors of their
 //! partitions (`goes_on`), whoever made the run: the whole stack or one layer of it. `removed_is_last` holds whatever
-//! the arrays are, and `numbers_are_used_once` from other states too.
+//! the arrays are, and those on numbers from other states too.
 //!
 //! - `solo_reads`, `solo_writes`, `failed_writes`: what a request that no other write meets has read or written.
 //! - `keeps_arrays`, `keeps_sectors`, `keeps_lengths`: what a label may change of the arrays, whoever else is at work.
 //! - `answered_are_over`, `removed_is_last`, `numbers_are_used_once`: what comes no more.
+//! - `numbers_rise`, `calls_await_answers`: which numbers calls and answers have.
+//! - `labels_run_out`: how many labels may still come, where starts keep to the pieces of their requests
+//!   (`runs_by_pieces`); `counts_labels_left`: that number, by hand.
 //! - `goes_on`, `labels_are_of_one`: how a run is taken apart, so that the laws fit its labels.
 //!
 //! Nothing is said of requests that overlap as to their order, nor that any request is ever answered.
 #![tactic(auto)]
 
+ghost use Rattle.machine_laws.specs.CountedLabels.{AreCountedByHand};
 ghost use Rattle.machine_laws.specs.EndLaws.{
   AnsweredAreOver,
   AnsweredWriteNoMore,
   RemovedAreEmpty,
   RemovedIsLast,
 };
+ghost use Rattle.machine_laws.specs.LabelsLeft.{
+  AreRuns,
+  NoMoreAreLeft,
+  OnePieceIsByPieces,
+  RunsUseUp,
+  StepsUseUp,
+  TheyJoin,
+};
 ghost use Rattle.machine_laws.specs.Lifting.{RunsLift};
-ghost use Rattle.machine_laws.specs.NumberLaws.{AnswersOnce, CallsOnce};
+ghost use Rattle.machine_laws.specs.NumberLaws.{
+  AnswersOnce,
+  AnswersWereCalled,
+  CallsAreAnswered,
+  CallsAwait,
+  CallsCount,
+  CallsOnce,
+  CallsRise,
+};
 ghost use Rattle.machine_laws.specs.Reached.{OpeningsAreReached, RunsGoOn, RunsSplit};
 ghost use Rattle.machine_laws.specs.SoloLaws.{
   FailedWritesHold,
@@ -89,6 +109,43 @@ pub fn removed_is_last()
 pub fn numbers_are_used_once()
     ensures calls { CallsOnce }
     ensures answers { AnswersOnce }
+{}
+
+/// In every run each call takes the next number, and no other label takes one.
+pub fn numbers_rise()
+    ensures rise { CallsRise }
+    ensures count { CallsCount }
+{}
+
+/// In every run each call adds its number to those that wait for an answer, and each answer takes its own away. So where
+/// none waits at first, what is answered was called before; and where none waits at last, each call is answered behind it.
+pub fn calls_await_answers()
+    ensures waiting { CallsAwait }
+    ensures called { AnswersWereCalled }
+    ensures answered { CallsAreAnswered }
+{}
+
+/// Each label uses up one of those that are left and of those that it brings. Only a call and a pause bring any: a call
+/// the labels of its pieces and restarts, and a pause its end. So with neither no more labels come than were left.
+///
+/// This is so where each start keeps to the pieces of its request, as `runs_by_pieces` says.
+pub fn labels_run_out()
+    ensures step { StepsUseUp }
+    ensures run { RunsUseUp }
+    ensures none_brought { NoMoreAreLeft }
+{}
+
+/// Runs of which each start keeps to the pieces of its request are runs, and join; the machine does not ask it of a
+/// start. Where a request goes as one piece, once, each run is such.
+pub fn runs_by_pieces()
+    ensures runs { AreRuns }
+    ensures join { TheyJoin }
+    ensures one_piece { OnePieceIsByPieces }
+{}
+
+/// How many labels are left of small states, by hand: of a read of two pieces from its call on, returned and busy.
+pub fn counts_labels_left()
+    ensures { AreCountedByHand }
 {}
 
 /// An opening state with whole arrays is reached, and so is each state that a run leads to from a reached one; with no

@@ -16,14 +16,14 @@ use Rattle.miniport.specs.declared.on_tag.Progress.{Progress}
 use Rattle.miniport.specs.declared.on_tag.Progress.TheVariants.{Untouched, Moved as Done, Failed as Refused}
 use Rattle.miniport.specs.declared.carrying.Outcome.{Outcome}
 use Rattle.miniport.specs.declared.carrying.Outcome.TheVariants.{Moved, Failed}
-use Rattle.adapter.specs.Calls.{Acts, ActsNot}
+use Rattle.adapter.specs.Calls.{ActsOrFaults, ActsNot}
 use Rattle.miniport.specs.Carrying.{disk_of, emptied}
 use Rattle.miniport.specs.Moving.{moved_by}
 use Rattle.miniport.specs.Slots.{Table, HasNoneUntouched, piece_at, in_use_of, fate_of, tags_of, with_slot, with_moved, with_failed}
-use Rattle.miniport.specs.Memory.{IsKept, shown_of, view_of, ActsByTable, PutsBack, ActsIn, ActsNotIn}
+use Rattle.miniport.specs.Memory.{AdapterKept, shown_of, view_of, ActsByTable, PutsBack, ActsIn, ActsNotIn}
 use Rattle.miniport.proofs.Bad.{fault_is_bad}
 use Rattle.miniport.proofs.Keeping.{moved_piece, failed_piece, move_kept, fail_kept}
-use Rattle.miniport.proofs.Performing.{Performs-length}
+use Rattle.adapter.proofs.Performing.{Performs-length}
 use Rattle.miniport.proofs.Showing.{acts, faults, acts_by_table, faults_by_table}
 
 -- a tag with a piece is one of the slots
@@ -41,7 +41,7 @@ table_moved t t' tag on srb bytes back e =
     e ∙ ap (λ (s : Srb). with_moved tag (record on { srb = s; progress = Done }) bytes (with_slot tag None t)) back
     ∙ ap (λ (l : List (Option OnTag)). record (with_moved tag (moved_piece on bytes) bytes t) { slots = l }) (set-set t.slots tag None (Some (moved_piece on bytes)))
 
-table_failed : (t t' : Table) (tag : ℕ) (on : OnTag) (srb : Srb) (completion : Completion) → srb ≡ on.srb
+pub table_failed : (t t' : Table) (tag : ℕ) (on : OnTag) (srb : Srb) (completion : Completion) → srb ≡ on.srb
     → t' ≡ with_failed tag (record on { srb = srb; progress = Refused completion }) (with_slot tag None t) → t' ≡ with_failed tag (failed_piece on completion) t
 table_failed t t' tag on srb completion back e =
     e ∙ ap (λ (s : Srb). with_failed tag (record on { srb = s; progress = Refused completion }) (with_slot tag None t)) back
@@ -52,19 +52,19 @@ whole_bytes : (size : ℕ) (block bytes : List ℕ) (moved : List (List ℕ)) �
 whole_bytes size block bytes moved e f = ap concat (sym f) ∙ sym e
 
 -- what an act leaves
-pub record Leaves (m : MediumView) (longest : ℕ) (p : Bool) (t : Table) (tag : ℕ) (m' : MediumView) (t' : Table) : Type 0 where
-  pub kept : IsKept m' longest t'
-  pub acts : Acts (shown_of m longest t) tag (shown_of m' longest t')
+pub record LeftByAct (m : MediumView) (longest : ℕ) (p : Bool) (t : Table) (tag : ℕ) (m' : MediumView) (t' : Table) : Type 0 where
+  pub kept : AdapterKept m' longest t'
+  pub acts : ActsOrFaults (shown_of m longest t) tag (shown_of m' longest t')
   pub by_table : ActsByTable (view_of m longest p t) tag (view_of m' longest p t')
 
 leaves_along : (m : MediumView) (longest : ℕ) (p : Bool) (t : Table) (tag : ℕ) (m' m'' : MediumView) (t' t'' : Table) → m'' ≡ m' → t'' ≡ t'
-    → Leaves m longest p t tag m' t' → Leaves m longest p t tag m'' t''
+    → LeftByAct m longest p t tag m' t' → LeftByAct m longest p t tag m'' t''
 leaves_along m longest p t tag m' m'' t' t'' e f left =
-    subst (λ (v : MediumView). Leaves m longest p t tag v t'') (sym e) (subst (λ (u : Table). Leaves m longest p t tag m' u) (sym f) left)
+    subst (λ (v : MediumView). LeftByAct m longest p t tag v t'') (sym e) (subst (λ (u : Table). LeftByAct m longest p t tag m' u) (sym f) left)
 
 put_back : (m : MediumView) (longest : ℕ) (p : Bool) (t : Table) (tag : ℕ) (on : OnTag) (outcome : Outcome) (m' : MediumView) (t' : Table)
-    → IsKept m longest t → length t.labels < 64 → piece_at t.slots tag ≡ Some on → on.progress ≡ Untouched
-    → PutsBack m p (with_slot tag None t) tag on outcome m' t' → Leaves m longest p t tag m' t'
+    → AdapterKept m longest t → length t.labels < 64 → piece_at t.slots tag ≡ Some on → on.progress ≡ Untouched
+    → PutsBack m p (with_slot tag None t) tag on outcome m' t' → LeftByAct m longest p t tag m' t'
 put_back m longest p t tag on (Moved srb bytes) m' t' kept place there untouched (carries, e) =
     let below : tag < length t.slots = is_below t.slots tag on there in
     let long : length carries.sectors ≡ length m.sectors = Performs-length m.sector_size m.sectors on.srb.data carries.command carries.moved carries.sectors carries.performs in
@@ -89,7 +89,7 @@ put_back m longest p t tag on (Failed srb completion) m' t' kept place there unt
     })
 
 pub act_leaves : (m : MediumView) (longest : ℕ) (p : Bool) (t : Table) (tag : ℕ) (m' : MediumView) (t' : Table)
-    → IsKept m longest t → length t.labels < 64 → ActsIn m p t tag m' t' → Leaves m longest p t tag m' t'
+    → AdapterKept m longest t → length t.labels < 64 → ActsIn m p t tag m' t' → LeftByAct m longest p t tag m' t'
 act_leaves m longest p t tag m' t' kept place h = put_back m longest p t tag h.on h.outcome m' t' kept place h.there h.untouched h.puts_back
 
 -- NO ACT

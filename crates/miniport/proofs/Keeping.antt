@@ -8,19 +8,19 @@ use Rattle.srb.specs.declared.DeviceLabel.{DeviceLabel}
 use Rattle.srb.specs.declared.Class.TheVariants.{Bad}
 use Rattle.srb.specs.Fate.{class_of}
 use Rattle.adapter.specs.View.{IsInOrder, IsFree}
-use Rattle.disk.specs.Medium.{MediumView, IsWhole}
+use Rattle.disk.specs.Medium.{MediumView, HasWholeSectors}
 use Rattle.miniport.specs.declared.on_tag.OnTag.{OnTag}
 use Rattle.miniport.specs.declared.on_tag.Progress.{Progress}
 use Rattle.miniport.specs.declared.on_tag.Progress.TheVariants.{Untouched, Moved, Failed}
 use Rattle.miniport.specs.Carrying.{IsReady, emptied}
 use Rattle.miniport.specs.Moving.{moved_by}
 use Rattle.miniport.specs.Slots.{Table, piece_at, new_piece, with_new, with_moved, with_failed, with_returned, with_reset, slot_after_reset, labels_of_reset}
-use Rattle.miniport.specs.Memory.{IsKept, IsPieceRight, ArePiecesRight, failures_left, left_by, shown_of}
+use Rattle.miniport.specs.Memory.{AdapterKept, IsPieceRight, ArePiecesRight, failures_left, left_by, shown_of}
 use Rattle.miniport.proofs.TagsInUse.{tags_below, tags_differ, is_used}
 use Rattle.miniport.proofs.Pieces.{pieces_set, pieces_emptied, pieces_along, more_failures, other_medium, pieces_reset, left_after_set, left_after_reset}
 use Rattle.miniport.proofs.Resetting.{few_labels}
 
-pub in_order : (m : MediumView) (longest : ℕ) (t : Table) → IsWhole m → IsKept m longest t → IsInOrder (shown_of m longest t)
+pub in_order : (m : MediumView) (longest : ℕ) (t : Table) → HasWholeSectors m → AdapterKept m longest t → IsInOrder (shown_of m longest t)
 in_order m longest t whole kept = record {
   sector_size = kept.sector_size;
   sectors = kept.sectors;
@@ -59,9 +59,9 @@ new_right m f piece srb ready buffers = record {
   met = λ e. absurd cc;
 }
 
-pub accept_kept : (m : MediumView) (longest : ℕ) (t : Table) (tag piece : ℕ) (srb : Srb) → IsKept m longest t → tag < length t.slots
+pub accept_kept : (m : MediumView) (longest : ℕ) (t : Table) (tag piece : ℕ) (srb : Srb) → AdapterKept m longest t → tag < length t.slots
     → piece_at t.slots tag ≡ None → IsReady m srb → length srb.for_label ≡ length srb.data → t.accepted < 2 ^ 100 → length t.labels < 64
-    → IsKept m longest (with_new tag piece srb t)
+    → AdapterKept m longest (with_new tag piece srb t)
 accept_kept m longest t tag piece srb kept below none ready buffers few place =
     let left : sum_by failures_left (slice_set t.slots tag (Some (new_piece t.failures piece srb))) + failures_left (piece_at t.slots tag) ≡ sum_by failures_left t.slots + 2 =
     left_after_set t.slots tag (Some (new_piece t.failures piece srb)) below in
@@ -123,10 +123,10 @@ put_back m t tag on after pieces below there untouched touched same =
     let was : failures_left (piece_at t.slots tag) ≡ failures_left (Some on) = ap failures_left there in
     omega (arith, before, now, was, left_after_set t.slots tag (Some after) below)
 
-pub move_kept : (m : MediumView) (longest : ℕ) (t : Table) (tag : ℕ) (on : OnTag) (bytes : List ℕ) (sectors : List (List ℕ)) → IsKept m longest t
+pub move_kept : (m : MediumView) (longest : ℕ) (t : Table) (tag : ℕ) (on : OnTag) (bytes : List ℕ) (sectors : List (List ℕ)) → AdapterKept m longest t
     → tag < length t.slots → piece_at t.slots tag ≡ Some on → on.progress ≡ Untouched → length sectors ≡ length m.sectors
     → concat (moved_by m.sector_size on.srb.block bytes) ≡ bytes → length t.labels < 64
-    → IsKept (record m { sectors = sectors }) longest (with_moved tag (moved_piece on bytes) bytes t)
+    → AdapterKept (record m { sectors = sectors }) longest (with_moved tag (moved_piece on bytes) bytes t)
 move_kept m longest t tag on bytes sectors kept below there untouched long whole place =
     let m' = record m { sectors = sectors } in
     let left : sum_by failures_left (slice_set t.slots tag (Some (moved_piece on bytes))) + 1 ≤ sum_by failures_left t.slots =
@@ -157,9 +157,9 @@ failed_right m k f on completion bad untouched right = record {
   met = λ e. absurd ((right.met e).1 untouched);
 }
 
-pub fail_kept : (m : MediumView) (longest : ℕ) (t : Table) (tag : ℕ) (on : OnTag) (completion : Completion) (k : ℕ) → IsKept m longest t
+pub fail_kept : (m : MediumView) (longest : ℕ) (t : Table) (tag : ℕ) (on : OnTag) (completion : Completion) (k : ℕ) → AdapterKept m longest t
     → tag < length t.slots → piece_at t.slots tag ≡ Some on → on.progress ≡ Untouched → class_of completion ≡ Bad completion → k ≤ m.failures + 1
-    → length t.labels < 64 → IsKept (record m { failures = k }) longest (with_failed tag (failed_piece on completion) t)
+    → length t.labels < 64 → AdapterKept (record m { failures = k }) longest (with_failed tag (failed_piece on completion) t)
 fail_kept m longest t tag on completion k kept below there untouched bad counted place =
     let m' = record m { failures = k } in
     let left : sum_by failures_left (slice_set t.slots tag (Some (failed_piece on completion))) + 1 ≤ sum_by failures_left t.slots =
@@ -182,8 +182,8 @@ fail_kept m longest t tag on completion k kept below there untouched bad counted
 
 -- FINISH
 
-pub finish_kept : (m : MediumView) (longest : ℕ) (t : Table) (tag : ℕ) (on : OnTag) → IsKept m longest t → tag < length t.slots → length t.labels < 64
-    → IsKept m longest (with_returned tag on t)
+pub finish_kept : (m : MediumView) (longest : ℕ) (t : Table) (tag : ℕ) (on : OnTag) → AdapterKept m longest t → tag < length t.slots → length t.labels < 64
+    → AdapterKept m longest (with_returned tag on t)
 finish_kept m longest t tag on kept below place =
     let left : sum_by failures_left (slice_set t.slots tag None) + failures_left (piece_at t.slots tag) ≡ sum_by failures_left t.slots + 0 =
     left_after_set t.slots tag None below in
@@ -201,7 +201,7 @@ finish_kept m longest t tag on kept below place =
 
 -- RESET
 
-pub reset_kept : (m : MediumView) (longest : ℕ) (t : Table) → IsKept m longest t → length t.labels + length t.slots ≤ 64 → IsKept m longest (with_reset t)
+pub reset_kept : (m : MediumView) (longest : ℕ) (t : Table) → AdapterKept m longest t → length t.labels + length t.slots ≤ 64 → AdapterKept m longest (with_reset t)
 reset_kept m longest t kept places = record {
   sector_size = kept.sector_size;
   sectors = kept.sectors;
@@ -216,8 +216,8 @@ reset_kept m longest t kept places = record {
 
 -- FEWER LABELS
 
-pub is_short : (m : MediumView) (longest : ℕ) (t : Table) (labels : List DeviceLabel) → length labels ≤ length t.labels → IsKept m longest t
-    → IsKept m longest (record t { labels = labels })
+pub is_short : (m : MediumView) (longest : ℕ) (t : Table) (labels : List DeviceLabel) → length labels ≤ length t.labels → AdapterKept m longest t
+    → AdapterKept m longest (record t { labels = labels })
 is_short m longest t labels fewer kept = record {
   sector_size = kept.sector_size;
   sectors = kept.sectors;

@@ -1,5 +1,5 @@
 -- Sectors read and written on a medium are those that the command moves.
-use Rattle.std.proofs.Common.{◌≡◌, ◌≤◌, ℕ, ◌+◌, ◌-◌, Bool, true, false, List, [], ◌∷◌, ◌++◌, length, take, drop, slice_range, slice_index, Some, None, Ok, All, refl, sym, ap, subst, ◌∙◌, ◌⊎◌, inl, inr, arith, length-drop}
+use Rattle.std.proofs.Common.{◌≡◌, ◌≤◌, ℕ, ◌+◌, ◌-◌, Bool, true, false, List, [], ◌∷◌, ◌++◌, length, take, drop, slice_range, Some, None, Ok, All, refl, sym, ap, subst, ◌∙◌, ◌⊎◌, inl, inr, arith, length-drop}
 use Rattle.std.specs.Prelude.{Any}
 use Rattle.std.specs.List.{concat, list_any}
 use Rattle.std.specs.Simd.{first_chunks}
@@ -16,7 +16,7 @@ use Rattle.cdb.specs.Meaning.{Means}
 use Rattle.srb.specs.declared.Srb.{Srb}
 use Rattle.srb.specs.declared.Completion.{Completion}
 use Rattle.adapter.specs.Performing.{Performs, HandsOver, Replaces, capacity_data, long_capacity_data}
-use Rattle.disk.specs.Medium.{MediumView, IsWhole, HasBad, failed}
+use Rattle.disk.specs.Medium.{MediumView, HasWholeSectors, HasBad, failed}
 use Rattle.miniport.specs.declared.carrying.Outcome.{Outcome}
 use Rattle.miniport.specs.declared.carrying.Outcome.TheVariants.{Moved, Failed}
 use Rattle.miniport.specs.Faults.{Disk, fault_of_medium, is_read, is_write, lba_of, blocks_of, is_one_of, error}
@@ -144,7 +144,7 @@ fails_by medium p srb command completion passes fault = record {
   after = refl;
 }
 
-pub read_ends : (medium : MediumView) (p : Bool) (srb : Srb) (command : Cdb) (outcome : Outcome) (medium' : MediumView) → is_read command ≡ true → IsWhole medium
+pub read_ends : (medium : MediumView) (p : Bool) (srb : Srb) (command : Cdb) (outcome : Outcome) (medium' : MediumView) → is_read command ≡ true → HasWholeSectors medium
     → Passes (sizes_of medium p) srb command → Reads medium (record { first = lba_of command; count = blocks_of command }) srb outcome medium'
     → Ends medium p srb outcome medium'
 read_ends medium p srb command (Moved srb' bytes) medium' reads whole passes (good, bytes_are, back, after) =

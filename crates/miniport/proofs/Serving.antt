@@ -6,13 +6,13 @@ use Rattle.srb.specs.declared.Completion.{Completion}
 use Rattle.srb.specs.declared.DeviceLabel.{DeviceLabel}
 use Rattle.adapter.specs.View.{AdapterView, IsInOrder, IsFree, HasTag, HasNotTag, IsWritable, ReservesMore, Accepts}
 use Rattle.sector.specs.declared.Extent.{Extent}
-use Rattle.disk.specs.Medium.{MediumView, IsWhole, Reserves as MediumReserves, IsReserved as MediumReserved}
+use Rattle.disk.specs.Medium.{MediumView, HasWholeSectors, Reserves as MediumReserves, IsReserved as MediumReserved}
 use Rattle.miniport.specs.declared.on_tag.OnTag.{OnTag}
-use Rattle.adapter.specs.Calls.{Acts, ActsNot, Finishes, FinishesNot, Resets}
+use Rattle.adapter.specs.Calls.{ActsOrFaults, ActsNot, Finishes, FinishesNot, Resets}
 use Rattle.miniport.specs.Faults.{busy}
 use Rattle.miniport.specs.Slots.{Table, ComesBack, piece_at, tags_of, completion_of, with_new, with_returned, with_reset}
-use Rattle.miniport.specs.Memory.{MemView, IsKept, shown_of, view_of, Dues, SameDues, ActsByTable, ActsIn, ActsNotIn, ResetsAll}
-use Rattle.miniport.proofs.Acts.{Leaves, act_leaves, acts_not, is_below}
+use Rattle.miniport.specs.Memory.{MemView, AdapterKept, shown_of, view_of, Dues, SameDues, ActsByTable, ActsIn, ActsNotIn, ResetsAll}
+use Rattle.miniport.proofs.Acts.{LeftByAct, act_leaves, acts_not, is_below}
 use Rattle.miniport.proofs.Keeping.{in_order, empty_slot, accept_kept, finish_kept, reset_kept, is_short}
 use Rattle.miniport.proofs.Pieces.{pieces_along, other_medium}
 use Rattle.miniport.proofs.ResetShown.{resets, resets_all}
@@ -21,14 +21,14 @@ use Rattle.miniport.proofs.TagsInUse.{is_free, is_used}
 
 -- what a call leaves: all is kept, and two relations hold of what is shown then
 pub record After (m : MediumView) (longest : ℕ) (p : Bool) (t : Table) (Shows : AdapterView → Type 0) (Due : MemView → Type 0) : Type 0 where
-  pub kept : IsKept m longest t
+  pub kept : AdapterKept m longest t
   pub order : IsInOrder (shown_of m longest t)
   pub shown : Shows (shown_of m longest t)
   pub due : Due (view_of m longest p t)
 
 -- SHOWN
 
-pub order_seen : (m : MediumView) (longest : ℕ) (p : Bool) (t : Table) (v : MemView) → view_of m longest p t ≡ v → IsWhole m → IsKept m longest t
+pub order_seen : (m : MediumView) (longest : ℕ) (p : Bool) (t : Table) (v : MemView) → view_of m longest p t ≡ v → HasWholeSectors m → AdapterKept m longest t
     → IsInOrder v.shown
 order_seen m longest p t v e whole kept = subst (λ (u : MemView). IsInOrder u.shown) e (in_order m longest t whole kept)
 
@@ -54,11 +54,11 @@ pub record AsksAccept (v : MemView) (tag : ℕ) (srb : Srb) : Type 0 where
   pub few : v.shown.accepted < 2 ^ 100
   pub place : length v.shown.labels < 64
 
-accepted : (m : MediumView) (longest : ℕ) (p : Bool) (t : Table) (tag piece : ℕ) (srb : Srb) → IsWhole m → IsKept m longest t → AsksAccept (view_of m longest p t) tag srb
+accepted : (m : MediumView) (longest : ℕ) (p : Bool) (t : Table) (tag piece : ℕ) (srb : Srb) → HasWholeSectors m → AdapterKept m longest t → AsksAccept (view_of m longest p t) tag srb
     → After m longest p (with_new tag piece srb t) (Accepts (shown_of m longest t) tag piece srb) (Dues tag (Some busy) (view_of m longest p t))
 accepted m longest p t tag piece srb whole kept asks =
     let none : piece_at t.slots tag ≡ None = empty_slot m longest t tag asks.free in
-    let keeps : IsKept m longest (with_new tag piece srb t) =
+    let keeps : AdapterKept m longest (with_new tag piece srb t) =
     accept_kept m longest t tag piece srb kept asks.below none asks.writable asks.buffers asks.few asks.place in
     record {
       kept = keeps;
@@ -68,7 +68,7 @@ accepted m longest p t tag piece srb whole kept asks =
     }
 
 pub after_accept : (m : MediumView) (longest : ℕ) (p : Bool) (t t' : Table) (v : MemView) (tag piece : ℕ) (srb : Srb) → view_of m longest p t ≡ v
-    → t' ≡ with_new tag piece srb t → IsWhole m → IsKept m longest t → AsksAccept v tag srb
+    → t' ≡ with_new tag piece srb t → HasWholeSectors m → AdapterKept m longest t → AsksAccept v tag srb
     → After m longest p t' (Accepts v.shown tag piece srb) (Dues tag (Some busy) v)
 after_accept m longest p t t' v tag piece srb e f whole kept =
     subst (λ (u : MemView). AsksAccept u tag srb → After m longest p t' (Accepts u.shown tag piece srb) (Dues tag (Some busy) u)) e
@@ -78,18 +78,18 @@ after_accept m longest p t t' v tag piece srb e f whole kept =
 -- ACT
 
 pub record AfterAct (v : MemView) (tag : ℕ) (b : Bool) (m : MediumView) (longest : ℕ) (p : Bool) (t : Table) : Type 0 where
-  pub kept : IsKept m longest t
+  pub kept : AdapterKept m longest t
   pub order : IsInOrder (shown_of m longest t)
-  pub acts : MatchBool b (Acts v.shown tag (shown_of m longest t)) (ActsNot v.shown tag (shown_of m longest t))
+  pub acts : MatchBool b (ActsOrFaults v.shown tag (shown_of m longest t)) (ActsNot v.shown tag (shown_of m longest t))
   pub by_table : MatchBool b (ActsByTable v tag (view_of m longest p t)) (view_of m longest p t ≡ v)
 
-acted_on : (m : MediumView) (longest : ℕ) (p : Bool) (t : Table) (tag : ℕ) (b : Bool) (m' : MediumView) (t' : Table) → IsWhole m' → IsKept m longest t
+acted_on : (m : MediumView) (longest : ℕ) (p : Bool) (t : Table) (tag : ℕ) (b : Bool) (m' : MediumView) (t' : Table) → HasWholeSectors m' → AdapterKept m longest t
     → length t.labels < 64 → MatchBool b (ActsIn m p t tag m' t') (ActsNotIn m t tag m' t') → AfterAct (view_of m longest p t) tag b m' longest p t'
 acted_on m longest p t tag true m' t' whole kept place h =
-    let left : Leaves m longest p t tag m' t' = act_leaves m longest p t tag m' t' kept place h in
+    let left : LeftByAct m longest p t tag m' t' = act_leaves m longest p t tag m' t' kept place h in
     record { kept = left.kept; order = in_order m' longest t' whole left.kept; acts = left.acts; by_table = left.by_table }
 acted_on m longest p t tag false m' t' whole kept place h =
-    let keeps : IsKept m' longest t' = subst (λ (n : MediumView). IsKept n longest t') (sym h.same_medium) (subst (λ (s : Table). IsKept m longest s) (sym h.same_table) kept) in
+    let keeps : AdapterKept m' longest t' = subst (λ (n : MediumView). AdapterKept n longest t') (sym h.same_medium) (subst (λ (s : Table). AdapterKept m longest s) (sym h.same_table) kept) in
     record {
       kept = keeps;
       order = in_order m' longest t' whole keeps;
@@ -98,7 +98,7 @@ acted_on m longest p t tag false m' t' whole kept place h =
     }
 
 pub after_act : (m : MediumView) (longest : ℕ) (p : Bool) (t : Table) (v : MemView) (tag : ℕ) (b : Bool) (m' : MediumView) (t' : Table) → view_of m longest p t ≡ v
-    → IsWhole m' → IsKept m longest t → length v.shown.labels < 64 → MatchBool b (ActsIn m p t tag m' t') (ActsNotIn m t tag m' t') → AfterAct v tag b m' longest p t'
+    → HasWholeSectors m' → AdapterKept m longest t → length v.shown.labels < 64 → MatchBool b (ActsIn m p t tag m' t') (ActsNotIn m t tag m' t') → AfterAct v tag b m' longest p t'
 after_act m longest p t v tag b m' t' e whole kept =
     subst (λ (u : MemView). length u.shown.labels < 64 → MatchBool b (ActsIn m p t tag m' t') (ActsNotIn m t tag m' t') → AfterAct u tag b m' longest p t') e
     (acted_on m longest p t tag b m' t' whole kept)
@@ -119,7 +119,7 @@ abbrev pub DuesAfter : ℕ → Option (Srb × Completion) → MemView → MemVie
 DuesAfter tag r old new = MatchOption r (new ≡ old) (λ (back : Srb × Completion). Dues tag None old new)
 
 pub record AfterFinish (v : MemView) (tag : ℕ) (r : Option (Srb × Completion)) (m : MediumView) (longest : ℕ) (p : Bool) (t : Table) : Type 0 where
-  pub kept : IsKept m longest t
+  pub kept : AdapterKept m longest t
   pub order : IsInOrder (shown_of m longest t)
   pub finishes : ShowsFinish v.shown tag r (shown_of m longest t)
   pub completion : IsDue v tag r
@@ -132,12 +132,12 @@ finish_along : (old new : AdapterView) (tag : ℕ) (srb srb' : Srb) (c c' : Comp
 finish_along old new tag srb srb' c c' e f h =
     subst (λ (x : Srb). Finishes old tag x c new) (sym e) (subst (λ (x : Completion). Finishes old tag srb' x new) (sym f) h)
 
-came_back : (m : MediumView) (longest : ℕ) (p : Bool) (t : Table) (tag : ℕ) (srb : Srb) (c : Completion) (on : OnTag) → IsWhole m → IsKept m longest t
+came_back : (m : MediumView) (longest : ℕ) (p : Bool) (t : Table) (tag : ℕ) (srb : Srb) (c : Completion) (on : OnTag) → HasWholeSectors m → AdapterKept m longest t
     → length t.labels < 64 → piece_at t.slots tag ≡ Some on → c ≡ completion_of on → srb ≡ record on.srb { sense = c.sense }
     → AfterFinish (view_of m longest p t) tag (Some (srb, c)) m longest p (with_returned tag on t)
 came_back m longest p t tag srb c on whole kept place there e f =
     let below : tag < length t.slots = is_below t.slots tag on there in
-    let keeps : IsKept m longest (with_returned tag on t) = finish_kept m longest t tag on kept below place in
+    let keeps : AdapterKept m longest (with_returned tag on t) = finish_kept m longest t tag on kept below place in
     record {
       kept = keeps;
       order = in_order m longest (with_returned tag on t) whole keeps;
@@ -147,7 +147,7 @@ came_back m longest p t tag srb c on whole kept place there e f =
       due = finishes_due m longest p t tag on;
     }
 
-none_came : (m : MediumView) (longest : ℕ) (p : Bool) (t : Table) (tag : ℕ) → IsWhole m → IsKept m longest t → piece_at t.slots tag ≡ None
+none_came : (m : MediumView) (longest : ℕ) (p : Bool) (t : Table) (tag : ℕ) → HasWholeSectors m → AdapterKept m longest t → piece_at t.slots tag ≡ None
     → AfterFinish (view_of m longest p t) tag None m longest p t
 none_came m longest p t tag whole kept none = record {
   kept = kept;
@@ -157,7 +157,7 @@ none_came m longest p t tag whole kept none = record {
   due = refl;
 }
 
-finished : (m : MediumView) (longest : ℕ) (p : Bool) (t t' : Table) (tag : ℕ) (r : Option (Srb × Completion)) → IsWhole m → IsKept m longest t → length t.labels < 64
+finished : (m : MediumView) (longest : ℕ) (p : Bool) (t t' : Table) (tag : ℕ) (r : Option (Srb × Completion)) → HasWholeSectors m → AdapterKept m longest t → length t.labels < 64
     → Takes t tag r t' → AfterFinish (view_of m longest p t) tag r m longest p t'
 finished m longest p t t' tag None whole kept place (none, same) =
     subst (λ (s : Table). AfterFinish (view_of m longest p t) tag None m longest p s) (sym same) (none_came m longest p t tag whole kept none)
@@ -166,17 +166,17 @@ finished m longest p t t' tag (Some back) whole kept place h =
     (came_back m longest p t tag back.0 back.1 h.on whole kept place h.was_there h.completion_is h.comes_back)
 
 pub after_finish : (m : MediumView) (longest : ℕ) (p : Bool) (t t' : Table) (v : MemView) (tag : ℕ) (r : Option (Srb × Completion)) → view_of m longest p t ≡ v
-    → IsWhole m → IsKept m longest t → length v.shown.labels < 64 → Takes t tag r t' → AfterFinish v tag r m longest p t'
+    → HasWholeSectors m → AdapterKept m longest t → length v.shown.labels < 64 → Takes t tag r t' → AfterFinish v tag r m longest p t'
 after_finish m longest p t t' v tag r e whole kept =
     subst (λ (u : MemView). length u.shown.labels < 64 → Takes t tag r t' → AfterFinish u tag r m longest p t') e
     (λ place takes. finished m longest p t t' tag r whole kept place takes)
 
 -- RESET
 
-reset_whole : (m : MediumView) (longest : ℕ) (p : Bool) (t : Table) → IsWhole m → IsKept m longest t → length t.labels + length t.slots ≤ 64
+reset_whole : (m : MediumView) (longest : ℕ) (p : Bool) (t : Table) → HasWholeSectors m → AdapterKept m longest t → length t.labels + length t.slots ≤ 64
     → After m longest p (with_reset t) (Resets (shown_of m longest t)) (ResetsAll (view_of m longest p t))
 reset_whole m longest p t whole kept places =
-    let keeps : IsKept m longest (with_reset t) = reset_kept m longest t kept places in
+    let keeps : AdapterKept m longest (with_reset t) = reset_kept m longest t kept places in
     record {
       kept = keeps;
       order = in_order m longest (with_reset t) whole keeps;
@@ -185,7 +185,7 @@ reset_whole m longest p t whole kept places =
     }
 
 pub after_reset : (m : MediumView) (longest : ℕ) (p : Bool) (t t' : Table) (v : MemView) → view_of m longest p t ≡ v → t' ≡ with_reset t
-    → IsWhole m → IsKept m longest t → length v.shown.labels + v.shown.depth ≤ 64 → After m longest p t' (Resets v.shown) (ResetsAll v)
+    → HasWholeSectors m → AdapterKept m longest t → length v.shown.labels + v.shown.depth ≤ 64 → After m longest p t' (Resets v.shown) (ResetsAll v)
 after_reset m longest p t t' v e f whole kept =
     subst (λ (u : MemView). length u.shown.labels + u.shown.depth ≤ 64 → After m longest p t' (Resets u.shown) (ResetsAll u)) e
     (λ places. subst (λ (s : Table). After m longest p s (Resets (shown_of m longest t)) (ResetsAll (view_of m longest p t))) (sym f)
@@ -194,8 +194,8 @@ after_reset m longest p t t' v e f whole kept =
 -- RESERVE
 
 more_reserved : (m : MediumView) (longest : ℕ) (t : Table) (reserved : List Extent)
-    → ((extent : Extent) → MediumReserved m extent → MediumReserved (record m { reserved = reserved }) extent) → IsKept m longest t
-    → IsKept (record m { reserved = reserved }) longest t
+    → ((extent : Extent) → MediumReserved m extent → MediumReserved (record m { reserved = reserved }) extent) → AdapterKept m longest t
+    → AdapterKept (record m { reserved = reserved }) longest t
 more_reserved m longest t reserved lasts kept =
     let m' = record m { reserved = reserved } in
     record {
@@ -212,10 +212,10 @@ more_reserved m longest t reserved lasts kept =
     }
 
 reserved_along : (m : MediumView) (longest : ℕ) (p : Bool) (t : Table) (reserved : List Extent)
-    → ((extent : Extent) → MediumReserved m extent → MediumReserved (record m { reserved = reserved }) extent) → IsWhole m → IsKept m longest t
+    → ((extent : Extent) → MediumReserved m extent → MediumReserved (record m { reserved = reserved }) extent) → HasWholeSectors m → AdapterKept m longest t
     → After (record m { reserved = reserved }) longest p t (ReservesMore (shown_of m longest t)) (SameDues (view_of m longest p t))
 reserved_along m longest p t reserved lasts whole kept =
-    let keeps : IsKept (record m { reserved = reserved }) longest t = more_reserved m longest t reserved lasts kept in
+    let keeps : AdapterKept (record m { reserved = reserved }) longest t = more_reserved m longest t reserved lasts kept in
     record {
       kept = keeps;
       order = in_order (record m { reserved = reserved }) longest t whole keeps;
@@ -224,7 +224,7 @@ reserved_along m longest p t reserved lasts whole kept =
     }
 
 pub after_reserve : (m m' : MediumView) (longest : ℕ) (p : Bool) (t : Table) (v : MemView) → view_of m longest p t ≡ v → MediumReserves m m'
-    → IsWhole m → IsKept m longest t → After m' longest p t (ReservesMore v.shown) (SameDues v)
+    → HasWholeSectors m → AdapterKept m longest t → After m' longest p t (ReservesMore v.shown) (SameDues v)
 after_reserve m m' longest p t v e reserves whole kept =
     let lasts : (extent : Extent) → MediumReserved m extent → MediumReserved (record m { reserved = m'.reserved }) extent = reserves.lasts in
     subst (λ (u : MemView). After m' longest p t (ReservesMore u.shown) (SameDues u)) e
@@ -236,7 +236,7 @@ after_reserve m m' longest p t v e reserves whole kept =
 abbrev pub TakesLabel : Table → Option DeviceLabel → Table → Type 0
 TakesLabel t r t' = MatchOption r ((t.labels ≡ []) × (t' ≡ t)) (λ (label : DeviceLabel). (rest : List DeviceLabel) × (t.labels ≡ label ∷ rest) × (t' ≡ record t { labels = rest }))
 
-pub label_taken : (m : MediumView) (longest : ℕ) (t t' : Table) (r : Option DeviceLabel) → TakesLabel t r t' → IsKept m longest t → IsKept m longest t'
-label_taken m longest t t' None (none, same) kept = subst (λ (s : Table). IsKept m longest s) (sym same) kept
+pub label_taken : (m : MediumView) (longest : ℕ) (t t' : Table) (r : Option DeviceLabel) → TakesLabel t r t' → AdapterKept m longest t → AdapterKept m longest t'
+label_taken m longest t t' None (none, same) kept = subst (λ (s : Table). AdapterKept m longest s) (sym same) kept
 label_taken m longest t t' (Some label) (rest, first, after) kept =
-    subst (λ (s : Table). IsKept m longest s) (sym after) (is_short m longest t rest (omega (arith, ap length first)) kept)
+    subst (λ (s : Table). AdapterKept m longest s) (sym after) (is_short m longest t rest (omega (arith, ap length first)) kept)

@@ -21,7 +21,7 @@ use Rattle.miniport.specs.Carrying.{emptied, disk_of}
 use Rattle.miniport.specs.Faults.{fault_of, Decodes, success, busy, bus_reset}
 use Rattle.miniport.specs.Moving.{moved_by}
 use Rattle.miniport.specs.Slots.{Table, piece_at, in_use_of, fate_of, tags_of, new_piece, with_new, with_moved, with_failed, with_returned, completion_of, completion_by, slot_completion}
-use Rattle.miniport.specs.Memory.{shown_of, view_of, new_view, Dues, ActsByTable, IsPieceRight}
+use Rattle.miniport.specs.Memory.{shown_of, view_of, new_view, Dues, ActsByTable, EndsBy, IsPieceRight}
 use Rattle.miniport.proofs.TagsInUse.{taken_first, filled}
 use Rattle.miniport.proofs.Keeping.{moved_piece, failed_piece}
 
@@ -142,26 +142,32 @@ acts_by_table m longest p t tag on command bytes sectors right there untouched m
       );
     }
 
+-- a piece that fails counts once, and its completion is due
+pub fails_by : (m : MediumView) (longest : ℕ) (p : Bool) (t : Table) (tag : ℕ) (on : OnTag) (completion : Completion) (k : ℕ)
+    → IsPieceRight m t.failures on → on.progress ≡ Untouched
+    → FaultsOn (shown_of m longest t) tag on.piece (shown_of (record m { failures = k }) longest (with_failed tag (failed_piece on completion) t))
+    → EndsBy (view_of m longest p t) tag on.piece (Some completion) (view_of (record m { failures = k }) longest p (with_failed tag (failed_piece on completion) t))
+fails_by m longest p t tag on completion k right untouched act =
+    let unmet : on.was_reset ≡ false = not_met m t.failures on on.was_reset right untouched refl in (
+      act,
+      refl,
+      due_set (record m { failures = k }) longest p (with_failed tag (failed_piece on completion) t) t.slots tag
+          (Some (failed_piece on completion)) (Some completion) refl (completion_unmet (failed_piece on completion) unmet),
+    )
+
 pub faults_by_table : (m : MediumView) (longest : ℕ) (p : Bool) (t : Table) (tag : ℕ) (on : OnTag) (completion : Completion) (k : ℕ) (decoded : Result Cdb CdbFault)
     → IsPieceRight m t.failures on → piece_at t.slots tag ≡ Some on → on.progress ≡ Untouched → Decodes on.srb.block decoded
     → fault_of (disk_of m p) on.srb decoded ≡ Some completion
     → FaultsOn (shown_of m longest t) tag on.piece (shown_of (record m { failures = k }) longest (with_failed tag (failed_piece on completion) t))
     → ActsByTable (view_of m longest p t) tag (view_of (record m { failures = k }) longest p (with_failed tag (failed_piece on completion) t))
-faults_by_table m longest p t tag on completion k decoded right there untouched decodes fault act =
-    let unmet : on.was_reset ≡ false = not_met m t.failures on on.was_reset right untouched refl in
-    record {
-      use' = in_use_of m.sector_size tag on;
-      others = tags_of m.sector_size 0 (slice_set t.slots tag None);
-      decoded = decoded;
-      is_on = record { in_use = taken_first m.sector_size t.slots tag on there; has_tag = refl };
-      decodes = decodes;
-      ends = rw fault (
-        act,
-        refl,
-        due_set (record m { failures = k }) longest p (with_failed tag (failed_piece on completion) t) t.slots tag
-            (Some (failed_piece on completion)) (Some completion) refl (completion_unmet (failed_piece on completion) unmet),
-      );
-    }
+faults_by_table m longest p t tag on completion k decoded right there untouched decodes fault act = record {
+  use' = in_use_of m.sector_size tag on;
+  others = tags_of m.sector_size 0 (slice_set t.slots tag None);
+  decoded = decoded;
+  is_on = record { in_use = taken_first m.sector_size t.slots tag on there; has_tag = refl };
+  decodes = decodes;
+  ends = rw fault (fails_by m longest p t tag on completion k right untouched act);
+}
 
 -- FINISH
 

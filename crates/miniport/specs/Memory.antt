@@ -103,6 +103,13 @@ pub record ActsByTable (old : MemView) (tag : ℕ) (new : MemView) : Type 0 wher
   pub decodes : Decodes use'.srb.block decoded
   pub ends : EndsBy old tag use'.piece (fault_of (disk_shown old) use'.srb decoded) new
 
+-- the tag's piece fails with a completion, whatever its command asks for
+pub record FailsWith (old : MemView) (tag : ℕ) (completion : Completion) (new : MemView) : Type 0 where
+  pub use' : TagInUse
+  pub others : List TagInUse
+  pub is_on : IsOn old.shown tag use' others
+  pub ends : EndsBy old tag use'.piece (Some completion) new
+
 abbrev pub is_unmet : TagInUse → Bool
 is_unmet use' = not use'.was_reset
 
@@ -162,7 +169,7 @@ pub record IsPieceRight (medium : MediumView) (failures : ℕ) (on : OnTag) : Ty
 abbrev pub ArePiecesRight : MediumView → ℕ → List (Option OnTag) → Type 0
 ArePiecesRight medium failures slots = (tag : ℕ) (on : OnTag) → piece_at slots tag ≡ Some on → IsPieceRight medium failures on
 
-pub record IsKept (medium : MediumView) (longest : ℕ) (table : Table) : Type 0 where
+pub record AdapterKept (medium : MediumView) (longest : ℕ) (table : Table) : Type 0 where
   pub sector_size : (medium.sector_size ≡ 512) ⊎ (medium.sector_size ≡ 4096)
   pub sectors : (1 ≤ length medium.sectors) × (length medium.sectors ≤ 2 ^ 40)
   pub max_transfer : (1 ≤ longest) × (longest ≤ 2 ^ 16)

@@ -166,3 +166,10 @@ pub record ComesBack (old : Table) (tag : ℕ) (srb : Srb) (completion : Complet
   pub completion_is : completion ≡ completion_of on
   pub comes_back : srb ≡ record on.srb { sense = completion.sense }
   pub after : new ≡ with_returned tag on old
+
+-- the tag's piece, which had done nothing yet, failed
+pub record Fails (old : Table) (tag : ℕ) (completion : Completion) (new : Table) : Type 0 where
+  pub on : OnTag
+  pub was_there : piece_at old.slots tag ≡ Some on
+  pub untouched : on.progress ≡ Untouched
+  pub after : new ≡ with_failed tag (record on { progress = Failed completion }) (with_slot tag None old)

@@ -51,11 +51,11 @@ fn moved(srb: Srb) -> Outcome
 
 /// Reads sectors into the SRB's data.
 fn read<M: Medium>(medium: &mut M, lba: u64, count: u32, srb: Srb) -> Outcome
-    requires within { lba + count ≤ length (M.seen medium.old).sectors }
-    requires long { length srb.data ≡ count * (M.seen medium.old).sector_size }
+    requires within { lba + count ≤ length (M.view medium.old).sectors }
+    requires long { length srb.data ≡ count * (M.view medium.old).sector_size }
     requires buffers { length srb.for_label ≡ length srb.data }
-    requires countable { (M.seen medium.old).failures < 2 ^ 120 }
-    ensures { Reads (M.seen medium.old) (record { first = lba; count = count }) srb result (M.seen medium.new) }
+    requires countable { (M.view medium.old).failures < 2 ^ 120 }
+    ensures { Reads (M.view medium.old) (record { first = lba; count = count }) srb result (M.view medium.new) }
 {
     let mut bytes = srb.data.into_vec();
     let read = medium.read(extent(lba, count), bytes.as_mut_slice());
@@ -74,12 +74,12 @@ fn read<M: Medium>(medium: &mut M, lba: u64, count: u32, srb: Srb) -> Outcome
 
 /// Writes the SRB's data over sectors.
 fn write<M: Medium>(medium: &mut M, lba: u64, count: u32, srb: Srb) -> Outcome
-    requires within { lba + count ≤ length (M.seen medium.old).sectors }
-    requires reserved { IsReserved (M.seen medium.old) (record { first = lba; count = count }) }
-    requires long { length srb.data ≡ count * (M.seen medium.old).sector_size }
+    requires within { lba + count ≤ length (M.view medium.old).sectors }
+    requires reserved { IsReserved (M.view medium.old) (record { first = lba; count = count }) }
+    requires long { length srb.data ≡ count * (M.view medium.old).sector_size }
     requires buffers { length srb.for_label ≡ length srb.data }
-    requires countable { (M.seen medium.old).failures < 2 ^ 120 }
-    ensures { Writes (M.seen medium.old) (record { first = lba; count = count }) srb result (M.seen medium.new) }
+    requires countable { (M.view medium.old).failures < 2 ^ 120 }
+    ensures { Writes (M.view medium.old) (record { first = lba; count = count }) srb result (M.view medium.new) }
 {
     match medium.write(extent(lba, count), srb.data.as_slice()) {
         Ok(()) => moved(srb),
@@ -162,7 +162,7 @@ fn extent(lba: u64, count: u32) -> Extent
 
 /// The command that an SRB asks of a medium, unless it fails whatever sectors are bad.
 fn check_on<M: Medium>(medium: &M, write_protected: bool, srb: &Srb) -> Result<Cdb, Completion>
-    ensures { let sizes = sizes_of (M.seen medium.now) write_protected in MatchResult result (Passes sizes srb.now) (IsRefused sizes srb.now) }
+    ensures { let sizes = sizes_of (M.view medium.now) write_protected in MatchResult result (Passes sizes srb.now) (IsRefused sizes srb.now) }
 {
     let sizes = Sizes {
         sector_size: medium.sector_size(),
@@ -174,12 +174,12 @@ fn check_on<M: Medium>(medium: &M, write_protected: bool, srb: &Srb) -> Result<C
 
 /// Carries a command out that only a bad sector can fail.
 fn perform<M: Medium>(medium: &mut M, command: Cdb, srb: Srb) -> Outcome
-    requires passes { (write_protected : Bool) × Passes (sizes_of (M.seen medium.old) write_protected) srb command }
-    requires ready { IsReady (M.seen medium.old) srb }
+    requires passes { (write_protected : Bool) × Passes (sizes_of (M.view medium.old) write_protected) srb command }
+    requires ready { IsReady (M.view medium.old) srb }
     requires buffers { length srb.for_label ≡ length srb.data }
-    requires countable { (M.seen medium.old).failures < 2 ^ 120 }
-    requires some { 1 ≤ length (M.seen medium.old).sectors }
-    ensures { (write_protected : Bool) → Passes (sizes_of (M.seen medium.old) write_protected) srb command → Ends (M.seen medium.old) write_protected srb result (M.seen medium.new) }
+    requires countable { (M.view medium.old).failures < 2 ^ 120 }
+    requires some { 1 ≤ length (M.view medium.old).sectors }
+    ensures { (write_protected : Bool) → Passes (sizes_of (M.view medium.old) write_protected) srb command → Ends (M.view medium.old) write_protected srb result (M.view medium.new) }
 {
     match command {
         Cdb::Read10 { lba, count, .. } => read(medium, lba as u64, count as u32, srb),
@@ -201,11 +201,11 @@ fn perform<M: Medium>(medium: &mut M, command: Cdb, srb: Srb) -> Outcome
 
 /// Carries the command of an SRB out on a medium, or fails it by the first row of the table that fits.
 pub(crate) fn carry_out<M: Medium>(medium: &mut M, write_protected: bool, srb: Srb) -> Outcome
-    requires ready { IsReady (M.seen medium.old) srb }
+    requires ready { IsReady (M.view medium.old) srb }
     requires buffers { length srb.for_label ≡ length srb.data }
-    requires countable { (M.seen medium.old).failures < 2 ^ 120 }
-    requires some { 1 ≤ length (M.seen medium.old).sectors }
-    ensures { Ends (M.seen medium.old) write_protected srb result (M.seen medium.new) }
+    requires countable { (M.view medium.old).failures < 2 ^ 120 }
+    requires some { 1 ≤ length (M.view medium.old).sectors }
+    ensures { Ends (M.view medium.old) write_protected srb result (M.view medium.new) }
 {
     match check_on(medium, write_protected, &srb) {
         Ok(command) => perform(medium, command, srb),

@@ -72,6 +72,8 @@ pub(crate) fn not_decoded(fault: CdbFault) -> Completion
 /// Sense keys (SPC).
 pub(crate) const MEDIUM_ERROR: u8 = 3;
 
+pub(crate) const HARDWARE_ERROR: u8 = 4;
+
 pub(crate) const ILLEGAL_REQUEST: u8 = 5;
 
 pub(crate) const DATA_PROTECT: u8 = 7;

@@ -2,6 +2,7 @@
 //!
 //! [`MemAdapter`] keeps the contract of [`Adapter`] over any medium. It fails a command exactly by the first row that fits
 //! of one table (`fault_of`, in `by_table` of its `act`), with that row's completion, and it counts each failure.
+//! [`OnceAdapter`] is such an adapter, of which one act fails whatever it asks for (`once` of its `act`).
 //!
 //! It doesn't promise that a piece ever acts, nor that what was written outlives the process.
 #![tactic(auto)]
@@ -11,9 +12,11 @@ mod check;
 mod completion;
 mod memory;
 mod on_tag;
+mod once;
 mod table;
 #[cfg(test)]
 mod tests;
 
 pub use adapter::Adapter;
 pub use memory::MemAdapter;
+pub use once::OnceAdapter;

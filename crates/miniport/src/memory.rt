@@ -4,7 +4,7 @@ ghost use Rattle.std.specs.Prelude.{◌≡◌, ◌⊎◌, ◌≤◌, ◌<◌, �
 ghost use Rattle.miniport.specs.declared.carrying.Outcome.{Outcome};
 ghost use Rattle.miniport.specs.declared.on_tag.Progress.TheVariants.{Untouched};
 ghost use Rattle.miniport.specs.Carrying.{IsReady};
-ghost use Rattle.miniport.specs.Memory.{MemView, view_of, new_view, IsKept, PutsBack, ActsIn, ActsNotIn};
+ghost use Rattle.miniport.specs.Memory.{MemView, view_of, new_view, AdapterKept, PutsBack, ActsIn, ActsNotIn};
 
 use crate::carrying::{Outcome, carry_out};
 use crate::on_tag::{OnTag, Progress};
@@ -29,12 +29,18 @@ pub struct MemAdapter<M: Medium> {
 impl<M: Medium> Model for MemAdapter<M> {
     ghost Value = { MemView };
 
-    ghost view = { λ a. view_of (M.seen a.medium) a.max_transfer a.write_protected a.table };
+    ghost view = { λ a. view_of (M.view a.medium) a.max_transfer a.write_protected a.table };
 
-    ghost invariant = { λ a. IsKept (M.seen a.medium) a.max_transfer a.table };
+    ghost invariant = { λ a. AdapterKept (M.view a.medium) a.max_transfer a.table };
 }
 
 impl<M: Medium> MemAdapter<M> {
+    ghost use Rattle.srb.specs.declared.Class.TheVariants.{Bad};
+    ghost use Rattle.srb.specs.Fate.{class_of};
+    ghost use Rattle.adapter.specs.View.{IsInOrder};
+    ghost use Rattle.adapter.specs.Calls.{ActsOrFaults, ActsNot};
+    ghost use Rattle.miniport.specs.Memory.{FailsWith};
+
     /// An adapter with no piece on any of its tags, over a medium of 512 or 4096 bytes a sector and 1 to 2^40 sectors.
     /// `max_transfer` is in sectors, from 1 to 65,536; `depth` is the number of tags, from 1 to 32.
     pub fn new(
@@ -44,15 +50,15 @@ impl<M: Medium> MemAdapter<M> {
         depth: u8,
         write_protected: bool,
     ) -> Result<MemAdapter<M>, NoMemory>
-        requires sector_size { ((M.seen medium).sector_size ≡ 512) ⊎ ((M.seen medium).sector_size ≡ 4096) }
-        requires some { 1 ≤ length (M.seen medium).sectors }
-        requires few { length (M.seen medium).sectors ≤ 2 ^ 40 }
+        requires sector_size { ((M.view medium).sector_size ≡ 512) ⊎ ((M.view medium).sector_size ≡ 4096) }
+        requires some { 1 ≤ length (M.view medium).sectors }
+        requires few { length (M.view medium).sectors ≤ 2 ^ 40 }
         requires transfer { 1 ≤ max_transfer }
         requires short { max_transfer ≤ 2 ^ 16 }
         requires deep { 1 ≤ depth }
         requires shallow { depth ≤ 32 }
-        requires unfailed { (M.seen medium).failures ≡ 0 }
-        ensures { IfOk result (λ a. a ≡ new_view (M.seen medium) max_transfer depth write_protected) }
+        requires unfailed { (M.view medium).failures ≡ 0 }
+        ensures { IfOk result (λ a. a ≡ new_view (M.view medium) max_transfer depth write_protected) }
     {
         let table = TagTable::new(alloc, depth)?;
         Ok(MemAdapter {
@@ -62,12 +68,24 @@ impl<M: Medium> MemAdapter<M> {
             write_protected,
         })
     }
+
+    /// Fails the tag's piece with a completion that says so, whatever its command asks for. False where no piece is on the
+    /// tag, or one that acted or failed before.
+    pub(crate) fn fail(&mut self, tag: u8, completion: Completion) -> bool
+        requires place { length self.old.shown.labels < 64 }
+        requires bad { class_of completion ≡ Bad completion }
+        ensures acts { MatchBool result (ActsOrFaults self.old.shown tag self.new.shown) (ActsNot self.old.shown tag self.new.shown) }
+        ensures order { IsInOrder self.new.shown }
+        ensures fails { MatchBool result (FailsWith self.old tag completion self.new) (self.new ≡ self.old) }
+    {
+        self.table.fail(tag, completion)
+    }
 }
 
 impl<M: Medium> Adapter for MemAdapter<M> {
     ghost use Rattle.std.specs.Prelude.{◌+◌, ◌*◌, Some, None, IfSome, get_or, Any, OnOk, MatchOption};
     ghost use Rattle.adapter.specs.View.{HasTag, IsFree, IsInOrder, IsReserved, IsWritable, ReservesMore, Accepts};
-    ghost use Rattle.adapter.specs.Calls.{Acts, ActsNot, Finishes, FinishesNot, Resets, LeavesFirst, HasNoLabel};
+    ghost use Rattle.adapter.specs.Calls.{ActsOrFaults, ActsNot, Finishes, FinishesNot, Resets, LeavesFirst, HasNoLabel};
     ghost use Rattle.miniport.specs.Faults.{busy};
     ghost use Rattle.miniport.specs.Memory.{Dues, SameDues, ActsByTable, ResetsAll};
 
@@ -133,7 +151,7 @@ impl<M: Medium> Adapter for MemAdapter<M> {
 
     fn act(&mut self, tag: u8) -> bool
         requires { length self.old.shown.labels < 64 }
-        ensures acts { MatchBool result (Acts self.old.shown tag self.new.shown) (ActsNot self.old.shown tag self.new.shown) }
+        ensures acts { MatchBool result (ActsOrFaults self.old.shown tag self.new.shown) (ActsNot self.old.shown tag self.new.shown) }
         ensures order { IsInOrder self.new.shown }
         ensures by_table { MatchBool result (ActsByTable self.old tag self.new) (self.new ≡ self.old) }
     {
@@ -176,14 +194,14 @@ fn carry_on<M: Medium>(
     tag: u8,
     on_tag: OnTag,
 )
-    requires ready { IsReady (M.seen medium.old) on_tag.srb }
+    requires ready { IsReady (M.view medium.old) on_tag.srb }
     requires buffers { length on_tag.srb.for_label ≡ length on_tag.srb.data }
-    requires countable { (M.seen medium.old).failures < 2 ^ 120 }
-    requires some { 1 ≤ length (M.seen medium.old).sectors }
+    requires countable { (M.view medium.old).failures < 2 ^ 120 }
+    requires some { 1 ≤ length (M.view medium.old).sectors }
     requires below { tag < length table.old.slots }
     requires place { length table.old.labels < 64 }
     requires counted { table.old.failures < 2 ^ 127 }
-    ensures { (outcome : Outcome) × PutsBack (M.seen medium.old) write_protected table.old tag on_tag outcome (M.seen medium.new) table.new }
+    ensures { (outcome : Outcome) × PutsBack (M.view medium.old) write_protected table.old tag on_tag outcome (M.view medium.new) table.new }
 {
     match carry_out(medium, write_protected, on_tag.srb) {
         Outcome::Moved { srb, bytes } => {
@@ -207,9 +225,9 @@ fn carry_on<M: Medium>(
 
 /// Carries the command of a tag's piece out, if it has done nothing yet.
 fn act_on<M: Medium>(medium: &mut M, write_protected: bool, table: &mut TagTable, tag: u8) -> bool
-    requires kept { (longest : ℕ) × IsKept (M.seen medium.old) longest table.old }
+    requires kept { (longest : ℕ) × AdapterKept (M.view medium.old) longest table.old }
     requires place { length table.old.labels < 64 }
-    ensures { MatchBool result (ActsIn (M.seen medium.old) write_protected table.old tag (M.seen medium.new) table.new) (ActsNotIn (M.seen medium.old) table.old tag (M.seen medium.new) table.new) }
+    ensures { MatchBool result (ActsIn (M.view medium.old) write_protected table.old tag (M.view medium.new) table.new) (ActsNotIn (M.view medium.old) table.old tag (M.view medium.new) table.new) }
 {
     let Some(on_tag) = table.take_untouched(tag) else {
         return false;

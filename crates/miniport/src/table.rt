@@ -1,9 +1,9 @@
 //! The tags of the adapter in memory, its counts and its record of labels.
 
-ghost use Rattle.std.specs.Prelude.{◌≡◌, ◌≤◌, ◌<◌, ◌^◌, ◌+◌, ◌++◌, ◌∷◌, [], List, ℕ, Some, None, is_some, IsTrue, IfOk, length, replicate, get_or, vec_len, MatchOption, if◌then◌else◌};
+ghost use Rattle.std.specs.Prelude.{◌≡◌, ◌≤◌, ◌<◌, ◌^◌, ◌+◌, ◌++◌, ◌∷◌, [], List, ℕ, Some, None, is_some, IsTrue, IfOk, length, replicate, get_or, vec_len, MatchBool, MatchOption, if◌then◌else◌};
 ghost use Rattle.std.specs.VecDeque.{deque_len, deque_capacity};
 ghost use Rattle.srb.specs.declared.DeviceLabel.{DeviceLabel};
-ghost use Rattle.miniport.specs.Slots.{Table, ComesBack, HasNoneUntouched, piece_at, progress_after_reset, labels_by, slot_after_reset, with_reset_counted, with_slot, with_new, with_moved, with_failed, with_returned, with_reset, with_reset_at};
+ghost use Rattle.miniport.specs.Slots.{Table, ComesBack, Fails, HasNoneUntouched, piece_at, progress_after_reset, labels_by, slot_after_reset, with_reset_counted, with_slot, with_new, with_moved, with_failed, with_returned, with_reset, with_reset_at};
 ghost use Rattle.miniport.specs.declared.on_tag.Progress.TheVariants.{Untouched};
 
 use crate::completion::met_reset;
@@ -142,6 +142,23 @@ impl TagTable {
         self.place(tag, on_tag);
         self.failures += 1;
         self.labels.push_back_reserved(DeviceLabel::Fault { piece });
+    }
+
+    /// Fails a tag's piece, if it has done nothing yet.
+    pub fn fail(&mut self, tag: u8, completion: Completion) -> bool
+        requires place { length self.old.labels < 64 }
+        requires countable { self.old.failures < 2 ^ 127 }
+        ensures { MatchBool result (Fails self.old tag completion self.new) (HasNoneUntouched self.old.slots tag × (self.new ≡ self.old)) }
+    {
+        let Some(on_tag) = self.take_untouched(tag) else {
+            return false;
+        };
+        let on_tag = OnTag {
+            progress: Progress::Failed(completion),
+            ..on_tag
+        };
+        self.put_failed(tag, on_tag);
+        true
     }
 
     fn place(&mut self, tag: u8, on_tag: OnTag)

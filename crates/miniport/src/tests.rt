@@ -627,3 +627,70 @@ fn resets_are_met(rt: HostRuntime) -> Result<(), Fail> {
         ],
     )
 }
+
+/// An adapter of two tags over a disk of four sectors, the last one bad, whose act number `before` fails.
+fn fails_once(alloc: Global, before: u64) -> Result<OnceAdapter<VecDisk>, Fail>
+    ensures accepted { IfOk result (λ a. a.inner.shown.accepted ≡ 0) }
+    ensures labels { IfOk result (λ a. length a.inner.shown.labels ≡ 0) }
+{
+    Ok(OnceAdapter::new(four_sectors(alloc, 2, false)?, before))
+}
+
+// Act number 2 fails though nothing is wrong with its command, and moves nothing; acts that were ignored don't count. All
+// else is the adapter's in memory, its own failures too.
+#[test]
+fn one_act_fails(rt: HostRuntime) -> Result<(), Fail> {
+    let mut adapter = fails_once(rt.alloc(), 2)?;
+    assert_eq!(rt; adapter.sector_size(), 512);
+    assert_eq!(rt; adapter.max_transfer(), 64);
+    assert!(rt; adapter.is_faithful() && adapter.failures() == 0);
+    run(
+        &rt,
+        rt.alloc(),
+        &mut adapter,
+        &[
+            (write(0, 1, 0, 0xA5), &[(1, 'S', 0)]),
+            (acts(0, true), &[(1, 'A', 0xA5)]),
+            (acts(0, false), &[]),
+            (acts(1, false), &[]),
+            (back(0, GOOD, 0xA5), &[(1, 'G', 0)]),
+            (read(1, 2, 3), &[(2, 'S', 1)]),
+            (acts(1, true), &[(2, 'F', 0)]),
+            (back(1, checked(3, 0x11), 0), &[(2, 'R', 0x84)]),
+            (write(0, 3, 0, 0x5A), &[(3, 'S', 0)]),
+            (read(1, 4, 0), &[(4, 'S', 1)]),
+            (acts(0, true), &[(3, 'F', 0)]),
+            (acts(0, false), &[]),
+            (acts(1, true), &[(4, 'A', 0xA5)]),
+            (back(0, checked(4, 0), 0x5A), &[(3, 'R', 0x84)]),
+            (back(1, GOOD, 0xA5), &[(4, 'G', 0)]),
+            (write(0, 5, 0, 0x5A), &[(5, 'S', 0)]),
+            (Step::Reset(3), &[(5, 'F', 0)]),
+            (acts(0, false), &[]),
+            (back(0, RESET, 0x5A), &[(5, 'R', 0x0E)]),
+            (read(0, 6, 0), &[(6, 'S', 0)]),
+            (acts(0, true), &[(6, 'A', 0xA5)]),
+            (back(0, GOOD, 0xA5), &[(6, 'G', 0)]),
+        ],
+    )
+}
+
+// The first act fails, and a reset that meets its piece counts once more.
+#[test]
+fn the_first_act_fails(rt: HostRuntime) -> Result<(), Fail> {
+    let mut adapter = fails_once(rt.alloc(), 0)?;
+    run(
+        &rt,
+        rt.alloc(),
+        &mut adapter,
+        &[
+            (write(1, 1, 2, 0xA5), &[(1, 'S', 1)]),
+            (acts(1, true), &[(1, 'F', 0)]),
+            (Step::Reset(2), &[]),
+            (back(1, RESET, 0xA5), &[(1, 'R', 0x0E)]),
+            (write(1, 2, 2, 0xA5), &[(2, 'S', 1)]),
+            (acts(1, true), &[(2, 'A', 0xA5)]),
+            (back(1, GOOD, 0xA5), &[(2, 'G', 0)]),
+        ],
+    )
+}

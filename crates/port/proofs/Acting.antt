@@ -20,7 +20,7 @@ use Rattle.machine.specs.State.{State}
 use Rattle.machine.specs.Sending.{Transfers, command_for, read_command, write_command, flush_command}
 use Rattle.machine.specs.Map.{sectors_in}
 use Rattle.machine.proofs.Forms.{read_forms, write_forms, flush_forms, one_read, one_write}
-use Rattle.device.specs.Seen.{AsksFor, IsBounded, sent_bytes, transfer_length}
+use Rattle.device.specs.View.{AsksFor, IsBounded, sent_bytes, transfer_length}
 use Rattle.sector.proofs.Splicing.{length-splice}
 use Rattle.port.specs.declared.queues.Sizes.{Sizes}
 use Rattle.port.specs.Shown.{rules_of, places_of}

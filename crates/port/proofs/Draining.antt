@@ -12,7 +12,7 @@ use Rattle.machine.specs.declared.Label.TheVariants.{Cancel}
 use Rattle.machine.specs.Rules.{Rules}
 use Rattle.machine.specs.State.{OpenRequest, State, IsSame}
 use Rattle.machine.specs.Holding.{Cancels, Drains, as_cancelled}
-use Rattle.device.specs.Seen.{IsBounded}
+use Rattle.device.specs.View.{IsBounded}
 use Rattle.device.specs.Served.{CancelsIfOpen, DrainsAll}
 use Rattle.machine.proofs.Numbers.{AreDistinct-same, AreDistinct-Step}
 use Rattle.port.specs.declared.queues.Held.{Held}
@@ -21,8 +21,8 @@ use Rattle.port.specs.declared.queues.Outcome.{Outcome}
 use Rattle.port.specs.declared.queues.Outcome.TheVariants.{Returned, Withdrawn, Gone}
 use Rattle.port.specs.Books.{Entry, Books, entry_of, ended_entry}
 use Rattle.port.specs.Turns.{gone, drained, cancelled, is_cancellable, Withdraws}
-use Rattle.port.specs.Shown.{rules_of, waiting_open, done_open, open_on, packet as packet_as, of_packets, of_waiting, of_tag, of_done, state_of, seen_of, requests_of}
-use Rattle.port.specs.Kept.{asked, IsKept, IsInHand, IsRoom, IsWaiting, IsBefore, AreInTurn, HasEnded, HasOutcome}
+use Rattle.port.specs.Shown.{rules_of, waiting_open, done_open, open_on, packet as packet_as, of_packets, of_waiting, of_tag, of_done, state_of, view_of, requests_of}
+use Rattle.port.specs.Kept.{asked, PortKept, IsInHand, IsRoom, IsWaiting, IsBefore, AreInTurn, HasEnded, HasOutcome}
 use Rattle.port.proofs.Lists.{last_front}
 use Rattle.port.proofs.Returning.{done_is}
 use Rattle.port.proofs.Orderly.{in_hand, maps_are}
@@ -68,7 +68,7 @@ ended_at_removal rules removing d h = record { bounded = h.bounded; why = by_out
     by_outcome Withdrawn h = h
     by_outcome Gone h = refl
 
-kept_drained : (b : Books) (v : AdapterView) (rooms : List Request) → IsKept b v rooms → IsKept (drained b) v rooms
+kept_drained : (b : Books) (v : AdapterView) (rooms : List Request) → PortKept b v rooms → PortKept (drained b) v rooms
 kept_drained b v rooms k =
     let rules : Rules = rules_of b.sizes in
     let s : State = record (state_of b v) { removing = true } in
@@ -99,8 +99,8 @@ kept_drained b v rooms k =
 pub hand_drained : (b b' : Books) (v : AdapterView) (rooms : List Request) → b' ≡ drained b → IsInHand b v rooms → IsInHand b' v rooms
 hand_drained b b' v rooms e i = subst (λ x. IsInHand x v rooms) (sym e) (in_hand (drained b) v rooms (kept_drained b v rooms i.kept) (λ free. refl))
 
-pub drains_all : (b b' : Books) (v : AdapterView) → b' ≡ drained b → DrainsAll (seen_of b v) (seen_of b' v)
-drains_all b b' v e = subst (λ x. DrainsAll (seen_of b v) (seen_of x v)) (sym e) (record {
+pub drains_all : (b b' : Books) (v : AdapterView) → b' ≡ drained b → DrainsAll (view_of b v) (view_of b' v)
+drains_all b b' v e = subst (λ x. DrainsAll (view_of b v) (view_of x v)) (sym e) (record {
   drains = drains b v;
   beside = record { same_rules = refl; same_packets = packets_drained packet_as b v; same_submitted = refl; same_most = refl; same_adapter = refl };
 })
@@ -125,7 +125,7 @@ cannot_facts number e h same timely = both (e.number == number) e.cancelled refl
 
 pub record IsCancelled (b : Books) (v : AdapterView) (number : ℕ) (b' : Books) : Type 0 where
   pub rooms : (rooms : List Request) → IsInHand b v rooms → IsInHand b' v rooms
-  pub cancels : CancelsIfOpen (seen_of b v) number (seen_of b' v)
+  pub cancels : CancelsIfOpen (view_of b v) number (view_of b' v)
 
 -- IN THE QUEUE
 
@@ -181,7 +181,7 @@ module _ (b : Books) (v : AdapterView) (number : ℕ) (before : List Held) (held
   not_empty : b.waiting ≡ [] → ⊥
   not_empty e = let l = length_permutation _ _ front in let z = ap (λ (hs : List Held). length hs) e in absurd (omega arith)
 
-  kept_withdrawn : (rooms : List Request) → IsKept b v rooms → IsKept (books_withdrawn b (before ++ behind) withdrawn) v rooms
+  kept_withdrawn : (rooms : List Request) → PortKept b v rooms → PortKept (books_withdrawn b (before ++ behind) withdrawn) v rooms
   kept_withdrawn rooms k =
       let rules : Rules = rules_of b.sizes in
       let all : All (IsWaiting rules v) (held ∷ (before ++ behind)) = All-permutation (IsWaiting rules v) _ _ front k.waiting in

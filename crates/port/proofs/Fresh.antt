@@ -11,9 +11,9 @@ use Rattle.machine.proofs.Numbers.{AreDistinct-opening}
 use Rattle.port.specs.declared.queues.Sizes.{Sizes}
 use Rattle.port.specs.Books.{Books}
 use Rattle.port.specs.Turns.{IsEmpty}
-use Rattle.port.specs.Shown.{rules_of, seen_of}
+use Rattle.port.specs.Shown.{rules_of, view_of}
 use Rattle.port.specs.Kept.{IsInHand, IsRoom, IsWaiting, IsAtWork, HasEnded}
-use Rattle.port.specs.Opening.{IsFresh, sizes_of, opening_seen}
+use Rattle.port.specs.Opening.{IsFresh, sizes_of, opening_view}
 use Rattle.port.proofs.Orderly.{in_hand}
 
 -- the books of empty queues over this adapter
@@ -70,11 +70,11 @@ opens_in_hand b v sizes e h f order =
     subst (λ x. IsInHand x v []) (sym (empty_is b (sizes_of v) h'))
     (subst (λ x. IsInHand (books_empty b (sizes_of v)) x []) (sym v_is) (hand_empty b v f.accepted (h'.started) (subst IsInOrder v_is order)))
 
-pub opens_seen : (b : Books) (v : AdapterView) (sizes : Sizes) → sizes ≡ sizes_of v → IsEmpty sizes b → IsFresh v → seen_of b v ≡ opening_seen v
+pub opens_seen : (b : Books) (v : AdapterView) (sizes : Sizes) → sizes ≡ sizes_of v → IsEmpty sizes b → IsFresh v → view_of b v ≡ opening_view v
 opens_seen b v sizes e h f =
     let h' : IsEmpty (sizes_of v) b = subst (λ (x : Sizes). IsEmpty x b) e h in
     let v_is : v ≡ view_fresh v = fresh_is v f in
-    ap (λ (x : Books). seen_of x v) (empty_is b (sizes_of v) h') ∙ ap (λ (x : AdapterView). seen_of (books_empty b (sizes_of v)) x) v_is ∙ ap (λ (x : AdapterView). opening_seen x) (sym v_is)
+    ap (λ (x : Books). view_of x v) (empty_is b (sizes_of v) h') ∙ ap (λ (x : AdapterView). view_of (books_empty b (sizes_of v)) x) v_is ∙ ap (λ (x : AdapterView). opening_view x) (sym v_is)
 
 pub sizes_are : (v : AdapterView) (sector_size sectors max_transfer depth : ℕ) (faithful : Bool) → sector_size ≡ v.sector_size → sectors ≡ length v.sectors → max_transfer ≡ v.max_transfer → depth ≡ v.depth
     → faithful ≡ v.faithful → sizes_by sector_size sectors max_transfer depth faithful ≡ sizes_of v

@@ -19,7 +19,7 @@ use Rattle.machine.specs.State.{Mark, Untouched, Out, Done, Failed, Back, OpenRe
 use Rattle.machine.specs.Sending.{is_started, status_of_completion, IsStart}
 use Rattle.machine.specs.Answering.{HasEnded, HasCause, Cause, Answers, is_done, answer_bytes, information}
 use Rattle.machine.specs.Settled.{Settled, IsHeld, WaitsIfCancelled, Waits, IsHeldBack, HasMore, IsAtWork, has_out}
-use Rattle.device.specs.Seen.{Carries, payload_bytes, transfer_length}
+use Rattle.device.specs.View.{Carries, payload_bytes, transfer_length}
 use Rattle.port.proofs.Lists.{length-cut}
 use Rattle.device.specs.Served.{HandsUp, HandsUpNone, IsUnfinished, sectors_moved, IsBack}
 use Rattle.machine.proofs.Same.{IsSame-refl}
@@ -32,9 +32,9 @@ use Rattle.port.specs.declared.queues.Ended.{Ended}
 use Rattle.port.specs.declared.queues.Outcome.{Outcome}
 use Rattle.port.specs.declared.queues.Outcome.TheVariants.{Returned, Withdrawn, Gone}
 use Rattle.port.specs.Books.{Entry, Books, entry, ended_entry}
-use Rattle.port.specs.Turns.{Leaves, LeavesNot}
-use Rattle.port.specs.Shown.{rules_of, places_of, marks_left, busy_left, status_left, waiting_open, done_open, open_on, piece_on, entry_or_nobody, packet as packet_as, of_packets, of_waiting, of_tag, of_done, state_of, seen_of, requests_of}
-use Rattle.port.specs.Kept.{asked, IsKept, IsInHand, IsRoom, IsWaiting, HasOutcome, HasEnded as HasEndedBy, IsAtWork as IsOnTag}
+use Rattle.port.specs.Turns.{TakesDone, TakesNone}
+use Rattle.port.specs.Shown.{rules_of, places_of, marks_left, busy_left, status_left, waiting_open, done_open, open_on, piece_on, entry_or_nobody, packet as packet_as, of_packets, of_waiting, of_tag, of_done, state_of, view_of, requests_of}
+use Rattle.port.specs.Kept.{asked, PortKept, IsInHand, IsRoom, IsWaiting, HasOutcome, HasEnded as HasEndedBy, IsAtWork as IsOnTag}
 use Rattle.port.proofs.Lists.{all_done, bytes_done}
 use Rattle.adapter.proofs.Joining.{reserves_none}
 use Rattle.port.proofs.Sizing.{places_some, bytes_short}
@@ -117,11 +117,11 @@ module _ (b : Books) (v : AdapterView) (rooms : List Request) (k : IsInHand b v 
         within_window = tt;
       }
 
-pub hands_up_none : (b b' : Books) (v : AdapterView) (rooms : List Request) → IsInHand b v rooms → LeavesNot b b' → HandsUpNone (seen_of b v) (seen_of b' v)
+pub hands_up_none : (b b' : Books) (v : AdapterView) (rooms : List Request) → IsInHand b v rooms → TakesNone b b' → HandsUpNone (view_of b v) (view_of b' v)
 hands_up_none b b' v rooms k h = record {
   unfinished = unfinished b v rooms k h.none_ended;
   settled = settled b v rooms k h.none_ended;
-  same = ap (λ (x : Books). seen_of x v) h.same;
+  same = ap (λ (x : Books). view_of x v) h.same;
 }
 
 -- WHAT HAS ENDED
@@ -220,7 +220,7 @@ packets_left f b v d rest is =
     subst (λ (ds : List Ended). IsPermutation (map (of_waiting f) b.waiting ++ (map (of_tag f b.started) v.tags ++ map (of_done f) ds)) (f (ended_entry d) ∷ of_packets f (books_left b rest) v)) (sym is)
     (third_front (map (of_waiting f) b.waiting) (map (of_tag f b.started) v.tags) (map (of_done f) rest) (f (ended_entry d)))
 
-answers_left : (b : Books) (v : AdapterView) (rooms : List Request) (d : Ended) (rest : List Ended) → IsKept b v rooms → b.done ≡ d ∷ rest
+answers_left : (b : Books) (v : AdapterView) (rooms : List Request) (d : Ended) (rest : List Ended) → PortKept b v rooms → b.done ≡ d ∷ rest
     → IsHanded (rules_of b.sizes) (state_of b v) (done_open (rules_of b.sizes) d) d.request d.irp.payload (status_left d.outcome)
     → Answers (rules_of b.sizes) (state_of b v) d.irp.number (status_left d.outcome) (answer_bytes d.request.kind (marks_left (rules_of b.sizes) d.request d.irp.payload d.outcome)) (state_of (books_left b rest) v)
 answers_left b v rooms d rest k is h = record {
@@ -235,14 +235,14 @@ answers_left b v rooms d rest k is h = record {
   after = IsSame-refl _;
 }
 
-is_handed : (b : Books) (v : AdapterView) (rooms : List Request) (d : Ended) (rest : List Ended) → IsKept b v rooms → b.done ≡ d ∷ rest
+is_handed : (b : Books) (v : AdapterView) (rooms : List Request) (d : Ended) (rest : List Ended) → PortKept b v rooms → b.done ≡ d ∷ rest
     → IsHanded (rules_of b.sizes) (state_of b v) (done_open (rules_of b.sizes) d) d.request d.irp.payload (status_left d.outcome)
 is_handed b v rooms d rest k is =
     let rules : Rules = rules_of b.sizes in
     let e : HasEndedBy rules b.removing d = All-head (HasEndedBy rules b.removing) d rest (subst (All (HasEndedBy rules b.removing)) is k.ended) in
     handed rules (state_of b v) (done_open rules d) d d.outcome (omega arith) (places_some b.sizes d.request (kept_sector_some b v rooms k) e.bounded) refl refl refl refl e.why
 
-kept_left : (b : Books) (v : AdapterView) (rooms : List Request) (d : Ended) (rest : List Ended) → IsKept b v rooms → b.done ≡ d ∷ rest → IsKept (books_left b rest) v (d.request ∷ rooms)
+kept_left : (b : Books) (v : AdapterView) (rooms : List Request) (d : Ended) (rest : List Ended) → PortKept b v rooms → b.done ≡ d ∷ rest → PortKept (books_left b rest) v (d.request ∷ rooms)
 unfolding answers_left
 kept_left b v rooms d rest k is =
     let rules : Rules = rules_of b.sizes in
@@ -268,18 +268,18 @@ kept_left b v rooms d rest k is =
       labels = k.labels;
     }
 
-pub hand_left : (b b' : Books) (v : AdapterView) (d : Ended) → Leaves b d b' → (rooms : List Request) → IsInHand b v rooms → IsInHand b' v (d.request ∷ rooms)
+pub hand_left : (b b' : Books) (v : AdapterView) (d : Ended) → TakesDone b d b' → (rooms : List Request) → IsInHand b v rooms → IsInHand b' v (d.request ∷ rooms)
 hand_left b b' v d h rooms k = subst (λ x. IsInHand x v (d.request ∷ rooms)) (sym h.after) (in_hand (books_left b h.rest) v (d.request ∷ rooms) (kept_left b v rooms d h.rest k.kept h.is_front) k.busy)
 
 -- the status and the information are as they were computed
-pub hands_up : (b b' : Books) (v : AdapterView) (rooms : List Request) (d : Ended) (status : NtStatus) (bytes_moved : ℕ) (climb : Climb) → IsInHand b v rooms → Leaves b d b'
+pub hands_up : (b b' : Books) (v : AdapterView) (rooms : List Request) (d : Ended) (status : NtStatus) (bytes_moved : ℕ) (climb : Climb) → IsInHand b v rooms → TakesDone b d b'
     → status ≡ status_left d.outcome → bytes_moved ≡ information (as_client (rules_of b'.sizes) d.request []) status
-    → Climbs (entry d.irp d.request d.spot).above d.irp.number d.irp.cancelled status bytes_moved d.irp.payload climb → BringsRoutine (entry d.irp d.request d.spot).cancel_routine climb → HandsUp true (seen_of b v) d.request climb (seen_of b' v)
+    → Climbs (entry d.irp d.request d.spot).above d.irp.number d.irp.cancelled status bytes_moved d.irp.payload climb → BringsRoutine (entry d.irp d.request d.spot).cancel_routine climb → HandsUp true (view_of b v) d.request climb (view_of b' v)
 unfolding answers_left
 hands_up b b' v rooms d status bytes_moved climb k h status_is moved_is climbs brings =
     let rules : Rules = rules_of b.sizes in
     let x = is_handed b v rooms d h.rest k.kept h.is_front in
-    subst (λ (y : Books). HandsUp true (seen_of b v) d.request climb (seen_of y v)) (sym h.after) (record {
+    subst (λ (y : Books). HandsUp true (view_of b v) d.request climb (view_of y v)) (sym h.after) (record {
       packet = packet_as (ended_entry d);
       others = of_packets packet_as (books_left b h.rest) v;
       payload = d.irp.payload;
@@ -303,9 +303,10 @@ hands_up b b' v rooms d status bytes_moved climb k h status_is moved_is climbs b
       brings_routine = brings;
       only_starts = All-nil IsStart;
       moves = record { same_rules = refl; same_packets = IsPermutation-refl _; same_submitted = refl; same_most = refl; run = IsSame-refl _; adapter = reserves_none v };
+      still = λ window none. refl;
     })
 
-pub moved_few : (b b' : Books) (v : AdapterView) (rooms : List Request) (d : Ended) → IsInHand b v rooms → Leaves b d b' → d.request.extent.count * b'.sizes.sector_size < 2 ^ 64
+pub moved_few : (b b' : Books) (v : AdapterView) (rooms : List Request) (d : Ended) → IsInHand b v rooms → TakesDone b d b' → d.request.extent.count * b'.sizes.sector_size < 2 ^ 64
 moved_few b b' v rooms d k h =
     let rules : Rules = rules_of b.sizes in
     let e : HasEndedBy rules b.removing d = All-head (HasEndedBy rules b.removing) d h.rest (subst (All (HasEndedBy rules b.removing)) h.is_front k.kept.ended) in

@@ -15,7 +15,7 @@ use Rattle.machine.specs.Rules.{Rules}
 use Rattle.machine.specs.State.{OpenRequest}
 use Rattle.machine.specs.Holding.{Cancels, as_cancelled}
 use Rattle.machine.specs.declared.Kind.TheVariants.{Read}
-use Rattle.device.specs.Seen.{Carries, IsBounded, payload_bytes, transfer_length}
+use Rattle.device.specs.View.{Carries, IsBounded, payload_bytes, transfer_length}
 use Rattle.device.specs.Served.{CancelsIfOpen, sectors_moved}
 use Rattle.machine.proofs.Numbers.{AreDistinct-Step}
 use Rattle.port.specs.declared.queues.Held.{Held}
@@ -25,8 +25,8 @@ use Rattle.port.specs.declared.queues.Outcome.TheVariants.{Returned, Withdrawn, 
 use Rattle.port.specs.Books.{Entry, Books, entry_of, ended_entry}
 use Rattle.port.specs.Turns.{held_on, cancelled, is_cancellable, CannotCancelHeld, CannotCancelOn, WithdrawsNot, CancelsOn, CancelsEnded, CancelsNoEnded}
 use Rattle.port.specs.Cancelling.{CancelsAt, CancelsNotAt, CancelsNoStarted}
-use Rattle.port.specs.Shown.{rules_of, waiting_open, done_open, out_open, out_piece, open_on, entry_on, entry_or_nobody, packet as packet_as, of_packets, of_waiting, of_tag, of_done, state_of, seen_of, requests_of}
-use Rattle.port.specs.Kept.{asked, IsKept, IsInHand, IsRoom, IsAtWork, IsDoing, HasEnded, HasOutcome}
+use Rattle.port.specs.Shown.{rules_of, waiting_open, done_open, out_open, out_piece, open_on, entry_on, entry_or_nobody, packet as packet_as, of_packets, of_waiting, of_tag, of_done, state_of, view_of, requests_of}
+use Rattle.port.specs.Kept.{asked, PortKept, IsInHand, IsRoom, IsAtWork, IsDoing, HasEnded, HasOutcome}
 use Rattle.port.proofs.Lists.{second_front, last_front}
 use Rattle.port.proofs.Tags.{others_same, others_apart}
 use Rattle.port.proofs.Starting.{work_beside}
@@ -37,7 +37,7 @@ use Rattle.port.proofs.Draining.{IsCancelled, can_facts, cannot_facts}
 
 pub record IsCancelledTo (b : Books) (v : AdapterView) (number : ℕ) (b' : Books) (v' : AdapterView) : Type 0 where
   pub rooms : (rooms : List Request) → IsInHand b v rooms → IsInHand b' v' rooms
-  pub cancels : CancelsIfOpen (seen_of b v) number (seen_of b' v')
+  pub cancels : CancelsIfOpen (view_of b v) number (view_of b' v')
 
 -- AT THE ADAPTER
 
@@ -96,7 +96,7 @@ module _ (b : Books) (v : AdapterView) (number tag : ℕ) (use' : TagInUse) (oth
       let after = subst (λ y. IsPermutation (map (of_tag f (slice_set b.started tag (Some marked))) v.tags) (y ∷ map (of_tag f b.started) others)) (keeps (entry_of held)) (after_mark (λ e u. f e)) in
       IsPermutation-append_right (map (of_waiting f) b.waiting) _ _ (IsPermutation-append_left (map (of_done f) b.done) _ _ (IsPermutation-trans _ _ _ after (IsPermutation-sym _ _ (before_mark (λ e u. f e)))))
 
-  kept_marked : (rooms : List Request) → IsKept b v rooms → IsKept (books_marked b tag marked) v rooms
+  kept_marked : (rooms : List Request) → PortKept b v rooms → PortKept (books_marked b tag marked) v rooms
   kept_marked rooms h =
       let rules : Rules = rules_of b.sizes in
       let work = on_tag_work rules b.started v.tags use' others tag held h.at_work on.in_use on.has_tag there in
@@ -206,7 +206,7 @@ module _ (b : Books) (v : AdapterView) (number : ℕ) (before : List Ended) (end
       by_outcome Withdrawn h = ap (λ (e : Entry). e.cancelled) same_entry
       by_outcome Gone h = h
 
-  kept_ended : (rooms : List Request) → IsKept b v rooms → IsKept (books_ended b (before ++ behind) marked) v rooms
+  kept_ended : (rooms : List Request) → PortKept b v rooms → PortKept (books_ended b (before ++ behind) marked) v rooms
   kept_ended rooms k =
       let rules : Rules = rules_of b.sizes in
       let all : All (HasEnded rules b.removing) (ended ∷ (before ++ behind)) = All-permutation (HasEnded rules b.removing) _ _ front k.ended in

@@ -13,7 +13,7 @@ use Rattle.machine.specs.State.{Out, Done, Failed, Back, OpenRequest}
 use Rattle.machine.specs.Sending.{is_started, status_of_completion}
 use Rattle.machine.specs.Settled.{HasGone, IsAllSent}
 use Rattle.machine.specs.Numbers.{HasPlaces, HavePlaces, request_number}
-use Rattle.device.specs.Seen.{packet_number, IsSending, WaitsForTag, piece_on_tag, use_on_tag}
+use Rattle.device.specs.View.{packet_number, IsSending, WaitsForTag, piece_on_tag, use_on_tag}
 use Rattle.port.specs.declared.queues.Held.{Held}
 use Rattle.port.specs.declared.queues.Ended.{Ended}
 use Rattle.port.specs.declared.queues.Outcome.{Outcome}
@@ -21,7 +21,7 @@ use Rattle.port.specs.declared.queues.Outcome.TheVariants.{Returned, Withdrawn, 
 use Rattle.port.specs.Books.{Books}
 use Rattle.port.specs.Shown.{entry_on, rules_of, places_of, marks_left, busy_left, waiting_open, open_on, piece_on, done_open, packet, of_waiting, of_tag, of_done, state_of, requests_of, packets_of}
 use Rattle.device.specs.Served.{sectors_moved}
-use Rattle.port.specs.Kept.{IsKept, IsBusy, IsInHand, IsWaiting, IsAtWork, HasEnded, HasOutcome}
+use Rattle.port.specs.Kept.{PortKept, IsBusy, IsInHand, IsWaiting, IsAtWork, HasEnded, HasOutcome}
 use Rattle.port.specs.Releases.{AreLowerInUse}
 use Rattle.port.proofs.Lists.{length-cut}
 use Rattle.port.proofs.Tags.{all_in_use}
@@ -47,7 +47,7 @@ marks_some rules r payload (Returned (Bad completion)) some = rw length-replicat
 marks_some rules r payload Withdrawn some = rw length-replicate some
 marks_some rules r payload Gone some = rw length-replicate some
 
-have_places : (b : Books) (v : AdapterView) (rooms : List Request) → IsKept b v rooms → HavePlaces (state_of b v)
+have_places : (b : Books) (v : AdapterView) (rooms : List Request) → PortKept b v rooms → HavePlaces (state_of b v)
 have_places b v rooms k =
     let rules : Rules = rules_of b.sizes in
     let some : 0 < b.sizes.sector_size = kept_sector_some b v rooms k in
@@ -87,7 +87,7 @@ ended_is_started b d some e stays timely =
     ended_started (rules_of b.sizes) d (places_some b.sizes d.request some e.bounded)
     (λ o. subst (HasOutcome (rules_of b.sizes) b.removing d) o e.why) (λ o. true_false b.removing (subst (HasOutcome (rules_of b.sizes) b.removing d) o e.why) stays) timely
 
-sending : (b : Books) (v : AdapterView) (rooms : List Request) → IsKept b v rooms → IsBusy b v → IsSending (rules_of b.sizes) (state_of b v)
+sending : (b : Books) (v : AdapterView) (rooms : List Request) → PortKept b v rooms → IsBusy b v → IsSending (rules_of b.sizes) (state_of b v)
 sending b v rooms k busy =
     let rules : Rules = rules_of b.sizes in
     let some : 0 < b.sizes.sector_size = kept_sector_some b v rooms k in
@@ -111,7 +111,7 @@ pub busy_after : (b : Books) (v : AdapterView) (tag : ℕ) → v.depth ≤ tag �
 busy_after b v tag all (inl none) = λ free. none
 busy_after b v tag all (inr h) = λ free. let few = all_in_use tag v.tags h in absurd (omega arith)
 
-pub in_hand : (b : Books) (v : AdapterView) (rooms : List Request) → IsKept b v rooms → IsBusy b v → IsInHand b v rooms
+pub in_hand : (b : Books) (v : AdapterView) (rooms : List Request) → PortKept b v rooms → IsBusy b v → IsInHand b v rooms
 in_hand b v rooms k busy = record {
   kept = k;
   busy = busy;

@@ -13,14 +13,14 @@ use Rattle.machine.specs.declared.Request.{Request}
 use Rattle.machine.specs.Rules.{Rules}
 use Rattle.machine.specs.State.{Piece, State, IsSame}
 use Rattle.machine.specs.Sending.{with_fate}
-use Rattle.device.specs.Seen.{label_places}
+use Rattle.device.specs.View.{label_places}
 use Rattle.device.specs.Served.{Resets, piece_tag, is_fresh_piece, fault_of}
 use Rattle.machine.specs.Step.{Run, as_label}
 use Rattle.machine.proofs.Same.{IsSame-refl, Run-same}
 use Rattle.machine.proofs.Numbers.{AreDistinct-Run}
 use Rattle.port.specs.declared.queues.Held.{Held}
 use Rattle.port.specs.Books.{Entry, Books}
-use Rattle.port.specs.Shown.{rules_of, waiting_open, done_open, open_on, piece_on, packet as packet_as, of_packets, of_waiting, of_tag, of_done, state_of, seen_of}
+use Rattle.port.specs.Shown.{rules_of, waiting_open, done_open, open_on, piece_on, packet as packet_as, of_packets, of_waiting, of_tag, of_done, state_of, view_of}
 use Rattle.port.specs.Kept.{asked, IsInHand, IsRoom, IsWaiting, IsAtWork, IsDoing}
 use Rattle.port.proofs.Tags.{tags_fit}
 use Rattle.port.proofs.Starting.{room_moves, waiting_moves}
@@ -186,9 +186,9 @@ hand_reset b v tags' fresh failures rooms i p f space order =
 
 pub record IsReset (b : Books) (v v' : AdapterView) : Type 0 where
   pub rooms : (rooms : List Request) → IsInHand b v rooms → IsInHand b v' rooms
-  pub resets : Resets (seen_of b v) (seen_of b v')
+  pub resets : Resets (view_of b v) (view_of b v')
 
-pub reset_all : (b : Books) (v v' : AdapterView) (rooms : List Request) → IsInHand b v rooms → label_places (seen_of b v) + (rules_of b.sizes).depth ≤ 64 → AdapterResets v v' → IsInOrder v' → IsReset b v v'
+pub reset_all : (b : Books) (v v' : AdapterView) (rooms : List Request) → IsInHand b v rooms → label_places (view_of b v) + (rules_of b.sizes).depth ≤ 64 → AdapterResets v v' → IsInOrder v' → IsReset b v v'
 reset_all b v v' rooms k space h order =
     let rules : Rules = rules_of b.sizes in
     let l = length-map v.tags (piece_on rules b.started) in

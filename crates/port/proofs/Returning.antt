@@ -22,8 +22,8 @@ use Rattle.machine.specs.declared.Kind.TheVariants.{Read, Write, Flush}
 use Rattle.machine.specs.declared.Request.{Request}
 use Rattle.machine.specs.Rules.{Rules, as_client}
 use Rattle.machine.specs.State.{Mark, Done, Out, OpenRequest}
-use Rattle.machine.specs.Sending.{Leaves, Returns, given_back, one_if_busy, HasOtherTag}
-use Rattle.device.specs.Seen.{AsksFor, Carries, IsBounded, payload_bytes, sent_bytes, label_places, transfer_length}
+use Rattle.machine.specs.Sending.{LeavesMarks, Returns, given_back, one_if_busy, HasOtherTag}
+use Rattle.device.specs.View.{AsksFor, Carries, IsBounded, payload_bytes, sent_bytes, label_places, transfer_length}
 use Rattle.device.specs.Served.{Finishes, FinishesNot, Moves, sectors_moved}
 use Rattle.machine.proofs.Same.{IsSame-refl}
 use Rattle.machine.proofs.Numbers.{AreDistinct-DeviceStep}
@@ -33,8 +33,8 @@ use Rattle.port.specs.declared.queues.Outcome.{Outcome}
 use Rattle.port.specs.declared.queues.Outcome.TheVariants.{Returned, Withdrawn, Gone}
 use Rattle.port.specs.Books.{Entry, Books, entry_of, ended_entry}
 use Rattle.port.specs.Turns.{held_on, EndsAs, Ends}
-use Rattle.port.specs.Shown.{rules_of, places_of, marks_left, busy_left, open_as, waiting_open, done_open, out_open, out_piece, open_on, piece_on, entry_on, packet as packet_as, of_packets, of_waiting, of_tag, of_done, state_of, seen_of, requests_of}
-use Rattle.port.specs.Kept.{asked, IsKept, IsRoom, IsWaiting, IsAtWork, IsDoing, HasEnded, HasOutcome}
+use Rattle.port.specs.Shown.{rules_of, places_of, marks_left, busy_left, open_as, waiting_open, done_open, out_open, out_piece, open_on, piece_on, entry_on, packet as packet_as, of_packets, of_waiting, of_tag, of_done, state_of, view_of, requests_of}
+use Rattle.port.specs.Kept.{asked, PortKept, IsRoom, IsWaiting, IsAtWork, IsDoing, HasEnded, HasOutcome}
 use Rattle.port.specs.Releases.{Releases}
 use Rattle.port.proofs.Lists.{splice_whole, second_front, last_front, length-cut}
 use Rattle.port.proofs.Tags.{others_same, others_apart}
@@ -107,7 +107,7 @@ busy_is (Bad completion) = refl
 
 -- the marks are those that the class leaves
 leaves_marks : (rules : Rules) (v : AdapterView) (held : Held) (use' : TagInUse) (sense : Option Sense) (class : Class) → MayReturn v use' class → IsDoing rules held.request use'.fate use'.srb
-    → Leaves (out_piece rules (entry_of held) use') class (marks_left rules held.request (Packed (with_sense use'.srb sense)) (Returned class))
+    → LeavesMarks (out_piece rules (entry_of held) use') class (marks_left rules held.request (Packed (with_sense use'.srb sense)) (Returned class))
 leaves_marks rules v held use' sense Good may doing =
     let moved : List (List ℕ) = may.0.0 in
     let d : IsDoing rules held.request (Acted moved) use'.srb = subst (λ f. IsDoing rules held.request f use'.srb) may.0.1 doing in
@@ -145,7 +145,7 @@ pub record Back (b : Books) (v : AdapterView) (tag : ℕ) (use' : TagInUse) (oth
   pub ends_as : EndsAs held (Packed (with_sense use'.srb sense)) (Returned class) ended
 
 module _ (b : Books) (v : AdapterView) (tag : ℕ) (use' : TagInUse) (others tags' : List TagInUse) (class : Class) (sense : Option Sense) (held : Held) (ended : Ended) where
-  machine_returns : (rooms : List Request) → IsKept b v rooms → Back b v tag use' others tags' class sense held ended
+  machine_returns : (rooms : List Request) → PortKept b v rooms → Back b v tag use' others tags' class sense held ended
       → Returns (state_of b v) use'.piece class (state_of (books_returned b tag ended) (view_returned v tags' use'.piece class))
   machine_returns rooms k h =
       let rules : Rules = rules_of b.sizes in
@@ -195,7 +195,7 @@ module _ (b : Books) (v : AdapterView) (tag : ℕ) (use' : TagInUse) (others tag
           rw more (IsPermutation-trans _ _ _ (IsPermutation-append_right (map (waiting_open rules) b.waiting) _ _ (IsPermutation-append_left (map (done_open rules) b.done ++ done_open rules ended ∷ []) _ _ (tags_left (out_open rules) b.started tag None tags' others apart h.left)))
           (last_front (map (waiting_open rules) b.waiting) (map (open_on rules b.started) others) (map (done_open rules) b.done) (done_open rules ended)))
 
-  packets_returned : {Y : Type 0} (f : Entry → Y) (rooms : List Request) → IsKept b v rooms → Back b v tag use' others tags' class sense held ended
+  packets_returned : {Y : Type 0} (f : Entry → Y) (rooms : List Request) → PortKept b v rooms → Back b v tag use' others tags' class sense held ended
       → IsPermutation (of_packets f (books_returned b tag ended) (view_returned v tags' use'.piece class)) (of_packets f b v)
   packets_returned {Y} f rooms k h =
       let on : held_on b.started use'.tag ≡ Some held = subst (λ t. held_on b.started t ≡ Some held) (sym h.on.has_tag) h.held_is in
@@ -209,8 +209,8 @@ module _ (b : Books) (v : AdapterView) (tag : ℕ) (use' : TagInUse) (others tag
       second_front (map (of_waiting f) b.waiting) (map (of_tag f b.started) v.tags) (map (of_tag f b.started) others) (map (of_done f) b.done) (f (entry_of held)) (tags_on (λ e u. f e) b.started v.tags use' others held h.on.in_use on) in
       rw more (IsPermutation-trans _ _ _ (subst (λ (e : Entry). IsPermutation shown (f e ∷ (map (of_waiting f) b.waiting ++ (map (of_tag f b.started) others ++ map (of_done f) b.done)))) h.ends_as.same_entry first) (IsPermutation-sym _ _ second))
 
-  kept_returned : (rooms : List Request) → IsKept b v rooms → Back b v tag use' others tags' class sense held ended → length v.labels + (v.depth - length v.tags) + 2 ≤ 64 → IsInOrder (view_returned v tags' use'.piece class)
-      → IsKept (books_returned b tag ended) (view_returned v tags' use'.piece class) rooms
+  kept_returned : (rooms : List Request) → PortKept b v rooms → Back b v tag use' others tags' class sense held ended → length v.labels + (v.depth - length v.tags) + 2 ≤ 64 → IsInOrder (view_returned v tags' use'.piece class)
+      → PortKept (books_returned b tag ended) (view_returned v tags' use'.piece class) rooms
   kept_returned rooms k h space order =
       let rules : Rules = rules_of b.sizes in
       let v' : AdapterView = view_returned v tags' use'.piece class in
@@ -243,8 +243,8 @@ module _ (b : Books) (v : AdapterView) (tag : ℕ) (use' : TagInUse) (others tag
         labels = omega (arith, length-append v.labels (Return use'.piece class ∷ []));
       }
 
-  return_moves : (rooms : List Request) → IsKept b v rooms → Back b v tag use' others tags' class sense held ended
-      → Moves (seen_of b v) (Return use'.piece class ∷ []) (seen_of (books_returned b tag ended) (view_returned v tags' use'.piece class))
+  return_moves : (rooms : List Request) → PortKept b v rooms → Back b v tag use' others tags' class sense held ended
+      → Moves (view_of b v) (Return use'.piece class ∷ []) (view_of (books_returned b tag ended) (view_returned v tags' use'.piece class))
   return_moves rooms k h = record {
     same_rules = refl;
     same_packets = packets_returned packet_as rooms k h;
@@ -255,8 +255,8 @@ module _ (b : Books) (v : AdapterView) (tag : ℕ) (use' : TagInUse) (others tag
         (record { use' = use'; others = others; tags = tags'; is_on = h.on; is_piece = refl; may = h.may; in_use = h.left; after = refl });
   }
 
-  finishes_returned : (rooms : List Request) (c : Books) (w : AdapterView) → IsKept b v rooms → Back b v tag use' others tags' class sense held ended
-      → Releases (books_returned b tag ended) (view_returned v tags' use'.piece class) c w → Finishes (seen_of b v) tag (seen_of c w)
+  finishes_returned : (rooms : List Request) (c : Books) (w : AdapterView) → PortKept b v rooms → Back b v tag use' others tags' class sense held ended
+      → Releases (books_returned b tag ended) (view_returned v tags' use'.piece class) c w → Finishes (view_of b v) tag (view_of c w)
   finishes_returned rooms c w k h r =
       let rules : Rules = rules_of b.sizes in
       let on : held_on b.started use'.tag ≡ Some held = subst (λ t. held_on b.started t ≡ Some held) (sym h.on.has_tag) h.held_is in
@@ -274,11 +274,11 @@ module _ (b : Books) (v : AdapterView) (tag : ℕ) (use' : TagInUse) (others tag
 -- ALL OF IT
 
 pub record Finished (b : Books) (v : AdapterView) (tag : ℕ) (b' : Books) (v' : AdapterView) : Type 0 where
-  pub kept : (rooms : List Request) → IsKept b v rooms → IsKept b' v' rooms
-  pub finishes : (c : Books) (w : AdapterView) → Releases b' v' c w → Finishes (seen_of b v) tag (seen_of c w)
+  pub kept : (rooms : List Request) → PortKept b v rooms → PortKept b' v' rooms
+  pub finishes : (c : Books) (w : AdapterView) → Releases b' v' c w → Finishes (view_of b v) tag (view_of c w)
 
 pub finished : (b b' : Books) (v v' : AdapterView) (rooms : List Request) (tag : ℕ) (srb : Srb) (completion : Completion) (class : Class)
-    → IsKept b v rooms → label_places (seen_of b v) + 2 ≤ 64 → class ≡ class_of completion → AdapterFinishes v tag srb completion v' → Ends b tag srb class b' → IsInOrder v' → Finished b v tag b' v'
+    → PortKept b v rooms → label_places (view_of b v) + 2 ≤ 64 → class ≡ class_of completion → AdapterFinishes v tag srb completion v' → Ends b tag srb class b' → IsInOrder v' → Finished b v tag b' v'
 finished b b' v v' rooms tag srb completion class k space class_is f e order =
     let r = f.returns in
     let u : TagInUse = r.use' in
@@ -299,13 +299,13 @@ finished b b' v v' rooms tag srb completion class k space class_is f e order =
       finishes = λ c w releases. finishes_returned b v tag u r.others r.tags class completion.sense e.held e.ended rooms c w k back releases;
     }))
 
-pub finishes_not : (b : Books) (v v' : AdapterView) (tag : ℕ) → AdapterFinishesNot v tag v' → FinishesNot (seen_of b v) tag (seen_of b v')
+pub finishes_not : (b : Books) (v v' : AdapterView) (tag : ℕ) → AdapterFinishesNot v tag v' → FinishesNot (view_of b v) tag (view_of b v')
 finishes_not b v v' tag h = record {
   free = All-map (HasOtherTag tag) (piece_on (rules_of b.sizes) b.started) v.tags h.is_free;
-  same = ap (λ (x : AdapterView). seen_of b x) h.same;
+  same = ap (λ (x : AdapterView). view_of b x) h.same;
 }
 
-pub can_end : (b : Books) (v v' : AdapterView) (rooms : List Request) (tag : ℕ) (srb : Srb) (completion : Completion) → IsKept b v rooms → AdapterFinishes v tag srb completion v'
+pub can_end : (b : Books) (v v' : AdapterView) (rooms : List Request) (tag : ℕ) (srb : Srb) (completion : Completion) → PortKept b v rooms → AdapterFinishes v tag srb completion v'
     → IsSome (held_on b.started tag) × (length b.done < b.places)
 can_end b v v' rooms tag srb completion k f =
     let on = f.returns.is_on in

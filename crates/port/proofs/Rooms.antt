@@ -8,11 +8,11 @@ use Rattle.adapter.specs.View.{AdapterView, IsInOrder, IsReserved, ReservesMore}
 use Rattle.machine.specs.declared.Kind.TheVariants.{Write}
 use Rattle.machine.specs.declared.Request.{Request}
 use Rattle.machine.specs.Rules.{Rules}
-use Rattle.device.specs.Seen.{IsBounded}
+use Rattle.device.specs.View.{IsBounded}
 use Rattle.device.specs.Served.{Reserves}
 use Rattle.port.specs.Books.{Books}
-use Rattle.port.specs.Shown.{rules_of, seen_of, of_packets}
-use Rattle.port.specs.Kept.{asked, IsKept, IsInHand, IsRoom, IsWaiting}
+use Rattle.port.specs.Shown.{rules_of, view_of, of_packets}
+use Rattle.port.specs.Kept.{asked, PortKept, IsInHand, IsRoom, IsWaiting}
 use Rattle.port.proofs.Starting.{room_moves, waiting_moves}
 use Rattle.port.proofs.Orderly.{in_hand}
 
@@ -24,7 +24,7 @@ with_reserved v reserved = record v { reserved = reserved }
 
 -- another number of places for other rooms
 kept_places : (b : Books) (v : AdapterView) (places : ℕ) (rooms others : List Request) → length others + b.places ≡ length rooms + places
-    → All (IsRoom (rules_of b.sizes) v) others → IsKept b v rooms → IsKept (with_places b places) v others
+    → All (IsRoom (rules_of b.sizes) v) others → PortKept b v rooms → PortKept (with_places b places) v others
 kept_places b v places rooms others counts are k = record {
   adapter = k.adapter;
   sizes = k.sizes;
@@ -45,7 +45,7 @@ kept_places b v places rooms others counts are k = record {
 }
 
 kept_reserved : (b : Books) (v : AdapterView) (reserved : List Extent) (rooms : List Request) → IsInOrder (with_reserved v reserved) → ((extent : Extent) → IsReserved v extent → IsReserved (with_reserved v reserved) extent)
-    → IsKept b v rooms → IsKept b (with_reserved v reserved) rooms
+    → PortKept b v rooms → PortKept b (with_reserved v reserved) rooms
 kept_reserved b v reserved rooms order lasts k =
     let rules : Rules = rules_of b.sizes in
     record {
@@ -88,9 +88,9 @@ pub hand_same : (b b' : Books) (v : AdapterView) (rooms : List Request) → b' �
 hand_same b b' v rooms e k = subst (λ x. IsInHand x v rooms) (sym e) k
 
 -- what a reservation shows
-pub seen_reserved : (b b' : Books) (v v' : AdapterView) (places : ℕ) → ReservesMore v v' → b' ≡ record b { places = places } → Reserves (seen_of b v) (seen_of b' v')
+pub seen_reserved : (b b' : Books) (v v' : AdapterView) (places : ℕ) → ReservesMore v v' → b' ≡ record b { places = places } → Reserves (view_of b v) (view_of b' v')
 seen_reserved b b' v v' places h e =
-    subst (λ x. Reserves (seen_of b v) (seen_of x v')) (sym e) (subst (λ x. Reserves (seen_of b v) (seen_of (with_places b places) x)) (sym h.after) (record {
+    subst (λ x. Reserves (view_of b v) (view_of x v')) (sym e) (subst (λ x. Reserves (view_of b v) (view_of (with_places b places) x)) (sym h.after) (record {
       same = refl;
       adapter = record {
         reserved = h.reserved;

@@ -9,7 +9,7 @@ use Rattle.machine.specs.Rules.{Rules, is_transfer, as_client, place_count, sect
 use Rattle.machine.specs.State.{State}
 use Rattle.machine.specs.Calling.{refusal, bytes_carried}
 use Rattle.machine.specs.Sending.{command_for, write_command}
-use Rattle.device.specs.Seen.{IsBounded, whole_command, transfer_length, Carries, sent_bytes, payload_bytes}
+use Rattle.device.specs.View.{IsBounded, whole_command, transfer_length, Carries, sent_bytes, payload_bytes}
 use Rattle.irp.specs.declared.Payload.{Payload}
 use Rattle.irp.specs.declared.Payload.TheVariants.{Srb as Packed, Buffer, Sent as AtAdapter}
 use Rattle.port.specs.declared.queues.Sizes.{Sizes}

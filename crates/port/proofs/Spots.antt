@@ -8,7 +8,7 @@ use Rattle.std.proofs.lemmas.List.Sorted.{All-permutation, IsPermutation-map, Is
 use Rattle.adapter.specs.View.{AdapterView}
 use Rattle.machine.specs.declared.Request.{Request}
 use Rattle.machine.specs.Numbers.{request_number}
-use Rattle.device.specs.Seen.{Seen, Packet, packet_number, IsOrderly}
+use Rattle.device.specs.View.{DeviceView, Packet, packet_number, IsOrderly}
 use Rattle.device.specs.Served.{IsAt, HasOtherNumber, CancelsIfOpen, CancelsAt, IsBeside, NoneToCancel}
 use Rattle.machine.specs.Holding.{Cancels}
 use Rattle.machine.proofs.Permuting.{distinct_first}
@@ -16,7 +16,7 @@ use Rattle.port.specs.declared.queues.Held.{Held}
 use Rattle.port.specs.Books.{Books, entry_of}
 use Rattle.port.specs.Turns.{CannotCancelHeld, CannotCancelOn, WithdrawsAt, WithdrawsNotAt, IsNotAt, is_cancellable, CancelsEnded, CancelsNoEnded}
 use Rattle.port.specs.Cancelling.{IsQueued, CancelsQueued, CancelsAt as CancelsOnTag, CancelsNoStarted}
-use Rattle.port.specs.Shown.{packet as packet_as, packets_of, seen_of, of_waiting, of_tag, of_done}
+use Rattle.port.specs.Shown.{packet as packet_as, packets_of, view_of, of_waiting, of_tag, of_done}
 use Rattle.port.specs.Kept.{IsInHand}
 use Rattle.port.proofs.Lists.{to_front}
 use Rattle.port.proofs.Searching.{split_at}
@@ -27,7 +27,7 @@ use Rattle.port.proofs.Orderly.{numbers_are}
 -- A NUMBER THAT IS GONE
 
 -- where no packet has the number, none is cancelled
-pub gone_same : (old new : Seen) (number : ℕ) → IsOrderly old → CancelsIfOpen old number new → All (HasOtherNumber number) old.packets → new ≡ old
+pub gone_same : (old new : DeviceView) (number : ℕ) → IsOrderly old → CancelsIfOpen old number new → All (HasOtherNumber number) old.packets → new ≡ old
 gone_same old new number o c none = by_case c.one_of
   where
     differ : All (λ n. n ≢ number) (map request_number old.state.requests)
@@ -95,16 +95,16 @@ lacks_at b v rooms spot number k there none = λ i d low. by_test i d low (is_ca
 
 -- THE THREE IN TURN
 
-at_number : (b b' : Books) (v v' : AdapterView) (rooms : List Request) (spot number : ℕ) → IsInHand b v rooms → CancelsIfOpen (seen_of b v) number (seen_of b' v') → CancelsAt (seen_of b v) spot number (seen_of b' v')
-at_number b b' v v' rooms spot number k h = record { there = λ at. h; gone = gone_same (seen_of b v) (seen_of b' v') number k.orderly h }
+at_number : (b b' : Books) (v v' : AdapterView) (rooms : List Request) (spot number : ℕ) → IsInHand b v rooms → CancelsIfOpen (view_of b v) number (view_of b' v') → CancelsAt (view_of b v) spot number (view_of b' v')
+at_number b b' v v' rooms spot number k h = record { there = λ at. h; gone = gone_same (view_of b v) (view_of b' v') number k.orderly h }
 
-pub at_queued : (b b' : Books) (v v' : AdapterView) (rooms : List Request) (spot number : ℕ) → IsInHand b v rooms → v' ≡ v → CancelsQueued b v spot number b' → CancelsAt (seen_of b v) spot number (seen_of b' v')
-at_queued b b' v v' rooms spot number k e h = subst (λ y. CancelsAt (seen_of b v) spot number (seen_of b' y)) (sym e) (at_number b b' v v rooms spot number k h.cancels)
+pub at_queued : (b b' : Books) (v v' : AdapterView) (rooms : List Request) (spot number : ℕ) → IsInHand b v rooms → v' ≡ v → CancelsQueued b v spot number b' → CancelsAt (view_of b v) spot number (view_of b' v')
+at_queued b b' v v' rooms spot number k e h = subst (λ y. CancelsAt (view_of b v) spot number (view_of b' y)) (sym e) (at_number b b' v v rooms spot number k h.cancels)
 
 -- the packet is cancelled or gone, and the layer is in order
 pub record Cancelled (b : Books) (v : AdapterView) (spot number : ℕ) (b' : Books) (v' : AdapterView) : Type 0 where
   pub rooms : (rooms : List Request) → IsInHand b v rooms → IsInHand b' v' rooms
-  pub cancels : CancelsAt (seen_of b v) spot number (seen_of b' v')
+  pub cancels : CancelsAt (view_of b v) spot number (view_of b' v')
 
 as_cancelled : (b b' : Books) (v : AdapterView) (rooms : List Request) (spot number : ℕ) → IsInHand b v rooms → IsCancelled b v number b' → Cancelled b v spot number b' v
 as_cancelled b b' v rooms spot number k x = record { rooms = x.rooms; cancels = at_number b b' v v rooms spot number k x.cancels }
@@ -128,6 +128,6 @@ at_last b c d b' v w v' rooms spot number false k f e e' s h =
       rooms = λ rooms i. subst (λ x. IsInHand x v rooms) (sym ended.same) i;
       cancels = record {
         there = λ at. (cancelled_none b b' v rooms number k (lacks_at b v rooms spot number k at f.none) out ended).cancels;
-        gone = λ none. ap (λ x. seen_of x v) ended.same;
+        gone = λ none. ap (λ x. view_of x v) ended.same;
       };
     })

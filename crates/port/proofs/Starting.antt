@@ -23,7 +23,7 @@ use Rattle.machine.specs.declared.Request.{Request}
 use Rattle.machine.specs.Rules.{Rules, as_client, home, first_sector}
 use Rattle.machine.specs.State.{Mark, Untouched, Out, OpenRequest}
 use Rattle.machine.specs.Sending.{command_for, write_command, HasOtherTag, HasTag, IsInTurn, Starts, is_started, sent, IsStart}
-use Rattle.device.specs.Seen.{AsksFor, Carries, IsBounded, Seen, sent_bytes}
+use Rattle.device.specs.View.{AsksFor, Carries, IsBounded, DeviceView, sent_bytes}
 use Rattle.device.specs.Served.{Moves}
 use Rattle.machine.specs.Step.{Run, as_label}
 use Rattle.machine.specs.Solo.{all_places as all_places_of}
@@ -37,7 +37,7 @@ use Rattle.port.specs.Books.{Entry, Books, entry_of}
 use Rattle.port.specs.Turns.{held_on, IsPacked}
 use Rattle.port.specs.declared.queues.Sizes.{Sizes}
 use Rattle.port.specs.Shown.{rules_of, places_of, open_as, waiting_open, done_open, out_open, out_piece, open_on, piece_on, entry_on, state_of, requests_of, of_packets, of_waiting, of_tag, of_done, packet as packet_as}
-use Rattle.port.specs.Kept.{asked, IsKept, IsRoom, IsWaiting, HasEnded, HasOutcome, IsAtWork, IsBefore, AreInTurn}
+use Rattle.port.specs.Kept.{asked, PortKept, IsRoom, IsWaiting, HasEnded, HasOutcome, IsAtWork, IsBefore, AreInTurn}
 use Rattle.port.specs.Releases.{Releases, AreLowerInUse}
 use Rattle.port.proofs.Lists.{splice_whole, second_front}
 use Rattle.port.proofs.Tags.{others_same, free_leaves}
@@ -63,7 +63,7 @@ tags_started F started tag packet use' tags tags' low is free p =
     rw (first, others_same F started tag (Some packet) tags free) at more
 
 -- nothing may start before the front packet
-front_in_turn : (b : Books) (v : AdapterView) (rooms : List Request) (front : Held) (rest : List Held) → IsKept b v rooms → b.waiting ≡ front ∷ rest → b.removing ≡ false → 0 < b.sizes.sector_size
+front_in_turn : (b : Books) (v : AdapterView) (rooms : List Request) (front : Held) (rest : List Held) → PortKept b v rooms → b.waiting ≡ front ∷ rest → b.removing ≡ false → 0 < b.sizes.sector_size
     → All (IsInTurn (waiting_open (rules_of b.sizes) front)) (requests_of b v)
 front_in_turn b v rooms front rest k is stays some =
     let owner : OpenRequest = waiting_open (rules_of b.sizes) front in
@@ -94,18 +94,18 @@ not_removing false waiting front rest h is = refl
 pub sector_some : (v : AdapterView) → IsInOrder v → 0 < v.sector_size
 sector_some v h = elim h.sector_size [ inl e ↦ omega arith | inr e ↦ omega arith ]
 
-pub kept_sector_some : (b : Books) (v : AdapterView) (rooms : List Request) → IsKept b v rooms → 0 < b.sizes.sector_size
+pub kept_sector_some : (b : Books) (v : AdapterView) (rooms : List Request) → PortKept b v rooms → 0 < b.sizes.sector_size
 kept_sector_some b v rooms k = let a = sector_some v k.adapter in let e = k.sizes.sector_size in omega arith
 
 -- what the adapter asks for before it takes a piece
-pub front_waits : (b : Books) (v : AdapterView) (rooms : List Request) (front : Held) (rest : List Held) (srb : Srb) → IsKept b v rooms → b.waiting ≡ front ∷ rest → front.irp.payload ≡ Packed srb
+pub front_waits : (b : Books) (v : AdapterView) (rooms : List Request) (front : Held) (rest : List Held) (srb : Srb) → PortKept b v rooms → b.waiting ≡ front ∷ rest → front.irp.payload ≡ Packed srb
     → IsRoom (rules_of b.sizes) v front.request × AsksFor (rules_of b.sizes) front.request srb
 front_waits b v rooms front rest srb k is packs =
     let rules : Rules = rules_of b.sizes in
     let w : IsWaiting rules v front = All-head (IsWaiting rules v) front rest (subst (All (IsWaiting rules v)) is k.waiting) in
     (w.room, subst (Carries true rules front.request) packs w.carries)
 
-pub packed : (b : Books) (v : AdapterView) (rooms : List Request) → IsKept b v rooms → All IsPacked b.waiting
+pub packed : (b : Books) (v : AdapterView) (rooms : List Request) → PortKept b v rooms → All IsPacked b.waiting
 packed b v rooms k = All-weaker (IsWaiting (rules_of b.sizes) v) IsPacked (λ h w. has_srb h.irp.payload (rules_of b.sizes) h.request w.carries) b.waiting k.waiting
   where
     has_srb : (payload : Payload) (rules : Rules) (r : Request) → Carries true rules r payload → (srb : Srb) × (payload ≡ Packed srb)
@@ -139,7 +139,7 @@ is_writable sizes v r srb some room asks lba count fua w inside =
 
 -- the machine's start
 pub machine_starts : (b : Books) (v : AdapterView) (rooms : List Request) (front : Held) (rest : List Held) (tag : ℕ) (srb : Srb) (packet : Held) (tags' : List TagInUse)
-    → IsKept b v rooms → b.waiting ≡ front ∷ rest → front.irp.payload ≡ Packed srb → entry_of packet ≡ entry_of front
+    → PortKept b v rooms → b.waiting ≡ front ∷ rest → front.irp.payload ≡ Packed srb → entry_of packet ≡ entry_of front
     → tag < v.depth → IsFree v tag → ((lower : ℕ) → lower < tag → Any (UseHasTag lower) v.tags) → IsPermutation tags' (in_use_from v tag b.next_piece srb ∷ v.tags)
     → Starts (rules_of b.sizes) (state_of b v) b.next_piece tag srb.block (state_of (books_started b rest tag packet) (view_started v tags' tag b.next_piece srb))
 machine_starts b v rooms front rest tag srb packet tags' k is packs same low free lower p =
@@ -174,7 +174,7 @@ machine_starts b v rooms front rest tag srb packet tags' k is packs same low fre
         some = places_some b.sizes front.request some w.room.bounded;
         short = places_short b.sizes front.request some (let m = k.adapter.max_transfer.0 in let e = k.sizes.max_transfer in omega arith) w.room.bounded;
         inside = omega arith;
-        waiting = all_unsent n;
+        unsent = all_unsent n;
         whole = λ _. record { all_places = sym count; not_before = rw untouched_all refl };
       };
       asks = subst (Means srb.block) (sym (same_command rules front.request (sent_bytes front.request.kind front.irp.payload) front.request.kind refl)) asks.asks;
@@ -233,11 +233,11 @@ packets_started f b v front rest tag srb packet tags' is same inside free p =
     (second_front (map (of_waiting f) rest) (map (of_tag f (slice_set b.started tag (Some packet))) tags') (map (of_tag f b.started) v.tags) (map (of_done f) b.done) (f (entry_of packet)) (tags_started (λ e u. f e) b.started tag packet (in_use_from v tag b.next_piece srb) v.tags tags' inside refl free p)))
 
 pub kept_started : (b : Books) (v : AdapterView) (rooms : List Request) (front : Held) (rest : List Held) (tag : ℕ) (srb : Srb) (packet : Held) (tags' : List TagInUse)
-    → IsKept b v rooms → b.waiting ≡ front ∷ rest → front.irp.payload ≡ Packed srb → entry_of packet ≡ entry_of front
+    → PortKept b v rooms → b.waiting ≡ front ∷ rest → front.irp.payload ≡ Packed srb → entry_of packet ≡ entry_of front
     → tag < v.depth → IsFree v tag → IsPermutation tags' (in_use_from v tag b.next_piece srb ∷ v.tags)
     → IsInOrder (view_started v tags' tag b.next_piece srb)
     → Starts (rules_of b.sizes) (state_of b v) b.next_piece tag srb.block (state_of (books_started b rest tag packet) (view_started v tags' tag b.next_piece srb))
-    → IsKept (books_started b rest tag packet) (view_started v tags' tag b.next_piece srb) rooms
+    → PortKept (books_started b rest tag packet) (view_started v tags' tag b.next_piece srb) rooms
 kept_started b v rooms front rest tag srb packet tags' k is packs same low free p order starts =
     let rules : Rules = rules_of b.sizes in
     let v' : AdapterView = view_started v tags' tag b.next_piece srb in
@@ -300,12 +300,12 @@ start_moves b v front rest tag srb packet tags' is same inside low free p starts
 -- ALL OF ONE START
 
 pub record Started (b : Books) (v : AdapterView) (tag : ℕ) (b' : Books) (v' : AdapterView) : Type 0 where
-  pub kept : (rooms : List Request) → IsKept b v rooms → IsKept b' v' rooms
+  pub kept : (rooms : List Request) → PortKept b v rooms → PortKept b' v' rooms
   pub releases : Releases b v b' v'
   pub lower : AreLowerInUse b' v' (tag + 1)
 
 started_fields : (b : Books) (v : AdapterView) (rooms : List Request) (front : Held) (rest : List Held) (tag : ℕ) (srb : Srb) (packet : Held) (tags' : List TagInUse)
-    → IsKept b v rooms → b.waiting ≡ front ∷ rest → front.irp.payload ≡ Packed srb → entry_of packet ≡ entry_of front
+    → PortKept b v rooms → b.waiting ≡ front ∷ rest → front.irp.payload ≡ Packed srb → entry_of packet ≡ entry_of front
     → tag < v.depth → IsFree v tag → ((lower : ℕ) → lower < tag → Any (UseHasTag lower) v.tags) → IsPermutation tags' (in_use_from v tag b.next_piece srb ∷ v.tags)
     → IsInOrder (view_started v tags' tag b.next_piece srb)
     → Started b v tag (books_started b rest tag packet) (view_started v tags' tag b.next_piece srb)
@@ -327,7 +327,7 @@ started_fields b v rooms front rest tag srb packet tags' k is packs same low fre
     at_or_below l (inr over) below = (0, in_use_from v tag b.next_piece srb, omega arith, refl, omega arith)
 
 pub started_one : (b b' : Books) (v v' : AdapterView) (rooms : List Request) (tag piece : ℕ) (srb : Srb)
-    → IsKept b v rooms → AreLowerInUse b v tag → Turn.Starts b tag piece srb b' → Accepts v tag piece srb v' → IsInOrder v' → Started b v tag b' v'
+    → PortKept b v rooms → AreLowerInUse b v tag → Turn.Starts b tag piece srb b' → Accepts v tag piece srb v' → IsInOrder v' → Started b v tag b' v'
 started_one b b' v v' rooms tag piece srb k lower s a order =
     let tags_in : IsPermutation a.tags (in_use_from v tag b.next_piece srb ∷ v.tags) = subst (λ (n : ℕ). IsPermutation a.tags (in_use_from v tag n srb ∷ v.tags)) s.is_piece a.in_use in
     let view_is : v' ≡ view_started v a.tags tag b.next_piece srb = a.after ∙ ap (λ (n : ℕ). view_started v a.tags tag n srb) s.is_piece in
@@ -345,7 +345,7 @@ releases_none b v = record {
   moves = record { same_rules = refl; same_packets = IsPermutation-refl _; same_submitted = refl; same_most = refl; run = IsSame-refl _; adapter = reserves_none v };
 }
 
-pub moves_then : (o m n : Seen) (xs ys : List DeviceLabel) → Moves o xs m → Moves m ys n → Moves o (xs ++ ys) n
+pub moves_then : (o m n : DeviceView) (xs ys : List DeviceLabel) → Moves o xs m → Moves m ys n → Moves o (xs ++ ys) n
 moves_then o m n xs ys h k = record {
   same_rules = k.same_rules ∙ h.same_rules;
   same_packets = IsPermutation-trans _ _ _ k.same_packets h.same_packets;
@@ -374,10 +374,10 @@ in_use_lower b v tag (inr h) here = inr (λ l below. at_or_below l (cases_lt l t
 pub releases_same : (b b' : Books) (v : AdapterView) → Turn.StartsNot b b' → Releases b v b' v
 releases_same b b' v h = subst (λ x. Releases b v x v) (sym h.same) (releases_none b v)
 
-pub label_room : (b : Books) (v : AdapterView) (rooms : List Request) (tag : ℕ) → IsKept b v rooms → IsFree v tag → tag < v.depth → length v.labels < 64
+pub label_room : (b : Books) (v : AdapterView) (rooms : List Request) (tag : ℕ) → PortKept b v rooms → IsFree v tag → tag < v.depth → length v.labels < 64
 label_room b v rooms tag k free low = let few = free_leaves v tag k.adapter free low in let l = k.labels in omega arith
 
-pub accepts_front : (b : Books) (v : AdapterView) (rooms : List Request) (tag piece : ℕ) (srb : Srb) (b' : Books) → IsKept b v rooms → Turn.Starts b tag piece srb b' → IsWritable v srb × (length srb.for_label ≡ length srb.data)
+pub accepts_front : (b : Books) (v : AdapterView) (rooms : List Request) (tag piece : ℕ) (srb : Srb) (b' : Books) → PortKept b v rooms → Turn.Starts b tag piece srb b' → IsWritable v srb × (length srb.for_label ≡ length srb.data)
 accepts_front b v rooms tag piece srb b' k s =
     let h = front_waits b v rooms s.front s.rest srb k s.is_front s.is_srb in
     (is_writable b.sizes v s.front.request srb (kept_sector_some b v rooms k) h.0 h.1, h.1.label_length ∙ sym h.1.data_length)

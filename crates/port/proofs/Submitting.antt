@@ -11,14 +11,14 @@ use Rattle.machine.specs.Rules.{Rules, as_client}
 use Rattle.machine.specs.State.{OpenRequest}
 use Rattle.machine.specs.Calling.{Opens, new_request}
 use Rattle.machine.specs.Numbers.{IsGiven}
-use Rattle.device.specs.Seen.{Carries, sent_bytes, packet_of}
+use Rattle.device.specs.View.{Carries, sent_bytes, packet_of}
 use Rattle.device.specs.Served.{Submits}
 use Rattle.machine.proofs.Numbers.{AreDistinct-Admits}
 use Rattle.port.specs.declared.queues.Held.{Held}
 use Rattle.port.specs.Books.{held_with, Entry, Books, entry}
 use Rattle.port.specs.Turns.{Queued}
-use Rattle.port.specs.Shown.{rules_of, most, waiting_open, open_on, done_open, packet as packet_as, of_packets, of_waiting, of_tag, of_done, state_of, seen_of}
-use Rattle.port.specs.Kept.{asked, IsKept, IsRoom, IsWaiting, IsBefore, AreInTurn}
+use Rattle.port.specs.Shown.{rules_of, most, waiting_open, open_on, done_open, packet as packet_as, of_packets, of_waiting, of_tag, of_done, state_of, view_of}
+use Rattle.port.specs.Kept.{asked, PortKept, IsRoom, IsWaiting, IsBefore, AreInTurn}
 use Rattle.port.specs.Releases.{Releases}
 use Rattle.port.proofs.Sizing.{not_refused, carries_bytes}
 use Rattle.port.proofs.Starting.{kept_sector_some}
@@ -52,7 +52,7 @@ pub record MayQueue (b : Books) (irp : Irp) (r : Request) : Type 0 where
   pub not_cancelled : IsFalse irp.cancelled
   pub carries : Carries true (rules_of b.sizes) r irp.payload
 
-opens_queued : (b : Books) (v : AdapterView) (irp : Irp) (r : Request) (spot : ℕ) (rooms : List Request) → IsKept b v (r ∷ rooms) → MayQueue b irp r
+opens_queued : (b : Books) (v : AdapterView) (irp : Irp) (r : Request) (spot : ℕ) (rooms : List Request) → PortKept b v (r ∷ rooms) → MayQueue b irp r
     → Opens (rules_of b.sizes) (state_of b v) irp.number (as_client (rules_of b.sizes) r (sent_bytes r.kind irp.payload)) (state_of (books_queued b irp r spot) v)
 opens_queued b v irp r spot rooms k m =
     let rules : Rules = rules_of b.sizes in
@@ -89,7 +89,7 @@ packets_queued {Y} f b v irp r spot =
     subst (λ (ws : List Y). IsPermutation (ws ++ (map (of_tag f b.started) v.tags ++ map (of_done f) b.done)) (f (entry irp r spot) ∷ of_packets f b v)) (sym (map-append (of_waiting f) b.waiting (held_with irp r spot ∷ [])))
     (behind_all (map (of_waiting f) b.waiting) (f (entry irp r spot)) (map (of_tag f b.started) v.tags ++ map (of_done f) b.done))
 
-kept_queued : (b : Books) (v : AdapterView) (irp : Irp) (r : Request) (spot : ℕ) (rooms : List Request) → IsKept b v (r ∷ rooms) → MayQueue b irp r → IsKept (books_queued b irp r spot) v rooms
+kept_queued : (b : Books) (v : AdapterView) (irp : Irp) (r : Request) (spot : ℕ) (rooms : List Request) → PortKept b v (r ∷ rooms) → MayQueue b irp r → PortKept (books_queued b irp r spot) v rooms
 kept_queued b v irp r spot rooms k m =
     let rules : Rules = rules_of b.sizes in
     let room : IsRoom rules v r = All-head (IsRoom rules v) r rooms k.rooms_out in
@@ -115,8 +115,8 @@ kept_queued b v irp r spot rooms k m =
       labels = k.labels;
     }
 
-submits_queued : (b : Books) (v : AdapterView) (irp : Irp) (r : Request) (spot : ℕ) (rooms : List Request) (b' : Books) (v' : AdapterView) → IsKept b v (r ∷ rooms) → MayQueue b irp r
-    → Releases (books_queued b irp r spot) v b' v' → Submits (seen_of b v) (packet_of irp spot) r irp.payload (seen_of b' v')
+submits_queued : (b : Books) (v : AdapterView) (irp : Irp) (r : Request) (spot : ℕ) (rooms : List Request) (b' : Books) (v' : AdapterView) → PortKept b v (r ∷ rooms) → MayQueue b irp r
+    → Releases (books_queued b irp r spot) v b' v' → Submits (view_of b v) (packet_of irp spot) r irp.payload (view_of b' v')
 submits_queued b v irp r spot rooms b' v' k m h = record {
   opened = state_of (books_queued b irp r spot) v;
   starts = h.starts;
@@ -133,9 +133,9 @@ submits_queued b v irp r spot rooms b' v' k m h = record {
 }
 
 -- as the queues say it
-pub queued_kept : (b : Books) (v : AdapterView) (irp : Irp) (r : Request) (spot : ℕ) (b' : Books) → Queued b irp r spot b' → MayQueue b irp r → (rooms : List Request) → IsKept b v (r ∷ rooms) → IsKept b' v rooms
-queued_kept b v irp r spot b' q m rooms k = subst (λ x. IsKept x v rooms) (sym q) (kept_queued b v irp r spot rooms k m)
+pub queued_kept : (b : Books) (v : AdapterView) (irp : Irp) (r : Request) (spot : ℕ) (b' : Books) → Queued b irp r spot b' → MayQueue b irp r → (rooms : List Request) → PortKept b v (r ∷ rooms) → PortKept b' v rooms
+queued_kept b v irp r spot b' q m rooms k = subst (λ x. PortKept x v rooms) (sym q) (kept_queued b v irp r spot rooms k m)
 
-pub queued_submits : (b : Books) (v : AdapterView) (irp : Irp) (r : Request) (spot : ℕ) (rooms : List Request) (b' c : Books) (v' : AdapterView) → Queued b irp r spot b' → MayQueue b irp r → IsKept b v (r ∷ rooms)
-    → Releases b' v c v' → Submits (seen_of b v) (packet_of irp spot) r irp.payload (seen_of c v')
+pub queued_submits : (b : Books) (v : AdapterView) (irp : Irp) (r : Request) (spot : ℕ) (rooms : List Request) (b' c : Books) (v' : AdapterView) → Queued b irp r spot b' → MayQueue b irp r → PortKept b v (r ∷ rooms)
+    → Releases b' v c v' → Submits (view_of b v) (packet_of irp spot) r irp.payload (view_of c v')
 queued_submits b v irp r spot rooms b' c v' q m k h = submits_queued b v irp r spot rooms c v' k m (subst (λ x. Releases x v c v') q h)

@@ -10,21 +10,21 @@ use Rattle.srb.specs.declared.DeviceLabel.TheVariants.{Act, Fault}
 use Rattle.adapter.specs.Performing.{CarriesOut}
 use Rattle.srb.specs.Fate.{Fresh}
 use Rattle.adapter.specs.View.{AdapterView, TagInUse, IsInOrder, IsOn, ActsOn as AdapterActsOn, FaultsOn as AdapterFaultsOn, MovesOn, acted, faulted}
-use Rattle.adapter.specs.Calls.{Acts as AdapterActs, ActsNot as AdapterActsNot}
+use Rattle.adapter.specs.Calls.{ActsOrFaults as AdapterActsOrFaults, ActsNot as AdapterActsNot}
 use Rattle.machine.specs.declared.Request.{Request}
 use Rattle.machine.specs.Rules.{Rules, as_client}
 use Rattle.machine.specs.State.{OpenRequest, Piece}
 use Rattle.machine.specs.Sending.{Acts, Faults}
-use Rattle.device.specs.Seen.{AsksFor, label_places}
-use Rattle.device.specs.Served.{IsActOrFault, ActsOn, ActsNot}
+use Rattle.device.specs.View.{AsksFor, label_places}
+use Rattle.device.specs.Served.{IsActOrFault, ActsOrFaults, ActsNot}
 use Rattle.machine.specs.Step.{DeviceStep}
 use Rattle.machine.proofs.Same.{IsSame-refl}
 use Rattle.machine.proofs.Numbers.{AreDistinct-DeviceStep}
 use Rattle.port.specs.declared.queues.Held.{Held}
 use Rattle.port.specs.Books.{Entry, Books, entry_of}
 use Rattle.port.specs.Turns.{held_on}
-use Rattle.port.specs.Shown.{rules_of, waiting_open, done_open, out_open, out_piece, open_on, piece_on, packet as packet_as, of_packets, of_waiting, of_done, state_of, seen_of, requests_of}
-use Rattle.port.specs.Kept.{asked, IsKept, IsInHand, IsRoom, IsWaiting, IsAtWork, IsDoing}
+use Rattle.port.specs.Shown.{rules_of, waiting_open, done_open, out_open, out_piece, open_on, piece_on, packet as packet_as, of_packets, of_waiting, of_done, state_of, view_of, requests_of}
+use Rattle.port.specs.Kept.{asked, PortKept, IsInHand, IsRoom, IsWaiting, IsAtWork, IsDoing}
 use Rattle.port.proofs.Lists.{second_front}
 use Rattle.adapter.proofs.Joining.{moves_one}
 use Rattle.port.proofs.Starting.{room_moves, waiting_moves, kept_sector_some}
@@ -48,7 +48,7 @@ record Turned (b : Books) (v : AdapterView) (tag : ℕ) (use' use'' : TagInUse) 
 -- all of it, of an act or a fault
 pub record IsTurned (b : Books) (v : AdapterView) (tag : ℕ) (v' : AdapterView) : Type 0 where
   pub rooms : (rooms : List Request) → IsInHand b v rooms → IsInHand b v' rooms
-  pub acts : ActsOn (seen_of b v) tag (seen_of b v')
+  pub acts : ActsOrFaults (view_of b v) tag (view_of b v')
 
 module _ (b : Books) (v : AdapterView) (tag : ℕ) (use' use'' : TagInUse) (others tags' : List TagInUse) (sectors : List (List ℕ)) (held : Held) (failures : ℕ) (label : DeviceLabel) where
   -- before and after, the tag's and the others'
@@ -79,9 +79,9 @@ module _ (b : Books) (v : AdapterView) (tag : ℕ) (use' use'' : TagInUse) (othe
   pieces_turned : Turned b v tag use' use'' others tags' sectors held → IsPermutation (map (piece_on (rules_of b.sizes) b.started) tags') (out_piece (rules_of b.sizes) (entry_of held) use'' ∷ map (piece_on (rules_of b.sizes) b.started) others)
   pieces_turned h = tags_on (out_piece (rules_of b.sizes)) b.started tags' use'' others held h.in_use (on_after h)
 
-  kept_turned : (rooms : List Request) → IsKept b v rooms → Turned b v tag use' use'' others tags' sectors held → length v.labels + (v.depth - length v.tags) + 1 ≤ 64
+  kept_turned : (rooms : List Request) → PortKept b v rooms → Turned b v tag use' use'' others tags' sectors held → length v.labels + (v.depth - length v.tags) + 1 ≤ 64
       → IsInOrder (view_turned v sectors tags' failures label) → DeviceStep (rules_of b.sizes) (state_of b v) label (state_of b (view_turned v sectors tags' failures label))
-      → IsKept b (view_turned v sectors tags' failures label) rooms
+      → PortKept b (view_turned v sectors tags' failures label) rooms
   kept_turned rooms k h space order step =
       let rules : Rules = rules_of b.sizes in
       let v' : AdapterView = view_turned v sectors tags' failures label in
@@ -141,7 +141,7 @@ module _ (b : Books) (v : AdapterView) (tag : ℕ) (use' use'' : TagInUse) (othe
 
 -- AN ACT
 
-turned_act : (b : Books) (v v' : AdapterView) (rooms : List Request) (tag piece : ℕ) (bytes : List ℕ) (a : AdapterActsOn v tag piece bytes v') (held : Held) → IsKept b v rooms → held_on b.started tag ≡ Some held
+turned_act : (b : Books) (v v' : AdapterView) (rooms : List Request) (tag piece : ℕ) (bytes : List ℕ) (a : AdapterActsOn v tag piece bytes v') (held : Held) → PortKept b v rooms → held_on b.started tag ≡ Some held
     → IsCarried (rules_of b.sizes) (state_of b v) held.request held.request.kind a.use'.srb v.sectors a.moved a.sectors a.left
 turned_act b v v' rooms tag piece bytes a held k on =
     let rules : Rules = rules_of b.sizes in
@@ -152,7 +152,7 @@ turned_act b v v' rooms tag piece bytes a held k on =
     (subst (λ n. All (IsSector n) v.sectors) (sym size) k.adapter.whole_sectors) refl held.request.kind refl asks a.means
     (subst (λ n. CarriesOut v.faithful (piece == 0) n v.sectors a.use'.srb.data a.command a.moved a.sectors) (sym size) a.performs)
 
-acted_all : (b : Books) (v v' : AdapterView) (rooms : List Request) (tag piece : ℕ) (bytes : List ℕ) → IsKept b v rooms → length v.labels + (v.depth - length v.tags) + 1 ≤ 64
+acted_all : (b : Books) (v v' : AdapterView) (rooms : List Request) (tag piece : ℕ) (bytes : List ℕ) → PortKept b v rooms → length v.labels + (v.depth - length v.tags) + 1 ≤ 64
     → AdapterActsOn v tag piece bytes v' → IsInOrder v' → IsTurned b v tag v'
 acted_all b v v' rooms tag piece bytes k space a order =
     let rules : Rules = rules_of b.sizes in
@@ -202,7 +202,7 @@ acted_all b v v' rooms tag piece bytes k space a order =
 
 -- A FAULT
 
-faulted_all : (b : Books) (v v' : AdapterView) (rooms : List Request) (tag piece : ℕ) → IsKept b v rooms → length v.labels + (v.depth - length v.tags) + 1 ≤ 64
+faulted_all : (b : Books) (v v' : AdapterView) (rooms : List Request) (tag piece : ℕ) → PortKept b v rooms → length v.labels + (v.depth - length v.tags) + 1 ≤ 64
     → AdapterFaultsOn v tag piece v' → IsInOrder v' → IsTurned b v tag v'
 faulted_all b v v' rooms tag piece k space a order =
     let rules : Rules = rules_of b.sizes in
@@ -240,13 +240,13 @@ faulted_all b v v' rooms tag piece k space a order =
     subst (λ y. IsTurned b v tag y) (sym a.after) (shown_turned b v tag a.use' u a.others a.tags v.sectors held a.failures label h a.is_fresh (sym a.is_piece) space
     (subst IsInOrder a.after order) step (subst (AdapterFaultsOn v tag piece) a.after a))
 
-label_space : (b : Books) (v : AdapterView) (rooms : List Request) → IsKept b v rooms → label_places (seen_of b v) + 1 ≤ 64 → length v.labels + (v.depth - length v.tags) + 1 ≤ 64
+label_space : (b : Books) (v : AdapterView) (rooms : List Request) → PortKept b v rooms → label_places (view_of b v) + 1 ≤ 64 → length v.labels + (v.depth - length v.tags) + 1 ≤ 64
 label_space b v rooms k space =
     let l = length-map v.tags (piece_on (rules_of b.sizes) b.started) in
     let d = k.sizes.depth in
     omega arith
 
-pub turned : (b : Books) (v v' : AdapterView) (rooms : List Request) (tag : ℕ) → IsKept b v rooms → label_places (seen_of b v) + 1 ≤ 64 → AdapterActs v tag v' → IsInOrder v' → IsTurned b v tag v'
+pub turned : (b : Books) (v v' : AdapterView) (rooms : List Request) (tag : ℕ) → PortKept b v rooms → label_places (view_of b v) + 1 ≤ 64 → AdapterActsOrFaults v tag v' → IsInOrder v' → IsTurned b v tag v'
 turned b v v' rooms tag k space a order = by_label a.one_of
   where
     by_label : ((bytes : List ℕ) × AdapterActsOn v tag a.piece bytes v') ⊎ AdapterFaultsOn v tag a.piece v' → IsTurned b v tag v'
@@ -266,16 +266,16 @@ from_map f (x ∷ xs) y (suc k, low, is) =
     let h = from_map f xs y (k, omega arith, is) in
     (h.0, (x ∷ h.1.0, IsPermutation-trans _ _ _ (IsPermutation-cons x _ _ h.1.1) (IsPermutation-middle (x ∷ []) h.0 h.1.0)), h.2)
 
-turned_not : (b : Books) (v v' : AdapterView) (tag : ℕ) → AdapterActsNot v tag v' → ActsNot (seen_of b v) tag (seen_of b v')
+turned_not : (b : Books) (v v' : AdapterView) (tag : ℕ) → AdapterActsNot v tag v' → ActsNot (view_of b v) tag (view_of b v')
 turned_not b v v' tag h = record {
   none = λ piece fresh.
       let u = from_map (piece_on (rules_of b.sizes) b.started) v.tags piece fresh.is_out in
       h.none_fresh u.0 u.1.0 (record { in_use = u.1.1; has_tag = ap (λ (p : Piece). p.tag) u.2 ∙ fresh.is_tag }) (ap (λ (p : Piece). p.fate) u.2 ∙ fresh.is_fresh);
-  same = ap (λ (x : AdapterView). seen_of b x) h.same;
+  same = ap (λ (x : AdapterView). view_of b x) h.same;
 }
 
-pub turned_either : (b : Books) (v v' : AdapterView) (rooms : List Request) (tag : ℕ) (result : Bool) → IsInHand b v rooms → label_places (seen_of b v) + 1 ≤ 64
-    → MatchBool result (AdapterActs v tag v') (AdapterActsNot v tag v') → IsInOrder v'
-    → ((rooms : List Request) → IsInHand b v rooms → IsInHand b v' rooms) × MatchBool result (ActsOn (seen_of b v) tag (seen_of b v')) (ActsNot (seen_of b v) tag (seen_of b v'))
+pub turned_either : (b : Books) (v v' : AdapterView) (rooms : List Request) (tag : ℕ) (result : Bool) → IsInHand b v rooms → label_places (view_of b v) + 1 ≤ 64
+    → MatchBool result (AdapterActsOrFaults v tag v') (AdapterActsNot v tag v') → IsInOrder v'
+    → ((rooms : List Request) → IsInHand b v rooms → IsInHand b v' rooms) × MatchBool result (ActsOrFaults (view_of b v) tag (view_of b v')) (ActsNot (view_of b v) tag (view_of b v'))
 turned_either b v v' rooms tag true k space h order = let t = turned b v v' rooms tag k.kept space h order in (t.rooms, t.acts)
 turned_either b v v' rooms tag false k space h order = (λ rs i. subst (λ x. IsInHand b x rs) (sym h.same) i, turned_not b v v' tag h)

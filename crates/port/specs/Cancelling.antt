@@ -4,7 +4,7 @@ use Rattle.adapter.specs.View.{AdapterView, TagInUse, HasTag}
 use Rattle.device.specs.Served.{CancelsIfOpen}
 use Rattle.port.specs.declared.queues.Held.{Held}
 use Rattle.port.specs.Books.{Books}
-use Rattle.port.specs.Shown.{seen_of}
+use Rattle.port.specs.Shown.{view_of}
 use Rattle.port.specs.Turns.{CancelsOn, CannotCancelOn}
 
 -- the packet waits at this spot
@@ -15,7 +15,7 @@ pub record IsQueued (spot number : ℕ) (held : Held) : Type 0 where
 -- the packet that waits there is cancelled
 pub record CancelsQueued (old : Books) (v : AdapterView) (spot number : ℕ) (new : Books) : Type 0 where
   pub queued : Any (IsQueued spot number) old.waiting
-  pub cancels : CancelsIfOpen (seen_of old v) number (seen_of new v)
+  pub cancels : CancelsIfOpen (view_of old v) number (view_of new v)
 
 -- the tag is in use, and its packet is cancelled
 pub record CancelsAt (old : Books) (v : AdapterView) (tag number : ℕ) (new : Books) : Type 0 where

@@ -1,11 +1,11 @@
 -- What a client of a layer knows that gives rising numbers.
 use Rattle.std.specs.Prelude.{◌≡◌, ◌≤◌, ℕ, Bool, true}
 use Rattle.machine.specs.Rules.{Rules}
-use Rattle.device.specs.Seen.{Seen}
+use Rattle.device.specs.View.{DeviceView}
 use Rattle.port.specs.Shown.{rules_of, most}
 
 -- numbers from this one on were not given, and the device is removed or stays
-pub record IsReady (v : Seen) (rules : Rules) (next : ℕ) (removed : Bool) : Type 0 where
+pub record IsReady (v : DeviceView) (rules : Rules) (next : ℕ) (removed : Bool) : Type 0 where
   pub rules_are : v.rules ≡ rules
   pub most_is : v.most ≡ most
   pub numbers : v.state.next_request ≤ next

@@ -10,7 +10,7 @@ use Rattle.machine.specs.declared.Kind.TheVariants.{Read, Write}
 use Rattle.machine.specs.declared.Request.{Request}
 use Rattle.machine.specs.Rules.{Rules}
 use Rattle.machine.specs.Numbers.{AreDistinct}
-use Rattle.device.specs.Seen.{AsksFor, Carries, IsBounded, IsOrderly, payload_bytes, transfer_length}
+use Rattle.device.specs.View.{AsksFor, Carries, IsBounded, IsOrderly, payload_bytes, transfer_length}
 use Rattle.port.specs.declared.queues.Sizes.{Sizes}
 use Rattle.port.specs.declared.queues.Held.{Held}
 use Rattle.port.specs.declared.queues.Ended.{Ended}
@@ -18,7 +18,7 @@ use Rattle.port.specs.declared.queues.Outcome.{Outcome}
 use Rattle.port.specs.declared.queues.Outcome.TheVariants.{Returned, Withdrawn, Gone}
 use Rattle.port.specs.Books.{Entry, Books}
 use Rattle.port.specs.Turns.{held_on}
-use Rattle.port.specs.Shown.{rules_of, of_packets, state_of, seen_of, most}
+use Rattle.port.specs.Shown.{rules_of, of_packets, state_of, view_of, most}
 use Rattle.device.specs.Served.{sectors_moved}
 
 -- the sizes are the adapter's
@@ -83,7 +83,7 @@ abbrev pub asked : Entry → Request
 asked e = e.request
 
 -- what holds at every moment, the moments between two starts among them
-pub record IsKept (b : Books) (v : AdapterView) (rooms : List Request) : Type 0 where
+pub record PortKept (b : Books) (v : AdapterView) (rooms : List Request) : Type 0 where
   pub adapter : IsInOrder v
   pub sizes : AreSizes b.sizes v
   pub started : length b.started ≡ b.sizes.depth
@@ -108,6 +108,6 @@ IsBusy b v = length v.tags < v.depth → b.waiting ≡ []
 
 -- what holds between calls
 pub record IsInHand (b : Books) (v : AdapterView) (rooms : List Request) : Type 0 where
-  pub kept : IsKept b v rooms
+  pub kept : PortKept b v rooms
   pub busy : IsBusy b v
-  pub orderly : IsOrderly (seen_of b v)
+  pub orderly : IsOrderly (view_of b v)

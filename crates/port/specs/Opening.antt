@@ -4,7 +4,7 @@ use Rattle.adapter.specs.View.{AdapterView}
 use Rattle.machine.specs.Rules.{Rules}
 use Rattle.machine.specs.State.{opening}
 use Rattle.machine.specs.Map.{sectors_in}
-use Rattle.device.specs.Seen.{Seen}
+use Rattle.device.specs.View.{DeviceView}
 use Rattle.port.specs.declared.queues.Sizes.{Sizes}
 use Rattle.port.specs.Shown.{rules_of, most}
 
@@ -23,8 +23,8 @@ abbrev pub rules_over : AdapterView → Rules
 rules_over v = rules_of (sizes_of v)
 
 -- what it shows: the machine's opening, with all sectors of the adapter
-abbrev pub opening_seen : AdapterView → Seen
-opening_seen v = record {
+abbrev pub opening_view : AdapterView → DeviceView
+opening_view v = record {
   rules = rules_over v;
   state = opening (map (sectors_in v.sectors) (rules_over v).partitions);
   packets = [];

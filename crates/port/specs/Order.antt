@@ -7,7 +7,7 @@ use Rattle.machine.specs.declared.Request.{Request}
 use Rattle.port.specs.declared.PortRoom.{PortRoom}
 use Rattle.port.specs.Books.{Books}
 use Rattle.port.specs.Shown.{rules_of}
-use Rattle.port.specs.Kept.{IsKept, IsInHand, IsRoom}
+use Rattle.port.specs.Kept.{PortKept, IsInHand, IsRoom}
 
 -- what a room is for
 abbrev pub asked_for : PortRoom → Request
@@ -16,7 +16,7 @@ asked_for room = room.request
 pub rooms_same : (some others : List PortRoom) → IsPermutation some others → IsPermutation (map asked_for some) (map asked_for others)
 rooms_same some others same = IsPermutation-map asked_for some others same
 
-kept_any_order : (b : Books) (v : AdapterView) (some others : List Request) → IsPermutation some others → IsKept b v some → IsKept b v others
+kept_any_order : (b : Books) (v : AdapterView) (some others : List Request) → IsPermutation some others → PortKept b v some → PortKept b v others
 kept_any_order b v some others same h = record {
   adapter = h.adapter;
   sizes = h.sizes;

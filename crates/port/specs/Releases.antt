@@ -5,13 +5,13 @@ use Rattle.adapter.specs.View.{AdapterView, HasTag}
 use Rattle.machine.specs.Sending.{IsStart}
 use Rattle.device.specs.Served.{Moves}
 use Rattle.port.specs.Books.{Books}
-use Rattle.port.specs.Shown.{seen_of}
+use Rattle.port.specs.Shown.{view_of}
 
 -- pieces are started, and nothing else happens
 pub record Releases (b : Books) (v : AdapterView) (b' : Books) (v' : AdapterView) : Type 0 where
   pub starts : List DeviceLabel
   pub only_starts : All IsStart starts
-  pub moves : Moves (seen_of b v) starts (seen_of b' v')
+  pub moves : Moves (view_of b v) starts (view_of b' v')
 
 -- each tag below this one is in use, or nothing waits
 abbrev pub AreLowerInUse : Books → AdapterView → ℕ → Type 0

@@ -15,7 +15,7 @@ use Rattle.machine.specs.Rules.{Rules, place_count, as_client}
 use Rattle.machine.specs.State.{Mark, Untouched, Out, Done, Failed, Back, OpenRequest, Piece, State}
 use Rattle.machine.specs.Sending.{status_of_completion}
 use Rattle.machine.specs.Map.{sectors_in}
-use Rattle.device.specs.Seen.{Packet, Seen, sent_bytes}
+use Rattle.device.specs.View.{Packet, DeviceView, sent_bytes}
 use Rattle.device.specs.Served.{sectors_moved}
 use Rattle.port.specs.declared.queues.Sizes.{Sizes}
 use Rattle.port.specs.declared.queues.Held.{Held}
@@ -187,8 +187,8 @@ abbrev pub most : ℕ
 most = 2 ^ 96
 
 -- all that the port shows
-abbrev pub seen_of : Books → AdapterView → Seen
-seen_of b v = record {
+abbrev pub view_of : Books → AdapterView → DeviceView
+view_of b v = record {
   rules = rules_of b.sizes;
   state = state_of b v;
   packets = packets_of b v;

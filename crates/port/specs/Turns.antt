@@ -72,13 +72,13 @@ pub record Ends (old : Books) (tag : ℕ) (srb : Srb) (class : Class) (new : Boo
   pub after : new ≡ record old { started = slice_set old.started tag None; done = old.done ++ ended ∷ [] }
 
 -- the packet that ended first of those that stand there leaves
-pub record Leaves (old : Books) (ended : Ended) (new : Books) : Type 0 where
+pub record TakesDone (old : Books) (ended : Ended) (new : Books) : Type 0 where
   pub rest : List Ended
   pub is_front : old.done ≡ ended ∷ rest
   pub after : new ≡ record old { done = rest }
 
 -- nothing has ended, and nothing changes
-pub record LeavesNot (old new : Books) : Type 0 where
+pub record TakesNone (old new : Books) : Type 0 where
   pub none_ended : old.done ≡ []
   pub same : new ≡ old
 

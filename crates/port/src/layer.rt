@@ -7,10 +7,10 @@ ghost use Rattle.port.specs.Books.{books_of, visits_of};
 ghost use Rattle.machine.specs.Rules.{as_client};
 ghost use Rattle.machine.specs.Answering.{information as information_of};
 ghost use Rattle.port.specs.Cancelling.{CancelsQueued, CancelsAt, CancelsNotAt, CancelsNoStarted};
-ghost use Rattle.port.specs.Shown.{seen_of, rules_of};
+ghost use Rattle.port.specs.Shown.{view_of, rules_of};
 ghost use Rattle.port.specs.Turns.{WithdrawsNotAt};
 ghost use Rattle.linked.specs.Queue.{VisitsAtMost};
-ghost use Rattle.port.specs.Kept.{IsInHand, IsKept};
+ghost use Rattle.port.specs.Kept.{IsInHand, PortKept};
 ghost use Rattle.port.specs.Releases.{Releases, AreLowerInUse};
 ghost use Rattle.port.specs.Order.{asked_for, rooms_same, any_order_lem};
 
@@ -29,10 +29,10 @@ const MOST: u128 = 1 << 96;
 impl<A: Adapter> Port<A> {
     /// Starts the packet that waited longest on this tag, where one waits and the tag is free.
     fn start_one(&mut self, tag: u8)
-        requires kept { (rooms : List Request) × IsKept (books_of self.old.queues) (A.view self.old.adapter) rooms }
+        requires kept { (rooms : List Request) × PortKept (books_of self.old.queues) (A.view self.old.adapter) rooms }
         requires tag { tag < (A.view self.old.adapter).depth }
         requires lower { AreLowerInUse (books_of self.old.queues) (A.view self.old.adapter) tag }
-        ensures rooms { (rooms : List Request) → IsKept (books_of self.old.queues) (A.view self.old.adapter) rooms → IsKept (books_of self.new.queues) (A.view self.new.adapter) rooms }
+        ensures rooms { (rooms : List Request) → PortKept (books_of self.old.queues) (A.view self.old.adapter) rooms → PortKept (books_of self.new.queues) (A.view self.new.adapter) rooms }
         ensures releases { Releases (books_of self.old.queues) (A.view self.old.adapter) (books_of self.new.queues) (A.view self.new.adapter) }
         ensures lower { AreLowerInUse (books_of self.new.queues) (A.view self.new.adapter) (tag + 1) }
     {
@@ -46,8 +46,8 @@ impl<A: Adapter> Port<A> {
 
     /// Starts what waits as long as a tag is free, on the lowest free tag each.
     fn start_waiting(&mut self)
-        requires { (rooms : List Request) × IsKept (books_of self.old.queues) (A.view self.old.adapter) rooms }
-        ensures rooms { (rooms : List Request) → IsKept (books_of self.old.queues) (A.view self.old.adapter) rooms → IsInHand (books_of self.new.queues) (A.view self.new.adapter) rooms }
+        requires { (rooms : List Request) × PortKept (books_of self.old.queues) (A.view self.old.adapter) rooms }
+        ensures rooms { (rooms : List Request) → PortKept (books_of self.old.queues) (A.view self.old.adapter) rooms → IsInHand (books_of self.new.queues) (A.view self.new.adapter) rooms }
         ensures releases { Releases (books_of self.old.queues) (A.view self.old.adapter) (books_of self.new.queues) (A.view self.new.adapter) }
     {
         for tag in 0..self.queues.sizes.depth {
@@ -62,6 +62,7 @@ impl<A: Adapter> Port<A> {
         ensures queues { books_of self.new.queues ≡ books_of self.old.queues }
         ensures reserved { OnOk result (request.now.kind ≡ Write → IsReserved (A.view self.new.adapter) request.now.extent) }
         ensures reserves { ReservesMore (A.view self.old.adapter) (A.view self.new.adapter) }
+        ensures unless_write { request.now.kind ≢ Write → A.view self.new.adapter ≡ A.view self.old.adapter }
         ensures order { IsInOrder (A.view self.new.adapter) }
         ensures refused { OnErr result (request.now.kind ≡ Write) }
     {
@@ -130,7 +131,7 @@ impl<A: Adapter> Device for Port<A> {
 
     ghost STACK_SIZE = { 1 };
 
-    ghost seen = { λ port. seen_of (books_of port.queues) (A.view port.adapter) };
+    ghost view = { λ port. view_of (books_of port.queues) (A.view port.adapter) };
 
     ghost request_of = { λ room. room.request };
 

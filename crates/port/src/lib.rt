@@ -12,7 +12,7 @@
 
 ghost use Rattle.std.specs.Prelude.{◌≡◌, ◌≤◌, List, [], IfOk};
 ghost use Rattle.machine.specs.declared.Request.{Request};
-ghost use Rattle.port.specs.Opening.{IsFresh, opening_seen};
+ghost use Rattle.port.specs.Opening.{IsFresh, opening_view};
 
 mod layer;
 mod queues;
@@ -48,7 +48,7 @@ impl<A: Adapter> Port<A> {
     pub fn new(alloc: Global, adapter: A) -> Result<Port<A>, AllocError>
         requires { IsFresh (A.view adapter) }
         ensures rooms { IfOk result (λ port. ⟦<Port<A> as Device>⟧.rooms_out port []) }
-        ensures opening { IfOk result (λ port. ⟦<Port<A> as Device>⟧.seen port ≡ opening_seen (A.view adapter)) }
+        ensures opening { IfOk result (λ port. ⟦<Port<A> as Device>⟧.view port ≡ opening_view (A.view adapter)) }
     {
         let sizes = Sizes {
             sector_size: adapter.sector_size(),

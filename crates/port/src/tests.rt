@@ -1,7 +1,7 @@
 //! Runs of a port over an adapter in memory, each call by the contract of a layer.
 
 ghost use Rattle.std.specs.Prelude.{◌≡◌, ◌≤◌, ◌<◌, ◌+◌, ◌^◌, ◌∷◌, [], true, false, length, IfOk, OnOk, if◌then◌else◌};
-ghost use Rattle.device.specs.Seen.{AsksFor, IsBounded, whole_command};
+ghost use Rattle.device.specs.View.{AsksFor, IsBounded, whole_command};
 ghost use Rattle.port.specs.Client.{IsReady, four_sectors};
 
 use super::*;
@@ -118,9 +118,9 @@ fn submit<D: Device>(
     requires takes { D.TAKES_SRB ≡ true }
     requires locations { D.STACK_SIZE ≡ 1 }
     requires rooms { D.rooms_out device.old [] }
-    requires ready { IsReady (D.seen device.old) four_sectors client.old.next client.old.removed }
+    requires ready { IsReady (D.view device.old) four_sectors client.old.next client.old.removed }
     ensures rooms { D.rooms_out device.new [] }
-    ensures ready { IsReady (D.seen device.new) four_sectors client.new.next client.new.removed }
+    ensures ready { IsReady (D.view device.new) four_sectors client.new.next client.new.removed }
 {
     assert!(rt; !client.removed && client.next < 1000);
     assert!(rt; first <= 2 && count <= 2 || first == 3 && count == 1);
@@ -161,10 +161,10 @@ fn told(label: DeviceLabel) -> (u128, char, u8) {
 /// Takes as many labels as are wanted, and no more are there.
 fn tells<D: Device>(rt: &impl Abort, device: &mut D, client: &Client, want: &[(u128, char, u8)])
     requires rooms { D.rooms_out device.old [] }
-    requires ready { IsReady (D.seen device.old) four_sectors client.now.next client.now.removed }
+    requires ready { IsReady (D.view device.old) four_sectors client.now.next client.now.removed }
     ensures rooms { D.rooms_out device.new [] }
-    ensures ready { IsReady (D.seen device.new) four_sectors client.now.next client.now.removed }
-    ensures labels { length (D.seen device.new).adapter.labels ≡ 0 }
+    ensures ready { IsReady (D.view device.new) four_sectors client.now.next client.now.removed }
+    ensures labels { length (D.view device.new).adapter.labels ≡ 0 }
 {
     for w in want {
         let label = device.take_label();
@@ -176,9 +176,9 @@ fn tells<D: Device>(rt: &impl Abort, device: &mut D, client: &Client, want: &[(u
 /// Acts on a tag; true where its piece had done nothing.
 fn act<D: Device>(rt: &impl Abort, device: &mut D, client: &Client, tag: u8) -> bool
     requires rooms { D.rooms_out device.old [] }
-    requires ready { IsReady (D.seen device.old) four_sectors client.now.next client.now.removed }
+    requires ready { IsReady (D.view device.old) four_sectors client.now.next client.now.removed }
     ensures rooms { D.rooms_out device.new [] }
-    ensures ready { IsReady (D.seen device.new) four_sectors client.now.next client.now.removed }
+    ensures ready { IsReady (D.view device.new) four_sectors client.now.next client.now.removed }
 {
     tells(rt, device, client, &[]);
     device.act(tag)
@@ -187,9 +187,9 @@ fn act<D: Device>(rt: &impl Abort, device: &mut D, client: &Client, tag: u8) -> 
 /// Takes the piece of a tag back; true where there was one.
 fn finish<D: Device>(rt: &impl Abort, device: &mut D, client: &Client, tag: u8) -> bool
     requires rooms { D.rooms_out device.old [] }
-    requires ready { IsReady (D.seen device.old) four_sectors client.now.next client.now.removed }
+    requires ready { IsReady (D.view device.old) four_sectors client.now.next client.now.removed }
     ensures rooms { D.rooms_out device.new [] }
-    ensures ready { IsReady (D.seen device.new) four_sectors client.now.next client.now.removed }
+    ensures ready { IsReady (D.view device.new) four_sectors client.now.next client.now.removed }
 {
     tells(rt, device, client, &[]);
     device.finish(tag)
@@ -197,9 +197,9 @@ fn finish<D: Device>(rt: &impl Abort, device: &mut D, client: &Client, tag: u8) 
 
 fn reset<D: Device>(rt: &impl Abort, device: &mut D, client: &Client)
     requires rooms { D.rooms_out device.old [] }
-    requires ready { IsReady (D.seen device.old) four_sectors client.now.next client.now.removed }
+    requires ready { IsReady (D.view device.old) four_sectors client.now.next client.now.removed }
     ensures rooms { D.rooms_out device.new [] }
-    ensures ready { IsReady (D.seen device.new) four_sectors client.now.next client.now.removed }
+    ensures ready { IsReady (D.view device.new) four_sectors client.now.next client.now.removed }
 {
     tells(rt, device, client, &[]);
     device.reset();
@@ -207,18 +207,18 @@ fn reset<D: Device>(rt: &impl Abort, device: &mut D, client: &Client)
 
 fn cancel<D: Device>(device: &mut D, client: &Client, number: u64)
     requires rooms { D.rooms_out device.old [] }
-    requires ready { IsReady (D.seen device.old) four_sectors client.now.next client.now.removed }
+    requires ready { IsReady (D.view device.old) four_sectors client.now.next client.now.removed }
     ensures rooms { D.rooms_out device.new [] }
-    ensures ready { IsReady (D.seen device.new) four_sectors client.now.next client.now.removed }
+    ensures ready { IsReady (D.view device.new) four_sectors client.now.next client.now.removed }
 {
     device.cancel(number as u128);
 }
 
 fn drain<D: Device>(device: &mut D, client: &mut Client)
     requires rooms { D.rooms_out device.old [] }
-    requires ready { IsReady (D.seen device.old) four_sectors client.old.next client.old.removed }
+    requires ready { IsReady (D.view device.old) four_sectors client.old.next client.old.removed }
     ensures rooms { D.rooms_out device.new [] }
-    ensures ready { IsReady (D.seen device.new) four_sectors client.new.next client.new.removed }
+    ensures ready { IsReady (D.view device.new) four_sectors client.new.next client.new.removed }
 {
     device.drain();
     client.removed = true;
@@ -227,9 +227,9 @@ fn drain<D: Device>(device: &mut D, client: &mut Client)
 /// The packet that comes up, finished, and its room given back.
 fn take_done<D: Device>(device: &mut D, client: &Client) -> Option<Done>
     requires rooms { D.rooms_out device.old [] }
-    requires ready { IsReady (D.seen device.old) four_sectors client.now.next client.now.removed }
+    requires ready { IsReady (D.view device.old) four_sectors client.now.next client.now.removed }
     ensures rooms { D.rooms_out device.new [] }
-    ensures ready { IsReady (D.seen device.new) four_sectors client.now.next client.now.removed }
+    ensures ready { IsReady (D.view device.new) four_sectors client.now.next client.now.removed }
 {
     let Some((climb, room)) = device.take_done() else {
         return None;
@@ -266,9 +266,9 @@ fn try_step<D: Device>(
     requires takes { D.TAKES_SRB ≡ true }
     requires locations { D.STACK_SIZE ≡ 1 }
     requires rooms { D.rooms_out device.old [] }
-    requires ready { IsReady (D.seen device.old) four_sectors client.old.next client.old.removed }
+    requires ready { IsReady (D.view device.old) four_sectors client.old.next client.old.removed }
     ensures rooms { OnOk result (D.rooms_out device.new []) }
-    ensures ready { OnOk result (IsReady (D.seen device.new) four_sectors client.new.next client.new.removed) }
+    ensures ready { OnOk result (IsReady (D.view device.new) four_sectors client.new.next client.new.removed) }
 {
     match step {
         Step::Submit(kind, first, count) => {
@@ -305,9 +305,9 @@ fn try_all<D: Device>(
     requires takes { D.TAKES_SRB ≡ true }
     requires locations { D.STACK_SIZE ≡ 1 }
     requires rooms { D.rooms_out device.old [] }
-    requires ready { IsReady (D.seen device.old) four_sectors client.old.next client.old.removed }
+    requires ready { IsReady (D.view device.old) four_sectors client.old.next client.old.removed }
     ensures rooms { OnOk result (D.rooms_out device.new []) }
-    ensures ready { OnOk result (IsReady (D.seen device.new) four_sectors client.new.next client.new.removed) }
+    ensures ready { OnOk result (IsReady (D.view device.new) four_sectors client.new.next client.new.removed) }
 {
     for step in steps {
         try_step(rt, alloc, device, client, step)?;
@@ -320,9 +320,9 @@ fn submit_four<D: Device>(rt: &impl Abort, alloc: Global, device: &mut D, client
     requires takes { D.TAKES_SRB ≡ true }
     requires locations { D.STACK_SIZE ≡ 1 }
     requires rooms { D.rooms_out device.old [] }
-    requires ready { IsReady (D.seen device.old) four_sectors client.old.next client.old.removed }
+    requires ready { IsReady (D.view device.old) four_sectors client.old.next client.old.removed }
     ensures rooms { D.rooms_out device.new [] }
-    ensures ready { IsReady (D.seen device.new) four_sectors client.new.next client.new.removed }
+    ensures ready { IsReady (D.view device.new) four_sectors client.new.next client.new.removed }
 {
     for _ in 0..4 {
         let _ = submit(rt, alloc, device, client, Kind::Write, 0, 2);
@@ -344,7 +344,7 @@ fn new_client() -> Client
 /// A port of four sectors, the last one bad, with two tags.
 fn port(alloc: Global) -> Result<Port<MemAdapter<VecDisk>>, AllocError>
     ensures rooms { IfOk result (λ port. ⟦<Port<MemAdapter<VecDisk>> as Device>⟧.rooms_out port []) }
-    ensures ready { IfOk result (λ port. IsReady (⟦<Port<MemAdapter<VecDisk>> as Device>⟧.seen port) four_sectors 1 false) }
+    ensures ready { IfOk result (λ port. IsReady (⟦<Port<MemAdapter<VecDisk>> as Device>⟧.view port) four_sectors 1 false) }
 {
     let bad = vec![in alloc; 3]?;
     let Ok(disk) = VecDisk::new(alloc, 512, 4, bad) else {

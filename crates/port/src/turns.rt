@@ -3,7 +3,7 @@ ghost use Rattle.std.specs.Prelude.{◌≡◌, ◌==◌, ◌&&◌, not, ◌<◌,
 ghost use Rattle.irp.specs.declared.Payload.TheVariants.{Srb as Packed};
 ghost use Rattle.machine.specs.declared.Request.{Request};
 ghost use Rattle.port.specs.Books.{books_of, visits_of, entry, entry_of, HasRoomForMore};
-ghost use Rattle.port.specs.Turns.{IsEmpty, IsPacked, Queued, cancelled, can_cancel_held, can_cancel_ended, held_on, Starts, StartsNot, Ends, Leaves, LeavesNot, drained, IsUncancelled, Withdraws, WithdrawsNot, WithdrawsAt, WithdrawsNotAt, CancelsIn, CancelsNotIn, CancelsOn, CancelsNotOn, CancelsEnded, CancelsNoEnded};
+ghost use Rattle.port.specs.Turns.{IsEmpty, IsPacked, Queued, cancelled, can_cancel_held, can_cancel_ended, held_on, Starts, StartsNot, Ends, TakesDone, TakesNone, drained, IsUncancelled, Withdraws, WithdrawsNot, WithdrawsAt, WithdrawsNotAt, CancelsIn, CancelsNotIn, CancelsOn, CancelsNotOn, CancelsEnded, CancelsNoEnded};
 ghost use Rattle.port.specs.Shown.{status_left};
 ghost use Rattle.linked.specs.Queue.{VisitsAtMost};
 
@@ -177,7 +177,7 @@ impl Queues {
 
     /// The packet that ended first of those that were not taken.
     pub fn take_done(&mut self) -> Option<Ended>
-        ensures { MatchOption result (LeavesNot (books_of self.old) (books_of self.new)) (λ ended. Leaves (books_of self.old) ended (books_of self.new)) }
+        ensures { MatchOption result (TakesNone (books_of self.old) (books_of self.new)) (λ ended. TakesDone (books_of self.old) ended (books_of self.new)) }
     {
         self.done.pop_front()
     }

@@ -6,6 +6,7 @@ mod Playing
 mod Printed
 mod PrintedLabels
 mod Reading
+mod Shifted
 mod Spelled
 mod Trims
 mod Zipped

@@ -49,7 +49,7 @@ none_left (label ∷ labels) told answers few =
 of_right : (old : StackView) (event : Event) (reply : Reply) (new : StackView) → IsAllTaken old → IsRight old event reply new → left_by_all new.labels new.answers ≡ []
 of_right old event reply new taken h =
     let all : IsPermutation new.answers h.told.answers =
-    subst (λ (xs : List Answer). IsPermutation new.answers xs) (ap (λ (xs : List Answer). h.told.answers ++ xs) taken.answers ∙ append-nil h.told.answers) h.by.waiting in
+    subst (λ (xs : List Answer). IsPermutation new.answers xs) (ap (λ (xs : List Answer). h.told.answers ++ xs) taken.answers ∙ append-nil h.told.answers) h.by.untaken in
     let same : length h.told.answers ≡ length new.answers = length_permutation new.answers h.told.answers all in
     ap (λ (ls : List Label). left_by_all ls new.answers) h.by.in_order
     ∙ none_left (h.told.own ++ map as_label h.told.device) h.told.answers new.answers (omega arith)

@@ -1,6 +1,6 @@
 -- What is printed of a reply or a label: one line each.
-use Rattle.std.specs.Prelude.{ℕ, ◌+◌, ◌-◌, ◌^◌, ◌==◌, Bool, true, false, List, [], ◌∷◌, ◌++◌, map, codes, if◌then◌else◌}
-use Rattle.std.specs.Fmt.{decimal, digits, format_spec, padded_integral}
+use Rattle.std.specs.Prelude.{ℕ, ◌+◌, ◌/◌, ◌%◌, ◌==◌, Bool, true, false, List, [], ◌∷◌, ◌++◌, map, slice_index, codes, if◌then◌else◌}
+use Rattle.std.specs.Fmt.{decimal}
 use Rattle.std.specs.List.{concat}
 use Rattle.ntstatus.specs.declared.NtStatus.{NtStatus}
 use Rattle.ntstatus.specs.Codes.{name_of}
@@ -47,9 +47,13 @@ word_of Good = codes "good"
 word_of Busy = codes "busy"
 word_of (Bad completion) = codes "bad"
 
+-- the hexadecimal digits
+abbrev pub hex_digits : List ℕ
+hex_digits = codes "0123456789abcdef"
+
 -- a byte as two hexadecimal digits
 abbrev pub hex_of : ℕ → List ℕ
-hex_of byte = padded_integral (format_spec 32 0 4 2 (2 ^ 64 - 1)) false [] (digits 16 false byte)
+hex_of byte = slice_index hex_digits (byte / 16) ∷ slice_index hex_digits (byte % 16) ∷ []
 
 -- bytes as hexadecimal digits
 abbrev pub hex_bytes : List ℕ → List ℕ

@@ -1,29 +1,50 @@
 //! Replies and labels in print, one a line.
 
-ghost use Rattle.std.specs.Prelude.{◌≡◌, OnOk};
+ghost use Rattle.std.specs.Prelude.{◌≡◌, ◌++◌, OnOk, codes};
+ghost use Rattle.std.specs.Fmt.{decimal};
 ghost use Rattle.std.specs.Io.KnownBytes.{Appends};
-ghost use Rattle.script.specs.Printing.{answer_line, call_line, device_line, hex_bytes, hex_of, label_line, number_of, reply_line, word_of};
+ghost use Rattle.script.specs.Printing.{answer_line, bytes_text, call_line, device_line, hex_bytes, hex_of, label_line, line_end, number_of, reply_line, word_of};
 
 use crate::runs::write_runs;
 use compose::{Refusal, Reply};
+use itoa::{Buffer, Integer};
 use machine::{ClientRequest, Kind, Label};
 use ntstatus::NtStatus;
 use srb::{Class, DeviceLabel};
 use std::io;
 use std::io::Write;
 
+/// The hexadecimal digits.
+static DIGITS: [u8; 16] = *b"0123456789abcdef";
+
 /// Writes the line of a reply.
 pub fn write_reply<W: Write>(out: &mut W, reply: &Reply) -> io::Result<()>
     ensures { OnOk result (Appends (W.contents out.old) (W.contents out.new) (reply_line reply.now)) }
 {
     match reply {
-        Reply::Handle(handle) => writeln!(out, "handle {}", handle.number),
+        Reply::Handle(handle) => write_numbered(out, b"handle ", handle.number),
         Reply::Ok => out.write_all(b"ok\n"),
-        Reply::Request(id) => writeln!(out, "request {}", id.number),
+        Reply::Request(id) => write_numbered(out, b"request ", id.number),
         Reply::Answered(_) => out.write_all(b"answered\n"),
-        Reply::Refused { refusal, .. } => writeln!(out, "refused E{}", number_of(*refusal)),
+        Reply::Refused { refusal, .. } => write_numbered(out, b"refused E", number_of(*refusal)),
         Reply::Ignored => out.write_all(b"ignored\n"),
     }
+}
+
+/// Writes a number in decimal digits.
+pub fn write_number<W: Write, N: Integer>(out: &mut W, number: N) -> io::Result<()>
+    ensures { OnOk result (Appends (W.contents out.old) (W.contents out.new) (N.text number)) }
+{
+    out.write_all(Buffer::new().format(number).as_bytes())
+}
+
+/// Writes a line of a word and a number.
+fn write_numbered<W: Write, N: Integer>(out: &mut W, word: &[u8], number: N) -> io::Result<()>
+    ensures { OnOk result (Appends (W.contents out.old) (W.contents out.new) (word.now ++ (N.text number ++ line_end))) }
+{
+    out.write_all(word)?;
+    write_number(out, number)?;
+    out.write_all(b"\n")
 }
 
 /// The number of a refusal, as it is printed after its E.
@@ -54,7 +75,7 @@ pub fn write_label<W: Write>(out: &mut W, label: &Label) -> io::Result<()>
             information,
             bytes,
         } => write_answer(out, *number, *status, *information, bytes.as_slice()),
-        Label::Cancel { number } => writeln!(out, "cancel {number}"),
+        Label::Cancel { number } => write_numbered(out, b"cancel ", *number),
         Label::Pause => out.write_all(b"pause\n"),
         Label::Resume => out.write_all(b"resume\n"),
         Label::Remove => out.write_all(b"remove\n"),
@@ -67,16 +88,30 @@ pub fn write_label<W: Write>(out: &mut W, label: &Label) -> io::Result<()>
 fn write_call<W: Write>(out: &mut W, number: u64, request: &ClientRequest) -> io::Result<()>
     ensures { OnOk result (Appends (W.contents out.old) (W.contents out.new) (call_line number request.now)) }
 {
-    let offset = request.offset;
-    let length = request.length;
+    out.write_all(b"call ")?;
+    write_number(out, number)?;
     match request.kind {
-        Kind::Read => writeln!(out, "call {number} read {offset} {length}"),
-        Kind::Write if request.through => {
-            writeln!(out, "call {number} write {offset} {length} through")
-        }
-        Kind::Write => writeln!(out, "call {number} write {offset} {length}"),
-        Kind::Flush => writeln!(out, "call {number} flush"),
+        Kind::Read => write_place(out, b" read ", request, b"\n"),
+        Kind::Write if request.through => write_place(out, b" write ", request, b" through\n"),
+        Kind::Write => write_place(out, b" write ", request, b"\n"),
+        Kind::Flush => out.write_all(b" flush\n"),
     }
+}
+
+/// Writes the word of a request, its first byte and its length, and what ends the line.
+fn write_place<W: Write>(
+    out: &mut W,
+    word: &[u8],
+    request: &ClientRequest,
+    end: &[u8],
+) -> io::Result<()>
+    ensures { OnOk result (Appends (W.contents out.old) (W.contents out.new) (word.now ++ (decimal request.now.offset ++ (codes " " ++ (decimal request.now.length ++ end.now))))) }
+{
+    out.write_all(word)?;
+    write_number(out, request.offset)?;
+    out.write_all(b" ")?;
+    write_number(out, request.length)?;
+    out.write_all(end)
 }
 
 fn write_device_label<W: Write>(out: &mut W, label: &DeviceLabel) -> io::Result<()>
@@ -84,14 +119,22 @@ fn write_device_label<W: Write>(out: &mut W, label: &DeviceLabel) -> io::Result<
 {
     match label {
         DeviceLabel::Start { piece, tag, block } => {
-            write!(out, "start {piece} tag {tag} ")?;
+            out.write_all(b"start ")?;
+            write_number(out, *piece)?;
+            out.write_all(b" tag ")?;
+            write_number(out, *tag)?;
+            out.write_all(b" ")?;
             write_hex(out, block.as_slice())?;
             out.write_all(b"\n")
         }
-        DeviceLabel::Act { piece, .. } => writeln!(out, "act {piece}"),
-        DeviceLabel::Fault { piece } => writeln!(out, "fault {piece}"),
+        DeviceLabel::Act { piece, .. } => write_numbered(out, b"act ", *piece),
+        DeviceLabel::Fault { piece } => write_numbered(out, b"fault ", *piece),
         DeviceLabel::Return { piece, class } => {
-            writeln!(out, "return {piece} {}", word_of(class))
+            out.write_all(b"return ")?;
+            write_number(out, *piece)?;
+            out.write_all(b" ")?;
+            out.write_all(word_of(class).as_bytes())?;
+            out.write_all(b"\n")
         }
     }
 }
@@ -110,7 +153,7 @@ fn write_hex<W: Write>(out: &mut W, bytes: &[u8]) -> io::Result<()>
 pub fn write_byte<W: Write>(out: &mut W, byte: u8) -> io::Result<()>
     ensures { OnOk result (Appends (W.contents out.old) (W.contents out.new) (hex_of byte)) }
 {
-    write!(out, "{byte:02x}")
+    out.write_all(&[DIGITS[byte as usize / 16], DIGITS[byte as usize % 16]])
 }
 
 fn word_of(class: &Class) -> &'static str
@@ -133,7 +176,19 @@ fn write_answer<W: Write>(
 ) -> io::Result<()>
     ensures { OnOk result (Appends (W.contents out.old) (W.contents out.new) (answer_line number status information bytes.now)) }
 {
-    write!(out, "answer {number} {} {information}", status.name())?;
+    out.write_all(b"answer ")?;
+    write_number(out, number)?;
+    out.write_all(b" ")?;
+    out.write_all(status.name().as_bytes())?;
+    out.write_all(b" ")?;
+    write_number(out, information)?;
+    write_bytes(out, bytes)
+}
+
+/// Writes the bytes of a read, and ends the line.
+fn write_bytes<W: Write>(out: &mut W, bytes: &[u8]) -> io::Result<()>
+    ensures { OnOk result (Appends (W.contents out.old) (W.contents out.new) (bytes_text bytes.now)) }
+{
     if bytes.is_empty() {
         return out.write_all(b"\n");
     }

@@ -1,11 +1,22 @@
 //! Bytes in print: each run of equal bytes as `BYTE*COUNT`, the runs joined by commas.
 
-ghost use Rattle.std.specs.Prelude.{◌≡◌, ◌≢◌, ◌<◌, ◌≤◌, ◌++◌, All, OnOk, length, take, slice_index};
+ghost use Rattle.std.specs.Prelude.{◌≡◌, ◌≢◌, ◌<◌, ◌≤◌, ◌++◌, All, IsTrue, OnOk, length, take, slice_index};
 ghost use Rattle.std.specs.Io.KnownBytes.{Appends};
 ghost use Rattle.script.specs.Printing.{comma, run_text, runs_of, runs_text};
 
+use crate::printing::{write_byte, write_number};
 use std::io;
 use std::io::Write;
+
+/// Whether all bytes equal the first one: whether they are the same without the first as without the last.
+fn is_one_run(bytes: &[u8]) -> bool
+    requires { 0 < length bytes.now }
+    ensures { IsTrue result → All (λ byte. byte ≡ slice_index bytes.now 0) bytes.now }
+{
+    let (_, behind) = bytes.split_at(1);
+    let (before, _) = bytes.split_at(bytes.len() - 1);
+    behind == before
+}
 
 /// The number of bytes at the front that equal the first one.
 fn first_run(bytes: &[u8]) -> usize
@@ -16,6 +27,9 @@ fn first_run(bytes: &[u8]) -> usize
     ensures longest { result < length bytes.now → slice_index bytes.now result ≢ slice_index bytes.now 0 }
 {
     let first = bytes[0];
+    if is_one_run(bytes) {
+        return bytes.len();
+    }
     bytes
         .iter()
         .position(|byte| *byte != first)
@@ -41,7 +55,9 @@ pub fn write_runs<W: Write>(out: &mut W, bytes: &[u8]) -> io::Result<()>
 fn write_run<W: Write>(out: &mut W, byte: u8, count: usize, is_last: bool) -> io::Result<()>
     ensures { OnOk result (Appends (W.contents out.old) (W.contents out.new) (run_text (byte, count) ++ comma is_last)) }
 {
-    write!(out, "{byte:02x}*{count}")?;
+    write_byte(out, byte)?;
+    out.write_all(b"*")?;
+    write_number(out, count)?;
     if is_last {
         return Ok(());
     }

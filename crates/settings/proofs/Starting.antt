@@ -2,7 +2,7 @@
 use Rattle.std.proofs.Common.{◌≡◌, ℕ, ◌-◌, ◌≤◌, ◌<◌, List, [], ◌∷◌, Option, Some, None, MatchOption, Result, Ok, Err, IfOk, length, replicate, slice_get, get_or, All, Contains, ◌↔◌, arith, refl, sym, ap, ◌∙◌, subst}
 use Rattle.std.proofs.lemmas.List.{length-replicate}
 use Rattle.std.proofs.lemmas.List.Elements.{All-head}
-use Rattle.disk.specs.Medium.{MediumView, StartsWith, IsWhole}
+use Rattle.disk.specs.Medium.{MediumView, StartsWith, HasWholeSectors}
 use Rattle.disk.specs.declared.NoMemory.{NoMemory}
 use Rattle.miniport.specs.Memory.{MemView, new_view}
 use Rattle.compose.specs.Mbr.{first_entry}
@@ -34,16 +34,16 @@ length_table size None le = omega (arith, length-replicate {A = ℕ} (size - 512
 length_table size (Some p) le = omega (arith, length-replicate {A = ℕ} (size - 512) 0)
 
 pub new_sectors : (c : Config) (medium : MediumView) (table : List ℕ) → AreInRange c
-    → StartsWith medium c.sector_size c.sectors table → IsWhole medium → table ≡ table_of c.sector_size (partition_of c) → medium.sectors ≡ disk_of c
+    → StartsWith medium c.sector_size c.sectors table → HasWholeSectors medium → table ≡ table_of c.sector_size (partition_of c) → medium.sectors ≡ disk_of c
 new_sectors c medium table settings starts whole same =
     let long : length table ≡ c.sector_size = ap length same ∙ length_table c.sector_size (partition_of c) (large c settings) in
     let some : 0 < c.sectors = omega (arith, settings.sectors.0) in
-    first_then_zeros c.sector_size c.sectors table medium.sectors (subst (λ (size : ℕ). IsWhole (record medium { sector_size = size })) starts.size_is whole) starts.count_is some long starts.bytes_are
+    first_then_zeros c.sector_size c.sectors table medium.sectors (subst (λ (size : ℕ). HasWholeSectors (record medium { sector_size = size })) starts.size_is whole) starts.count_is some long starts.bytes_are
     ∙ ap (λ (l : List ℕ). l ∷ replicate (c.sectors - 1) (replicate c.sector_size 0)) same
 
 -- a disk that starts with the table of the settings is theirs
 pub new_disk : (c : Config) (medium : MediumView) (table : List ℕ) (partition : Option Partition) → AreInRange c
-    → StartsWith medium c.sector_size c.sectors table → IsWhole medium → ((sector : ℕ) → Contains medium.bad sector ↔ Contains c.bad_sectors.items sector)
+    → StartsWith medium c.sector_size c.sectors table → HasWholeSectors medium → ((sector : ℕ) → Contains medium.bad sector ↔ Contains c.bad_sectors.items sector)
     → table ≡ table_of c.sector_size partition → partition ≡ partition_of c → IsNewDisk c medium
 new_disk c medium table partition settings starts whole bad same from = record {
   sector_size = starts.size_is;

@@ -1,8 +1,8 @@
-//! A stack over a disk in memory, as the settings give it.
+//! A stack over a sparse disk in memory, as the settings give it.
 
 ghost use Rattle.std.specs.Prelude.{◌≤◌, ◌≡◌, ◌++◌, ◌-◌, ℕ, [], IfOk, IfErr, OnOk, MatchOption, get_or, length, replicate, vec_len};
-ghost use Rattle.disk.specs.Medium.{IsWhole};
-ghost use Rattle.disk.specs.VecDisk.{shown};
+ghost use Rattle.disk.specs.Medium.{HasWholeSectors};
+ghost use Rattle.disk.specs.SparseDisk.{shown};
 ghost use Rattle.compose.specs.Mbr.{first_entry};
 ghost use Rattle.compose.specs.Start.{told_partition};
 ghost use Rattle.settings.specs.PartitionTable.{entries_of, entry_of, said_of, table_of};
@@ -11,7 +11,7 @@ ghost use Rattle.settings.specs.Started.{IsNewAdapter, IsNewDisk, IsStartFault, 
 
 use crate::{Config, Partition};
 use compose::{Settings, Stack, StartFault};
-use disk::{Medium, NoMemory, VecDisk};
+use disk::{Medium, NoMemory, SparseDisk};
 use miniport::MemAdapter;
 use std::alloc::{AllocError, Global};
 
@@ -26,7 +26,7 @@ const SIGNATURE: usize = 510;
 ///
 /// [`StartFault::Mbr`] with what is wrong with the partition of the settings, [`StartFault::Device`] where the adapter failed a
 /// command, [`StartFault::NoMemory`].
-pub fn start(alloc: Global, config: Config) -> Result<Stack<MemAdapter<VecDisk>>, StartFault>
+pub fn start(alloc: Global, config: Config) -> Result<Stack<MemAdapter<SparseDisk>>, StartFault>
     requires { AreInRange config }
     ensures view { IfOk result (λ stack. IsStartOf config stack) }
     ensures fault { IfErr result (IsStartFault config) }
@@ -47,7 +47,7 @@ pub fn start(alloc: Global, config: Config) -> Result<Stack<MemAdapter<VecDisk>>
 /// # Errors
 ///
 /// [`NoMemory`] where memory was refused.
-fn adapter(alloc: Global, config: Config) -> Result<MemAdapter<VecDisk>, NoMemory>
+fn adapter(alloc: Global, config: Config) -> Result<MemAdapter<SparseDisk>, NoMemory>
     requires { AreInRange config }
     ensures new { IfOk result (IsNewAdapter config) }
     ensures says { IfOk result (λ adapter. told_partition adapter.shown ≡ said_of config.sectors (partition_of config)) }
@@ -64,13 +64,13 @@ fn adapter(alloc: Global, config: Config) -> Result<MemAdapter<VecDisk>, NoMemor
 /// # Errors
 ///
 /// [`NoMemory`] where memory was refused.
-fn disk(alloc: Global, config: Config) -> Result<VecDisk, NoMemory>
+fn disk(alloc: Global, config: Config) -> Result<SparseDisk, NoMemory>
     requires { AreInRange config }
     ensures new { IfOk result (λ disk. IsNewDisk config (shown disk)) }
     ensures says { IfOk result (λ disk. (sectors : ℕ) → first_entry sectors (get_or (shown disk).sectors 0 []) ≡ said_of sectors (partition_of config)) }
 {
     let table = table_sector(alloc, config.sector_size, partition(&config))?;
-    let disk = VecDisk::starting_with(
+    let disk = SparseDisk::starting_with(
         alloc,
         config.sector_size,
         config.sectors,
@@ -90,7 +90,7 @@ fn partition(config: &Config) -> Option<Partition>
 
 /// The sectors of a medium are whole, for who calls it.
 fn has_whole_sectors<M: Medium>(_medium: &M)
-    ensures { IsWhole (M.seen _medium.now) }
+    ensures { HasWholeSectors (M.view _medium.now) }
 {}
 
 /// Sector 0: the partition table, with the first partition in its first entry, and zeros behind it.

@@ -57,7 +57,7 @@ never_started rules s number tag block each s' (inr none) = none
 pub first_waits : (rules : Rules) (o : OpenRequest) (places : Extent) (mark : Mark) (more : List Mark) → o.marks ≡ mark ∷ more → places.first ≡ 0 → IsSendable rules o places → IsUnsent mark
 first_waits rules o places mark more is from h =
     let there : All IsUnsent (take (places.first + places.count - places.first) (drop places.first (mark ∷ more))) =
-    subst (λ marks. All IsUnsent (take (places.first + places.count - places.first) (drop places.first marks))) is h.waiting in
+    subst (λ marks. All IsUnsent (take (places.first + places.count - places.first) (drop places.first marks))) is h.unsent in
     let here : All IsUnsent (take (0 + places.count - 0) (drop 0 (mark ∷ more))) =
     subst (λ first. All IsUnsent (take (first + places.count - first) (drop first (mark ∷ more)))) from there in
     of_front (0 + places.count - 0) (omega (arith, h.some)) here

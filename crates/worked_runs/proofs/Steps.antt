@@ -15,7 +15,7 @@ use Rattle.machine.specs.declared.Label.TheVariants.{Call, Device, Answer, Cance
 use Rattle.machine.specs.Rules.{Rules}
 use Rattle.machine.specs.State.{OpenRequest, Piece, State, Mark}
 use Rattle.machine.specs.Calling.{refusal, Opens, Refuses, Admits, bytes_carried, new_request}
-use Rattle.machine.specs.Sending.{IsLowestFreeTag, HasOtherTag, MayStart, IsSendable, IsFreshPiece, Transfers, Leaves, command_for, sent, new_piece, with_fate, given_back}
+use Rattle.machine.specs.Sending.{IsLowestFreeTag, HasOtherTag, MayStart, IsSendable, IsFreshPiece, Transfers, LeavesMarks, command_for, sent, new_piece, with_fate, given_back}
 use Rattle.machine.specs.Answering.{HasEnded, HasCause, is_done, answer_bytes, information}
 use Rattle.machine.specs.Holding.{as_cancelled, held_back, as_timely}
 use Rattle.machine.specs.Step.{Step}
@@ -76,7 +76,7 @@ pub faulted : (rules : Rules) (s : State) (piece : Piece) (other_pieces : List P
 faulted rules s piece other_pieces free fresh = inl (free, record { piece = piece; other_pieces = other_pieces; fresh = fresh; after = IsSame-refl _ })
 
 pub returned : (rules : Rules) (s : State) (piece : Piece) (other_pieces : List Piece) (owner : OpenRequest) (others : List OpenRequest) (class : Class) (marks : List Mark)
-    → IsNone s.owed → IsPermutation s.pieces (piece ∷ other_pieces) → IsPermutation s.requests (owner ∷ others) → owner.number ≡ piece.owner → Leaves piece class marks
+    → IsNone s.owed → IsPermutation s.pieces (piece ∷ other_pieces) → IsPermutation s.requests (owner ∷ others) → owner.number ≡ piece.owner → LeavesMarks piece class marks
     → Step rules s (Device (Return piece.number class)) (record s { requests = given_back piece class marks owner ∷ others; pieces = other_pieces })
 returned rules s piece other_pieces owner others class marks free is_out is_open is_owner leaves = inl (
   free,

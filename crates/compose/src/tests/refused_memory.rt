@@ -23,7 +23,7 @@ struct Reluctant<M: Medium> {
 }
 
 impl<M: Medium> Medium for Reluctant<M> {
-    ghost seen = { λ m. M.seen m.medium };
+    ghost view = { λ m. M.view m.medium };
 
     fn sector_size(&self) -> u32 {
         self.medium.sector_size()

@@ -4,7 +4,7 @@ use Rattle.cdb.specs.Meaning.{Means}
 use Rattle.compose.specs.Admitting.{disk_command}
 use Rattle.srb.specs.declared.SrbFunction.TheVariants.{ExecuteScsi}
 use Rattle.irp.specs.declared.Payload.TheVariants.{Srb as Packed}
-use Rattle.device.specs.Seen.{Carries}
+use Rattle.device.specs.View.{Carries}
 use Rattle.compose.proofs.Asking.{asks_for}
 use Rattle.compose.proofs.admission.packet_for.Goals as goal
 

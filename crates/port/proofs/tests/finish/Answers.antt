@@ -3,4 +3,4 @@ use Rattle.port.proofs.Trying.{ready_finishes}
 use Rattle.port.proofs.tests.finish.Goals as goal
 
 pub returns-clause-ready : goal.returns-clause-ready
-returns-clause-ready g c = ready_finishes (g.D.Device.seen c.tells.new.device) (g.D.Device.seen c.finish.new.self) c.args.tag c.finish.result four_sectors c.args.client.now.next c.args.client.now.removed c.finish.ensures.finishes c.tells.ensures.ready
+returns-clause-ready g c = ready_finishes (g.D.Device.view c.tells.new.device) (g.D.Device.view c.finish.new.self) c.args.tag c.finish.result four_sectors c.args.client.now.next c.args.client.now.removed c.finish.ensures.finishes c.tells.ensures.ready

@@ -4,4 +4,4 @@ use Rattle.port.proofs.tests.submit_four.Given as goal
 
 -- between two requests the layer is in order, and as the client knows it
 abbrev pub invariant-loop : goal.invariant-loop
-invariant-loop g l = g.D.Device.rooms_out l.device [] × IsReady (g.D.Device.seen l.device) four_sectors l.client.next l.client.removed
+invariant-loop g l = g.D.Device.rooms_out l.device [] × IsReady (g.D.Device.view l.device) four_sectors l.client.next l.client.removed

@@ -4,4 +4,4 @@ use Rattle.port.proofs.tests.tells.Given as goal
 
 -- the layer is in order, and as the client knows it
 abbrev pub invariant-loop-w : goal.invariant-loop-w
-invariant-loop-w g l = g.D.Device.rooms_out l.device [] × IsReady (g.D.Device.seen l.device) four_sectors l.client.next l.client.removed
+invariant-loop-w g l = g.D.Device.rooms_out l.device [] × IsReady (g.D.Device.view l.device) four_sectors l.client.next l.client.removed

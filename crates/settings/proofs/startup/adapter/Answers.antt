@@ -1,4 +1,4 @@
-use Rattle.disk.specs.VecDisk.{shown}
+use Rattle.disk.specs.SparseDisk.{shown}
 use Rattle.settings.proofs.Starting.{new_adapter_if, told_if}
 use Rattle.settings.proofs.startup.adapter.Goals as goal
 

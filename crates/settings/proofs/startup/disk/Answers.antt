@@ -1,5 +1,5 @@
 use Rattle.std.proofs.Common.{subst, sym, ◌∙◌}
-use Rattle.disk.specs.VecDisk.{shown}
+use Rattle.disk.specs.SparseDisk.{shown}
 use Rattle.settings.proofs.Starting.{IsMarked, used, new_disk, says}
 use Rattle.settings.proofs.startup.disk.Goals as goal
 

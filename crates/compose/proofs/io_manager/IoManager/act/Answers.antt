@@ -1,38 +1,38 @@
 use Rattle.std.proofs.Common.{[], ◌∷◌, subst}
 use Rattle.std.specs.Prelude.{MatchBool}
-use Rattle.device.specs.Seen.{Seen}
-use Rattle.device.specs.Served.{ActsOn, ActsNot}
+use Rattle.device.specs.View.{DeviceView}
+use Rattle.device.specs.Served.{ActsOrFaults, ActsNot}
 use Rattle.compose.specs.declared.Event.TheVariants.{Act as ActEvent}
 use Rattle.compose.specs.declared.Reply.TheVariants.{Ok as OkReply}
 use Rattle.compose.specs.Right.{IsRight}
-use Rattle.compose.specs.Sound.{view_of, IsKept}
+use Rattle.compose.specs.Sound.{view_of, ManagerKept}
 use Rattle.compose.proofs.Righting.{IsSound-moves}
 use Rattle.compose.proofs.AdapterSteps.{act_kept, act_ignored}
 use Rattle.compose.proofs.io_manager.IoManager.act.Goals as goal
 
 pub returns-then-not-act : goal.returns-then-not-act
 returns-then-not-act g c =
-    let below : Seen = g.D.Device.seen c.self.inside.parts.device in
-    let below' : Seen = g.D.Device.seen c.act.new.self in
-    let none : ActsNot below c.args.tag below' = subst (λ b. MatchBool b (ActsOn below c.args.tag below') (ActsNot below c.args.tag below')) c.if-not-act.true c.act.ensures.acts in
+    let below : DeviceView = g.D.Device.view c.self.inside.parts.device in
+    let below' : DeviceView = g.D.Device.view c.act.new.self in
+    let none : ActsNot below c.args.tag below' = subst (λ b. MatchBool b (ActsOrFaults below c.args.tag below') (ActsNot below c.args.tag below')) c.if-not-act.true c.act.ensures.acts in
     record { right = act_ignored c.self.inside.parts.limits below c.self.inside.parts.tables c.args.self.now c.self.invariant.kept c.self.view_is c.requires.taken c.args.tag below' none }
 
 pub collect-requires-clause-sound : goal.collect-requires-clause-sound
 collect-requires-clause-sound g c =
-    let below : Seen = g.D.Device.seen c.self.inside.parts.device in
-    let below' : Seen = g.D.Device.seen c.act.new.self in
-    let acts : ActsOn below c.args.tag below' = subst (λ b. MatchBool b (ActsOn below c.args.tag below') (ActsNot below c.args.tag below')) c.if-not-act.false c.act.ensures.acts in
+    let below : DeviceView = g.D.Device.view c.self.inside.parts.device in
+    let below' : DeviceView = g.D.Device.view c.act.new.self in
+    let acts : ActsOrFaults below c.args.tag below' = subst (λ b. MatchBool b (ActsOrFaults below c.args.tag below') (ActsNot below c.args.tag below')) c.if-not-act.false c.act.ensures.acts in
     IsSound-moves c.self.inside.parts.limits below c.self.inside.parts.tables (acts.label ∷ []) below' c.self.invariant.kept.sound acts.moves
 
 kept : (g : _) → (c : goal.After-collect g)
-    → IsRight c.args.self.now (ActEvent c.args.tag) OkReply (view_of c.collect.new.self.limits (g.D.Device.seen c.collect.new.self.device) c.collect.new.self.tables)
-    × IsKept c.collect.new.self.limits (g.D.Device.seen c.collect.new.self.device) c.collect.new.self.tables
+    → IsRight c.args.self.now (ActEvent c.args.tag) OkReply (view_of c.collect.new.self.limits (g.D.Device.view c.collect.new.self.device) c.collect.new.self.tables)
+    × ManagerKept c.collect.new.self.limits (g.D.Device.view c.collect.new.self.device) c.collect.new.self.tables
 kept g c =
-    let below : Seen = g.D.Device.seen c.self.inside.parts.device in
-    let below' : Seen = g.D.Device.seen c.act.new.self in
-    let acts : ActsOn below c.args.tag below' = subst (λ b. MatchBool b (ActsOn below c.args.tag below') (ActsNot below c.args.tag below')) c.if-not-act.false c.act.ensures.acts in
+    let below : DeviceView = g.D.Device.view c.self.inside.parts.device in
+    let below' : DeviceView = g.D.Device.view c.act.new.self in
+    let acts : ActsOrFaults below c.args.tag below' = subst (λ b. MatchBool b (ActsOrFaults below c.args.tag below') (ActsNot below c.args.tag below')) c.if-not-act.false c.act.ensures.acts in
     act_kept c.self.inside.parts.limits below c.self.inside.parts.tables c.args.self.now c.self.invariant.kept c.self.view_is c.requires.taken
-    c.args.tag below' c.collect.new.self.limits (g.D.Device.seen c.collect.new.self.device) c.collect.new.self.tables (g.met.D.Device.in_order c.self.inside.parts.device [] c.self.invariant.rooms) acts
+    c.args.tag below' c.collect.new.self.limits (g.D.Device.view c.collect.new.self.device) c.collect.new.self.tables (g.met.D.Device.in_order c.self.inside.parts.device [] c.self.invariant.rooms) acts
     c.collect.ensures.limits c.collect.ensures.sound c.collect.ensures.collects (g.met.D.Device.in_order c.collect.new.self.device [] c.collect.ensures.rooms)
 
 pub invariant_of-self-2 : goal.invariant_of-self-2

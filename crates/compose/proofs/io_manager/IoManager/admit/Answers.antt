@@ -1,21 +1,23 @@
-use Rattle.std.proofs.Common.{[], sym, ◌∙◌, subst}
+use Rattle.std.proofs.Common.{◌≢◌, [], sym, ◌∙◌, subst}
+use Rattle.machine.specs.declared.Kind.TheVariants.{Write}
 use Rattle.machine.specs.declared.Request.{Request}
 use Rattle.compose.specs.declared.Reply.TheVariants.{Request as Requested}
 use Rattle.compose.specs.declared.admission.Limits.{Limits}
 use Rattle.compose.specs.Admitting.{request_on_disk, HasBuffers, IsSent}
 use Rattle.compose.specs.Right.{IsRightCall}
-use Rattle.compose.specs.Sound.{IsSound, IsKept, view_of}
+use Rattle.compose.specs.Sound.{IsSound, ManagerKept, view_of}
 use Rattle.compose.proofs.Calling.{reserved_sound, turned_away_kept, admitted_kept}
 use Rattle.compose.proofs.io_manager.IoManager.admit.Goals as goal
 
 turned_away : (g : _) (c : goal.After-drop-request g)
     → IsRightCall c.args.self.now c.args.handle c.args.request.kind c.args.request.offset c.args.buffer c.refused.result
-    (view_of c.reserve.new.self.limits (g.D.Device.seen c.reserve.new.self.device) c.reserve.new.self.tables)
-    × IsKept c.reserve.new.self.limits (g.D.Device.seen c.reserve.new.self.device) c.reserve.new.self.tables
+    (view_of c.reserve.new.self.limits (g.D.Device.view c.reserve.new.self.device) c.reserve.new.self.tables)
+    × ManagerKept c.reserve.new.self.limits (g.D.Device.view c.reserve.new.self.device) c.reserve.new.self.tables
 turned_away g c =
-    turned_away_kept c.self.inside.parts.limits (g.D.Device.seen c.self.inside.parts.device) c.self.inside.parts.tables c.args.self.now c.args.handle c.args.request c.args.buffer
+    turned_away_kept c.self.inside.parts.limits (g.D.Device.view c.self.inside.parts.device) c.self.inside.parts.tables c.args.self.now c.args.handle c.args.request c.args.buffer
     c.self.invariant.kept c.self.view_is c.requires.admissible c.requires.taken c.requires.is_call
-    c.reserve.new.self.limits (g.D.Device.seen c.reserve.new.self.device) c.reserve.new.self.tables c.refused.result c.reserve.ensures.limits c.reserve.ensures.device c.reserve.ensures.tables c.refused.ensures
+    c.reserve.new.self.limits (g.D.Device.view c.reserve.new.self.device) c.reserve.new.self.tables c.refused.result c.reserve.ensures.limits c.reserve.ensures.device
+    (λ other. c.reserve.ensures.unless_write (subst (λ (r : Request). r.kind ≢ Write) (sym c.request_below-below.ensures) other)) c.reserve.ensures.tables c.refused.ensures
 
 pub invariant_of-self : goal.invariant_of-self
 invariant_of-self g c = record {
@@ -30,30 +32,30 @@ returns-in_default g c = record { right = (turned_away g c).0 }
 
 pub send-id-requires-clause-sound : goal.send-id-requires-clause-sound
 send-id-requires-clause-sound g c =
-    subst (λ (limits : Limits). IsSound limits (g.D.Device.seen c.reserve.new.self.device) c.reserve.new.self.tables) (sym c.reserve.ensures.limits)
-    (reserved_sound c.self.inside.parts.limits (g.D.Device.seen c.self.inside.parts.device) c.self.inside.parts.tables (g.D.Device.seen c.reserve.new.self.device) c.reserve.new.self.tables c.self.invariant.kept.sound
+    subst (λ (limits : Limits). IsSound limits (g.D.Device.view c.reserve.new.self.device) c.reserve.new.self.tables) (sym c.reserve.ensures.limits)
+    (reserved_sound c.self.inside.parts.limits (g.D.Device.view c.self.inside.parts.device) c.self.inside.parts.tables (g.D.Device.view c.reserve.new.self.device) c.reserve.new.self.tables c.self.invariant.kept.sound
     c.reserve.ensures.device c.reserve.ensures.tables)
 
 made : (g : _) (c : goal.After-collect g) → HasBuffers c.args.request.kind c.args.buffer c.in-Ok.places
 made g c = subst (λ (r : Request). HasBuffers r.kind c.args.buffer c.in-Ok.places) c.request_below-below.ensures c.in-Ok.ensures.buffers
 
 sent : (g : _) (c : goal.After-collect g)
-    → IsSent (g.D.Device.seen c.reserve.new.self.device) c.reserve.new.self.tables c.args.handle c.args.request (request_on_disk c.self.inside.parts.limits c.args.request) c.in-Ok.places.copies c.args.buffer c.send-id.result.slot
-    (g.D.Device.seen c.send-id.new.self.device) c.send-id.new.self.tables
+    → IsSent (g.D.Device.view c.reserve.new.self.device) c.reserve.new.self.tables c.args.handle c.args.request (request_on_disk c.self.inside.parts.limits c.args.request) c.in-Ok.places.copies c.args.buffer c.send-id.result.slot
+    (g.D.Device.view c.send-id.new.self.device) c.send-id.new.self.tables
 sent g c =
-    subst (λ (limits : Limits). IsSent (g.D.Device.seen c.reserve.new.self.device) c.reserve.new.self.tables c.args.handle c.args.request (request_on_disk limits c.args.request) c.in-Ok.places.copies c.args.buffer c.send-id.result.slot
-    (g.D.Device.seen c.send-id.new.self.device) c.send-id.new.self.tables)
+    subst (λ (limits : Limits). IsSent (g.D.Device.view c.reserve.new.self.device) c.reserve.new.self.tables c.args.handle c.args.request (request_on_disk limits c.args.request) c.in-Ok.places.copies c.args.buffer c.send-id.result.slot
+    (g.D.Device.view c.send-id.new.self.device) c.send-id.new.self.tables)
     c.reserve.ensures.limits c.send-id.ensures.sent
 
 admitted : (g : _) (c : goal.After-collect g)
     → IsRightCall c.args.self.now c.args.handle c.args.request.kind c.args.request.offset c.args.buffer (Requested c.send-id.result)
-    (view_of c.collect.new.self.limits (g.D.Device.seen c.collect.new.self.device) c.collect.new.self.tables)
-    × IsKept c.collect.new.self.limits (g.D.Device.seen c.collect.new.self.device) c.collect.new.self.tables
+    (view_of c.collect.new.self.limits (g.D.Device.view c.collect.new.self.device) c.collect.new.self.tables)
+    × ManagerKept c.collect.new.self.limits (g.D.Device.view c.collect.new.self.device) c.collect.new.self.tables
 admitted g c =
-    admitted_kept c.self.inside.parts.limits (g.D.Device.seen c.self.inside.parts.device) c.self.inside.parts.tables c.args.self.now c.args.handle c.args.request c.args.buffer
+    admitted_kept c.self.inside.parts.limits (g.D.Device.view c.self.inside.parts.device) c.self.inside.parts.tables c.args.self.now c.args.handle c.args.request c.args.buffer
     c.self.invariant.kept c.self.view_is c.requires.admissible c.requires.taken c.requires.is_call
-    (g.D.Device.seen c.reserve.new.self.device) c.reserve.new.self.tables c.in-Ok.places (g.D.Device.seen c.send-id.new.self.device) c.send-id.new.self.tables
-    c.collect.new.self.limits (g.D.Device.seen c.collect.new.self.device) c.collect.new.self.tables c.send-id.result
+    (g.D.Device.view c.reserve.new.self.device) c.reserve.new.self.tables c.in-Ok.places (g.D.Device.view c.send-id.new.self.device) c.send-id.new.self.tables
+    c.collect.new.self.limits (g.D.Device.view c.collect.new.self.device) c.collect.new.self.tables c.send-id.result
     c.reserve.ensures.device c.reserve.ensures.tables (made g c) (sent g c) c.send-id.ensures.number (g.met.D.Device.in_order c.self.inside.parts.device [] c.self.invariant.rooms)
     (c.collect.ensures.limits ∙ c.send-id.ensures.limits ∙ c.reserve.ensures.limits) c.collect.ensures.sound c.collect.ensures.collects (g.met.D.Device.in_order c.collect.new.self.device [] c.collect.ensures.rooms)
 

@@ -1,39 +1,39 @@
 use Rattle.std.proofs.Common.{[], ◌∷◌, subst}
 use Rattle.std.specs.Prelude.{MatchBool}
 use Rattle.srb.specs.declared.DeviceLabel.TheVariants.{Return}
-use Rattle.device.specs.Seen.{Seen}
+use Rattle.device.specs.View.{DeviceView}
 use Rattle.device.specs.Served.{Finishes, FinishesNot}
 use Rattle.compose.specs.declared.Event.TheVariants.{Finish as FinishEvent}
 use Rattle.compose.specs.declared.Reply.TheVariants.{Ok as OkReply}
 use Rattle.compose.specs.Right.{IsRight}
-use Rattle.compose.specs.Sound.{view_of, IsKept}
+use Rattle.compose.specs.Sound.{view_of, ManagerKept}
 use Rattle.compose.proofs.Righting.{IsSound-moves}
 use Rattle.compose.proofs.AdapterSteps.{finish_kept, finish_ignored}
 use Rattle.compose.proofs.io_manager.IoManager.finish.Goals as goal
 
 pub returns-then-not-finish : goal.returns-then-not-finish
 returns-then-not-finish g c =
-    let below : Seen = g.D.Device.seen c.self.inside.parts.device in
-    let below' : Seen = g.D.Device.seen c.finish.new.self in
+    let below : DeviceView = g.D.Device.view c.self.inside.parts.device in
+    let below' : DeviceView = g.D.Device.view c.finish.new.self in
     let none : FinishesNot below c.args.tag below' = subst (λ b. MatchBool b (Finishes below c.args.tag below') (FinishesNot below c.args.tag below')) c.if-not-finish.true c.finish.ensures.finishes in
     record { right = finish_ignored c.self.inside.parts.limits below c.self.inside.parts.tables c.args.self.now c.self.invariant.kept c.self.view_is c.requires.taken c.args.tag below' none }
 
 pub collect-requires-clause-sound : goal.collect-requires-clause-sound
 collect-requires-clause-sound g c =
-    let below : Seen = g.D.Device.seen c.self.inside.parts.device in
-    let below' : Seen = g.D.Device.seen c.finish.new.self in
+    let below : DeviceView = g.D.Device.view c.self.inside.parts.device in
+    let below' : DeviceView = g.D.Device.view c.finish.new.self in
     let finishes : Finishes below c.args.tag below' = subst (λ b. MatchBool b (Finishes below c.args.tag below') (FinishesNot below c.args.tag below')) c.if-not-finish.false c.finish.ensures.finishes in
     IsSound-moves c.self.inside.parts.limits below c.self.inside.parts.tables (Return finishes.piece.number finishes.class ∷ finishes.starts) below' c.self.invariant.kept.sound finishes.moves
 
 kept : (g : _) → (c : goal.After-collect g)
-    → IsRight c.args.self.now (FinishEvent c.args.tag) OkReply (view_of c.collect.new.self.limits (g.D.Device.seen c.collect.new.self.device) c.collect.new.self.tables)
-    × IsKept c.collect.new.self.limits (g.D.Device.seen c.collect.new.self.device) c.collect.new.self.tables
+    → IsRight c.args.self.now (FinishEvent c.args.tag) OkReply (view_of c.collect.new.self.limits (g.D.Device.view c.collect.new.self.device) c.collect.new.self.tables)
+    × ManagerKept c.collect.new.self.limits (g.D.Device.view c.collect.new.self.device) c.collect.new.self.tables
 kept g c =
-    let below : Seen = g.D.Device.seen c.self.inside.parts.device in
-    let below' : Seen = g.D.Device.seen c.finish.new.self in
+    let below : DeviceView = g.D.Device.view c.self.inside.parts.device in
+    let below' : DeviceView = g.D.Device.view c.finish.new.self in
     let finishes : Finishes below c.args.tag below' = subst (λ b. MatchBool b (Finishes below c.args.tag below') (FinishesNot below c.args.tag below')) c.if-not-finish.false c.finish.ensures.finishes in
     finish_kept c.self.inside.parts.limits below c.self.inside.parts.tables c.args.self.now c.self.invariant.kept c.self.view_is c.requires.taken
-    c.args.tag below' c.collect.new.self.limits (g.D.Device.seen c.collect.new.self.device) c.collect.new.self.tables (g.met.D.Device.in_order c.self.inside.parts.device [] c.self.invariant.rooms) finishes
+    c.args.tag below' c.collect.new.self.limits (g.D.Device.view c.collect.new.self.device) c.collect.new.self.tables (g.met.D.Device.in_order c.self.inside.parts.device [] c.self.invariant.rooms) finishes
     c.collect.ensures.limits c.collect.ensures.sound c.collect.ensures.collects (g.met.D.Device.in_order c.collect.new.self.device [] c.collect.ensures.rooms)
 
 pub invariant_of-self-2 : goal.invariant_of-self-2

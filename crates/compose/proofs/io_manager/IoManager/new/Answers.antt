@@ -1,5 +1,5 @@
 use Rattle.std.proofs.Common.{[]}
-use Rattle.compose.proofs.Opened.{IsKept-opening}
+use Rattle.compose.proofs.Opened.{ManagerKept-opening}
 use Rattle.compose.proofs.io_manager.IoManager.new.Goals as goal
 
 pub invariant_of-result : goal.invariant_of-result
@@ -8,6 +8,6 @@ invariant_of-result g c = record {
   locations = c.requires.locations;
   rooms = c.requires.rooms;
   kept =
-      IsKept-opening c.args.limits (g.D.Device.seen c.args.device) c.in_ok-tables.tables (g.met.D.Device.in_order c.args.device [] c.requires.rooms) c.requires.unasked c.requires.limits
+      ManagerKept-opening c.args.limits (g.D.Device.view c.args.device) c.in_ok-tables.tables (g.met.D.Device.in_order c.args.device [] c.requires.rooms) c.requires.unasked c.requires.limits
       c.in_ok-tables.ensures.empty c.in_ok-tables.ensures.places;
 }

@@ -1,7 +1,7 @@
 -- Each request that is taken is one more that was gathered.
 use Rattle.std.proofs.Common.{◌∙◌, [], refl, sym, subst}
 use Rattle.std.specs.Prelude.{All}
-use Rattle.device.specs.Seen.{Seen, IsOrderly}
+use Rattle.device.specs.View.{DeviceView, IsOrderly}
 use Rattle.device.specs.Served.{IsUnfinished}
 use Rattle.compose.specs.Sound.{IsSoundWith}
 use Rattle.compose.proofs.Gathering.{gathers_none, gathers_more, few_open}
@@ -11,23 +11,23 @@ pub ended-init : goal.ended-init
 ended-init g c = record {
   rooms = c.requires.rooms;
   limits = refl;
-  sound = subst (λ put_by. IsSoundWith put_by c.args.self.now.limits (g.D.Device.seen c.args.self.now.device) c.args.self.now.tables) (sym c.requires.sound.none_put_by) c.requires.sound;
-  few = few_open c.args.self.now.limits (g.D.Device.seen c.args.self.now.device) c.args.self.now.tables c.requires.sound;
-  gathers = gathers_none (g.D.Device.seen c.args.self.now.device) c.args.self.now.tables c.requires.sound.none_put_by;
+  sound = subst (λ put_by. IsSoundWith put_by c.args.self.now.limits (g.D.Device.view c.args.self.now.device) c.args.self.now.tables) (sym c.requires.sound.none_put_by) c.requires.sound;
+  few = few_open c.args.self.now.limits (g.D.Device.view c.args.self.now.device) c.args.self.now.tables c.requires.sound;
+  gathers = gathers_none (g.D.Device.view c.args.self.now.device) c.args.self.now.tables c.requires.sound.none_put_by;
 }
 
 pub ended-preserved : goal.ended-preserved
 ended-preserved g c =
-    let order : IsOrderly (g.D.Device.seen c.args.self.now.device) = g.met.D.Device.in_order c.args.self.now.device [] c.requires.rooms in
+    let order : IsOrderly (g.D.Device.view c.args.self.now.device) = g.met.D.Device.in_order c.args.self.now.device [] c.requires.rooms in
     record {
       rooms = c.take_ended.ensures.rooms;
       limits = c.take_ended.ensures.limits ∙ c.ended.invariant.limits;
       sound = c.take_ended.ensures.sound;
       few = c.take_ended.ensures.few;
-      gathers = gathers_more (g.D.Device.seen c.args.self.now.device) (g.D.Device.seen c.ended.self.device) (g.D.Device.seen c.take_ended.new.self.device) c.args.self.now.tables c.ended.self.tables c.take_ended.new.self.tables
+      gathers = gathers_more (g.D.Device.view c.args.self.now.device) (g.D.Device.view c.ended.self.device) (g.D.Device.view c.take_ended.new.self.device) c.args.self.now.tables c.ended.self.tables c.take_ended.new.self.tables
           c.ended.invariant.gathers c.ended-test.ensures.takes c.ended.invariant.sound.held c.ended.invariant.sound.apart order.places order.none_owed;
     }
 
 pub returns-clause-unfinished : goal.returns-clause-unfinished
 returns-clause-unfinished g c =
-    subst (λ (v : Seen). All (IsUnfinished v.rules v.state) v.state.requests) (sym c.ended-test.ensures.takes.same) c.ended-test.ensures.takes.unfinished
+    subst (λ (v : DeviceView). All (IsUnfinished v.rules v.state) v.state.requests) (sym c.ended-test.ensures.takes.same) c.ended-test.ensures.takes.unfinished

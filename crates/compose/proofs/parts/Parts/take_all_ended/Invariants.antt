@@ -9,10 +9,10 @@ abbrev pub invariant-ended : goal.invariant-ended
 invariant-ended g l = record {
   rooms : g.D.Device.rooms_out l.self.device [];
   limits : l.self.limits ≡ l.initial.self.limits;
-  sound : IsSoundWith l.self.tables.answered.items l.self.limits (g.D.Device.seen l.self.device) l.self.tables;
+  sound : IsSoundWith l.self.tables.answered.items l.self.limits (g.D.Device.view l.self.device) l.self.tables;
   few : deque_len l.self.tables.answered + slab_len l.self.tables.requests ≤ 64;
-  gathers : Gathers (g.D.Device.seen l.initial.self.device) l.initial.self.tables (g.D.Device.seen l.self.device) l.self.tables;
+  gathers : Gathers (g.D.Device.view l.initial.self.device) l.initial.self.tables (g.D.Device.view l.self.device) l.self.tables;
 }
 
 abbrev pub decreases-ended : goal.decreases-ended
-decreases-ended g l = length (g.D.Device.seen l.self.device).packets
+decreases-ended g l = length (g.D.Device.view l.self.device).packets

@@ -8,7 +8,7 @@ use Rattle.compose.proofs.parts.Parts.take_ended.Goals as goal
 pub unreachable-requires : goal.unreachable-requires
 unreachable-requires g c =
     no_routine g.D.Device.TAKES_SRB _ _ _ c.in_default-climb.field-0 c.in_default-climb.field-1 c.requires.sound.topmost
-    (subst (λ climb. HandsUp g.D.Device.TAKES_SRB (g.D.Device.seen c.args.self.now.device) (g.D.Device.request_of c.in-Some.room) climb (g.D.Device.seen c.take_done.new.self)) c.in_default-climb.is c.in-Some.ensures.hands_up)
+    (subst (λ climb. HandsUp g.D.Device.TAKES_SRB (g.D.Device.view c.args.self.now.device) (g.D.Device.request_of c.in-Some.room) climb (g.D.Device.view c.take_done.new.self)) c.in_default-climb.is c.in-Some.ensures.hands_up)
 
 pub close-requires-clause-number : goal.close-requires-clause-number
 close-requires-clause-number g c =
@@ -32,9 +32,9 @@ close-requires-clause-answered_place g c =
     let places : 64 ≤ deque_capacity c.args.self.now.tables.answered = c.requires.sound.places.answered in
     omega arith
 
-pub close-requires-clause-waiting_place : goal.close-requires-clause-waiting_place
-close-requires-clause-waiting_place g c =
-    answered_place _ _ _ _ _ _ (handed _ _ _ _ _ _ c.in-Finished.done c.in-Finished.is c.free.ensures.same c.in-Some.ensures.hands_up) c.requires.sound.held _ _ c.requires.sound.places.waiting
+pub close-requires-clause-untaken_place : goal.close-requires-clause-untaken_place
+close-requires-clause-untaken_place g c =
+    answered_place _ _ _ _ _ _ (handed _ _ _ _ _ _ c.in-Finished.done c.in-Finished.is c.free.ensures.same c.in-Some.ensures.hands_up) c.requires.sound.held _ _ c.requires.sound.places.untaken
 
 pub returns-clause-sound : goal.returns-clause-sound
 returns-clause-sound g c =

@@ -9,8 +9,8 @@ invariant_of-result c = record {
   rising = rw (dedup_is _ _ _ c.dedup.ensures.filtered) (IsStrictlyIncreasing-dedup _ c.sort_unstable.ensures.sorted);
 }
 
-pub returns : goal.returns
-returns c = λ sector.
+pub returns-clause-same : goal.returns-clause-same
+returns-clause-same c = λ sector.
     let is = dedup_is _ _ _ c.dedup.ensures.filtered in
     let moved = c.sort_unstable.ensures.permutation in (
       λ h. Contains-permutation _ _ sector (IsPermutation-sym _ _ moved) (Contains-from_dedup _ _ sector (rw is at h)),

@@ -9,7 +9,7 @@ returns-clause-starts c = record {
   bytes_are = starts_filled c.args.sector_size c.args.sectors c.extend_from_slice.new.self.len c.resize.new.self.items c.extend_from_slice.new.self.items c.in_ok-bytes.bytes.items c.args.first.now
       (omega (arith, c.in_ok-resize.ensures.len, c.resize.new.self.ok.0)) (ap (λ (l : List ℕ). length l) c.in_ok-bytes.ensures.items) c.requires.fits
       c.in_ok-extend_from_slice.ensures.items (omega (arith, c.in_ok-bytes.ensures.len, c.in_ok-extend_from_slice.ensures.len)) c.in_ok-resize.ensures.items;
-  none_failed = refl;
+  none_failed = c.new.ensures.none_failed;
 }
 
 pub returns-clause-reserved : goal.returns-clause-reserved

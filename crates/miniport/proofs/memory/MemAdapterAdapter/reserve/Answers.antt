@@ -2,13 +2,13 @@ use Rattle.miniport.proofs.Serving.{after_reserve}
 use Rattle.miniport.proofs.memory.MemAdapterAdapter.reserve.Goals as goal
 
 pub invariant_of-self : goal.invariant_of-self
-invariant_of-self g c = (after_reserve (g.M.Medium.seen c.self.inside.medium) _ c.self.inside.max_transfer c.self.inside.write_protected c.self.inside.table _ c.self.view_is c.reserve.ensures.reserves
+invariant_of-self g c = (after_reserve (g.M.Medium.view c.self.inside.medium) _ c.self.inside.max_transfer c.self.inside.write_protected c.self.inside.table _ c.self.view_is c.reserve.ensures.reserves
     (g.met.M.Medium.whole c.self.inside.medium) c.self.invariant).kept
 
 pub returns-clause-reserves : goal.returns-clause-reserves
-returns-clause-reserves g c = (after_reserve (g.M.Medium.seen c.self.inside.medium) _ c.self.inside.max_transfer c.self.inside.write_protected c.self.inside.table _ c.self.view_is c.reserve.ensures.reserves
+returns-clause-reserves g c = (after_reserve (g.M.Medium.view c.self.inside.medium) _ c.self.inside.max_transfer c.self.inside.write_protected c.self.inside.table _ c.self.view_is c.reserve.ensures.reserves
     (g.met.M.Medium.whole c.self.inside.medium) c.self.invariant).shown
 
 pub returns-clause-order : goal.returns-clause-order
-returns-clause-order g c = (after_reserve (g.M.Medium.seen c.self.inside.medium) _ c.self.inside.max_transfer c.self.inside.write_protected c.self.inside.table _ c.self.view_is c.reserve.ensures.reserves
+returns-clause-order g c = (after_reserve (g.M.Medium.view c.self.inside.medium) _ c.self.inside.max_transfer c.self.inside.write_protected c.self.inside.table _ c.self.view_is c.reserve.ensures.reserves
     (g.met.M.Medium.whole c.self.inside.medium) c.self.invariant).order

@@ -1,5 +1,5 @@
 -- What a layer shows of itself.
-use Rattle.std.specs.Prelude.{◌≡◌, ◌<◌, ◌≤◌, ℕ, ◌+◌, ◌-◌, ◌*◌, Bool, true, false, List, [], Option, Some, None, map, length, IsNone, IsTrue, IsFalse, All, IsPermutation, if◌then◌else◌}
+use Rattle.std.specs.Prelude.{◌≡◌, ◌<◌, ◌≤◌, ◌⊎◌, ℕ, ◌+◌, ◌-◌, ◌*◌, Bool, true, false, List, [], Option, Some, None, map, length, count_by, IsNone, IsTrue, IsFalse, All, IsPermutation, if◌then◌else◌}
 use Rattle.cdb.specs.declared.Cdb.{Cdb}
 use Rattle.cdb.specs.Meaning.{Means}
 use Rattle.srb.specs.declared.Srb.{Srb}
@@ -21,8 +21,9 @@ use Rattle.machine.specs.declared.Request.{Request}
 use Rattle.machine.specs.Rules.{Rules, is_transfer, sectors_of, as_client}
 use Rattle.machine.specs.Map.{sectors_in}
 use Rattle.machine.specs.State.{OpenRequest, Piece, State}
-use Rattle.machine.specs.Sending.{command_for}
-use Rattle.machine.specs.Settled.{IsAllSent, IsHeldBack, IsWithin, started_count}
+use Rattle.machine.specs.Sending.{command_for, is_started}
+use Rattle.machine.specs.Settled.{IsAllSent, IsFull, IsWithin, started_count}
+use Rattle.machine.specs.Holding.{is_lower}
 use Rattle.machine.specs.Numbers.{AreDistinct, HavePlaces, request_number}
 use Rattle.machine.specs.Solo.{all_places}
 
@@ -44,7 +45,7 @@ abbrev pub packet_of : Irp → ℕ → Packet
 packet_of irp spot = record { number = irp.number; spot = spot; above = locations_above irp; cancel_routine = cancel_routine_of irp }
 
 -- what a layer shows: its machine, its packets and the adapter below
-pub record Seen : Type 0 where
+pub record DeviceView : Type 0 where
   pub rules : Rules
   pub state : State
   -- submitted and not yet taken, in any order
@@ -149,9 +150,9 @@ pub record IsRead (rules : Rules) (s : State) (adapter : AdapterView) : Type 0 w
   pub arrays : s.arrays ≡ map (sectors_in adapter.sectors) rules.partitions
   pub pieces : IsPermutation (map piece_on_tag s.pieces) (map use_on_tag adapter.tags)
 
--- a request that is neither cancelled nor started is late, or the window is full
+-- a request that is neither cancelled nor started is late, or behind a window of open ones
 abbrev pub WaitsForTag : Rules → State → OpenRequest → Type 0
-WaitsForTag rules s o = IsFalse o.cancelled → IsHeldBack rules s o
+WaitsForTag rules s o = IsFalse o.cancelled → IsFalse (is_started o) → IsTrue o.late ⊎ IsFull rules.window (count_by (is_lower o.number) s.requests)
 
 -- the settled facts that a layer owes after each call, whoever takes what has ended: with a tag free nothing waits that
 -- may go; all others hold once nothing that has ended waits to be taken
@@ -161,11 +162,11 @@ pub record IsSending (rules : Rules) (s : State) : Type 0 where
   pub within_window : IsWithin rules.window (started_count s)
 
 -- places for labels that the adapter may need at once: those recorded, and one for each free tag
-abbrev pub label_places : Seen → ℕ
+abbrev pub label_places : DeviceView → ℕ
 label_places v = length v.adapter.labels + (v.rules.depth - length v.state.pieces)
 
 -- what holds of a layer between its calls
-pub record IsOrderly (v : Seen) : Type 0 where
+pub record IsOrderly (v : DeviceView) : Type 0 where
   pub adapter : IsInOrder v.adapter
   pub read : IsRead v.rules v.state v.adapter
   pub distinct : AreDistinct v.state

@@ -1,0 +1,233 @@
+-- Acts, returns and resets of the adapter as steps of the manager.
+use Rattle.std.proofs.Common.{◌≡◌, inl, inr, ℕ, false, true, List, [], ◌∷◌, ◌++◌, refl, sym, ◌∙◌, ap, subst, map}
+use Rattle.std.specs.Prelude.{All}
+use Rattle.std.proofs.lemmas.List.{append-nil}
+use Rattle.std.proofs.lemmas.List.Sorted.{IsPermutation-sym}
+use Rattle.std.proofs.lemmas.List.Elements.{All-append}
+use Rattle.slab.specs.Slab.{Slab}
+use Rattle.srb.specs.declared.DeviceLabel.{DeviceLabel}
+use Rattle.srb.specs.declared.DeviceLabel.TheVariants.{Start, Act as ActLabel, Fault, Return}
+use Rattle.machine.specs.Rules.{Rules}
+use Rattle.machine.specs.State.{State, Piece}
+use Rattle.machine.specs.Step.{Run, as_label}
+use Rattle.machine.specs.Sending.{IsStart}
+use Rattle.device.specs.View.{DeviceView}
+use Rattle.adapter.specs.View.{AdapterView, MovesByAll}
+use Rattle.device.specs.Served.{Resets, fault_of, IsActOrFault, Moves, ActsOrFaults, ActsNot, Finishes, FinishesNot, IsUnfinished}
+use Rattle.machine.proofs.Same.{IsSame-refl}
+use Rattle.io_manager.specs.declared.OpenHandle.{OpenHandle}
+use Rattle.io_manager.specs.declared.Limits.{Limits}
+use Rattle.io_manager.specs.declared.Reply.TheVariants.{Ok as OkReply, Ignored}
+use Rattle.io_manager.specs.declared.tables.Tables.{Tables}
+use Rattle.io_manager.specs.Shown.{ManagerView}
+use Rattle.io_manager.specs.Inside.{KeepsOutside, AllWriteInside}
+use Rattle.io_manager.specs.Right.{Told, SameHandles, AdapterMoves, tells_nothing, IsRight, IsRightReset, IsRightBy, ActReplies, FinishReplies}
+use Rattle.io_manager.specs.Sound.{view_of, IsSound, IsAtRest, Collects, ManagerKept}
+use Rattle.io_manager.proofs.AdapterJoins.{labels_moved, reset_joined}
+use Rattle.io_manager.proofs.Outside.{noted_inside, reserves_inside}
+use Rattle.io_manager.proofs.Unfinished.{IsUnfinished-same}
+use Rattle.io_manager.proofs.Quiet.{IsRightBy-unmoved}
+use Rattle.io_manager.proofs.Righting.{IsServed, told_by, right_by, stays, have_partitions, IsSound-moves}
+use Rattle.io_manager.proofs.Stepping.{ManagerKept-collected}
+use Rattle.io_manager.proofs.Telling.{step_kept}
+
+-- WHAT HAS NOT ENDED
+
+-- an act or a fault ends no request
+pub unfinished_after : (rules : Rules) (number : ℕ) (label : DeviceLabel) (s s' : State) → IsActOrFault number label → Run rules s (as_label label ∷ []) s'
+    → All (IsUnfinished rules s) s.requests → All (IsUnfinished rules s') s'.requests
+unfinished_after rules number (ActLabel piece bytes) s s' told (mid, inl (free, step), run) h =
+    IsUnfinished-same rules mid s' run.removing run.requests
+    (IsUnfinished-same rules s mid (sym step.after.removing) (IsPermutation-sym _ _ step.after.requests) h)
+unfinished_after rules number (Fault piece) s s' told (mid, inl (free, step), run) h =
+    IsUnfinished-same rules mid s' run.removing run.requests
+    (IsUnfinished-same rules s mid (sym step.after.removing) (IsPermutation-sym _ _ step.after.requests) h)
+unfinished_after rules number (Start piece tag block) s s' told run h = absurd told
+unfinished_after rules number (Return piece class) s s' told run h = absurd told
+unfinished_after rules number (ActLabel piece bytes) s s' told (mid, inr none, run) h = absurd none
+unfinished_after rules number (Fault piece) s s' told (mid, inr none, run) h = absurd none
+
+-- A STEP WITHOUT LABELS OF ITS OWN
+
+module _ (limits : Limits) (below : DeviceView) (tables : Tables) (old : ManagerView) (kept : ManagerKept limits below tables) (shown : view_of limits below tables ≡ old) (taken : old.labels ≡ []) where
+  none_told : tables.labels.items ≡ []
+  none_told = ap (λ (v : ManagerView). v.labels) shown ∙ taken
+
+  -- an adapter step opens nothing
+  pub served : (labels : List DeviceLabel) (below1 : DeviceView) → Moves below labels below1 → IsServed limits below tables [] labels below1 tables
+  served labels below1 moves = record {
+    opened = below.state;
+    given = have_partitions tables.requests below.state.requests kept.sound.held;
+    none_untaken = kept.none_recorded;
+    run = IsSame-refl _;
+    same_rules = moves.same_rules;
+    device = moves.run;
+    recorded = labels_moved below.adapter labels below1.adapter moves.adapter ∙ ap (λ before. before ++ labels) kept.none_recorded;
+    own_labels = none_told;
+    same_untaken = refl;
+  }
+
+  pub same_handles : (below1 below2 : DeviceView) (tables2 : Tables) → Collects below1 tables below2 tables2 → SameHandles (view_of limits below tables) (view_of limits below2 tables2)
+  same_handles below1 below2 tables2 c = record { handles = ap (λ (handles : Slab OpenHandle). handles.slots) c.same_handles; next_handle = c.same_next_handle }
+
+  -- a right step after which all that has ended is told
+  told_kept : (Row : ManagerView → ManagerView → Told → Type 0) (labels : List DeviceLabel) (below1 : DeviceView) (limits' : Limits) (below2 : DeviceView) (tables2 : Tables) → (moves : Moves below labels below1)
+      → limits' ≡ limits → IsSound limits' below2 tables2 → (c : Collects below1 tables below2 tables2)
+      → Row (view_of limits below tables) (view_of limits below2 tables2) (told_by limits below tables [] labels below1 tables below2 tables2 (served labels below1 moves) c)
+      → IsRight (Row old (view_of limits' below2 tables2)) old (view_of limits' below2 tables2) × ManagerKept limits' below2 tables2
+  told_kept Row labels below1 limits' below2 tables2 moves same sound c row =
+      step_kept limits below tables old kept shown Row [] labels below1 tables (served labels below1 moves) limits' below2 tables2 moves.adapter same sound c row
+
+  pub act_kept : (tag : ℕ) (below1 : DeviceView) (limits' : Limits) (below2 : DeviceView) (tables2 : Tables) → ActsOrFaults below tag below1 → limits' ≡ limits → IsSound limits' below2 tables2
+      → Collects below1 tables below2 tables2
+      → IsRight (ActReplies old tag OkReply (view_of limits' below2 tables2)) old (view_of limits' below2 tables2) × ManagerKept limits' below2 tables2
+  act_kept tag below1 limits' below2 tables2 acts same sound c =
+      let unfinished : All (IsUnfinished below1.rules below1.state) below1.state.requests =
+      subst (λ r. All (IsUnfinished r below1.state) below1.state.requests) (sym acts.moves.same_rules)
+      (unfinished_after below.rules acts.piece.number acts.label below.state below1.state acts.told acts.moves.run kept.rest.unfinished) in
+      told_kept (λ v new told. ActReplies v tag OkReply new told) (acts.label ∷ []) below1 limits' below2 tables2 acts.moves same sound c (
+        record {
+          piece = acts.piece;
+          label = acts.label;
+          fresh = record { is_out = acts.fresh.is_out; is_tag = acts.fresh.is_tag; is_fresh = acts.fresh.is_fresh };
+          acts = acts.told;
+          no_own = refl;
+          device = ap (λ starts. acts.label ∷ starts) (c.quiet unfinished).0;
+          holders = refl;
+        },
+        same_handles below1 below2 tables2 c,
+      )
+
+  pub act_ignored : (tag : ℕ) (below' : DeviceView) → ActsNot below tag below' → IsRight (ActReplies old tag Ignored (view_of limits below' tables)) old (view_of limits below' tables)
+  act_ignored tag below' h =
+      subst (λ v. IsRight (ActReplies v tag Ignored (view_of limits below' tables)) v (view_of limits below' tables)) shown
+      (subst (λ (seen : DeviceView). IsRight (ActReplies (view_of limits below tables) tag Ignored (view_of limits seen tables)) (view_of limits below tables) (view_of limits seen tables)) (sym h.same)
+      (record {
+        told = tells_nothing (view_of limits below tables);
+        replies = (
+          record { nothing = refl; same_state = refl; same_adapter = refl },
+          record { none = λ piece fresh. h.none piece (record { is_out = fresh.is_out; is_tag = fresh.is_tag; is_fresh = fresh.is_fresh }) },
+          record { handles = refl; next_handle = refl },
+        );
+        by = IsRightBy-unmoved (view_of limits below tables) none_told kept.none_recorded;
+      }))
+
+  pub finish_kept : (tag : ℕ) (below1 : DeviceView) (limits' : Limits) (below2 : DeviceView) (tables2 : Tables) → Finishes below tag below1 → limits' ≡ limits → IsSound limits' below2 tables2
+      → Collects below1 tables below2 tables2
+      → IsRight (FinishReplies old tag OkReply (view_of limits' below2 tables2)) old (view_of limits' below2 tables2) × ManagerKept limits' below2 tables2
+  finish_kept tag below1 limits' below2 tables2 finishes same sound c =
+      told_kept (λ v new told. FinishReplies v tag OkReply new told) (Return finishes.piece.number finishes.class ∷ finishes.starts) below1 limits' below2 tables2 finishes.moves same sound c (
+        record {
+          piece = finishes.piece;
+          class = finishes.class;
+          starts = finishes.starts ++ c.starts;
+          is_out = finishes.is_out;
+          is_tag = finishes.is_tag;
+          only_starts = All-append IsStart finishes.starts c.starts finishes.only_starts c.only_starts;
+          no_own = refl;
+          device = refl;
+          holders = refl;
+        },
+        same_handles below1 below2 tables2 c,
+      )
+
+  pub finish_ignored : (tag : ℕ) (below' : DeviceView) → FinishesNot below tag below' → IsRight (FinishReplies old tag Ignored (view_of limits below' tables)) old (view_of limits below' tables)
+  finish_ignored tag below' h =
+      subst (λ v. IsRight (FinishReplies v tag Ignored (view_of limits below' tables)) v (view_of limits below' tables)) shown
+      (subst (λ (seen : DeviceView). IsRight (FinishReplies (view_of limits below tables) tag Ignored (view_of limits seen tables)) (view_of limits below tables) (view_of limits seen tables)) (sym h.same)
+      (record {
+        told = tells_nothing (view_of limits below tables);
+        replies = (record { nothing = refl; same_state = refl; same_adapter = refl }, h.free, record { handles = refl; next_handle = refl });
+        by = IsRightBy-unmoved (view_of limits below tables) none_told kept.none_recorded;
+      }))
+
+-- A RESET
+
+-- faults end no request
+faults_unfinished : (rules : Rules) (fresh : List Piece) (s s' : State) → Run rules s (map as_label (map fault_of fresh)) s' → All (IsUnfinished rules s) s.requests → All (IsUnfinished rules s') s'.requests
+faults_unfinished rules [] s s' run h = IsUnfinished-same rules s s' run.removing run.requests h
+faults_unfinished rules (piece ∷ fresh) s s' (mid, inl (free, step), run) h =
+    faults_unfinished rules fresh mid s' run (IsUnfinished-same rules s mid (sym step.after.removing) (IsPermutation-sym _ _ step.after.requests) h)
+faults_unfinished rules (piece ∷ fresh) s s' (mid, inr none, run) h = absurd none
+
+-- the tables stay sound
+pub reset_sound : (limits : Limits) (below : DeviceView) (tables : Tables) (below1 : DeviceView) → IsSound limits below tables → Resets below below1 → IsSound limits below1 tables
+reset_sound limits below tables below1 sound r =
+    let s : IsSound limits (record below1 { adapter = r.all_faulted }) tables = IsSound-moves limits below tables (map fault_of r.fresh) (record below1 { adapter = r.all_faulted }) sound r.moves in
+    record {
+      fits = record { sector_size = s.fits.sector_size; some_bytes = s.fits.some_bytes; some_open = s.fits.some_open; many = s.fits.many };
+      numbers = record { requests = s.numbers.requests; handles = s.numbers.handles; rising = s.numbers.rising; submitted = s.numbers.submitted };
+      held = s.held;
+      few = s.few;
+      places = s.places;
+      on_map = s.on_map;
+      topmost = s.topmost;
+      spots = s.spots;
+      in_state = s.in_state;
+      none_put_by = s.none_put_by;
+      rising = s.rising;
+      given = s.given;
+      apart = s.apart;
+    }
+
+module _ (limits : Limits) (below : DeviceView) (tables : Tables) (old : ManagerView) (kept : ManagerKept limits below tables) (shown : view_of limits below tables ≡ old) (taken : old.labels ≡ [])
+    (below1 : DeviceView) (r : Resets below below1) where
+  abbrev faults : List DeviceLabel
+  faults = map fault_of r.fresh
+
+  -- what is recorded is the faults
+  reset_served : IsServed limits below tables [] faults below1 tables
+  reset_served = record {
+    opened = below.state;
+    given = have_partitions tables.requests below.state.requests kept.sound.held;
+    none_untaken = kept.none_recorded;
+    run = IsSame-refl _;
+    same_rules = r.moves.same_rules;
+    device = r.moves.run;
+    recorded =
+        ap (λ (v : AdapterView). v.labels) r.noted.after
+        ∙ labels_moved below.adapter faults r.all_faulted r.moves.adapter ∙ ap (λ before. before ++ faults) kept.none_recorded;
+    own_labels = ap (λ (v : ManagerView). v.labels) shown ∙ taken;
+    same_untaken = refl;
+  }
+
+  pub reset_kept : (limits' : Limits) (below2 : DeviceView) (tables2 : Tables) → limits' ≡ limits → IsSound limits' below2 tables2 → Collects below1 tables below2 tables2
+      → IsRightReset old (view_of limits' below2 tables2) × ManagerKept limits' below2 tables2
+  reset_kept limits' below2 tables2 same sound c =
+      let sound' : IsSound limits below2 tables2 = subst (λ (l : Limits). IsSound l below2 tables2) same sound in
+      let unfinished : All (IsUnfinished below1.rules below1.state) below1.state.requests =
+      subst (λ rules. All (IsUnfinished rules below1.state) below1.state.requests) (sym r.moves.same_rules) (faults_unfinished below.rules r.fresh below.state below1.state r.moves.run kept.rest.unfinished) in
+      let none : c.starts ≡ [] = (c.quiet unfinished).0 in
+      let only : faults ++ c.starts ≡ faults = ap (λ starts. faults ++ starts) none ∙ append-nil faults in
+      let quiet : AdapterMoves false below1.adapter [] below2.adapter = subst (λ starts. AdapterMoves false below1.adapter starts below2.adapter) none c.adapter in
+      let joined : AdapterMoves true below.adapter (faults ++ c.starts) below2.adapter =
+      subst (λ labels. AdapterMoves true below.adapter labels below2.adapter) (sym only) (reset_joined below.adapter faults r.all_faulted below1.adapter below2.adapter r.moves.adapter r.noted quiet) in
+      let a : AllWriteInside below.rules.partitions r.all_faulted × KeepsOutside below.rules.partitions below.adapter r.all_faulted =
+      stays limits below tables [] faults below1 tables below2 tables2 reset_served c r.all_faulted kept.reached kept.rest.inside (subst (λ labels. MovesByAll below.adapter labels r.all_faulted) (sym only) r.moves.adapter) in
+      let b : AllWriteInside below.rules.partitions below1.adapter × KeepsOutside below.rules.partitions r.all_faulted below1.adapter = noted_inside below.rules.partitions r.all_faulted below1.adapter r.noted a.0 in
+      let d : AllWriteInside below.rules.partitions quiet.moved × KeepsOutside below.rules.partitions below1.adapter quiet.moved = reserves_inside below.rules.partitions below1.adapter quiet.moved quiet.moves b.0 in
+      let outside : KeepsOutside below.rules.partitions below.adapter quiet.moved = λ i apart. d.1 i apart ∙ b.1 i apart ∙ a.1 i apart in
+      let by : IsRightBy true (told_by limits below tables [] faults below1 tables below2 tables2 reset_served c) (view_of limits below tables) (view_of limits below2 tables2) =
+      right_by limits below tables [] faults below1 tables below2 tables2 reset_served c true joined (subst (KeepsOutside below.rules.partitions below.adapter) (sym quiet.taken) outside) sound'.in_state in
+      let rest : IsAtRest below2 = record {
+        unfinished = c.unfinished;
+        inside =
+            subst (λ (rules : Rules). AllWriteInside rules.partitions below2.adapter) (sym (c.same_rules ∙ r.moves.same_rules))
+            (subst (AllWriteInside below.rules.partitions) (sym quiet.taken) d.0);
+      } in
+      let right : IsRightReset (view_of limits below tables) (view_of limits below2 tables2) = record {
+        told = told_by limits below tables [] faults below1 tables below2 tables2 reset_served c;
+        replies = record {
+          fresh = r.fresh;
+          all_fresh = r.all_fresh;
+          rising = r.rising;
+          no_own = refl;
+          device = only;
+          holders = refl;
+          handles = same_handles limits below tables old kept shown taken below1 below2 tables2 c;
+        };
+        by = by;
+      } in (
+        subst (λ (l : Limits). IsRightReset old (view_of l below2 tables2)) (sym same) (subst (λ v. IsRightReset v (view_of limits below2 tables2)) shown right),
+        ManagerKept-collected limits limits' below below1 below2 tables tables tables2 true right.told same kept by sound rest c,
+      )

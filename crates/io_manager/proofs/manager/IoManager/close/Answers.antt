@@ -1,0 +1,36 @@
+use Rattle.std.proofs.Common.{subst, sym, ◌∙◌}
+use Rattle.io_manager.specs.declared.Limits.{Limits}
+use Rattle.io_manager.specs.declared.Reply.{Reply}
+use Rattle.io_manager.specs.declared.Reply.TheVariants.{Ok as OkReply}
+use Rattle.io_manager.specs.Right.{IsRight, CloseReplies}
+use Rattle.io_manager.specs.Sound.{IsSound, view_of, ManagerKept}
+use Rattle.io_manager.proofs.Cancelled.{none_of, some_of, close_kept, close_refused}
+use Rattle.io_manager.proofs.manager.IoManager.close.Goals as goal
+
+pub returns-then-is_none : goal.returns-then-is_none
+returns-then-is_none g c = record {
+  right =
+      subst (λ (reply : Reply). IsRight (CloseReplies c.args.self.now c.args.handle reply c.args.self.now) c.args.self.now c.args.self.now) (sym c.refused_alone.ensures)
+      (close_refused c.self.inside.parts.limits (g.D.Device.view c.self.inside.parts.device) c.self.inside.parts.tables c.args.self.now c.self.invariant.kept c.self.view_is c.requires.taken c.args.handle (none_of _ _ _ c.is_none.ensures c.if-is_none.true c.partition_of.ensures));
+}
+
+kept : (g : _) (c : goal.After-collect g)
+    → IsRight (CloseReplies c.args.self.now c.args.handle OkReply (view_of c.collect.new.self.limits (g.D.Device.view c.collect.new.self.device) c.collect.new.self.tables)) c.args.self.now (view_of c.collect.new.self.limits (g.D.Device.view c.collect.new.self.device) c.collect.new.self.tables)
+    × ManagerKept c.collect.new.self.limits (g.D.Device.view c.collect.new.self.device) c.collect.new.self.tables
+kept g c =
+    close_kept c.self.inside.parts.limits (g.D.Device.view c.self.inside.parts.device) c.self.inside.parts.tables c.args.self.now c.self.invariant.kept c.self.view_is c.requires.taken c.args.handle
+    (g.D.Device.view c.cancel_all_of.new.self.device) c.cancel_all_of.new.self.tables (some_of _ _ _ c.is_none.ensures c.if-is_none.false c.partition_of.ensures) c.cancel_all_of.ensures.cancels
+    (subst (λ (l : Limits). IsSound l (g.D.Device.view c.cancel_all_of.new.self.device) c.cancel_all_of.new.self.tables) c.cancel_all_of.ensures.limits c.cancel_all_of.ensures.sound)
+    c.cancel_all_of.ensures.none_left c.close_handle.new.self c.close_handle.ensures
+    c.collect.new.self.limits (g.D.Device.view c.collect.new.self.device) c.collect.new.self.tables (c.collect.ensures.limits ∙ c.cancel_all_of.ensures.limits) c.collect.ensures.sound c.collect.ensures.collects
+
+pub invariant_of-self : goal.invariant_of-self
+invariant_of-self g c = record {
+  takes_buffers = c.self.invariant.takes_buffers;
+  locations = c.self.invariant.locations;
+  rooms = c.collect.ensures.rooms;
+  kept = (kept g c).1;
+}
+
+pub returns : goal.returns
+returns g c = record { right = (kept g c).0 }

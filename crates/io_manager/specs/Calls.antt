@@ -1,0 +1,74 @@
+-- What a client's call asks, and what refuses it.
+use Rattle.std.specs.Prelude.{ℕ, ◌==◌, ◌^◌, nat_le, Bool, List, [], ◌∷◌, Option, Some, None, length, slice_index_or, count_by, is_some, if◌then◌else◌}
+use Rattle.ntstatus.specs.declared.NtStatus.{NtStatus}
+use Rattle.ntstatus.specs.declared.NtStatus.TheVariants.{InvalidHandle as HandleStatus, InvalidParameter as ParameterStatus, DeletePending as PendingStatus, DeviceBusy as BusyStatus, InsufficientResources as ResourcesStatus, InvalidDeviceRequest as RequestStatus, NotFound as FoundStatus}
+use Rattle.ntstatus.specs.First.{when, first_some}
+use Rattle.machine.specs.declared.Kind.{Kind}
+use Rattle.machine.specs.declared.Kind.TheVariants.{Read, Write, Flush}
+use Rattle.machine.specs.declared.ClientRequest.{ClientRequest}
+use Rattle.io_manager.specs.declared.Handle.{Handle}
+use Rattle.io_manager.specs.declared.Refusal.{Refusal}
+use Rattle.io_manager.specs.declared.Refusal.TheVariants.{InvalidHandle, InvalidParameter, DeletePending, DeviceBusy, InsufficientResources, InvalidDeviceRequest, NotFound}
+use Rattle.io_manager.specs.declared.OpenHandle.{OpenHandle}
+use Rattle.io_manager.specs.Shown.{ManagerView}
+
+-- numbers are below this one
+abbrev pub number_limit : ℕ
+number_limit = 2 ^ 62
+
+-- no number is left, where this is the next one
+abbrev pub are_used_up : ℕ → Bool
+are_used_up next = nat_le number_limit next
+
+-- as many handles may be open at once
+abbrev pub handle_limit : ℕ
+handle_limit = 64
+
+-- the status that stands for a refusal
+abbrev pub status_of_refusal : Refusal → NtStatus
+status_of_refusal InvalidHandle = HandleStatus
+status_of_refusal InvalidParameter = ParameterStatus
+status_of_refusal DeletePending = PendingStatus
+status_of_refusal DeviceBusy = BusyStatus
+status_of_refusal InsufficientResources = ResourcesStatus
+status_of_refusal InvalidDeviceRequest = RequestStatus
+status_of_refusal NotFound = FoundStatus
+
+-- the partition of the handle in a slot, where it has this number
+abbrev pub partition_at : Option OpenHandle → ℕ → Option ℕ
+partition_at None number = None
+partition_at (Some open') number = if open'.number == number then Some open'.partition else None
+
+-- the partition that a handle is open on, if it is open
+abbrev pub partition_of : List (Option OpenHandle) → Handle → Option ℕ
+partition_of handles handle = partition_at (slice_index_or handles handle.slot None) handle.number
+
+-- the bytes that a call brings along
+abbrev pub bytes_called : Kind → List ℕ → List ℕ
+bytes_called Write bytes = bytes
+bytes_called Read bytes = []
+bytes_called Flush bytes = []
+
+-- a call on a handle, with the caller's buffer; a flush is one of no bytes
+abbrev pub call_on : ManagerView → Handle → Kind → ℕ → List ℕ → Bool → ClientRequest
+call_on v handle kind offset buffer through = record {
+  partition = partition_of v.handles handle;
+  kind = kind;
+  offset = offset;
+  length = length buffer;
+  through = through;
+  bytes = bytes_called kind buffer;
+}
+
+-- the label of a refused call has no bytes: they went back to the caller
+abbrev pub without_bytes : ClientRequest → ClientRequest
+without_bytes q = record q { bytes = [] }
+
+-- what refuses a handle on a partition, if anything: the first that fits
+abbrev pub open_refusal : ManagerView → ℕ → Option NtStatus
+open_refusal v partition = first_some (
+    when (are_used_up v.next_handle) BusyStatus
+    ∷ when v.state.removing PendingStatus
+    ∷ when (nat_le (length v.rules.partitions) partition) ParameterStatus
+    ∷ when (nat_le handle_limit (count_by is_some v.handles)) BusyStatus
+    ∷ [])

@@ -1,0 +1,204 @@
+//! What a call is answered at once, and the packet of one that is admitted.
+
+ghost use Rattle.std.specs.Prelude.{◌≡◌, ◌<◌, false, option_map, IfOk};
+ghost use Rattle.machine.specs.Rules.{Rules, is_transfer, is_in_bounds};
+ghost use Rattle.machine.specs.State.{State};
+ghost use Rattle.machine.specs.Calling.{refusal};
+ghost use Rattle.device.specs.View.{major_of};
+ghost use Rattle.irp.specs.declared.Payload.TheVariants.{Buffer};
+ghost use Rattle.io_manager.specs.Calls.{status_of_refusal};
+ghost use Rattle.io_manager.specs.Admitting.{status_at_once, AreBoundsOf, request_of, HasCopies, first_location, IsOnTop};
+
+use crate::Refusal;
+use device::{ClientRequest, Kind, Request};
+use irp::{Control, Driver, Irp, LocationFlags, MajorFunction, Payload, StackLocation};
+use ntstatus::NtStatus;
+use sector::{Bytes, Extent};
+use std::alloc::{AllocError, Global};
+
+/// What bounds a request.
+#[derive(Debug, Clone, Copy, PartialEq, Eq)]
+pub(crate) struct Bounds {
+    /// Bytes.
+    pub(crate) sector_size: u64,
+    /// The sectors of its partition.
+    pub(crate) sectors: u64,
+    /// Sectors of the longest request.
+    pub(crate) longest: u64,
+    /// Requests that may be open at once.
+    pub(crate) open_requests: u32,
+    /// Requests that are.
+    pub(crate) open_count: usize,
+    /// Whether the device is being removed, or is gone.
+    pub(crate) removing: bool,
+}
+
+/// A call that ends where it begins.
+#[derive(Debug, Clone, Copy, PartialEq, Eq)]
+pub(crate) enum AtOnce {
+    /// It asks for no bytes, and succeeds.
+    Empty,
+    Refused(Refusal),
+}
+
+impl AtOnce {
+    pub(crate) fn status(self) -> NtStatus
+        ensures { result ≡ status_at_once self }
+    {
+        match self {
+            AtOnce::Empty => NtStatus::Success,
+            AtOnce::Refused(refusal) => refusal.status(),
+        }
+    }
+}
+
+impl Refusal {
+    /// The status of the answer's label.
+    pub fn status(self) -> NtStatus
+        ensures { result ≡ status_of_refusal self }
+    {
+        match self {
+            Refusal::InvalidHandle => NtStatus::InvalidHandle,
+            Refusal::InvalidParameter => NtStatus::InvalidParameter,
+            Refusal::DeletePending => NtStatus::DeletePending,
+            Refusal::DeviceBusy => NtStatus::DeviceBusy,
+            Refusal::InsufficientResources => NtStatus::InsufficientResources,
+            Refusal::InvalidDeviceRequest => NtStatus::InvalidDeviceRequest,
+            Refusal::NotFound => NtStatus::NotFound,
+        }
+    }
+}
+
+impl Bounds {
+    /// Whether a request asks for whole sectors of its partition, no more than the longest may.
+    fn holds(&self, request: &ClientRequest) -> bool
+        requires some_bytes { 0 < self.now.sector_size }
+        ensures { (rules : Rules) (s : State) → AreBoundsOf self.now request.now rules s → result ≡ is_in_bounds rules request.now }
+    {
+        let first = request.offset / self.sector_size;
+        let count = request.length / self.sector_size;
+        request.offset % self.sector_size == 0
+            && request.length % self.sector_size == 0
+            && first <= self.sectors
+            && count <= self.sectors - first
+            && count <= self.longest
+    }
+}
+
+/// Whether a request moves bytes.
+fn moves_bytes(kind: Kind) -> bool
+    ensures { result ≡ is_transfer kind }
+{
+    match kind {
+        Kind::Read | Kind::Write => true,
+        Kind::Flush => false,
+    }
+}
+
+/// What a read, a write or a flush is answered at once, if anything.
+pub(crate) fn refusal_of(bounds: &Bounds, request: &ClientRequest) -> Option<AtOnce>
+    requires some_bytes { 0 < bounds.now.sector_size }
+    ensures exact { (rules : Rules) (s : State) → AreBoundsOf bounds.now request.now rules s
+        → refusal rules s request.now ≡ option_map status_at_once result }
+{
+    let transfer = moves_bytes(request.kind);
+    if request.partition.is_none() {
+        Some(AtOnce::Refused(Refusal::InvalidHandle))
+    } else if bounds.removing {
+        Some(AtOnce::Refused(Refusal::DeletePending))
+    } else if transfer && !bounds.holds(request) {
+        Some(AtOnce::Refused(Refusal::InvalidParameter))
+    } else if transfer && request.length == 0 {
+        Some(AtOnce::Empty)
+    } else if bounds.open_count >= bounds.open_requests as usize {
+        Some(AtOnce::Refused(Refusal::DeviceBusy))
+    } else {
+        None
+    }
+}
+
+/// The sectors of its partition that a request asks for.
+pub(crate) fn request_below(sector_size: u64, request: &ClientRequest) -> Request
+    requires some_bytes { 0 < sector_size }
+    ensures { result ≡ request_of sector_size request.now }
+{
+    Request {
+        volume: request.partition.unwrap_or(0),
+        kind: request.kind,
+        extent: Extent {
+            first: request.offset / sector_size,
+            count: request.length / sector_size,
+        },
+        through: request.through,
+    }
+}
+
+/// The buffers that a request needs for the manager's own labels.
+#[derive(Drop)]
+pub(crate) struct Copies {
+    /// The bytes of a write, for the label of its call.
+    pub(crate) call_bytes: Bytes,
+    /// For the label of a read's answer.
+    pub(crate) label_bytes: Bytes,
+}
+
+/// Copies of a buffer, as many as a request of it needs.
+///
+/// # Errors
+///
+/// [`AllocError`] where memory for one was refused.
+pub(crate) fn copies_for(alloc: Global, kind: Kind, buffer: &Bytes) -> Result<Copies, AllocError>
+    ensures { IfOk result (λ copies. HasCopies kind buffer.now copies) }
+{
+    let empty = Bytes::new(Vec::new(alloc));
+    let copy = Bytes::new(Vec::from_slice(alloc, buffer.as_slice())?);
+    let (call_bytes, label_bytes) = match kind {
+        Kind::Write => (copy, empty),
+        Kind::Read | Kind::Flush => (empty, copy),
+    };
+    Ok(Copies {
+        call_bytes,
+        label_bytes,
+    })
+}
+
+/// The major function of a request's location (WDK: IRP_MJ_READ, IRP_MJ_WRITE, IRP_MJ_FLUSH_BUFFERS).
+fn major_for(kind: Kind) -> MajorFunction
+    ensures { result ≡ major_of false kind }
+{
+    match kind {
+        Kind::Read => MajorFunction::Read,
+        Kind::Write => MajorFunction::Write,
+        Kind::Flush => MajorFunction::FlushBuffers,
+    }
+}
+
+/// The first location of a request, which asks for no completion routine.
+fn location_of(request: &Request) -> StackLocation
+    ensures { result ≡ first_location request.now }
+{
+    let flags = if request.through {
+        LocationFlags::WRITE_THROUGH
+    } else {
+        LocationFlags(0)
+    };
+    StackLocation {
+        driver: Driver::Partition,
+        major: major_for(request.kind),
+        minor: None,
+        control: Control(0),
+        flags,
+        volume: request.volume,
+        extent: request.extent,
+    }
+}
+
+/// The packet of a request, with its caller's buffer.
+pub(crate) fn packet_for(number: u64, request: &Request, buffer: Bytes) -> Irp
+    ensures top { IsOnTop number request.now result }
+    ensures payload { result.payload ≡ Buffer buffer }
+{
+    let mut irp = Irp::new(number as u128, Payload::Buffer(buffer));
+    irp.next_location(location_of(request));
+    irp
+}

@@ -1,0 +1,121 @@
+//! Open requests are cancelled, each by the spot of its packet below.
+
+ghost use Rattle.std.specs.Prelude.{◌≡◌, ◌≤◌, ◌<◌, [], MatchBool, MatchOption};
+ghost use Rattle.std.specs.VecDeque.{deque_len, deque_capacity};
+ghost use Rattle.io_manager.specs.Cancelling.{IsUsed, IsToMark, IsMarkedOrNone, IsLowestToMark, HasNoneToMark, MarksAt, CancelsSlot, CancelsUnlessMarked, CancelsAll};
+ghost use Rattle.io_manager.specs.Sound.{IsSound};
+
+use crate::parts::Parts;
+use crate::tables::Tables;
+use device::{Device, Label};
+
+/// A packet below, by its spot and its number.
+#[derive(Debug, Clone, Copy, PartialEq, Eq)]
+pub(crate) struct Place {
+    pub(crate) spot: usize,
+    pub(crate) number: u64,
+}
+
+impl Tables {
+    /// The slot of the open request of a handle that is not cancelled yet and has the lowest number.
+    pub(crate) fn next_to_mark(&self, handle: u64) -> Option<usize>
+        ensures { MatchOption result (HasNoneToMark self.now.requests handle) (λ slot. IsLowestToMark self.now.requests handle slot) }
+    {
+        let mut next: Option<(usize, u64)> = None;
+        for slot in 0..self.requests.capacity() {
+            if let Some(request) = self.requests.get(slot) {
+                let earlier = match next {
+                    Some((_, lowest)) => request.number < lowest,
+                    None => true,
+                };
+                if earlier && request.handle == handle && !request.cancelled {
+                    next = Some((slot, request.number));
+                }
+            }
+        }
+        match next {
+            Some((slot, _)) => Some(slot),
+            None => None,
+        }
+    }
+
+    /// Whether the open request in a slot is cancelled; so is none.
+    fn is_marked(&self, slot: usize) -> bool
+        ensures { MatchBool result (IsMarkedOrNone self.now.requests slot) (IsToMark self.now.requests slot) }
+    {
+        match self.requests.get(slot) {
+            Some(request) => request.cancelled,
+            None => true,
+        }
+    }
+
+    /// Sets the cancel flag of an open request, and tells that.
+    fn mark_at(&mut self, slot: usize) -> Place
+        requires there { IsToMark self.old.requests slot }
+        requires label_place { deque_len self.old.labels < deque_capacity self.old.labels }
+        ensures { MarksAt self.old slot result self.new }
+    {
+        let Some(request) = self.requests.get_mut(slot) else {
+            unreachable!()
+        };
+        request.cancelled = true;
+        let place = Place {
+            spot: request.spot,
+            number: request.number,
+        };
+        self.labels.push_back_reserved(Label::Cancel {
+            number: place.number,
+        });
+        place
+    }
+}
+
+impl<D: Device> Parts<D> {
+    /// Cancels an open request.
+    pub(crate) fn cancel_slot(&mut self, slot: usize)
+        requires rooms { D.rooms_out self.old.device [] }
+        requires sound { IsSound self.old.limits (D.view self.old.device) self.old.tables }
+        requires there { IsToMark self.old.tables.requests slot }
+        requires label_place { deque_len self.old.tables.labels < deque_capacity self.old.tables.labels }
+        ensures rooms { D.rooms_out self.new.device [] }
+        ensures limits { self.new.limits ≡ self.old.limits }
+        ensures sound { IsSound self.new.limits (D.view self.new.device) self.new.tables }
+        ensures cancels { CancelsSlot (D.view self.old.device) self.old.tables slot (D.view self.new.device) self.new.tables }
+    {
+        let place = self.tables.mark_at(slot);
+        self.device.cancel_at(place.spot, place.number as u128);
+    }
+
+    /// Cancels an open request, unless it is cancelled already.
+    pub(crate) fn cancel_if_open(&mut self, slot: usize)
+        requires rooms { D.rooms_out self.old.device [] }
+        requires sound { IsSound self.old.limits (D.view self.old.device) self.old.tables }
+        requires there { IsUsed self.old.tables.requests slot }
+        requires label_place { deque_len self.old.tables.labels < deque_capacity self.old.tables.labels }
+        ensures rooms { D.rooms_out self.new.device [] }
+        ensures limits { self.new.limits ≡ self.old.limits }
+        ensures sound { IsSound self.new.limits (D.view self.new.device) self.new.tables }
+        ensures cancels { CancelsUnlessMarked (D.view self.old.device) self.old.tables slot (D.view self.new.device) self.new.tables }
+    {
+        if !self.tables.is_marked(slot) {
+            self.cancel_slot(slot);
+        }
+    }
+
+    /// Cancels all open requests of a handle that are not cancelled yet, by rising numbers.
+    pub(crate) fn cancel_all_of(&mut self, handle: u64)
+        requires rooms { D.rooms_out self.old.device [] }
+        requires sound { IsSound self.old.limits (D.view self.old.device) self.old.tables }
+        requires untold { deque_len self.old.tables.labels ≡ 0 }
+        ensures rooms { D.rooms_out self.new.device [] }
+        ensures limits { self.new.limits ≡ self.old.limits }
+        ensures sound { IsSound self.new.limits (D.view self.new.device) self.new.tables }
+        ensures cancels { CancelsAll (D.view self.old.device) self.old.tables handle (D.view self.new.device) self.new.tables }
+        ensures few_labels { deque_len self.new.tables.labels ≤ 64 }
+        ensures none_left { HasNoneToMark self.new.tables.requests handle }
+    {
+        'next: while let Some(slot) = self.tables.next_to_mark(handle) {
+            self.cancel_slot(slot);
+        }
+    }
+}

@@ -1,0 +1,8 @@
+pub mod OnDisk
+pub mod Noted
+pub mod Shown
+pub mod Kept
+pub mod Opening
+pub mod Order
+pub mod Outside
+pub mod Client

@@ -1,0 +1,27 @@
+-- The PnP states of a device object, and what moves it from one to another.
+use Rattle.std.specs.Prelude.{Option, Some, None}
+use Rattle.pnp.specs.declared.State.{State}
+use Rattle.pnp.specs.declared.State.TheVariants.{Started, RemovePending, Removing, Removed}
+
+-- what moves it: four requests of the PnP manager (WDK: minor functions of IRP_MJ_PNP), and the end of its last open request
+pub data Event : Type 0 where
+  QueryRemove : Event
+  CancelRemove : Event
+  Remove : Event
+  SurpriseRemove : Event
+  Drained : Event
+
+-- the state after it, or none where it is invalid (WDK: State Transitions for PnP Devices)
+abbrev pub next : Event → State → Option State
+next QueryRemove Started = Some RemovePending
+next QueryRemove _ = None
+next CancelRemove Started = Some Started
+next CancelRemove RemovePending = Some Started
+next CancelRemove _ = None
+next Remove RemovePending = Some Removing
+next Remove _ = None
+next SurpriseRemove Started = Some Removing
+next SurpriseRemove RemovePending = Some Removing
+next SurpriseRemove _ = None
+next Drained Removing = Some Removed
+next Drained _ = None

@@ -1,0 +1,109 @@
+//! The PnP state of a device object, and the requests of the PnP manager that move it: a query before a removal, its
+//! cancellation, an orderly removal and a surprise removal.
+//!
+//! The crate above is promised that each call answers exactly by one table, `next` of `specs/Table`; and, by
+//! `removal_is_for_good`, that a removal never ends but in `Removed`, which no request leaves. No call takes memory.
+//! Nothing is said of what a device does in a state: who keeps one tells the device, and says by [`State::drained`] that
+//! nothing is open any more.
+#![tactic(auto)]
+
+ghost use Rattle.std.specs.Prelude.{◌≡◌};
+ghost use Rattle.std.specs.Result.{result_ok};
+ghost use Rattle.pnp.specs.Laws.{RemovalIsForGood, RemovedIsLast, RemovesOnceQueried};
+ghost use Rattle.pnp.specs.Table.{QueryRemove, CancelRemove, Remove, SurpriseRemove, Drained, next};
+
+use ntstatus::NtStatus;
+use thiserror::Error;
+
+/// The PnP state of a device object (WDK: State Transitions for PnP Devices).
+#[derive(Debug, Clone, Copy, PartialEq, Eq)]
+pub enum State {
+    /// At work.
+    Started,
+    /// A query was granted: new requests are held until it is known whether the device goes.
+    RemovePending,
+    /// The device goes, and requests are still open.
+    Removing,
+    /// The device is gone, and nothing is open.
+    Removed,
+}
+
+/// The request is invalid in this state: a driver fails the packet with STATUS_INVALID_DEVICE_REQUEST.
+#[derive(Debug, Clone, Copy, PartialEq, Eq, Drop, Error)]
+#[error("invalid in this PnP state")]
+pub struct InvalidDeviceRequest;
+
+impl State {
+    /// Asks whether the device may go (WDK: IRP_MN_QUERY_REMOVE_DEVICE). Refused but where it is started.
+    pub fn query_remove(self) -> Result<State, InvalidDeviceRequest>
+        ensures { result_ok result ≡ next QueryRemove self }
+    {
+        match self {
+            State::Started => Ok(State::RemovePending),
+            State::RemovePending | State::Removing | State::Removed => Err(InvalidDeviceRequest),
+        }
+    }
+
+    /// Takes the query back (WDK: IRP_MN_CANCEL_REMOVE_DEVICE). With no query pending it changes nothing and is no fault,
+    /// since the PnP manager may send it to a driver that never saw the query. Refused once the device goes.
+    pub fn cancel_remove(self) -> Result<State, InvalidDeviceRequest>
+        ensures { result_ok result ≡ next CancelRemove self }
+    {
+        match self {
+            State::Started | State::RemovePending => Ok(State::Started),
+            State::Removing | State::Removed => Err(InvalidDeviceRequest),
+        }
+    }
+
+    /// Removes the device in order (WDK: IRP_MN_REMOVE_DEVICE). Refused but after a query that was granted.
+    pub fn remove(self) -> Result<State, InvalidDeviceRequest>
+        ensures { result_ok result ≡ next Remove self }
+    {
+        match self {
+            State::RemovePending => Ok(State::Removing),
+            State::Started | State::Removing | State::Removed => Err(InvalidDeviceRequest),
+        }
+    }
+
+    /// The device was pulled out (WDK: IRP_MN_SURPRISE_REMOVAL): it goes as after a removal in order, queried or not.
+    /// Refused where it goes already.
+    pub fn surprise_remove(self) -> Result<State, InvalidDeviceRequest>
+        ensures { result_ok result ≡ next SurpriseRemove self }
+    {
+        match self {
+            State::Started | State::RemovePending => Ok(State::Removing),
+            State::Removing | State::Removed => Err(InvalidDeviceRequest),
+        }
+    }
+
+    /// The last request of a device that goes has ended (WDK: IoReleaseRemoveLockAndWait has returned). Refused in any
+    /// other state, and a second time.
+    pub fn drained(self) -> Result<State, InvalidDeviceRequest>
+        ensures { result_ok result ≡ next Drained self }
+    {
+        match self {
+            State::Removing => Ok(State::Removed),
+            State::Started | State::RemovePending | State::Removed => Err(InvalidDeviceRequest),
+        }
+    }
+}
+
+impl From<InvalidDeviceRequest> for NtStatus {
+    ghost use Rattle.ntstatus.specs.declared.NtStatus.TheVariants.{InvalidDeviceRequest as RequestIsInvalid};
+
+    ghost from_gives = { λ _ status. status ≡ RequestIsInvalid };
+
+    fn from(_: InvalidDeviceRequest) -> NtStatus {
+        NtStatus::InvalidDeviceRequest
+    }
+}
+
+/// A device that goes never comes back, and from `Removed` nothing leads on. An orderly removal comes only after a query.
+pub fn removal_is_for_good()
+    ensures for_good { RemovalIsForGood }
+    ensures last { RemovedIsLast }
+    ensures queried { RemovesOnceQueried }
+{}
+
+#[cfg(test)]
+mod tests;
