@@ -1,5 +1,5 @@
 -- What each call does to what a layer shows.
-use Rattle.std.specs.Prelude.{◌≡◌, ◌≢◌, ◌⊎◌, ℕ, zero, suc, ◌+◌, ◌*◌, Bool, List, [], ◌∷◌, Option, Some, None, map, filter, take, drop, length, IsTrue, All, Any, Contains, IsPermutation}
+use Rattle.std.specs.Prelude.{◌≡◌, ◌≢◌, ◌⊎◌, ℕ, zero, suc, ◌+◌, ◌*◌, Bool, List, [], ◌∷◌, Option, Some, None, map, filter, take, drop, length, IsTrue, IsFalse, All, Any, Contains, IsPermutation}
 use Rattle.std.specs.List.Sorted.{IsStrictlyIncreasing}
 use Rattle.ntstatus.specs.declared.NtStatus.{NtStatus}
 use Rattle.ntstatus.specs.declared.NtStatus.TheVariants.{Success, DeviceBusy}
@@ -11,12 +11,12 @@ use Rattle.adapter.specs.View.{AdapterView, ReservesMore, MovesByAll, NotesReset
 use Rattle.irp.specs.declared.Payload.{Payload}
 use Rattle.irp.specs.declared.Climb.{Climb}
 use Rattle.irp.specs.Climb.{Climbs, BringsRoutine}
-use Rattle.machine.specs.declared.Kind.TheVariants.{Read}
+use Rattle.machine.specs.declared.Kind.TheVariants.{Read, Flush}
 use Rattle.machine.specs.declared.Request.{Request}
 use Rattle.machine.specs.Rules.{Rules, place_count, as_client}
 use Rattle.machine.specs.State.{Mark, Done, Back, OpenRequest, Piece, State}
 use Rattle.machine.specs.Calling.{Opens}
-use Rattle.machine.specs.Sending.{IsStart, HasOtherTag}
+use Rattle.machine.specs.Sending.{is_started, IsStart, HasOtherTag}
 use Rattle.machine.specs.Answering.{HasEnded, Answers, information}
 use Rattle.machine.specs.Holding.{Cancels, Pauses, Resumes, Drains}
 use Rattle.machine.specs.Settled.{Settled}
@@ -45,13 +45,22 @@ pub record Reserves (old new : DeviceView) : Type 0 where
   pub same : new ≡ record old { adapter = record old.adapter { reserved = new.adapter.reserved } }
   pub adapter : ReservesMore old.adapter new.adapter
 
--- a packet is taken in: its request is opened, and then pieces are started
+-- the request is open as it is
+abbrev pub StaysOpen : State → OpenRequest → Type 0
+StaysOpen s o = Contains s.requests o
+
+-- the request is open as it is, if it was started
+abbrev pub StaysIfStarted : State → OpenRequest → Type 0
+StaysIfStarted s o = IsTrue (is_started o) → Contains s.requests o
+
+-- a packet is taken in: its request is opened, and then pieces are started, of no other request
 pub record Submits (old : DeviceView) (packet : Packet) (request : Request) (payload : Payload) (new : DeviceView) : Type 0 where
   pub opened : State
   pub starts : List DeviceLabel
   pub opens : Opens old.rules old.state packet.number (as_client old.rules request (sent_bytes request.kind payload)) opened
   pub only_starts : All IsStart starts
   pub moves : Moves (record old { state = opened; packets = packet ∷ old.packets; submitted = old.submitted + 1 }) starts new
+  pub others_stay : All (StaysOpen new.state) old.state.requests
 
 -- the piece of a tag that has done nothing yet
 pub record IsFreshOn (s : State) (tag : ℕ) (piece : Piece) : Type 0 where
@@ -136,6 +145,8 @@ HasOtherNumber number packet = packet.number ≢ number
 pub record CancelsAt (old : DeviceView) (spot number : ℕ) (new : DeviceView) : Type 0 where
   pub there : Any (IsAt spot number) old.packets → CancelsIfOpen old number new
   pub gone : All (HasOtherNumber number) old.packets → new ≡ old
+  -- with a spot of another packet it is cancelled or nothing changes
+  pub either : (Cancels old.state number new.state × IsBeside old new) ⊎ (new ≡ old)
 
 -- the layer's removal, and no label is recorded
 pub record DrainsAll (old new : DeviceView) : Type 0 where
@@ -189,16 +200,27 @@ pub record HandsUp (takes_srb : Bool) (old : DeviceView) (request : Request) (cl
   pub brings : request.kind ≡ Read → status ≡ Success → payload_bytes payload ≡ bytes
   -- as many as it asked for
   pub filled : request.kind ≡ Read → status ≡ Success → length bytes ≡ request.extent.count * old.rules.sector_size
+  -- a flush brings none
+  pub empty : request.kind ≡ Flush → payload_bytes payload ≡ []
   pub climbs : Climbs packet.above packet.number answers.request.cancelled status (information answers.request.request status) payload climb
   pub brings_routine : BringsRoutine packet.cancel_routine climb
   pub only_starts : All IsStart starts
   pub moves : Moves (record old { state = answered; packets = others }) starts new
-  -- where nothing is held back by a window and none is started, the adapter stays as it was
-  pub still : old.rules.window ≡ None → starts ≡ [] → new.adapter ≡ old.adapter
+  -- what was started stays as it is
+  pub started_stay : All (StaysIfStarted new.state) answered.requests
+  -- where nothing is held back by a window none is started, and the adapter stays as it was
+  pub still : old.rules.window ≡ None → (starts ≡ []) × (new.adapter ≡ old.adapter)
 
--- some place of the request has not ended
+-- a place of it came back busy and waits for the restart that it was granted, whatever came back busy since then
+pub record AwaitsRestart (rules : Rules) (s : State) (o : OpenRequest) : Type 0 where
+  pub in_pieces : IsFalse rules.one_piece
+  pub not_cancelled : IsFalse o.cancelled
+  pub not_removing : IsFalse s.removing
+  pub back : Any IsBack o.marks
+
+-- some place of the request has not ended, or still awaits a restart
 abbrev pub IsUnfinished : Rules → State → OpenRequest → Type 0
-IsUnfinished rules s o = All (HasEnded rules s o) o.marks → ⊥
+IsUnfinished rules s o = All (HasEnded rules s o) o.marks → AwaitsRestart rules s o
 
 -- nothing that has ended waits, and the layer is settled
 pub record HandsUpNone (old new : DeviceView) : Type 0 where
