@@ -24,6 +24,7 @@ use Rattle.device.specs.View.{AsksFor, IsBounded, sent_bytes, transfer_length}
 use Rattle.sector.proofs.Splicing.{length-splice}
 use Rattle.port.specs.declared.queues.Sizes.{Sizes}
 use Rattle.port.specs.Shown.{rules_of, places_of}
+use Rattle.port.specs.Kept.{IsEmptyIfFlush}
 use Rattle.device.specs.Served.{cut}
 use Rattle.port.proofs.Lists.{cut-concat}
 use Rattle.port.proofs.Codes.{read_code, write_code, flush_code, clash}
@@ -151,6 +152,7 @@ pub record IsCarried (rules : Rules) (s : State) (r : Request) (kind : Kind) (sr
   pub sent : sent_bytes kind (Packed (with_moved srb moved left)) ≡ sent_bytes kind (Packed srb)
   pub long : length after ≡ length sectors
   pub filled : r.kind ≡ Read → length (concat moved) ≡ transfer_length rules r
+  pub empty : IsEmptyIfFlush r (concat moved)
 
 module _ (sizes : Sizes) (faithful told : Bool) (same_faith : sizes.faithful ≡ faithful) (s : State) (r : Request) (srb : Srb) (sectors moved after : List (List ℕ)) (left : List ℕ) (command : Cdb)
     (some : 0 < sizes.sector_size) (bounded : IsBounded (rules_of sizes) r) (count_is : sizes.sectors ≡ length sectors) (sized : All (IsSector sizes.sector_size) sectors)
@@ -192,6 +194,7 @@ module _ (sizes : Sizes) (faithful told : Bool) (same_faith : sizes.faithful ≡
             let whole : transfer_length rules r ≡ r.extent.count * sizes.sector_size = rw is refl in
             let places : n ≡ r.extent.count = places_transfer sizes r some (ap is_transfer is) in
             sized' ∙ ap (λ k. k * sizes.sector_size) (long ∙ places) ∙ sym whole;
+        empty = λ e. absurd (cc (e, is));
       }
 
   carried_write : r.kind ≡ Write → AsksFor (rules_of sizes) r srb → Means srb.block command → CarriesOut faithful told sizes.sector_size sectors srb.data command moved after
@@ -216,6 +219,7 @@ module _ (sizes : Sizes) (faithful told : Bool) (same_faith : sizes.faithful ≡
         sent = out.sent;
         long = long;
         filled = λ e. absurd (cc (e, is));
+        empty = λ e. absurd (cc (e, is));
       }
     where
       transfer : (if is_transfer r.kind then r.extent.count * sizes.sector_size else 0) ≡ r.extent.count * sizes.sector_size
@@ -266,6 +270,7 @@ module _ (sizes : Sizes) (faithful told : Bool) (same_faith : sizes.faithful ≡
         sent = refl;
         long = ap (λ xs. length xs) out.1;
         filled = λ e. absurd (cc (e, is));
+        empty = λ _. ap concat out.0;
       }
 
   pub carried : (kind : Kind) → r.kind ≡ kind → AsksFor (rules_of sizes) r srb → Means srb.block command → CarriesOut faithful told sizes.sector_size sectors srb.data command moved after

@@ -12,7 +12,8 @@ use Rattle.machine.specs.declared.Label.TheVariants.{Cancel}
 use Rattle.machine.specs.Rules.{Rules}
 use Rattle.machine.specs.State.{OpenRequest, State, IsSame}
 use Rattle.machine.specs.Holding.{Cancels, Drains, as_cancelled}
-use Rattle.device.specs.View.{IsBounded}
+use Rattle.irp.specs.declared.Payload.{Payload}
+use Rattle.device.specs.View.{IsBounded, payload_bytes}
 use Rattle.device.specs.Served.{CancelsIfOpen, DrainsAll}
 use Rattle.machine.proofs.Numbers.{AreDistinct-same, AreDistinct-Step}
 use Rattle.port.specs.declared.queues.Held.{Held}
@@ -22,8 +23,9 @@ use Rattle.port.specs.declared.queues.Outcome.TheVariants.{Returned, Withdrawn, 
 use Rattle.port.specs.Books.{Entry, Books, entry_of, ended_entry}
 use Rattle.port.specs.Turns.{gone, drained, cancelled, is_cancellable, Withdraws}
 use Rattle.port.specs.Shown.{rules_of, waiting_open, done_open, open_on, packet as packet_as, of_packets, of_waiting, of_tag, of_done, state_of, view_of, requests_of}
-use Rattle.port.specs.Kept.{asked, PortKept, IsInHand, IsRoom, IsWaiting, IsBefore, AreInTurn, HasEnded, HasOutcome}
+use Rattle.port.specs.Kept.{asked, PortKept, IsInHand, IsRoom, IsWaiting, IsEmptyIfFlush, IsBefore, AreInTurn, HasEnded, HasOutcome}
 use Rattle.port.proofs.Lists.{last_front}
+use Rattle.port.proofs.Sizing.{carries_empty}
 use Rattle.port.proofs.Returning.{done_is}
 use Rattle.port.proofs.Orderly.{in_hand, maps_are}
 
@@ -59,7 +61,7 @@ drains b v = record {
 }
 
 ended_at_removal : (rules : Rules) (removing : Bool) (d : Ended) → HasEnded rules removing d → HasEnded rules true d
-ended_at_removal rules removing d h = record { bounded = h.bounded; why = by_outcome d.outcome h.why }
+ended_at_removal rules removing d h = record { bounded = h.bounded; why = by_outcome d.outcome h.why; empty = h.empty }
   where
     by_outcome : (outcome : Outcome) → HasOutcome rules removing d outcome → HasOutcome rules true d outcome
     by_outcome (Returned Good) h = h
@@ -84,7 +86,7 @@ kept_drained b v rooms k =
       at_work = k.at_work;
       ended = All-append (HasEnded rules true) b.done (map gone b.waiting)
           (All-weaker (HasEnded rules b.removing) (HasEnded rules true) (ended_at_removal rules b.removing) b.done k.ended)
-          (All-map (HasEnded rules true) gone b.waiting (All-weaker (IsWaiting rules v) (λ h. HasEnded rules true (gone h)) (λ h w. record { bounded = w.room.bounded; why = refl }) b.waiting k.waiting));
+          (All-map (HasEnded rules true) gone b.waiting (All-weaker (IsWaiting rules v) (λ h. HasEnded rules true (gone h)) (λ h w. record { bounded = w.room.bounded; why = refl; empty = carries_empty rules h.request h.irp.payload w.carries }) b.waiting k.waiting));
       reserved = All-permutation (IsRoom rules v) _ _ (IsPermutation-sym _ _ (packets_drained asked b v)) k.reserved;
       rooms_out = k.rooms_out;
       removing = λ _. refl;
@@ -198,6 +200,8 @@ module _ (b : Books) (v : AdapterView) (number : ℕ) (before : List Held) (held
         ended = All-push (HasEnded rules b.removing) b.done withdrawn k.ended (record {
           bounded = subst (λ (e : Entry). IsBounded rules e.request) (sym same_entry) w.room.bounded;
           why = subst (HasOutcome rules b.removing withdrawn) (sym ends) (ap (λ (e : Entry). e.cancelled) same_entry);
+          empty = subst (λ (p : Payload). IsEmptyIfFlush withdrawn.request (payload_bytes p)) (sym carries)
+              (subst (λ (e : Entry). IsEmptyIfFlush e.request (payload_bytes held.irp.payload)) (sym same_entry) (carries_empty rules held.request held.irp.payload w.carries));
         });
         reserved = All-permutation (IsRoom rules v) _ _ (IsPermutation-sym _ _ (packets_withdrawn asked (λ e. refl))) k.reserved;
         rooms_out = k.rooms_out;

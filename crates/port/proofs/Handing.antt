@@ -3,7 +3,7 @@ use Rattle.std.proofs.Common.{◌≡◌, ◌≢◌, ◌<◌, ◌≤◌, inl, inr
 use Rattle.std.specs.Prelude.{◌↔◌, if◌then◌else◌, All, IsTrue, IsPermutation}
 use Rattle.std.specs.List.{list_all}
 use Rattle.std.proofs.lemmas.List.{length-map, nil_from_length}
-use Rattle.std.proofs.lemmas.List.Elements.{All-nil, All-cons, All-map, All-replicate, All-head, All-tail}
+use Rattle.std.proofs.lemmas.List.Elements.{All-nil, All-cons, All-map, All-replicate, All-head, All-tail, All-contains_itself}
 use Rattle.std.proofs.lemmas.List.Sorted.{IsPermutation-refl, IsPermutation-trans, IsPermutation-append_right, IsPermutation-middle, All-permutation}
 use Rattle.ntstatus.specs.declared.NtStatus.{NtStatus}
 use Rattle.ntstatus.specs.declared.NtStatus.TheVariants.{Success, DeviceBusy, Cancelled, NoSuchDevice, DeletePending}
@@ -75,11 +75,11 @@ module _ (b : Books) (v : AdapterView) (rooms : List Request) (k : IsInHand b v 
       let some : 0 < b.sizes.sector_size = kept_sector_some b v rooms k.kept in
       all_three b v (IsUnfinished rules s)
       (λ i d low all. let w : IsWaiting rules v (get_or b.waiting i d) = k.kept.waiting i d low in
-      unended rules s (waiting_open rules (get_or b.waiting i d)) Untouched _ (places_some b.sizes (get_or b.waiting i d).request some w.room.bounded)
-      (untouched_ends_not rules s (waiting_open rules (get_or b.waiting i d)) w.not_cancelled (stays_by b.removing b.waiting i low k.kept.removing)) all)
+      absurd (unended rules s (waiting_open rules (get_or b.waiting i d)) Untouched _ (places_some b.sizes (get_or b.waiting i d).request some w.room.bounded)
+      (untouched_ends_not rules s (waiting_open rules (get_or b.waiting i d)) w.not_cancelled (stays_by b.removing b.waiting i low k.kept.removing)) all))
       (λ i d low all. let w : IsOnTag rules b.started (get_or v.tags i d) = k.kept.at_work i d low in
-      unended rules s (open_on rules b.started (get_or v.tags i d)) Out _ (subst (λ (e : Entry). 0 < places_of rules e.request) (sym (ap entry_or_nobody w.on_tag)) (places_some b.sizes w.held.request some w.bounded))
-      (out_ends_not rules s (open_on rules b.started (get_or v.tags i d))) all)
+      absurd (unended rules s (open_on rules b.started (get_or v.tags i d)) Out _ (subst (λ (e : Entry). 0 < places_of rules e.request) (sym (ap entry_or_nobody w.on_tag)) (places_some b.sizes w.held.request some w.bounded))
+      (out_ends_not rules s (open_on rules b.started (get_or v.tags i d))) all))
       (no_done (λ d. IsUnfinished rules s (done_open rules d)))
 
   no_pieces : map (piece_on (rules_of b.sizes) b.started) v.tags ≡ [] → (v.tags ≡ []) × (b.waiting ≡ [])
@@ -298,12 +298,14 @@ hands_up b b' v rooms d status bytes_moved climb k h status_is moved_is climbs b
           let long : length (payload_bytes d.irp.payload) ≡ transfer_length rules d.request = x.filled is succeeds in
           let whole : transfer_length rules d.request ≡ d.request.extent.count * rules.sector_size = rw is refl in
           ap (λ (bytes : List ℕ). length bytes) (sym (x.brings is succeeds)) ∙ long ∙ whole;
+      empty = (All-head (HasEndedBy rules b.removing) d h.rest (subst (All (HasEndedBy rules b.removing)) h.is_front k.kept.ended)).empty;
       climbs = subst (λ (st : NtStatus). Climbs (entry d.irp d.request d.spot).above d.irp.number d.irp.cancelled st (information (as_client rules d.request []) st) d.irp.payload climb) status_is
           (subst (λ (n : ℕ). Climbs (entry d.irp d.request d.spot).above d.irp.number d.irp.cancelled status n d.irp.payload climb) (subst (λ (y : Books). bytes_moved ≡ information (as_client (rules_of y.sizes) d.request []) status) h.after moved_is) climbs);
       brings_routine = brings;
       only_starts = All-nil IsStart;
       moves = record { same_rules = refl; same_packets = IsPermutation-refl _; same_submitted = refl; same_most = refl; run = IsSame-refl _; adapter = reserves_none v };
-      still = λ window none. refl;
+      started_stay = λ i o low started. All-contains_itself (requests_of (books_left b h.rest) v) i o low;
+      still = λ window. (refl, refl);
     })
 
 pub moved_few : (b b' : Books) (v : AdapterView) (rooms : List Request) (d : Ended) → IsInHand b v rooms → TakesDone b d b' → d.request.extent.count * b'.sizes.sector_size < 2 ^ 64

@@ -1,10 +1,10 @@
 -- Lists: mapped alike, replaced whole, and cut in parts.
 use Rattle.std.proofs.Common.{◌≡◌, ◌≤◌, ℕ, zero, suc, ◌+◌, true, List, [], ◌∷◌, ◌++◌, refl, ap, arith, map, length, take, drop}
-use Rattle.std.specs.Prelude.{All, IsPermutation}
+use Rattle.std.specs.Prelude.{All, Contains, IsPermutation}
 use Rattle.std.specs.List.{concat, list_all}
 use Rattle.std.proofs.lemmas.List.{append-nil, drop_all, take_at, drop_at}
-use Rattle.std.proofs.lemmas.List.Elements.{All-head, All-tail}
-use Rattle.std.proofs.lemmas.List.Sorted.{IsPermutation-trans, IsPermutation-to_front, IsPermutation-append_left, IsPermutation-append_right, IsPermutation-middle}
+use Rattle.std.proofs.lemmas.List.Elements.{All-weaker, All-head, All-tail, All-contains, All-contains_itself}
+use Rattle.std.proofs.lemmas.List.Sorted.{IsPermutation-trans, IsPermutation-to_front, IsPermutation-append_left, IsPermutation-append_right, IsPermutation-middle, All-permutation}
 use Rattle.sector.specs.Splice.{splice}
 use Rattle.machine.specs.State.{Done}
 use Rattle.machine.specs.Answering.{bytes_of_mark, is_done}
@@ -38,6 +38,15 @@ last_front first second third x =
     let inner : IsPermutation (second ++ (third ++ x ∷ [])) (x ∷ (second ++ third)) =
     IsPermutation-trans _ _ _ (IsPermutation-append_right second _ _ (IsPermutation-to_front third x)) (IsPermutation-middle second x third) in
     IsPermutation-trans _ _ _ (IsPermutation-append_right first _ _ inner) (IsPermutation-middle first x (second ++ third))
+
+-- WHAT A LIST CONTAINS
+
+-- a list with one item more, in any order
+pub contains_behind : {X : Type 0} (xs ys : List X) (x : X) → IsPermutation ys (x ∷ xs) → All (Contains ys) xs
+contains_behind xs ys x p = All-tail (Contains ys) x xs (All-permutation (Contains ys) _ _ p (All-contains_itself ys))
+
+pub contains_through : {X : Type 0} (xs ys zs : List X) → All (Contains ys) xs → All (Contains zs) ys → All (Contains zs) xs
+contains_through xs ys zs h k = All-weaker (Contains ys) (Contains zs) (λ x c. All-contains (Contains zs) ys x k c) xs h
 
 -- CUT
 

@@ -26,7 +26,7 @@ use Rattle.port.specs.Books.{Entry, Books, entry_of, ended_entry}
 use Rattle.port.specs.Turns.{held_on, cancelled, is_cancellable, CannotCancelHeld, CannotCancelOn, WithdrawsNot, CancelsOn, CancelsEnded, CancelsNoEnded}
 use Rattle.port.specs.Cancelling.{CancelsAt, CancelsNotAt, CancelsNoStarted}
 use Rattle.port.specs.Shown.{rules_of, waiting_open, done_open, out_open, out_piece, open_on, entry_on, entry_or_nobody, packet as packet_as, of_packets, of_waiting, of_tag, of_done, state_of, view_of, requests_of}
-use Rattle.port.specs.Kept.{asked, PortKept, IsInHand, IsRoom, IsAtWork, IsDoing, HasEnded, HasOutcome}
+use Rattle.port.specs.Kept.{asked, PortKept, IsInHand, IsRoom, IsEmptyIfFlush, IsAtWork, IsDoing, HasEnded, HasOutcome}
 use Rattle.port.proofs.Lists.{second_front, last_front}
 use Rattle.port.proofs.Tags.{others_same, others_apart}
 use Rattle.port.proofs.Starting.{work_beside}
@@ -115,6 +115,7 @@ module _ (b : Books) (v : AdapterView) (number tag : ℕ) (use' : TagInUse) (oth
               on_tag = rw on.has_tag (get_or-set_same b.started tag (Some marked) None low);
               bounded = subst (λ r. IsBounded rules r) (sym request_is) work.0;
               doing = subst (λ r. IsDoing rules r use'.fate use'.srb) (sym request_is) work.1;
+              empty = subst (λ r. IsEmptyIfFlush r use'.srb.data) (sym request_is) work.2;
             })
             (λ i d below. work_beside rules b.started tag (Some marked) _ (apart i d below) (rest i d below)));
         ended = h.ended;
@@ -223,6 +224,8 @@ module _ (b : Books) (v : AdapterView) (number : ℕ) (before : List Ended) (end
         ended = All-push (HasEnded rules b.removing) (before ++ behind) marked (All-tail (HasEnded rules b.removing) ended (before ++ behind) all) (record {
           bounded = subst (λ (x : Entry). IsBounded rules x.request) (sym same_entry) e.bounded;
           why = subst (HasOutcome rules b.removing marked) (sym ends) (why_marked rules b.removing ended.outcome e.why);
+          empty = subst (λ (p : Payload). IsEmptyIfFlush marked.request (payload_bytes p)) (sym carries)
+              (subst (λ (x : Entry). IsEmptyIfFlush x.request (payload_bytes ended.irp.payload)) (sym same_entry) e.empty);
         });
         reserved = All-permutation (IsRoom rules v) _ _ (IsPermutation-sym _ _ (packets_ended asked (λ e. refl))) k.reserved;
         rooms_out = k.rooms_out;

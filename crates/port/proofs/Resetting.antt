@@ -108,7 +108,7 @@ reset_pieces rules started (u ∷ us) = by_fate (reset_pieces rules started us) 
     by_fate h Faulted is = rw is (IsPermutation-trans _ _ _ (IsPermutation-cons _ _ _ h) (IsPermutation-sym _ _ (IsPermutation-middle (map faulted_piece (map (piece_on rules started) (filter is_fresh_use us))) _ (map (piece_on rules started) (filter is_other us)))))
 
 work_reset : (rules : Rules) (started : List (Option Held)) (u : TagInUse) → IsAtWork rules started u → IsAtWork rules started (after_reset u)
-work_reset rules started u w = record { held = w.held; on_tag = w.on_tag; bounded = w.bounded; doing = by_fate u.fate w.doing }
+work_reset rules started u w = record { held = w.held; on_tag = w.on_tag; bounded = w.bounded; doing = by_fate u.fate w.doing; empty = w.empty }
   where
     by_fate : (fate : Fate) → IsDoing rules w.held.request fate u.srb → IsDoing rules w.held.request (fate_after_reset fate) u.srb
     by_fate Fresh h = tt

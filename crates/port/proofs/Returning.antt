@@ -34,7 +34,7 @@ use Rattle.port.specs.declared.queues.Outcome.TheVariants.{Returned, Withdrawn, 
 use Rattle.port.specs.Books.{Entry, Books, entry_of, ended_entry}
 use Rattle.port.specs.Turns.{held_on, EndsAs, Ends}
 use Rattle.port.specs.Shown.{rules_of, places_of, marks_left, busy_left, open_as, waiting_open, done_open, out_open, out_piece, open_on, piece_on, entry_on, packet as packet_as, of_packets, of_waiting, of_tag, of_done, state_of, view_of, requests_of}
-use Rattle.port.specs.Kept.{asked, PortKept, IsRoom, IsWaiting, IsAtWork, IsDoing, HasEnded, HasOutcome}
+use Rattle.port.specs.Kept.{asked, PortKept, IsRoom, IsWaiting, IsEmptyIfFlush, IsAtWork, IsDoing, HasEnded, HasOutcome}
 use Rattle.port.specs.Releases.{Releases}
 use Rattle.port.proofs.Lists.{splice_whole, second_front, last_front, length-cut}
 use Rattle.port.proofs.Tags.{others_same, others_apart}
@@ -66,11 +66,11 @@ tags_left F started tag x tags' others apart p =
 -- what the packet on a tag is doing
 pub on_tag_work : (rules : Rules) (started : List (Option Held)) (tags : List TagInUse) (use' : TagInUse) (others : List TagInUse) (tag : ℕ) (held : Held)
     → All (IsAtWork rules started) tags → IsPermutation tags (use' ∷ others) → use'.tag ≡ tag → held_on started tag ≡ Some held
-    → IsBounded rules held.request × IsDoing rules held.request use'.fate use'.srb
+    → IsBounded rules held.request × IsDoing rules held.request use'.fate use'.srb × IsEmptyIfFlush held.request use'.srb.data
 on_tag_work rules started tags use' others tag held all p is on =
     let w : IsAtWork rules started use' = All-head (IsAtWork rules started) use' others (All-permutation (IsAtWork rules started) _ _ p all) in
     let same : w.held ≡ held = cc (w.on_tag, is, on) in
-    (subst (λ (h : Held). IsBounded rules h.request) same w.bounded, subst (λ (h : Held). IsDoing rules h.request use'.fate use'.srb) same w.doing)
+    (subst (λ (h : Held). IsBounded rules h.request) same w.bounded, subst (λ (h : Held). IsDoing rules h.request use'.fate use'.srb) same w.doing, subst (λ (h : Held). IsEmptyIfFlush h.request use'.srb.data) same w.empty)
 
 pub on_tag_some : (rules : Rules) (started : List (Option Held)) (tags : List TagInUse) (use' : TagInUse) (others : List TagInUse) (tag : ℕ)
     → All (IsAtWork rules started) tags → IsPermutation tags (use' ∷ others) → use'.tag ≡ tag → (held : Held) × (held_on started tag ≡ Some held)
@@ -230,6 +230,8 @@ module _ (b : Books) (v : AdapterView) (tag : ℕ) (use' : TagInUse) (others tag
         ended = All-push (HasEnded rules b.removing) b.done ended k.ended (record {
           bounded = subst (λ (e : Entry). IsBounded rules e.request) (sym h.ends_as.same_entry) work.0;
           why = outcome_is rules b.removing v held use' sense class ended h.may work.1 h.ends_as;
+          empty = subst (λ (p : Payload). IsEmptyIfFlush ended.request (payload_bytes p)) (sym h.ends_as.carries)
+              (subst (λ (e : Entry). IsEmptyIfFlush e.request use'.srb.data) (sym h.ends_as.same_entry) work.2);
         });
         reserved = All-permutation (IsRoom rules v') _ _ (IsPermutation-sym _ _ (packets_returned asked rooms k h))
             (All-weaker (IsRoom rules v) (IsRoom rules v') (room_moves rules v v' (λ extent r. r)) (of_packets asked b v) k.reserved);

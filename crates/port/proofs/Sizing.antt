@@ -1,5 +1,6 @@
 -- A request of the port in numbers: its places, its command, and that it is not refused.
 use Rattle.std.proofs.Common.{◌≡◌, ◌<◌, ◌≤◌, ◌⊎◌, inl, inr, ℕ, zero, suc, ◌+◌, ◌*◌, ◌/◌, ◌%◌, ◌^◌, ◌==◌, ◌&&◌, Bool, true, false, nat_le, List, [], Some, None, refl, subst, ◌∙◌, arith, length}
+use Rattle.std.proofs.lemmas.List.{nil_from_length}
 use Rattle.std.proofs.lemmas.Bool.Decides.{nat_tests}
 use Rattle.std.proofs.lemmas.Nat.{div-mul-add, mod-mul-add, mul-le}
 use Rattle.machine.specs.declared.Kind.{Kind}
@@ -9,11 +10,13 @@ use Rattle.machine.specs.Rules.{Rules, is_transfer, as_client, place_count, sect
 use Rattle.machine.specs.State.{State}
 use Rattle.machine.specs.Calling.{refusal, bytes_carried}
 use Rattle.machine.specs.Sending.{command_for, write_command}
-use Rattle.device.specs.View.{IsBounded, whole_command, transfer_length, Carries, sent_bytes, payload_bytes}
+use Rattle.srb.specs.declared.Srb.{Srb}
+use Rattle.device.specs.View.{AsksFor, IsBounded, whole_command, transfer_length, Carries, sent_bytes, payload_bytes}
 use Rattle.irp.specs.declared.Payload.{Payload}
 use Rattle.irp.specs.declared.Payload.TheVariants.{Srb as Packed, Buffer, Sent as AtAdapter}
 use Rattle.port.specs.declared.queues.Sizes.{Sizes}
 use Rattle.port.specs.Shown.{rules_of, places_of}
+use Rattle.port.specs.Kept.{IsEmptyIfFlush}
 
 -- whole sectors are as many as they were
 pub sectors_are : (count size : ℕ) → 0 < size → (count * size) / size ≡ count
@@ -125,6 +128,17 @@ carries_bytes sizes r (Packed srb) b c = carries_kind r.kind (Packed srb) _ (λ 
     carries_kind Flush payload n h = refl
 carries_bytes sizes r (Buffer bytes) b c = absurd c
 carries_bytes sizes r AtAdapter b c = absurd c
+
+-- the SRB of a flush has no data
+pub asks_empty : (rules : Rules) (r : Request) (srb : Srb) → AsksFor rules r srb → IsEmptyIfFlush r srb.data
+asks_empty rules r srb asks is =
+    let none : transfer_length rules r ≡ 0 = rw is refl in
+    nil_from_length srb.data (asks.data_length ∙ none)
+
+pub carries_empty : (rules : Rules) (r : Request) (payload : Payload) → Carries true rules r payload → IsEmptyIfFlush r (payload_bytes payload)
+carries_empty rules r (Packed srb) c = asks_empty rules r srb c
+carries_empty rules r (Buffer bytes) c = absurd c
+carries_empty rules r AtAdapter c = absurd c
 
 -- it lies in the disk
 pub inside_disk : (sizes : Sizes) (r : Request) → IsBounded (rules_of sizes) r → r.extent.first + r.extent.count ≤ sizes.sectors

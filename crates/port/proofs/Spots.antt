@@ -40,6 +40,10 @@ gone_same old new number o c none = by_case c.one_of
         absurd (All-head (λ n. n ≢ number) (request_number k.request) (map request_number k.others) all k.is_number)
     by_case (inr h) = h.1
 
+-- by its number a packet is cancelled, or nothing changes
+cancelled_or_same : (old new : DeviceView) (number : ℕ) → CancelsIfOpen old number new → (Cancels old.state number new.state × IsBeside old new) ⊎ (new ≡ old)
+cancelled_or_same old new number c = elim c.one_of [ inl h ↦ inl h | inr h ↦ inr h.1 ]
+
 -- IN THE QUEUE
 
 pub record Queues (b : Books) (v : AdapterView) (spot number : ℕ) (result : Bool) (b' : Books) : Type 0 where
@@ -96,7 +100,11 @@ lacks_at b v rooms spot number k there none = λ i d low. by_test i d low (is_ca
 -- THE THREE IN TURN
 
 at_number : (b b' : Books) (v v' : AdapterView) (rooms : List Request) (spot number : ℕ) → IsInHand b v rooms → CancelsIfOpen (view_of b v) number (view_of b' v') → CancelsAt (view_of b v) spot number (view_of b' v')
-at_number b b' v v' rooms spot number k h = record { there = λ at. h; gone = gone_same (view_of b v) (view_of b' v') number k.orderly h }
+at_number b b' v v' rooms spot number k h = record {
+  there = λ at. h;
+  gone = gone_same (view_of b v) (view_of b' v') number k.orderly h;
+  either = cancelled_or_same (view_of b v) (view_of b' v') number h;
+}
 
 pub at_queued : (b b' : Books) (v v' : AdapterView) (rooms : List Request) (spot number : ℕ) → IsInHand b v rooms → v' ≡ v → CancelsQueued b v spot number b' → CancelsAt (view_of b v) spot number (view_of b' v')
 at_queued b b' v v' rooms spot number k e h = subst (λ y. CancelsAt (view_of b v) spot number (view_of b' y)) (sym e) (at_number b b' v v rooms spot number k h.cancels)
@@ -129,5 +137,6 @@ at_last b c d b' v w v' rooms spot number false k f e e' s h =
       cancels = record {
         there = λ at. (cancelled_none b b' v rooms number k (lacks_at b v rooms spot number k at f.none) out ended).cancels;
         gone = λ none. ap (λ x. view_of x v) ended.same;
+        either = inr (ap (λ x. view_of x v) ended.same);
       };
     })

@@ -4,8 +4,8 @@ use Rattle.std.proofs.lemmas.Bool.{cases_lt}
 use Rattle.port.specs.Turns as Turn
 use Rattle.std.specs.Prelude.{All, Any, IsTrue, IsPermutation, slice_set, slice_index}
 use Rattle.std.proofs.lemmas.List.{length-replicate, length-set, get_or-set_same, get_or-set_other, length-append, map-append}
-use Rattle.std.proofs.lemmas.List.Elements.{All-nil, All-cons, All-append, All-map, All-weaker, All-head, All-tail}
-use Rattle.std.proofs.lemmas.List.Sorted.{IsPermutation-refl, IsPermutation-sym, IsPermutation-trans, IsPermutation-map, All-permutation, length_permutation}
+use Rattle.std.proofs.lemmas.List.Elements.{All-nil, All-cons, All-append, All-map, All-weaker, All-head, All-tail, All-contains_itself}
+use Rattle.std.proofs.lemmas.List.Sorted.{IsPermutation-refl, IsPermutation-sym, IsPermutation-trans, IsPermutation-map, IsPermutation-append_left, All-permutation, length_permutation}
 use Rattle.srb.specs.declared.Srb.{Srb}
 use Rattle.srb.specs.declared.DeviceLabel.{DeviceLabel}
 use Rattle.srb.specs.declared.DeviceLabel.TheVariants.{Start}
@@ -37,12 +37,12 @@ use Rattle.port.specs.Books.{Entry, Books, entry_of}
 use Rattle.port.specs.Turns.{held_on, IsPacked}
 use Rattle.port.specs.declared.queues.Sizes.{Sizes}
 use Rattle.port.specs.Shown.{rules_of, places_of, open_as, waiting_open, done_open, out_open, out_piece, open_on, piece_on, entry_on, state_of, requests_of, of_packets, of_waiting, of_tag, of_done, packet as packet_as}
-use Rattle.port.specs.Kept.{asked, PortKept, IsRoom, IsWaiting, HasEnded, HasOutcome, IsAtWork, IsBefore, AreInTurn}
-use Rattle.port.specs.Releases.{Releases, AreLowerInUse}
-use Rattle.port.proofs.Lists.{splice_whole, second_front}
+use Rattle.port.specs.Kept.{asked, PortKept, IsRoom, IsWaiting, IsEmptyIfFlush, HasEnded, HasOutcome, IsAtWork, IsBefore, AreInTurn}
+use Rattle.port.specs.Releases.{begun_of, Releases, AreLowerInUse}
+use Rattle.port.proofs.Lists.{splice_whole, second_front, contains_behind, contains_through}
 use Rattle.port.proofs.Tags.{others_same, free_leaves}
 use Rattle.adapter.proofs.Joining.{moves_one, moves_joined, reserves_none}
-use Rattle.port.proofs.Sizing.{whole_write, places_some, places_short, same_command}
+use Rattle.port.proofs.Sizing.{whole_write, places_some, places_short, same_command, asks_empty}
 use Rattle.port.proofs.Codes.{write_code, clash}
 use Rattle.port.proofs.Opening.{Any-map, untouched_all, all_unsent, started_by, ended_started, true_false}
 
@@ -221,6 +221,7 @@ work_beside rules started tag x u differs h = record {
   on_tag = get_or-set_other started tag u.tag x None differs ∙ h.on_tag;
   bounded = h.bounded;
   doing = h.doing;
+  empty = h.empty;
 }
 
 packets_started : {Y : Type 0} (f : Entry → Y) (b : Books) (v : AdapterView) (front : Held) (rest : List Held) (tag : ℕ) (srb : Srb) (packet : Held) (tags' : List TagInUse)
@@ -262,6 +263,7 @@ kept_started b v rooms front rest tag srb packet tags' k is packs same low free 
             on_tag = get_or-set_same b.started tag (Some packet) None inside;
             bounded = subst (λ (e : Entry). IsBounded rules e.request) (sym same) w.room.bounded;
             doing = subst (λ (e : Entry). AsksFor rules e.request srb) (sym same) asks;
+            empty = subst (λ (e : Entry). IsEmptyIfFlush e.request srb.data) (sym same) (asks_empty rules front.request srb asks);
           })
           (λ i d below. work_beside rules b.started tag (Some packet) _ (free i d below) (k.at_work i d below)));
       ended = k.ended;
@@ -279,11 +281,11 @@ kept_started b v rooms front rest tag srb packet tags' k is packs same low free 
 
 -- the label of a start, as the port shows it
 pub start_moves : (b : Books) (v : AdapterView) (front : Held) (rest : List Held) (tag : ℕ) (srb : Srb) (packet : Held) (tags' : List TagInUse)
-    → b.waiting ≡ front ∷ rest → entry_of packet ≡ entry_of front → tag < length b.started → tag < v.depth → IsFree v tag
+    → b.waiting ≡ front ∷ rest → entry_of packet ≡ entry_of front → tag < length b.started → tag < v.depth → IsFree v tag → length v.tags < v.depth
     → IsPermutation tags' (in_use_from v tag b.next_piece srb ∷ v.tags)
     → Starts (rules_of b.sizes) (state_of b v) b.next_piece tag srb.block (state_of (books_started b rest tag packet) (view_started v tags' tag b.next_piece srb))
     → Releases b v (books_started b rest tag packet) (view_started v tags' tag b.next_piece srb)
-start_moves b v front rest tag srb packet tags' is same inside low free p starts = record {
+start_moves b v front rest tag srb packet tags' is same inside low free few p starts = record {
   starts = Start b.next_piece tag srb.block ∷ [];
   only_starts = All-cons IsStart _ [] tt (All-nil IsStart);
   moves = record {
@@ -295,6 +297,9 @@ start_moves b v front rest tag srb packet tags' is same inside low free p starts
     adapter = moves_one v (view_started v tags' tag b.next_piece srb) tag (Start b.next_piece tag srb.block)
         (refl, record { srb = srb; has_block = refl; accepts = record { tags = tags'; is_free = free; below = low; in_use = p; after = refl } });
   };
+  stay = contains_behind (begun_of b v) (begun_of (books_started b rest tag packet) (view_started v tags' tag b.next_piece srb)) (out_open (rules_of b.sizes) (entry_of packet) (in_use_from v tag b.next_piece srb))
+      (IsPermutation-append_left (map (done_open (rules_of b.sizes)) b.done) _ _ (tags_started (out_open (rules_of b.sizes)) b.started tag packet (in_use_from v tag b.next_piece srb) v.tags tags' inside refl free p));
+  full = λ all. absurd (omega arith);
 }
 
 -- ALL OF ONE START
@@ -315,7 +320,7 @@ started_fields b v rooms front rest tag srb packet tags' k is packs same low fre
     let back : IsPermutation (in_use_from v tag b.next_piece srb ∷ v.tags) tags' = IsPermutation-sym _ _ p in
     record {
       kept = λ rs h. kept_started b v rs front rest tag srb packet tags' h is packs same low free p order (machine_starts b v rooms front rest tag srb packet tags' k is packs same low free lower p);
-      releases = start_moves b v front rest tag srb packet tags' is same (omega arith) low free p (machine_starts b v rooms front rest tag srb packet tags' k is packs same low free lower p);
+      releases = start_moves b v front rest tag srb packet tags' is same (omega arith) low free (free_leaves v tag k.adapter free low) p (machine_starts b v rooms front rest tag srb packet tags' k is packs same low free lower p);
       lower = inr (λ l below. Any-permutation (UseHasTag l) _ _ back (at_or_below l (cases_lt l tag) below));
     }
   where
@@ -343,6 +348,8 @@ releases_none b v = record {
   starts = [];
   only_starts = All-nil IsStart;
   moves = record { same_rules = refl; same_packets = IsPermutation-refl _; same_submitted = refl; same_most = refl; run = IsSame-refl _; adapter = reserves_none v };
+  stay = All-contains_itself (begun_of b v);
+  full = λ all. (refl, refl);
 }
 
 pub moves_then : (o m n : DeviceView) (xs ys : List DeviceLabel) → Moves o xs m → Moves m ys n → Moves o (xs ++ ys) n
@@ -360,6 +367,11 @@ releases_then b c d u v w h k = record {
   starts = h.starts ++ k.starts;
   only_starts = All-append IsStart h.starts k.starts h.only_starts k.only_starts;
   moves = moves_then _ _ _ h.starts k.starts h.moves k.moves;
+  stay = contains_through (begun_of b u) (begun_of c v) (begun_of d w) h.stay k.stay;
+  full = λ all.
+      let first = h.full all in
+      let second = k.full (subst (λ (x : AdapterView). x.depth ≤ length x.tags) (sym first.1) all) in
+      (second.0 ∙ first.0, second.1 ∙ first.1);
 }
 
 pub in_use_lower : (b : Books) (v : AdapterView) (tag : ℕ) → AreLowerInUse b v tag → Any (UseHasTag tag) v.tags → AreLowerInUse b v (tag + 1)

@@ -1,8 +1,9 @@
 -- A packet is taken in.
-use Rattle.std.proofs.Common.{◌≡◌, ◌<◌, ◌≤◌, ℕ, ◌+◌, Bool, true, List, [], ◌∷◌, ◌++◌, None, refl, sym, subst, ap, arith, map, length-append}
-use Rattle.std.specs.Prelude.{All, IsFalse, IsPermutation}
+use Rattle.std.proofs.Common.{◌≡◌, ◌<◌, ◌≤◌, ◌⊎◌, inl, inr, ℕ, ◌+◌, Bool, true, List, [], ◌∷◌, ◌++◌, None, refl, sym, subst, ap, arith, map, length, length-append}
+use Rattle.std.specs.Prelude.{All, Contains, IsFalse, IsPermutation}
+use Rattle.std.proofs.lemmas.Bool.{cases_lt}
 use Rattle.std.proofs.lemmas.List.{map-append, append_assoc}
-use Rattle.std.proofs.lemmas.List.Elements.{All-nil, All-cons, All-push, All-head, All-tail, All-weaker}
+use Rattle.std.proofs.lemmas.List.Elements.{All-nil, All-cons, All-push, All-head, All-tail, All-weaker, Contains-append_right}
 use Rattle.std.proofs.lemmas.List.Sorted.{IsPermutation-refl, IsPermutation-sym, IsPermutation-trans, IsPermutation-middle, All-permutation}
 use Rattle.adapter.specs.View.{AdapterView}
 use Rattle.irp.specs.declared.Irp.{Irp}
@@ -17,9 +18,10 @@ use Rattle.machine.proofs.Numbers.{AreDistinct-Admits}
 use Rattle.port.specs.declared.queues.Held.{Held}
 use Rattle.port.specs.Books.{held_with, Entry, Books, entry}
 use Rattle.port.specs.Turns.{Queued}
-use Rattle.port.specs.Shown.{rules_of, most, waiting_open, open_on, done_open, packet as packet_as, of_packets, of_waiting, of_tag, of_done, state_of, view_of}
-use Rattle.port.specs.Kept.{asked, PortKept, IsRoom, IsWaiting, IsBefore, AreInTurn}
-use Rattle.port.specs.Releases.{Releases}
+use Rattle.port.specs.Shown.{rules_of, most, waiting_open, open_on, done_open, packet as packet_as, of_packets, of_waiting, of_tag, of_done, state_of, view_of, requests_of}
+use Rattle.port.specs.Kept.{asked, PortKept, IsBusy, IsInHand, IsRoom, IsWaiting, IsBefore, AreInTurn}
+use Rattle.port.specs.Releases.{begun_of, Releases}
+use Rattle.port.proofs.Lists.{contains_behind}
 use Rattle.port.proofs.Sizing.{not_refused, carries_bytes}
 use Rattle.port.proofs.Starting.{kept_sector_some}
 use Rattle.port.proofs.Opening.{true_false}
@@ -115,9 +117,27 @@ kept_queued b v irp r spot rooms k m =
       labels = k.labels;
     }
 
-submits_queued : (b : Books) (v : AdapterView) (irp : Irp) (r : Request) (spot : ℕ) (rooms : List Request) (b' : Books) (v' : AdapterView) → PortKept b v (r ∷ rooms) → MayQueue b irp r
+-- with a tag free nothing waited; with none free nothing is started
+others_queued : (b : Books) (v : AdapterView) (irp : Irp) (r : Request) (spot : ℕ) (rooms : List Request) (b' : Books) (v' : AdapterView) → PortKept b v (r ∷ rooms) → MayQueue b irp r → IsBusy b v
+    → Releases (books_queued b irp r spot) v b' v' → All (Contains (requests_of b' v')) (requests_of b v)
+others_queued b v irp r spot rooms b' v' k m busy h = by_tags (cases_lt (length v.tags) v.depth)
+  where
+    by_tags : (length v.tags < v.depth) ⊎ (v.depth ≤ length v.tags) → All (Contains (requests_of b' v')) (requests_of b v)
+    by_tags (inl free) =
+        let waiting : List OpenRequest = map (waiting_open (rules_of b'.sizes)) b'.waiting in
+        let stay : All (Contains (requests_of b' v')) (begun_of b v) =
+        All-weaker (Contains (begun_of b' v')) (Contains (requests_of b' v')) (λ o c. Contains-append_right waiting (begun_of b' v') o c) (begun_of b v) h.stay in
+        subst (λ (hs : List Held). All (Contains (requests_of b' v')) (map (waiting_open (rules_of b.sizes)) hs ++ begun_of b v)) (sym (busy free)) stay
+    by_tags (inr full) =
+        let opens = opens_queued b v irp r spot rooms k m in
+        let same = h.full full in
+        subst (λ (x : Books). All (Contains (requests_of x v')) (requests_of b v)) (sym same.0)
+        (subst (λ (y : AdapterView). All (Contains (requests_of (books_queued b irp r spot) y)) (requests_of b v)) (sym same.1)
+        (contains_behind (requests_of b v) (requests_of (books_queued b irp r spot) v) _ opens.after.requests))
+
+submits_queued : (b : Books) (v : AdapterView) (irp : Irp) (r : Request) (spot : ℕ) (rooms : List Request) (b' : Books) (v' : AdapterView) → PortKept b v (r ∷ rooms) → MayQueue b irp r → IsBusy b v
     → Releases (books_queued b irp r spot) v b' v' → Submits (view_of b v) (packet_of irp spot) r irp.payload (view_of b' v')
-submits_queued b v irp r spot rooms b' v' k m h = record {
+submits_queued b v irp r spot rooms b' v' k m busy h = record {
   opened = state_of (books_queued b irp r spot) v;
   starts = h.starts;
   opens = opens_queued b v irp r spot rooms k m;
@@ -130,12 +150,13 @@ submits_queued b v irp r spot rooms b' v' k m h = record {
     run = h.moves.run;
     adapter = h.moves.adapter;
   };
+  others_stay = others_queued b v irp r spot rooms b' v' k m busy h;
 }
 
 -- as the queues say it
 pub queued_kept : (b : Books) (v : AdapterView) (irp : Irp) (r : Request) (spot : ℕ) (b' : Books) → Queued b irp r spot b' → MayQueue b irp r → (rooms : List Request) → PortKept b v (r ∷ rooms) → PortKept b' v rooms
 queued_kept b v irp r spot b' q m rooms k = subst (λ x. PortKept x v rooms) (sym q) (kept_queued b v irp r spot rooms k m)
 
-pub queued_submits : (b : Books) (v : AdapterView) (irp : Irp) (r : Request) (spot : ℕ) (rooms : List Request) (b' c : Books) (v' : AdapterView) → Queued b irp r spot b' → MayQueue b irp r → PortKept b v (r ∷ rooms)
+pub queued_submits : (b : Books) (v : AdapterView) (irp : Irp) (r : Request) (spot : ℕ) (rooms : List Request) (b' c : Books) (v' : AdapterView) → Queued b irp r spot b' → MayQueue b irp r → IsInHand b v (r ∷ rooms)
     → Releases b' v c v' → Submits (view_of b v) (packet_of irp spot) r irp.payload (view_of c v')
-queued_submits b v irp r spot rooms b' c v' q m k h = submits_queued b v irp r spot rooms c v' k m (subst (λ x. Releases x v c v') q h)
+queued_submits b v irp r spot rooms b' c v' q m k h = submits_queued b v irp r spot rooms c v' k.kept m k.busy (subst (λ x. Releases x v c v') q h)

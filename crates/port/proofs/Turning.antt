@@ -24,7 +24,7 @@ use Rattle.port.specs.declared.queues.Held.{Held}
 use Rattle.port.specs.Books.{Entry, Books, entry_of}
 use Rattle.port.specs.Turns.{held_on}
 use Rattle.port.specs.Shown.{rules_of, waiting_open, done_open, out_open, out_piece, open_on, piece_on, packet as packet_as, of_packets, of_waiting, of_done, state_of, view_of, requests_of}
-use Rattle.port.specs.Kept.{asked, PortKept, IsInHand, IsRoom, IsWaiting, IsAtWork, IsDoing}
+use Rattle.port.specs.Kept.{asked, PortKept, IsInHand, IsRoom, IsWaiting, IsEmptyIfFlush, IsAtWork, IsDoing}
 use Rattle.port.proofs.Lists.{second_front}
 use Rattle.adapter.proofs.Joining.{moves_one}
 use Rattle.port.proofs.Starting.{room_moves, waiting_moves, kept_sector_some}
@@ -43,6 +43,7 @@ record Turned (b : Books) (v : AdapterView) (tag : ℕ) (use' use'' : TagInUse) 
   held_is : held_on b.started tag ≡ Some held
   same_open : out_open (rules_of b.sizes) (entry_of held) use'' ≡ out_open (rules_of b.sizes) (entry_of held) use'
   doing : IsDoing (rules_of b.sizes) held.request use''.fate use''.srb
+  empty : IsEmptyIfFlush held.request use''.srb.data
   long : length sectors ≡ length v.sectors
 
 -- all of it, of an act or a fault
@@ -96,7 +97,7 @@ module _ (b : Books) (v : AdapterView) (tag : ℕ) (use' use'' : TagInUse) (othe
         waiting = All-weaker (IsWaiting rules v) (IsWaiting rules v') (waiting_moves rules v v' (λ extent r. r)) b.waiting k.waiting;
         in_turn = k.in_turn;
         at_work = All-permutation (IsAtWork rules b.started) _ _ (IsPermutation-sym _ _ h.in_use) (All-cons (IsAtWork rules b.started) use'' others
-            (record { held = held; on_tag = on_after h; bounded = work.0; doing = h.doing }) rest);
+            (record { held = held; on_tag = on_after h; bounded = work.0; doing = h.doing; empty = h.empty }) rest);
         ended = k.ended;
         reserved = All-permutation (IsRoom rules v') _ _ (IsPermutation-sym _ _ (packets_turned asked h)) (All-weaker (IsRoom rules v) (IsRoom rules v') (room_moves rules v v' (λ extent r. r)) (of_packets asked b v) k.reserved);
         rooms_out = All-weaker (IsRoom rules v) (IsRoom rules v') (room_moves rules v v' (λ extent r. r)) rooms k.rooms_out;
@@ -170,6 +171,7 @@ acted_all b v v' rooms tag piece bytes k space a order =
       held_is = w.1;
       same_open = ap (λ (bytes : List ℕ). record (out_open rules e a.use') { request = as_client rules held.request bytes }) c.sent;
       doing = (refl, c.parts, c.filled);
+      empty = c.empty;
       long = c.long;
     } in
     let step : Acts rules (state_of b v) piece bytes (state_of b x) = record {
@@ -209,6 +211,7 @@ faulted_all b v v' rooms tag piece k space a order =
     let w = on_tag_some rules b.started v.tags a.use' a.others tag k.at_work a.is_on.in_use a.is_on.has_tag in
     let held : Held = w.0 in
     let e : Entry = entry_of held in
+    let work = on_tag_work rules b.started v.tags a.use' a.others tag held k.at_work a.is_on.in_use a.is_on.has_tag w.1 in
     let label : DeviceLabel = Fault piece in
     let u : TagInUse = faulted a.use' in
     let x : AdapterView = view_turned v v.sectors a.tags a.failures label in
@@ -219,6 +222,7 @@ faulted_all b v v' rooms tag piece k space a order =
       held_is = w.1;
       same_open = refl;
       doing = tt;
+      empty = work.2;
       long = refl;
     } in
     let step : Faults (state_of b v) piece (state_of b x) = record {

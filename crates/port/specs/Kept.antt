@@ -1,12 +1,12 @@
 -- What the port keeps.
-use Rattle.std.specs.Prelude.{◌≡◌, ◌<◌, ◌≤◌, ◌+◌, ◌-◌, Bool, true, List, [], ◌∷◌, length, Option, Some, IsTrue, IsFalse, All}
+use Rattle.std.specs.Prelude.{◌≡◌, ◌<◌, ◌≤◌, ◌+◌, ◌-◌, ℕ, Bool, true, List, [], ◌∷◌, length, Option, Some, IsTrue, IsFalse, All}
 use Rattle.std.specs.List.{concat}
 use Rattle.srb.specs.declared.Srb.{Srb}
 use Rattle.srb.specs.declared.Class.TheVariants.{Good, Busy, Bad}
 use Rattle.srb.specs.Fate.{Fate, Fresh, Acted, Faulted, class_of}
 use Rattle.adapter.specs.View.{AdapterView, TagInUse, IsInOrder, IsReserved}
 use Rattle.irp.specs.declared.Payload.TheVariants.{Srb as Packed}
-use Rattle.machine.specs.declared.Kind.TheVariants.{Read, Write}
+use Rattle.machine.specs.declared.Kind.TheVariants.{Read, Write, Flush}
 use Rattle.machine.specs.declared.Request.{Request}
 use Rattle.machine.specs.Rules.{Rules}
 use Rattle.machine.specs.Numbers.{AreDistinct}
@@ -40,6 +40,10 @@ pub record IsWaiting (rules : Rules) (v : AdapterView) (held : Held) : Type 0 wh
   pub carries : Carries true rules held.request held.irp.payload
   pub not_cancelled : IsFalse held.irp.cancelled
 
+-- a flush has no bytes
+abbrev pub IsEmptyIfFlush : Request → List ℕ → Type 0
+IsEmptyIfFlush r bytes = r.kind ≡ Flush → bytes ≡ []
+
 -- each was submitted before those behind it
 abbrev pub IsBefore : Held → Held → Type 0
 IsBefore held other = held.irp.number < other.irp.number
@@ -62,6 +66,7 @@ pub record IsAtWork (rules : Rules) (started : List (Option Held)) (use' : TagIn
   pub on_tag : held_on started use'.tag ≡ Some held
   pub bounded : IsBounded rules held.request
   pub doing : IsDoing rules held.request use'.fate use'.srb
+  pub empty : IsEmptyIfFlush held.request use'.srb.data
 
 -- why a packet ended
 abbrev pub HasOutcome : Rules → Bool → Ended → Outcome → Type 0
@@ -77,6 +82,7 @@ HasOutcome rules removing d Gone = IsTrue removing
 pub record HasEnded (rules : Rules) (removing : Bool) (d : Ended) : Type 0 where
   pub bounded : IsBounded rules d.request
   pub why : HasOutcome rules removing d d.outcome
+  pub empty : IsEmptyIfFlush d.request (payload_bytes d.irp.payload)
 
 -- what a packet asks for
 abbrev pub asked : Entry → Request

@@ -20,4 +20,4 @@ returns-clause-rooms g c = λ rooms k.
 pub returns-clause-submits : goal.returns-clause-submits
 returns-clause-submits g c =
     let m : MayQueue (books_of c.args.self.now.queues) c.args.irp c.args.room.request = record { stays = c.requires.not_removing; number = c.requires.number; few = c.requires.few; not_cancelled = c.requires.not_cancelled; carries = c.requires.carries } in
-    queued_submits (books_of c.args.self.now.queues) (g.A.Adapter.view c.args.self.now.adapter) c.args.irp c.args.room.request c.push-spot.result _ _ _ _ c.push-spot.ensures m c.requires.in_order.1.kept c.start_waiting.ensures.releases
+    queued_submits (books_of c.args.self.now.queues) (g.A.Adapter.view c.args.self.now.adapter) c.args.irp c.args.room.request c.push-spot.result _ _ _ _ c.push-spot.ensures m c.requires.in_order.1 c.start_waiting.ensures.releases
