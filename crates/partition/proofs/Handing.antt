@@ -29,7 +29,7 @@ use Rattle.machine.specs.Numbers.{request_number}
 use Rattle.machine.proofs.Permuting.{flips}
 use Rattle.machine.proofs.Placed.{differ_first}
 use Rattle.device.specs.View.{DeviceView, Packet, IsOrderly, IsBounded, sent_bytes, packet_number}
-use Rattle.device.specs.Served.{HandsUp, IsBack}
+use Rattle.device.specs.Served.{HandsUp, StaysIfStarted, IsBack}
 use Rattle.partition.specs.Noted.{noted_in, asked}
 use Rattle.partition.specs.OnDisk.{rules_over, on_disk}
 use Rattle.partition.specs.Shown.{called, as_called, on_partitions, packet_above, view_of}
@@ -38,8 +38,8 @@ use Rattle.partition.proofs.Noted.{Contains-map, asked_behind, asked_same, asked
 use Rattle.partition.proofs.Steps.{Stands}
 use Rattle.partition.proofs.Alike.{AreNotedAlike}
 use Rattle.partition.proofs.Calls.{Answers-over}
-use Rattle.partition.proofs.Settled.{stands, packets_distinct}
-use Rattle.partition.proofs.Moving.{GoesOn, MovesOn, moves_on, numbered}
+use Rattle.partition.proofs.Settled.{stands, packets_distinct, each}
+use Rattle.partition.proofs.Moving.{GoesOn, MovesOn, moves_on, numbered, open_still}
 use Rattle.partition.proofs.Submitting.{carries_up}
 
 -- two requests that a client would make alike are the same
@@ -209,13 +209,18 @@ module _ (table : List Extent) (old new : DeviceView) (takes_srb : Bool) (k : Is
           carries = λ busy. carries_up old.rules table s.some_bytes s.whole takes_srb r h.payload (h.carries busy);
           brings = h.brings;
           filled = h.filled;
+          empty = h.empty;
           climbs =
               climbs_too over old.packets h.answers.request a.0.request (packet_above h.packet).above h.packet.number h.status h.payload
               climb' a.1 climbs;
           brings_routine = brings;
           only_starts = h.only_starts;
           moves = m.moves;
-          still = λ window none. h.still window none;
+          started_stay =
+              each old.rules table h.others (StaysIfStarted new.state) (StaysIfStarted (view_of table new).state)
+              (λ x stays started. open_still table from new h.moves.same_rules h.moves.same_packets (numbered new o') x (stays started))
+              h.answered.requests h.started_stay;
+          still = h.still;
         },
         record { on_disk = m.goes.on_disk; same_rules = m.goes.same_rules },
       )

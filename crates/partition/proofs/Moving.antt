@@ -1,6 +1,6 @@
 -- What the layer below does is what the partition driver shows.
-use Rattle.std.proofs.Common.{◌≡◌, inl, inr, ℕ, Bool, true, false, List, [], ◌∷◌, Option, Some, None, refl, sym, ◌∙◌, ap, subst, arith, map, get_or, eqb}
-use Rattle.std.specs.Prelude.{All, Contains, IsPermutation, MatchBool, ◌⊎◌}
+use Rattle.std.proofs.Common.{◌≡◌, inl, inr, ℕ, Bool, true, false, List, [], ◌∷◌, Option, Some, None, refl, sym, ◌∙◌, ap, subst, map, get_or, eqb}
+use Rattle.std.specs.Prelude.{All, Any, Contains, IsPermutation, MatchBool, ◌⊎◌}
 use Rattle.std.specs.List.{IsDistinct}
 use Rattle.std.proofs.lemmas.List.Sorted.{IsPermutation-sym, IsPermutation-map, All-permutation, Contains-permutation}
 use Rattle.std.proofs.lemmas.Map.Keys.{IsDistinct-IsPermutation}
@@ -20,11 +20,11 @@ use Rattle.machine.proofs.Permuting.{flips}
 use Rattle.machine.proofs.Placed.{ArePlaced-FreeStep, ArePlaced-Drains}
 use Rattle.machine.specs.declared.Label.TheVariants.{Cancel, Pause, Resume}
 use Rattle.device.specs.View.{DeviceView, Packet, IsOrderly, packet_number}
-use Rattle.device.specs.Served.{Moves, IsBeside, Reserves, IsFreshOn, ActsOrFaults, ActsNot, Finishes, FinishesNot, Resets, CancelsIfOpen, CancelsAt, HasOtherNumber, DrainsAll, PausesAll, ResumesAll, HandsUpNone, IsUnfinished, TakesLabel, NoneToCancel}
+use Rattle.device.specs.Served.{Moves, IsBeside, Reserves, IsFreshOn, ActsOrFaults, ActsNot, Finishes, FinishesNot, Resets, CancelsIfOpen, CancelsAt, IsAt, HasOtherNumber, DrainsAll, PausesAll, ResumesAll, HandsUpNone, AwaitsRestart, IsUnfinished, TakesLabel, NoneToCancel}
 use Rattle.machine.specs.Answering.{HasEnded}
 use Rattle.partition.specs.Noted.{asked}
 use Rattle.partition.specs.OnDisk.{rules_over}
-use Rattle.partition.specs.Shown.{as_called, on_partitions, packet_above, view_of}
+use Rattle.partition.specs.Shown.{called, as_called, on_partitions, packet_above, view_of}
 use Rattle.partition.specs.Opening.{IsWholeDisk}
 use Rattle.partition.specs.Kept.{ComesBack, LiesInside, IsOnDisk}
 use Rattle.partition.proofs.Noted.{Contains-map, from_map, asked_same}
@@ -74,6 +74,20 @@ pub lies_is : (table : List Extent) (rules rules' : Rules) (packets packets' : L
 lies_is table rules rules' packets packets' s same p h lie =
     subst (λ r. All (LiesInside (rules_over table r) packets') s.requests) (sym same)
     (lie_alike rules table packets packets' s.requests (noted_alike packets packets' s p h) lie)
+
+-- a request that is open below is open above, as its packet notes it
+pub open_still : (table : List Extent) (from new : DeviceView) → new.rules ≡ from.rules → IsPermutation new.packets from.packets
+    → AreNumbered new.packets new.state → (o : OpenRequest) → Contains new.state.requests o
+    → Contains (view_of table new).state.requests (as_called (rules_over table from.rules) from.packets o)
+open_still table from new same p numbers o is_open =
+    let alike : asked from.packets o.number ≡ asked new.packets o.number =
+    All-contains (λ x. asked from.packets x.number ≡ asked new.packets x.number) new.state.requests o
+    (noted_alike from.packets new.packets new.state p numbers) is_open in
+    let is : as_called (rules_over table from.rules) from.packets o ≡ as_called (rules_over table new.rules) new.packets o =
+    ap (λ r. record o { request = called (rules_over table from.rules) r o.request }) alike
+    ∙ ap (λ r. as_called (rules_over table r) new.packets o) (sym same) in
+    subst (λ x. Contains (view_of table new).state.requests x) (sym is)
+    (Contains-map (as_called (rules_over table new.rules) new.packets) new.state.requests o is_open)
 
 -- WHERE THE LAYER BELOW GOES
 
@@ -254,46 +268,58 @@ module _ (table : List Extent) (old new : DeviceView) (k : IsOnDisk table old) (
   abbrev pub CancelsOrNot : DeviceView → ℕ → DeviceView → Type 0
   CancelsOrNot v number v' = (Cancels v.state number v'.state × IsBeside v v') ⊎ (NoneToCancel v.state number × (v' ≡ v))
 
+  -- a request that was cancelled, or the view as it was
+  abbrev CancelsOrSame : DeviceView → ℕ → DeviceView → Type 0
+  CancelsOrSame v number v' = (Cancels v.state number v'.state × IsBeside v v') ⊎ (v' ≡ v)
+
+  cancelled_over : IsOrderly new → (number : ℕ) → Cancels old.state number new.state → IsBeside old new
+      → (Cancels shown.state number shown'.state × IsBeside shown shown') × GoesOn table old new
+  cancelled_over o' number c beside =
+      let cancels : Cancels shown.state number shown'.state =
+      subst (λ t. Cancels shown.state number t) (shown_is o' beside)
+      (Cancels-over old.rules table old.packets old.state number new.state c) in (
+        (cancels, beside_over beside),
+        goes_to o' beside (lie_cancelled old.rules table old.packets old.state number new.state k.requests c)
+            (ArePlaced-FreeStep old.rules old.state (Cancel number) new.state o.distinct k.placed c),
+      )
+
   pub cancels_over : IsOrderly new → (number : ℕ) → CancelsIfOpen old number new → CancelsIfOpen shown number shown' × GoesOn table old new
   cancels_over o' number h = by h.one_of
     where
       by : CancelsOrNot old number new → CancelsIfOpen shown number shown' × GoesOn table old new
-      by (inl (c, beside)) =
-          let cancels : Cancels shown.state number shown'.state =
-          subst (λ t. Cancels shown.state number t) (shown_is o' beside)
-          (Cancels-over old.rules table old.packets old.state number new.state c) in (
-            record { one_of = inl (cancels, beside_over beside) },
-            goes_to o' beside (lie_cancelled old.rules table old.packets old.state number new.state k.requests c)
-                (ArePlaced-FreeStep old.rules old.state (Cancel number) new.state o.distinct k.placed c),
-          )
+      by (inl (c, beside)) = let r = cancelled_over o' number c beside in (record { one_of = inl r.0 }, r.1)
       by (inr (none, same)) =
           (record { one_of = inr (none_over old.rules table old.packets old.state number none, shown_same same) }, goes_same same)
 
-  -- a request that can be cancelled has its packet
-  has_packet : (number : ℕ) → Cancels old.state number new.state → All (HasOtherNumber number) shown.packets → ⊥
-  has_packet number c gone =
-      let is_open : Contains old.state.requests c.request =
-      Contains-permutation _ _ c.request (IsPermutation-sym _ _ c.is_open) (0, omega arith, refl) in
-      let there : Contains (map packet_number old.packets) c.request.number =
-      Contains-permutation _ _ c.request.number (IsPermutation-sym _ _ o.packets)
-      (Contains-map request_number old.state.requests c.request is_open) in
-      found (from_map packet_number old.packets c.request.number there)
+  -- a packet keeps its spot and its number
+  at_below : (spot number : ℕ) → Any (IsAt spot number) shown.packets → Any (IsAt spot number) old.packets
+  at_below spot number (i, x, low, is, at) = by (from_map packet_above old.packets x (i, low, is))
     where
-      found : (packet : Packet) × Contains old.packets packet × (packet.number ≡ c.request.number) → ⊥
-      found (packet, is_in, same) =
-          All-contains (HasOtherNumber number) shown.packets (packet_above packet) gone (Contains-map packet_above old.packets packet is_in)
-          (same ∙ c.is_number)
+      by : (packet : Packet) × Contains old.packets packet × (packet_above packet ≡ x) → Any (IsAt spot number) old.packets
+      by (packet, (j, within, same), e) =
+          let there : IsAt spot number (packet_above packet) = subst (IsAt spot number) (sym e) at in
+          (j, packet, within, same, record { is_spot = there.is_spot; is_number = there.is_number })
 
-  -- what is cancelled by its number is cancelled wherever it stands
-  pub cancels_at_over : IsOrderly new → (spot number : ℕ) → CancelsIfOpen old number new
+  others_below : (number : ℕ) → All (HasOtherNumber number) shown.packets → All (HasOtherNumber number) old.packets
+  others_below number others = λ i d low.
+      All-contains (HasOtherNumber number) shown.packets (packet_above (get_or old.packets i d)) others
+      (Contains-map packet_above old.packets (get_or old.packets i d) (Contains-get_or old.packets i d low))
+
+  pub cancels_at_over : IsOrderly new → (spot number : ℕ) → CancelsAt old spot number new
       → CancelsAt shown spot number shown' × GoesOn table old new
   cancels_at_over o' spot number h =
-      let r : CancelsIfOpen shown number shown' × GoesOn table old new = cancels_over o' number h in
-      (record { there = λ there. r.0; gone = λ gone. by gone h.one_of }, r.1)
+      let r : CancelsOrSame shown number shown' × GoesOn table old new = by h.either in (
+        record {
+          there = λ at. (cancels_over o' number (h.there (at_below spot number at))).0;
+          gone = λ others. shown_same (h.gone (others_below number others));
+          either = r.0;
+        },
+        r.1,
+      )
     where
-      by : All (HasOtherNumber number) shown.packets → CancelsOrNot old number new → shown' ≡ shown
-      by gone (inl (c, beside)) = absurd (has_packet number c gone)
-      by gone (inr (none, same)) = shown_same same
+      by : CancelsOrSame old number new → CancelsOrSame shown number shown' × GoesOn table old new
+      by (inl (c, beside)) = let r = cancelled_over o' number c beside in (inl r.0, r.1)
+      by (inr same) = (inr (shown_same same), goes_same same)
 
   pub drains_over : IsOrderly new → DrainsAll old new → DrainsAll shown shown' × GoesOn table old new
   drains_over o' h = (
@@ -358,5 +384,7 @@ module _ (table : List Extent) (old new : DeviceView) (k : IsOnDisk table old) (
       still_unfinished : (o : OpenRequest) → IsUnfinished old.rules old.state o
           → IsUnfinished shown.rules shown.state (as_called shown.rules old.packets o)
       still_unfinished o unfinished ended =
+          let awaits : AwaitsRestart old.rules old.state o =
           unfinished (All-weaker (HasEnded shown.rules shown.state (as_called shown.rules old.packets o)) (HasEnded old.rules old.state o)
-          (ended_was old.rules table old.packets old.state o) o.marks ended)
+          (ended_was old.rules table old.packets old.state o) o.marks ended) in
+          record { in_pieces = awaits.in_pieces; not_cancelled = awaits.not_cancelled; not_removing = awaits.not_removing; back = awaits.back }

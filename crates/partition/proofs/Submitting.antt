@@ -1,6 +1,6 @@
 -- A packet is passed on to the layer below.
 use Rattle.std.proofs.Common.{◌≡◌, ◌<◌, ◌≤◌, ℕ, zero, suc, ◌+◌, ◌-◌, ◌*◌, ◌/◌, ◌^◌, Bool, true, false, List, [], ◌∷◌, ◌++◌, Some, refl, sym, ◌∙◌, ap, subst, arith, add-zero, length, take, ◌==◌, bit_and}
-use Rattle.std.specs.Prelude.{All, if◌then◌else◌}
+use Rattle.std.specs.Prelude.{All, Contains, if◌then◌else◌}
 use Rattle.std.proofs.Math.Nat.{mul-div_cancel}
 use Rattle.std.proofs.lemmas.List.Elements.{All-cons, All-head, All-tail}
 use Rattle.sector.specs.declared.Extent.{Extent}
@@ -19,22 +19,24 @@ use Rattle.machine.specs.Rules.{Rules, home, as_client}
 use Rattle.machine.specs.Calling.{Opens}
 use Rattle.machine.specs.Sending.{command_for, read_command, write_command}
 use Rattle.machine.specs.Solo.{all_places}
+use Rattle.machine.specs.State.{OpenRequest}
+use Rattle.machine.specs.Numbers.{IsGiven}
 use Rattle.machine.specs.Map.{IsPartition}
 use Rattle.device.specs.View.{DeviceView, Packet, IsOrderly, IsBounded, AsksInLocation, Carries, major_of, packet_of, sent_bytes, whole_command}
-use Rattle.device.specs.Served.{Submits}
+use Rattle.device.specs.Served.{StaysOpen, Submits}
 use Rattle.partition.specs.Noted.{noting, passed_on, kind_in, noted_in, asked}
 use Rattle.partition.specs.OnDisk.{rules_over, on_disk}
-use Rattle.partition.specs.Shown.{on_partitions, packet_above, view_of}
+use Rattle.partition.specs.Shown.{called, as_called, on_partitions, packet_above, view_of}
 use Rattle.partition.specs.Opening.{IsWholeDisk}
 use Rattle.partition.specs.declared.PartitionRoom.{PartitionRoom}
 use Rattle.partition.specs.Kept.{ComesBack, IsOnDisk, IsRoom, IsInHand}
 use Rattle.machine_laws.proofs.DiskMap.{count_at, home_at}
-use Rattle.partition.proofs.Noted.{asked_first, noted_at, front_is}
+use Rattle.partition.proofs.Noted.{asked_first, asked_behind, noted_at, front_is}
 use Rattle.partition.proofs.Steps.{Stands}
 use Rattle.partition.proofs.Calls.{Opens-over}
-use Rattle.partition.proofs.Settled.{stands}
+use Rattle.partition.proofs.Settled.{stands, each}
 use Rattle.partition.proofs.Hand.{first_fits}
-use Rattle.partition.proofs.Moving.{GoesOn, MovesOn, moves_on, numbered}
+use Rattle.partition.proofs.Moving.{GoesOn, MovesOn, moves_on, numbered, open_still}
 
 -- WHERE A REQUEST BEGINS
 
@@ -244,6 +246,26 @@ module _ (table : List Extent) (v : DeviceView) (takes_srb : Bool) (r below : Re
       (subst (λ p. Carries takes_srb v.rules (on_disk over r) p) (sym h.passed.kept.payload)
       (carries_down v.rules table k.some_bytes k.whole takes_srb r irp.payload h.carries))
 
+  -- the new packet has a number of its own, so the others note what they did
+  others_stay_over : (v' : DeviceView) (spot : ℕ) → IsOrderly v' → (s : Submits v (packet_of irp' spot) (on_disk over r) irp'.payload v')
+      → All (StaysOpen (view_of table v').state) (view_of table v).state.requests
+  others_stay_over v' spot o' s =
+      each v.rules table v.packets (λ o. IsGiven v.state.next_request o × StaysOpen v'.state o) (StaysOpen (view_of table v').state) one
+      v.state.requests (λ i d low. (h.orderly.distinct.given i d low, s.others_stay i d low))
+    where
+      one : (o : OpenRequest) → IsGiven v.state.next_request o × StaysOpen v'.state o
+          → StaysOpen (view_of table v').state (as_called over v.packets o)
+      one o (given, is_open) =
+          let packet : Packet = packet_of irp' spot in
+          let from : DeviceView = record v { state = s.opened; packets = packet ∷ v.packets; submitted = v.submitted + 1 } in
+          let same : asked (packet ∷ v.packets) o.number ≡ asked v.packets o.number =
+          asked_behind packet v.packets o.number (λ e. not_given o given e) in
+          subst (λ q. Contains (view_of table v').state.requests (record o { request = called over q o.request })) same
+          (open_still table from v' s.moves.same_rules s.moves.same_packets (numbered v' o') o is_open)
+        where
+          not_given : (o : OpenRequest) → IsGiven v.state.next_request o → irp'.number ≡ o.number → ⊥
+          not_given o given e = let n : v.state.next_request ≤ irp'.number = s.opens.new_number in absurd (omega arith)
+
   pub submits_over : (v' : DeviceView) (spot : ℕ) → IsOrderly v' → Submits v (packet_of irp' spot) below irp'.payload v'
       → Submits (view_of table v) (packet_of irp spot) r irp.payload (view_of table v') × GoesOn table v v'
   submits_over v' spot o' submits =
@@ -267,6 +289,7 @@ module _ (table : List Extent) (v : DeviceView) (takes_srb : Bool) (r below : Re
         opens = opened.0;
         only_starts = s.only_starts;
         moves = m.moves;
+        others_stay = others_stay_over v' spot o' s;
       } in (
         subst (λ payload. Submits (view_of table v) (packet_of irp spot) r payload (view_of table v')) h.passed.kept.payload
             (subst (λ q. Submits (view_of table v) q r irp'.payload (view_of table v'))

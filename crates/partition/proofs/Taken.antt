@@ -1,5 +1,5 @@
 -- What is cancelled above waits for its pieces alone exactly where it does below.
-use Rattle.std.proofs.Common.{◌<◌, ℕ, List, [], ◌∷◌, map}
+use Rattle.std.proofs.Common.{List, [], ◌∷◌, map}
 use Rattle.std.specs.Prelude.{All}
 use Rattle.std.proofs.lemmas.List.Elements.{All-nil, All-cons, All-head, All-tail}
 use Rattle.sector.specs.declared.Extent.{Extent}

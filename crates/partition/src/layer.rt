@@ -123,9 +123,8 @@ impl<D: Device> Device for Partitions<D> {
         self.device.cancel(number);
     }
 
-    /// By the number alone: where the spot isn't the packet's, the layer below leaves open what it does.
-    fn cancel_at(&mut self, _spot: usize, number: u128) {
-        self.device.cancel(number);
+    fn cancel_at(&mut self, spot: usize, number: u128) {
+        self.device.cancel_at(spot, number);
     }
 
     fn drain(&mut self) {

@@ -70,6 +70,9 @@ ended_at_removal rules removing d h = record { bounded = h.bounded; why = by_out
     by_outcome Withdrawn h = h
     by_outcome Gone h = refl
 
+gone_ended : (rules : Rules) (v : AdapterView) (held : Held) → IsWaiting rules v held → HasEnded rules true (gone held)
+gone_ended rules v held w = record { bounded = w.room.bounded; why = refl; empty = carries_empty rules held.request held.irp.payload w.carries }
+
 kept_drained : (b : Books) (v : AdapterView) (rooms : List Request) → PortKept b v rooms → PortKept (drained b) v rooms
 kept_drained b v rooms k =
     let rules : Rules = rules_of b.sizes in
@@ -86,7 +89,7 @@ kept_drained b v rooms k =
       at_work = k.at_work;
       ended = All-append (HasEnded rules true) b.done (map gone b.waiting)
           (All-weaker (HasEnded rules b.removing) (HasEnded rules true) (ended_at_removal rules b.removing) b.done k.ended)
-          (All-map (HasEnded rules true) gone b.waiting (All-weaker (IsWaiting rules v) (λ h. HasEnded rules true (gone h)) (λ h w. record { bounded = w.room.bounded; why = refl; empty = carries_empty rules h.request h.irp.payload w.carries }) b.waiting k.waiting));
+          (All-map (HasEnded rules true) gone b.waiting (All-weaker (IsWaiting rules v) (λ h. HasEnded rules true (gone h)) (gone_ended rules v) b.waiting k.waiting));
       reserved = All-permutation (IsRoom rules v) _ _ (IsPermutation-sym _ _ (packets_drained asked b v)) k.reserved;
       rooms_out = k.rooms_out;
       removing = λ _. refl;

@@ -70,7 +70,10 @@ pub on_tag_work : (rules : Rules) (started : List (Option Held)) (tags : List Ta
 on_tag_work rules started tags use' others tag held all p is on =
     let w : IsAtWork rules started use' = All-head (IsAtWork rules started) use' others (All-permutation (IsAtWork rules started) _ _ p all) in
     let same : w.held ≡ held = cc (w.on_tag, is, on) in
-    (subst (λ (h : Held). IsBounded rules h.request) same w.bounded, subst (λ (h : Held). IsDoing rules h.request use'.fate use'.srb) same w.doing, subst (λ (h : Held). IsEmptyIfFlush h.request use'.srb.data) same w.empty)
+    let bounded : IsBounded rules held.request = subst (λ (h : Held). IsBounded rules h.request) same w.bounded in
+    let doing : IsDoing rules held.request use'.fate use'.srb = subst (λ (h : Held). IsDoing rules h.request use'.fate use'.srb) same w.doing in
+    let empty : IsEmptyIfFlush held.request use'.srb.data = subst (λ (h : Held). IsEmptyIfFlush h.request use'.srb.data) same w.empty in
+    (bounded, doing, empty)
 
 pub on_tag_some : (rules : Rules) (started : List (Option Held)) (tags : List TagInUse) (use' : TagInUse) (others : List TagInUse) (tag : ℕ)
     → All (IsAtWork rules started) tags → IsPermutation tags (use' ∷ others) → use'.tag ≡ tag → (held : Held) × (held_on started tag ≡ Some held)

@@ -297,8 +297,11 @@ start_moves b v front rest tag srb packet tags' is same inside low free few p st
     adapter = moves_one v (view_started v tags' tag b.next_piece srb) tag (Start b.next_piece tag srb.block)
         (refl, record { srb = srb; has_block = refl; accepts = record { tags = tags'; is_free = free; below = low; in_use = p; after = refl } });
   };
-  stay = contains_behind (begun_of b v) (begun_of (books_started b rest tag packet) (view_started v tags' tag b.next_piece srb)) (out_open (rules_of b.sizes) (entry_of packet) (in_use_from v tag b.next_piece srb))
-      (IsPermutation-append_left (map (done_open (rules_of b.sizes)) b.done) _ _ (tags_started (out_open (rules_of b.sizes)) b.started tag packet (in_use_from v tag b.next_piece srb) v.tags tags' inside refl free p));
+  stay =
+      let rules : Rules = rules_of b.sizes in
+      let use' : TagInUse = in_use_from v tag b.next_piece srb in
+      contains_behind (begun_of b v) (begun_of (books_started b rest tag packet) (view_started v tags' tag b.next_piece srb)) (out_open rules (entry_of packet) use')
+      (IsPermutation-append_left (map (done_open rules) b.done) _ _ (tags_started (out_open rules) b.started tag packet use' v.tags tags' inside refl free p));
   full = λ all. absurd (omega arith);
 }
 
