@@ -1,12 +1,3 @@
-pub mod Shown
-pub mod Calls
-pub mod OnDisk
-pub mod Mbr
-pub mod Start
-pub mod Ordering
-pub mod Right
-pub mod Sound
-pub mod Runs
-pub mod Admitting
-pub mod Collecting
 pub mod Opening
+pub mod Right
+pub mod Runs

@@ -1,51 +1,56 @@
 -- Events carried out one after another, and what is promised of the labels that they show.
-use Rattle.std.specs.Prelude.{◌≡◌, ◌<◌, ◌≤◌, ◌⊎◌, ℕ, List, [], ◌∷◌, ◌++◌, None, length, take, IsTrue}
+use Rattle.std.specs.Prelude.{◌≡◌, ◌<◌, ◌≤◌, ◌⊎◌, ℕ, List, [], ◌∷◌, ◌++◌, None, All, length, take, IsTrue}
 use Rattle.std.specs.List.{concat}
 use Rattle.ntstatus.specs.declared.NtStatus.{NtStatus}
 use Rattle.ntstatus.specs.declared.NtStatus.TheVariants.{Success}
 use Rattle.machine.specs.declared.Kind.TheVariants.{Read, Write}
 use Rattle.machine.specs.declared.ClientRequest.{ClientRequest}
 use Rattle.machine.specs.declared.Label.{Label}
-use Rattle.machine.specs.declared.Label.TheVariants.{Call, Answer}
+use Rattle.machine.specs.declared.Label.TheVariants.{Call, Answer, Removed}
 use Rattle.machine.specs.Rules.{Rules, place_count}
 use Rattle.machine.specs.State.{State}
 use Rattle.machine.specs.Calling.{refusal}
 use Rattle.machine.specs.Sending.{sectors_at, array_at}
-use Rattle.machine.specs.Settled.{Settled}
+use Rattle.machine.specs.Settled.{Settled, IsFinished}
 use Rattle.machine.specs.Step.{Step, Run}
 use Rattle.machine.specs.Solo.{IsSolo, all_places}
 use Rattle.machine_laws.specs.SoloLaws.{WroteOrLeft}
 use Rattle.machine_laws.specs.Along.{Sometime}
+use Rattle.machine_laws.specs.EndLaws.{IsNotOfDevice}
 use Rattle.machine_laws.specs.Reached.{IsReached}
 use Rattle.machine_laws.specs.Sectors.{sector_at, WritesPartition, WritesSector}
 use Rattle.machine_laws.specs.WriteLaws.{IsWriteAt}
+use Rattle.io_manager.specs.Shown.{ManagerView}
+use Rattle.io_manager.specs.Inside.{KeepsOutside}
+use Rattle.io_manager.specs.Right.{FitsTogether}
 use Rattle.compose.specs.declared.Event.{Event}
 use Rattle.compose.specs.declared.Shown.{Shown}
 use Rattle.compose.specs.declared.RunStopped.{RunStopped}
-use Rattle.compose.specs.Shown.{StackView}
-use Rattle.compose.specs.Right.{IsRight, FitsTogether, KeepsOutside}
+use Rattle.compose.specs.Right.{IsRight}
 
 -- EVENTS
 
 -- a right step that leaves the stack settled and whole, and all its labels taken
-pub record Carries (old : StackView) (event : Event) (shown : Shown) (new : StackView) : Type 0 where
-  pub stepped : StackView
+pub record Carries (old : ManagerView) (event : Event) (shown : Shown) (new : ManagerView) : Type 0 where
+  pub stepped : ManagerView
   pub right : IsRight old event shown.reply stepped
   pub settled : Settled stepped.rules stepped.state
+  -- a removal with nothing open has ended
+  pub finished : IsFinished stepped.state
   -- read from the adapter
   pub whole : FitsTogether stepped
   pub labels : shown.labels.items ≡ stepped.labels
   pub taken : new ≡ record stepped { labels = [] }
 
 -- these events in order, each with what it showed
-abbrev pub CarriesAll : StackView → List Event → List Shown → StackView → Type 0
+abbrev pub CarriesAll : ManagerView → List Event → List Shown → ManagerView → Type 0
 CarriesAll old [] [] new = new ≡ old
-CarriesAll old (event ∷ events) (shown ∷ more) new = (mid : StackView) × Carries old event shown mid × CarriesAll mid events more new
+CarriesAll old (event ∷ events) (shown ∷ more) new = (mid : ManagerView) × Carries old event shown mid × CarriesAll mid events more new
 CarriesAll old [] (shown ∷ more) new = ⊥
 CarriesAll old (event ∷ events) [] new = ⊥
 
 -- the first of these events were carried out, and no more
-pub record StopsAfter (old : StackView) (events : List Event) (stopped : RunStopped) (new : StackView) : Type 0 where
+pub record StopsAfter (old : ManagerView) (events : List Event) (stopped : RunStopped) (new : ManagerView) : Type 0 where
   pub within : stopped.done ≤ length events
   pub carries : CarriesAll old (take stopped.done events) stopped.shown.items new
 
@@ -101,13 +106,24 @@ pub record ObeysLaws (rules : Rules) (s : State) (labels : List Label) (s' : Sta
   pub answered_writes : (number : ℕ) (q : ClientRequest) (status : NtStatus) (bytes : List ℕ) (before after : State) (h : IsOfRun rules s labels s' number q status bytes before after)
       → (p i : ℕ) → Sometime (WritesSector rules number p i) rules after h.last s' h.goes → ⊥
 
--- all that is shown is one run, which obeys the laws; and the sectors of no partition stay as they are
-pub record IsLawful (old : StackView) (shown : List Shown) (new : StackView) : Type 0 where
+-- once a removal has ended, before these labels or by one of them, no start, act, fault or return comes
+pub record IsQuietOnceRemoved (s : State) (labels : List Label) : Type 0 where
+  pub before : IsTrue s.removed → All IsNotOfDevice labels
+  pub among : (first last : List Label) → labels ≡ first ++ Removed ∷ last → All IsNotOfDevice last
+
+-- all that is shown is one run, which obeys the laws and leaves the device alone once it is removed; and the sectors of no partition
+-- stay as they are
+pub record IsLawful (old : ManagerView) (shown : List Shown) (new : ManagerView) : Type 0 where
   pub same_rules : new.rules ≡ old.rules
   pub run : Run old.rules old.state (labels_shown shown) new.state
   pub laws : ObeysLaws old.rules old.state (labels_shown shown) new.state
+  pub quiet : IsQuietOnceRemoved old.state (labels_shown shown)
   pub outside : KeepsOutside old.rules.partitions old.adapter new.adapter
 
 -- every run from a state that can be reached obeys the laws
 abbrev pub RunsObeyLaws : Type 0
 RunsObeyLaws = (rules : Rules) (s : State) (labels : List Label) (s' : State) → IsReached rules s → ObeysLaws rules s labels s'
+
+-- and leaves the device alone once it is removed
+abbrev pub RunsAreQuietOnceRemoved : Type 0
+RunsAreQuietOnceRemoved = (rules : Rules) (s : State) (labels : List Label) (s' : State) → IsReached rules s → Run rules s labels s' → IsQuietOnceRemoved s labels

@@ -1,39 +1,45 @@
 //! The stack over an adapter: what its user calls.
 
 ghost use Rattle.std.specs.Prelude.{◌≡◌, [], IfOk, IfErr, MatchResult};
-ghost use Rattle.machine.specs.Settled.{Settled};
-ghost use Rattle.compose.specs.Right.{IsRight, FitsTogether, TakesAnswer, TakesLabel as TakesFirst};
-ghost use Rattle.compose.specs.Opening.{IsFirstView};
+ghost use Rattle.machine.specs.Settled.{Settled, IsFinished};
+ghost use Rattle.probe.specs.Exchange.{IsIdle};
+ghost use Rattle.io_manager.specs.Right.{FitsTogether, TakesAnswer, TakesLabel as TakesFirst};
+ghost use Rattle.compose.specs.Right.{IsRight};
+ghost use Rattle.compose.specs.Opening.{IsFirstView, IsSpent};
 ghost use Rattle.compose.specs.Runs.{CarriesAll, IsLawful, StopsAfter};
-ghost use Rattle.compose.specs.Start.{IsIdle, IsSpent};
 
-use crate::io_manager::IoManager;
-use crate::sizing::prepare;
+use crate::events;
+use crate::start::manager_over;
 use crate::{Answer, Event, Reply, RunStopped, Settings, Shown, StartFault};
+use class_disk::Disk;
 use device::Label;
+use hold_filter::Filter;
+use io_manager::IoManager;
 use miniport::Adapter;
+use partition::Partitions;
 use port::Port;
 use std::alloc::Global;
 use std::marker::Model;
 
-/// The device stack of one disk, with its handles and requests.
+/// The device stack of one disk, with its handles and requests: partitions over a hold filter, the class driver of the
+/// disk, and a port.
 #[derive(Drop)]
 pub struct Stack<A: Adapter> {
-    manager: IoManager<Port<A>>,
+    manager: IoManager<Partitions<Filter<Disk<Port<A>>>>>,
 }
 
 impl<A: Adapter> Model for Stack<A> {
-    ghost use Rattle.compose.specs.Shown.{StackView};
+    ghost use Rattle.io_manager.specs.Shown.{ManagerView};
 
-    ghost Value = { StackView };
+    ghost Value = { ManagerView };
 
     ghost view = { λ s. s.manager };
 }
 
 impl<A: Adapter> Stack<A> {
-    /// A stack over an adapter that has accepted nothing, with the partition of the first table entry, if that is used.
-    /// It sends READ CAPACITY(10), where that can't tell the number of sectors READ CAPACITY(16) as well, and READ(10) of
-    /// sector 0, and takes their labels.
+    /// A stack over an adapter that has accepted nothing, with the partitions of the table in sector 0. It sends READ
+    /// CAPACITY(10), where that can't tell the number of sectors READ CAPACITY(16) as well, and READ(10) of sector 0, and
+    /// takes their labels.
     ///
     /// # Errors
     ///
@@ -53,14 +59,15 @@ impl<A: Adapter> Stack<A> {
     }
 
     /// Carries one event out; its labels and answers then wait to be taken. All labels of the step before have to be
-    /// taken. Only a read or a write takes memory, before anything is changed.
+    /// taken. Only a read, a write or a flush takes memory, before anything is changed.
     pub fn step(&mut self, alloc: Global, event: Event) -> Reply
         requires taken { self.old.labels ≡ [] }
         ensures right { IsRight self.old event result self.new }
         ensures settled { Settled self.new.rules self.new.state }
+        ensures finished { IsFinished self.new.state }
         ensures whole { FitsTogether self.new }
     {
-        self.manager.step(alloc, event)
+        events::step(&mut self.manager, alloc, event)
     }
 
     /// Takes the earliest label of the last step that was not taken yet.
@@ -90,31 +97,9 @@ impl<A: Adapter> Stack<A> {
         ensures lawful { MatchResult result (λ shown. IsLawful self.old shown.items self.new) (λ stopped. IsLawful self.old stopped.shown.items self.new) }
         ensures taken { self.new.labels ≡ [] }
         ensures settled { Settled self.new.rules self.new.state }
+        ensures finished { IsFinished self.new.state }
         ensures whole { FitsTogether self.new }
     {
-        self.manager.run(alloc, events)
+        events::run(&mut self.manager, alloc, events)
     }
-}
-
-/// A stack over an adapter that has accepted nothing. It sends READ CAPACITY(10), where that can't tell the number of
-/// sectors READ CAPACITY(16) as well, and READ(10) of sector 0, and takes their labels.
-///
-/// # Errors
-///
-/// [`StartFault::Settings`] just where a setting is out of range, before anything is sent; [`StartFault::Device`] where
-/// the adapter failed a command; [`StartFault::Mbr`] where the partition table is wrong; [`StartFault::NoMemory`]. The
-/// adapter is spent.
-fn manager_over<A: Adapter>(
-    alloc: Global,
-    mut adapter: A,
-    settings: Settings,
-) -> Result<IoManager<Port<A>>, StartFault>
-    requires idle { IsIdle (A.view adapter) }
-    requires unasked { (A.view adapter).accepted ≡ 0 }
-    ensures view { IfOk result (IsFirstView (A.view adapter) settings) }
-    ensures fault { IfErr result (λ fault. (spent : A) × IsSpent (A.view adapter) settings fault (A.view spent)) }
-{
-    let limits = prepare(alloc, &mut adapter, settings)?;
-    let port = Port::new(alloc, adapter)?;
-    Ok(IoManager::new(alloc, port, limits)?)
 }

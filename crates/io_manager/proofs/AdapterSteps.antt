@@ -1,20 +1,18 @@
 -- Acts, returns and resets of the adapter as steps of the manager.
-use Rattle.std.proofs.Common.{◌≡◌, inl, inr, ℕ, false, true, List, [], ◌∷◌, ◌++◌, refl, sym, ◌∙◌, ap, subst, map}
-use Rattle.std.specs.Prelude.{All}
+use Rattle.std.proofs.Common.{◌≡◌, ◌≢◌, ℕ, true, List, [], ◌∷◌, ◌++◌, refl, sym, ◌∙◌, ap, subst, map, length}
 use Rattle.std.proofs.lemmas.List.{append-nil}
-use Rattle.std.proofs.lemmas.List.Sorted.{IsPermutation-sym}
 use Rattle.std.proofs.lemmas.List.Elements.{All-append}
 use Rattle.slab.specs.Slab.{Slab}
 use Rattle.srb.specs.declared.DeviceLabel.{DeviceLabel}
-use Rattle.srb.specs.declared.DeviceLabel.TheVariants.{Start, Act as ActLabel, Fault, Return}
+use Rattle.srb.specs.declared.DeviceLabel.TheVariants.{Return}
 use Rattle.machine.specs.Rules.{Rules}
-use Rattle.machine.specs.State.{State, Piece}
-use Rattle.machine.specs.Step.{Run, as_label}
 use Rattle.machine.specs.Sending.{IsStart}
+use Rattle.machine.specs.Settled.{Settled}
 use Rattle.device.specs.View.{DeviceView}
 use Rattle.adapter.specs.View.{AdapterView, MovesByAll}
-use Rattle.device.specs.Served.{Resets, fault_of, IsActOrFault, Moves, ActsOrFaults, ActsNot, Finishes, FinishesNot, IsUnfinished}
+use Rattle.device.specs.Served.{Resets, fault_of, Moves, ActsOrFaults, ActsNot, Finishes, FinishesNot}
 use Rattle.machine.proofs.Same.{IsSame-refl}
+use Rattle.pnp.specs.declared.State.TheVariants.{Removing}
 use Rattle.io_manager.specs.declared.OpenHandle.{OpenHandle}
 use Rattle.io_manager.specs.declared.Limits.{Limits}
 use Rattle.io_manager.specs.declared.Reply.TheVariants.{Ok as OkReply, Ignored}
@@ -22,30 +20,16 @@ use Rattle.io_manager.specs.declared.tables.Tables.{Tables}
 use Rattle.io_manager.specs.Shown.{ManagerView}
 use Rattle.io_manager.specs.Inside.{KeepsOutside, AllWriteInside}
 use Rattle.io_manager.specs.Right.{Told, SameHandles, AdapterMoves, tells_nothing, IsRight, IsRightReset, IsRightBy, ActReplies, FinishReplies}
-use Rattle.io_manager.specs.Sound.{view_of, IsSound, IsAtRest, Collects, ManagerKept}
+use Rattle.io_manager.specs.Sound.{view_of, AsksInside, IsSound, TakesLabels, Collects, ManagerKept}
 use Rattle.io_manager.proofs.AdapterJoins.{labels_moved, reset_joined}
-use Rattle.io_manager.proofs.Outside.{noted_inside, reserves_inside}
-use Rattle.io_manager.proofs.Unfinished.{IsUnfinished-same}
+use Rattle.io_manager.proofs.Outside.{noted_inside}
+use Rattle.io_manager.proofs.Labelled.{act_settled, faults_settled, labels_collected}
+use Rattle.io_manager.proofs.Askings.{asks_same, as_many, run_keeps}
+use Rattle.io_manager.proofs.Fitted.{no_length}
 use Rattle.io_manager.proofs.Quiet.{IsRightBy-unmoved}
 use Rattle.io_manager.proofs.Righting.{IsServed, told_by, right_by, stays, have_partitions, IsSound-moves}
 use Rattle.io_manager.proofs.Stepping.{ManagerKept-collected}
 use Rattle.io_manager.proofs.Telling.{step_kept}
-
--- WHAT HAS NOT ENDED
-
--- an act or a fault ends no request
-pub unfinished_after : (rules : Rules) (number : ℕ) (label : DeviceLabel) (s s' : State) → IsActOrFault number label → Run rules s (as_label label ∷ []) s'
-    → All (IsUnfinished rules s) s.requests → All (IsUnfinished rules s') s'.requests
-unfinished_after rules number (ActLabel piece bytes) s s' told (mid, inl (free, step), run) h =
-    IsUnfinished-same rules mid s' run.removing run.requests
-    (IsUnfinished-same rules s mid (sym step.after.removing) (IsPermutation-sym _ _ step.after.requests) h)
-unfinished_after rules number (Fault piece) s s' told (mid, inl (free, step), run) h =
-    IsUnfinished-same rules mid s' run.removing run.requests
-    (IsUnfinished-same rules s mid (sym step.after.removing) (IsPermutation-sym _ _ step.after.requests) h)
-unfinished_after rules number (Start piece tag block) s s' told run h = absurd told
-unfinished_after rules number (Return piece class) s s' told run h = absurd told
-unfinished_after rules number (ActLabel piece bytes) s s' told (mid, inr none, run) h = absurd none
-unfinished_after rules number (Fault piece) s s' told (mid, inr none, run) h = absurd none
 
 -- A STEP WITHOUT LABELS OF ITS OWN
 
@@ -78,24 +62,32 @@ module _ (limits : Limits) (below : DeviceView) (tables : Tables) (old : Manager
   told_kept Row labels below1 limits' below2 tables2 moves same sound c row =
       step_kept limits below tables old kept shown Row [] labels below1 tables (served labels below1 moves) limits' below2 tables2 moves.adapter same sound c row
 
+  -- a device that moved on as it was asked lets no removal end
+  pub still_going : (labels : List DeviceLabel) (below1 : DeviceView) → Moves below labels below1 → tables.state ≡ Removing → below1.state.requests ≢ []
+  still_going labels below1 moves removing none =
+      kept.going removing
+      (let count : length below1.state.requests ≡ length below.state.requests = as_many below.state below1.state (asks_same _ _ (run_keeps below.rules below.state labels below1.state moves.run)) in
+      no_length below.state.requests (sym count ∙ ap length none))
+
   pub act_kept : (tag : ℕ) (below1 : DeviceView) (limits' : Limits) (below2 : DeviceView) (tables2 : Tables) → ActsOrFaults below tag below1 → limits' ≡ limits → IsSound limits' below2 tables2
-      → Collects below1 tables below2 tables2
+      → TakesLabels below1 tables below2 tables2
       → IsRight (ActReplies old tag OkReply (view_of limits' below2 tables2)) old (view_of limits' below2 tables2) × ManagerKept limits' below2 tables2
-  act_kept tag below1 limits' below2 tables2 acts same sound c =
-      let unfinished : All (IsUnfinished below1.rules below1.state) below1.state.requests =
-      subst (λ r. All (IsUnfinished r below1.state) below1.state.requests) (sym acts.moves.same_rules)
-      (unfinished_after below.rules acts.piece.number acts.label below.state below1.state acts.told acts.moves.run kept.rest.unfinished) in
-      told_kept (λ v new told. ActReplies v tag OkReply new told) (acts.label ∷ []) below1 limits' below2 tables2 acts.moves same sound c (
+  act_kept tag below1 limits' below2 tables2 acts same sound t =
+      let settled : Settled below1.rules below1.state =
+      subst (λ r. Settled r below1.state) (sym acts.moves.same_rules) (act_settled below.rules acts.piece.number acts.label below.state below1.state acts.told acts.moves.run kept.settled) in
+      told_kept (λ v new told. ActReplies v tag OkReply new told) (acts.label ∷ []) below1 limits' below2 tables2 acts.moves same sound
+      (labels_collected below1 tables below2 tables2 t settled (still_going (acts.label ∷ []) below1 acts.moves)) (
         record {
           piece = acts.piece;
           label = acts.label;
           fresh = record { is_out = acts.fresh.is_out; is_tag = acts.fresh.is_tag; is_fresh = acts.fresh.is_fresh };
           acts = acts.told;
           no_own = refl;
-          device = ap (λ starts. acts.label ∷ starts) (c.quiet unfinished).0;
+          device = refl;
+          ends_none = record { none_answered = refl; not_ended = refl };
           holders = refl;
         },
-        same_handles below1 below2 tables2 c,
+        same_handles below1 below2 tables2 (labels_collected below1 tables below2 tables2 t settled (still_going (acts.label ∷ []) below1 acts.moves)),
       )
 
   pub act_ignored : (tag : ℕ) (below' : DeviceView) → ActsNot below tag below' → IsRight (ActReplies old tag Ignored (view_of limits below' tables)) old (view_of limits below' tables)
@@ -143,13 +135,6 @@ module _ (limits : Limits) (below : DeviceView) (tables : Tables) (old : Manager
 
 -- A RESET
 
--- faults end no request
-faults_unfinished : (rules : Rules) (fresh : List Piece) (s s' : State) → Run rules s (map as_label (map fault_of fresh)) s' → All (IsUnfinished rules s) s.requests → All (IsUnfinished rules s') s'.requests
-faults_unfinished rules [] s s' run h = IsUnfinished-same rules s s' run.removing run.requests h
-faults_unfinished rules (piece ∷ fresh) s s' (mid, inl (free, step), run) h =
-    faults_unfinished rules fresh mid s' run (IsUnfinished-same rules s mid (sym step.after.removing) (IsPermutation-sym _ _ step.after.requests) h)
-faults_unfinished rules (piece ∷ fresh) s s' (mid, inr none, run) h = absurd none
-
 -- the tables stay sound
 pub reset_sound : (limits : Limits) (below : DeviceView) (tables : Tables) (below1 : DeviceView) → IsSound limits below tables → Resets below below1 → IsSound limits below1 tables
 reset_sound limits below tables below1 sound r =
@@ -191,43 +176,52 @@ module _ (limits : Limits) (below : DeviceView) (tables : Tables) (old : Manager
     same_untaken = refl;
   }
 
-  pub reset_kept : (limits' : Limits) (below2 : DeviceView) (tables2 : Tables) → limits' ≡ limits → IsSound limits' below2 tables2 → Collects below1 tables below2 tables2
+  reset_settled : Settled below1.rules below1.state
+  reset_settled =
+      subst (λ rules. Settled rules below1.state) (sym r.moves.same_rules)
+      (faults_settled below.rules r.fresh below.state below1.state r.moves.run kept.settled)
+
+  -- the faults alone are told
+  abbrev faulted : (below2 : DeviceView) (tables2 : Tables) → TakesLabels below1 tables below2 tables2 → Collects below1 tables below2 tables2
+  faulted below2 tables2 t =
+      labels_collected below1 tables below2 tables2 t reset_settled (still_going limits below tables old kept shown taken faults (record below1 { adapter = r.all_faulted }) r.moves)
+
+  pub reset_kept : (limits' : Limits) (below2 : DeviceView) (tables2 : Tables) → limits' ≡ limits → IsSound limits' below2 tables2 → TakesLabels below1 tables below2 tables2
       → IsRightReset old (view_of limits' below2 tables2) × ManagerKept limits' below2 tables2
-  reset_kept limits' below2 tables2 same sound c =
+  reset_kept limits' below2 tables2 same sound t =
       let sound' : IsSound limits below2 tables2 = subst (λ (l : Limits). IsSound l below2 tables2) same sound in
-      let unfinished : All (IsUnfinished below1.rules below1.state) below1.state.requests =
-      subst (λ rules. All (IsUnfinished rules below1.state) below1.state.requests) (sym r.moves.same_rules) (faults_unfinished below.rules r.fresh below.state below1.state r.moves.run kept.rest.unfinished) in
-      let none : c.starts ≡ [] = (c.quiet unfinished).0 in
-      let only : faults ++ c.starts ≡ faults = ap (λ starts. faults ++ starts) none ∙ append-nil faults in
-      let quiet : AdapterMoves false below1.adapter [] below2.adapter = subst (λ starts. AdapterMoves false below1.adapter starts below2.adapter) none c.adapter in
-      let joined : AdapterMoves true below.adapter (faults ++ c.starts) below2.adapter =
-      subst (λ labels. AdapterMoves true below.adapter labels below2.adapter) (sym only) (reset_joined below.adapter faults r.all_faulted below1.adapter below2.adapter r.moves.adapter r.noted quiet) in
+      let only : faults ++ [] ≡ faults = append-nil faults in
+      let joined : AdapterMoves true below.adapter (faults ++ []) below2.adapter =
+      subst (λ labels. AdapterMoves true below.adapter labels below2.adapter) (sym only)
+      (reset_joined below.adapter faults r.all_faulted below1.adapter below2.adapter r.moves.adapter r.noted (faulted below2 tables2 t).adapter) in
       let a : AllWriteInside below.rules.partitions r.all_faulted × KeepsOutside below.rules.partitions below.adapter r.all_faulted =
-      stays limits below tables [] faults below1 tables below2 tables2 reset_served c r.all_faulted kept.reached kept.rest.inside (subst (λ labels. MovesByAll below.adapter labels r.all_faulted) (sym only) r.moves.adapter) in
-      let b : AllWriteInside below.rules.partitions below1.adapter × KeepsOutside below.rules.partitions r.all_faulted below1.adapter = noted_inside below.rules.partitions r.all_faulted below1.adapter r.noted a.0 in
-      let d : AllWriteInside below.rules.partitions quiet.moved × KeepsOutside below.rules.partitions below1.adapter quiet.moved = reserves_inside below.rules.partitions below1.adapter quiet.moved quiet.moves b.0 in
-      let outside : KeepsOutside below.rules.partitions below.adapter quiet.moved = λ i apart. d.1 i apart ∙ b.1 i apart ∙ a.1 i apart in
-      let by : IsRightBy true (told_by limits below tables [] faults below1 tables below2 tables2 reset_served c) (view_of limits below tables) (view_of limits below2 tables2) =
-      right_by limits below tables [] faults below1 tables below2 tables2 reset_served c true joined (subst (KeepsOutside below.rules.partitions below.adapter) (sym quiet.taken) outside) sound'.in_state in
-      let rest : IsAtRest below2 = record {
-        unfinished = c.unfinished;
-        inside =
-            subst (λ (rules : Rules). AllWriteInside rules.partitions below2.adapter) (sym (c.same_rules ∙ r.moves.same_rules))
-            (subst (AllWriteInside below.rules.partitions) (sym quiet.taken) d.0);
-      } in
+      stays limits below tables [] faults below1 tables below2 tables2 reset_served (faulted below2 tables2 t) r.all_faulted kept.reached kept.inside
+      (subst (λ labels. MovesByAll below.adapter labels r.all_faulted) (sym only) r.moves.adapter) in
+      let b : AllWriteInside below.rules.partitions below1.adapter × KeepsOutside below.rules.partitions r.all_faulted below1.adapter =
+      noted_inside below.rules.partitions r.all_faulted below1.adapter r.noted a.0 in
+      let taken_are : below2.adapter ≡ record below1.adapter { labels = [] } = ap (λ (v : DeviceView). v.adapter) t.taken in
+      let outside : KeepsOutside below.rules.partitions below.adapter (record below1.adapter { labels = [] }) = λ i apart. b.1 i apart ∙ a.1 i apart in
+      let told : Told = told_by limits below tables [] faults below1 tables below2 tables2 reset_served (faulted below2 tables2 t) in
+      let by : IsRightBy true told (view_of limits below tables) (view_of limits below2 tables2) =
+      right_by limits below tables [] faults below1 tables below2 tables2 reset_served (faulted below2 tables2 t) true joined
+      (subst (KeepsOutside below.rules.partitions below.adapter) (sym taken_are) outside) sound'.in_state in
+      let inside : AsksInside below2 =
+      subst (λ (rules : Rules). AllWriteInside rules.partitions below2.adapter) (sym (ap (λ (v : DeviceView). v.rules) t.taken ∙ r.moves.same_rules))
+      (subst (AllWriteInside below.rules.partitions) (sym taken_are) b.0) in
       let right : IsRightReset (view_of limits below tables) (view_of limits below2 tables2) = record {
-        told = told_by limits below tables [] faults below1 tables below2 tables2 reset_served c;
+        told = told;
         replies = record {
           fresh = r.fresh;
           all_fresh = r.all_fresh;
           rising = r.rising;
           no_own = refl;
           device = only;
+          ends_none = record { none_answered = refl; not_ended = refl };
           holders = refl;
-          handles = same_handles limits below tables old kept shown taken below1 below2 tables2 c;
+          handles = same_handles limits below tables old kept shown taken below1 below2 tables2 (faulted below2 tables2 t);
         };
         by = by;
       } in (
         subst (λ (l : Limits). IsRightReset old (view_of l below2 tables2)) (sym same) (subst (λ v. IsRightReset v (view_of limits below2 tables2)) shown right),
-        ManagerKept-collected limits limits' below below1 below2 tables tables tables2 true right.told same kept by sound rest c,
+        ManagerKept-collected limits limits' below below1 below2 tables tables tables2 true right.told same kept by sound inside (faulted below2 tables2 t),
       )

@@ -1,5 +1,5 @@
 -- The tables stay sound when a request is opened and its packet goes down.
-use Rattle.std.proofs.Common.{◌≡◌, ◌≢◌, ◌<◌, ◌≤◌, ◌⊎◌, inl, inr, ℕ, ◌+◌, ◌*◌, ◌/◌, ◌^◌, Bool, true, false, List, ◌∷◌, Some, None, refl, sym, ◌∙◌, ap, subst, arith, length, map}
+use Rattle.std.proofs.Common.{◌≡◌, ◌≢◌, ◌<◌, ◌≤◌, ◌⊎◌, inl, inr, ℕ, ◌+◌, ◌*◌, ◌/◌, Bool, true, false, List, ◌∷◌, Some, None, refl, sym, ◌∙◌, ap, subst, arith, length, map}
 use Rattle.std.specs.Prelude.{IsTrue, IsFalse, All, Contains, is_some}
 use Rattle.std.specs.VecDeque.{deque_len, deque_capacity}
 use Rattle.std.proofs.lemmas.Bool.{cases_eq}
@@ -178,7 +178,7 @@ module _ (limits : Limits) (below : DeviceView) (tables : Tables) (q : ClientReq
   admitted_sound handle copies spot slot tables1 buffer below1 distinct buffers same_length place admits sends =
       subst (IsSound limits below1) (sym admits.after)
       (IsSound-moves limits (record below { state = sends.submits.opened; packets = sends.packet ∷ below.packets; submitted = below.submitted + 1 })
-      (record tables { next_request = tables.next_request + 1; requests = tables1.requests; labels = tables1.labels }) sends.submits.starts below1 opened sends.submits.moves)
+      (record tables { next_request = tables.next_request + 1; requests = tables1.requests; latest = tables1.latest; labels = tables1.labels }) sends.submits.starts below1 opened sends.submits.moves)
     where
       asked : ClientRequest
       asked = as_client below.rules (request_of limits.sector_size q) (sent_bytes q.kind sends.payload)
@@ -197,7 +197,7 @@ module _ (limits : Limits) (below : DeviceView) (tables : Tables) (q : ClientReq
           stays removing = let e : below.state.removing ≡ false = (taken_in over (view_of limits below tables).state q k.not_refused).staying in cc (e, removing)
 
       opened : IsSound limits (record below { state = sends.submits.opened; packets = sends.packet ∷ below.packets; submitted = below.submitted + 1 })
-          (record tables { next_request = tables.next_request + 1; requests = tables1.requests; labels = tables1.labels })
+          (record tables { next_request = tables.next_request + 1; requests = tables1.requests; latest = tables1.latest; labels = tables1.labels })
       opened =
           let last : tables.next_request < number_limit = numbers_last tables.next_request k.numbers_last in
           let rising : below.state.next_request ≤ tables.next_request = h.numbers.rising in
@@ -224,7 +224,7 @@ module _ (limits : Limits) (below : DeviceView) (tables : Tables) (q : ClientReq
               answered = h.places.answered;
               untaken = subst (λ count. deque_len tables.untaken + count ≤ deque_capacity tables.untaken) (sym counted) place;
               handles = h.places.handles;
-              requests = subst (λ capacity. (limits.open_requests ≤ capacity) × (capacity < 2 ^ 32)) (sym slots) h.places.requests;
+              requests = slots ∙ h.places.requests;
             };
             on_map = h.on_map;
             topmost = All-cons IsTopmost sends.packet below.packets sends.topmost h.topmost;

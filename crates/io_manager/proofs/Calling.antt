@@ -1,5 +1,5 @@
 -- An admitted call, and one turned away for want of memory, are right steps.
-use Rattle.std.proofs.Common.{◌≡◌, ◌≢◌, ◌≤◌, inl, inr, ℕ, ◌+◌, Bool, false, List, [], ◌∷◌, ◌++◌, Some, None, refl, sym, ◌∙◌, ap, subst, arith}
+use Rattle.std.proofs.Common.{◌≡◌, ◌≢◌, ◌<◌, ◌≤◌, inl, inr, ℕ, ◌+◌, Bool, false, List, [], ◌∷◌, ◌++◌, Some, None, refl, sym, ◌∙◌, ap, subst, arith}
 use Rattle.std.specs.Prelude.{All, option_map}
 use Rattle.std.proofs.lemmas.List.Sorted.{All-permutation, IsPermutation-sym}
 use Rattle.std.specs.VecDeque.{deque_len, deque_capacity}
@@ -33,7 +33,7 @@ use Rattle.io_manager.specs.declared.tables.Tables.{Tables}
 use Rattle.io_manager.specs.Shown.{ManagerView, Holder}
 use Rattle.io_manager.specs.Calls.{bytes_called, call_on, without_bytes}
 use Rattle.io_manager.specs.Right.{tells_nothing, IsRight, IsRightBy, CallReplies}
-use Rattle.io_manager.specs.Sound.{rules_of, shown_state, is_gone, holder_of, view_of, WasGiven, AreApart, IsInState, IsSound, IsAtRest, Collects, ManagerKept}
+use Rattle.io_manager.specs.Sound.{rules_of, shown_state, is_gone, holder_of, view_of, WasGiven, AreApart, IsInState, IsSound, AsksInside, Collects, ManagerKept}
 use Rattle.io_manager.specs.Admitting.{request_of, HasCopies, Admits, KeepsAnswers, SendsDown, IsSent, IsAdmissible}
 use Rattle.io_manager.proofs.Refusing.{Calls-opened}
 use Rattle.io_manager.proofs.Righting.{IsServed, told_by, IsRightBy-served, have_partitions}
@@ -74,8 +74,8 @@ reserved_sound limits below tables below' tables' h reserves keeps =
       apart = subst (AreApart tables.requests) (sym keeps.same_untaken) h.apart;
     }))
 
-reserved_rest : (below below' : DeviceView) → IsAtRest below → Reserves below below' → IsAtRest below'
-reserved_rest below below' h reserves = subst IsAtRest (sym reserves.same) (record { unfinished = h.unfinished; inside = h.inside })
+reserved_inside : (below below' : DeviceView) → AsksInside below → Reserves below below' → AsksInside below'
+reserved_inside below below' h reserves = subst AsksInside (sym reserves.same) h
 
 more_reserved : (below below' : DeviceView) → Reserves below below' → ReservesMore below.adapter (record below.adapter { reserved = below'.adapter.reserved })
 more_reserved below below' reserves = subst (ReservesMore below.adapter) (ap (λ (b : DeviceView). b.adapter) reserves.same) reserves.adapter
@@ -211,10 +211,10 @@ module _ (limits : Limits) (below : DeviceView) (tables : Tables) (handle : Hand
 
     admitted_right : (below2 : DeviceView) (tables2 : Tables) (id : Id) → id.slot ≡ slot → id.number ≡ tables'.next_request
         → (c : Collects below1 tables1 below2 tables2) → IsInState tables2.state below2.state
-        → IsRight (CallReplies view handle called buffer (Requested id) (view_of limits below2 tables2)) view (view_of limits below2 tables2) × IsAtRest below2
+        → IsRight (CallReplies view handle called buffer (Requested id) (view_of limits below2 tables2)) view (view_of limits below2 tables2) × AsksInside below2
     admitted_right below2 tables2 id same_slot same_number c in_state =
-        let both : IsRightBy false (told_by limits below tables own sends.submits.starts below1 tables1 below2 tables2 is_served c) view (view_of limits below2 tables2) × IsAtRest below2 =
-        IsRightBy-served limits below tables own sends.submits.starts below1 tables1 below2 tables2 is_served c kept.reached kept.rest moves_all in_state in (
+        let both : IsRightBy false (told_by limits below tables own sends.submits.starts below1 tables1 below2 tables2 is_served c) view (view_of limits below2 tables2) × AsksInside below2 =
+        IsRightBy-served limits below tables own sends.submits.starts below1 tables1 below2 tables2 is_served c kept.reached kept.inside moves_all in_state in (
           record {
             told = told_by limits below tables own sends.submits.starts below1 tables1 below2 tables2 is_served c;
             replies = record {
@@ -225,6 +225,7 @@ module _ (limits : Limits) (below : DeviceView) (tables : Tables) (handle : Hand
                 own = ap (λ n. Call n told_request ∷ []) (sym number_is) ∙ ap (λ r. Call id.number r ∷ []) told_is;
                 only_starts = All-append IsStart sends.submits.starts c.starts sends.submits.only_starts c.only_starts;
                 was_free = get_or-map (option_map holder_of) tables.requests.slots id.slot None ∙ ap (option_map holder_of) (ap (get tables.requests) same_slot ∙ admits.was_free);
+                in_range = subst (λ n. id.slot < n) kept.sound.places.requests (subst (λ n. n < tables.requests.capacity) (sym same_slot) admits.in_range);
                 holds = record {
                   there =
                       get_or-map (option_map holder_of) tables1.requests.slots id.slot None
@@ -272,7 +273,7 @@ module _ (limits : Limits) (below : DeviceView) (tables : Tables) (old : Manager
       turned_away limits below tables handle q buffer kept admissible told is_called below' tables' reply reserves unless_write keeps is_reply in
       subst (λ (l : Limits). Row old reply (view_of l below' tables') × ManagerKept l below' tables') (sym same) (
         subst (λ v. Row v reply (view_of limits below' tables')) shown right,
-        ManagerKept-reserved limits below below' tables tables' right.told kept right.by reserves (reserved_sound limits below tables below' tables' kept.sound reserves keeps) (reserved_rest below below' kept.rest reserves)
+        ManagerKept-reserved limits below below' tables tables' right.told kept right.by reserves (reserved_sound limits below tables below' tables' kept.sound reserves keeps) (reserved_inside below below' kept.inside reserves)
             (ap (λ (t : Tables). t.state) keeps.after),
       )
 
@@ -283,7 +284,7 @@ module _ (limits : Limits) (below : DeviceView) (tables : Tables) (old : Manager
       → IsRight (CallReplies old handle (call_on old handle q.kind q.offset buffer q.through) buffer (Requested id) (view_of limits' below3 tables3)) old (view_of limits' below3 tables3) × ManagerKept limits' below3 tables3
   admitted_kept below1 tables1 copies below2 tables2 limits' below3 tables3 id reserves keeps buffers sent number same sound collects =
       let sound' : IsSound limits below3 tables3 = subst (λ (l : Limits). IsSound l below3 tables3) same sound in
-      let both : Row (view_of limits below tables) (Requested id) (view_of limits below3 tables3) × IsAtRest below3 =
+      let both : Row (view_of limits below tables) (Requested id) (view_of limits below3 tables3) × AsksInside below3 =
       admitted_right limits below tables handle q buffer kept admissible told is_called below1 tables1 copies sent.spot id.slot below2 tables2 reserves keeps buffers sent.admits sent.sends
       below3 tables3 id refl number collects sound'.in_state in (
         subst (λ (l : Limits). Row old (Requested id) (view_of l below3 tables3)) (sym same) (subst (λ v. Row v (Requested id) (view_of limits below3 tables3)) shown both.0),

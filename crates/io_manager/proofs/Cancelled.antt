@@ -1,6 +1,6 @@
 -- Cancellations as steps of the manager.
-use Rattle.std.proofs.Common.{◌≡◌, ◌≢◌, inl, inr, ℕ, Bool, true, false, not, [], ◌∷◌, ◌++◌, Option, Some, None, refl, sym, ◌∙◌, ap, subst, map}
-use Rattle.std.specs.Prelude.{All, Contains, option_map, slice_index_or, is_some, if◌then◌else◌}
+use Rattle.std.proofs.Common.{◌≡◌, ◌≢◌, inl, inr, ℕ, Bool, true, false, not, List, [], ◌∷◌, ◌++◌, Option, Some, None, refl, sym, ◌∙◌, ap, subst, map}
+use Rattle.std.specs.Prelude.{Contains, option_map, slice_index_or, is_some, if◌then◌else◌}
 use Rattle.std.proofs.lemmas.Bool.{cases_eq}
 use Rattle.std.proofs.lemmas.List.Elements.{All-weaker, All-contains}
 use Rattle.slab.specs.Slab.{Slab, get, Updates as SlabUpdates}
@@ -9,7 +9,6 @@ use Rattle.adapter.proofs.Joining.{reserves_none}
 use Rattle.machine.specs.declared.Label.TheVariants.{Cancel}
 use Rattle.machine.specs.Rules.{Rules}
 use Rattle.machine.specs.State.{OpenRequest as OpenBelow}
-use Rattle.machine.specs.Sending.{IsStart}
 use Rattle.machine.specs.Holding.{Cancels}
 use Rattle.machine.specs.Step.{Run}
 use Rattle.machine.proofs.Same.{IsSame-refl}
@@ -30,7 +29,9 @@ use Rattle.io_manager.specs.Cancelling.{HasSome, HasNoneOf, IsOpenAt, IsNotOpenA
 use Rattle.io_manager.specs.Collecting.{IsAt, HasNone}
 use Rattle.io_manager.specs.Shown.{ManagerView, Holder}
 use Rattle.io_manager.specs.Right.{Told, SameHandles, RefusesAlone, tells_nothing, as_cancel, IsHandleOpen, IsToCancel, CancelsAllOf, CancelsOne, HasTarget, HasOtherNumber, CloseReplies, CancelReplies, MarkReplies, IsRight}
-use Rattle.io_manager.specs.Sound.{rules_of, shown_state, is_gone, holder_of, view_of, IsHeldAt, IsOnMap, IsSound, Collects, ManagerKept}
+use Rattle.io_manager.specs.Sound.{rules_of, shown_state, is_gone, holder_of, view_of, IsHeldAt, IsOnMap, IsSound, HasNoneToStart, Collects, ManagerKept}
+use Rattle.io_manager.proofs.KeptBack.{settled_none, all_cancelled_none}
+use Rattle.io_manager.proofs.Timely.{reached_timely}
 use Rattle.io_manager.proofs.Marking.{IsBelow, held_below, holders_same}
 use Rattle.io_manager.proofs.Over.{cancel_over, cancels_over}
 use Rattle.io_manager.proofs.Quiet.{IsRightBy-unmoved}
@@ -106,6 +107,13 @@ module _ (limits : Limits) (below : DeviceView) (tables : Tables) (old : Manager
   not_recorded : (below1 : DeviceView) → IsBeside below below1 → below1.adapter.labels ≡ []
   not_recorded below1 beside = ap (λ (a : AdapterView). a.labels) beside.same_adapter ∙ kept.none_recorded
 
+  none_before : HasNoneToStart below.rules below.state
+  none_before = settled_none below.rules below.state kept.settled (reached_timely over view.state kept.reached)
+
+  -- with some cancelled none is left to start
+  none_to_start : (below1 : DeviceView) → IsBeside below below1 → (numbers : List ℕ) → Run below.rules below.state (map as_cancel numbers) below1.state → HasNoneToStart below1.rules below1.state
+  none_to_start below1 beside numbers run = subst (λ r. HasNoneToStart r below1.state) (sym beside.same_rules) (all_cancelled_none below.rules numbers below.state below1.state run none_before)
+
   -- the entry of an open request
   entry_is : (o : OpenBelow) (slot : ℕ) (r : OpenRequest) → Contains below.state.requests o → get tables.requests slot ≡ Some r → r.number ≡ o.number → r.cancelled ≡ o.cancelled
   entry_is o slot r is_open there number =
@@ -141,14 +149,14 @@ module _ (limits : Limits) (below : DeviceView) (tables : Tables) (old : Manager
           | inr marked ↦ subst (Contains h.numbers) is_number marked.1
         ]
 
-    cancels_row : (told : Told) → told.own ≡ map as_cancel h.numbers → All IsStart told.device → told.admitted ≡ view.holders → CancelsAllOf view handle told
-    cancels_row told own only holders = record {
+    cancels_row : (told : Told) → told.own ≡ map as_cancel h.numbers → told.device ≡ [] → told.admitted ≡ view.holders → CancelsAllOf view handle told
+    cancels_row told own none holders = record {
       numbers = h.numbers;
       own = own;
       rising = h.rising;
       each = All-weaker (IsUnmarked tables.requests handle) (IsToCancel view handle) to_cancel h.numbers h.each;
       all = is_told;
-      only_starts = only;
+      no_device = none;
       holders = holders;
     }
 
@@ -181,7 +189,7 @@ module _ (limits : Limits) (below : DeviceView) (tables : Tables) (old : Manager
           → IsRight (Row old (view_of limits' below2 tables2)) old (view_of limits' below2 tables2) × ManagerKept limits' below2 tables2
       all_kept Row limits' below2 tables2 same' sound c row =
           step_kept limits below tables old kept shown Row (map as_cancel h.numbers) [] below1 tables1' all_served limits' below2 tables2 (still below1 h.beside) same' sound c
-          (row _ (cancels_row _ refl c.only_starts (ap (λ (t : Tables). (view_of limits below t).holders) same ∙ h.same_holders)))
+          (row _ (cancels_row _ refl (c.quiet (none_to_start below1 h.beside h.numbers h.run)) (ap (λ (t : Tables). (view_of limits below t).holders) same ∙ h.same_holders)))
 
   -- a close
   pub close_kept : (handle : Handle) (below1 : DeviceView) (tables1 : Tables) → IsHandleOpen view handle → CancelsAll below tables handle.number below1 tables1 → IsSound limits below1 tables1 → HasNoneToMark tables1.requests handle.number
@@ -265,13 +273,13 @@ module _ (limits : Limits) (below : DeviceView) (tables : Tables) (old : Manager
     b : IsBelow below.state.requests request
     b = held_below tables.requests below.state.requests kept.sound.held slot request there
 
-    one_row : (told : Told) → told.own ≡ (if request.cancelled then [] else Cancel request.number ∷ []) → All IsStart told.device → told.admitted ≡ view.holders → CancelsOne view request.number told
-    one_row told own only holders = record {
+    one_row : (told : Told) → told.own ≡ (if request.cancelled then [] else Cancel request.number ∷ []) → told.device ≡ [] → told.admitted ≡ view.holders → CancelsOne view request.number told
+    one_row told own none holders = record {
       request = b.open';
       is_open = b.is_open;
       is_number = b.same_number;
       own = own ∙ ap (λ marked. if marked then [] else Cancel request.number ∷ []) (sym b.same_cancelled);
-      only_starts = only;
+      no_device = none;
       holders = holders;
     }
 
@@ -293,7 +301,7 @@ module _ (limits : Limits) (below : DeviceView) (tables : Tables) (old : Manager
         → IsRight (Row old (view_of limits' below2 tables2)) old (view_of limits' below2 tables2) × ManagerKept limits' below2 tables2
     marked_kept marked limits' below2 tables2 same sound c =
         step_kept limits below tables old kept shown Row [] [] below tables marked_served limits' below2 tables2 (reserves_none below.adapter) same sound c
-        (row _ _ (one_row _ (ap (λ m. if m then [] else Cancel request.number ∷ []) (sym marked)) c.only_starts refl) (same_handles below below2 tables tables2 refl refl c))
+        (row _ _ (one_row _ (ap (λ m. if m then [] else Cancel request.number ∷ []) (sym marked)) (c.quiet none_before) refl) (same_handles below below2 tables tables2 refl refl c))
 
     module _ (below1 : DeviceView) (tables1 : Tables) (s : CancelsSlot below tables slot below1 tables1) (sound1 : IsSound limits below1 tables1) where
       is_request : s.marks.request ≡ request
@@ -301,6 +309,9 @@ module _ (limits : Limits) (below : DeviceView) (tables : Tables) (old : Manager
 
       number_is : s.place.number ≡ request.number
       number_is = ap (λ (p : Place). p.number) s.marks.is_place ∙ ap (λ (r : OpenRequest). r.number) is_request
+
+      slot_run : Run below.rules below.state (map as_cancel (request.number ∷ [])) below1.state
+      slot_run = (below1.state, inl (kept.settled.none_owed, subst (λ m. Cancels below.state m below1.state) number_is s.cancels), IsSame-refl below1.state)
 
       slot_served : IsServed limits below tables (Cancel request.number ∷ []) [] below1 tables1
       slot_served = record {
@@ -326,7 +337,7 @@ module _ (limits : Limits) (below : DeviceView) (tables : Tables) (old : Manager
       slot_kept limits' below2 tables2 same sound c =
           let not_yet : request.cancelled ≡ false = ap (λ (r : OpenRequest). r.cancelled) (sym is_request) ∙ s.marks.not_yet in
           step_kept limits below tables old kept shown Row (Cancel request.number ∷ []) [] below1 tables1 slot_served limits' below2 tables2 (still below1 s.beside) same sound c
-          (row _ _ (one_row _ (ap (λ m. if m then [] else Cancel request.number ∷ []) (sym not_yet)) c.only_starts (holders_same tables.requests tables1.requests slot s.marks.request s.marks.there s.marks.slots_are))
+          (row _ _ (one_row _ (ap (λ m. if m then [] else Cancel request.number ∷ []) (sym not_yet)) (c.quiet (none_to_start below1 s.beside (request.number ∷ []) slot_run)) (holders_same tables.requests tables1.requests slot s.marks.request s.marks.there s.marks.slots_are))
           (same_handles below1 below2 tables1 tables2 (ap (λ (t : Tables). t.handles) s.marks.after) (ap (λ (t : Tables). t.next_handle) s.marks.after) c))
 
     pub one_kept : (below1 : DeviceView) (tables1 : Tables) → CancelsUnlessMarked below tables slot below1 tables1 → IsSound limits below1 tables1

@@ -17,9 +17,9 @@ use Rattle.machine.specs.Rules.{Rules}
 use Rattle.machine.specs.State.{OpenRequest as OpenBelow, State}
 use Rattle.machine.specs.Answering.{AnswersWith, information}
 use Rattle.machine.specs.Numbers.{AreDistinct, HavePlaces, request_number}
-use Rattle.device.specs.View.{DeviceView, payload_bytes}
+use Rattle.device.specs.View.{DeviceView, IsOrderly, payload_bytes}
 use Rattle.machine.specs.Sending.{IsStart}
-use Rattle.device.specs.Served.{HandsUp, IsUnfinished}
+use Rattle.device.specs.Served.{HandsUp}
 use Rattle.machine.specs.Settled.{Settled}
 use Rattle.machine.specs.Step.{Run, as_label}
 use Rattle.machine.proofs.Permuting.{distinct_first}
@@ -38,7 +38,7 @@ use Rattle.io_manager.proofs.Askings.{KeepsAsked, KeepsAsked-same, KeepsAsked-tr
 use Rattle.io_manager.proofs.Closing.{held_at, only_there, is_ended, is_given, brings, kept_slot, kept_number, AreHeld-less}
 use Rattle.io_manager.proofs.Inserting.{unless_one_more}
 use Rattle.io_manager.proofs.Fitted.{FitsBelow-same, no_length, IsInState-fewer}
-use Rattle.io_manager.proofs.Unfinished.{none_answered}
+use Rattle.io_manager.proofs.NoneToStart.{handed_still}
 use Rattle.io_manager.proofs.Ordering.{Run-collected, inserted_is, inserted_rises}
 
 module _ (takes_srb : Bool) (old new : DeviceView) (request : Request) (done : Done) (t t' : Tables) (h : HandsUp takes_srb old request (Finished done) new) (k : AreHeld t.requests old.state.requests) (c : Closes t done t') where
@@ -65,8 +65,8 @@ module _ (takes_srb : Bool) (old new : DeviceView) (request : Request) (done : D
       let R : List ℕ → Type 0 = λ b. AnswersWith old.rules old.state h.packet.number h.status (information h.answers.request.request h.status) b h.answered in
       subst P (sym h.climbs.number_is) (subst Q (sym h.climbs.status_is) (subst I (sym h.climbs.information_is) (subst R bytes_are answered_with)))
 
-  pub takes_ended : TakesEnded old t new t'
-  takes_ended =
+  pub takes_ended : IsOrderly old → IsOrderly new → TakesEnded old t new t'
+  takes_ended order order' =
       let before : length (h.packet ∷ h.others) ≡ length old.packets = length_permutation _ _ h.is_in in
       let after : length h.others ≡ length new.packets = length_permutation _ _ h.moves.same_packets in
       record {
@@ -80,6 +80,7 @@ module _ (takes_srb : Bool) (old new : DeviceView) (request : Request) (done : D
         run = h.moves.run;
         adapter = h.moves.adapter;
         fewer = omega arith;
+        quiet = λ none. handed_still takes_srb old new request (Finished done) h order order' none;
       }
 
   -- WHAT HOLDS AFTER IT
@@ -222,7 +223,7 @@ gathers_none below tables none = record {
   same_next_request = refl;
   same_state = refl;
   places = record { labels = refl; answered = refl; untaken = refl; handles = refl; requests = refl };
-  quiet = λ unfinished. (refl, refl, none);
+  quiet = λ still. (refl, still);
 }
   where
     unless_none : (slot : Option Holder) → unless_answered [] slot ≡ slot
@@ -305,12 +306,8 @@ module _ (below mid new : DeviceView) (first t t' : Tables) (g : Gathers below f
     same_next_request = e.closes.same_next_request ∙ g.same_next_request;
     same_state = e.closes.same_state ∙ g.same_state;
     places = SamePlaces-trans first t t' g.places e.closes.places;
-    quiet = λ unfinished. absurd (not_quiet (subst (λ v. All (IsUnfinished v.rules v.state) v.state.requests) (sym (g.quiet unfinished).0) unfinished));
+    quiet = λ none. (ap (λ xs. xs ++ e.starts) (g.quiet none).0 ∙ (e.quiet (g.quiet none).1).0, (e.quiet (g.quiet none).1).1);
   }
-    where
-      -- the request that was taken had ended
-      not_quiet : All (IsUnfinished mid.rules mid.state) mid.state.requests → ⊥
-      not_quiet unfinished = none_answered mid.rules mid.state _ _ _ _ unfinished e.answers.answers
 
 -- WHAT IS TOLD OF IT
 
@@ -342,10 +339,10 @@ module _ (below mid new : DeviceView) (first t t' t'' : Tables) (g : Gathers bel
   requests_are : t''.requests ≡ t.requests
   requests_are = ap (λ (x : Tables). x.requests) e.after ∙ ap (λ (x : Tables). x.requests) kept
 
-  pub collects : Settled mid.rules mid.state → All (IsUnfinished mid.rules mid.state) mid.state.requests → AreHeld t.requests mid.state.requests
+  pub collects : Settled mid.rules mid.state → AreHeld t.requests mid.state.requests
       → deque_capacity t'.labels ≡ deque_capacity t.labels → deque_capacity t'.answered ≡ deque_capacity t.answered
       → t'.labels.items ≡ (t.labels.items ++ map as_label mid.adapter.labels) ++ map as_answer t.answered.items → Collects below first new t''
-  collects settled unfinished held label_places answer_places labels = record {
+  collects settled held label_places answer_places labels = record {
     starts = g.starts;
     answers = t.answered.items;
     ends = e.ends;
@@ -372,8 +369,7 @@ module _ (below mid new : DeviceView) (first t t' t'' : Tables) (g : Gathers bel
         });
     removal = subst (λ p. EndsIf e.ends p new.state t''.state) g.same_state (removal_of mid new t t' t'' taken kept e held);
     settled = subst (λ (v : DeviceView). Settled v.rules v.state) (sym taken) settled;
-    quiet = λ nothing. ((g.quiet nothing).1, (g.quiet nothing).2);
-    unfinished = subst (λ (v : DeviceView). All (IsUnfinished v.rules v.state) v.state.requests) (sym taken) unfinished;
+    quiet = λ none. (g.quiet none).0;
   }
 
 -- the state after it is in order

@@ -3,7 +3,11 @@ pub mod Inserting
 pub mod Lowest
 pub mod Over
 pub mod Askings
-pub mod Unfinished
+pub mod Starting
+pub mod NoneToStart
+pub mod Labelled
+pub mod Timely
+pub mod KeptBack
 pub mod AdapterJoins
 pub mod Outside
 pub mod Quiet

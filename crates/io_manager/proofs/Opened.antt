@@ -13,7 +13,6 @@ use Rattle.pnp.specs.declared.State.{State as PnpState}
 use Rattle.pnp.specs.declared.State.TheVariants.{Started, Removing}
 use Rattle.machine.specs.Settled.{Settled, IsHeld, WaitsIfCancelled, Waits, IsAllSent, IsHeldBack, HasMore, IsAtWork, IsWithin}
 use Rattle.device.specs.View.{DeviceView, IsOrderly, piece_on_tag, use_on_tag}
-use Rattle.device.specs.Served.{IsUnfinished}
 use Rattle.machine.proofs.Same.{IsSame-refl}
 use Rattle.machine_laws.specs.Reached.{AreWhole, IsReached}
 use Rattle.io_manager.specs.declared.Limits.{Limits}
@@ -135,10 +134,7 @@ module _ (limits : Limits) (below : DeviceView) (tables : Tables) (orderly : IsO
   pub ManagerKept-opening : ManagerKept limits below tables
   ManagerKept-opening = record {
     sound = sound;
-    rest = record {
-      unfinished = at_first (λ (s : State). All (IsUnfinished below.rules s) s.requests) (All-nil (IsUnfinished below.rules (opening arrays)));
-      inside = subst (All (WritesInside below.rules.partitions)) (sym no_tags) (All-nil (WritesInside below.rules.partitions));
-    };
+    inside = subst (All (WritesInside below.rules.partitions)) (sym no_tags) (All-nil (WritesInside below.rules.partitions));
     settled = at_first (Settled below.rules) (settled_opening below.rules arrays);
     going = λ removing none. let e : Started ≡ Removing = sym empty.started ∙ removing in cc (e);
     none_recorded = unasked.no_labels;

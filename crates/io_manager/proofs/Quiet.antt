@@ -17,7 +17,7 @@ use Rattle.io_manager.specs.declared.OpenHandle.{OpenHandle}
 use Rattle.io_manager.specs.Shown.{ManagerView, Holder}
 use Rattle.io_manager.specs.Right.{Told, tells_nothing, unless_answered, IsRightBy}
 
-none_answered : (holder : Option Holder) → holder ≡ unless_answered [] holder
+pub none_answered : (holder : Option Holder) → holder ≡ unless_answered [] holder
 none_answered None = refl
 none_answered (Some holder) = refl
 

@@ -5,10 +5,8 @@ use Rattle.std.proofs.Common.{◌≡◌, ◌⊎◌, ◌≤◌, Result, Ok, Err, 
 use Rattle.std.specs.Prelude.{IsPermutation, IsTrue, IsFalse, All, if◌then◌else◌}
 use Rattle.std.specs.VecDeque.{deque_capacity}
 use Rattle.std.proofs.lemmas.List.Sorted.{IsPermutation-sym, IsPermutation-refl, IsPermutation-map, All-permutation}
-use Rattle.std.proofs.lemmas.List.Elements.{All-head, All-append, All-map, All-weaker}
-use Rattle.std.proofs.lemmas.List.{map-id}
+use Rattle.std.proofs.lemmas.List.Elements.{All-head, All-append}
 use Rattle.slab.specs.Slab.{Slab}
-use Rattle.ntstatus.specs.declared.NtStatus.TheVariants.{DeletePending, NoSuchDevice}
 use Rattle.srb.specs.declared.DeviceLabel.{DeviceLabel}
 use Rattle.srb.specs.declared.DeviceLabel.TheVariants.{Start, Act, Fault, Return}
 use Rattle.adapter.specs.View.{AdapterView, MovesByAll}
@@ -16,14 +14,13 @@ use Rattle.adapter.proofs.Joining.{reserves_none}
 use Rattle.machine.specs.declared.Label.{Label}
 use Rattle.machine.specs.declared.Label.TheVariants.{Pause, Resume, Remove, Surprise}
 use Rattle.machine.specs.Rules.{Rules}
-use Rattle.machine.specs.State.{Mark, Untouched, Out, Done, Failed, Back, OpenRequest, State, IsSame}
+use Rattle.machine.specs.State.{OpenRequest, State, IsSame}
 use Rattle.machine.specs.Sending.{IsStart}
-use Rattle.machine.specs.Answering.{HasEnded}
 use Rattle.machine.specs.Holding.{beyond, held_back, as_timely}
 use Rattle.machine.specs.Step.{FreeStep, Run, as_label}
 use Rattle.machine.proofs.Same.{IsSame-refl}
 use Rattle.device.specs.View.{DeviceView}
-use Rattle.device.specs.Served.{IsBeside, IsUnfinished, PausesAll, ResumesAll, DrainsAll}
+use Rattle.device.specs.Served.{IsBeside, PausesAll, ResumesAll, DrainsAll}
 use Rattle.pnp.specs.declared.State.{State as PnpState}
 use Rattle.pnp.specs.declared.State.TheVariants.{Started, RemovePending, Removing, Removed}
 use Rattle.pnp.specs.Table.{Event, QueryRemove, CancelRemove, Remove as RemoveDevice, SurpriseRemove, next}
@@ -35,10 +32,11 @@ use Rattle.io_manager.specs.declared.Reply.TheVariants.{Ok as OkReply, Refused}
 use Rattle.io_manager.specs.declared.tables.Tables.{Tables}
 use Rattle.io_manager.specs.Shown.{ManagerView}
 use Rattle.io_manager.specs.Right.{Told, SameHandles, tells_nothing, TellsOne, pnp_state, IsInvalid, IsRecalled, PnpReplies, RecallReplies, IsRight}
-use Rattle.io_manager.specs.Sound.{rules_of, shown_state, is_gone, view_of, IsTopmost, IsSpotted, IsInState, IsSound, Collects, ManagerKept}
+use Rattle.io_manager.specs.Sound.{rules_of, shown_state, is_gone, view_of, IsTopmost, IsSpotted, IsInState, IsSound, HasNoneToStart, Collects, ManagerKept}
 use Rattle.io_manager.proofs.AdapterJoins.{labels_moved}
 use Rattle.io_manager.proofs.Askings.{AsksSame, asked, AreHeld-along}
 use Rattle.io_manager.proofs.Fitted.{FitsBelow-same}
+use Rattle.io_manager.proofs.KeptBack.{paused_none}
 use Rattle.io_manager.proofs.Over.{shown_same}
 use Rattle.io_manager.proofs.Quiet.{IsRightBy-unmoved}
 use Rattle.io_manager.proofs.Righting.{IsServed, have_partitions, IsSound-moves}
@@ -75,27 +73,6 @@ asks_as s s' requests p same next_request = record {
 drained_asked : (paused : Bool) (window : Option ℕ) (xs : List OpenRequest) → map asked (if paused then xs else held_back window xs) ≡ map asked xs
 drained_asked true window xs = refl
 drained_asked false window xs = held_back_asked window xs
-
--- WHAT HAS NOT ENDED
-
--- a request that differs in being late has ended where the other has
-still_ended : (rules : Rules) (s t : State) (o o' : OpenRequest) → t.removing ≡ s.removing → o'.cancelled ≡ o.cancelled → o'.busy_returns ≡ o.busy_returns → (mark : Mark) → HasEnded rules t o' mark → HasEnded rules s o mark
-still_ended rules s t o o' removing cancelled busy mark (inl done) = inl done
-still_ended rules s t o o' removing cancelled busy (Failed failure) (inr (status, h)) = inr (status, h)
-still_ended rules s t o o' removing cancelled busy Out (inr (status, h)) = absurd h
-still_ended rules s t o o' removing cancelled busy (Done sector) (inr (status, h)) = absurd h
-still_ended rules s t o o' removing cancelled busy Untouched (inr (status, inl gone)) = inr (status, inl (subst IsTrue cancelled gone.0, gone.1))
-still_ended rules s t o o' removing cancelled busy Untouched (inr (status, inr gone)) = inr ((if o.late then DeletePending else NoSuchDevice), inr (subst IsTrue removing gone.0, refl))
-still_ended rules s t o o' removing cancelled busy Back (inr (status, inl (inl gone))) = inr (status, inl (inl (subst IsTrue cancelled gone.0, gone.1)))
-still_ended rules s t o o' removing cancelled busy Back (inr (status, inl (inr gone))) = inr ((if o.late then DeletePending else NoSuchDevice), inl (inr (subst IsTrue removing gone.0, refl)))
-still_ended rules s t o o' removing cancelled busy Back (inr (status, inr (many, is))) = inr (status, inr (rw (← busy) many, is))
-
-late_unfinished : (rules : Rules) (s t : State) (f : OpenRequest → OpenRequest) → t.removing ≡ s.removing → ((o : OpenRequest) → (f o).cancelled ≡ o.cancelled) → ((o : OpenRequest) → (f o).busy_returns ≡ o.busy_returns)
-    → ((o : OpenRequest) → (f o).marks ≡ o.marks) → (xs : List OpenRequest) → All (IsUnfinished rules s) xs → All (IsUnfinished rules t) (map f xs)
-late_unfinished rules s t f removing cancelled busy marks xs h =
-    All-map (IsUnfinished rules t) f xs
-    (All-weaker (IsUnfinished rules s) (λ o. IsUnfinished rules t (f o))
-    (λ o unfinished over. unfinished (subst (All (HasEnded rules s o)) (marks o) (All-weaker (HasEnded rules t (f o)) (HasEnded rules s o) (still_ended rules s t o (f o) removing (cancelled o) (busy o)) (f o).marks over))) xs h)
 
 -- NOTHING STARTS WHILE REMOVING
 
@@ -231,21 +208,15 @@ module _ (limits : Limits) (below : DeviceView) (tables : Tables) (old : Manager
     pub query_sound : IsSound limits below1 tables1
     query_sound = beside_sound limits below below1 tables tables1 RemovePending Pause kept.sound pauses.beside paused_asks (pauses.pauses.after.paused, subst IsFalse (sym pauses.pauses.after.removing) pauses.pauses.not_removing) moved
 
-    unfinished : All (IsUnfinished below1.rules below1.state) below1.state.requests
-    unfinished =
-        subst (λ r. All (IsUnfinished r below1.state) below1.state.requests) (sym pauses.beside.same_rules)
-        (All-permutation (IsUnfinished below.rules below1.state) _ _ (IsPermutation-sym _ _ pauses.pauses.after.requests) (by_window below.rules.window))
-      where
-        by_window : (window : Option ℕ) → All (IsUnfinished below.rules below1.state) (held_back window below.state.requests)
-        by_window None = subst (All (IsUnfinished below.rules below1.state)) (map-id below.state.requests) (late_unfinished below.rules below.state below1.state (λ o. o) pauses.pauses.after.removing (λ o. refl) (λ o. refl) (λ o. refl) below.state.requests kept.rest.unfinished)
-        by_window (Some window) = late_unfinished below.rules below.state below1.state (beyond window below.state.requests) pauses.pauses.after.removing (λ o. refl) (λ o. refl) (λ o. refl) below.state.requests kept.rest.unfinished
+    none_to_start : HasNoneToStart below1.rules below1.state
+    none_to_start = subst (λ r. HasNoneToStart r below1.state) (sym pauses.beside.same_rules) (paused_none below.rules below.state below1.state pauses.pauses kept.settled)
 
     pub query_kept : (limits' : Limits) (below2 : DeviceView) (tables2 : Tables) → limits' ≡ limits → IsSound limits' below2 tables2 → Collects below1 tables1 below2 tables2
         → IsRight (PnpReplies old QueryRemove RemovePending Pause OkReply (view_of limits' below2 tables2)) old (view_of limits' below2 tables2) × ManagerKept limits' below2 tables2
     query_kept limits' below2 tables2 same sound c =
         valid_kept RemovePending Pause tables1 moved (ap is_gone was) refl QueryRemove below1 limits' below2 tables2 (ap (next QueryRemove) was) pauses.beside
         (record { not_paused = pauses.pauses.not_paused; not_removing = pauses.pauses.not_removing; after = shown_same tables.next_request false below1.state _ pauses.pauses.after })
-        paused_asks same sound c (c.quiet unfinished).0
+        paused_asks same sound c (c.quiet none_to_start)
 
   -- REMOVE
 

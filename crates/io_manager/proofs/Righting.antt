@@ -24,7 +24,7 @@ use Rattle.io_manager.specs.declared.tables.OpenRequest.{OpenRequest as OpenEntr
 use Rattle.io_manager.specs.declared.tables.Tables.{Tables}
 use Rattle.io_manager.specs.Inside.{KeepsOutside, AllWriteInside}
 use Rattle.io_manager.specs.Right.{as_answer, labels_of, end_labels, Told, AdapterMoves, IsRightBy, unless_answered}
-use Rattle.io_manager.specs.Sound.{rules_of, shown_state, is_gone, holder_of, holders_of, view_of, IsHeldAt, AreHeld, IsTopmost, IsSpotted, IsInState, EndsIf, IsSound, IsAtRest, Collects}
+use Rattle.io_manager.specs.Sound.{rules_of, shown_state, is_gone, holder_of, holders_of, view_of, IsHeldAt, AreHeld, IsTopmost, IsSpotted, IsInState, EndsIf, IsSound, AsksInside, Collects}
 use Rattle.io_manager.proofs.Over.{labels_over, answers_over}
 use Rattle.io_manager.proofs.Ordering.{Run-split}
 use Rattle.io_manager.proofs.Outside.{HasPartition, stays_inside}
@@ -178,14 +178,11 @@ module _ (limits : Limits) (below : DeviceView) (tables : Tables) (own : List La
       (IsSound-Run over _ own (shown1 h.opened) (IsSound-reached over _ reached) h.run) h.given device_over moves inside
 
   -- as it moved without a reset
-  pub IsRightBy-served : IsReached over (view_of limits below tables).state → IsAtRest below → MovesByAll below.adapter labels below1.adapter → IsInState tables2.state below2.state
-      → IsRightBy false told_by (view_of limits below tables) (view_of limits below2 tables2) × IsAtRest below2
-  IsRightBy-served reached rest moves k =
+  pub IsRightBy-served : IsReached over (view_of limits below tables).state → AsksInside below → MovesByAll below.adapter labels below1.adapter → IsInState tables2.state below2.state
+      → IsRightBy false told_by (view_of limits below tables) (view_of limits below2 tables2) × AsksInside below2
+  IsRightBy-served reached inside moves k =
       let joined : AdapterMoves false below.adapter (labels ++ c.starts) below2.adapter = taken_joined below.adapter labels below1.adapter c.starts below2.adapter moves c.adapter in
-      let both : AllWriteInside below.rules.partitions joined.moved × KeepsOutside below.rules.partitions below.adapter joined.moved = stays joined.moved reached rest.inside joined.moves in (
+      let both : AllWriteInside below.rules.partitions joined.moved × KeepsOutside below.rules.partitions below.adapter joined.moved = stays joined.moved reached inside joined.moves in (
         right_by false joined (subst (KeepsOutside below.rules.partitions below.adapter) (sym joined.taken) both.1) k,
-        record {
-          unfinished = c.unfinished;
-          inside = subst (λ (r : Rules). AllWriteInside r.partitions below2.adapter) (sym same_rules) (subst (AllWriteInside below.rules.partitions) (sym joined.taken) both.0);
-        },
+        subst (λ (r : Rules). AllWriteInside r.partitions below2.adapter) (sym same_rules) (subst (AllWriteInside below.rules.partitions) (sym joined.taken) both.0),
       )

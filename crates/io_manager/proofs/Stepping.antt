@@ -19,7 +19,7 @@ use Rattle.io_manager.specs.declared.tables.OpenRequest.{OpenRequest as OpenEntr
 use Rattle.io_manager.specs.declared.tables.Tables.{Tables}
 use Rattle.io_manager.specs.Shown.{ManagerView, Holder}
 use Rattle.io_manager.specs.Right.{Told, HasSlot, IsRightBy, FitsTogether}
-use Rattle.io_manager.specs.Sound.{rules_of, is_gone, holder_of, holders_of, view_of, IsHeldAt, IsInState, EndsIf, IsSound, IsAtRest, Collects, ManagerKept}
+use Rattle.io_manager.specs.Sound.{rules_of, is_gone, holder_of, holders_of, view_of, IsHeldAt, IsInState, EndsIf, IsSound, AsksInside, Collects, ManagerKept}
 use Rattle.io_manager.proofs.Over.{settled_over, read_over}
 
 -- THE SLOTS OF OPEN REQUESTS
@@ -104,7 +104,7 @@ pub ManagerKept-still : (limits : Limits) (below : DeviceView) (tables tables' :
     → IsSound limits below tables' → tables'.state ≡ tables.state → ManagerKept limits below tables'
 ManagerKept-still limits below tables tables' told kept by sound same = record {
   sound = sound;
-  rest = kept.rest;
+  inside = kept.inside;
   settled = kept.settled;
   going = λ removing. kept.going (sym same ∙ removing);
   none_recorded = kept.none_recorded;
@@ -113,10 +113,10 @@ ManagerKept-still limits below tables tables' told kept by sound same = record {
 
 -- where the device made room and no more
 pub ManagerKept-reserved : (limits : Limits) (below below' : DeviceView) (tables tables' : Tables) (told : Told) → ManagerKept limits below tables → IsRightBy false told (view_of limits below tables) (view_of limits below' tables')
-    → Reserves below below' → IsSound limits below' tables' → IsAtRest below' → tables'.state ≡ tables.state → ManagerKept limits below' tables'
-ManagerKept-reserved limits below below' tables tables' told kept by reserves sound rest same = record {
+    → Reserves below below' → IsSound limits below' tables' → AsksInside below' → tables'.state ≡ tables.state → ManagerKept limits below' tables'
+ManagerKept-reserved limits below below' tables tables' told kept by reserves sound inside same = record {
   sound = sound;
-  rest = rest;
+  inside = inside;
   settled = subst (λ (b : DeviceView). Settled b.rules b.state) (sym reserves.same) kept.settled;
   going = λ removing none. kept.going (sym same ∙ removing) (sym (ap (λ (b : DeviceView). b.state.requests) reserves.same) ∙ none);
   none_recorded = ap (λ (b : DeviceView). b.adapter.labels) reserves.same ∙ kept.none_recorded;
@@ -129,11 +129,11 @@ still_going false p p' s h going = (h.not_ended refl).1 (sym (h.not_ended refl).
 
 -- where all that has ended is told; the limits are the same
 pub ManagerKept-collected : (limits limits' : Limits) (below below1 below' : DeviceView) (tables tables1 tables' : Tables) (reset : Bool) (told : Told) → limits' ≡ limits → ManagerKept limits below tables
-    → IsRightBy reset told (view_of limits below tables) (view_of limits below' tables') → IsSound limits' below' tables' → IsAtRest below' → Collects below1 tables1 below' tables' → ManagerKept limits' below' tables'
-ManagerKept-collected limits limits' below below1 below' tables tables1 tables' reset told same kept by sound rest c =
+    → IsRightBy reset told (view_of limits below tables) (view_of limits below' tables') → IsSound limits' below' tables' → AsksInside below' → Collects below1 tables1 below' tables' → ManagerKept limits' below' tables'
+ManagerKept-collected limits limits' below below1 below' tables tables1 tables' reset told same kept by sound inside c =
     subst (λ (l : Limits). ManagerKept l below' tables') (sym same) (record {
       sound = subst (λ (l : Limits). IsSound l below' tables') same sound;
-      rest = rest;
+      inside = inside;
       settled = c.settled;
       going = still_going c.ends tables1.state tables'.state below'.state c.removal;
       none_recorded = ap (λ (v : AdapterView). v.labels) c.adapter.taken;

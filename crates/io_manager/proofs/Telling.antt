@@ -8,7 +8,7 @@ use Rattle.io_manager.specs.declared.Limits.{Limits}
 use Rattle.io_manager.specs.declared.tables.Tables.{Tables}
 use Rattle.io_manager.specs.Shown.{ManagerView}
 use Rattle.io_manager.specs.Right.{Told, IsRight, IsRightBy}
-use Rattle.io_manager.specs.Sound.{view_of, IsSound, IsAtRest, Collects, ManagerKept}
+use Rattle.io_manager.specs.Sound.{view_of, IsSound, AsksInside, Collects, ManagerKept}
 use Rattle.io_manager.proofs.Righting.{IsServed, told_by, IsRightBy-served}
 use Rattle.io_manager.proofs.Stepping.{ManagerKept-collected}
 
@@ -19,8 +19,8 @@ module _ (limits : Limits) (below : DeviceView) (tables : Tables) (old : Manager
       → IsRight (Row old (view_of limits' below2 tables2)) old (view_of limits' below2 tables2) × ManagerKept limits' below2 tables2
   step_kept Row own labels below1 tables1 h limits' below2 tables2 moves same sound c row =
       let sound' : IsSound limits below2 tables2 = subst (λ (l : Limits). IsSound l below2 tables2) same sound in
-      let by : IsRightBy false (told_by limits below tables own labels below1 tables1 below2 tables2 h c) (view_of limits below tables) (view_of limits below2 tables2) × IsAtRest below2 =
-      IsRightBy-served limits below tables own labels below1 tables1 below2 tables2 h c kept.reached kept.rest moves sound'.in_state in
+      let by : IsRightBy false (told_by limits below tables own labels below1 tables1 below2 tables2 h c) (view_of limits below tables) (view_of limits below2 tables2) × AsksInside below2 =
+      IsRightBy-served limits below tables own labels below1 tables1 below2 tables2 h c kept.reached kept.inside moves sound'.in_state in
       let right : IsRight (Row (view_of limits below tables) (view_of limits below2 tables2)) (view_of limits below tables) (view_of limits below2 tables2) =
       record { told = told_by limits below tables own labels below1 tables1 below2 tables2 h c; replies = row; by = by.0 } in (
         subst (λ (l : Limits). IsRight (Row old (view_of l below2 tables2)) old (view_of l below2 tables2)) (sym same)

@@ -101,6 +101,7 @@ reply_at_once number buffer (RefusedFor refusal) = Refused refusal buffer
 -- a request is open under the next number, in a slot that was free, and its call is told
 pub record Admits (old : Tables) (handle : Handle) (q : ClientRequest) (copies : Copies) (spot slot : ℕ) (new : Tables) : Type 0 where
   pub was_free : get old.requests slot ≡ None
+  pub in_range : slot < old.requests.capacity
   pub holds : Updates old.requests new.requests slot
       (Some (record { number = old.next_request; handle = handle.number; kind = q.kind; spot = spot; cancelled = false; label_bytes = copies.label_bytes }))
   pub counted : slab_len new.requests ≡ slab_len old.requests + 1
@@ -108,7 +109,7 @@ pub record Admits (old : Tables) (handle : Handle) (q : ClientRequest) (copies :
   pub tells : new.labels.items ≡ old.labels.items ++ Call old.next_request (record q { bytes = copies.call_bytes }) ∷ []
   pub one_more : deque_len new.labels ≡ deque_len old.labels + 1
   pub label_places : deque_capacity new.labels ≡ deque_capacity old.labels
-  pub after : new ≡ record old { next_request = old.next_request + 1; requests = new.requests; labels = new.labels }
+  pub after : new ≡ record old { next_request = old.next_request + 1; requests = new.requests; latest = new.latest; labels = new.labels }
 
 -- what refuses a handle on a partition of so many, if anything: the first that fits
 abbrev pub handle_refusal : Tables → ℕ → ℕ → Option NtStatus

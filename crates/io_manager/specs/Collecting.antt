@@ -14,14 +14,13 @@ use Rattle.machine.specs.Answering.{AnswersWith}
 use Rattle.machine.specs.Step.{Run, as_label}
 use Rattle.machine.specs.Sending.{IsStart}
 use Rattle.device.specs.View.{DeviceView, payload_bytes}
-use Rattle.device.specs.Served.{IsUnfinished}
 use Rattle.io_manager.specs.declared.Answer.{Answer}
 use Rattle.io_manager.specs.declared.tables.OpenRequest.{OpenRequest}
 use Rattle.io_manager.specs.declared.tables.Tables.{Tables}
 use Rattle.pnp.specs.declared.State.TheVariants.{Removing, Removed}
 use Rattle.io_manager.specs.Ordering.{inserted}
 use Rattle.io_manager.specs.Right.{AreRising, answer_number, as_answer, unless_answered, end_labels}
-use Rattle.io_manager.specs.Sound.{holder_of, SamePlaces}
+use Rattle.io_manager.specs.Sound.{holder_of, SamePlaces, HasNoneToStart}
 
 -- a layer whose adapter's labels are all taken
 abbrev pub unlabelled : DeviceView → DeviceView
@@ -97,6 +96,7 @@ pub record TakesEnded (below : DeviceView) (tables : Tables) (below' : DeviceVie
   pub run : Run below.rules answered (map as_label starts) below'.state
   pub adapter : MovesByAll below.adapter starts below'.adapter
   pub fewer : length below'.packets < length below.packets
+  pub quiet : HasNoneToStart below.rules below.state → (starts ≡ []) × HasNoneToStart below'.rules below'.state
 
 -- some were taken and closed: first the machine starts all pieces that they made room for, then it gives their answers
 pub record Gathers (below : DeviceView) (tables : Tables) (below' : DeviceView) (tables' : Tables) : Type 0 where
@@ -114,5 +114,5 @@ pub record Gathers (below : DeviceView) (tables : Tables) (below' : DeviceView) 
   pub same_next_request : tables'.next_request ≡ tables.next_request
   pub same_state : tables'.state ≡ tables.state
   pub places : SamePlaces tables tables'
-  -- where nothing had ended, nothing was taken
-  pub quiet : All (IsUnfinished below.rules below.state) below.state.requests → (below' ≡ below) × (starts ≡ []) × (tables'.answered.items ≡ [])
+  -- where none is left to start, none is started, and none is left after it
+  pub quiet : HasNoneToStart below.rules below.state → (starts ≡ []) × HasNoneToStart below'.rules below'.state

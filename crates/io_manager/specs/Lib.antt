@@ -8,4 +8,3 @@ pub mod Admitting
 pub mod Collecting
 pub mod Cancelling
 pub mod Opening
-pub mod Idle

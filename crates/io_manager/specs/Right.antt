@@ -121,6 +121,11 @@ pub record IsAnsweredAtOnce (old : ManagerView) (q : ClientRequest) (status : Nt
   }
   pub same_adapter : new.adapter ≡ old.adapter
 
+-- the slot is below the number of requests that may be open
+abbrev pub IsSlotOf : Option ℕ → ℕ → Type 0
+IsSlotOf None slot = ⊥
+IsSlotOf (Some most) slot = slot < most
+
 -- a call that opens a request, under the next number and in a slot that was free
 pub record IsAdmitted (old : ManagerView) (handle : Handle) (q : ClientRequest) (slot number : ℕ) (told : Told) : Type 0 where
   pub numbers_last : are_used_up old.state.next_request ≡ false
@@ -129,6 +134,7 @@ pub record IsAdmitted (old : ManagerView) (handle : Handle) (q : ClientRequest) 
   pub own : told.own ≡ Call number q ∷ []
   pub only_starts : All IsStart told.device
   pub was_free : slice_index_or old.holders slot None ≡ None
+  pub in_range : IsSlotOf old.rules.open_requests slot
   pub holds : Updates old.holders told.admitted slot (Some (record { number = number; handle = handle.number }))
 
 -- a call for which there is no number left: nothing happens; or whose memory was refused: a part of a write may have been reserved
@@ -194,23 +200,23 @@ pub record IsToCancel (v : ManagerView) (handle number : ℕ) : Type 0 where
   pub is_number : request.number ≡ number
   pub not_yet : IsFalse request.cancelled
 
--- all open requests of a handle that are not cancelled yet are cancelled, by rising numbers; then pieces of others may start
+-- all open requests of a handle that are not cancelled yet are cancelled, by rising numbers, and no piece starts
 pub record CancelsAllOf (old : ManagerView) (handle : ℕ) (told : Told) : Type 0 where
   pub numbers : List ℕ
   pub own : told.own ≡ map as_cancel numbers
   pub rising : AreRising numbers
   pub each : All (IsToCancel old handle) numbers
   pub all : (number : ℕ) → IsToCancel old handle number → Contains numbers number
-  pub only_starts : All IsStart told.device
+  pub no_device : told.device ≡ []
   pub holders : told.admitted ≡ old.holders
 
--- an open request is cancelled, if it is not yet; then pieces of others may start
+-- an open request is cancelled, if it is not yet, and no piece starts
 pub record CancelsOne (old : ManagerView) (number : ℕ) (told : Told) : Type 0 where
   pub request : OpenRequest
   pub is_open : Contains old.state.requests request
   pub is_number : request.number ≡ number
   pub own : told.own ≡ (if request.cancelled then [] else Cancel number ∷ [])
-  pub only_starts : All IsStart told.device
+  pub no_device : told.device ≡ []
   pub holders : told.admitted ≡ old.holders
 
 -- an open handle is closed, and no other
@@ -331,7 +337,12 @@ RecallReplies old Ignored new told = ⊥
 
 -- THE ADAPTER
 
--- the tag's fresh piece acts or faults
+-- no request is answered, and no removal ends
+pub record EndsNone (told : Told) : Type 0 where
+  pub none_answered : told.answers ≡ []
+  pub not_ended : told.ends ≡ false
+
+-- the tag's fresh piece acts or faults, and nothing else is told
 pub record TellsAct (old : ManagerView) (tag : ℕ) (told : Told) : Type 0 where
   pub piece : Piece
   pub label : DeviceLabel
@@ -339,6 +350,7 @@ pub record TellsAct (old : ManagerView) (tag : ℕ) (told : Told) : Type 0 where
   pub acts : IsActOrFault piece.number label
   pub no_own : told.own ≡ []
   pub device : told.device ≡ label ∷ []
+  pub ends_none : EndsNone told
   pub holders : told.admitted ≡ old.holders
 
 -- the tag has no piece that could act
@@ -382,6 +394,7 @@ pub record TellsReset (old new : ManagerView) (told : Told) : Type 0 where
   pub rising : IsStrictlyIncreasing (map piece_tag fresh)
   pub no_own : told.own ≡ []
   pub device : told.device ≡ map fault_of fresh
+  pub ends_none : EndsNone told
   pub holders : told.admitted ≡ old.holders
   pub handles : SameHandles old new
 

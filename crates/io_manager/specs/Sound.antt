@@ -1,5 +1,5 @@
 -- What the manager's tables and the device below say of each other between two calls.
-use Rattle.std.specs.Prelude.{◌≡◌, ◌≢◌, ◌<◌, ◌≤◌, ℕ, ◌+◌, ◌^◌, Bool, true, false, List, [], ◌++◌, Option, Some, option_map, is_some, map, length, IsTrue, IsFalse, All, Contains, IsPermutation}
+use Rattle.std.specs.Prelude.{◌≡◌, ◌≢◌, ◌<◌, ◌≤◌, ℕ, ◌+◌, ◌^◌, ◌⊎◌, Bool, true, false, List, [], ◌++◌, Option, Some, option_map, is_some, map, length, IsTrue, IsFalse, All, Contains, IsPermutation}
 use Rattle.std.specs.VecDeque.{deque_len, deque_capacity}
 use Rattle.slab.specs.Slab.{Slab, get, slab_len}
 use Rattle.srb.specs.declared.DeviceLabel.{DeviceLabel}
@@ -7,11 +7,10 @@ use Rattle.machine.specs.declared.Kind.TheVariants.{Read}
 use Rattle.machine.specs.Rules.{Rules}
 use Rattle.machine.specs.State.{OpenRequest as OpenBelow, State}
 use Rattle.machine.specs.Numbers.{request_number}
-use Rattle.machine.specs.Settled.{Settled}
+use Rattle.machine.specs.Settled.{Settled, IsAtWork, IsFull, started_count}
 use Rattle.machine.specs.Step.{Run, as_label}
-use Rattle.machine.specs.Sending.{IsStart}
+use Rattle.machine.specs.Sending.{IsStart, is_started}
 use Rattle.device.specs.View.{DeviceView, Packet}
-use Rattle.device.specs.Served.{IsUnfinished}
 use Rattle.machine_laws.specs.Reached.{IsReached}
 use Rattle.pnp.specs.declared.State.{State as PnpState}
 use Rattle.pnp.specs.declared.State.TheVariants.{Started, RemovePending, Removing, Removed}
@@ -95,13 +94,13 @@ pub record AreHeld (requests : Slab OpenRequest) (below : List OpenBelow) : Type
       → request.number ≡ same.number → slot ≡ other
   pub counted : slab_len requests ≡ length below
 
--- places for what a step may add, so that it takes no memory
+-- places for what a step may add, so that it takes no memory; and as many slots as requests may be open
 pub record HasPlaces (limits : Limits) (tables : Tables) : Type 0 where
   pub labels : 256 ≤ deque_capacity tables.labels
   pub answered : 64 ≤ deque_capacity tables.answered
   pub untaken : deque_len tables.untaken + slab_len tables.requests ≤ deque_capacity tables.untaken
   pub handles : (handle_limit ≤ tables.handles.capacity) × (tables.handles.capacity < 2 ^ 32)
-  pub requests : (limits.open_requests ≤ tables.requests.capacity) × (tables.requests.capacity < 2 ^ 32)
+  pub requests : tables.requests.capacity ≡ limits.open_requests
 
 -- no driver above asks for this packet
 abbrev pub IsTopmost : Packet → Type 0
@@ -151,10 +150,9 @@ pub record IsSoundWith (put_by : List Answer) (limits : Limits) (below : DeviceV
 abbrev pub IsSound : Limits → DeviceView → Tables → Type 0
 IsSound limits below tables = IsSoundWith [] limits below tables
 
--- between two calls no request that has ended waits to be taken, and all that the adapter is asked to write lies in a partition
-pub record IsAtRest (below : DeviceView) : Type 0 where
-  pub unfinished : All (IsUnfinished below.rules below.state) below.state.requests
-  pub inside : AllWriteInside below.rules.partitions below.adapter
+-- all that the adapter is asked to write lies in a partition
+abbrev pub AsksInside : DeviceView → Type 0
+AsksInside below = AllWriteInside below.rules.partitions below.adapter
 
 -- the tables have as many places as before, so nothing took memory
 pub record SamePlaces (old new : Tables) : Type 0 where
@@ -168,6 +166,22 @@ pub record SamePlaces (old new : Tables) : Type 0 where
 pub record EndsIf (ends : Bool) (old : PnpState) (s : State) (new : PnpState) : Type 0 where
   pub ended : IsTrue ends → (old ≡ Removing) × (s.requests ≡ []) × (new ≡ Removed)
   pub not_ended : IsFalse ends → (new ≡ old) × (old ≡ Removing → s.requests ≢ [])
+
+-- what the device did is told, and nothing is answered
+pub record TakesLabels (below : DeviceView) (tables : Tables) (below' : DeviceView) (tables' : Tables) : Type 0 where
+  pub taken : below' ≡ record below { adapter = record below.adapter { labels = [] } }
+  pub tells : tables'.labels.items ≡ tables.labels.items ++ map as_label below.adapter.labels
+  pub label_places : deque_capacity tables'.labels ≡ deque_capacity tables.labels
+  pub after : tables' ≡ record tables { labels = tables'.labels }
+
+-- neither started nor cancelled, it is held by the pause, or the window is full
+abbrev pub IsKeptBack : Rules → State → OpenBelow → Type 0
+IsKeptBack rules s o = IsFalse o.cancelled → IsFalse (is_started o) → (IsTrue s.paused × IsTrue o.late) ⊎ IsFull rules.window (started_count s)
+
+-- with a tag free, what is started has a place out, and all else is kept back: so the end of a request lets none start
+pub record HasNoneToStart (rules : Rules) (s : State) : Type 0 where
+  pub at_work : length s.pieces < rules.depth → All IsAtWork s.requests
+  pub kept_back : length s.pieces < rules.depth → IsFalse s.removing → All (IsKeptBack rules s) s.requests
 
 -- all that has ended is taken: the device's labels and the answers are told, then the end of a removal, and the device is settled
 pub record Collects (below : DeviceView) (tables : Tables) (below' : DeviceView) (tables' : Tables) : Type 0 where
@@ -188,15 +202,13 @@ pub record Collects (below : DeviceView) (tables : Tables) (below' : DeviceView)
   pub places : SamePlaces tables tables'
   pub removal : EndsIf ends tables.state below'.state tables'.state
   pub settled : Settled below'.rules below'.state
-  -- where nothing has ended, nothing starts and nothing is answered; afterwards nothing has
-  pub quiet : All (IsUnfinished below.rules below.state) below.state.requests → (starts ≡ []) × (answers ≡ [])
-  pub unfinished : All (IsUnfinished below'.rules below'.state) below'.state.requests
+  pub quiet : HasNoneToStart below.rules below.state → starts ≡ []
 
--- what holds between two steps, beside the order of the device: all is sound, at rest and settled, a removal with nothing open has
+-- what holds between two steps, beside the order of the device: all is sound and settled, a removal with nothing open has
 -- ended, the adapter's labels are taken, and a run leads from an opening state to the state that is shown
 pub record ManagerKept (limits : Limits) (below : DeviceView) (tables : Tables) : Type 0 where
   pub sound : IsSound limits below tables
-  pub rest : IsAtRest below
+  pub inside : AsksInside below
   pub settled : Settled below.rules below.state
   pub going : tables.state ≡ Removing → below.state.requests ≢ []
   pub none_recorded : below.adapter.labels ≡ []

@@ -1,22 +1,22 @@
 //! What becomes of requests that have ended: their slots, their answers, and the labels of a step.
 
-ghost use Rattle.std.specs.Prelude.{◌≡◌, ◌<◌, ◌≤◌, ◌+◌, ◌^◌, ◌++◌, ℕ, false, [], All, map, length, MatchBool, MatchOption};
+ghost use Rattle.std.specs.Prelude.{◌≡◌, ◌<◌, ◌≤◌, ◌+◌, ◌^◌, ◌++◌, ℕ, false, [], map, length, MatchBool, MatchOption};
 ghost use Rattle.std.specs.VecDeque.{deque_len, deque_capacity};
 ghost use Rattle.slab.specs.Slab.{slab_len};
 ghost use Rattle.ntstatus.specs.declared.NtStatus.TheVariants.{Success};
 ghost use Rattle.machine.specs.declared.Kind.TheVariants.{Read};
 ghost use Rattle.device.specs.View.{payload_bytes};
 ghost use Rattle.machine.specs.Step.{as_label};
-ghost use Rattle.device.specs.Served.{HandsUpNone, IsUnfinished};
+ghost use Rattle.device.specs.Served.{HandsUpNone};
 ghost use Rattle.machine.specs.Settled.{Settled};
 ghost use Rattle.io_manager.specs.Collecting.{IsAt, HasNone, AreFilled, Closes, EndsRemoval, TakesEnded, Gathers, brought, unlabelled};
 ghost use Rattle.io_manager.specs.Right.{as_answer};
-ghost use Rattle.io_manager.specs.Sound.{IsSound, IsSoundWith, Collects};
+ghost use Rattle.io_manager.specs.Sound.{IsSound, IsSoundWith, TakesLabels, Collects};
 
 use crate::Answer;
 use crate::parts::Parts;
 use crate::rising::insert_rising;
-use crate::tables::{OpenRequest, Tables};
+use crate::tables::{OpenRequest, REMAINDERS, Tables};
 use device::{Device, Kind, Label};
 use irp::{Climb, Done, Payload};
 use ntstatus::NtStatus;
@@ -53,8 +53,21 @@ impl OpenRequest {
 }
 
 impl Tables {
-    /// The slot of the open request of a number.
+    /// The slot of the open request of a number, found at once unless a later request has its remainder.
     pub(crate) fn slot_of(&self, number: u64) -> Option<usize>
+        ensures { MatchOption result (HasNone self.now.requests number) (λ slot. IsAt self.now.requests number slot) }
+    {
+        let likely = self.latest[number as usize % REMAINDERS] as usize;
+        if let Some(request) = self.requests.get(likely) {
+            if request.number == number {
+                return Some(likely);
+            }
+        }
+        self.search_slots(number)
+    }
+
+    /// The same, slot by slot.
+    fn search_slots(&self, number: u64) -> Option<usize>
         ensures { MatchOption result (HasNone self.now.requests number) (λ slot. IsAt self.now.requests number slot) }
     {
         for slot in 0..self.requests.capacity() {
@@ -199,9 +212,21 @@ impl<D: Device> Parts<D> {
         ensures few { deque_len self.new.tables.answered ≤ 64 }
         ensures gathers { Gathers (D.view self.old.device) self.old.tables (D.view self.new.device) self.new.tables }
         ensures settled { Settled (D.view self.new.device).rules (D.view self.new.device).state }
-        ensures unfinished { All (IsUnfinished (D.view self.new.device).rules (D.view self.new.device).state) (D.view self.new.device).state.requests }
     {
         'ended: while self.take_ended() {}
+    }
+
+    /// Tells what the device did, where no request can have ended.
+    pub(crate) fn tell_device(&mut self)
+        requires rooms { D.rooms_out self.old.device [] }
+        requires sound { IsSound self.old.limits (D.view self.old.device) self.old.tables }
+        requires few_labels { deque_len self.old.tables.labels ≤ 64 }
+        ensures rooms { D.rooms_out self.new.device [] }
+        ensures limits { self.new.limits ≡ self.old.limits }
+        ensures sound { IsSound self.new.limits (D.view self.new.device) self.new.tables }
+        ensures takes { TakesLabels (D.view self.old.device) self.old.tables (D.view self.new.device) self.new.tables }
+    {
+        move_labels(&mut self.device, &mut self.tables.labels);
     }
 
     /// Takes all requests that have ended, tells what the device did, then the answers, and then whether a removal ended.

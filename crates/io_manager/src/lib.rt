@@ -17,8 +17,7 @@ mod parts;
 mod removal;
 mod rising;
 mod tables;
-#[cfg(test)]
-mod tests;
+mod taking;
 
 pub use manager::IoManager;
 use ntstatus::NtStatus;

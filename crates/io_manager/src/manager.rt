@@ -170,7 +170,7 @@ impl<D: Device> IoManager<D> {
         if !self.parts.device.act(tag) {
             return Reply::Ignored;
         }
-        self.parts.collect();
+        self.parts.tell_device();
         Reply::Ok
     }
 
@@ -192,7 +192,7 @@ impl<D: Device> IoManager<D> {
         ensures right { IsRightReset self.old self.new }
     {
         self.parts.device.reset();
-        self.parts.collect();
+        self.parts.tell_device();
     }
 
     /// Takes the earliest label of the last step that was not taken yet.

@@ -7,7 +7,7 @@ ghost use Rattle.io_manager.specs.Opening.{IsUnasked, AreFor, AreEmpty, IsFirstV
 use crate::Limits;
 use crate::manager::IoManager;
 use crate::parts::Parts;
-use crate::tables::{HANDLE_LIMIT, LABEL_PLACES, Tables};
+use crate::tables::{HANDLE_LIMIT, LABEL_PLACES, REMAINDERS, Tables};
 use device::Device;
 use pnp::State;
 use slab::Slab;
@@ -17,18 +17,18 @@ use std::collections::VecDeque;
 /// Places for answers: as many as a step tells.
 const ANSWER_PLACES: usize = 64;
 
-/// A table with places for so many values, whose slots are numbers of 32 bits.
+/// A table of so many slots.
 ///
 /// # Errors
 ///
-/// [`AllocError`] where memory was refused, or for more places than that.
+/// [`AllocError`] where memory was refused.
 fn slots<T: Drop>(alloc: Global, places: usize) -> Result<Slab<T>, AllocError>
     ensures empty { IfOk result (λ slab. slab.slots ≡ []) }
-    ensures places { IfOk result (λ slab. places ≤ slab.capacity) }
-    ensures small { IfOk result (λ slab. slab.capacity < 2 ^ 32) }
+    ensures places { IfOk result (λ slab. slab.capacity ≡ places) }
 {
     let slab = Slab::with_capacity(alloc, places)?;
-    if slab.capacity() >= 1 << 32 {
+    // A slab may have more places than it was asked for, and then slots past these.
+    if slab.capacity() != places {
         return Err(AllocError);
     }
     Ok(slab)
@@ -50,6 +50,7 @@ impl Tables {
             state: State::Started,
             handles: slots(alloc, HANDLE_LIMIT)?,
             requests: slots(alloc, limits.open_requests as usize)?,
+            latest: [0; REMAINDERS],
             labels: VecDeque::with_capacity(alloc, LABEL_PLACES)?,
             answered: VecDeque::with_capacity(alloc, ANSWER_PLACES)?,
             untaken: VecDeque::new(alloc),

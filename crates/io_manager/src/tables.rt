@@ -27,6 +27,9 @@ pub(crate) const HANDLE_LIMIT: usize = 64;
 /// Places for labels: more than a step tells.
 pub(crate) const LABEL_PLACES: usize = 256;
 
+/// Remainders of request numbers, each with the slot that was last given.
+pub(crate) const REMAINDERS: usize = 64;
+
 /// An open request, at its slot.
 #[derive(Debug, Drop)]
 pub(crate) struct OpenRequest {
@@ -51,6 +54,8 @@ pub(crate) struct Tables {
     pub(crate) state: State,
     pub(crate) handles: Slab<OpenHandle>,
     pub(crate) requests: Slab<OpenRequest>,
+    /// The slot of the latest request with each remainder: where its number is most likely found.
+    pub(crate) latest: [u32; REMAINDERS],
     /// Not yet taken, in order.
     pub(crate) labels: VecDeque<Label>,
     /// The labels of the answers of this step, by rising numbers.
@@ -230,6 +235,7 @@ impl Tables {
             cancelled: false,
             label_bytes,
         });
+        self.latest[number as usize % REMAINDERS] = slot as u32;
         let request = ClientRequest {
             bytes: call_bytes,
             ..request

@@ -1,1 +1,2 @@
 mod Emitted
+mod Starting

@@ -1,8 +1,8 @@
 -- How the program ends: the line that it says of a fault, and its exit status.
 use Rattle.std.specs.Prelude.{ℕ, ◌++◌, List, Result, Ok, Err, codes}
 use Rattle.ntstatus.specs.Codes.{name_of}
-use Rattle.compose.specs.declared.MbrFault.{MbrFault}
-use Rattle.compose.specs.declared.MbrFault.TheVariants.{ShortSector, NoSignature, EmptyEntry, CoversTable, PastEnd, Overlap}
+use Rattle.mbr.specs.declared.MbrFault.{MbrFault}
+use Rattle.mbr.specs.declared.MbrFault.TheVariants.{ShortSector, NoSignature, EmptyEntry, CoversTable, PastEnd, Overlap}
 use Rattle.compose.specs.declared.StartFault.{StartFault}
 use Rattle.compose.specs.declared.StartFault.TheVariants.{Settings as WrongSettings, Device as FailedCommand, Mbr as WrongTable, NoMemory as WantOfMemory}
 use Rattle.script.specs.Faults.{text_of as script_text}

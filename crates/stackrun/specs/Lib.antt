@@ -1,4 +1,5 @@
 pub mod CommandLine
 pub mod Faults
 pub mod Input
+pub mod Started
 pub mod Trace

@@ -1,9 +1,9 @@
 -- What is printed of settings and a script.
 use Rattle.std.specs.Prelude.{◌≡◌, ℕ, List, Option, IfSome}
-use Rattle.compose.specs.Shown.{StackView}
+use Rattle.io_manager.specs.Shown.{ManagerView}
 use Rattle.settings.specs.declared.Config.{Config}
 use Rattle.settings.specs.Settings.{AreSettingsOf}
-use Rattle.settings.specs.Started.{IsStartOf}
+use Rattle.stackrun.specs.Started.{IsStartOf}
 use Rattle.script.specs.declared.Line.{Line}
 use Rattle.script.specs.Script.{AreEvents, lines_of}
 use Rattle.script.specs.Trace.{IsTrace}
@@ -26,7 +26,7 @@ pub record IsPrintOf (config script : Option (List ℕ)) (text : List ℕ) : Typ
   pub all : IsAllOf script script_text
   pub lines : List Line
   pub events : AreEvents (lines_of script_text) lines
-  pub start : StackView
+  pub start : ManagerView
   pub starts : IsStartOf settings start
-  pub last : StackView
+  pub last : ManagerView
   pub trace : IsTrace start lines text last

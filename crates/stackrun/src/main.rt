@@ -10,6 +10,7 @@
 mod ending;
 mod faults;
 mod input;
+mod startup;
 #[cfg(test)]
 mod tests;
 mod trace;

@@ -6,9 +6,10 @@ ghost use Rattle.settings.specs.InRange.{AreInRange};
 ghost use Rattle.stackrun.specs.Trace.{AreRead, IsAllOf, IsPrintOf};
 
 use crate::faults::Fault;
+use crate::startup::start;
 use script::{ScriptFault, lines, play};
 use settings::document::config;
-use settings::{Config, ConfigFault, start};
+use settings::{Config, ConfigFault};
 use std::alloc::Global;
 use std::io::{Read, Write};
 

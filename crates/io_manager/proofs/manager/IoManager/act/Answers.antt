@@ -16,29 +16,29 @@ returns-then-not-act g c =
     let none : ActsNot below c.args.tag below' = subst (λ b. MatchBool b (ActsOrFaults below c.args.tag below') (ActsNot below c.args.tag below')) c.if-not-act.true c.act.ensures.acts in
     record { right = act_ignored c.self.inside.parts.limits below c.self.inside.parts.tables c.args.self.now c.self.invariant.kept c.self.view_is c.requires.taken c.args.tag below' none }
 
-pub collect-requires-clause-sound : goal.collect-requires-clause-sound
-collect-requires-clause-sound g c =
+pub tell_device-requires-clause-sound : goal.tell_device-requires-clause-sound
+tell_device-requires-clause-sound g c =
     let below : DeviceView = g.D.Device.view c.self.inside.parts.device in
     let below' : DeviceView = g.D.Device.view c.act.new.self in
     let acts : ActsOrFaults below c.args.tag below' = subst (λ b. MatchBool b (ActsOrFaults below c.args.tag below') (ActsNot below c.args.tag below')) c.if-not-act.false c.act.ensures.acts in
     IsSound-moves c.self.inside.parts.limits below c.self.inside.parts.tables (acts.label ∷ []) below' c.self.invariant.kept.sound acts.moves
 
-kept : (g : _) → (c : goal.After-collect g)
-    → IsRight (ActReplies c.args.self.now c.args.tag OkReply (view_of c.collect.new.self.limits (g.D.Device.view c.collect.new.self.device) c.collect.new.self.tables)) c.args.self.now
-    (view_of c.collect.new.self.limits (g.D.Device.view c.collect.new.self.device) c.collect.new.self.tables)
-    × ManagerKept c.collect.new.self.limits (g.D.Device.view c.collect.new.self.device) c.collect.new.self.tables
+kept : (g : _) → (c : goal.After-tell_device g)
+    → IsRight (ActReplies c.args.self.now c.args.tag OkReply (view_of c.tell_device.new.self.limits (g.D.Device.view c.tell_device.new.self.device) c.tell_device.new.self.tables)) c.args.self.now
+    (view_of c.tell_device.new.self.limits (g.D.Device.view c.tell_device.new.self.device) c.tell_device.new.self.tables)
+    × ManagerKept c.tell_device.new.self.limits (g.D.Device.view c.tell_device.new.self.device) c.tell_device.new.self.tables
 kept g c =
     let below : DeviceView = g.D.Device.view c.self.inside.parts.device in
     let below' : DeviceView = g.D.Device.view c.act.new.self in
     let acts : ActsOrFaults below c.args.tag below' = subst (λ b. MatchBool b (ActsOrFaults below c.args.tag below') (ActsNot below c.args.tag below')) c.if-not-act.false c.act.ensures.acts in
     act_kept c.self.inside.parts.limits below c.self.inside.parts.tables c.args.self.now c.self.invariant.kept c.self.view_is c.requires.taken
-    c.args.tag below' c.collect.new.self.limits (g.D.Device.view c.collect.new.self.device) c.collect.new.self.tables acts c.collect.ensures.limits c.collect.ensures.sound c.collect.ensures.collects
+    c.args.tag below' c.tell_device.new.self.limits (g.D.Device.view c.tell_device.new.self.device) c.tell_device.new.self.tables acts c.tell_device.ensures.limits c.tell_device.ensures.sound c.tell_device.ensures.takes
 
 pub invariant_of-self-2 : goal.invariant_of-self-2
 invariant_of-self-2 g c = record {
   takes_buffers = c.self.invariant.takes_buffers;
   locations = c.self.invariant.locations;
-  rooms = c.collect.ensures.rooms;
+  rooms = c.tell_device.ensures.rooms;
   kept = (kept g c).1;
 }
 

@@ -8,7 +8,7 @@ use Rattle.io_manager.proofs.parts.Parts.collect.Goals as goal
 
 pub returns-clause-collects : goal.returns-clause-collects
 returns-clause-collects g c =
-    collects _ _ _ _ _ _ _ c.take_all_ended.ensures.gathers c.move_labels.ensures.taken refl c.end_removal.ensures c.take_all_ended.ensures.settled c.take_all_ended.ensures.unfinished c.take_all_ended.ensures.sound.held
+    collects _ _ _ _ _ _ _ c.take_all_ended.ensures.gathers c.move_labels.ensures.taken refl c.end_removal.ensures c.take_all_ended.ensures.settled c.take_all_ended.ensures.sound.held
     (c.tell_answers.ensures.labels_place ∙ c.move_labels.ensures.places) c.tell_answers.ensures.answered_place
     (c.tell_answers.ensures.told ∙ ap (λ ls. ls ++ map as_answer c.take_all_ended.new.self.tables.answered.items) c.move_labels.ensures.moved)
 

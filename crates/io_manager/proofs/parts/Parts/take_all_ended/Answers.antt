@@ -1,8 +1,6 @@
 -- Each request that is taken is one more that was gathered.
 use Rattle.std.proofs.Common.{◌∙◌, [], refl, sym, subst}
-use Rattle.std.specs.Prelude.{All}
-use Rattle.device.specs.View.{DeviceView, IsOrderly}
-use Rattle.device.specs.Served.{IsUnfinished}
+use Rattle.device.specs.View.{IsOrderly}
 use Rattle.io_manager.specs.Sound.{IsSoundWith}
 use Rattle.io_manager.proofs.Gathering.{gathers_none, gathers_more, few_open}
 use Rattle.io_manager.proofs.parts.Parts.take_all_ended.Goals as goal
@@ -27,7 +25,3 @@ ended-preserved g c =
       gathers = gathers_more (g.D.Device.view c.args.self.now.device) (g.D.Device.view c.ended.self.device) (g.D.Device.view c.take_ended.new.self.device) c.args.self.now.tables c.ended.self.tables c.take_ended.new.self.tables
           c.ended.invariant.gathers c.ended-test.ensures.takes c.ended.invariant.sound.held c.ended.invariant.sound.apart order.places order.none_owed;
     }
-
-pub returns-clause-unfinished : goal.returns-clause-unfinished
-returns-clause-unfinished g c =
-    subst (λ (v : DeviceView). All (IsUnfinished v.rules v.state) v.state.requests) (sym c.ended-test.ensures.takes.same) c.ended-test.ensures.takes.unfinished

@@ -47,3 +47,5 @@ returns-clause-few g c =
 pub returns-clause-takes : goal.returns-clause-takes
 returns-clause-takes g c =
     takes_ended _ _ _ _ _ _ _ (handed _ _ _ _ _ _ c.in-Finished.done c.in-Finished.is c.free.ensures.same c.in-Some.ensures.hands_up) c.requires.sound.held c.close.ensures
+    (g.met.D.Device.in_order c.args.self.now.device [] c.requires.rooms)
+    (g.met.D.Device.in_order c.free.new.self [] (c.free.ensures.rooms [] (c.in-Some.ensures.rooms [] c.requires.rooms)))

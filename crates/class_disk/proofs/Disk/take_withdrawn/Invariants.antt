@@ -1,0 +1,12 @@
+use Rattle.std.proofs.Common.{◌+◌, length}
+use Rattle.class_disk.specs.Books.{books_of, restarts_left}
+use Rattle.class_disk.proofs.TakingOne.{WithdrawsSome}
+use Rattle.class_disk.proofs.Disk.take_withdrawn.Given as goal
+
+abbrev pub invariant-loop : goal.invariant-loop
+invariant-loop g l =
+    WithdrawsSome (g.D.Device.rooms_out l.initial.self.device) (g.D.Device.rooms_out l.self.device) g.D.Device.TAKES_SRB g.D.Device.STACK_SIZE
+    (g.D.Device.view l.initial.self.device) (books_of l.initial.self.table) (g.D.Device.view l.self.device) (books_of l.self.table)
+
+abbrev pub decreases-loop : goal.decreases-loop
+decreases-loop g l = length (g.D.Device.view l.self.device).packets + restarts_left (books_of l.self.table).opens

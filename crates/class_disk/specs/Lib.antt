@@ -1,0 +1,11 @@
+pub mod Joint
+pub mod Kept
+pub mod Shown
+pub mod Blocks
+pub mod Parts
+pub mod Books
+pub mod Turns
+pub mod Driver
+pub mod Opening
+pub mod Midway
+pub mod Order

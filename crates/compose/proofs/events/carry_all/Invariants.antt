@@ -1,0 +1,12 @@
+use Rattle.std.proofs.Common.{◌≡◌, ◌≤◌, [], length}
+use Rattle.std.specs.Vec.{vec_len, vec_capacity}
+use Rattle.compose.specs.Runs.{CarriesAll}
+use Rattle.compose.proofs.events.carry_all.Given as goal
+
+abbrev pub invariant-loop-event : goal.invariant-loop-event
+invariant-loop-event g l = record {
+  taken : l.manager.labels ≡ [];
+  counted : vec_len l.shown ≡ length l.yielded;
+  places : length l.fn.events.items ≤ vec_capacity l.shown;
+  carries : CarriesAll l.initial.manager l.yielded l.shown.items l.manager;
+}

@@ -1,5 +1,0 @@
-use Rattle.compose.proofs.Lawful.{lawful_run}
-use Rattle.compose.proofs.io_manager.IoManager.run.Goals as goal
-
-pub returns-clause-lawful : goal.returns-clause-lawful
-returns-clause-lawful g c = lawful_run c.laws_of_runs.ensures c.args.self.now c.args.events.items c.carry_all-result.result c.carry_all-result.new.self c.shows_whole.ensures.reached c.carry_all-result.ensures.carries

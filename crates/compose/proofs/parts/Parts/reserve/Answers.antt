@@ -1,8 +1,0 @@
-use Rattle.compose.proofs.Quiet.{none_reserved}
-use Rattle.compose.proofs.parts.Parts.reserve.Goals as goal
-
-pub returns-in_err-reserve-clause-device : goal.returns-in_err-reserve-clause-device
-returns-in_err-reserve-clause-device g c = none_reserved (g.D.Device.view c.args.self.now.device)
-
-pub returns-in_err-places-clause-device : goal.returns-in_err-places-clause-device
-returns-in_err-places-clause-device g c = none_reserved (g.D.Device.view c.args.self.now.device)

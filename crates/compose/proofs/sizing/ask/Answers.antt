@@ -1,8 +1,0 @@
--- What came back neither good nor busy has failed, and nothing that acted or faulted comes back busy.
-use Rattle.compose.proofs.Exchanging.{failed, not_good}
-use Rattle.compose.proofs.sizing.ask.Goals as goal
-
-pub returns-in-Busy-clause-fault : goal.returns-in-Busy-clause-fault
-returns-in-Busy-clause-fault g c =
-    failed (g.A.Adapter.view c.args.adapter.now) (g.A.Adapter.view c.exchange-srb.new.adapter) (g.A.Adapter.view c.forget_labels.new.adapter) c.args.command.now c.exchange-srb.result.0 c.exchange-srb.result.1 c.status.result
-    c.exchange-srb.ensures.asks c.forget_labels.ensures.takes (not_good c.class.result c.exchange-srb.result.1 c.class.ensures c.in-Busy.is) c.status.ensures

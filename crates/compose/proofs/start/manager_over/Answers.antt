@@ -1,0 +1,26 @@
+use Rattle.std.proofs.Common.{◌≡◌, Err, refl, rules}
+use Rattle.compose.specs.declared.StartFault.TheVariants.{NoMemory}
+use Rattle.compose.proofs.FirstView.{fresh_partitions, unasked, first_view}
+use Rattle.compose.proofs.start.manager_over.Goals as goal
+
+pub new-partitions-requires-clause-fresh : goal.new-partitions-requires-clause-fresh
+new-partitions-requires-clause-fresh g c =
+    fresh_partitions (g.A.Adapter.view c.args.adapter) (g.A.Adapter.view c.prepare.new.adapter) c.args.settings c.in_ok-probed.ensures.in_range c.in_ok-probed.probed
+    c.in_ok-probed.ensures.probed c.in_ok-probed.ensures.same _ _ _ c.in_ok-port.ensures.opening c.new-disk.ensures.opening c.new-filter.ensures.opening
+
+pub new-requires-2-clause-unasked : goal.new-requires-2-clause-unasked
+new-requires-2-clause-unasked g c =
+    unasked (g.A.Adapter.view c.args.adapter) (g.A.Adapter.view c.prepare.new.adapter) c.args.settings c.in_ok-probed.ensures.in_range c.in_ok-probed.probed
+    c.in_ok-probed.ensures.probed c.in_ok-probed.ensures.same _ _ _ c.in_ok-port.ensures.opening c.new-disk.ensures.opening c.new-filter.ensures.opening
+    _ c.new-partitions.ensures.opening
+
+pub returns-clause-view : goal.returns-clause-view
+returns-clause-view g c =
+    first_view (g.A.Adapter.view c.args.adapter) (g.A.Adapter.view c.prepare.new.adapter) c.args.settings c.in_ok-probed.ensures.in_range c.in_ok-probed.probed
+    c.in_ok-probed.ensures.probed c.in_ok-probed.ensures.same _ _ _ c.in_ok-port.ensures.opening c.new-disk.ensures.opening c.new-filter.ensures.opening
+    _ c.new-partitions.ensures.opening _ refl c.in_ok-probed.ensures.read _ c.in_ok-manager.ensures.view
+
+pub returns-in_err-manager-clause-fault : goal.returns-in_err-manager-clause-fault
+returns-in_err-manager-clause-fault g c =
+    let given : c.from_residual-in_err-manager.result ≡ Err NoMemory = search rules in
+    rw given (c.prepare.new.adapter, record { same = c.prepare.ensures.same; why = (c.in_ok-probed.ensures.in_range, tt) })

@@ -1,0 +1,109 @@
+//! How a stack starts: what its adapter tells, and the layers over it.
+
+ghost use Rattle.std.specs.Prelude.{◌≡◌, ◌↔◌, IfOk, IfErr, OnOk, IsTrue};
+ghost use Rattle.adapter.specs.View.{IsInOrder};
+ghost use Rattle.probe.specs.Exchange.{IsIdle, IsSameDisk};
+ghost use Rattle.probe.specs.Probing.{IsProbed, IsReadBy, asked_by_probe};
+ghost use Rattle.compose.specs.Opening.{AreInRange, IsFirstView, IsSpent, IsStartFault};
+
+use crate::{Settings, StartFault};
+use class_disk::Disk;
+use hold_filter::Filter;
+use io_manager::{IoManager, Limits};
+use miniport::Adapter;
+use partition::Partitions;
+use port::Port;
+use probe::{ProbeFault, Probed, probe};
+use std::alloc::{AllocError, Global};
+
+impl From<AllocError> for StartFault {
+    ghost use Rattle.std.specs.Prelude.{◌≡◌};
+    ghost use Rattle.compose.specs.declared.StartFault.TheVariants.{NoMemory};
+
+    ghost from_gives = { λ _ fault. fault ≡ NoMemory };
+
+    fn from(_refused: AllocError) -> StartFault {
+        StartFault::NoMemory
+    }
+}
+
+impl From<ProbeFault> for StartFault {
+    ghost use Rattle.std.specs.Prelude.{◌≡◌};
+    ghost use Rattle.compose.specs.Opening.{start_fault_of};
+
+    ghost from_gives = { λ why fault. fault ≡ start_fault_of why };
+
+    fn from(why: ProbeFault) -> StartFault {
+        match why {
+            ProbeFault::Device(status) => StartFault::Device(status),
+            ProbeFault::Mbr(fault) => StartFault::Mbr(fault),
+            ProbeFault::NoMemory => StartFault::NoMemory,
+        }
+    }
+}
+
+impl Settings {
+    /// Whether a stack can be started with them.
+    pub fn are_in_range(&self) -> bool
+        ensures { IsTrue result ↔ AreInRange self.now }
+    {
+        1 <= self.window
+            && self.window <= 64
+            && 1 <= self.open_requests
+            && self.open_requests <= 64
+    }
+}
+
+/// What an adapter tells that has accepted nothing.
+///
+/// # Errors
+///
+/// [`StartFault::Settings`] just where a setting is out of range, before anything is sent; else as [`probe`].
+fn prepare<A: Adapter>(
+    alloc: Global,
+    adapter: &mut A,
+    settings: Settings,
+) -> Result<Probed, StartFault>
+    requires idle { IsIdle (A.view adapter.old) }
+    requires unasked { (A.view adapter.old).accepted ≡ 0 }
+    ensures in_range { OnOk result (AreInRange settings) }
+    ensures probed { IfOk result (IsProbed (A.view adapter.old)) }
+    ensures read { OnOk result (IsReadBy (A.view adapter.old) (A.view adapter.new)) }
+    ensures same { IsSameDisk (asked_by_probe (A.view adapter.old)) (A.view adapter.old) (A.view adapter.new) }
+    ensures order { OnOk result (IsInOrder (A.view adapter.new)) }
+    ensures fault { IfErr result (λ fault. IsStartFault (A.view adapter.old) settings fault (A.view adapter.new)) }
+{
+    if !settings.are_in_range() {
+        return Err(StartFault::Settings);
+    }
+    let probed = probe(alloc, adapter)?;
+    Ok(probed)
+}
+
+/// The I/O manager of a stack over an adapter, as [`crate::Stack::start`].
+///
+/// # Errors
+///
+/// As that.
+pub(crate) fn manager_over<A: Adapter>(
+    alloc: Global,
+    mut adapter: A,
+    settings: Settings,
+) -> Result<IoManager<Partitions<Filter<Disk<Port<A>>>>>, StartFault>
+    requires idle { IsIdle (A.view adapter) }
+    requires unasked { (A.view adapter).accepted ≡ 0 }
+    ensures view { IfOk result (IsFirstView (A.view adapter) settings) }
+    ensures fault { IfErr result (λ fault. (spent : A) × IsSpent (A.view adapter) settings fault (A.view spent)) }
+{
+    let probed = prepare(alloc, &mut adapter, settings)?;
+    let port = Port::new(alloc, adapter)?;
+    let disk = Disk::new(alloc, port, probed.sector_size as u32);
+    let filter = Filter::new(alloc, disk, settings.window as usize);
+    let partitions = Partitions::new(filter, probed.partitions);
+    let limits = Limits {
+        sector_size: probed.sector_size,
+        open_requests: settings.open_requests,
+    };
+    let manager = IoManager::new(alloc, partitions, limits)?;
+    Ok(manager)
+}

@@ -1,0 +1,11 @@
+pub mod Books
+pub mod Turns
+pub mod Packets
+pub mod Shown
+pub mod Releases
+pub mod Kept
+pub mod Order
+pub mod Handing
+pub mod Cancelling
+pub mod Opening
+pub mod Client

@@ -1,0 +1,140 @@
+-- A command sent to an adapter that has no other, what it brings, and its way back.
+use Rattle.std.specs.Prelude.{◌≡◌, ◌<◌, ◌≤◌, ℕ, ◌+◌, ◌*◌, List, [], ◌∷◌, length, slice_range}
+use Rattle.std.specs.List.{concat}
+use Rattle.ntstatus.specs.declared.NtStatus.{NtStatus}
+use Rattle.ntstatus.specs.Table.{status_of}
+use Rattle.cdb.specs.declared.Cdb.{Cdb}
+use Rattle.cdb.specs.declared.Cdb.TheVariants.{Read10, Write10, Sync10, ReadCapacity10, Read16, Write16, Sync16, ReadCapacity16}
+use Rattle.cdb.specs.Meaning.{Means}
+use Rattle.srb.specs.declared.Srb.{Srb}
+use Rattle.srb.specs.declared.SrbFunction.TheVariants.{ExecuteScsi}
+use Rattle.srb.specs.declared.DeviceLabel.{DeviceLabel}
+use Rattle.srb.specs.declared.DeviceLabel.TheVariants.{Start, Act, Fault, Return}
+use Rattle.srb.specs.declared.Completion.{Completion}
+use Rattle.srb.specs.declared.Class.{Class}
+use Rattle.srb.specs.declared.Class.TheVariants.{Good, Busy, Bad}
+use Rattle.srb.specs.Fate.{class_of}
+use Rattle.adapter.specs.View.{AdapterView, Accepts, MovesByAll}
+use Rattle.adapter.specs.Performing.{capacity_data, long_capacity_data}
+use Rattle.probe.specs.declared.ProbeFault.{ProbeFault}
+use Rattle.probe.specs.declared.ProbeFault.TheVariants.{Device as DeviceFault, Mbr as TableFault, NoMemory}
+
+-- an adapter with nothing on its tags, whose labels were all taken
+pub record IsIdle (view : AdapterView) : Type 0 where
+  pub no_tags : view.tags ≡ []
+  pub no_labels : view.labels ≡ []
+
+-- WHAT A COMMAND BRINGS
+
+-- a command that changes no sector
+abbrev pub Looks : Cdb → Type 0
+Looks (Read10 lba count fua) = Unit {0}
+Looks (Write10 lba count fua) = ⊥
+Looks (Sync10 lba blocks) = Unit {0}
+Looks ReadCapacity10 = Unit {0}
+Looks (Read16 lba count fua) = Unit {0}
+Looks (Write16 lba count fua) = ⊥
+Looks (Sync16 lba blocks) = Unit {0}
+Looks (ReadCapacity16 allocation) = Unit {0}
+
+-- the bytes that a command brings from the disk; none for a write or a flush
+abbrev pub bytes_brought : AdapterView → Cdb → List ℕ
+bytes_brought disk (Read10 lba count fua) = concat (slice_range disk.sectors lba (lba + count))
+bytes_brought disk (Write10 lba count fua) = []
+bytes_brought disk (Sync10 lba blocks) = []
+bytes_brought disk ReadCapacity10 = capacity_data disk.sector_size disk.sectors
+bytes_brought disk (Read16 lba count fua) = concat (slice_range disk.sectors lba (lba + count))
+bytes_brought disk (Write16 lba count fua) = []
+bytes_brought disk (Sync16 lba blocks) = []
+bytes_brought disk (ReadCapacity16 allocation) = long_capacity_data allocation disk.sector_size disk.sectors
+
+-- how many they are: of READ CAPACITY(10) eight, of READ CAPACITY(16) as many as are asked for, of a read its sectors
+abbrev pub brought_length : AdapterView → Cdb → ℕ
+brought_length disk (Read10 lba count fua) = count * disk.sector_size
+brought_length disk (Write10 lba count fua) = 0
+brought_length disk (Sync10 lba blocks) = 0
+brought_length disk ReadCapacity10 = 8
+brought_length disk (Read16 lba count fua) = count * disk.sector_size
+brought_length disk (Write16 lba count fua) = 0
+brought_length disk (Sync16 lba blocks) = 0
+brought_length disk (ReadCapacity16 allocation) = allocation
+
+-- ITS WAY
+
+-- an SRB that asks for a command whose data come in: EXECUTE_SCSI with DATA_IN
+pub record IsReading (command : Cdb) (srb : Srb) : Type 0 where
+  pub function : srb.function ≡ ExecuteScsi
+  pub flags : srb.flags.0 ≡ 0x40
+  pub asks : Means srb.block command
+
+-- such an SRB with two buffers of the length that the command brings
+pub record LooksBy (disk : AdapterView) (command : Cdb) (srb : Srb) : Type 0 where
+  pub reading : IsReading command srb
+  pub data_length : length srb.data ≡ brought_length disk command
+  pub label_length : length srb.for_label ≡ brought_length disk command
+
+-- the label of an act or a fault of the piece of this number
+abbrev pub IsActOrFault : ℕ → DeviceLabel → Type 0
+IsActOrFault number (Act piece bytes) = piece ≡ number
+IsActOrFault number (Fault piece) = piece ≡ number
+IsActOrFault number (Start piece tag block) = ⊥
+IsActOrFault number (Return piece class) = ⊥
+
+-- the adapter moves by these labels, which are then taken from its record
+pub record AdapterMoves (old : AdapterView) (labels : List DeviceLabel) (new : AdapterView) : Type 0 where
+  pub moved : AdapterView
+  pub moves : MovesByAll old labels moved
+  pub taken : new ≡ record moved { labels = [] }
+
+-- such an SRB was piece 0 on tag 0, which acted or faulted and came back in this class; all labels were then taken
+pub record Exchanges (old : AdapterView) (command : Cdb) (class : Class) (new : AdapterView) : Type 0 where
+  pub srb : Srb
+  pub accepted : AdapterView
+  pub told : DeviceLabel
+  pub looks : LooksBy old command srb
+  pub accepts : Accepts old 0 0 srb accepted
+  pub acts : IsActOrFault 0 told
+  pub moves : AdapterMoves accepted (told ∷ Return 0 class ∷ []) new
+
+-- the same disk, with nothing on its tags, after at most so many pieces more
+pub record IsSameDisk (asked : ℕ) (old new : AdapterView) : Type 0 where
+  pub sector_size : new.sector_size ≡ old.sector_size
+  pub sectors : new.sectors ≡ old.sectors
+  pub faithful : new.faithful ≡ old.faithful
+  pub max_transfer : new.max_transfer ≡ old.max_transfer
+  pub depth : new.depth ≡ old.depth
+  pub idle : IsIdle new
+  pub accepted : new.accepted ≤ old.accepted + asked
+  pub failures : old.failures ≤ new.failures
+
+-- what a command brought that came back in this class
+abbrev pub Brings : AdapterView → Cdb → List ℕ → Class → AdapterView → Type 0
+Brings old command bytes Good new = bytes ≡ bytes_brought old command
+Brings old command bytes Busy new = ⊥
+Brings old command bytes (Bad completion) new = old.failures < new.failures
+
+-- a command was sent to an idle adapter, and came back
+pub record AsksOnce (old : AdapterView) (command : Cdb) (srb : Srb) (completion : Completion) (new : AdapterView) : Type 0 where
+  pub same : IsSameDisk 1 old (record new { labels = [] })
+  pub brings : Brings old command srb.data (class_of completion) new
+  pub exchanged : Exchanges old command (class_of completion) (record new { labels = [] })
+
+-- WHY IT LED NO FURTHER
+
+-- the status of a completion that is neither good nor busy
+pub record IsOfFailure (status : NtStatus) : Type 0 where
+  pub completion : Completion
+  pub is_bad : class_of completion ≡ Bad completion
+  pub means : status ≡ status_of completion.srb_status completion.scsi_status completion.sense
+
+-- a command came back bad, as a completion of this status, and the adapter counted a failure
+pub record Fails (disk : AdapterView) (command : Cdb) (status : NtStatus) (after : AdapterView) : Type 0 where
+  pub failure : IsOfFailure status
+  pub counted : disk.failures < after.failures
+  pub exchanged : Exchanges disk command (Bad failure.completion) after
+
+-- why a command brought nothing: it failed, or memory was refused and it was not sent
+abbrev pub IsAskFault : Cdb → AdapterView → ProbeFault → AdapterView → Type 0
+IsAskFault command disk (DeviceFault status) after = Fails disk command status after
+IsAskFault command disk (TableFault fault) after = ⊥
+IsAskFault command disk NoMemory after = after ≡ disk

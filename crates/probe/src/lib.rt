@@ -1,0 +1,50 @@
+//! What a disk says of itself: its sizes and its partitions, asked of an adapter before anything else is.
+//!
+//! [`probe`] sends READ CAPACITY(10), where that can't tell the number of sectors READ CAPACITY(16) as well, and READ(10)
+//! of sector 0, one after the other, and takes their labels. The crate above is promised, for any adapter: what is found
+//! are just the disk's sizes and just the partitions that the table in sector 0 says, which are a map of the disk
+//! (`probed`); each command was exchanged as piece 0 on tag 0, and came back good (`read`); and the disk is as it was, with
+//! nothing on its tags and no label left (`same`). A fault has its cause, after which no command was sent: one that came
+//! back bad, with its status and a failure counted; a table that was read and is wrong; or memory refused (`fault`).
+//!
+//! It doesn't promise that memory suffices. Only the table in sector 0 is read, and none within a partition.
+#![tactic(auto)]
+
+mod asking;
+mod capacity;
+mod probing;
+
+use arrayvec::ArrayVec;
+use mbr::MbrFault;
+use ntstatus::NtStatus;
+pub use probing::probe;
+use sector::Extent;
+use thiserror::Error;
+
+/// What a disk says of itself.
+#[derive(Debug, Drop)]
+pub struct Probed {
+    /// Bytes of a sector, 512 or 4096.
+    pub sector_size: u64,
+    /// The number of sectors, from 1 to 2^40.
+    pub sectors: u64,
+    /// Those of the used entries of the partition table, in table order.
+    pub partitions: ArrayVec<Extent, 4>,
+}
+
+/// Why a disk could not be probed.
+#[derive(Debug, Clone, Copy, PartialEq, Eq, Error)]
+pub enum ProbeFault {
+    /// The adapter failed READ CAPACITY or the read of sector 0, with this status.
+    #[error("the device failed a command of the probe: {0}")]
+    Device(NtStatus),
+    /// Sector 0 holds no partition table that is right.
+    #[error("the partition table is wrong: {0}")]
+    Mbr(MbrFault),
+    /// Memory was refused.
+    #[error("no memory")]
+    NoMemory,
+}
+
+#[cfg(test)]
+mod tests;
