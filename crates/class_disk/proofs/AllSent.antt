@@ -180,7 +180,15 @@ module _ {R : Type 0} (request_of : R → Request) (ready : R → Type 0) (out0 
   pub none_sent : SentSoFar request_of ready out0 out0 takes_srb stack v0 b0 slot 0 v0 b0
   none_sent = record {
     starts = [];
-    goes = record { only_starts = All-nil IsStart; adapter = reserves_none v0.adapter; same_rules = refl; same_most = refl; same_last = refl; same_submitted = refl; same_packets = refl };
+    goes = record {
+      only_starts = All-nil IsStart;
+      adapter = reserves_none v0.adapter;
+      same_rules = refl;
+      same_most = refl;
+      same_last = refl;
+      same_submitted = refl;
+      same_packets = refl;
+    };
     others_stay = λ i d low. Contains-get_or v0.state.requests i d low;
     next_packet = omega arith;
     in_turn = λ o is_open. tt;
@@ -209,50 +217,66 @@ module _ {R : Type 0} (request_of : R → Request) (ready : R → Type 0) (out0 
         (rooms_left h ordered rise within, h.o, part h ordered rise within, place h ordered rise within, can_send_part h ordered rise within law)
 
     -- it is sent
-    pub one_sent : k < count → IsOrderly v → (out' : List R → Type 0) (v' : DeviceView) (b' : Books R)
-        → ((o : Opened R) (x : Part R) (p : Place R) → open_at slot b.opens ≡ Some o → slice_get o.parts k ≡ Some x → x.progress ≡ Ready p → SendsDown v b slot k o x p v' b')
-        → ((o : Opened R) (x : Part R) (p : Place R) (rooms : List R) → open_at slot b.opens ≡ Some o → slice_get o.parts k ≡ Some x → x.progress ≡ Ready p → out (p.room ∷ rooms) → out' rooms)
-        → SentSoFar request_of ready out0 out' takes_srb stack v0 b0 slot (k + 1) v' b'
-    one_sent low ordered out' v' b' sends rooms_step =
-        let within : (rooms : List (DiskRoom R)) (w : IsOpening request_of ready out takes_srb stack v b slot k rooms) → k < length w.o.parts =
-        λ rooms w. (let e = counts_now rooms w in omega arith) in
-        let x = sends h.o (part h ordered rise (within rooms0 h)) (place h ordered rise (within rooms0 h)) h.is_open
-        (is_there h ordered rise (within rooms0 h)) (with_place h ordered rise (within rooms0 h)).is_ready in
-        let goes = goes_on h ordered rise (within rooms0 h) v' b' x in
-        record {
-          starts = so_far.starts ++ x.submits.starts;
-          goes = record {
-            only_starts = All-append IsStart so_far.starts x.submits.starts so_far.goes.only_starts goes.only_starts;
-            adapter = moves_joined v0.adapter so_far.starts v.adapter x.submits.starts v'.adapter so_far.goes.adapter goes.adapter;
-            same_rules = goes.same_rules ∙ so_far.goes.same_rules;
-            same_most = goes.same_most ∙ so_far.goes.same_most;
-            same_last = goes.same_last ∙ so_far.goes.same_last;
-            same_submitted = goes.same_submitted ∙ so_far.goes.same_submitted;
-            same_packets = goes.same_packets ∙ so_far.goes.same_packets;
-          };
-          others_stay = λ i d low'. All-contains (StaysOpen v'.state) v.state.requests (get_or v0.state.requests i d) x.submits.others_stay
-              (so_far.others_stay i d low');
-          next_packet = let a = packets_on h ordered rise (within rooms0 h) v' b' x in let e = so_far.next_packet in omega arith;
-          in_turn = λ o is_open.
-              (let low' = within rooms0 h in
-              let number = number_on h ordered rise low' v' b' x ∙ ap (λ n. number_below n slot k) so_far.next_packet in
-              let long : length (take k h.o.parts) ≡ k = length-take-le k h.o.parts (omega (arith, low')) in
-              subst (WentInTurn b0.next_packet slot 0) (sym (part_on h ordered rise low' v' b' x o is_open))
-              (went_on b0.next_packet slot 0 (take k h.o.parts) (new_part h ordered rise low' v' b' x) (so_far.in_turn h.o h.is_open)
-              (number ∙ ap (λ n. number_below (b0.next_packet + n) slot k) (sym long)
-              ∙ ap (number_below (b0.next_packet + length (take k h.o.parts)) slot) (omega (arith, long)))));
-          table_stays = λ e apart c. table_on h ordered rise (within rooms0 h) v' b' x e apart (so_far.table_stays e apart c);
-          opening = λ rooms w0.
-              (let w : IsOpening request_of ready out takes_srb stack v b slot k rooms = so_far.opening rooms w0 in
-              sent_on w ordered rise (within rooms w) v' b'
-              (sends w.o (part w ordered rise (within rooms w)) (place w ordered rise (within rooms w)) w.is_open
-              (is_there w ordered rise (within rooms w)) (with_place w ordered rise (within rooms w)).is_ready)
-              out' (rooms_step w.o (part w ordered rise (within rooms w)) (place w ordered rise (within rooms w)) _ w.is_open (is_there w ordered rise (within rooms w)) (with_place w ordered rise (within rooms w)).is_ready) law);
-          taking = λ first labels t0.
-              subst (OpeningSoFar v' b' first) (append_assoc labels so_far.starts x.submits.starts)
-              (taking_on h ordered rise (within rooms0 h) v' b' x first (labels ++ so_far.starts) (so_far.taking first labels t0));
-          long = λ o0 o is0 is. long_on h ordered rise (within rooms0 h) v' b' x o is ∙ so_far.long o0 h.o is0 h.is_open;
-        }
+    module _ (low : k < count) (ordered : IsOrderly v) (out' : List R → Type 0) (v' : DeviceView) (b' : Books R)
+        (sends : (o : Opened R) (x : Part R) (p : Place R) → open_at slot b.opens ≡ Some o → slice_get o.parts k ≡ Some x → x.progress ≡ Ready p
+        → SendsDown v b slot k o x p v' b')
+        (rooms_step : (o : Opened R) (x : Part R) (p : Place R) (rooms : List R) → open_at slot b.opens ≡ Some o → slice_get o.parts k ≡ Some x
+        → x.progress ≡ Ready p → out (p.room ∷ rooms) → out' rooms) where
+      module _ (rooms : List (DiskRoom R)) (w : IsOpening request_of ready out takes_srb stack v b slot k rooms) where
+        within : k < length w.o.parts
+        within = let e = counts_now rooms w in omega arith
+
+        abbrev its_place : Place R
+        its_place = place w ordered rise within
+
+        down_now : SendsDown v b slot k w.o (part w ordered rise within) its_place v' b'
+        down_now = sends w.o _ its_place w.is_open (is_there w ordered rise within) (with_place w ordered rise within).is_ready
+
+        opening_next : IsOpening request_of ready out' takes_srb stack v' b' slot (k + 1) rooms
+        opening_next =
+            sent_on w ordered rise within v' b' down_now out'
+            (rooms_step w.o _ its_place _ w.is_open (is_there w ordered rise within) (with_place w ordered rise within).is_ready) law
+
+      abbrev inside : k < length h.o.parts
+      inside = within rooms0 h
+
+      abbrev x : SendsDown v b slot k h.o (part h ordered rise inside) (place h ordered rise inside) v' b'
+      x = down_now rooms0 h
+
+      next_turn : (o : Opened R) → open_at slot b'.opens ≡ Some o → WentInTurn b0.next_packet slot 0 (take (k + 1) o.parts)
+      next_turn o is_open =
+          let number = number_on h ordered rise inside v' b' x ∙ ap (λ n. number_below n slot k) so_far.next_packet in
+          let long : length (take k h.o.parts) ≡ k = (let low' = inside in length-take-le k h.o.parts (omega arith)) in
+          subst (WentInTurn b0.next_packet slot 0) (sym (part_on h ordered rise inside v' b' x o is_open))
+          (went_on b0.next_packet slot 0 (take k h.o.parts) (new_part h ordered rise inside v' b' x) (so_far.in_turn h.o h.is_open)
+          (number ∙ ap (λ n. number_below (b0.next_packet + n) slot k) (sym long)
+          ∙ ap (number_below (b0.next_packet + length (take k h.o.parts)) slot) (omega (arith, long))))
+
+      pub one_sent : SentSoFar request_of ready out0 out' takes_srb stack v0 b0 slot (k + 1) v' b'
+      one_sent =
+          let goes = goes_on h ordered rise inside v' b' x in
+          record {
+            starts = so_far.starts ++ x.submits.starts;
+            goes = record {
+              only_starts = All-append IsStart so_far.starts x.submits.starts so_far.goes.only_starts goes.only_starts;
+              adapter = moves_joined v0.adapter so_far.starts v.adapter x.submits.starts v'.adapter so_far.goes.adapter goes.adapter;
+              same_rules = goes.same_rules ∙ so_far.goes.same_rules;
+              same_most = goes.same_most ∙ so_far.goes.same_most;
+              same_last = goes.same_last ∙ so_far.goes.same_last;
+              same_submitted = goes.same_submitted ∙ so_far.goes.same_submitted;
+              same_packets = goes.same_packets ∙ so_far.goes.same_packets;
+            };
+            others_stay = λ i d low'.
+                All-contains (StaysOpen v'.state) v.state.requests (get_or v0.state.requests i d) x.submits.others_stay (so_far.others_stay i d low');
+            next_packet = let a = packets_on h ordered rise inside v' b' x in let e = so_far.next_packet in omega arith;
+            in_turn = next_turn;
+            table_stays = λ e apart c. table_on h ordered rise inside v' b' x e apart (so_far.table_stays e apart c);
+            opening = λ rooms w0. opening_next rooms (so_far.opening rooms w0);
+            taking = λ first labels t0.
+                subst (OpeningSoFar v' b' first) (append_assoc labels so_far.starts x.submits.starts)
+                (taking_on h ordered rise inside v' b' x first (labels ++ so_far.starts) (so_far.taking first labels t0));
+            long = λ o0 o is0 is. long_on h ordered rise inside v' b' x o is ∙ so_far.long o0 h.o is0 h.is_open;
+          }
 
     -- all are
     pub all_sent : k ≡ count → (first : State) (labels : List DeviceLabel) (rooms : List (DiskRoom R)) → OpeningSoFar v0 b0 first labels

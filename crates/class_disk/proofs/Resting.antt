@@ -1,6 +1,6 @@
 -- Between calls: where the machine below is settled and nothing that has ended waits there, the one above is settled.
 use Rattle.std.proofs.Common.{◌≡◌, ◌<◌, ◌⊎◌, inl, inr, ℕ, zero, suc, ◌+◌, not, ◌||◌, Bool, true, false, List, [], ◌∷◌, refl, sym, ◌∙◌, ap, subst, arith, map, length, get_or, None}
-use Rattle.std.specs.Prelude.{All, Any, Contains, IsTrue, IsFalse, if◌then◌else◌}
+use Rattle.std.specs.Prelude.{All, Contains, IsTrue, IsFalse, if◌then◌else◌}
 use Rattle.std.specs.List.{list_all, list_any}
 use Rattle.std.proofs.lemmas.Bool.{cases_Bool}
 use Rattle.std.proofs.lemmas.List.{length-map}

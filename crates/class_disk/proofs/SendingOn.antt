@@ -477,7 +477,10 @@ module _ {R : Type 0} {request_of : R → Request} {ready : R → Type 0} {out :
           written = each_part (IsWritten rules h.o) (IsWritten rules h.o) tt (λ y is. is) h.written;
           numbered = numbered_next;
           slot_is = h.slot_is;
-          restarts = (h.restarts.0, restarts-append front (new_part ∷ back) ∙ sym (ap restarts_of parts_are ∙ restarts-append front (old_part ∷ back)) ∙ h.restarts.1);
+          restarts = (
+            h.restarts.0,
+            restarts-append front (new_part ∷ back) ∙ sym (ap restarts_of parts_are ∙ restarts-append front (old_part ∷ back)) ∙ h.restarts.1,
+          );
           unfinished = h.unfinished ∙ ap length parts_are ∙ length-append front (old_part ∷ back) ∙ sym (length-append front (new_part ∷ back));
           vacant = h.vacant;
           ended = subst (IsPermutation b.ended) (sym ended_stay) h.ended;

@@ -113,7 +113,7 @@ IsNothing o = ⊥
 abbrev pub IsIfEnded : (OpenRequest → Type 0) → Rules → State → OpenRequest → Type 0
 IsIfEnded Is rules s o = All (HasEnded rules s o) o.marks → Is o
 
--- all that has ended is like this: sent, behind a return, or never sent, behind a cancellation or a removal
+-- all that has ended is like this: sent, behind a return; never sent, behind a cancellation or a removal; nothing, behind a submission
 abbrev pub EndedAre : (OpenRequest → Type 0) → Rules → State → Type 0
 EndedAre Is rules s = All (IsIfEnded Is rules s) s.requests
 

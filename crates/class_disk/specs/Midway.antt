@@ -51,7 +51,7 @@ pub record GoesOn {R : Type 0} (v : DeviceView) (b : Books R) (starts : List Dev
   pub same_packets : map packet_above b'.opens ≡ map packet_above b.opens
 
 -- packets that ended are taken one by one: each part is noted, or goes down again. What has ended below and is not taken yet
--- is all like this: sent, behind a return, or never sent, behind a cancellation or a removal
+-- is all like this: sent, behind a return; never sent, behind a cancellation or a removal; nothing, behind a submission
 pub record IsMidway {R : Type 0} (out : List R → Type 0) (takes_srb : Bool) (stack_size : ℕ) (Is : OpenRequest → Type 0) (first : State) (labels : List DeviceLabel) (v : DeviceView) (b : Books R) (rooms : List (DiskRoom R)) : Type 0 where
   pub takes : TakesParts takes_srb stack_size
   pub port : IsPort v.rules

@@ -1,10 +1,10 @@
 -- What words ask for, argument by argument.
-use Rattle.std.proofs.Common.{◌≡◌, ◌↔◌, ℕ, Bool, IsTrue, List, [], ◌∷◌, Option, None, Some, slice_get, arith, ap, codes, drop, false, true, refl, slice_index, subst, sym}
+use Rattle.std.proofs.Common.{◌≡◌, ◌↔◌, ◌+◌, ◌*◌, ℕ, Bool, IsTrue, List, [], ◌∷◌, Option, None, Some, slice_get, arith, ap, codes, drop, false, length, true, refl, slice_index, subst, sym}
 use Rattle.std.specs.Bool.{then_some}
 use Rattle.std.specs.List.{AllZip}
 use Rattle.script.specs.declared.Order.{Order}
-use Rattle.script.specs.declared.Order.TheVariants.{Open, Read, Write, Act, Finish}
-use Rattle.script.specs.Script.{Argument, Asks, Byte, Finds, FirstSpells, Length, Number, Spells, verb_of}
+use Rattle.script.specs.declared.Order.TheVariants.{Open, Close, Read, Write, Flush, Cancel, Mark, QueryRemove, CancelRemove, Remove, SurpriseRemove, Act, Finish, Reset}
+use Rattle.script.specs.Script.{Argument, Asks, Byte, Finds, FirstSpells, Length, Number, Spells, request_of, through_of, verb_of}
 
 -- an argument and those after it
 pub first_spells : (words rest : List (List ℕ)) (a : Argument) (more : List Argument) → rest ≡ drop 1 words → AllZip Spells words (a ∷ more)
@@ -51,9 +51,9 @@ module _ (words rest_1 rest_2 rest_3 : List (List ℕ)) (a b c : Argument) (more
   pub three_more : FirstSpells words a → FirstSpells rest_1 b → FirstSpells rest_2 c → AllZip Spells rest_3 more → AllZip Spells words (a ∷ b ∷ c ∷ more)
   three_more x y z h = spells_more words rest_1 a (b ∷ c ∷ more) e_1 x (spells_more rest_1 rest_2 b (c ∷ more) e_2 y (spells_more rest_2 rest_3 c more e_3 z h))
 
--- two words that begin with different letters are not the same
-apart : (v w : List ℕ) → ¬ (slice_index v 0 ≡ slice_index w 0) → ¬ (v ≡ w)
-apart v w differ e = differ (ap (λ u. slice_index u 0) e)
+-- two words that begin with different letters, or are not as long, are not the same
+apart : (v w : List ℕ) → ¬ (slice_index v 0 + 256 * length v ≡ slice_index w 0 + 256 * length w) → ¬ (v ≡ w)
+apart v w differ e = differ (ap (λ u. slice_index u 0 + 256 * length u) e)
 
 pub read_is : (words : List (List ℕ)) (order : Order) → Asks (codes "read" ∷ words) order
     → (handle : ℕ) × (offset : ℕ) × (count : ℕ) × AllZip Spells words (Number handle ∷ Number offset ∷ Length count ∷ [])
@@ -61,16 +61,64 @@ read_is words (Read handle offset count) h = (handle, offset, count, h.1)
 read_is words order h = absurd (apart (codes "read") (verb_of order) (λ e. omega (arith, e)) h.0)
 
 pub write_is : (words : List (List ℕ)) (order : Order) → Asks (codes "write" ∷ words) order
-    → (handle : ℕ) × (offset : ℕ) × (count : ℕ) × (byte : ℕ) × AllZip Spells words (Number handle ∷ Number offset ∷ Length count ∷ Byte byte ∷ [])
-write_is words (Write handle offset count byte) h = (handle, offset, count, byte, h.1)
+    → (handle : ℕ) × (offset : ℕ) × (count : ℕ) × (byte : ℕ) × (through : Bool) × AllZip Spells words (Number handle ∷ Number offset ∷ Length count ∷ Byte byte ∷ through_of through)
+write_is words (Write handle offset count byte through) h = (handle, offset, count, byte, through, h.1)
 write_is words order h = absurd (apart (codes "write") (verb_of order) (λ e. omega (arith, e)) h.0)
 
+pub cancel_is : (words : List (List ℕ)) (order : Order) → Asks (codes "cancel" ∷ words) order → (handle : ℕ) × (request : Option ℕ) × AllZip Spells words (Number handle ∷ request_of request)
+cancel_is words (Cancel handle request) h = (handle, request, h.1)
+cancel_is words order h = absurd (apart (codes "cancel") (verb_of order) (λ e. omega (arith, e)) h.0)
+
+-- through is the last word, or another word stands behind it
+through_rest : (through : Bool) (word : List ℕ) (words rest : List (List ℕ)) → rest ≡ words → AllZip Spells (word ∷ words) (through_of through) → AllZip Spells rest []
+through_rest true word words rest e h = subst (λ ws. AllZip Spells ws []) (sym e) h.1
+through_rest false word words rest e h = absurd h
+
+pub through_found : (words rest : List (List ℕ)) (word : List ℕ) (b : Bool) (found : Option Bool) → Some word ≡ slice_get words 0 → word ≡ codes "through" → rest ≡ drop 1 words
+    → found ≡ then_some b true → (IsTrue b ↔ (rest ≡ [])) → Finds (λ through. AllZip Spells words (through_of through)) found
+through_found [] rest word b found first is e given ends = absurd (cc (first))
+through_found (one ∷ words) rest word b found first is e given ends =
+    finds_at_end (λ through. AllZip Spells (one ∷ words) (through_of through)) true rest b found given ends
+    (λ h. (cc (first, is), subst (λ ws. AllZip Spells ws []) e h)) (λ through h. through_rest through one words rest e h)
+
+-- words are left, and are no number of a request
+no_request : (words : List (List ℕ)) (b : Bool) (request : Option ℕ) → b ≡ false → (IsTrue b ↔ (words ≡ [])) → ((n : ℕ) → ¬ (AllZip Spells words (Number n ∷ [])))
+    → ¬ (AllZip Spells words (request_of request))
+no_request words b (Some n) some ends none h = none n h
+no_request words b None some ends none h = let at_end : IsTrue b = ends.1 (no_more words h) in absurd (cc (some, at_end))
+
+pub no_request_found : (words : List (List ℕ)) (b : Bool) (found : Option (Option ℕ)) → found ≡ None → b ≡ false → (IsTrue b ↔ (words ≡ []))
+    → ((n : ℕ) → ¬ (AllZip Spells words (Number n ∷ []))) → Finds (λ request. AllZip Spells words (request_of request)) found
+no_request_found words b found e some ends none =
+    finds_none (λ request. AllZip Spells words (request_of request)) found e (λ request h. no_request words b request some ends none h)
+
+-- words ask for an order that begins with the first of them
+begins_with : (order : Order) (word : List ℕ) (words : List (List ℕ)) → Some word ≡ slice_get words 0 → Asks words order → word ≡ verb_of order
+begins_with order word [] first h = absurd h
+begins_with order word (verb ∷ words) first h = cc (first, h.0)
+
 -- each order begins with one of the verbs
-pub verb_is : (order : Order) (word : List ℕ) (words : List (List ℕ)) → Some word ≡ slice_get words 0 → ¬ (word ≡ codes "open") → ¬ (word ≡ codes "read") → ¬ (word ≡ codes "write")
-    → ¬ (word ≡ codes "act") → ¬ (word ≡ codes "finish") → ¬ (Asks words order)
-verb_is order word [] first not_open read write act finish h = h
-verb_is (Open partition) word (verb ∷ words) first not_open read write act finish h = not_open (cc (h.0))
-verb_is (Read handle offset count) word (verb ∷ words) first not_open read write act finish h = read (cc (h.0))
-verb_is (Write handle offset count byte) word (verb ∷ words) first not_open read write act finish h = write (cc (h.0))
-verb_is (Act tag) word (verb ∷ words) first not_open read write act finish h = act (cc (h.0))
-verb_is (Finish tag) word (verb ∷ words) first not_open read write act finish h = finish (cc (h.0))
+module _ (word : List ℕ)
+    (not_open : ¬ (word ≡ codes "open")) (not_close : ¬ (word ≡ codes "close")) (not_read : ¬ (word ≡ codes "read"))
+    (not_write : ¬ (word ≡ codes "write")) (not_flush : ¬ (word ≡ codes "flush")) (not_cancel : ¬ (word ≡ codes "cancel"))
+    (not_mark : ¬ (word ≡ codes "mark")) (not_query_remove : ¬ (word ≡ codes "query-remove")) (not_cancel_remove : ¬ (word ≡ codes "cancel-remove"))
+    (not_remove : ¬ (word ≡ codes "remove")) (not_surprise_remove : ¬ (word ≡ codes "surprise-remove")) (not_act : ¬ (word ≡ codes "act"))
+    (not_finish : ¬ (word ≡ codes "finish")) (not_reset : ¬ (word ≡ codes "reset")) where
+  is_verb : (order : Order) → ¬ (word ≡ verb_of order)
+  is_verb (Open partition) = not_open
+  is_verb (Close handle) = not_close
+  is_verb (Read handle offset count) = not_read
+  is_verb (Write handle offset count byte through) = not_write
+  is_verb (Flush handle) = not_flush
+  is_verb (Cancel handle request) = not_cancel
+  is_verb (Mark request) = not_mark
+  is_verb QueryRemove = not_query_remove
+  is_verb CancelRemove = not_cancel_remove
+  is_verb Remove = not_remove
+  is_verb SurpriseRemove = not_surprise_remove
+  is_verb (Act tag) = not_act
+  is_verb (Finish tag) = not_finish
+  is_verb Reset = not_reset
+
+  pub no_verb : (order : Order) (words : List (List ℕ)) → Some word ≡ slice_get words 0 → ¬ (Asks words order)
+  no_verb order words first h = is_verb order (begins_with order word words first h)

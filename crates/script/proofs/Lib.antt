@@ -1,6 +1,7 @@
 mod Asked
 mod EqualBytes
 mod Flushed
+mod GivenBack
 mod Parted
 mod Playing
 mod Printed

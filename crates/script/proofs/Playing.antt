@@ -1,5 +1,5 @@
 -- The lines of a script, played one after the other.
-use Rattle.std.proofs.Common.{◌≡◌, ◌≤◌, ◌<◌, ◌+◌, ◌-◌, inl, inr, ℕ, suc, List, [], ◌∷◌, ◌++◌, Option, ap, subst, sym, refl, ◌∙◌, drop, take, map, length, get_or, arith}
+use Rattle.std.proofs.Common.{◌≡◌, ◌≤◌, ◌<◌, ◌+◌, ◌-◌, inl, inr, ℕ, suc, List, [], ◌∷◌, ◌++◌, Option, Bool, true, false, ap, subst, sym, refl, ◌∙◌, drop, take, map, length, get_or, arith}
 use Rattle.std.specs.Prelude.{codes, IsPermutation}
 use Rattle.std.proofs.lemmas.List.{append_assoc, append-nil, drop_all, length-drop, take_more}
 use Rattle.std.proofs.lemmas.List.Sorted.{length_permutation}
@@ -7,14 +7,17 @@ use Rattle.std.specs.Io.KnownBytes.{Appends}
 use Rattle.machine.specs.declared.Label.{Label}
 use Rattle.machine.specs.declared.Label.TheVariants.{Call, Device, Answer as AnswerLabel, Cancel, Pause, Resume, Remove, Surprise, Removed}
 use Rattle.machine.specs.Step.{as_label}
-use Rattle.compose.specs.declared.Answer.{Answer}
+use Rattle.io_manager.specs.declared.Answer.{Answer}
+use Rattle.io_manager.specs.declared.Reply.{Reply}
+use Rattle.io_manager.specs.Right.{IsRightBy, Told, as_answer, end_labels}
+use Rattle.io_manager.specs.Shown.{ManagerView}
 use Rattle.compose.specs.declared.Event.{Event}
-use Rattle.compose.specs.declared.Reply.{Reply}
-use Rattle.compose.specs.Right.{IsRight, as_answer}
-use Rattle.compose.specs.Shown.{StackView}
+use Rattle.compose.specs.declared.Event.TheVariants.{Open, Close, Read, Write, Flush, CancelIoEx, Mark, QueryRemove, CancelRemove, Remove as RemoveEvent, SurpriseRemove, Act, Finish, Reset}
+use Rattle.compose.specs.Right.{IsRight}
 use Rattle.script.specs.declared.Line.{Line}
 use Rattle.script.specs.declared.Order.{Order}
-use Rattle.script.specs.Events.{Handles, Keeps}
+use Rattle.script.specs.declared.numbers.Given.{Given}
+use Rattle.script.specs.Events.{Keeps}
 use Rattle.script.specs.Printing.{labels_text, line_end, reply_line}
 use Rattle.script.specs.Trace.{left_by, left_by_all, without_labels, Between, IsAllTaken, IsCarriedOut, IsLinePlayed, IsPlayed, IsTrace, IsTraceTo, Prints, line_text}
 use Rattle.std.specs.BTreeMap.{IsEmpty}
@@ -34,38 +37,68 @@ fewer Remove answers = omega arith
 fewer Surprise answers = omega arith
 fewer Removed answers = omega arith
 
--- labels, and then those of as many answers as wait
-none_left : (labels : List Label) (told answers : List Answer) → length answers ≤ length told → left_by_all (labels ++ map as_answer told) answers ≡ []
-none_left [] [] answers few = drop_all 0 answers few
-none_left [] (one ∷ told) answers few =
+-- labels take no answer where none waits
+still_none : (labels : List Label) → left_by_all labels [] ≡ []
+still_none [] = refl
+still_none (Call number request ∷ labels) = still_none labels
+still_none (Device label ∷ labels) = still_none labels
+still_none (AnswerLabel number status information bytes ∷ labels) = still_none labels
+still_none (Cancel number ∷ labels) = still_none labels
+still_none (Pause ∷ labels) = still_none labels
+still_none (Resume ∷ labels) = still_none labels
+still_none (Remove ∷ labels) = still_none labels
+still_none (Surprise ∷ labels) = still_none labels
+still_none (Removed ∷ labels) = still_none labels
+
+-- labels, then those of as many answers as wait, and then others
+none_left : (labels : List Label) (told : List Answer) (more : List Label) (answers : List Answer) → length answers ≤ length told
+    → left_by_all ((labels ++ map as_answer told) ++ more) answers ≡ []
+none_left [] [] more answers few = ap (left_by_all more) (drop_all 0 answers few) ∙ still_none more
+none_left [] (one ∷ told) more answers few =
     let e : length (drop 1 answers) ≡ length answers - 1 = length-drop 1 answers in
     let f : length (one ∷ told) ≡ suc (length told) = refl in
-    none_left [] told (drop 1 answers) (omega arith)
-none_left (label ∷ labels) told answers few =
+    none_left [] told more (drop 1 answers) (omega arith)
+none_left (label ∷ labels) told more answers few =
     let e : length (left_by label answers) ≤ length answers = fewer label answers in
-    none_left labels told (left_by label answers) (omega arith)
+    none_left labels told more (left_by label answers) (omega arith)
 
 -- a right step's labels take all answers with them, where none waited before
-of_right : (old : StackView) (event : Event) (reply : Reply) (new : StackView) → IsAllTaken old → IsRight old event reply new → left_by_all new.labels new.answers ≡ []
-of_right old event reply new taken h =
-    let all : IsPermutation new.answers h.told.answers =
-    subst (λ (xs : List Answer). IsPermutation new.answers xs) (ap (λ (xs : List Answer). h.told.answers ++ xs) taken.answers ∙ append-nil h.told.answers) h.by.untaken in
-    let same : length h.told.answers ≡ length new.answers = length_permutation new.answers h.told.answers all in
-    ap (λ (ls : List Label). left_by_all ls new.answers) h.by.in_order
-    ∙ none_left (h.told.own ++ map as_label h.told.device) h.told.answers new.answers (omega arith)
+of_told : (reset : Bool) (told : Told) (old new : ManagerView) → IsAllTaken old → IsRightBy reset told old new → left_by_all new.labels new.answers ≡ []
+of_told reset told old new taken h =
+    let all : IsPermutation new.answers told.answers =
+    subst (λ (xs : List Answer). IsPermutation new.answers xs) (ap (λ (xs : List Answer). told.answers ++ xs) taken.answers ∙ append-nil told.answers) h.untaken in
+    let same : length told.answers ≡ length new.answers = length_permutation new.answers told.answers all in
+    ap (λ (ls : List Label). left_by_all ls new.answers) h.in_order
+    ∙ none_left (told.own ++ map as_label told.device) told.answers (end_labels told.ends) new.answers (omega arith)
 
-of_carried : (handles : Handles) (order : Order) (old : StackView) (reply : Reply) (new : StackView) → IsAllTaken old → IsCarriedOut handles order old reply new
+of_right : (old : ManagerView) (event : Event) (reply : Reply) (new : ManagerView) → IsAllTaken old → IsRight old event reply new → left_by_all new.labels new.answers ≡ []
+of_right old (Open partition) reply new taken h = of_told false h.told old new taken h.by
+of_right old (Close handle) reply new taken h = of_told false h.told old new taken h.by
+of_right old (Read handle offset buffer) reply new taken h = of_told false h.told old new taken h.by
+of_right old (Write handle offset bytes through) reply new taken h = of_told false h.told old new taken h.by
+of_right old (Flush handle) reply new taken h = of_told false h.told old new taken h.by
+of_right old (CancelIoEx handle target) reply new taken h = of_told false h.told old new taken h.by
+of_right old (Mark number) reply new taken h = of_told false h.told old new taken h.by
+of_right old QueryRemove reply new taken h = of_told false h.told old new taken h.by
+of_right old CancelRemove reply new taken h = of_told false h.told old new taken h.by
+of_right old RemoveEvent reply new taken h = of_told false h.told old new taken h.by
+of_right old SurpriseRemove reply new taken h = of_told false h.told old new taken h.by
+of_right old (Act tag) reply new taken h = of_told false h.told old new taken h.by
+of_right old (Finish tag) reply new taken h = of_told false h.told old new taken h.by
+of_right old Reset reply new taken h = of_told true h.1.told old new taken h.1.by
+
+of_carried : (given : Given) (order : Order) (old : ManagerView) (reply : Reply) (new : ManagerView) → IsAllTaken old → IsCarriedOut given order old reply new
     → left_by_all new.labels new.answers ≡ []
-of_carried handles order old reply new taken (inl h) = of_right old h.event reply new taken h.right
-of_carried handles order old reply new taken (inr h) =
-    ap (λ (v : StackView). left_by_all v.labels v.answers) h.1 ∙ (ap (λ (ls : List Label). left_by_all ls old.answers) taken.labels ∙ taken.answers)
+of_carried given order old reply new taken (inl h) = of_right old h.event reply new taken h.right
+of_carried given order old reply new taken (inr h) =
+    ap (λ (v : ManagerView). left_by_all v.labels v.answers) h.1 ∙ (ap (λ (ls : List Label). left_by_all ls old.answers) taken.labels ∙ taken.answers)
 
 -- A LINE
 
 -- what the steps of a line give
-pub line_played : (old new : Between) (line : Line) (reply : Reply) (stepped : StackView) (a b c d : Option (List ℕ)) → IsAllTaken old.stack
-    → IsCarriedOut old.handles line.order old.stack reply stepped → Appends a b (codes "> " ++ (line.text.now ++ line_end)) → Appends b c (reply_line reply)
-    → Keeps reply old.handles new.handles → new.stack ≡ without_labels stepped → Appends c d (labels_text stepped.labels)
+pub line_played : (old new : Between) (line : Line) (reply : Reply) (stepped : ManagerView) (a b c d : Option (List ℕ)) → IsAllTaken old.stack
+    → IsCarriedOut old.given line.order old.stack reply stepped → Appends a b (codes "> " ++ (line.text.now ++ line_end)) → Appends b c (reply_line reply)
+    → Keeps reply old.given new.given → new.stack ≡ without_labels stepped → Appends c d (labels_text stepped.labels)
     → Prints a d (λ text. IsLinePlayed old line text new)
 line_played old new line reply stepped a b c d taken carried first second keeps gone third = record {
   text = line_text line reply stepped.labels;
@@ -74,8 +107,8 @@ line_played old new line reply stepped a b c d taken carried first second keeps 
     stepped = stepped;
     carried = carried;
     printed = refl;
-    taken = gone ∙ ap (λ (xs : List Answer). record stepped { labels = []; answers = xs }) (of_carried old.handles line.order old.stack reply stepped taken carried);
-    handles = keeps;
+    taken = gone ∙ ap (λ (xs : List Answer). record stepped { labels = []; answers = xs }) (of_carried old.given line.order old.stack reply stepped taken carried);
+    keeps = keeps;
   };
   appends = both a b d (codes "> " ++ (line.text.now ++ line_end)) (reply_line reply ++ labels_text stepped.labels) first
       (both b c d (reply_line reply) (labels_text stepped.labels) second third);
@@ -83,7 +116,7 @@ line_played old new line reply stepped a b c d taken carried first second keeps 
 
 -- after a line all labels and answers are taken
 pub all_taken : (old new : Between) (line : Line) (text : List ℕ) → IsLinePlayed old line text new → IsAllTaken new.stack
-all_taken old new line text h = record { labels = ap (λ (v : StackView). v.labels) h.taken; answers = ap (λ (v : StackView). v.answers) h.taken }
+all_taken old new line text h = record { labels = ap (λ (v : ManagerView). v.labels) h.taken; answers = ap (λ (v : ManagerView). v.answers) h.taken }
 
 -- ALL LINES
 
@@ -96,31 +129,32 @@ played_more old [] text mid line more new h one =
 played_more old (next ∷ lines) text mid line more new h one =
     (h.0, h.1 ++ more, h.2, h.3, played_more h.2 lines h.1 mid line more new h.4 one, ap (λ (t : List ℕ). t ++ more) h.5 ∙ append_assoc h.0 h.1 more)
 
-pub none_played : (stack : StackView) (handles : Handles) (known : Option (List ℕ)) → IsEmpty handles
-    → Prints known known (λ text. IsTraceTo stack [] text (record { stack = stack; handles = handles }))
-none_played stack handles known none = record {
+pub none_played : (stack : ManagerView) (given : Given) (known : Option (List ℕ)) → IsEmpty given.handles → IsEmpty given.requests
+    → Prints known known (λ text. IsTraceTo stack [] text (record { stack = stack; given = given }))
+none_played stack given known no_handle no_request = record {
   text = [];
-  is = record { handles = handles; none = none; played = (refl, refl) };
+  is = record { given = given; no_handle = no_handle; no_request = no_request; played = (refl, refl) };
   appends = nothing known;
 }
 
-pub one_played : (stack : StackView) (lines : List Line) (i : ℕ) (d : Line) (mid new : Between) (a b c : Option (List ℕ)) → i < length lines
+pub one_played : (stack : ManagerView) (lines : List Line) (i : ℕ) (d : Line) (mid new : Between) (a b c : Option (List ℕ)) → i < length lines
     → Prints a b (λ text. IsTraceTo stack (take i lines) text mid) → Prints b c (λ text. IsLinePlayed mid (get_or lines i d) text new)
     → Prints a c (λ text. IsTraceTo stack (take (i + 1) lines) text new)
 one_played stack lines i d mid new a b c inside h one = record {
   text = h.text ++ one.text;
   is = record {
-    handles = h.is.handles;
-    none = h.is.none;
+    given = h.is.given;
+    no_handle = h.is.no_handle;
+    no_request = h.is.no_request;
     played =
-        subst (λ (ls : List Line). IsPlayed (record { stack = stack; handles = h.is.handles }) ls (h.text ++ one.text) new) (sym (take_more lines i d inside))
-        (played_more (record { stack = stack; handles = h.is.handles }) (take i lines) h.text mid (get_or lines i d) one.text new h.is.played one.is);
+        subst (λ (ls : List Line). IsPlayed (record { stack = stack; given = h.is.given }) ls (h.text ++ one.text) new) (sym (take_more lines i d inside))
+        (played_more (record { stack = stack; given = h.is.given }) (take i lines) h.text mid (get_or lines i d) one.text new h.is.played one.is);
   };
   appends = both a b c h.text one.text h.appends one.appends;
 }
 
 -- all lines
-pub all_played : (stack : StackView) (lines : List Line) (i : ℕ) (end : Between) (a b : Option (List ℕ)) → take i lines ≡ lines
+pub all_played : (stack : ManagerView) (lines : List Line) (i : ℕ) (end : Between) (a b : Option (List ℕ)) → take i lines ≡ lines
     → Prints a b (λ text. IsTraceTo stack (take i lines) text end) → Prints a b (λ text. IsTrace stack lines text end.stack)
 all_played stack lines i end a b all h = record {
   text = h.text;

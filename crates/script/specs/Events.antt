@@ -1,36 +1,66 @@
 -- The events that a script asks for.
-use Rattle.std.specs.Prelude.{◌≡◌, ◌≢◌, ◌<◌, ℕ, nat_lt, [], Some, None, replicate, if◌then◌else◌}
+use Rattle.std.specs.Prelude.{◌≡◌, ◌≢◌, ◌<◌, ℕ, nat_lt, [], Option, Some, None, replicate, if◌then◌else◌}
 use Rattle.std.specs.BTreeMap.{BTreeMap, get}
 use Rattle.std.specs.Ordering.{nat_cmp}
+use Rattle.io_manager.specs.declared.Handle.{Handle}
+use Rattle.io_manager.specs.declared.Id.{Id}
+use Rattle.io_manager.specs.declared.Refusal.TheVariants.{InsufficientResources}
+use Rattle.io_manager.specs.declared.Reply.{Reply}
+use Rattle.io_manager.specs.declared.Reply.TheVariants.{Handle as HandleReply, Request as Requested, Refused, Ignored}
 use Rattle.compose.specs.declared.Event.{Event}
-use Rattle.compose.specs.declared.Event.TheVariants.{Open as OpenEvent, Read as ReadEvent, Write as WriteEvent, Act as ActEvent, Finish as FinishEvent}
-use Rattle.compose.specs.declared.Handle.{Handle}
-use Rattle.compose.specs.declared.Refusal.TheVariants.{InsufficientResources}
-use Rattle.compose.specs.declared.Reply.{Reply}
-use Rattle.compose.specs.declared.Reply.TheVariants.{Handle as Given, Refused, Ignored}
+use Rattle.compose.specs.declared.Event.TheVariants.{Open as OpenEvent, Close as CloseEvent, Read as ReadEvent, Write as WriteEvent, Flush as FlushEvent, CancelIoEx, Mark as MarkEvent, QueryRemove as QueryEvent, CancelRemove as RecallEvent, Remove as RemoveEvent, SurpriseRemove as SurpriseEvent, Act as ActEvent, Finish as FinishEvent, Reset as ResetEvent}
 use Rattle.script.specs.declared.Order.{Order}
-use Rattle.script.specs.declared.Order.TheVariants.{Open, Read, Write, Act, Finish}
+use Rattle.script.specs.declared.Order.TheVariants.{Open, Close, Read, Write, Flush, Cancel, Mark, QueryRemove, CancelRemove, Remove, SurpriseRemove, Act, Finish, Reset}
+use Rattle.script.specs.declared.numbers.Given.{Given}
 
 -- handles by their numbers
 abbrev pub Handles : Type 0
 Handles = BTreeMap ℕ Handle
 
+-- requests by their numbers
+abbrev pub Requests : Type 0
+Requests = BTreeMap ℕ Id
+
 -- each handle stands under its own number
-abbrev pub AreNamed : Handles → Type 0
-AreNamed handles = (number : ℕ) (handle : Handle) → get nat_cmp handles number ≡ Some handle → handle.number ≡ number
+abbrev pub HandlesAreNamed : Handles → Type 0
+HandlesAreNamed handles = (number : ℕ) (handle : Handle) → get nat_cmp handles number ≡ Some handle → handle.number ≡ number
+
+-- each request stands under its own number
+abbrev pub RequestsAreNamed : Requests → Type 0
+RequestsAreNamed requests = (number : ℕ) (id : Id) → get nat_cmp requests number ≡ Some id → id.number ≡ number
+
+-- both
+pub record AreNamed (given : Given) : Type 0 where
+  pub handles : HandlesAreNamed given.handles
+  pub requests : RequestsAreNamed given.requests
 
 -- the handle of a number; of one that was not given out a handle that isn't open
 abbrev pub handle_of : Handles → ℕ → Handle
 handle_of handles number = elim (get nat_cmp handles number) [ Some handle ↦ handle | None ↦ record { slot = 0; number = number } ]
+
+-- the request of a number; of one that was not given out a request that isn't open
+abbrev pub id_of : Requests → ℕ → Id
+id_of requests number = elim (get nat_cmp requests number) [ Some id ↦ id | None ↦ record { slot = 0; number = number } ]
+
+-- the one request that a cancel is of, if it is of one
+abbrev pub target_of : Requests → Option ℕ → Option Id
+target_of requests None = None
+target_of requests (Some number) = Some (id_of requests number)
 
 -- a handle is kept under its number, beside the others
 pub record KeepsHandle (handle : Handle) (old new : Handles) : Type 0 where
   pub kept : handle_of new handle.number ≡ handle
   pub others : (number : ℕ) → number ≢ handle.number → handle_of new number ≡ handle_of old number
 
--- what becomes of the handles by a reply
-abbrev pub Keeps : Reply → Handles → Handles → Type 0
-Keeps (Given handle) old new = KeepsHandle handle old new
+-- a request is kept under its number, beside the others
+pub record KeepsRequest (id : Id) (old new : Requests) : Type 0 where
+  pub kept : id_of new id.number ≡ id
+  pub others : (number : ℕ) → number ≢ id.number → id_of new number ≡ id_of old number
+
+-- what becomes of the handles and the requests by a reply
+abbrev pub Keeps : Reply → Given → Given → Type 0
+Keeps (HandleReply handle) old new = KeepsHandle handle old.handles new.handles × (new.requests ≡ old.requests)
+Keeps (Requested id) old new = KeepsRequest id old.requests new.requests × (new.handles ≡ old.handles)
 Keeps _ old new = new ≡ old
 
 -- the adapter has such a tag: they count from 0, and there are at most 32
@@ -38,17 +68,26 @@ abbrev pub IsTag : ℕ → Type 0
 IsTag tag = tag < 32
 
 -- the event that an order asks for; partitions past 255 are all as little there as the last
-abbrev pub IsEventOf : Handles → Order → Event → Type 0
-IsEventOf handles (Open partition) event = event ≡ OpenEvent (if nat_lt partition 256 then partition else 255)
-IsEventOf handles (Read handle offset length) event = event ≡ ReadEvent (handle_of handles handle) offset (replicate length 0)
-IsEventOf handles (Write handle offset length byte) event = event ≡ WriteEvent (handle_of handles handle) offset (replicate length byte)
-IsEventOf handles (Act tag) event = IsTag tag × (event ≡ ActEvent tag)
-IsEventOf handles (Finish tag) event = IsTag tag × (event ≡ FinishEvent tag)
+abbrev pub IsEventOf : Given → Order → Event → Type 0
+IsEventOf given (Open partition) event = event ≡ OpenEvent (if nat_lt partition 256 then partition else 255)
+IsEventOf given (Close handle) event = event ≡ CloseEvent (handle_of given.handles handle)
+IsEventOf given (Read handle offset length) event = event ≡ ReadEvent (handle_of given.handles handle) offset (replicate length 0)
+IsEventOf given (Write handle offset length byte through) event = event ≡ WriteEvent (handle_of given.handles handle) offset (replicate length byte) through
+IsEventOf given (Flush handle) event = event ≡ FlushEvent (handle_of given.handles handle)
+IsEventOf given (Cancel handle request) event = event ≡ CancelIoEx (handle_of given.handles handle) (target_of given.requests request)
+IsEventOf given (Mark request) event = event ≡ MarkEvent request
+IsEventOf given QueryRemove event = event ≡ QueryEvent
+IsEventOf given CancelRemove event = event ≡ RecallEvent
+IsEventOf given Remove event = event ≡ RemoveEvent
+IsEventOf given SurpriseRemove event = event ≡ SurpriseEvent
+IsEventOf given (Act tag) event = IsTag tag × (event ≡ ActEvent tag)
+IsEventOf given (Finish tag) event = IsTag tag × (event ≡ FinishEvent tag)
+IsEventOf given Reset event = event ≡ ResetEvent
 
 -- the reply to an order that is no event: memory for its bytes was refused, or there is no such tag
 abbrev pub IsReplyTo : Order → Reply → Type 0
-IsReplyTo (Open partition) reply = ⊥
 IsReplyTo (Read handle offset length) reply = reply ≡ Refused InsufficientResources []
-IsReplyTo (Write handle offset length byte) reply = reply ≡ Refused InsufficientResources []
+IsReplyTo (Write handle offset length byte through) reply = reply ≡ Refused InsufficientResources []
 IsReplyTo (Act tag) reply = (¬ (IsTag tag)) × (reply ≡ Ignored)
 IsReplyTo (Finish tag) reply = (¬ (IsTag tag)) × (reply ≡ Ignored)
+IsReplyTo _ reply = ⊥

@@ -1,5 +1,6 @@
 pub mod Events
 pub mod Faults
+pub mod Filling
 pub mod Printing
 pub mod Script
 pub mod Trace

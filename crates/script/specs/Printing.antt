@@ -13,10 +13,10 @@ use Rattle.machine.specs.declared.Label.{Label}
 use Rattle.machine.specs.declared.Label.TheVariants.{Call, Device, Answer, Cancel, Pause, Resume, Remove, Surprise, Removed}
 use Rattle.srb.specs.declared.Class.{Class}
 use Rattle.srb.specs.declared.Class.TheVariants.{Good, Busy, Bad}
-use Rattle.compose.specs.declared.Refusal.{Refusal}
-use Rattle.compose.specs.declared.Refusal.TheVariants.{InvalidHandle, InvalidParameter, DeletePending, DeviceBusy, InsufficientResources, InvalidDeviceRequest, NotFound}
-use Rattle.compose.specs.declared.Reply.{Reply}
-use Rattle.compose.specs.declared.Reply.TheVariants.{Handle, Ok, Request, Answered, Refused, Ignored}
+use Rattle.io_manager.specs.declared.Refusal.{Refusal}
+use Rattle.io_manager.specs.declared.Refusal.TheVariants.{InvalidHandle, InvalidParameter, DeletePending, DeviceBusy, InsufficientResources, InvalidDeviceRequest, NotFound}
+use Rattle.io_manager.specs.declared.Reply.{Reply}
+use Rattle.io_manager.specs.declared.Reply.TheVariants.{Handle, Ok, Request, Answered, Refused, Ignored}
 
 -- the end of a line
 abbrev pub line_end : List ℕ

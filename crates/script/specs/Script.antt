@@ -1,5 +1,5 @@
 -- What the lines of a script mean. A text is its bytes, of which 32 is a space and 35 a '#'.
-use Rattle.std.specs.Prelude.{◌≡◌, ◌^◌, ◌<◌, ◌≤◌, ◌==◌, ◌+◌, ◌++◌, ℕ, Bool, false, true, if◌then◌else◌, All, map, reverse, List, [], ◌∷◌, Option, IsSomeAnd, MatchOption, codes, filter, length, not, slice_get}
+use Rattle.std.specs.Prelude.{◌≡◌, ◌^◌, ◌<◌, ◌≤◌, ◌==◌, ◌+◌, ◌++◌, ℕ, Bool, false, true, if◌then◌else◌, All, map, reverse, List, [], ◌∷◌, Option, Some, None, IsSomeAnd, MatchOption, codes, filter, length, not, slice_get}
 use Rattle.std.specs.List.{AllZip, slice_split}
 use Rattle.std.specs.Str.Lines.{lines}
 use Rattle.std.specs.Str.Parse.{IsNumeral, digits_value}
@@ -7,7 +7,7 @@ use Rattle.script.specs.declared.ScriptFault.{ScriptFault}
 use Rattle.script.specs.declared.ScriptFault.TheVariants.{BadLine, NoMemory, OutputFailed}
 use Rattle.script.specs.declared.Line.{Line}
 use Rattle.script.specs.declared.Order.{Order}
-use Rattle.script.specs.declared.Order.TheVariants.{Open, Read, Write, Act, Finish}
+use Rattle.script.specs.declared.Order.TheVariants.{Open, Close, Read, Write, Flush, Cancel, Mark, QueryRemove, CancelRemove, Remove, SurpriseRemove, Act, Finish, Reset}
 
 -- what was found has the property, and nothing has it where nothing was found
 abbrev pub Finds : {A : Type 0} → (A → Type 0) → Option A → Type 0
@@ -30,17 +30,19 @@ pub record IsByte (word : List ℕ) (n : ℕ) : Type 0 where
 abbrev pub words_of : List ℕ → List (List ℕ)
 words_of line = filter (λ word. not (length word == 0)) (slice_split (λ b. b == 32) line)
 
--- an argument of an order: a number, the length of a request in bytes, or a byte
+-- an argument of an order: a number, the length of a request in bytes, a byte, or the word through
 pub data Argument : Type 0 where
   Number : ℕ → Argument
   Length : ℕ → Argument
   Byte : ℕ → Argument
+  Through : Argument
 
 -- a word spells an argument; a length is at most 65,537 sectors of 4,096 bytes
 abbrev pub Spells : List ℕ → Argument → Type 0
 Spells word (Number n) = IsNumber word n
 Spells word (Length n) = IsNumber word n × (n ≤ 268439552)
 Spells word (Byte n) = IsByte word n
+Spells word Through = word ≡ codes "through"
 
 -- the first of some words spells an argument
 abbrev pub FirstSpells : List (List ℕ) → Argument → Type 0
@@ -49,18 +51,46 @@ FirstSpells words argument = IsSomeAnd (slice_get words 0) (λ word. Spells word
 -- the word that an order begins with
 abbrev pub verb_of : Order → List ℕ
 verb_of (Open partition) = codes "open"
+verb_of (Close handle) = codes "close"
 verb_of (Read handle offset count) = codes "read"
-verb_of (Write handle offset count byte) = codes "write"
+verb_of (Write handle offset count byte through) = codes "write"
+verb_of (Flush handle) = codes "flush"
+verb_of (Cancel handle request) = codes "cancel"
+verb_of (Mark request) = codes "mark"
+verb_of QueryRemove = codes "query-remove"
+verb_of CancelRemove = codes "cancel-remove"
+verb_of Remove = codes "remove"
+verb_of SurpriseRemove = codes "surprise-remove"
 verb_of (Act tag) = codes "act"
 verb_of (Finish tag) = codes "finish"
+verb_of Reset = codes "reset"
+
+-- the last argument of a write, if it goes through
+abbrev pub through_of : Bool → List Argument
+through_of true = Through ∷ []
+through_of false = []
+
+-- the last argument of a cancel, if it is of one request
+abbrev pub request_of : Option ℕ → List Argument
+request_of (Some request) = Number request ∷ []
+request_of None = []
 
 -- and the arguments that follow it
 abbrev pub arguments_of : Order → List Argument
 arguments_of (Open partition) = Number partition ∷ []
+arguments_of (Close handle) = Number handle ∷ []
 arguments_of (Read handle offset count) = Number handle ∷ Number offset ∷ Length count ∷ []
-arguments_of (Write handle offset count byte) = Number handle ∷ Number offset ∷ Length count ∷ Byte byte ∷ []
+arguments_of (Write handle offset count byte through) = Number handle ∷ Number offset ∷ Length count ∷ Byte byte ∷ through_of through
+arguments_of (Flush handle) = Number handle ∷ []
+arguments_of (Cancel handle request) = Number handle ∷ request_of request
+arguments_of (Mark request) = Number request ∷ []
+arguments_of QueryRemove = []
+arguments_of CancelRemove = []
+arguments_of Remove = []
+arguments_of SurpriseRemove = []
 arguments_of (Act tag) = Number tag ∷ []
 arguments_of (Finish tag) = Number tag ∷ []
+arguments_of Reset = []
 
 -- words ask for an order: its verb, and then its arguments one by one
 abbrev pub Asks : List (List ℕ) → Order → Type 0

@@ -4,14 +4,15 @@ use Rattle.std.specs.Io.KnownBytes.{Appends}
 use Rattle.std.specs.BTreeMap.{IsEmpty}
 use Rattle.machine.specs.declared.Label.{Label}
 use Rattle.machine.specs.declared.Label.TheVariants.{Answer as AnswerLabel}
-use Rattle.compose.specs.declared.Answer.{Answer}
+use Rattle.io_manager.specs.declared.Answer.{Answer}
+use Rattle.io_manager.specs.declared.Reply.{Reply}
+use Rattle.io_manager.specs.Shown.{ManagerView}
 use Rattle.compose.specs.declared.Event.{Event}
-use Rattle.compose.specs.declared.Reply.{Reply}
 use Rattle.compose.specs.Right.{IsRight}
-use Rattle.compose.specs.Shown.{StackView}
 use Rattle.script.specs.declared.Line.{Line}
 use Rattle.script.specs.declared.Order.{Order}
-use Rattle.script.specs.Events.{Handles, IsEventOf, IsReplyTo, Keeps}
+use Rattle.script.specs.declared.numbers.Given.{Given}
+use Rattle.script.specs.Events.{IsEventOf, IsReplyTo, Keeps}
 use Rattle.script.specs.Printing.{labels_text, line_end, reply_line}
 
 -- WHAT IS TAKEN
@@ -26,30 +27,30 @@ left_by_all [] answers = answers
 left_by_all (label ∷ labels) answers = left_by_all labels (left_by label answers)
 
 -- the stack after its labels were taken, and the answers that go with them
-abbrev pub without_labels : StackView → StackView
+abbrev pub without_labels : ManagerView → ManagerView
 without_labels v = record v { labels = []; answers = left_by_all v.labels v.answers }
 
 -- no label and no answer waits to be taken
-pub record IsAllTaken (v : StackView) : Type 0 where
+pub record IsAllTaken (v : ManagerView) : Type 0 where
   pub labels : v.labels ≡ []
   pub answers : v.answers ≡ []
 
 -- A LINE
 
 -- a right step of the event that an order asks for
-pub record IsStepOf (handles : Handles) (order : Order) (old : StackView) (reply : Reply) (new : StackView) : Type 0 where
+pub record IsStepOf (given : Given) (order : Order) (old : ManagerView) (reply : Reply) (new : ManagerView) : Type 0 where
   pub event : Event
-  pub is_event : IsEventOf handles order event
+  pub is_event : IsEventOf given order event
   pub right : IsRight old event reply new
 
 -- an order is carried out: the stack makes a right step, or the order is no event, and the stack stays as it is
-abbrev pub IsCarriedOut : Handles → Order → StackView → Reply → StackView → Type 0
-IsCarriedOut handles order old reply new = IsStepOf handles order old reply new ⊎ (IsReplyTo order reply × (new ≡ old))
+abbrev pub IsCarriedOut : Given → Order → ManagerView → Reply → ManagerView → Type 0
+IsCarriedOut given order old reply new = IsStepOf given order old reply new ⊎ (IsReplyTo order reply × (new ≡ old))
 
--- between two lines: the stack, and its handles by their numbers
+-- between two lines: the stack, and what it gave by its numbers
 pub record Between : Type 0 where
-  pub stack : StackView
-  pub handles : Handles
+  pub stack : ManagerView
+  pub given : Given
 
 -- the line behind "> ", the line of its reply, and the lines of the labels
 abbrev pub line_text : Line → Reply → List Label → List ℕ
@@ -58,11 +59,11 @@ line_text line reply labels = (codes "> " ++ (line.text.now ++ line_end)) ++ (re
 -- a line is carried out, this is printed of it, and then all labels and answers are taken
 pub record IsLinePlayed (old : Between) (line : Line) (text : List ℕ) (new : Between) : Type 0 where
   pub reply : Reply
-  pub stepped : StackView
-  pub carried : IsCarriedOut old.handles line.order old.stack reply stepped
+  pub stepped : ManagerView
+  pub carried : IsCarriedOut old.given line.order old.stack reply stepped
   pub printed : text ≡ line_text line reply stepped.labels
   pub taken : new.stack ≡ record stepped { labels = []; answers = [] }
-  pub handles : Keeps reply old.handles new.handles
+  pub keeps : Keeps reply old.given new.given
 
 -- ALL LINES
 
@@ -72,14 +73,15 @@ IsPlayed old [] text new = (text ≡ []) × (new ≡ old)
 IsPlayed old (line ∷ lines) text new =
     (first : List ℕ) × (rest : List ℕ) × (mid : Between) × IsLinePlayed old line first mid × IsPlayed mid lines rest new × (text ≡ first ++ rest)
 
--- lines are run through a stack that has given no handles, and this is printed of them
-pub record IsTraceTo (stack : StackView) (lines : List Line) (text : List ℕ) (end : Between) : Type 0 where
-  pub handles : Handles
-  pub none : IsEmpty handles
-  pub played : IsPlayed (record { stack = stack; handles = handles }) lines text end
+-- lines are run through a stack that has given nothing, and this is printed of them
+pub record IsTraceTo (stack : ManagerView) (lines : List Line) (text : List ℕ) (end : Between) : Type 0 where
+  pub given : Given
+  pub no_handle : IsEmpty given.handles
+  pub no_request : IsEmpty given.requests
+  pub played : IsPlayed (record { stack = stack; given = given }) lines text end
 
 -- the same, with the stack that is left
-abbrev pub IsTrace : StackView → List Line → List ℕ → StackView → Type 0
+abbrev pub IsTrace : ManagerView → List Line → List ℕ → ManagerView → Type 0
 IsTrace stack lines text last = (end : Between) × IsTraceTo stack lines text end × (last ≡ end.stack)
 
 -- PRINTING

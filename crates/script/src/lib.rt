@@ -7,6 +7,8 @@
 //! the stack that it was given. It does not promise that a writer takes all.
 #![tactic(auto)]
 
+mod filling;
+mod numbers;
 mod orders;
 mod player;
 mod printing;
@@ -14,6 +16,7 @@ mod runs;
 #[cfg(test)]
 mod tests;
 
+pub use numbers::Given;
 pub use orders::lines;
 pub use player::{event, play, write_labels};
 pub use printing::{write_label, write_reply};
@@ -22,11 +25,14 @@ use std::error::Error;
 use std::io::ErrorKind;
 use std::{fmt, io};
 
-/// What a line asks for. Handles, partitions and tags are numbers as they were written, there or not.
+/// What a line asks for. Handles, requests, partitions and tags are numbers as they were written, there or not.
 #[derive(Debug, Clone, Copy, PartialEq, Eq)]
 pub enum Order {
     Open {
         partition: u64,
+    },
+    Close {
+        handle: u64,
     },
     /// Offset and length are in bytes.
     Read {
@@ -34,19 +40,36 @@ pub enum Order {
         offset: u64,
         length: u64,
     },
-    /// A write of `length` equal bytes.
+    /// A write of `length` equal bytes, past volatile caches if `through`.
     Write {
         handle: u64,
         offset: u64,
         length: u64,
         byte: u8,
+        through: bool,
     },
+    Flush {
+        handle: u64,
+    },
+    /// Of all that is open on the handle, or of the one request.
+    Cancel {
+        handle: u64,
+        request: Option<u64>,
+    },
+    Mark {
+        request: u64,
+    },
+    QueryRemove,
+    CancelRemove,
+    Remove,
+    SurpriseRemove,
     Act {
         tag: u64,
     },
     Finish {
         tag: u64,
     },
+    Reset,
 }
 
 /// A line that asks for an event, without the spaces at its ends.

@@ -4,7 +4,7 @@ mod words;
 
 ghost use Rattle.std.specs.Prelude.{◌≡◌, [], ◌∷◌, IfErr, IfOk, codes};
 ghost use Rattle.std.specs.List.{AllZip};
-ghost use Rattle.script.specs.Script.{AreEvents, Asks, Finds, IsFaultOf, Number, Spells, is_event, lines_of, trimmed, words_of};
+ghost use Rattle.script.specs.Script.{AreEvents, Asks, Finds, IsFaultOf, Number, Spells, is_event, lines_of, request_of, through_of, trimmed, words_of};
 
 use crate::orders::words::Words;
 use crate::{Line, Order, ScriptFault};
@@ -61,16 +61,38 @@ fn order_of(text: &str) -> Option<Order>
         "open" => Some(Order::Open {
             partition: last_number(words)?,
         }),
+        "close" => Some(Order::Close {
+            handle: last_number(words)?,
+        }),
         "read" => read(words),
         "write" => write(words),
+        "flush" => Some(Order::Flush {
+            handle: last_number(words)?,
+        }),
+        "cancel" => cancel(words),
+        "mark" => Some(Order::Mark {
+            request: last_number(words)?,
+        }),
+        "query-remove" => alone(words, Order::QueryRemove),
+        "cancel-remove" => alone(words, Order::CancelRemove),
+        "remove" => alone(words, Order::Remove),
+        "surprise-remove" => alone(words, Order::SurpriseRemove),
         "act" => Some(Order::Act {
             tag: last_number(words)?,
         }),
         "finish" => Some(Order::Finish {
             tag: last_number(words)?,
         }),
+        "reset" => alone(words, Order::Reset),
         _ => None,
     }
+}
+
+/// An order of no arguments, where no word is left.
+fn alone(words: Words<'_>, order: Order) -> Option<Order>
+    ensures { Finds (λ found. (found ≡ order) × AllZip Spells words.entry []) result }
+{
+    words.is_at_end().then_some(order)
 }
 
 /// The number that is the one word left.
@@ -97,11 +119,42 @@ fn read(mut words: Words<'_>) -> Option<Order>
 fn write(mut words: Words<'_>) -> Option<Order>
     ensures { Finds (Asks (codes "write" ∷ words.entry)) result }
 {
-    let order = Order::Write {
+    Some(Order::Write {
         handle: words.number()?,
         offset: words.number()?,
         length: words.length()?,
         byte: words.byte()?,
-    };
-    words.is_at_end().then_some(order)
+        through: through(words)?,
+    })
+}
+
+/// Whether `through` is the one word left; it is not where none is left.
+fn through(mut words: Words<'_>) -> Option<bool>
+    ensures { Finds (λ through. AllZip Spells words.entry (through_of through)) result }
+{
+    match words.word() {
+        None => Some(false),
+        Some("through") => words.is_at_end().then_some(true),
+        Some(_) => None,
+    }
+}
+
+/// What the words after `cancel` ask for.
+fn cancel(mut words: Words<'_>) -> Option<Order>
+    ensures { Finds (Asks (codes "cancel" ∷ words.entry)) result }
+{
+    Some(Order::Cancel {
+        handle: words.number()?,
+        request: last_request(words)?,
+    })
+}
+
+/// The number of a request that is the one word left, or that there is none.
+fn last_request(words: Words<'_>) -> Option<Option<u64>>
+    ensures { Finds (λ request. AllZip Spells words.entry (request_of request)) result }
+{
+    if words.is_at_end() {
+        return Some(None);
+    }
+    Some(Some(last_number(words)?))
 }

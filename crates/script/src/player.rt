@@ -1,22 +1,21 @@
 //! Lines of a script, carried out by a stack, and what comes of each in print.
 
-ghost use Rattle.std.specs.Prelude.{◌≡◌, ◌⊎◌, ◌++◌, [], IfErr, OnOk, MatchResult, codes, replicate};
+ghost use Rattle.std.specs.Prelude.{◌≡◌, ◌⊎◌, ◌++◌, IfErr, OnOk, MatchResult, codes};
 ghost use Rattle.std.specs.Io.KnownBytes.{Appends};
-ghost use Rattle.compose.specs.declared.Refusal.TheVariants.{InsufficientResources};
-ghost use Rattle.compose.specs.declared.Reply.TheVariants.{Refused};
-ghost use Rattle.script.specs.Events.{AreNamed, IsEventOf, IsReplyTo, Keeps, KeepsHandle, handle_of};
+ghost use Rattle.script.specs.Events.{AreNamed, IsEventOf, IsReplyTo};
 ghost use Rattle.script.specs.Faults.{IsPrintFault};
+ghost use Rattle.script.specs.Filling.{IsFilled};
 ghost use Rattle.script.specs.Printing.{labels_text, line_end};
 ghost use Rattle.script.specs.Trace.{IsAllTaken, IsCarriedOut, IsLinePlayed, IsTrace, Prints, left_by, without_labels};
 
+use crate::filling::Spare;
+use crate::numbers::Given;
 use crate::printing::{write_label, write_reply};
 use crate::{Line, Order, ScriptFault};
 use adapter::Adapter;
-use compose::{Event, Handle, Refusal, Reply, Stack};
+use compose::{Event, Reply, Stack};
 use machine::Label;
-use sector::Bytes;
-use std::alloc::{AllocError, Global};
-use std::collections::BTreeMap;
+use std::alloc::Global;
 use std::io;
 use std::io::Write;
 
@@ -26,7 +25,7 @@ const TAGS: u64 = 32;
 /// Carries the lines of a script out, one after the other, and writes each line, its reply and the labels of its step.
 /// The writer is flushed behind the last.
 ///
-/// All labels and answers of the stack have to be taken. It knows the handles that these lines open, and no others.
+/// All labels and answers of the stack have to be taken. It knows the handles and the requests that these lines open, and no others.
 ///
 /// # Errors
 ///
@@ -56,9 +55,10 @@ fn play_lines<A: Adapter, W: Write>(
     ensures text { OnOk result (Prints (W.contents out.old) (W.contents out.new) (λ text. IsTrace stack.old lines.now text stack.new)) }
     ensures fault { IfErr result IsPrintFault }
 {
-    let mut handles = BTreeMap::new(alloc);
+    let mut given = Given::new(alloc);
+    let mut spare = Spare::new(alloc);
     for line in lines {
-        play_line(alloc, stack, line, &mut handles, out)?;
+        play_line(alloc, stack, line, &mut given, &mut spare, out)?;
     }
     Ok(())
 }
@@ -68,19 +68,23 @@ fn play_line<A: Adapter, W: Write>(
     alloc: Global,
     stack: &mut Stack<A>,
     line: &Line<'_>,
-    handles: &mut BTreeMap<u64, Handle>,
+    given: &mut Given,
+    spare: &mut Spare,
     out: &mut W,
 ) -> Result<(), ScriptFault>
     requires taken { IsAllTaken stack.old }
-    requires named { AreNamed handles.old }
-    ensures named { OnOk result (AreNamed handles.new) }
-    ensures text { OnOk result (Prints (W.contents out.old) (W.contents out.new) (λ text. IsLinePlayed (record { stack = stack.old; handles = handles.old }) line.now text (record { stack = stack.new; handles = handles.new }))) }
+    requires named { AreNamed given.old }
+    requires filled { IsFilled spare.old }
+    ensures named { OnOk result (AreNamed given.new) }
+    ensures filled { OnOk result (IsFilled spare.new) }
+    ensures text { OnOk result (Prints (W.contents out.old) (W.contents out.new) (λ text. IsLinePlayed (record { stack = stack.old; given = given.old }) line.now text (record { stack = stack.new; given = given.new }))) }
     ensures fault { IfErr result IsPrintFault }
 {
-    let reply = carry_out(alloc, stack, line.order, handles);
+    let reply = carry_out(alloc, stack, line.order, given, spare);
     write_line(out, line.text)?;
     write_reply(out, &reply)?;
-    keep_given(handles, &reply)?;
+    given.keep(&reply)?;
+    spare.take_back(line.order, reply);
     write_labels(stack, out)?;
     Ok(())
 }
@@ -97,13 +101,16 @@ fn carry_out<A: Adapter>(
     alloc: Global,
     stack: &mut Stack<A>,
     order: Order,
-    handles: &BTreeMap<u64, Handle>,
+    given: &Given,
+    spare: &mut Spare,
 ) -> Reply
     requires taken { IsAllTaken stack.old }
-    requires named { AreNamed handles.now }
-    ensures { IsCarriedOut handles.now order stack.old result stack.new }
+    requires named { AreNamed given.now }
+    requires filled { IsFilled spare.old }
+    ensures carried { IsCarriedOut given.now order stack.old result stack.new }
+    ensures filled { IsFilled spare.new }
 {
-    match event(alloc, order, handles) {
+    match event_from(alloc, order, given, spare) {
         Ok(event) => stack.step(alloc, event),
         Err(reply) => reply,
     }
@@ -131,88 +138,73 @@ fn take_answer_of<A: Adapter>(stack: &mut Stack<A>, label: Label)
     }
 }
 
-/// The event that an order asks for. The handles are those that were given out, by their numbers; a handle of another
-/// number is one that isn't open.
+/// The event that an order asks for, on the handles and the requests that were given out; one of another number is one
+/// that isn't open.
 ///
 /// # Errors
 ///
 /// The reply to an order that can't be an event: memory for its bytes was refused, or no adapter has such a tag.
-pub fn event(alloc: Global, order: Order, handles: &BTreeMap<u64, Handle>) -> Result<Event, Reply>
-    requires { AreNamed handles.now }
-    ensures { MatchResult result (IsEventOf handles.now order) (IsReplyTo order) }
+pub fn event(alloc: Global, order: Order, given: &Given) -> Result<Event, Reply>
+    requires { AreNamed given.now }
+    ensures { MatchResult result (IsEventOf given.now order) (IsReplyTo order) }
+{
+    event_from(alloc, order, given, &mut Spare::new(alloc))
+}
+
+/// The event that an order asks for, as [`event`], with the bytes that were spared.
+///
+/// # Errors
+///
+/// As that.
+fn event_from(alloc: Global, order: Order, given: &Given, spare: &mut Spare) -> Result<Event, Reply>
+    requires named { AreNamed given.now }
+    requires filled { IsFilled spare.old }
+    ensures event { MatchResult result (IsEventOf given.now order) (IsReplyTo order) }
+    ensures filled { IsFilled spare.new }
 {
     match order {
         Order::Open { partition } => Ok(Event::Open {
             partition: u8::try_from(partition).unwrap_or(u8::MAX),
+        }),
+        Order::Close { handle } => Ok(Event::Close {
+            handle: given.handle(handle),
         }),
         Order::Read {
             handle,
             offset,
             length,
         } => Ok(Event::Read {
-            handle: handle_of(handle, handles),
+            handle: given.handle(handle),
             offset,
-            buffer: filled(alloc, 0, length)?,
+            buffer: spare.filled(alloc, 0, length)?,
         }),
         Order::Write {
             handle,
             offset,
             length,
             byte,
+            through,
         } => Ok(Event::Write {
-            handle: handle_of(handle, handles),
+            handle: given.handle(handle),
             offset,
-            bytes: filled(alloc, byte, length)?,
+            bytes: spare.filled(alloc, byte, length)?,
+            through,
         }),
+        Order::Flush { handle } => Ok(Event::Flush {
+            handle: given.handle(handle),
+        }),
+        Order::Cancel { handle, request } => Ok(Event::CancelIoEx {
+            handle: given.handle(handle),
+            target: given.target(request),
+        }),
+        Order::Mark { request } => Ok(Event::Mark { number: request }),
+        Order::QueryRemove => Ok(Event::QueryRemove),
+        Order::CancelRemove => Ok(Event::CancelRemove),
+        Order::Remove => Ok(Event::Remove),
+        Order::SurpriseRemove => Ok(Event::SurpriseRemove),
         Order::Act { tag } if tag < TAGS => Ok(Event::Act { tag: tag as u8 }),
         Order::Finish { tag } if tag < TAGS => Ok(Event::Finish { tag: tag as u8 }),
         Order::Act { .. } | Order::Finish { .. } => Err(Reply::Ignored),
-    }
-}
-
-/// Keeps the handle that a reply gives, if it gives one.
-fn keep_given(handles: &mut BTreeMap<u64, Handle>, reply: &Reply) -> Result<(), AllocError>
-    requires { AreNamed handles.old }
-    ensures named { OnOk result (AreNamed handles.new) }
-    ensures given { OnOk result (Keeps reply.now handles.old handles.new) }
-{
-    match reply {
-        Reply::Handle(handle) => keep_handle(handles, *handle),
-        _ => Ok(()),
-    }
-}
-
-/// Keeps a handle under its number.
-fn keep_handle(handles: &mut BTreeMap<u64, Handle>, handle: Handle) -> Result<(), AllocError>
-    requires { AreNamed handles.old }
-    ensures named { OnOk result (AreNamed handles.new) }
-    ensures kept { OnOk result (KeepsHandle handle handles.old handles.new) }
-{
-    handles.insert(handle.number, handle)?;
-    Ok(())
-}
-
-/// The handle of a number; one that isn't there, where the number was not given out.
-fn handle_of(number: u64, handles: &BTreeMap<u64, Handle>) -> Handle
-    requires { AreNamed handles.now }
-    ensures handle { result ≡ handle_of handles.now number }
-    ensures number { result.number ≡ number }
-{
-    match handles.get(&number) {
-        Some(handle) => *handle,
-        None => Handle { slot: 0, number },
-    }
-}
-
-/// So many equal bytes, or the reply where memory for them is refused.
-fn filled(alloc: Global, byte: u8, length: u64) -> Result<Bytes, Reply>
-    ensures { MatchResult result (λ bytes. bytes ≡ replicate length byte) (λ reply. reply ≡ Refused InsufficientResources []) }
-{
-    match vec![in alloc; byte; length as usize] {
-        Ok(bytes) => Ok(Bytes::new(bytes)),
-        Err(_) => Err(Reply::Refused {
-            refusal: Refusal::InsufficientResources,
-            bytes: Bytes::new(Vec::new(alloc)),
-        }),
+        Order::Reset => Ok(Event::Reset),
     }
 }

@@ -1,9 +1,8 @@
 mod FirstFault
 mod FoundLists
 mod Keys
-mod Opening
+mod NewDisk
 mod SettingFaults
-mod Starting
 mod UsedPartitions
 mod WholeSectors
 mod Zipped

@@ -9,24 +9,23 @@ use Rattle.settings.specs.Faults.{is_from, is_sector_size, is_number, is_truth, 
 use Rattle.settings.proofs.FirstFault.{ends}
 
 -- what stands before the lists has no fault
-pub record HasNumbers (document : Members) (end many : ℕ) : Type 0 where
+pub record HasNumbers (document : Members) (end : ℕ) : Type 0 where
   pub known_keys : has_known_keys document ≡ true
-  pub one_partition : nat_le (length (values_of (get_member (codes "partition") document))) 1 ≡ true
+  pub few_partitions : nat_le (length (values_of (get_member (codes "partition") document))) 4 ≡ true
   pub sector_size : None ≡ needed_fault (is_number is_sector_size) (get_member (codes "sector_size") document)
   pub sectors : None ≡ needed_fault (is_number (is_from 1 1099511627776)) (get_member (codes "sectors") document)
   pub sectors_is : IsNumber (get_member (codes "sectors") document) end
   pub max_transfer : None ≡ needed_fault (is_number (is_from 1 65536)) (get_member (codes "max_transfer") document)
   pub depth : None ≡ needed_fault (is_number (is_from 1 32)) (get_member (codes "depth") document)
   pub window : None ≡ needed_fault (is_number (is_from 1 64)) (get_member (codes "window") document)
-  pub window_is : IsNumber (get_member (codes "window") document) many
-  pub open_requests : None ≡ optional_fault (whole 64) (is_number (is_from 1 many)) (get_member (codes "open_requests") document)
+  pub open_requests : None ≡ optional_fault (whole 64) (is_number (is_from 1 64)) (get_member (codes "open_requests") document)
   pub write_protected : None ≡ optional_fault (boolean false) is_truth (get_member (codes "write_protected") document)
 
 -- the first fault is then one of the lists
-pub at_lists : (document : Members) (sectors window : ℕ) → HasNumbers document sectors window → first_some (setting_faults document)
+pub at_lists : (document : Members) (sectors : ℕ) → HasNumbers document sectors → first_some (setting_faults document)
     ≡ first_some (optional_fault (array no_items) (is_list_of (is_number (is_from 0 (sectors - 1)))) (get_member (codes "bad_sectors") document) ∷ partition_faults (get_member (codes "partition") document))
-at_lists document sectors window h =
-    rw (h.known_keys, h.one_partition, ← h.sector_size, ← h.sectors, ← h.max_transfer, ← h.depth, ← h.window, ap number_of h.window_is, ← h.open_requests, ← h.write_protected, ap number_of h.sectors_is)
+at_lists document sectors h =
+    rw (h.known_keys, h.few_partitions, ← h.sector_size, ← h.sectors, ← h.max_transfer, ← h.depth, ← h.window, ← h.open_requests, ← h.write_protected, ap number_of h.sectors_is)
 
 -- what a call was refused for is what its caller is refused for
 pub refused : {A B : Type 0} (fault : Option ConfigFault) (call : Result A ConfigFault) (result : Result B ConfigFault) (error : ConfigFault)

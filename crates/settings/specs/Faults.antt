@@ -73,15 +73,14 @@ partition_faults found = optional_fault (array no_items) is_list found ∷ map p
 abbrev pub setting_faults : Members → List (Option ConfigFault)
 setting_faults document =
     let sectors = number_of (get_member (codes "sectors") document) in
-    let window = number_of (get_member (codes "window") document) in
     unless (has_known_keys document) UnknownKey
-    ∷ unless (nat_le (length (values_of (get_member (codes "partition") document))) 1) TooManyPartitions
+    ∷ unless (nat_le (length (values_of (get_member (codes "partition") document))) 4) TooManyPartitions
     ∷ needed_fault (is_number is_sector_size) (get_member (codes "sector_size") document)
     ∷ needed_fault (is_number (is_from 1 1099511627776)) (get_member (codes "sectors") document)
     ∷ needed_fault (is_number (is_from 1 65536)) (get_member (codes "max_transfer") document)
     ∷ needed_fault (is_number (is_from 1 32)) (get_member (codes "depth") document)
     ∷ needed_fault (is_number (is_from 1 64)) (get_member (codes "window") document)
-    ∷ optional_fault (whole 64) (is_number (is_from 1 window)) (get_member (codes "open_requests") document)
+    ∷ optional_fault (whole 64) (is_number (is_from 1 64)) (get_member (codes "open_requests") document)
     ∷ optional_fault (boolean false) is_truth (get_member (codes "write_protected") document)
     ∷ optional_fault (array no_items) (is_list_of (is_number (is_from 0 (sectors - 1)))) (get_member (codes "bad_sectors") document)
     ∷ partition_faults (get_member (codes "partition") document)

@@ -1,5 +1,5 @@
 -- Settings that a stack can be started with, wherever they come from.
-use Rattle.std.specs.Prelude.{◌≡◌, ◌≤◌, ◌<◌, ◌⊎◌, ℕ, All}
+use Rattle.std.specs.Prelude.{◌≡◌, ◌≤◌, ◌<◌, ◌⊎◌, ℕ, All, length}
 use Rattle.settings.specs.declared.Config.{Config}
 use Rattle.settings.specs.declared.Partition.{Partition}
 
@@ -18,6 +18,7 @@ pub record AreInRange (c : Config) : Type 0 where
   pub max_transfer : IsFrom 1 65536 c.max_transfer
   pub depth : IsFrom 1 32 c.depth
   pub window : IsFrom 1 64 c.window
-  pub open_requests : IsFrom 1 c.window c.open_requests
+  pub open_requests : IsFrom 1 64 c.open_requests
   pub bad_sectors : All (λ sector. sector < c.sectors) c.bad_sectors.items
+  pub few_partitions : length c.partitions.items ≤ 4
   pub partitions : All IsUsed c.partitions.items

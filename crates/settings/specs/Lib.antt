@@ -1,6 +1,5 @@
 pub mod Faults
 pub mod FaultTexts
 pub mod InRange
-pub mod PartitionTable
+pub mod Medium
 pub mod Settings
-pub mod Started

@@ -48,7 +48,7 @@ fn of_table(alloc: Global, table: &Table) -> Result<Config, ConfigFault>
     let max_transfer = table::number(table, "max_transfer", 1, 65_536)?;
     let depth = table::number(table, "depth", 1, 32)?;
     let window = table::number(table, "window", 1, 64)?;
-    let open_requests = table::number_or(table, "open_requests", 1, window, 64)?;
+    let open_requests = table::number_or(table, "open_requests", 1, 64, 64)?;
     let write_protected = table::write_protected(table)?;
     let bad_sectors = table::bad_sectors(alloc, table, sectors)?;
     let partitions = table::partitions(alloc, table)?;

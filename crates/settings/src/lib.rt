@@ -1,20 +1,20 @@
-//! The settings of a disk in memory, of the adapter over it and of the stack over both: how they are read, and what they
-//! start.
+//! The settings of a disk in memory, of the adapter over it and of the stack over both: how they are read, and the adapter
+//! that they give.
 //!
 //! It promises to the crate above, by the contract of [`document::config`] (`settings`, `in_range`, `fault`), that settings which
 //! were accepted are those of the document, each in its range, or its default, and that a document is refused for its
-//! first fault, or for want of memory; by [`start`] (`view`, `fault`), that the stack is the one of the settings, over a
-//! disk of zeros with their partition table, and why none was started. Settings need no document: [`start`] takes all
-//! that are in range. It does not promise that memory for a disk is there.
+//! first fault, or for want of memory; by [`new_adapter`] (`new`, `says`), that the adapter is the one of the settings, over
+//! a disk of zeros with their partition table, and that this table says what their partitions say, faults too. Settings
+//! need no document: [`new_adapter`] takes all that are in range. It does not promise that memory for a disk is there.
 #![tactic(auto)]
 
 pub mod document;
-mod startup;
+mod medium;
 mod table;
 #[cfg(test)]
 mod tests;
 
-pub use startup::start;
+pub use medium::new_adapter;
 use std::error::Error;
 use std::fmt;
 
@@ -42,12 +42,12 @@ pub struct Config {
     pub depth: u8,
     /// Requests at work at once, 1 to 64.
     pub window: u32,
-    /// Requests open at once, 1 to `window`.
+    /// Requests open at once, 1 to 64.
     pub open_requests: u32,
     pub write_protected: bool,
     /// Sectors that can't be read or written, each below `sectors`.
     pub bad_sectors: Vec<u64>,
-    /// At most one.
+    /// At most four, in the order of their entries in the partition table.
     pub partitions: Vec<Partition>,
 }
 
@@ -62,7 +62,7 @@ pub enum ConfigFault {
     MissingKey,
     /// A value is not in its range, or of another kind.
     OutOfRange,
-    /// There is more than one partition.
+    /// There are more than four partitions.
     TooManyPartitions,
     /// Memory was refused.
     NoMemory,

@@ -56,11 +56,11 @@ pub fn has_known_keys(table: &Table) -> bool
     has_setting_keys(table) && have_partition_keys(items_at(table, "partition"))
 }
 
-/// Whether there is at most one partition.
+/// Whether there are at most four partitions, for which a partition table has room.
 pub fn has_few_partitions(table: &Table) -> bool
-    ensures { result ≡ nat_le (length (values_of (get_member (codes "partition") (table_view table.now)))) 1 }
+    ensures { result ≡ nat_le (length (values_of (get_member (codes "partition") (table_view table.now)))) 4 }
 {
-    items_at(table, "partition").len() <= 1
+    items_at(table, "partition").len() <= 4
 }
 
 /// Whether a table has no other keys than those of the settings.

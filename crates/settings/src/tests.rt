@@ -1,13 +1,17 @@
-//! Settings that are read, that are refused, each for its first fault, and that start a stack or do not.
+//! Settings that are read, that are refused, each for its first fault, and the disks and adapters that they give.
 
 use crate::document::config;
-use crate::{ConfigFault, Partition, start};
-use compose::{MbrFault, StartFault};
-use ntstatus::NtStatus;
+use crate::medium::new_disk;
+use crate::{ConfigFault, Partition, new_adapter};
+use adapter::Adapter;
+use disk::Medium;
+use mbr::MbrFault;
+use sector::Extent;
 use std::alloc::Global;
 use std::process::Abort;
 use std::test::Fail;
 
+/// Settings of two requests at work, and as many open.
 const GOOD: &str =
     "sector_size = 512\nsectors = 4096\nmax_transfer = 64\ndepth = 2\nwindow = 2\nopen_requests = 2\n[[partition]]\nfirst = 2048\ncount = 1024\n";
 
@@ -51,8 +55,19 @@ fn reads_defaults(rt: HostRuntime) -> Result<(), Fail> {
     Ok(())
 }
 
+/// More requests may be open than are at work: so many as are given, or 64.
+#[test]
+fn reads_open_requests(rt: HostRuntime) -> Result<(), Fail> {
+    let alloc = rt.alloc();
+    let numbers = "sector_size = 512\nsectors = 4096\nmax_transfer = 64\ndepth = 2\nwindow = 2\n";
+    assert_eq!(rt; config(alloc, numbers)?.open_requests, 64);
+    let text = format!(in alloc; "{numbers}open_requests = 3\n")?;
+    assert_eq!(rt; config(alloc, text.as_str())?.open_requests, 3);
+    Ok(())
+}
+
 /// Changes of good settings, as a text, what replaces it, and the fault that comes.
-static DAMAGES: [(&str, &str, ConfigFault); 40] = [
+static DAMAGES: [(&str, &str, ConfigFault); 41] = [
     (
         "sector_size = 512\n",
         "sector_size = \n",
@@ -95,7 +110,7 @@ static DAMAGES: [(&str, &str, ConfigFault); 40] = [
     ("window = 2", "window = 65", ConfigFault::OutOfRange),
     (
         "open_requests = 2",
-        "open_requests = 3",
+        "open_requests = 65",
         ConfigFault::OutOfRange,
     ),
     (
@@ -103,7 +118,11 @@ static DAMAGES: [(&str, &str, ConfigFault); 40] = [
         "open_requests = 0",
         ConfigFault::OutOfRange,
     ),
-    ("open_requests = 2\n", "", ConfigFault::OutOfRange),
+    (
+        "open_requests = 2",
+        "open_requests = false",
+        ConfigFault::OutOfRange,
+    ),
     (
         "depth = 2",
         "depth = 33\nwrite_protected = 1\nspeed = 1",
@@ -147,8 +166,13 @@ static DAMAGES: [(&str, &str, ConfigFault); 40] = [
     ),
     (
         "count = 1024",
-        "count = 1\n[[partition]]",
+        "count = 1\n[[partition]]\n[[partition]]\n[[partition]]\n[[partition]]",
         ConfigFault::TooManyPartitions,
+    ),
+    (
+        "count = 1024",
+        "count = 1024\n[[partition]]\nfirst = 1\ncount = 1\n[[partition]]\nfirst = 2",
+        ConfigFault::MissingKey,
     ),
     (
         "sectors = 4096",
@@ -185,7 +209,7 @@ static DAMAGES: [(&str, &str, ConfigFault); 40] = [
     ),
     (
         "count = 1024",
-        "count = 4294967296\n[[partition]]",
+        "count = 4294967296\n[[partition]]\n[[partition]]\n[[partition]]\n[[partition]]",
         ConfigFault::TooManyPartitions,
     ),
     (
@@ -229,54 +253,110 @@ fn refuses_deep_settings(rt: HostRuntime) -> Result<(), Fail> {
     Ok(())
 }
 
-/// Settings before the partition.
-const DISK: &str =
-    "sector_size = 512\nsectors = 4096\nmax_transfer = 64\ndepth = 1\nwindow = 1\nopen_requests = 1\n";
+/// Settings between the size of a sector and the partitions.
+const DISK: &str = "sectors = 4096\nmax_transfer = 64\ndepth = 3\nwindow = 1\n";
 
-/// Partitions, bad sectors, and why nothing starts.
-static STARTS: [(&str, Option<StartFault>); 6] = [
-    ("", None),
-    ("[[partition]]\nfirst = 2048\ncount = 2048\n", None),
-    (
-        "bad_sectors = [0]\n[[partition]]\nfirst = 2048\ncount = 1024\n",
-        Some(StartFault::Device(NtStatus::DeviceDataError)),
-    ),
-    (
-        "[[partition]]\nfirst = 2048\ncount = 0\n",
-        Some(StartFault::Mbr(MbrFault::EmptyEntry)),
-    ),
-    (
-        "[[partition]]\nfirst = 0\ncount = 1024\n",
-        Some(StartFault::Mbr(MbrFault::CoversTable)),
-    ),
-    (
-        "[[partition]]\nfirst = 4294967295\ncount = 1\n",
-        Some(StartFault::Mbr(MbrFault::PastEnd)),
-    ),
-];
+const fn extent(first: u64, count: u64) -> Extent {
+    Extent { first, count }
+}
 
-#[test]
-fn starts_stacks(rt: HostRuntime) -> Result<(), Fail> {
-    let alloc = rt.alloc();
-    for (more, fault) in STARTS {
-        let text = format!(in alloc; "{DISK}{more}")?;
-        let settings = config(alloc, text.as_str())?;
-        assert_eq!(rt; start(alloc, settings).err(), fault, "at {more:?}");
+/// The bytes of sector 0.
+fn first_sector<M: Medium>(
+    rt: &impl Abort,
+    alloc: Global,
+    medium: &mut M,
+) -> Result<Vec<u8>, Fail> {
+    assert!(rt; medium.sectors() >= 1);
+    assert!(rt; medium.failures() < 1000);
+    let mut sector = vec![in alloc; 0xFF; medium.sector_size() as usize]?;
+    medium.read(Extent { first: 0, count: 1 }, &mut sector)?;
+    Ok(sector)
+}
+
+/// What sector 0 of the disk of some settings says: these partitions, or this fault.
+fn says(
+    rt: &impl Abort,
+    alloc: Global,
+    text: &str,
+    partitions: &[Extent],
+    fault: Option<MbrFault>,
+) -> Result<(), Fail> {
+    let mut disk = new_disk(alloc, config(alloc, text)?)?;
+    let sector = first_sector(rt, alloc, &mut disk)?;
+    match mbr::parse(sector.as_slice(), 4096) {
+        Ok(found) => {
+            assert_eq!(rt; fault, None, "at {text:?}");
+            assert_eq!(rt; found.as_slice(), partitions, "at {text:?}");
+        }
+        Err(found) => assert_eq!(rt; fault, Some(found), "at {text:?}"),
     }
     Ok(())
 }
 
-/// Disks of as many sectors as there may be, of one less, and of as many as ten bytes can name: a start takes room for the
-/// partition table alone.
 #[test]
-fn starts_the_largest_disks(rt: HostRuntime) -> Result<(), Fail> {
+fn writes_partition_tables(rt: HostRuntime) -> Result<(), Fail> {
     let alloc = rt.alloc();
-    for sectors in [4_294_967_296u64, 1_099_511_627_775, 1_099_511_627_776] {
+    let rows: [(&str, &[Extent], Option<MbrFault>); 7] = [
+        ("", &[], None),
+        (
+            "[[partition]]\nfirst = 2048\ncount = 2048\n",
+            &[extent(2048, 2048)],
+            None,
+        ),
+        (
+            "[[partition]]\nfirst = 4095\ncount = 1\n[[partition]]\nfirst = 1\ncount = 2\ntype = 255\n[[partition]]\nfirst = 256\ncount = 1024\n[[partition]]\nfirst = 3\ncount = 253\ntype = 1\n",
+            &[
+                extent(4095, 1),
+                extent(1, 2),
+                extent(256, 1024),
+                extent(3, 253),
+            ],
+            None,
+        ),
+        (
+            "[[partition]]\nfirst = 2048\ncount = 0\n",
+            &[],
+            Some(MbrFault::EmptyEntry),
+        ),
+        (
+            "[[partition]]\nfirst = 1\ncount = 1\n[[partition]]\nfirst = 0\ncount = 1\n",
+            &[],
+            Some(MbrFault::CoversTable),
+        ),
+        (
+            "[[partition]]\nfirst = 4294967295\ncount = 1\n",
+            &[],
+            Some(MbrFault::PastEnd),
+        ),
+        (
+            "[[partition]]\nfirst = 1\ncount = 2\n[[partition]]\nfirst = 2\ncount = 1\n",
+            &[],
+            Some(MbrFault::Overlap),
+        ),
+    ];
+    for (more, partitions, fault) in rows {
+        for size in [512, 4096] {
+            let text = format!(in alloc; "sector_size = {size}\n{DISK}{more}")?;
+            says(&rt, alloc, text.as_str(), partitions, fault)?;
+        }
+    }
+    Ok(())
+}
+
+/// Disks of few sectors, of as many as ten bytes can name, and of as many as there may be: an adapter takes room for sector
+/// 0 alone.
+#[test]
+fn gives_adapters(rt: HostRuntime) -> Result<(), Fail> {
+    let alloc = rt.alloc();
+    for sectors in [1, 4_294_967_296, 1_099_511_627_776u64] {
         let text = format!(in alloc;
-            "sector_size = 4096\nsectors = {sectors}\nmax_transfer = 64\ndepth = 1\nwindow = 1\nopen_requests = 1\n[[partition]]\nfirst = 4294967295\ncount = 1\n"
+            "sector_size = 4096\nsectors = {sectors}\nmax_transfer = 64\ndepth = 3\nwindow = 1\n[[partition]]\nfirst = 4294967295\ncount = 1\n"
         )?;
-        let settings = config(alloc, text.as_str())?;
-        assert_eq!(rt; start(alloc, settings).err(), None, "at {sectors}");
+        let adapter = new_adapter(alloc, config(alloc, text.as_str())?)?;
+        assert_eq!(rt; adapter.sector_size(), 4096);
+        assert_eq!(rt; adapter.sectors(), sectors);
+        assert_eq!(rt; adapter.max_transfer(), 64);
+        assert_eq!(rt; adapter.depth(), 3);
     }
     Ok(())
 }

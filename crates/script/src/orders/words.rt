@@ -82,10 +82,10 @@ impl<'a> Words<'a> {
     }
 
     /// Whether no word is left.
-    pub fn is_at_end(mut self) -> bool
-        ensures { IsTrue result ↔ (self.entry ≡ []) }
+    pub fn is_at_end(&self) -> bool
+        ensures { IsTrue result ↔ (self.now ≡ []) }
     {
-        self.word().is_none()
+        Words::new(self.rest).word().is_none()
     }
 }
 

@@ -1,0 +1,107 @@
+-- The disk of some settings, and the adapter over it.
+use Rattle.std.proofs.Common.{◌≡◌, ℕ, ◌-◌, ◌≤◌, ◌<◌, List, [], ◌∷◌, ◌++◌, map, Result, Ok, Err, IfOk, length, replicate, get_or, Contains, ◌↔◌, arith, refl, sym, ap, ◌∙◌, subst}
+use Rattle.std.proofs.lemmas.List.{length-replicate}
+use Rattle.disk.specs.Medium.{MediumView, StartsWith, HasWholeSectors}
+use Rattle.disk.specs.declared.NoMemory.{NoMemory}
+use Rattle.miniport.specs.Memory.{MemView, new_view}
+use Rattle.machine.specs.Map.{sectors_in}
+use Rattle.mbr.specs.Table.{Entry, table_bytes}
+use Rattle.mbr.specs.Faults.{said_of, told_by}
+use Rattle.settings.specs.declared.Config.{Config}
+use Rattle.settings.specs.declared.Partition.{Partition}
+use Rattle.settings.specs.InRange.{AreInRange}
+use Rattle.settings.specs.Medium.{HasBlankPartitions, IsNewAdapter, IsNewDisk, disk_of, entries_of, entry_of, table_sector}
+use Rattle.settings.proofs.WholeSectors.{first_then_zeros, zeros_in}
+
+-- a table with zeros behind it
+pub padded_table : (size : ℕ) (entries named : List Entry) (table shown sector : List ℕ) → entries ≡ named → table ≡ table_bytes entries → length table ≡ 512 → shown ≡ table
+    → sector ≡ shown ++ replicate (size - length shown) 0 → sector ≡ table_bytes named ++ replicate (size - 512) 0
+padded_table size entries named table shown sector are bytes long is padded =
+    let many : length shown ≡ 512 = ap length is ∙ long in
+    let same : shown ≡ table_bytes named = is ∙ (bytes ∙ ap table_bytes are) in
+    padded ∙ (ap (λ (n : ℕ). shown ++ replicate (size - n) 0) many ∙ ap (λ (l : List ℕ). l ++ replicate (size - 512) 0) same)
+
+-- it says what its entries say
+pub padded_says : (size : ℕ) (entries named : List Entry) (table shown sector : List ℕ) → entries ≡ named → shown ≡ table
+    → ((sectors : ℕ) (more : List ℕ) → told_by sectors (table ++ more) ≡ said_of sectors entries)
+    → sector ≡ shown ++ replicate (size - length shown) 0 → (sectors : ℕ) → told_by sectors sector ≡ said_of sectors named
+padded_says size entries named table shown sector are is followed padded sectors =
+    let more : List ℕ = replicate (size - length shown) 0 in
+    ap (told_by sectors) (padded ∙ ap (λ (l : List ℕ). l ++ more) is) ∙ (followed sectors more ∙ ap (said_of sectors) are)
+
+-- the same for the partitions of settings
+pub is_table_sector : (c : Config) (partitions : List Partition) (first : List ℕ) → partitions ≡ c.partitions.items
+    → first ≡ table_bytes (map entry_of partitions) ++ replicate (c.sector_size - 512) 0 → first ≡ table_sector c
+is_table_sector c partitions first are bytes =
+    bytes ∙ ap (λ (ps : List Partition). table_bytes (map entry_of ps) ++ replicate (c.sector_size - 512) 0) are
+
+pub told_of : (c : Config) (partitions : List Partition) (first : List ℕ) → partitions ≡ c.partitions.items
+    → ((sectors : ℕ) → told_by sectors first ≡ said_of sectors (map entry_of partitions)) → (sectors : ℕ) → told_by sectors first ≡ said_of sectors (entries_of c)
+told_of c partitions first are told sectors = told sectors ∙ ap (λ (ps : List Partition). said_of sectors (map entry_of ps)) are
+
+new_sectors : (c : Config) (medium : MediumView) (first : List ℕ) → AreInRange c → StartsWith medium c.sector_size c.sectors first → HasWholeSectors medium
+    → first ≡ table_sector c → length first ≡ c.sector_size → medium.sectors ≡ disk_of c
+new_sectors c medium first settings starts whole same long =
+    let some : 0 < c.sectors = omega (arith, settings.sectors.0) in
+    first_then_zeros c.sector_size c.sectors first medium.sectors (subst (λ (size : ℕ). HasWholeSectors (record medium { sector_size = size })) starts.size_is whole) starts.count_is some long starts.bytes_are
+    ∙ ap (λ (l : List ℕ). l ∷ replicate (c.sectors - 1) (replicate c.sector_size 0)) same
+
+-- a disk that starts with sector 0 of the settings is theirs
+pub new_disk : (c : Config) (medium : MediumView) (first : List ℕ) → AreInRange c → StartsWith medium c.sector_size c.sectors first → HasWholeSectors medium
+    → ((sector : ℕ) → Contains medium.bad sector ↔ Contains c.bad_sectors.items sector) → first ≡ table_sector c → length first ≡ c.sector_size → IsNewDisk c medium
+new_disk c medium first settings starts whole bad same long = record {
+  sector_size = starts.size_is;
+  sectors = new_sectors c medium first settings starts whole same long;
+  bad = bad;
+  none_failed = starts.none_failed;
+}
+
+-- its first sector says what the settings say
+pub says : (c : Config) (medium : MediumView) (first : List ℕ) → IsNewDisk c medium → first ≡ table_sector c
+    → ((sectors : ℕ) → told_by sectors first ≡ said_of sectors (entries_of c))
+    → (sectors : ℕ) → told_by sectors (get_or medium.sectors 0 []) ≡ said_of sectors (entries_of c)
+says c medium first new same told sectors =
+    let is : get_or medium.sectors 0 [] ≡ first = ap (λ (xs : List (List ℕ)). get_or xs 0 []) new.sectors ∙ sym same in
+    ap (told_by sectors) is ∙ told sectors
+
+count_of_disk : (c : Config) → 1 ≤ c.sectors → length (disk_of c) ≡ c.sectors
+count_of_disk c some = omega (arith, length-replicate {A = List ℕ} (c.sectors - 1) (replicate c.sector_size 0))
+
+new_adapter : (c : Config) (medium : MediumView) (view : MemView) → AreInRange c → IsNewDisk c medium
+    → view ≡ new_view medium c.max_transfer c.depth c.write_protected → IsNewAdapter c view
+new_adapter c medium view settings disk same = subst (IsNewAdapter c) (sym same) (record {
+  sector_size = disk.sector_size;
+  sectors = disk.sectors;
+  count = ap length disk.sectors ∙ count_of_disk c settings.sectors.0;
+  faithful = refl;
+  max_transfer = refl;
+  depth = refl;
+  no_tags = refl;
+  no_labels = refl;
+  none_accepted = refl;
+  bad = disk.bad;
+  write_protected = refl;
+})
+
+-- an adapter over the disk of the settings is theirs
+pub new_adapter_if : (c : Config) (medium : MediumView) (result : Result MemView NoMemory) → AreInRange c → IsNewDisk c medium
+    → IfOk result (λ view. view ≡ new_view medium c.max_transfer c.depth c.write_protected) → IfOk result (IsNewAdapter c)
+new_adapter_if c medium (Ok view) settings disk same = new_adapter c medium view settings disk same
+new_adapter_if c medium (Err fault) settings disk same = tt
+
+-- the table that it has says what the settings say
+pub told_if : (c : Config) (medium : MediumView) (result : Result MemView NoMemory)
+    → ((sectors : ℕ) → told_by sectors (get_or medium.sectors 0 []) ≡ said_of sectors (entries_of c))
+    → IfOk result (λ view. view ≡ new_view medium c.max_transfer c.depth c.write_protected)
+    → IfOk result (λ view. told_by c.sectors (get_or view.shown.sectors 0 []) ≡ said_of c.sectors (entries_of c))
+told_if c medium (Ok view) told same = ap (λ (v : MemView). told_by c.sectors (get_or v.shown.sectors 0 [])) same ∙ told c.sectors
+told_if c medium (Err fault) told same = tt
+
+blank : (c : Config) (view : MemView) → IsNewAdapter c view → HasBlankPartitions c view.shown.sectors
+blank c view new extent is =
+    ap (λ (xs : List (List ℕ)). sectors_in xs extent) new.sectors ∙ zeros_in c.sector_size c.sectors extent.first extent.count (table_sector c) is.behind_table is.inside
+
+-- its partitions are zeros
+pub blank_if : (c : Config) (result : Result MemView NoMemory) → IfOk result (IsNewAdapter c) → IfOk result (λ view. HasBlankPartitions c view.shown.sectors)
+blank_if c (Ok view) new = blank c view new
+blank_if c (Err fault) new = tt

@@ -1,0 +1,117 @@
+//! The adapter of settings, over a sparse disk in memory.
+
+ghost use Rattle.std.specs.Prelude.{◌≡◌, ◌≤◌, ◌-◌, ◌++◌, ℕ, [], All, IfOk, get_or, length, map, replicate};
+ghost use Rattle.disk.specs.Medium.{HasWholeSectors};
+ghost use Rattle.disk.specs.SparseDisk.{shown};
+ghost use Rattle.mbr.specs.Table.{FitsEntry, partitions_of, table_bytes};
+ghost use Rattle.mbr.specs.Faults.{said_of, told_by};
+ghost use Rattle.settings.specs.InRange.{AreInRange};
+ghost use Rattle.settings.specs.Medium.{HasBlankPartitions, IsNewAdapter, IsNewDisk, entries_of, entry_of, extents_of};
+
+use crate::{Config, Partition};
+use arrayvec::ArrayVec;
+use disk::{Medium, NoMemory, SparseDisk};
+use miniport::MemAdapter;
+use sector::Extent;
+use std::alloc::{AllocError, Global};
+
+/// The adapter of the settings, of which nothing was asked yet, over a disk of zeros with their partition table in sector 0.
+/// No fault of a partition is looked for: the table says what is wrong with it.
+///
+/// # Errors
+///
+/// [`NoMemory`] where memory was refused.
+pub fn new_adapter(alloc: Global, config: Config) -> Result<MemAdapter<SparseDisk>, NoMemory>
+    requires { AreInRange config }
+    ensures new { IfOk result (IsNewAdapter config) }
+    ensures says { IfOk result (λ adapter. told_by config.sectors (get_or adapter.shown.sectors 0 []) ≡ said_of config.sectors (entries_of config)) }
+    ensures extents { partitions_of (entries_of config) ≡ extents_of config }
+    ensures blank { IfOk result (λ adapter. HasBlankPartitions config adapter.shown.sectors) }
+{
+    let max_transfer = config.max_transfer;
+    let depth = config.depth;
+    let write_protected = config.write_protected;
+    let disk = new_disk(alloc, config)?;
+    MemAdapter::new(alloc, disk, max_transfer, depth, write_protected)
+}
+
+/// The disk of the settings: their partition table, and zeros.
+///
+/// # Errors
+///
+/// [`NoMemory`] where memory was refused.
+pub(crate) fn new_disk(alloc: Global, config: Config) -> Result<SparseDisk, NoMemory>
+    requires { AreInRange config }
+    ensures new { IfOk result (λ disk. IsNewDisk config (shown disk)) }
+    ensures says { IfOk result (λ disk. (sectors : ℕ) → told_by sectors (get_or (shown disk).sectors 0 []) ≡ said_of sectors (entries_of config)) }
+{
+    let first = table_sector(alloc, config.sector_size, config.partitions.as_slice())?;
+    let disk = SparseDisk::starting_with(
+        alloc,
+        config.sector_size,
+        config.sectors,
+        first.as_slice(),
+        config.bad_sectors,
+    )?;
+    has_whole_sectors(&disk);
+    Ok(disk)
+}
+
+/// The sectors of a medium are whole, for who calls it.
+fn has_whole_sectors<M: Medium>(_medium: &M)
+    ensures { HasWholeSectors (M.view _medium.now) }
+{}
+
+/// Sector 0: the partition table, and zeros behind it.
+fn table_sector(
+    alloc: Global,
+    sector_size: u32,
+    partitions: &[Partition],
+) -> Result<Vec<u8>, AllocError>
+    requires large { 512 ≤ sector_size }
+    requires few { length partitions.now ≤ 4 }
+    ensures bytes { IfOk result (λ sector. sector.items ≡ table_bytes (map entry_of partitions.now) ++ replicate (sector_size - 512) 0) }
+    ensures whole { IfOk result (λ sector. length sector.items ≡ sector_size) }
+    ensures says { IfOk result (λ sector. (sectors : ℕ) → told_by sectors sector.items ≡ said_of sectors (map entry_of partitions.now)) }
+{
+    let entries = entries(partitions);
+    let table = mbr::render(entries.as_slice());
+    let sector = padded(alloc, table.as_slice(), sector_size as usize)?;
+    Ok(sector)
+}
+
+/// Some bytes, and zeros behind them, so many in all.
+fn padded(alloc: Global, bytes: &[u8], total: usize) -> Result<Vec<u8>, AllocError>
+    requires { length bytes.now ≤ total }
+    ensures { IfOk result (λ padded. padded.items ≡ bytes.now ++ replicate (total - length bytes.now) 0) }
+{
+    let mut padded = Vec::with_capacity(alloc, total)?;
+    padded.extend_from_slice(bytes)?;
+    padded.resize(total, 0)?;
+    Ok(padded)
+}
+
+/// The entries of partitions, in order.
+fn entries(partitions: &[Partition]) -> ArrayVec<(u8, Extent), 4>
+    requires { length partitions.now ≤ 4 }
+    ensures all { result.items ≡ map entry_of partitions.now }
+    ensures fit { All FitsEntry result.items }
+{
+    let mut entries = ArrayVec::new();
+    for partition in partitions {
+        entries.push(entry(*partition));
+    }
+    entries
+}
+
+/// The entry of a partition.
+fn entry(partition: Partition) -> (u8, Extent)
+    ensures entry { result ≡ entry_of partition }
+    ensures fits { FitsEntry result }
+{
+    let extent = Extent {
+        first: partition.first as u64,
+        count: partition.count as u64,
+    };
+    (partition.kind, extent)
+}
