@@ -14,8 +14,8 @@ use Rattle.settings.specs.Medium.{HasBlankPartitions, IsNewAdapter, IsNewDisk, d
 use Rattle.settings.proofs.WholeSectors.{first_then_zeros, zeros_in}
 
 -- a table with zeros behind it
-pub padded_table : (size : ℕ) (entries named : List Entry) (table shown sector : List ℕ) → entries ≡ named → table ≡ table_bytes entries → length table ≡ 512 → shown ≡ table
-    → sector ≡ shown ++ replicate (size - length shown) 0 → sector ≡ table_bytes named ++ replicate (size - 512) 0
+pub padded_table : (size : ℕ) (entries named : List Entry) (table shown sector : List ℕ) → entries ≡ named → table ≡ table_bytes entries
+    → length table ≡ 512 → shown ≡ table → sector ≡ shown ++ replicate (size - length shown) 0 → sector ≡ table_bytes named ++ replicate (size - 512) 0
 padded_table size entries named table shown sector are bytes long is padded =
     let many : length shown ≡ 512 = ap length is ∙ long in
     let same : shown ≡ table_bytes named = is ∙ (bytes ∙ ap table_bytes are) in
@@ -36,19 +36,23 @@ is_table_sector c partitions first are bytes =
     bytes ∙ ap (λ (ps : List Partition). table_bytes (map entry_of ps) ++ replicate (c.sector_size - 512) 0) are
 
 pub told_of : (c : Config) (partitions : List Partition) (first : List ℕ) → partitions ≡ c.partitions.items
-    → ((sectors : ℕ) → told_by sectors first ≡ said_of sectors (map entry_of partitions)) → (sectors : ℕ) → told_by sectors first ≡ said_of sectors (entries_of c)
-told_of c partitions first are told sectors = told sectors ∙ ap (λ (ps : List Partition). said_of sectors (map entry_of ps)) are
+    → ((sectors : ℕ) → told_by sectors first ≡ said_of sectors (map entry_of partitions))
+    → (sectors : ℕ) → told_by sectors first ≡ said_of sectors (entries_of c)
+told_of c partitions first are told sectors =
+    told sectors ∙ ap (λ (ps : List Partition). said_of sectors (map entry_of ps)) are
 
-new_sectors : (c : Config) (medium : MediumView) (first : List ℕ) → AreInRange c → StartsWith medium c.sector_size c.sectors first → HasWholeSectors medium
-    → first ≡ table_sector c → length first ≡ c.sector_size → medium.sectors ≡ disk_of c
+new_sectors : (c : Config) (medium : MediumView) (first : List ℕ) → AreInRange c → StartsWith medium c.sector_size c.sectors first
+    → HasWholeSectors medium → first ≡ table_sector c → length first ≡ c.sector_size → medium.sectors ≡ disk_of c
 new_sectors c medium first settings starts whole same long =
     let some : 0 < c.sectors = omega (arith, settings.sectors.0) in
-    first_then_zeros c.sector_size c.sectors first medium.sectors (subst (λ (size : ℕ). HasWholeSectors (record medium { sector_size = size })) starts.size_is whole) starts.count_is some long starts.bytes_are
+    let are_whole = subst (λ (size : ℕ). HasWholeSectors (record medium { sector_size = size })) starts.size_is whole in
+    first_then_zeros c.sector_size c.sectors first medium.sectors are_whole starts.count_is some long starts.bytes_are
     ∙ ap (λ (l : List ℕ). l ∷ replicate (c.sectors - 1) (replicate c.sector_size 0)) same
 
 -- a disk that starts with sector 0 of the settings is theirs
-pub new_disk : (c : Config) (medium : MediumView) (first : List ℕ) → AreInRange c → StartsWith medium c.sector_size c.sectors first → HasWholeSectors medium
-    → ((sector : ℕ) → Contains medium.bad sector ↔ Contains c.bad_sectors.items sector) → first ≡ table_sector c → length first ≡ c.sector_size → IsNewDisk c medium
+pub new_disk : (c : Config) (medium : MediumView) (first : List ℕ) → AreInRange c → StartsWith medium c.sector_size c.sectors first
+    → HasWholeSectors medium → ((sector : ℕ) → Contains medium.bad sector ↔ Contains c.bad_sectors.items sector)
+    → first ≡ table_sector c → length first ≡ c.sector_size → IsNewDisk c medium
 new_disk c medium first settings starts whole bad same long = record {
   sector_size = starts.size_is;
   sectors = new_sectors c medium first settings starts whole same long;
@@ -99,9 +103,11 @@ told_if c medium (Err fault) told same = tt
 
 blank : (c : Config) (view : MemView) → IsNewAdapter c view → HasBlankPartitions c view.shown.sectors
 blank c view new extent is =
-    ap (λ (xs : List (List ℕ)). sectors_in xs extent) new.sectors ∙ zeros_in c.sector_size c.sectors extent.first extent.count (table_sector c) is.behind_table is.inside
+    ap (λ (xs : List (List ℕ)). sectors_in xs extent) new.sectors
+    ∙ zeros_in c.sector_size c.sectors extent.first extent.count (table_sector c) is.behind_table is.inside
 
 -- its partitions are zeros
-pub blank_if : (c : Config) (result : Result MemView NoMemory) → IfOk result (IsNewAdapter c) → IfOk result (λ view. HasBlankPartitions c view.shown.sectors)
+pub blank_if : (c : Config) (result : Result MemView NoMemory) → IfOk result (IsNewAdapter c)
+    → IfOk result (λ view. HasBlankPartitions c view.shown.sectors)
 blank_if c (Ok view) new = blank c view new
 blank_if c (Err fault) new = tt

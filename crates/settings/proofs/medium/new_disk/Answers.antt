@@ -12,4 +12,5 @@ returns-clause-new c =
 pub returns-clause-says : goal.returns-clause-says
 returns-clause-says c =
     let first = is_table_sector c.args.config _ _ c.as_slice.ensures.value c.in_ok-first.ensures.bytes in
-    says c.args.config (shown c.in_ok-disk.disk) c.in_ok-first.first.items (returns-clause-new c) first (told_of c.args.config _ c.in_ok-first.first.items c.as_slice.ensures.value c.in_ok-first.ensures.says)
+    says c.args.config (shown c.in_ok-disk.disk) c.in_ok-first.first.items (returns-clause-new c) first
+    (told_of c.args.config _ c.in_ok-first.first.items c.as_slice.ensures.value c.in_ok-first.ensures.says)

@@ -5,7 +5,8 @@ use Rattle.settings.proofs.medium.table_sector.Goals as goal
 pub returns-clause-bytes : goal.returns-clause-bytes
 returns-clause-bytes c =
     padded_table c.args.sector_size c.as_slice.result.now _ c.render-table.result.items c.as_slice-2.result.now _
-    (c.as_slice.ensures.value ∙ c.entries-entries.ensures.all) c.render-table.ensures.bytes c.render-table.ensures.whole c.as_slice-2.ensures.value c.in_ok-sector.ensures
+    (c.as_slice.ensures.value ∙ c.entries-entries.ensures.all) c.render-table.ensures.bytes c.render-table.ensures.whole
+    c.as_slice-2.ensures.value c.in_ok-sector.ensures
 
 pub returns-clause-says : goal.returns-clause-says
 returns-clause-says c =
