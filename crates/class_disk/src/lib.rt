@@ -68,6 +68,3 @@ impl<D: Device> Disk<D> {
         }
     }
 }
-
-#[cfg(test)]
-mod tests;
