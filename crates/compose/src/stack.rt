@@ -8,9 +8,8 @@ ghost use Rattle.compose.specs.Right.{IsRight};
 ghost use Rattle.compose.specs.Opening.{IsFirstView, IsSpent};
 ghost use Rattle.compose.specs.Runs.{CarriesAll, IsLawful, StopsAfter};
 
-use crate::events;
 use crate::start::manager_over;
-use crate::{Answer, Event, Reply, RunStopped, Settings, Shown, StartFault};
+use crate::{Answer, Event, Reply, RunStopped, Settings, Shown, StartFault, events};
 use class_disk::Disk;
 use device::Label;
 use hold_filter::Filter;

@@ -47,10 +47,7 @@ impl Settings {
     pub fn are_in_range(&self) -> bool
         ensures { IsTrue result ↔ AreInRange self.now }
     {
-        1 <= self.window
-            && self.window <= 64
-            && 1 <= self.open_requests
-            && self.open_requests <= 64
+        1 <= self.window && self.window <= 64 && 1 <= self.open_requests && self.open_requests <= 64
     }
 }
 
