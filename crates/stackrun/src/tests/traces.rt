@@ -56,7 +56,7 @@ static ROWS: [(&str, &str, &str, &str); 12] = [
         ONE,
         "",
         "open 0\nwrite 1 0 512 a5\nfinish 0\n",
-        "> open 0\nhandle 1\n> write 1 0 512 a5\nrequest 1\ncall 1 write 0 512\nstart 1 tag 0 2a000000080000000100\n> finish 0\nok\nreturn 1 busy\nanswer 1 DEVICE_BUSY 0\n",
+        "> open 0\nhandle 1\n> write 1 0 512 a5\nrequest 1\ncall 1 write 0 512\nstart 1 tag 0 2a000000080000000100\n> finish 0\nok\nreturn 1 busy\nstart 2 tag 0 2a000000080000000100\n",
     ),
     (
         ONE,
