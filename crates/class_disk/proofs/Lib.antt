@@ -72,3 +72,4 @@ pub mod AllSent
 pub mod OthersStay
 pub mod SubmitDone
 pub mod OpeningBegins
+pub mod Trying

@@ -9,3 +9,4 @@ pub mod Driver
 pub mod Opening
 pub mod Midway
 pub mod Order
+pub mod Client

@@ -20,6 +20,8 @@ mod numbers;
 mod parts;
 mod requests;
 mod table;
+#[cfg(test)]
+mod tests;
 mod transfers;
 
 use device::Device;
