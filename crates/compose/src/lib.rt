@@ -122,3 +122,6 @@ pub enum StartFault {
     #[error("no memory")]
     NoMemory,
 }
+
+#[cfg(test)]
+mod tests;

@@ -1,0 +1,8 @@
+//! Whole stacks over disks in memory: rows worked by hand, what stops a start, and refused memory.
+
+mod disks;
+mod events;
+mod refused_memory;
+mod starting;
+mod steps;
+mod told;
