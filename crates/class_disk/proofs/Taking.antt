@@ -10,7 +10,7 @@ use Rattle.machine.specs.declared.ClientRequest.{ClientRequest}
 use Rattle.machine.specs.Rules.{Rules}
 use Rattle.machine.specs.State.{Mark, Untouched, Out, Done, Failed, Back, OpenRequest, Piece, State, IsSame}
 use Rattle.machine.specs.Numbers.{HasPlaces, HavePlaces, request_number}
-use Rattle.machine.specs.Pieces.{mark_at}
+use Rattle.machine.specs.Cutting.{mark_at}
 use Rattle.machine.specs.Sending.{is_started, is_untouched}
 use Rattle.machine.specs.Answering.{HasEnded, Answers}
 use Rattle.machine.proofs.Same.{IsSame-refl, IsSame-sym, IsSame-trans}

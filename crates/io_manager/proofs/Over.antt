@@ -60,7 +60,7 @@ module _ (most : Option ℕ) (below : Rules) where
     on_tag = h.on_tag;
     is_open = h.is_open;
     may_start = record { not_cancelled = h.may_start.not_cancelled; not_removing = h.may_start.not_removing; not_held = h.may_start.not_held; in_turn = h.may_start.in_turn };
-    sendable = record { some = h.sendable.some; short = h.sendable.short; inside = h.sendable.inside; unsent = h.sendable.unsent; whole = h.sendable.whole };
+    sendable = record { some = h.sendable.some; short = h.sendable.short; inside = h.sendable.inside; unsent = h.sendable.unsent; begins = h.sendable.begins; spare = h.sendable.spare; whole = h.sendable.whole };
     asks = subst (Means block) (command_is h.owner.request h.places h.owner.request.kind) h.asks;
     after = shown_same next removed s' _ h.after;
   }

@@ -21,7 +21,8 @@ use Rattle.machine.specs.Answering.{Answers}
 use Rattle.machine.specs.Holding.{Cancels, held_back, beyond, as_cancelled, Drains}
 use Rattle.machine.specs.Step.{DeviceStep, Run, as_label}
 use Rattle.machine.specs.Numbers.{AreDistinct}
-use Rattle.machine.specs.Pieces.{IsCovered, IsPlaced, ArePlaced, mark_at}
+use Rattle.machine.specs.Pieces.{IsCovered, IsPlaced, ArePlaced}
+use Rattle.machine.specs.Cutting.{mark_at}
 use Rattle.machine.specs.Marks.{IsAllOf, IsAll, AreOnePiece, IsBusyBy, IsCounted, AreCounted}
 use Rattle.machine.proofs.Permuting.{All-changed}
 use Rattle.machine.proofs.Same.{IsSame-sym}

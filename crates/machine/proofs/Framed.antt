@@ -51,7 +51,7 @@ module _ (f : Frame) (window : Option ℕ) (rules : Rules) where
           not_held = mine.timely;
           in_turn = All-append (IsInTurn h.owner) _ _ h.may_start.in_turn mine.ahead;
         };
-        sendable = record { some = h.sendable.some; short = h.sendable.short; inside = h.sendable.inside; unsent = h.sendable.unsent; whole = h.sendable.whole };
+        sendable = record { some = h.sendable.some; short = h.sendable.short; inside = h.sendable.inside; unsent = h.sendable.unsent; begins = h.sendable.begins; spare = h.sendable.spare; whole = h.sendable.whole };
         asks = h.asks;
         after = IsSame-framed f s' _ h.after;
       }

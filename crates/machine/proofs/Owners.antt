@@ -10,7 +10,8 @@ use Rattle.std.proofs.lemmas.List.Sorted.{IsPermutation-sym, IsPermutation-remov
 use Rattle.std.proofs.lemmas.List.Elements.{All-contains}
 use Rattle.machine.specs.State.{Untouched, Out, OpenRequest, Piece, State}
 use Rattle.machine.specs.Settled.{is_out, has_out}
-use Rattle.machine.specs.Pieces.{covers, mark_at, IsCovered, IsOwner, IsPlaced, ArePlaced}
+use Rattle.machine.specs.Pieces.{covers, IsCovered, IsOwner, IsPlaced, ArePlaced}
+use Rattle.machine.specs.Cutting.{mark_at}
 use Rattle.machine.proofs.Placed.{IsCovered-permutation, is_out_there, is_inside, covers_inside, first_alone}
 
 -- the piece is of this request, whose places there are out

@@ -29,7 +29,8 @@ use Rattle.machine.specs.Holding.{held_back, beyond, as_timely, as_cancelled, Dr
 use Rattle.machine.specs.Settled.{is_out}
 use Rattle.machine.specs.Step.{DeviceStep, FreeStep, OwingStep, Step, Run}
 use Rattle.machine.specs.Numbers.{request_number, IsGiven, AreDistinct}
-use Rattle.machine.specs.Pieces.{covers, mark_at, IsCovered, IsOwner, HasFilled, IsPlaced, ArePlaced}
+use Rattle.machine.specs.Pieces.{covers, IsCovered, IsOwner, HasFilled, IsPlaced, ArePlaced}
+use Rattle.machine.specs.Cutting.{mark_at}
 use Rattle.machine.proofs.Same.{IsSame-sym, Any-permutation}
 use Rattle.machine.proofs.Numbers.{AreDistinct-Step}
 use Rattle.machine.proofs.Permuting.{distinct_first}

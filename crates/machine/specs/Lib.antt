@@ -1,6 +1,7 @@
 pub mod Rules
 pub mod Map
 pub mod State
+pub mod Cutting
 pub mod Calling
 pub mod Sending
 pub mod Answering

@@ -1,16 +1,13 @@
 -- The pieces out, and the places that are out.
-use Rattle.std.specs.Prelude.{◌≡◌, ◌<◌, ℕ, ◌+◌, ◌==◌, ◌&&◌, Bool, nat_le, nat_lt, List, All, Any, length, count_by, get_or, if◌then◌else◌}
+use Rattle.std.specs.Prelude.{◌≡◌, ◌<◌, ℕ, ◌+◌, ◌==◌, ◌&&◌, Bool, nat_le, nat_lt, List, All, Any, length, count_by, if◌then◌else◌}
 use Rattle.srb.specs.Fate.{Fate, Fresh, Acted, Faulted}
-use Rattle.machine.specs.State.{Mark, Untouched, OpenRequest, Piece, State}
+use Rattle.machine.specs.State.{OpenRequest, Piece, State}
+use Rattle.machine.specs.Cutting.{mark_at}
 use Rattle.machine.specs.Settled.{is_out}
 
 -- a piece of this request at this place
 abbrev pub covers : ℕ → ℕ → Piece → Bool
 covers number place piece = (piece.owner == number) && (nat_le piece.places.first place && nat_lt place (piece.places.first + piece.places.count))
-
--- the mark on a place; past the last as on one that was never sent
-abbrev pub mark_at : OpenRequest → ℕ → Mark
-mark_at o place = get_or o.marks place Untouched
 
 -- one piece covers each place that is out, and none any other
 abbrev pub IsCovered : List Piece → OpenRequest → Type 0

@@ -1,5 +1,5 @@
 -- Pieces: how they start, act, fault and come back.
-use Rattle.std.specs.Prelude.{◌≡◌, ◌≢◌, ◌<◌, ◌≤◌, ℕ, ◌+◌, ◌*◌, ◌^◌, ◌&&◌, nat_lt, nat_le, Bool, true, false, not, List, [], ◌∷◌, map, length, replicate, get_or, slice_set, slice_range, IsTrue, IsFalse, All, Any, Contains, unwrap_or, IsPermutation, if◌then◌else◌}
+use Rattle.std.specs.Prelude.{◌≡◌, ◌≢◌, ◌<◌, ◌≤◌, ℕ, ◌+◌, ◌*◌, ◌%◌, ◌^◌, ◌&&◌, nat_lt, nat_le, Bool, true, false, not, List, [], ◌∷◌, map, length, replicate, get_or, slice_set, slice_range, IsTrue, IsFalse, All, Any, Contains, unwrap_or, IsPermutation, if◌then◌else◌}
 use Rattle.std.specs.List.{list_all, concat}
 use Rattle.ntstatus.specs.declared.NtStatus.{NtStatus}
 use Rattle.ntstatus.specs.Table.{status_of}
@@ -19,6 +19,7 @@ use Rattle.machine.specs.declared.Kind.{Kind}
 use Rattle.machine.specs.declared.Kind.TheVariants.{Read, Write, Flush}
 use Rattle.machine.specs.declared.ClientRequest.{ClientRequest}
 use Rattle.machine.specs.Rules.{Rules, first_sector, home}
+use Rattle.machine.specs.Cutting.{mark_at, is_back, restarts_left}
 use Rattle.machine.specs.State.{Mark, Untouched, Out, Done, Failed, Back, OpenRequest, Piece, State, IsSame, with_marks}
 
 -- START
@@ -72,12 +73,15 @@ pub record IsWholeRequest (o : OpenRequest) (places : Extent) : Type 0 where
   pub all_places : places.count ≡ length o.marks
   pub not_before : IsFalse (is_started o)
 
--- places of a request, next to each other, which all wait to be sent; no more of them than a piece may have
+-- places of a request, next to each other, which all wait to be sent: a piece begins with them, and has no more. What came back is sent
+-- again while a restart is left
 pub record IsSendable (rules : Rules) (o : OpenRequest) (places : Extent) : Type 0 where
   pub some : 0 < places.count
   pub short : places.count ≤ rules.max_transfer
   pub inside : places.first + places.count ≤ length o.marks
   pub unsent : All IsUnsent (slice_range o.marks places.first (places.first + places.count))
+  pub begins : places.first % rules.max_transfer ≡ 0
+  pub spare : IsTrue (is_back (mark_at o places.first)) → 0 < restarts_left rules o
   pub whole : IsTrue rules.one_piece → IsWholeRequest o places
 
 -- an address and a number of blocks that a block of ten bytes has room for

@@ -19,7 +19,6 @@ pub mod Removal
 pub mod Going
 pub mod Once
 pub mod Starting
-pub mod ByPieces
 pub mod Tidy
 pub mod UsedUp
 pub mod Awaiting

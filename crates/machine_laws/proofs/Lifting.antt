@@ -66,7 +66,7 @@ module _ (rules : Rules) where
     on_tag = h.on_tag;
     is_open = h.is_open;
     may_start = record { not_cancelled = h.may_start.not_cancelled; not_removing = h.may_start.not_removing; not_held = h.may_start.not_held; in_turn = h.may_start.in_turn };
-    sendable = record { some = h.sendable.some; short = h.sendable.short; inside = h.sendable.inside; unsent = h.sendable.unsent; whole = h.sendable.whole };
+    sendable = record { some = h.sendable.some; short = h.sendable.short; inside = h.sendable.inside; unsent = h.sendable.unsent; begins = h.sendable.begins; spare = h.sendable.spare; whole = h.sendable.whole };
     asks = h.asks;
     after = IsSame-over before s' _ h.after;
   })

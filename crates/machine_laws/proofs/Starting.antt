@@ -13,10 +13,10 @@ use Rattle.srb.specs.declared.Class.{Class}
 use Rattle.srb.specs.declared.Class.TheVariants.{Good, Busy, Bad}
 use Rattle.machine.specs.Rules.{Rules}
 use Rattle.machine.specs.State.{Mark, Untouched, Out, Done, Failed, Back, OpenRequest, Piece}
-use Rattle.machine.specs.Pieces.{mark_at}
+use Rattle.machine.specs.Cutting.{mark_at, piece_count, count_below, is_back, pieces_with, restarts, restarts_left}
 use Rattle.machine.specs.Sending.{is_untouched, IsUnsent, IsSendable, LeavesMarks, one_if_busy, sent, given_back}
 use Rattle.machine.proofs.Placed.{get_or-splice_inside, get_or-splice_below, get_or-splice_above}
-use Rattle.machine_laws.specs.LabelsLeft.{piece_count, count_below, is_back, pieces_with, restarts, restarts_left, labels_of_starts}
+use Rattle.machine_laws.specs.LabelsLeft.{labels_of_starts}
 
 -- COUNTS
 
@@ -226,20 +226,15 @@ unsent_first o places some inside unsent =
     get_or-between o.marks places.first (places.first + places.count) 0 Untouched (omega arith) ∙ ap (λ i. mark_at o i) none in
     subst IsUnsent same (unsent 0 Untouched (omega arith))
 
--- the start of a piece that keeps to those of its request
-pub record KeepsToPieces (rules : Rules) (o : OpenRequest) (places : Extent) : Type 0 where
-  pub begins : places.first % rules.max_transfer ≡ 0
-  pub spare : IsTrue (is_back (mark_at o places.first)) → 0 < restarts_left rules o
-
--- it takes three labels
-pub start_taken : (rules : Rules) (o : OpenRequest) (places : Extent) → IsSendable rules o places → KeepsToPieces rules o places
+-- a start takes three labels
+pub start_taken : (rules : Rules) (o : OpenRequest) (places : Extent) → IsSendable rules o places
     → labels_of_starts rules (sent places o) + 3 ≤ labels_of_starts rules o
-start_taken rules o places sendable keeps =
+start_taken rules o places sendable =
     let n : length outs ≡ places.count = length-replicate places.count Out in
     let some : 0 < places.count = sendable.some in
     let short : places.count ≤ rules.max_transfer = sendable.short in
     let inside : places.first + places.count ≤ length o.marks = sendable.inside in
-    let begins' : places.first % rules.max_transfer ≡ 0 = keeps.begins in
+    let begins' : places.first % rules.max_transfer ≡ 0 = sendable.begins in
     let is : places.first ≡ places.first / rules.max_transfer * rules.max_transfer = omega arith in
     let out : get_or outs 0 Untouched ≡ Out = get_or-replicate places.count 0 Out Untouched some in
     let untouched : pieces_with rules is_untouched (sent places o) + one_if (is_untouched (mark_at o places.first))
@@ -250,7 +245,7 @@ start_taken rules o places sendable keeps =
     pieces_fall rules o places.first outs (omega arith) (omega arith) (omega arith) is_back (places.first / rules.max_transfer) is
     (omega arith) (ap is_back out) in
     by_mark (mark_at o places.first) _ _ _ _ o.busy_returns (restarts rules) untouched back
-    (unsent_first o places some inside sendable.unsent) keeps.spare
+    (unsent_first o places some inside sendable.unsent) sendable.spare
   where
     outs : List Mark
     outs = replicate places.count Out

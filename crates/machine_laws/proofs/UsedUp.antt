@@ -18,12 +18,12 @@ use Rattle.machine.specs.State.{Mark, OpenRequest, Piece, State, IsSame}
 use Rattle.machine.specs.Calling.{refusal, Admits, new_request}
 use Rattle.machine.specs.Sending.{Returns, LeavesMarks, one_if_busy, sent, given_back, new_piece, with_fate}
 use Rattle.machine.specs.Holding.{held_back, beyond, as_timely, as_cancelled}
+use Rattle.machine.specs.Cutting.{piece_count, restarts}
 use Rattle.machine.specs.Pieces.{IsPlaced, IsCovered}
-use Rattle.machine.specs.Step.{DeviceStep, FreeStep, OwingStep, Step}
+use Rattle.machine.specs.Step.{DeviceStep, FreeStep, OwingStep, Step, Run}
 use Rattle.machine.proofs.Placed.{leaves, is_inside}
 use Rattle.machine.proofs.Places.{IsTakenIn, taken_in}
-use Rattle.machine_laws.specs.LabelsLeft.{piece_count, restarts, labels_of_starts, labels_of_request, labels_of_fate, labels_of_piece, labels_left, labels_brought, DeviceByPieces, IsByPieces, RunByPieces, StepsUseUp, RunsUseUp, NoMoreAreLeft, BringsNone, brought_along}
-use Rattle.machine_laws.proofs.ByPieces.{start_keeps}
+use Rattle.machine_laws.specs.LabelsLeft.{labels_of_starts, labels_of_request, labels_of_fate, labels_of_piece, labels_left, labels_brought, StepsUseUp, RunsUseUp, NoMoreAreLeft, BringsNone, brought_along}
 use Rattle.machine_laws.proofs.Starting.{one_if, new_starts, start_taken, return_adds}
 use Rattle.machine_laws.proofs.Tidy.{IsShort, IsTidy, IsTidy-Step, IsTidy-reached}
 
@@ -156,10 +156,10 @@ module _ (rules : Rules) where
       omega arith
 
   DeviceStep-uses : (s : State) (label : DeviceLabel) (s' : State) → IsTidy rules s → DeviceStep rules s label s'
-      → DeviceByPieces rules s label s' → labels_left rules s' + 1 ≤ labels_left rules s
-  DeviceStep-uses s (Start number tag block) s' k h by =
+      → labels_left rules s' + 1 ≤ labels_left rules s
+  DeviceStep-uses s (Start number tag block) s' k h =
       let starts : labels_of_starts rules (sent h.places h.owner) + 3 ≤ labels_of_starts rules h.owner =
-      start_taken rules h.owner h.places h.sendable (start_keeps rules s number tag block s' k.distinct h by) in
+      start_taken rules h.owner h.places h.sendable in
       let mine : of_one s.removing (sent h.places h.owner) + 3 ≤ of_one s.removing h.owner =
       start_lowers h.owner.cancelled s.removing _ _ h.may_start.not_cancelled h.may_start.not_removing starts in
       let all : of_requests s.removing (sent h.places h.owner ∷ h.others) + 3 ≤ of_requests s.removing s.requests + 0 =
@@ -167,15 +167,15 @@ module _ (rules : Rules) where
       let out : sum_by labels_of_piece (new_piece s tag h.owner h.places ∷ s.pieces) ≡ 2 + sum_by labels_of_piece s.pieces =
       sum_by-cons labels_of_piece (new_piece s tag h.owner h.places) s.pieces in
       lowered _ s' _ h.after (omega arith)
-  DeviceStep-uses s (Act number bytes) s' k h by =
+  DeviceStep-uses s (Act number bytes) s' k h =
       let out : sum_by labels_of_piece (with_fate (Acted h.sectors) h.piece ∷ h.other_pieces) + 1 ≤ sum_by labels_of_piece s.pieces + 0 =
       met s.pieces h.piece h.other_pieces (Acted h.sectors) refl h.fresh.is_out h.fresh.is_fresh in
       lowered _ s' _ h.after (omega arith)
-  DeviceStep-uses s (Fault number) s' k h by =
+  DeviceStep-uses s (Fault number) s' k h =
       let out : sum_by labels_of_piece (with_fate Faulted h.piece ∷ h.other_pieces) + 1 ≤ sum_by labels_of_piece s.pieces + 0 =
       met s.pieces h.piece h.other_pieces Faulted refl h.fresh.is_out h.fresh.is_fresh in
       lowered _ s' _ h.after (omega arith)
-  DeviceStep-uses s (Return number class) s' k h by =
+  DeviceStep-uses s (Return number class) s' k h =
       let all : of_requests s.removing (given_back h.piece class h.marks h.owner ∷ h.others) + 0
       ≤ of_requests s.removing s.requests + one_if_busy class =
       one_changed (of_one s.removing) s.requests h.owner (given_back h.piece class h.marks h.owner) h.others 0 (one_if_busy class) h.is_open
@@ -206,36 +206,36 @@ module _ (rules : Rules) where
       lowered _ s' _ h.after (omega arith)
 
   FreeStep-uses : (s : State) (label : Label) (s' : State) → IsTidy rules s → IsTrue (is_none s.owed) → FreeStep rules s label s'
-      → IsByPieces rules s label s' → labels_left rules s' + 1 ≤ labels_left rules s + labels_brought rules s label
-  FreeStep-uses s (Call number q) s' k free h by = call_brings s number q (refusal rules s q) s' free h.admits
-  FreeStep-uses s (Device label) s' k free h by =
-      let less : labels_left rules s' + 1 ≤ labels_left rules s = DeviceStep-uses s label s' k h by in omega arith
-  FreeStep-uses s (Answer number status informed bytes) s' k free h by =
+      → labels_left rules s' + 1 ≤ labels_left rules s + labels_brought rules s label
+  FreeStep-uses s (Call number q) s' k free h = call_brings s number q (refusal rules s q) s' free h.admits
+  FreeStep-uses s (Device label) s' k free h =
+      let less : labels_left rules s' + 1 ≤ labels_left rules s = DeviceStep-uses s label s' k h in omega arith
+  FreeStep-uses s (Answer number status informed bytes) s' k free h =
       let all : of_requests s.removing s.requests ≡ of_one s.removing h.answers.request + of_requests s.removing h.answers.others =
       first_of (of_one s.removing) s.requests h.answers.request h.answers.others h.answers.is_open in
       let one : 1 ≤ of_one s.removing h.answers.request = some_label h.answers.request.cancelled s.removing _ in
       lowered _ s' _ h.answers.after (omega arith)
-  FreeStep-uses s (Cancel number) s' k free h by =
+  FreeStep-uses s (Cancel number) s' k free h =
       let mine : of_one s.removing (as_cancelled h.request) + 1 ≤ of_one s.removing h.request =
       cancel_lowers h.request.cancelled s.removing _ h.not_yet in
       let all : of_requests s.removing (as_cancelled h.request ∷ h.others) + 1 ≤ of_requests s.removing s.requests + 0 =
       one_changed (of_one s.removing) s.requests h.request (as_cancelled h.request) h.others 1 0 h.is_open (omega arith) in
       lowered _ s' _ h.after (omega arith)
-  FreeStep-uses s Pause s' k free h by =
+  FreeStep-uses s Pause s' k free h =
       let same : of_requests s.removing (held_back rules.window s.requests) ≡ of_requests s.removing s.requests =
       held_same s.removing rules.window s.requests in
       let not_paused : one_if s.paused ≡ 0 = ap one_if h.not_paused in
       lowered _ s' _ h.after (omega arith)
-  FreeStep-uses s Resume s' k free h by =
+  FreeStep-uses s Resume s' k free h =
       let same : of_requests s.removing (map as_timely s.requests) ≡ of_requests s.removing s.requests =
       mapped (of_one s.removing) as_timely (λ o. refl) s.requests in
       let paused : one_if s.paused ≡ 1 = ap one_if h.is_paused in
       lowered _ s' _ h.after (omega arith)
-  FreeStep-uses s Remove s' k free h by =
+  FreeStep-uses s Remove s' k free h =
       let fewer : of_requests true s.requests ≤ of_requests s.removing s.requests = removing_lowers s.removing s.requests in
       let paused : one_if s.paused ≡ 1 = ap one_if h.is_paused in
       lowered _ s' _ h.after (omega arith)
-  FreeStep-uses s Surprise s' k free h by =
+  FreeStep-uses s Surprise s' k free h =
       let fewer : of_requests true (if s.paused then s.requests else held_back rules.window s.requests)
       ≤ of_requests s.removing s.requests =
       by_pause s.paused in
@@ -246,7 +246,7 @@ module _ (rules : Rules) where
           → of_requests true (if paused then s.requests else held_back rules.window s.requests) ≤ of_requests s.removing s.requests
       by_pause true = removing_lowers s.removing s.requests
       by_pause false = rw (held_same true rules.window s.requests) (removing_lowers s.removing s.requests)
-  FreeStep-uses s Removed s' k free h by =
+  FreeStep-uses s Removed s' k free h =
       let not_yet : one_unless s.removed ≡ 1 = ap one_unless h.once in
       lowered _ s' _ h.after (omega arith)
 
@@ -257,20 +257,20 @@ module _ (rules : Rules) where
       lowered _ s' _ h.after (omega arith)
   OwingStep-uses s _ s' h = absurd h
 
-  Step-uses : (s : State) (label : Label) (s' : State) → IsTidy rules s → Step rules s label s' → IsByPieces rules s label s'
+  Step-uses : (s : State) (label : Label) (s' : State) → IsTidy rules s → Step rules s label s'
       → labels_left rules s' + 1 ≤ labels_left rules s + labels_brought rules s label
-  Step-uses s label s' k (inl h) by = FreeStep-uses s label s' k (free_is s.owed h.0) h.1 by
+  Step-uses s label s' k (inl h) = FreeStep-uses s label s' k (free_is s.owed h.0) h.1
     where
       free_is : {X : Type 0} (o : Option X) → IsNone o → IsTrue (is_none o)
       free_is None free = refl
       free_is (Some x) free = cc (free)
-  Step-uses s label s' k (inr h) by = OwingStep-uses s label s' h
+  Step-uses s label s' k (inr h) = OwingStep-uses s label s' h
 
-  Run-uses : (s : State) (labels : List Label) (s' : State) → IsTidy rules s → (run : RunByPieces rules s labels s')
+  Run-uses : (s : State) (labels : List Label) (s' : State) → IsTidy rules s → (run : Run rules s labels s')
       → labels_left rules s' + length labels ≤ labels_left rules s + brought_along rules s labels s' run
   Run-uses s [] s' k run = let e : labels_left rules s ≡ labels_left rules s' = left_same s s' run in omega arith
-  Run-uses s (label ∷ labels) s' k (mid, step, by, rest) =
-      let one : labels_left rules mid + 1 ≤ labels_left rules s + labels_brought rules s label = Step-uses s label mid k step by in
+  Run-uses s (label ∷ labels) s' k (mid, step, rest) =
+      let one : labels_left rules mid + 1 ≤ labels_left rules s + labels_brought rules s label = Step-uses s label mid k step in
       let more : labels_left rules s' + length labels ≤ labels_left rules mid + brought_along rules mid labels s' rest =
       Run-uses mid labels s' (IsTidy-Step rules s label mid k step) rest in
       omega arith
@@ -280,10 +280,10 @@ module _ (rules : Rules) where
   brings_none s Pause h = absurd h
   brings_none s _ h = refl
 
-  none_brought : (s : State) (labels : List Label) (s' : State) → (run : RunByPieces rules s labels s') → All BringsNone labels
+  none_brought : (s : State) (labels : List Label) (s' : State) → (run : Run rules s labels s') → All BringsNone labels
       → brought_along rules s labels s' run ≡ 0
   none_brought s [] s' run h = refl
-  none_brought s (label ∷ labels) s' (mid, step, by, rest) h =
+  none_brought s (label ∷ labels) s' (mid, step, rest) h =
       let one : labels_brought rules s label ≡ 0 = brings_none s label (All-head BringsNone label labels h) in
       let more : brought_along rules mid labels s' rest ≡ 0 = none_brought mid labels s' rest (All-tail BringsNone label labels h) in
       omega arith
@@ -291,7 +291,7 @@ module _ (rules : Rules) where
 -- THE LAWS
 
 pub steps_use_up : StepsUseUp
-steps_use_up rules s label s' reached step by = Step-uses rules s label s' (IsTidy-reached rules s reached) step by
+steps_use_up rules s label s' reached step = Step-uses rules s label s' (IsTidy-reached rules s reached) step
 
 pub runs_use_up : RunsUseUp
 runs_use_up rules s labels s' reached run = Run-uses rules s labels s' (IsTidy-reached rules s reached) run

@@ -1,45 +1,15 @@
 -- How many labels may still come, where no call and no pause does: a trace needs so many places.
-use Rattle.std.specs.Prelude.{◌≡◌, ◌<◌, ◌≤◌, ℕ, zero, suc, ◌+◌, ◌-◌, ◌*◌, ◌/◌, ◌%◌, ◌==◌, ◌||◌, Bool, true, false, List, [], ◌∷◌, ◌++◌, All, Contains, length, min, sum_by, is_none, IsTrue, if◌then◌else◌}
+use Rattle.std.specs.Prelude.{◌≤◌, ℕ, ◌+◌, ◌*◌, ◌||◌, Bool, List, [], ◌∷◌, All, length, min, sum_by, is_none, if◌then◌else◌}
 use Rattle.srb.specs.Fate.{Fate, Fresh, Acted, Faulted}
-use Rattle.srb.specs.declared.DeviceLabel.{DeviceLabel}
-use Rattle.srb.specs.declared.DeviceLabel.TheVariants.{Start}
 use Rattle.machine.specs.declared.Label.{Label}
-use Rattle.machine.specs.declared.Label.TheVariants.{Call, Device, Pause}
+use Rattle.machine.specs.declared.Label.TheVariants.{Call, Pause}
 use Rattle.machine.specs.Rules.{Rules, place_count}
-use Rattle.machine.specs.State.{Mark, Back, OpenRequest, Piece, State, IsSame}
+use Rattle.machine.specs.State.{OpenRequest, Piece, State}
 use Rattle.machine.specs.Calling.{refusal}
-use Rattle.machine.specs.Pieces.{mark_at}
+use Rattle.machine.specs.Cutting.{piece_count, pieces_with, is_back, restarts, restarts_left}
 use Rattle.machine.specs.Sending.{is_untouched}
 use Rattle.machine.specs.Step.{Step, Run}
 use Rattle.machine_laws.specs.Reached.{IsReached}
-
--- STARTS
-
--- how many pieces so many places make: one begins at the first of them, and at each multiple of the longest piece
-abbrev pub piece_count : Rules → ℕ → ℕ
-piece_count rules places = places / rules.max_transfer + (if places % rules.max_transfer == 0 then 0 else 1)
-
--- how many numbers below this one pass a test
-abbrev pub count_below : (ℕ → Bool) → ℕ → ℕ
-count_below test zero = 0
-count_below test (suc n) = count_below test n + (if test n then 1 else 0)
-
--- the place came back busy
-abbrev pub is_back : Mark → Bool
-is_back Back = true
-is_back _ = false
-
--- how many pieces of the request begin with such a mark
-abbrev pub pieces_with : Rules → (Mark → Bool) → OpenRequest → ℕ
-pieces_with rules test o = count_below (λ k. test (mark_at o (k * rules.max_transfer))) (piece_count rules (length o.marks))
-
--- how often pieces of one request may start again: the last busy return ends it
-abbrev pub restarts : Rules → ℕ
-restarts rules = rules.busy_limit - 1
-
--- how many of these are left: a busy return adds one to the pieces that are back, and a restart takes one from them
-abbrev pub restarts_left : Rules → OpenRequest → ℕ
-restarts_left rules o = pieces_with rules is_back o + restarts rules - o.busy_returns
 
 -- LABELS
 
@@ -75,66 +45,21 @@ labels_brought rules s (Call number q) =
 labels_brought rules s Pause = 2
 labels_brought rules s _ = 0
 
--- STARTS BY PIECES
-
--- the machine sends any places that wait, as often as they come back. A driver that cuts a request once, and counts its restarts, begins
--- where a piece does, and sends one that is back only while a restart is left: so did the start of this piece
-pub record StartsByPieces (rules : Rules) (s : State) (number : ℕ) (s' : State) : Type 0 where
-  pub piece : Piece
-  -- its request, before the start
-  pub owner : OpenRequest
-  pub is_number : piece.number ≡ number
-  pub is_out : Contains s'.pieces piece
-  pub is_open : Contains s.requests owner
-  pub is_owner : owner.number ≡ piece.owner
-  pub begins : piece.places.first % rules.max_transfer ≡ 0
-  pub spare : IsTrue (is_back (mark_at owner piece.places.first)) → 0 < restarts_left rules owner
-
--- so does the label, if it is a start
-abbrev pub DeviceByPieces : Rules → State → DeviceLabel → State → Type 0
-DeviceByPieces rules s (Start number tag block) s' = StartsByPieces rules s number s'
-DeviceByPieces rules s _ s' = Unit {0}
-
-abbrev pub IsByPieces : Rules → State → Label → State → Type 0
-IsByPieces rules s (Device label) s' = DeviceByPieces rules s label s'
-IsByPieces rules s _ s' = Unit {0}
-
--- a run of which each start does
-abbrev pub RunByPieces : Rules → State → List Label → State → Type 0
-RunByPieces rules s [] s' = IsSame s s'
-RunByPieces rules s (label ∷ labels) s' =
-    (mid : State) × Step rules s label mid × IsByPieces rules s label mid × RunByPieces rules mid labels s'
-
--- it is a run
-abbrev pub AreRuns : Type 0
-AreRuns = (rules : Rules) (s : State) (labels : List Label) (s' : State) → RunByPieces rules s labels s' → Run rules s labels s'
-
--- two of them join
-abbrev pub TheyJoin : Type 0
-TheyJoin = (rules : Rules) (s : State) (xs : List Label) (mid : State) (ys : List Label) (s' : State)
-    → RunByPieces rules s xs mid → RunByPieces rules mid ys s' → RunByPieces rules s (xs ++ ys) s'
-
--- where a request goes as one piece, once, each run is such
-abbrev pub OnePieceIsByPieces : Type 0
-OnePieceIsByPieces =
-    (rules : Rules) (s : State) (labels : List Label) (s' : State) → IsTrue rules.one_piece → Run rules s labels s'
-    → RunByPieces rules s labels s'
-
 -- THE LAWS
 
 -- a label uses up one of those that were left and of those that it brings
 abbrev pub StepsUseUp : Type 0
 StepsUseUp =
-    (rules : Rules) (s : State) (label : Label) (s' : State) → IsReached rules s → Step rules s label s' → IsByPieces rules s label s'
+    (rules : Rules) (s : State) (label : Label) (s' : State) → IsReached rules s → Step rules s label s'
     → labels_left rules s' + 1 ≤ labels_left rules s + labels_brought rules s label
 
 -- what the labels of a run bring, together
-abbrev pub brought_along : (rules : Rules) (s : State) (labels : List Label) (s' : State) → RunByPieces rules s labels s' → ℕ
+abbrev pub brought_along : (rules : Rules) (s : State) (labels : List Label) (s' : State) → Run rules s labels s' → ℕ
 brought_along rules s [] s' run = 0
-brought_along rules s (label ∷ labels) s' run = labels_brought rules s label + brought_along rules run.0 labels s' run.3
+brought_along rules s (label ∷ labels) s' run = labels_brought rules s label + brought_along rules run.0 labels s' run.2
 
 abbrev pub RunsUseUp : Type 0
-RunsUseUp = (rules : Rules) (s : State) (labels : List Label) (s' : State) → IsReached rules s → (run : RunByPieces rules s labels s')
+RunsUseUp = (rules : Rules) (s : State) (labels : List Label) (s' : State) → IsReached rules s → (run : Run rules s labels s')
     → labels_left rules s' + length labels ≤ labels_left rules s + brought_along rules s labels s' run
 
 -- neither a call nor a pause
@@ -146,6 +71,5 @@ BringsNone _ = Unit {0}
 -- so with no call and no pause no more labels come than were left
 abbrev pub NoMoreAreLeft : Type 0
 NoMoreAreLeft =
-    (rules : Rules) (s : State) (labels : List Label) (s' : State) → IsReached rules s → RunByPieces rules s labels s'
-    → All BringsNone labels
+    (rules : Rules) (s : State) (labels : List Label) (s' : State) → IsReached rules s → Run rules s labels s' → All BringsNone labels
     → labels_left rules s' + length labels ≤ labels_left rules s

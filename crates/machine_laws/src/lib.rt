@@ -9,8 +9,7 @@
 //! - `keeps_arrays`, `keeps_sectors`, `keeps_lengths`: what a label may change of the arrays, whoever else is at work.
 //! - `answered_are_over`, `removed_is_last`, `numbers_are_used_once`: what comes no more.
 //! - `numbers_rise`, `calls_await_answers`: which numbers calls and answers have.
-//! - `labels_run_out`: how many labels may still come, where starts keep to the pieces of their requests
-//!   (`runs_by_pieces`); `counts_labels_left`: that number, by hand.
+//! - `labels_run_out`: how many labels may still come; `counts_labels_left`: that number, by hand.
 //! - `goes_on`, `labels_are_of_one`: how a run is taken apart, so that the laws fit its labels.
 //!
 //! Nothing is said of requests that overlap as to their order, nor that any request is ever answered.
@@ -24,12 +23,9 @@ ghost use Rattle.machine_laws.specs.EndLaws.{
   RemovedIsLast,
 };
 ghost use Rattle.machine_laws.specs.LabelsLeft.{
-  AreRuns,
   NoMoreAreLeft,
-  OnePieceIsByPieces,
   RunsUseUp,
   StepsUseUp,
-  TheyJoin,
 };
 ghost use Rattle.machine_laws.specs.Lifting.{RunsLift};
 ghost use Rattle.machine_laws.specs.NumberLaws.{
@@ -127,20 +123,10 @@ pub fn calls_await_answers()
 
 /// Each label uses up one of those that are left and of those that it brings. Only a call and a pause bring any: a call
 /// the labels of its pieces and restarts, and a pause its end. So with neither no more labels come than were left.
-///
-/// This is so where each start keeps to the pieces of its request, as `runs_by_pieces` says.
 pub fn labels_run_out()
     ensures step { StepsUseUp }
     ensures run { RunsUseUp }
     ensures none_brought { NoMoreAreLeft }
-{}
-
-/// Runs of which each start keeps to the pieces of its request are runs, and join; the machine does not ask it of a
-/// start. Where a request goes as one piece, once, each run is such.
-pub fn runs_by_pieces()
-    ensures runs { AreRuns }
-    ensures join { TheyJoin }
-    ensures one_piece { OnePieceIsByPieces }
 {}
 
 /// How many labels are left of small states, by hand: of a read of two pieces from its call on, returned and busy.

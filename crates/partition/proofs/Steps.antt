@@ -435,6 +435,8 @@ module _ (below : Rules) (table : List Extent) (packets : List Packet) where
           short = h.sendable.short;
           inside = h.sendable.inside;
           unsent = h.sendable.unsent;
+          begins = h.sendable.begins;
+          spare = h.sendable.spare;
           whole = λ one. record { all_places = (h.sendable.whole one).all_places; not_before = (h.sendable.whole one).not_before };
         };
         asks = subst (λ command. Means block command) same h.asks;

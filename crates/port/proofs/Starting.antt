@@ -3,7 +3,7 @@ use Rattle.std.proofs.Common.{◌≡◌, ◌≢◌, ◌<◌, ◌≤◌, ◌⊎�
 use Rattle.std.proofs.lemmas.Bool.{cases_lt}
 use Rattle.port.specs.Turns as Turn
 use Rattle.std.specs.Prelude.{All, Any, IsTrue, IsPermutation, slice_set, slice_index}
-use Rattle.std.proofs.lemmas.List.{length-replicate, length-set, get_or-set_same, get_or-set_other, length-append, map-append}
+use Rattle.std.proofs.lemmas.List.{length-replicate, get_or-replicate, length-set, get_or-set_same, get_or-set_other, length-append, map-append}
 use Rattle.std.proofs.lemmas.List.Elements.{All-nil, All-cons, All-append, All-map, All-weaker, All-head, All-tail, All-contains_itself}
 use Rattle.std.proofs.lemmas.List.Sorted.{IsPermutation-refl, IsPermutation-sym, IsPermutation-trans, IsPermutation-map, IsPermutation-append_left, All-permutation, length_permutation}
 use Rattle.srb.specs.declared.Srb.{Srb}
@@ -22,6 +22,7 @@ use Rattle.machine.specs.declared.ClientRequest.{ClientRequest}
 use Rattle.machine.specs.declared.Request.{Request}
 use Rattle.machine.specs.Rules.{Rules, as_client, home, first_sector}
 use Rattle.machine.specs.State.{Mark, Untouched, Out, OpenRequest}
+use Rattle.machine.specs.Cutting.{is_back}
 use Rattle.machine.specs.Sending.{command_for, write_command, HasOtherTag, HasTag, IsInTurn, Starts, is_started, sent, IsStart}
 use Rattle.device.specs.View.{AsksFor, Carries, IsBounded, DeviceView, sent_bytes}
 use Rattle.device.specs.Served.{Moves}
@@ -153,6 +154,7 @@ machine_starts b v rooms front rest tag srb packet tags' k is packs same low fre
     let inside : tag < length b.started = omega arith in
     let n : ℕ = places_of rules front.request in
     let count = length-replicate n Untouched in
+    let sized : 0 < n = places_some b.sizes front.request some w.room.bounded in
     record {
       owner = waiting_open rules front;
       others = map (waiting_open rules) rest ++ (map (open_on rules b.started) v.tags ++ map (done_open rules) b.done);
@@ -171,10 +173,12 @@ machine_starts b v rooms front rest tag srb packet tags' k is packs same low fre
         in_turn = front_in_turn b v rooms front rest k is stays some;
       };
       sendable = record {
-        some = places_some b.sizes front.request some w.room.bounded;
+        some = sized;
         short = places_short b.sizes front.request some (let m = k.adapter.max_transfer.0 in let e = k.sizes.max_transfer in omega arith) w.room.bounded;
         inside = omega arith;
         unsent = all_unsent n;
+        begins = omega arith;
+        spare = λ back. cc (back, ap is_back (get_or-replicate n 0 Untouched Untouched sized));
         whole = λ _. record { all_places = sym count; not_before = rw untouched_all refl };
       };
       asks = subst (Means srb.block) (sym (same_command rules front.request (sent_bytes front.request.kind front.irp.payload) front.request.kind refl)) asks.asks;

@@ -9,8 +9,8 @@ use Rattle.machine.specs.declared.Label.TheVariants.{Device, Answer}
 use Rattle.machine.specs.State.{OpenRequest, Piece, Mark, Untouched, Out, Done, Failed, Back, opening}
 use Rattle.machine.proofs.Same.{IsSame-refl, Run-append}
 use Rattle.worked_runs.specs.Small.{small, zeros, full_of, sectors, idle, read, write, write_block, bus_reset, opened, one_place, piece_of}
-use Rattle.worked_runs.specs.Failed.{cancelled_in_three, IsCutShort, StaysBusy, IsResetBeforeAct, IsResetAfterAct, both_fail, AnswersLowestFailure}
-use Rattle.worked_runs.specs.Impossible.{cut, both_failed}
+use Rattle.worked_runs.specs.Failed.{busy_twice, cancelled_in_three, IsCutShort, StaysBusy, IsResetBeforeAct, IsResetAfterAct, both_fail, AnswersLowestFailure}
+use Rattle.worked_runs.specs.Impossible.{cut, both_failed, worn_out, ReachesWornOut}
 use Rattle.worked_runs.proofs.Early.{reaches_both_failed}
 use Rattle.worked_runs.proofs.Losing.{reaches_cut}
 use Rattle.worked_runs.proofs.Steps.{called, started, acted, faulted, returned, answered, tag_0}
@@ -35,8 +35,8 @@ is_cut_short =
       ),
     )
 
-pub stays_busy : StaysBusy
-stays_busy =
+pub reaches_worn_out : ReachesWornOut
+reaches_worn_out =
     let w : ℕ → Mark → OpenRequest = λ times mark. record (opened 1 (write 0 2 (full_of 165)) (mark ∷ [])) { busy_returns = times } in
     let p : ℕ → Piece = λ number. piece_of number 0 1 0 Fresh in (
       _,
@@ -53,15 +53,20 @@ stays_busy =
             (
               _,
               returned small _ (p 2) [] (w 1 Out) [] Busy (Back ∷ []) refl (IsPermutation-refl _) (IsPermutation-refl _) refl (search rules),
-              (
-                _,
-                answered small _ (w 2 Back) [] DeviceBusy [] refl (IsPermutation-refl _) (inr (DeviceBusy, inr (search rules, refl)), tt) (search rules) (search rules) refl,
-                IsSame-refl _,
-              ),
+              IsSame-refl _,
             ),
           ),
         ),
       ),
+    )
+
+pub stays_busy : StaysBusy
+stays_busy =
+    let w : OpenRequest = record (opened 1 (write 0 2 (full_of 165)) (Back ∷ [])) { busy_returns = 2 } in
+    Run-append small (opening zeros) busy_twice worn_out (Answer 1 DeviceBusy 0 [] ∷ []) (idle zeros 2 3) reaches_worn_out (
+      _,
+      answered small _ w [] DeviceBusy [] refl (IsPermutation-refl _) (inr (DeviceBusy, inr (search rules, refl)), tt) (search rules) (search rules) refl,
+      IsSame-refl _,
     )
 
 pub is_reset_before_act : IsResetBeforeAct

@@ -1,15 +1,16 @@
 -- Pieces that may not be started, and a removal that may not end.
-use Rattle.std.proofs.Common.{◌≡◌, ◌+◌, ◌≤◌, [], ◌∷◌, ◌++◌, refl, sym, ◌∙◌, inl, inr, true, false, arith, rules}
+use Rattle.std.proofs.Common.{◌≡◌, ◌+◌, ◌<◌, ◌≤◌, [], ◌∷◌, ◌++◌, refl, sym, ap, ◌∙◌, inl, inr, true, false, arith, rules}
 use Rattle.std.proofs.lemmas.List.Sorted.{IsPermutation-refl}
 use Rattle.ntstatus.specs.declared.NtStatus.TheVariants.{DeviceDataError}
 use Rattle.srb.specs.declared.Class.TheVariants.{Good, Bad}
 use Rattle.srb.specs.Fate.{Fate, Fresh, Acted, Faulted}
 use Rattle.machine.specs.declared.Label.TheVariants.{Pause, Removed}
-use Rattle.machine.specs.State.{OpenRequest, Piece, Mark, Untouched, Out, Done, Failed, opening}
+use Rattle.machine.specs.State.{OpenRequest, Piece, Mark, Untouched, Out, Done, Failed, Back, opening}
+use Rattle.machine.specs.Cutting.{mark_at, is_back, restarts_left}
 use Rattle.machine.proofs.Same.{IsSame-refl, Run-append}
 use Rattle.machine.proofs.Forms.{write_forms, one_write}
 use Rattle.worked_runs.specs.Small.{small, zeros, full_of, sectors, read, write, read_block, write_block, error_of_key, opened, one_place, piece_of}
-use Rattle.worked_runs.specs.Impossible.{Never, NeverStarts, NeverWritesAt, NeverWritesBeyond, neighbours, NeverOpensPastEnd, last_sector, ReachesLastSector, first_bad, ReachesFirstBad, SendsTheOther, one_below, two_reads, waits_behind, held_behind, ReachesHeldBehind, held_alone, ReachesHeldAlone, removing_out, ReachesRemovingOut}
+use Rattle.worked_runs.specs.Impossible.{Never, NeverStarts, NeverWritesAt, NeverWritesBeyond, neighbours, NeverOpensPastEnd, last_sector, ReachesLastSector, first_bad, ReachesFirstBad, SendsTheOther, one_below, two_reads, waits_behind, held_behind, ReachesHeldBehind, held_alone, ReachesHeldAlone, worn_out, removing_out, ReachesRemovingOut}
 use Rattle.worked_runs.proofs.Steps.{called, started, acted, faulted, returned, answered, paused, removing, tag_0}
 use Rattle.worked_runs.proofs.Losing.{reaches_waits_behind, reaches_alone}
 use Rattle.worked_runs.proofs.Refuting.{never_started, first_waits}
@@ -110,6 +111,16 @@ reaches_held_alone = reaches_alone true
 pub starts_not_alone : NeverStarts one_below held_alone
 starts_not_alone piece tag block =
     never_started one_below held_alone piece tag block ((λ places may h asks. let late : true ≡ false = may.not_held refl in cc), tt)
+
+pub starts_not_again : NeverStarts small worn_out
+starts_not_again piece tag block =
+    never_started small worn_out piece tag block ((λ places may h asks.
+        let from : places.first ≡ 0 = omega (arith, h.inside, h.some) in
+        let left : 0 < restarts_left small r = h.spare (ap (λ first. is_back (mark_at r first)) from) in
+        absurd (omega arith)), tt)
+  where
+    r : OpenRequest
+    r = record (opened 1 (write 0 2 (full_of 165)) (Back ∷ [])) { busy_returns = 2 }
 
 pub reaches_removing_out : ReachesRemovingOut
 reaches_removing_out =

@@ -21,11 +21,13 @@ abbrev pub IsCutShort : Type 0
 IsCutShort = Run small (opening zeros) (cancelled_in_three ++ Device (Act 2 (full_of 165)) ∷ Device (Return 2 Good) ∷ Answer 1 Cancelled 0 [] ∷ []) (idle (sectors 165 165 0) 2 3)
 
 -- a write that comes back busy as often as it may
-abbrev pub StaysBusy : Type 0
-StaysBusy = Run small (opening zeros) (
+abbrev pub busy_twice : List Label
+busy_twice =
     Call 1 (write 0 2 (full_of 165)) ∷ Device (Start 1 0 (write_block 2 1)) ∷ Device (Return 1 Busy) ∷ Device (Start 2 0 (write_block 2 1)) ∷ Device (Return 2 Busy)
-    ∷ Answer 1 DeviceBusy 0 []
-    ∷ []) (idle zeros 2 3)
+    ∷ []
+
+abbrev pub StaysBusy : Type 0
+StaysBusy = Run small (opening zeros) (busy_twice ++ Answer 1 DeviceBusy 0 [] ∷ []) (idle zeros 2 3)
 
 -- a reset finds the piece before its act: nothing is written
 abbrev pub IsResetBeforeAct : Type 0

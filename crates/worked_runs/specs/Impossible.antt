@@ -9,11 +9,11 @@ use Rattle.srb.specs.declared.Class.TheVariants.{Good, Bad}
 use Rattle.machine.specs.declared.Label.{Label}
 use Rattle.machine.specs.declared.Label.TheVariants.{Call, Device, Answer, Cancel, Pause, Remove}
 use Rattle.machine.specs.Rules.{Rules}
-use Rattle.machine.specs.State.{State, Untouched, Out, Done, Failed, opening}
+use Rattle.machine.specs.State.{State, Untouched, Out, Done, Failed, Back, opening}
 use Rattle.machine.specs.Step.{Step, Run}
 use Rattle.worked_runs.specs.Small.{small, zeros, full_of, sectors, idle, read, write, read_block, write_block, error_of_key, opened, piece_of}
 use Rattle.worked_runs.specs.Served.{pairs}
-use Rattle.worked_runs.specs.Failed.{cancelled_in_three, both_fail}
+use Rattle.worked_runs.specs.Failed.{busy_twice, cancelled_in_three, both_fail}
 
 -- no state follows by this label
 abbrev pub Never : Rules → State → Label → Type 0
@@ -127,6 +127,13 @@ abbrev pub SendsTheOther : Type 0
 SendsTheOther = Run small first_bad (
     Device (Start 2 0 (write_block 3 1)) ∷ Device (Act 2 (full_of 165)) ∷ Device (Return 2 Good) ∷ Answer 1 DeviceDataError 0 []
     ∷ []) (idle (sectors 0 165 0) 2 3)
+
+-- a write whose piece came back busy once more than it may start again
+abbrev pub worn_out : State
+worn_out = record (idle zeros 2 3) { requests = record (opened 1 (write 0 2 (full_of 165)) (Back ∷ [])) { busy_returns = 2 } ∷ [] }
+
+abbrev pub ReachesWornOut : Type 0
+ReachesWornOut = Run small (opening zeros) busy_twice worn_out
 
 -- one request below the hold at a time
 abbrev pub one_below : Rules

@@ -7,7 +7,7 @@ ghost use Rattle.std.specs.Prelude.{◌++◌};
 ghost use Rattle.machine.specs.Settled.{Settled};
 ghost use Rattle.worked_runs.specs.Small.{small, zeros, full_of, idle};
 ghost use Rattle.worked_runs.specs.Served.{pairs};
-ghost use Rattle.worked_runs.specs.Impossible.{AnswersOnce, Never, NeverAnswers, NeverAnswersAs, NeverAnswersBeforeReturn, NeverOpensPastEnd, NeverRefusesWithoutCause, NeverStarts, NeverWritesAt, NeverWritesBeyond, ReachesBothBack, ReachesBothFailed, ReachesCancelledOut, ReachesCut, ReachesFirstBad, ReachesHeldAlone, ReachesHeldBehind, ReachesLastSector, ReachesLastUnsent, ReachesLeftBehind, ReachesOneFailed, ReachesOneOfTwo, ReachesOneWaits, ReachesRemovingOut, ReachesUnsent, ReachesUnsentCancelled, ReachesWaitsBehind, SendsTheOther, both_back, both_failed, cancelled_out, cut, first_bad, held_alone, held_behind, last_sector, last_unsent, left_behind, neighbours, one_below, one_failed, one_of_two, one_waits, removing_out, unsent, unsent_cancelled, waits_behind};
+ghost use Rattle.worked_runs.specs.Impossible.{AnswersOnce, Never, NeverAnswers, NeverAnswersAs, NeverAnswersBeforeReturn, NeverOpensPastEnd, NeverRefusesWithoutCause, NeverStarts, NeverWritesAt, NeverWritesBeyond, ReachesBothBack, ReachesBothFailed, ReachesCancelledOut, ReachesCut, ReachesFirstBad, ReachesHeldAlone, ReachesHeldBehind, ReachesLastSector, ReachesLastUnsent, ReachesLeftBehind, ReachesOneFailed, ReachesOneOfTwo, ReachesOneWaits, ReachesRemovingOut, ReachesUnsent, ReachesUnsentCancelled, ReachesWaitsBehind, ReachesWornOut, SendsTheOther, both_back, both_failed, cancelled_out, cut, first_bad, held_alone, held_behind, last_sector, last_unsent, left_behind, neighbours, one_below, one_failed, one_of_two, one_waits, removing_out, unsent, unsent_cancelled, waits_behind, worn_out};
 
 /// A request is answered at its first failed piece, while another is out or still waits to be sent.
 pub fn answers_at_first_failure()
@@ -49,6 +49,12 @@ pub fn bad_piece_started_again()
     ensures reached { ReachesFirstBad }
     ensures never { NeverWritesAt small first_bad 2 }
     ensures goes_on { SendsTheOther }
+{}
+
+/// A piece is started once more than its request may start pieces again.
+pub fn restarted_without_end()
+    ensures reached { ReachesWornOut }
+    ensures never { NeverStarts small worn_out }
 {}
 
 /// A request held before the pause is started while it lasts.
