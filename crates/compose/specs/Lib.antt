@@ -1,3 +1,4 @@
 pub mod Opening
 pub mod Right
 pub mod Runs
+pub mod StepLaws

@@ -10,11 +10,13 @@
 #![tactic(auto)]
 
 mod events;
+mod laws;
 mod stack;
 mod start;
 
 use device::Label;
 pub use io_manager::{Answer, Handle, Id, OpenHandle, Refusal, Reply};
+pub use laws::{steps_call_once, steps_leave_answers, steps_take_no_memory};
 pub use mbr::MbrFault;
 use ntstatus::NtStatus;
 use sector::Bytes;

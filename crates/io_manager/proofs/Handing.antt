@@ -72,7 +72,7 @@ given_sound limits below old handles partition slot number h admitted updates sl
         labels = h.places.labels;
         answered = h.places.answered;
         untaken = h.places.untaken;
-        handles = subst (λ capacity. (handle_limit ≤ capacity) × (capacity < 2 ^ 32)) (sym slots) h.places.handles;
+        handles = slots ∙ h.places.handles;
         requests = h.places.requests;
       };
       on_map = on_map below.rules old.handles handles slot _ updates (leb-false (length below.rules.partitions) partition b.0) h.on_map;
@@ -108,6 +108,7 @@ opened_right limits below old partition (HandleReply handle) new h none_told non
           next_number = opens.next_number;
           counted = refl;
           was_free = opens.was_free;
+          in_range = let low = opens.in_range in let many = h.places.handles in omega arith;
           opens = record { there = opens.opens.changed; others = opens.opens.others };
         },
       );

@@ -125,6 +125,7 @@ pub record Gives (old : Tables) (partition partitions : ℕ) (handle : Handle) (
   pub not_refused : handle_refusal old partition partitions ≡ None
   pub next_number : handle.number ≡ old.next_handle
   pub was_free : get old.handles handle.slot ≡ None
+  pub in_range : handle.slot < old.handles.capacity
   pub opens : Updates old.handles new.handles handle.slot (Some (record { number = handle.number; partition = partition }))
   pub slots : new.handles.capacity ≡ old.handles.capacity
   pub after : new ≡ record old { next_handle = old.next_handle + 1; handles = new.handles }

@@ -31,7 +31,7 @@ use Rattle.io_manager.specs.declared.Refusal.TheVariants.{InvalidHandle, DeviceB
 use Rattle.io_manager.specs.declared.Reply.{Reply}
 use Rattle.io_manager.specs.declared.Reply.TheVariants.{Handle as HandleReply, Ok as OkReply, Request as Requested, Answered, Refused, Ignored}
 use Rattle.io_manager.specs.Shown.{ManagerView, Holder}
-use Rattle.io_manager.specs.Calls.{are_used_up, status_of_refusal, partition_of, without_bytes, open_refusal}
+use Rattle.io_manager.specs.Calls.{handle_limit, are_used_up, status_of_refusal, partition_of, without_bytes, open_refusal}
 use Rattle.io_manager.specs.Inside.{KeepsOutside}
 
 -- the label of an answer
@@ -169,6 +169,7 @@ pub record IsGiven (old : ManagerView) (partition : ℕ) (handle : Handle) (new 
   pub next_number : handle.number ≡ old.next_handle
   pub counted : new.next_handle ≡ old.next_handle + 1
   pub was_free : slice_index_or old.handles handle.slot None ≡ None
+  pub in_range : handle.slot < handle_limit
   pub opens : Updates old.handles new.handles handle.slot (Some (record { number = handle.number; partition = partition }))
 
 -- an open gives a handle, or is refused and changes nothing

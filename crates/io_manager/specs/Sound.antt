@@ -99,7 +99,7 @@ pub record HasPlaces (limits : Limits) (tables : Tables) : Type 0 where
   pub labels : 256 ≤ deque_capacity tables.labels
   pub answered : 64 ≤ deque_capacity tables.answered
   pub untaken : deque_len tables.untaken + slab_len tables.requests ≤ deque_capacity tables.untaken
-  pub handles : (handle_limit ≤ tables.handles.capacity) × (tables.handles.capacity < 2 ^ 32)
+  pub handles : tables.handles.capacity ≡ handle_limit
   pub requests : tables.requests.capacity ≡ limits.open_requests
 
 -- no driver above asks for this packet

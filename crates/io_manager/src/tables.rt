@@ -115,7 +115,7 @@ impl Tables {
 
     /// Gives a handle on a partition.
     pub(crate) fn open(&mut self, alloc: Global, partition: u8, partitions: usize) -> Reply
-        requires { (handle_limit ≤ self.old.handles.capacity) × (self.old.handles.capacity < 2 ^ 32) }
+        requires { self.old.handles.capacity ≡ handle_limit }
         ensures { OpensHandle self.old partition partitions result self.new }
     {
         if self.next_handle >= NUMBER_LIMIT {

@@ -1,0 +1,329 @@
+-- What every right step has: at most one call, want of memory in its place, and its answers.
+use Rattle.std.proofs.Common.{◌≡◌, ◌⊎◌, inl, inr, ℕ, zero, suc, Bool, true, false, List, [], ◌∷◌, ◌++◌, Option, Some, None, refl, sym, ap, subst, arith, map}
+use Rattle.std.specs.Prelude.{All, Contains, IsPermutation, if◌then◌else◌}
+use Rattle.std.proofs.lemmas.List.Elements.{All-nil, All-cons, All-append, All-map, All-head, All-tail, All-contains, Contains-append_left, Contains-append_cases}
+use Rattle.std.proofs.lemmas.List.Sorted.{IsPermutation-sym, Contains-permutation}
+use Rattle.ntstatus.specs.declared.NtStatus.{NtStatus}
+use Rattle.ntstatus.specs.declared.NtStatus.TheVariants.{InvalidParameter as ParameterStatus, DeletePending as PendingStatus, DeviceBusy as BusyStatus, InsufficientResources as ResourcesStatus}
+use Rattle.ntstatus.specs.First.{when, first_some}
+use Rattle.srb.specs.declared.DeviceLabel.{DeviceLabel}
+use Rattle.machine.specs.declared.ClientRequest.{ClientRequest}
+use Rattle.machine.specs.declared.Kind.TheVariants.{Read, Write, Flush}
+use Rattle.machine.specs.declared.Label.{Label}
+use Rattle.machine.specs.declared.Label.TheVariants.{Call, Answer as AnswerLabel, Cancel, Pause, Resume, Remove, Surprise, Removed}
+use Rattle.machine.specs.Step.{as_label}
+use Rattle.pnp.specs.declared.State.{State as PnpState}
+use Rattle.pnp.specs.declared.State.TheVariants.{Started, RemovePending, Removing, Removed as GoneState}
+use Rattle.pnp.specs.Table.{Event as PnpEvent}
+use Rattle.io_manager.specs.declared.Answer.{Answer}
+use Rattle.io_manager.specs.declared.Handle.{Handle}
+use Rattle.io_manager.specs.declared.Id.{Id}
+use Rattle.io_manager.specs.declared.Refusal.{Refusal}
+use Rattle.io_manager.specs.declared.Refusal.TheVariants.{InvalidHandle, InvalidParameter, DeletePending, DeviceBusy, InsufficientResources, InvalidDeviceRequest, NotFound}
+use Rattle.io_manager.specs.declared.Reply.{Reply}
+use Rattle.io_manager.specs.declared.Reply.TheVariants.{Handle as HandleReply, Ok as OkReply, Request as Requested, Answered, Refused, Ignored}
+use Rattle.io_manager.specs.Shown.{ManagerView}
+use Rattle.io_manager.specs.Calls.{call_on}
+use Rattle.io_manager.specs.Right.{Told, as_answer, as_cancel, end_labels, labels_of, tells_nothing, IsRight as IsRightCall, IsRightBy, RefusesAlone, CallReplies, OpenReplies, CloseReplies, CancelReplies, CancelsAllOf, CancelsOne, MarkReplies, PnpReplies, RecallReplies, IsRecalled, ActReplies, FinishReplies, pnp_state, TransferReplies}
+use Rattle.compose.specs.declared.Event.{Event}
+use Rattle.compose.specs.declared.Event.TheVariants.{Open, Close, Read as ReadEvent, Write as WriteEvent, Flush as FlushEvent, CancelIoEx, Mark, QueryRemove, CancelRemove, Remove as RemoveEvent, SurpriseRemove, Act, Finish, Reset}
+use Rattle.compose.specs.Right.{IsRight}
+use Rattle.compose.specs.StepLaws.{IsTransferEvent, IsNoCall, CallsFirst, StepsCallOnce, StepsTakeNoMemory, IsAnsweredBy, StepsLeaveAnswers}
+
+-- OWN LABELS
+
+-- the label is no answer
+abbrev IsNoAnswer : Label → Type 0
+IsNoAnswer (AnswerLabel number status informed bytes) = ⊥
+IsNoAnswer _ = Unit {0}
+
+-- a step's own labels: a call comes first, and an answer only with a reply that says it
+record Own (event : Event) (reply : Reply) (own : List Label) : Type 0 where
+  calls : CallsFirst event own
+  answers : IsAnsweredBy reply ⊎ All IsNoAnswer own
+
+module _ (event : Event) (reply : Reply) (own : List Label) where
+  own_none : own ≡ [] → Own event reply own
+  own_none is = subst (Own event reply) (sym is) (record { calls = tt; answers = inr (All-nil IsNoAnswer) })
+
+  own_one : (label : Label) → own ≡ label ∷ [] → IsNoCall label → IsNoAnswer label → Own event reply own
+  own_one label is no_call no_answer =
+      subst (Own event reply) (sym is)
+      (record { calls = (inl no_call, All-nil IsNoCall); answers = inr (All-cons IsNoAnswer label [] no_answer (All-nil IsNoAnswer)) })
+
+  own_call : (number : ℕ) (q : ClientRequest) → IsTransferEvent event → own ≡ Call number q ∷ [] → Own event reply own
+  own_call number q transfers is =
+      subst (Own event reply) (sym is)
+      (record { calls = (inr transfers, All-nil IsNoCall); answers = inr (All-cons IsNoAnswer (Call number q) [] tt (All-nil IsNoAnswer)) })
+
+  own_answered : (number : ℕ) (q : ClientRequest) (status : NtStatus) → IsTransferEvent event → IsAnsweredBy reply
+      → own ≡ Call number q ∷ AnswerLabel number status 0 [] ∷ [] → Own event reply own
+  own_answered number q status transfers answered is =
+      subst (Own event reply) (sym is) (record {
+        calls = (inr transfers, All-cons IsNoCall (AnswerLabel number status 0 []) [] tt (All-nil IsNoCall));
+        answers = inl answered;
+      })
+
+  own_cancels : (numbers : List ℕ) → own ≡ map as_cancel numbers → Own event reply own
+  own_cancels numbers is = subst (Own event reply) (sym is) (record { calls = first numbers; answers = inr (All-map IsNoAnswer as_cancel numbers (λ k d low. tt)) })
+    where
+      first : (numbers : List ℕ) → CallsFirst event (map as_cancel numbers)
+      first [] = tt
+      first (number ∷ numbers) = (inl tt, All-map IsNoCall as_cancel numbers (λ k d low. tt))
+
+  own_cancel : (marked : Bool) (number : ℕ) → own ≡ (if marked then [] else Cancel number ∷ []) → Own event reply own
+  own_cancel true number is = own_none is
+  own_cancel false number is = own_one (Cancel number) is tt tt
+
+-- ROWS
+
+transfer_own : (event : Event) (old : ManagerView) (handle : Handle) (q : ClientRequest) (buffer : List ℕ) (reply : Reply) (new : ManagerView) (told : Told)
+    → IsTransferEvent event → TransferReplies old handle q buffer reply new told → Own event reply told.own
+transfer_own event old handle q buffer (Requested id) new told transfers h = own_call event _ told.own id.number q transfers h.own
+transfer_own event old handle q buffer (Answered answer) new told transfers h =
+    own_answered event _ told.own _ _ _ transfers tt (ap (λ (t : Told). t.own) h.0.tells)
+transfer_own event old handle q buffer (Refused reason bytes) new told transfers (same, inl h) =
+    own_answered event _ told.own _ _ _ transfers tt (ap (λ (t : Told). t.own) h.tells)
+transfer_own event old handle q buffer (Refused DeviceBusy bytes) new told transfers (same, inr h) = own_none event _ told.own (ap (λ (t : Told). t.own) h.1.nothing)
+transfer_own event old handle q buffer (Refused InsufficientResources bytes) new told transfers (same, inr h) =
+    own_none event _ told.own (ap (λ (t : Told). t.own) h.2.nothing)
+transfer_own event old handle q buffer (Refused InvalidHandle bytes) new told transfers (same, inr h) = absurd h
+transfer_own event old handle q buffer (Refused InvalidParameter bytes) new told transfers (same, inr h) = absurd h
+transfer_own event old handle q buffer (Refused DeletePending bytes) new told transfers (same, inr h) = absurd h
+transfer_own event old handle q buffer (Refused InvalidDeviceRequest bytes) new told transfers (same, inr h) = absurd h
+transfer_own event old handle q buffer (Refused NotFound bytes) new told transfers (same, inr h) = absurd h
+transfer_own event old handle q buffer (HandleReply given) new told transfers h = absurd h
+transfer_own event old handle q buffer OkReply new told transfers h = absurd h
+transfer_own event old handle q buffer Ignored new told transfers h = absurd h
+
+refuses_own : (event : Event) (reply : Reply) (old : ManagerView) (reason why : Refusal) (bytes : List ℕ) (new : ManagerView) (told : Told)
+    → RefusesAlone old reason why bytes new told → Own event reply told.own
+refuses_own event reply old reason why bytes new told h = own_none event reply told.own (ap (λ (t : Told). t.own) h.unmoved.nothing)
+
+open_own : (event : Event) (old : ManagerView) (partition : ℕ) (reply : Reply) (new : ManagerView) (told : Told) → OpenReplies old partition reply new told
+    → Own event reply told.own
+open_own event old partition (HandleReply handle) new told h = own_none event _ told.own (ap (λ (t : Told). t.own) h.0.nothing)
+open_own event old partition (Refused reason bytes) new told h = refuses_own event _ old reason reason bytes new told h.1
+open_own event old partition OkReply new told h = absurd h
+open_own event old partition (Requested id) new told h = absurd h
+open_own event old partition (Answered answer) new told h = absurd h
+open_own event old partition Ignored new told h = absurd h
+
+close_own : (event : Event) (old : ManagerView) (handle : Handle) (reply : Reply) (new : ManagerView) (told : Told) → CloseReplies old handle reply new told
+    → Own event reply told.own
+close_own event old handle OkReply new told h = own_cancels event _ told.own h.1.numbers h.1.own
+close_own event old handle (Refused reason bytes) new told h = refuses_own event _ old reason InvalidHandle bytes new told h.1
+close_own event old handle (HandleReply given) new told h = absurd h
+close_own event old handle (Requested id) new told h = absurd h
+close_own event old handle (Answered answer) new told h = absurd h
+close_own event old handle Ignored new told h = absurd h
+
+cancels_one_own : (event : Event) (reply : Reply) (old : ManagerView) (number : ℕ) (told : Told) → CancelsOne old number told → Own event reply told.own
+cancels_one_own event reply old number told h = own_cancel event reply told.own h.request.cancelled number h.own
+
+cancel_own : (event : Event) (old : ManagerView) (handle : Handle) (target : Option Id) (reply : Reply) (new : ManagerView) (told : Told)
+    → CancelReplies old handle target reply new told → Own event reply told.own
+cancel_own event old handle None OkReply new told (is_open, has, h, same) = own_cancels event _ told.own h.numbers h.own
+cancel_own event old handle (Some id) OkReply new told (is_open, has, h, same) = cancels_one_own event _ old id.number told h
+cancel_own event old handle target (Refused reason bytes) new told h = refuses_own event _ old reason reason bytes new told h.1
+cancel_own event old handle target (HandleReply given) new told h = absurd h
+cancel_own event old handle target (Requested id) new told h = absurd h
+cancel_own event old handle target (Answered answer) new told h = absurd h
+cancel_own event old handle target Ignored new told h = absurd h
+
+mark_own : (event : Event) (old : ManagerView) (number : ℕ) (reply : Reply) (new : ManagerView) (told : Told) → MarkReplies old number reply new told
+    → Own event reply told.own
+mark_own event old number OkReply new told h = cancels_one_own event _ old number told h.0
+mark_own event old number Ignored new told h = own_none event _ told.own (ap (λ (t : Told). t.own) h.0.nothing)
+mark_own event old number (HandleReply given) new told h = absurd h
+mark_own event old number (Requested id) new told h = absurd h
+mark_own event old number (Answered answer) new told h = absurd h
+mark_own event old number (Refused reason bytes) new told h = absurd h
+
+pnp_own : (event : Event) (old : ManagerView) (call : PnpEvent) (after : PnpState) (label : Label) (reply : Reply) (new : ManagerView) (told : Told)
+    → IsNoCall label → IsNoAnswer label → PnpReplies old call after label reply new told → Own event reply told.own
+pnp_own event old call after label OkReply new told no_call no_answer h = own_one event _ told.own label h.tells.own no_call no_answer
+pnp_own event old call after label (Refused reason bytes) new told no_call no_answer h =
+    refuses_own event _ old reason InvalidDeviceRequest bytes new told h.refuses
+pnp_own event old call after label (HandleReply given) new told no_call no_answer h = absurd h
+pnp_own event old call after label (Requested id) new told no_call no_answer h = absurd h
+pnp_own event old call after label (Answered answer) new told no_call no_answer h = absurd h
+pnp_own event old call after label Ignored new told no_call no_answer h = absurd h
+
+recalled_own : (event : Event) (reply : Reply) (state : PnpState) (old new : ManagerView) (told : Told) → IsRecalled state old new told → Own event reply told.own
+recalled_own event reply Started old new told h = own_none event reply told.own (ap (λ (t : Told). t.own) h.nothing)
+recalled_own event reply RemovePending old new told h = own_one event reply told.own Resume h.0.own tt tt
+recalled_own event reply Removing old new told h = absurd h
+recalled_own event reply GoneState old new told h = absurd h
+
+recall_own : (event : Event) (old : ManagerView) (reply : Reply) (new : ManagerView) (told : Told) → RecallReplies old reply new told → Own event reply told.own
+recall_own event old OkReply new told h = recalled_own event _ (pnp_state old.state) old new told h.0
+recall_own event old (Refused reason bytes) new told h = refuses_own event _ old reason InvalidDeviceRequest bytes new told h.refuses
+recall_own event old (HandleReply given) new told h = absurd h
+recall_own event old (Requested id) new told h = absurd h
+recall_own event old (Answered answer) new told h = absurd h
+recall_own event old Ignored new told h = absurd h
+
+act_own : (event : Event) (old : ManagerView) (tag : ℕ) (reply : Reply) (new : ManagerView) (told : Told) → ActReplies old tag reply new told
+    → Own event reply told.own
+act_own event old tag OkReply new told h = own_none event _ told.own h.0.no_own
+act_own event old tag Ignored new told h = own_none event _ told.own (ap (λ (t : Told). t.own) h.0.nothing)
+act_own event old tag (HandleReply handle) new told h = absurd h
+act_own event old tag (Requested id) new told h = absurd h
+act_own event old tag (Answered answer) new told h = absurd h
+act_own event old tag (Refused reason bytes) new told h = absurd h
+
+finish_own : (event : Event) (old : ManagerView) (tag : ℕ) (reply : Reply) (new : ManagerView) (told : Told) → FinishReplies old tag reply new told
+    → Own event reply told.own
+finish_own event old tag OkReply new told h = own_none event _ told.own h.0.no_own
+finish_own event old tag Ignored new told h = own_none event _ told.own (ap (λ (t : Told). t.own) h.0.nothing)
+finish_own event old tag (HandleReply handle) new told h = absurd h
+finish_own event old tag (Requested id) new told h = absurd h
+finish_own event old tag (Answered answer) new told h = absurd h
+finish_own event old tag (Refused reason bytes) new told h = absurd h
+
+-- WHAT A STEP TELLS
+
+-- what all right steps have
+record Tells (event : Event) (reply : Reply) (old new : ManagerView) : Type 0 where
+  told : Told
+  own : Own event reply told.own
+  in_order : new.labels ≡ labels_of told
+  untaken : IsPermutation new.answers (told.answers ++ old.answers)
+
+tells : (old : ManagerView) (event : Event) (reply : Reply) (new : ManagerView) → IsRight old event reply new → Tells event reply old new
+tells old (Open partition) reply new h = record { told = h.told; own = open_own _ old partition reply new h.told h.replies; in_order = h.by.in_order; untaken = h.by.untaken }
+tells old (Close handle) reply new h = record { told = h.told; own = close_own _ old handle reply new h.told h.replies; in_order = h.by.in_order; untaken = h.by.untaken }
+tells old (ReadEvent handle offset buffer) reply new h = record {
+  told = h.told;
+  own = transfer_own (ReadEvent handle offset buffer) old handle (call_on old handle Read offset buffer false) buffer reply new h.told tt h.replies.replies;
+  in_order = h.by.in_order;
+  untaken = h.by.untaken;
+}
+tells old (WriteEvent handle offset bytes through) reply new h = record {
+  told = h.told;
+  own = transfer_own (WriteEvent handle offset bytes through) old handle (call_on old handle Write offset bytes through) bytes reply new h.told tt h.replies.replies;
+  in_order = h.by.in_order;
+  untaken = h.by.untaken;
+}
+tells old (FlushEvent handle) reply new h = record {
+  told = h.told;
+  own = transfer_own (FlushEvent handle) old handle (call_on old handle Flush 0 [] false) [] reply new h.told tt h.replies.replies;
+  in_order = h.by.in_order;
+  untaken = h.by.untaken;
+}
+tells old (CancelIoEx handle target) reply new h = record {
+  told = h.told;
+  own = cancel_own _ old handle target reply new h.told h.replies;
+  in_order = h.by.in_order;
+  untaken = h.by.untaken;
+}
+tells old (Mark number) reply new h = record { told = h.told; own = mark_own _ old number reply new h.told h.replies; in_order = h.by.in_order; untaken = h.by.untaken }
+tells old QueryRemove reply new h = record { told = h.told; own = pnp_own _ old _ _ Pause reply new h.told tt tt h.replies; in_order = h.by.in_order; untaken = h.by.untaken }
+tells old CancelRemove reply new h = record { told = h.told; own = recall_own _ old reply new h.told h.replies; in_order = h.by.in_order; untaken = h.by.untaken }
+tells old RemoveEvent reply new h = record { told = h.told; own = pnp_own _ old _ _ Remove reply new h.told tt tt h.replies; in_order = h.by.in_order; untaken = h.by.untaken }
+tells old SurpriseRemove reply new h = record { told = h.told; own = pnp_own _ old _ _ Surprise reply new h.told tt tt h.replies; in_order = h.by.in_order; untaken = h.by.untaken }
+tells old (Act tag) reply new h = record { told = h.told; own = act_own _ old tag reply new h.told h.replies; in_order = h.by.in_order; untaken = h.by.untaken }
+tells old (Finish tag) reply new h = record { told = h.told; own = finish_own _ old tag reply new h.told h.replies; in_order = h.by.in_order; untaken = h.by.untaken }
+tells old Reset reply new (is, h) = record { told = h.told; own = own_none _ reply h.told.own h.replies.no_own; in_order = h.by.in_order; untaken = h.by.untaken }
+
+-- ONE CALL
+
+ended_no_call : (ends : Bool) → All IsNoCall (end_labels ends)
+ended_no_call true = All-cons IsNoCall Removed [] tt (All-nil IsNoCall)
+ended_no_call false = All-nil IsNoCall
+
+first_of : (event : Event) (xs ys : List Label) → CallsFirst event xs → All IsNoCall ys → CallsFirst event (xs ++ ys)
+first_of event [] [] first none = tt
+first_of event [] (y ∷ ys) first none = (inl (All-head IsNoCall y ys none), All-tail IsNoCall y ys none)
+first_of event (x ∷ xs) ys first none = (first.0, All-append IsNoCall xs ys first.1 none)
+
+pub steps_call_once : StepsCallOnce
+steps_call_once old event reply new right =
+    let t : Tells event reply old new = tells old event reply new right in
+    subst (CallsFirst event) (sym t.in_order) (
+      first_of event ((t.told.own ++ map as_label t.told.device) ++ map as_answer t.told.answers) (end_labels t.told.ends) (
+        first_of event (t.told.own ++ map as_label t.told.device) (map as_answer t.told.answers)
+        (first_of event t.told.own (map as_label t.told.device) t.own.calls (All-map IsNoCall as_label t.told.device (λ k d low. tt)))
+        (All-map IsNoCall as_answer t.told.answers (λ k d low. tt))
+      ) (ended_no_call t.told.ends)
+    )
+
+-- NO MEMORY
+
+invalid : InsufficientResources ≡ InvalidDeviceRequest → ⊥
+invalid is = cc
+
+pub steps_take_no_memory : StepsTakeNoMemory
+steps_take_no_memory old (Open partition) bytes new h = absurd (no_want _ _ _ _ h.replies.0)
+  where
+    no_want : (a b c d : Bool) → first_some (when a BusyStatus ∷ when b PendingStatus ∷ when c ParameterStatus ∷ when d BusyStatus ∷ []) ≡ Some ResourcesStatus → ⊥
+    no_want true b c d is = cc
+    no_want false true c d is = cc
+    no_want false false true d is = cc
+    no_want false false false true is = cc
+    no_want false false false false is = cc
+steps_take_no_memory old (Close handle) bytes new h = absurd (clash h.replies.1.is_reason)
+  where
+    clash : InsufficientResources ≡ InvalidHandle → ⊥
+    clash is = cc
+steps_take_no_memory old (ReadEvent handle offset buffer) bytes new h = tt
+steps_take_no_memory old (WriteEvent handle offset out through) bytes new h = tt
+steps_take_no_memory old (FlushEvent handle) bytes new h = tt
+steps_take_no_memory old (CancelIoEx handle target) bytes new h = absurd h.replies.0
+steps_take_no_memory old (Mark number) bytes new h = absurd h.replies
+steps_take_no_memory old QueryRemove bytes new h = absurd (invalid h.replies.refuses.is_reason)
+steps_take_no_memory old CancelRemove bytes new h = absurd (invalid h.replies.refuses.is_reason)
+steps_take_no_memory old RemoveEvent bytes new h = absurd (invalid h.replies.refuses.is_reason)
+steps_take_no_memory old SurpriseRemove bytes new h = absurd (invalid h.replies.refuses.is_reason)
+steps_take_no_memory old (Act tag) bytes new h = absurd h.replies
+steps_take_no_memory old (Finish tag) bytes new h = absurd h.replies
+steps_take_no_memory old Reset bytes new h = absurd (no_ok h.0)
+  where
+    no_ok : Refused InsufficientResources bytes ≡ OkReply → ⊥
+    no_ok is = cc
+
+-- ANSWERS
+
+-- an answer's label is no label of the device, and not that of the end of a removal
+device_no_answer : (labels : List DeviceLabel) → All IsNoAnswer (map as_label labels)
+device_no_answer labels = All-map IsNoAnswer as_label labels (λ k d low. tt)
+
+ended_no_answer : (ends : Bool) → All IsNoAnswer (end_labels ends)
+ended_no_answer true = All-cons IsNoAnswer Removed [] tt (All-nil IsNoAnswer)
+ended_no_answer false = All-nil IsNoAnswer
+
+-- the answer whose label this is
+abbrev answer_of : Label → Answer
+answer_of (AnswerLabel number status informed bytes) = record { number = number; status = status; information = informed; bytes = bytes }
+answer_of _ = record { number = 0; status = BusyStatus; information = 0; bytes = [] }
+
+among : (answers : List Answer) (number : ℕ) (status : NtStatus) (informed : ℕ) (bytes : List ℕ)
+    → Contains (map as_answer answers) (AnswerLabel number status informed bytes) → Contains answers (answer_of (AnswerLabel number status informed bytes))
+among [] number status informed bytes (k, low, is) = absurd (omega (arith, low))
+among (a ∷ answers) number status informed bytes (zero, low, is) = (zero, omega arith, ap answer_of is)
+among (a ∷ answers) number status informed bytes (suc k, low, is) =
+    let rest : Contains answers (answer_of (AnswerLabel number status informed bytes)) = among answers number status informed bytes (k, omega (arith, low), is) in
+    (suc rest.0, omega (arith, rest.1), rest.2)
+
+pub steps_leave_answers : StepsLeaveAnswers
+steps_leave_answers old event reply new number status informed bytes right there =
+    let t : Tells event reply old new = tells old event reply new right in
+    elim t.own.answers [
+      | inl answered ↦ inl answered
+      | inr none ↦
+          let label : Label = AnswerLabel number status informed bytes in
+          let all : Contains (labels_of t.told) label = subst (λ ls. Contains ls label) t.in_order there in
+          let found : Contains t.told.answers (answer_of label) =
+          elim (Contains-append_cases ((t.told.own ++ map as_label t.told.device) ++ map as_answer t.told.answers) (end_labels t.told.ends) label all) [
+            | inl before ↦
+                elim (Contains-append_cases (t.told.own ++ map as_label t.told.device) (map as_answer t.told.answers) label before) [
+                  | inl early ↦
+                      absurd (All-contains IsNoAnswer (t.told.own ++ map as_label t.told.device) label
+                      (All-append IsNoAnswer t.told.own (map as_label t.told.device) none (device_no_answer t.told.device)) early)
+                  | inr mine ↦ among t.told.answers number status informed bytes mine
+                ]
+            | inr last ↦ absurd (All-contains IsNoAnswer (end_labels t.told.ends) label (ended_no_answer t.told.ends) last)
+          ] in
+          inr (Contains-permutation _ _ _ (IsPermutation-sym _ _ t.untaken) (Contains-append_left t.told.answers old.answers _ found))
+    ]

@@ -1,0 +1,52 @@
+-- Laws of every right step, for who keeps the trace of a stack.
+use Rattle.std.specs.Prelude.{◌≡◌, ◌⊎◌, ℕ, List, [], ◌∷◌, All, Contains}
+use Rattle.ntstatus.specs.declared.NtStatus.{NtStatus}
+use Rattle.machine.specs.declared.Label.{Label}
+use Rattle.machine.specs.declared.Label.TheVariants.{Call, Answer as AnswerLabel}
+use Rattle.io_manager.specs.declared.Reply.{Reply}
+use Rattle.io_manager.specs.declared.Reply.TheVariants.{Refused, Answered}
+use Rattle.io_manager.specs.declared.Refusal.TheVariants.{InsufficientResources}
+use Rattle.io_manager.specs.Shown.{ManagerView}
+use Rattle.compose.specs.declared.Event.{Event}
+use Rattle.compose.specs.declared.Event.TheVariants.{Read, Write, Flush}
+use Rattle.compose.specs.Right.{IsRight}
+
+-- a read, a write or a flush
+abbrev pub IsTransferEvent : Event → Type 0
+IsTransferEvent (Read handle offset buffer) = Unit {0}
+IsTransferEvent (Write handle offset bytes through) = Unit {0}
+IsTransferEvent (Flush handle) = Unit {0}
+IsTransferEvent _ = ⊥
+
+-- the label is no call
+abbrev pub IsNoCall : Label → Type 0
+IsNoCall (Call number q) = ⊥
+IsNoCall _ = Unit {0}
+
+-- a call comes first, if one comes at all, and only where a request was asked for
+abbrev pub CallsFirst : Event → List Label → Type 0
+CallsFirst event [] = Unit {0}
+CallsFirst event (label ∷ labels) = (IsNoCall label ⊎ IsTransferEvent event) × All IsNoCall labels
+
+-- a step has one call at most
+abbrev pub StepsCallOnce : Type 0
+StepsCallOnce = (old : ManagerView) (event : Event) (reply : Reply) (new : ManagerView) → IsRight old event reply new → CallsFirst event new.labels
+
+-- want of memory is a refusal of a read, a write or a flush alone
+abbrev pub StepsTakeNoMemory : Type 0
+StepsTakeNoMemory =
+    (old : ManagerView) (event : Event) (bytes : List ℕ) (new : ManagerView) → IsRight old event (Refused InsufficientResources bytes) new
+    → IsTransferEvent event
+
+-- the call itself was answered under this number, or refused
+abbrev pub IsAnsweredBy : Reply → Type 0
+IsAnsweredBy (Answered answer) = Unit {0}
+IsAnsweredBy (Refused reason bytes) = Unit {0}
+IsAnsweredBy _ = ⊥
+
+-- each answer of a step is the reply's own, or waits to be taken, with the status, the information and the bytes of its label
+abbrev pub StepsLeaveAnswers : Type 0
+StepsLeaveAnswers =
+    (old : ManagerView) (event : Event) (reply : Reply) (new : ManagerView) (number : ℕ) (status : NtStatus) (informed : ℕ) (bytes : List ℕ)
+    → IsRight old event reply new → Contains new.labels (AnswerLabel number status informed bytes)
+    → IsAnsweredBy reply ⊎ Contains new.answers (record { number = number; status = status; information = informed; bytes = bytes })

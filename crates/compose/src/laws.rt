@@ -1,0 +1,19 @@
+//! Laws of every right step, whichever event it was: who calls one of these has the law.
+
+ghost use Rattle.compose.specs.StepLaws.{StepsCallOnce, StepsLeaveAnswers, StepsTakeNoMemory};
+
+/// Among the labels of a step is one call at most. It comes first, and only a read, a write or a flush brings it.
+pub fn steps_call_once()
+    ensures { StepsCallOnce }
+{}
+
+/// Of all events only a read, a write and a flush are refused for want of memory.
+pub fn steps_take_no_memory()
+    ensures { StepsTakeNoMemory }
+{}
+
+/// Each answer among the labels of a step is the reply's own, or waits to be taken with the number, the status, the
+/// information and the bytes of its label.
+pub fn steps_leave_answers()
+    ensures { StepsLeaveAnswers }
+{}
