@@ -97,6 +97,7 @@ fn events_of(alloc: Global, rows: &[Row]) -> Result<Vec<Event>, AllocError> {
     Ok(events)
 }
 
+/// Each shows just what is wanted, up to one that was refused for want of memory: it has told nothing.
 fn compare(
     rt: &impl Abort,
     alloc: Global,
@@ -105,12 +106,16 @@ fn compare(
 ) -> Result<(), AllocError> {
     assert_eq!(rt; shown.len(), rows.len());
     for (shown, (step, want)) in shown.iter().zip(rows.iter()) {
+        if is_refused_for_memory(&shown.reply) {
+            assert!(rt; shown.labels.is_empty(), "{step:?}");
+            return Err(AllocError);
+        }
         assert_eq!(rt; told(alloc, shown)?.as_str(), *want, "{step:?}");
     }
     Ok(())
 }
 
-/// Carries the steps out in one run; each shows just what is wanted.
+/// Carries the steps out in one run; each shows just what is wanted, also where the run stops for want of memory.
 pub(crate) fn run<A: Adapter>(
     rt: &impl Abort,
     alloc: Global,
@@ -123,8 +128,9 @@ pub(crate) fn run<A: Adapter>(
     let events = events_of(alloc, rows)?;
     let shown = match stack.run(alloc, events) {
         Ok(shown) => shown,
-        Err(RunStopped { shown: _, done }) => {
+        Err(RunStopped { shown, done }) => {
             assert!(rt; done < rows.len());
+            compare(rt, alloc, &shown, &rows[..done])?;
             return Err(AllocError);
         }
     };
