@@ -22,7 +22,7 @@ use Rattle.class_disk.specs.declared.parts.Progress.{Progress}
 use Rattle.class_disk.specs.declared.parts.Progress.TheVariants.{Ready, Below as SentBelow, Ended as HasEnded}
 use Rattle.class_disk.specs.declared.requests.DiskRoom.{DiskRoom}
 use Rattle.class_disk.specs.Joint.{Part, Below, Here, Known, note_of, known_of, Master, Joint, IsPartOf, parts_requests, parts_marks, parts_busy, parts_lifted, shown, pieces_above, below, above, lifted, shown_mark}
-use Rattle.class_disk.specs.Kept.{AreParts, IsMadeUp, IsCancelledAs, AgreesOnCancel, IsAhead, AreBehind, IsInTurn, Keeps, NeverSent, IsOver, HasSome, noted_busy}
+use Rattle.class_disk.specs.Kept.{AreParts, IsMadeUp, IsCancelledAs, AgreesOnCancel, IsAhead, AreBehind, IsInTurn, places_in, AreCut, begins_back, parts_back, IsInPieces, Keeps, NeverSent, IsOver, HasSome, noted_busy}
 use Rattle.class_disk.specs.Shown.{class_rules}
 use Rattle.class_disk.specs.Books.{Opened, Books, opened, all_open, put_at, ended_in, restarts_left}
 use Rattle.class_disk.specs.Turns.{cancelled_one}
@@ -49,6 +49,16 @@ busy_cancelled : (ps : List Part) → parts_busy (map cancelled_part ps) ≡ par
 busy_cancelled [] = refl
 busy_cancelled (Below o again pieces ∷ ps) = ap (λ n. again + o.busy_returns + n) (busy_cancelled ps)
 busy_cancelled (Here marks busy ∷ ps) = ap (λ n. busy + n) (busy_cancelled ps)
+
+back_cancelled : (ps : List Part) → parts_back (map cancelled_part ps) ≡ parts_back ps
+back_cancelled [] = refl
+back_cancelled (Below o again pieces ∷ ps) = ap (λ n. begins_back o.marks + n) (back_cancelled ps)
+back_cancelled (Here marks busy ∷ ps) = ap (λ n. begins_back marks + n) (back_cancelled ps)
+
+places_cancelled : (ps : List Part) → map places_in (map cancelled_part ps) ≡ map places_in ps
+places_cancelled [] = refl
+places_cancelled (Below o again pieces ∷ ps) = ap (λ ns. length o.marks ∷ ns) (places_cancelled ps)
+places_cancelled (Here marks busy ∷ ps) = ap (λ ns. length marks ∷ ns) (places_cancelled ps)
 
 lifted_cancelled : (owner first : ℕ) (ps : List Part) → parts_lifted owner first (map cancelled_part ps) ≡ parts_lifted owner first ps
 lifted_cancelled owner first [] = refl
@@ -91,7 +101,15 @@ keeps_permuted rules j ms p k = record {
       (λ e. All-weaker (AreBehind j.removing j.masters e.number) (AreBehind j.removing ms e.number)
       (λ n. All-permutation (IsAhead j.removing e.number n) _ _ p) (map request_number (parts_requests e.parts)))
       j.masters k.in_turn);
+  in_pieces = All-permutation (IsInPieces rules) _ _ p k.in_pieces;
 }
+
+pieces_cancelled : (rules : Rules) (e : Master) → IsInPieces rules e → IsInPieces rules (cancelled_master e)
+pieces_cancelled rules e h =
+    let few = h.few in
+    let busy = busy_cancelled e.parts in
+    let came = back_cancelled e.parts in
+    record { cut = subst (AreCut rules.max_transfer) (sym (places_cancelled e.parts)) h.cut; few = omega (arith, few, busy, came) }
 
 module _ (rules : Rules) (j : Joint) (e : Master) (es : List Master) where
   -- a cancelled request is ahead of none
@@ -109,6 +127,7 @@ module _ (rules : Rules) (j : Joint) (e : Master) (es : List Master) where
         (All-weaker (IsInTurn j.removing (e ∷ es)) (IsInTurn j.removing (cancelled_master e ∷ es))
         (λ x. All-weaker (AreBehind j.removing (e ∷ es) x.number) (AreBehind j.removing (cancelled_master e ∷ es) x.number) (behind_cancelled x.number) (map request_number (parts_requests x.parts)))
         es (All-tail (IsInTurn j.removing (e ∷ es)) e es k.in_turn));
+    in_pieces = All-cons (IsInPieces rules) (cancelled_master e) es (pieces_cancelled rules e (All-head (IsInPieces rules) e es k.in_pieces)) (All-tail (IsInPieces rules) e es k.in_pieces);
   }
 
   -- above it is one cancel

@@ -30,9 +30,10 @@ use Rattle.machine.proofs.Permuting.{IsPermutation-uncons, first_unique}
 use Rattle.machine.proofs.Placed.{leaves, ArePlaced-DeviceStep, ArePlaced-same}
 use Rattle.machine.proofs.Owners.{Owns, owns}
 use Rattle.class_disk.specs.Joint.{Part, Below, Master, Joint, note_of, known_of, lifted, parts_requests, parts_pieces, parts_marks, parts_lifted, requests_below, pieces_below, pieces_above, shown, below, above, below_rules, IsPartOf}
-use Rattle.class_disk.specs.Kept.{IsSound, IsOwnedBy, IsMadeUp, AgreesOnCancel, AreBehind, IsAhead, IsInTurn, Keeps}
+use Rattle.class_disk.specs.Kept.{IsSound, IsOwnedBy, IsMadeUp, AgreesOnCancel, AreBehind, IsAhead, IsInTurn, IsInPieces, Keeps}
 use Rattle.class_disk.proofs.Coupled.{requests-append, pieces-append, lifted-append}
 use Rattle.class_disk.proofs.CoupledSteps.{master_with, Starts-above, Acts-above, Faults-above, Returns-above, changed_below, below_first, shown_pieces}
+use Rattle.class_disk.proofs.InPieces.{begins_whole, start_spares, return_spares}
 use Rattle.class_disk.proofs.Focus.{Found, FoundPiece, find, find_piece, in_place, first}
 use Rattle.class_disk.proofs.Focus as focus
 use Rattle.class_disk.proofs.Keeping.{IsAlikePart, keeps_with, follows_started, follows_same, alike_same, started_with, part_in, there}
@@ -67,6 +68,7 @@ keeps_permuted rules j ms p k = record {
       (λ e. All-weaker (AreBehind j.removing j.masters e.number) (AreBehind j.removing ms e.number)
       (λ n. All-permutation (IsAhead j.removing e.number n) _ _ p) (map request_number (parts_requests e.parts)))
       j.masters k.in_turn);
+  in_pieces = All-permutation (IsInPieces rules) _ _ p k.in_pieces;
 }
 
 pub Contains-map : {X Y : Type 0} (f : X → Y) (xs : List X) (x : X) → Contains xs x → Contains (map f xs) (f x)
@@ -131,7 +133,14 @@ module _ (rules : Rules) (many : rules.one_piece ≡ false) (j : Joint) (s : Sta
       let p : Piece = new_piece (below jf) tag o h.places in
       let next : Joint = record j { next_piece = j.next_piece + 1; masters = master_with f.master f.front f.back o' f.again (p ∷ f.pieces) ∷ es } in
       let fits : h.places.first + length (replicate h.places.count Out) ≤ length o.marks = let i = h.sendable.inside in let n = length-replicate h.places.count Out in omega arith in
-      let alike : IsAlikePart o o' = record { number = refl; request = refl; late = refl; cancelled = refl; long = length-splice o.marks h.places.first (replicate h.places.count Out) fits } in
+      let alike : IsAlikePart o o' = record {
+        number = refl;
+        request = refl;
+        late = refl;
+        cancelled = refl;
+        long = length-splice o.marks h.places.first (replicate h.places.count Out) fits;
+        spare = start_spares o h.places (begins_whole (below_rules rules) refl o h.places h.sendable);
+      } in
       let known = part_in rules f.master.request o f.again f.pieces f.front f.back (All-head (IsMadeUp rules) _ es kf.made_up) in
       let is_open : IsPermutation (below jf).requests (o ∷ h.others) = IsPermutation-trans _ _ _ sb.requests h.is_open in
       let same_piece : p ≡ new_piece s tag o h.places = ap (λ n. record p { number = n }) sb.next_piece in
@@ -160,7 +169,7 @@ module _ (rules : Rules) (many : rules.one_piece ≡ false) (j : Joint) (s : Sta
         }) (IsSame-sym _ _ h.after);
         step = DeviceStep-same rules (Start number tag block) (above jf) (above j) (above next) (above next) (IsSame-sym _ _ (same_above rules j o f)) (IsSame-refl _)
             (subst (λ n. Starts rules (above jf) n tag block (above next)) (sb.next_piece ∙ sym h.next_number)
-            (Starts-above rules j f.master es f.front f.back j.arrays j.next_piece many o f.again f.pieces tag block h.places known.0 agrees turns
+            (Starts-above rules j f.master es f.front f.back j.arrays j.next_piece many o f.again f.pieces tag block h.places known.0 agrees turns (All-head (IsInPieces rules) _ es kf.in_pieces)
             (lowest_permuted rules.depth tag _ _ (IsPermutation-sym _ _ sb.pieces) h.on_tag) may h.sendable h.asks));
         keeps = keeps_with rules j f.master es f.front f.back o o' f.again f.pieces (p ∷ f.pieces) alike j.arrays (j.next_piece + 1) (All-cons (IsOwnedBy o.number) p f.pieces refl known.1)
             (follows_started rules j f.master es f.front f.back o o' f.again f.pieces (p ∷ f.pieces) alike (outs_start o h.places.first h.places.count h.sendable.some)) kf;
@@ -367,7 +376,16 @@ module _ (rules : Rules) (j : Joint) (s : State) (same : IsSame (below j) s) (so
       let is : h.owner ≡ o = one_request s h.owner o sound.distinct owner_there a.is_open (h.is_owner ∙ a.is_owner) in
       let filled : length h.marks ≡ p.places.count = (leaves p class h.marks (All-contains (IsPlaced s.requests) s.pieces p sound.placed.pieces p_there).filled h.leaves).0 in
       let fits : p.places.first + length h.marks ≤ length o.marks = let i = own.inside in omega arith in
-      let alike : IsAlikePart o o' = record { number = refl; request = refl; late = refl; cancelled = refl; long = length-splice o.marks p.places.first h.marks fits } in
+      let all_of : length o.marks ≤ p.places.count = All-contains (IsAllOf p) s.requests o (All-contains (IsAll s.requests) s.pieces p sound.whole.whole p_there) a.is_open (sym a.is_owner) in
+      let at_first : p.places.first ≡ 0 = let i = own.inside in omega arith in
+      let alike : IsAlikePart o o' = record {
+        number = refl;
+        request = refl;
+        late = refl;
+        cancelled = refl;
+        long = length-splice o.marks p.places.first h.marks fits;
+        spare = return_spares o p class h.marks h.leaves at_first own.some (own.out 0 (omega arith) (let n = own.some in omega arith));
+      } in
       let some : 0 < length h.marks = let n = own.some in omega arith in
       let t = touched p class h.marks h.leaves some in
       let started : IsTrue (is_started o') = subst (λ ms. IsTrue (is_started (with_marks p.places.first ms o))) (sym t.2) (started_with o p.places.first t.0 t.1 t.3) in

@@ -23,11 +23,12 @@ use Rattle.machine.specs.Calling.{Opens, refusal, bytes_carried, new_request}
 use Rattle.machine.specs.State.{Mark, Untouched, Out, Done, Failed, Back, OpenRequest, Piece, State, IsSame, with_marks}
 use Rattle.machine.specs.Sending.{Starts, Acts, Faults, Returns, MayStart, IsInTurn, IsSendable, IsLowestFreeTag, IsUnsent, LeavesMarks, Transfers, command_for, sent, new_piece, with_fate, given_back, one_if_busy}
 use Rattle.class_disk.specs.Joint.{Part, Below, Here, Master, Joint, shown_mark, lifted, parts_requests, parts_pieces, parts_marks, parts_busy, parts_lifted, shown, requests_below, pieces_below, pieces_above, below, above, IsPartOf, below_rules}
-use Rattle.class_disk.specs.Kept.{IsAhead}
+use Rattle.class_disk.specs.Kept.{IsAhead, IsInPieces}
 use Rattle.machine.proofs.Same.{IsSame-refl}
 use Rattle.machine.proofs.Permuting.{IsPermutation-uncons}
 use Rattle.sector.proofs.Splicing.{length-splice}
 use Rattle.class_disk.proofs.Coupled.{requests-append, pieces-append, marks-append, busy-append, lifted-append}
+use Rattle.class_disk.proofs.InPieces.{BeginsWhole, begins_whole, piece_begins, restart_left}
 use Rattle.class_disk.proofs.CoupledMarks.{splice_middle, range_middle, map-splice, all_unsent, started_part, same_command, same_tags, IsLowestFreeTag-tags}
 
 abbrev pub master_with : Master → List Part → List Part → OpenRequest → ℕ → List Piece → Master
@@ -170,11 +171,12 @@ module _ (rules : Rules) (j : Joint) (e : Master) (es : List Master) (front back
       ]
 
   pub Starts-above : rules.one_piece ≡ false → (o : OpenRequest) (again : ℕ) (ps : List Piece) (tag : ℕ) (block : List ℕ) (places : Extent)
-      → IsPartOf rules e.request (length (parts_marks front)) o → o.cancelled ≡ e.cancelled → All (IsAhead j.removing e.number o.number) es
+      → IsPartOf rules e.request (length (parts_marks front)) o → o.cancelled ≡ e.cancelled → All (IsAhead j.removing e.number o.number) es → IsInPieces rules (master_with e front back o again ps)
       → IsLowestFreeTag rules.depth (below (focus arrays next o again ps)).pieces tag → MayStart (below (focus arrays next o again ps)) o → IsSendable (below_rules rules) o places
       → Means block (command_for (below_rules rules) o.request places o.request.kind)
       → Starts rules (above (focus arrays next o again ps)) next tag block (above (focus arrays (next + 1) (sent places o) again (new_piece (below (focus arrays next o again ps)) tag o places ∷ ps)))
-  Starts-above many o again ps tag block places part same_cancel ahead on_tag may sendable asks =
+  Starts-above many o again ps tag block places part same_cancel ahead in_pieces on_tag may sendable asks =
+      let whole : BeginsWhole o places = begins_whole (below_rules rules) refl o places sendable in
       let outs : length (replicate places.count Out) ≡ places.count = length-replicate places.count Out in
       let fits : places.first + length (replicate places.count Out) ≤ length o.marks = let i = sendable.inside in omega arith in
       let long : length (sent places o).marks ≡ length o.marks = length-splice o.marks places.first (replicate places.count Out) fits in
@@ -208,6 +210,8 @@ module _ (rules : Rules) (j : Joint) (e : Master) (es : List Master) (front back
           short = sendable.short;
           inside = let i = sendable.inside in omega arith;
           unsent = waiting;
+          begins = piece_begins rules e front back o again ps places in_pieces whole;
+          spare = restart_left rules e front back o again ps places in_pieces whole;
           whole = λ one. cc (one, many);
         };
         asks = subst (λ z. Means block z) (same_command rules e.request (length (parts_marks front)) o places part) asks;

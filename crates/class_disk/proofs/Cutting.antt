@@ -22,7 +22,7 @@ whole_or_more whole (suc left) =
     inr (omega arith, ap (λ b. whole + (if b then 0 else 1)) more)
 
 -- a piece begins inside
-begins_within : (limit count k : ℕ) → 0 < limit → k < piece_count limit count → k * limit < count
+pub begins_within : (limit count k : ℕ) → 0 < limit → k < piece_count limit count → k * limit < count
 begins_within limit count k some below =
     let e = mod-add-div' count limit in
     let r = mod-lt count some in

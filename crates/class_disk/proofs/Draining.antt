@@ -30,6 +30,7 @@ keeps_removed rules j k = record {
   made_up = k.made_up;
   agree = k.agree;
   in_turn = λ i e low. λ n number low'. λ m x low''. λ staying lower timely. absurd (cc (staying));
+  in_pieces = k.in_pieces;
 }
 
 -- a state but for its flags

@@ -17,6 +17,7 @@ use Rattle.machine.specs.Marks.{AreCounted}
 use Rattle.machine.specs.Calling.{Opens}
 use Rattle.machine.specs.Answering.{Answers}
 use Rattle.machine.specs.Sending.{IsStart}
+use Rattle.machine.specs.Cutting.{restarts}
 use Rattle.machine.specs.Step.{Run, as_label}
 use Rattle.device.specs.View.{DeviceView, Packet, OnTag, piece_on_tag, packet_number, IsOrderly, sent_bytes}
 use Rattle.device.specs.Served.{HandsUp, HandsUpNone, Submits, Finishes, IsUnfinished}
@@ -29,7 +30,8 @@ use Rattle.class_disk.specs.declared.parts.Ended.{Ended}
 use Rattle.class_disk.specs.declared.parts.Progress.TheVariants.{Ended as PartEnded}
 use Rattle.class_disk.specs.declared.parts.Outcome.TheVariants.{Withdrawn}
 use Rattle.class_disk.specs.Joint.{Note, Sent, Kept, Known, known_of, shown_mark, above}
-use Rattle.class_disk.specs.Kept.{IsSound, Keeps, WasSent, NeverSent, EndedAre, IsOver, HasSome}
+use Rattle.class_disk.specs.Kept.{IsSound, Keeps, WasSent, NeverSent, EndedAre, IsOver, HasSome, noted_busy}
+use Rattle.class_disk.proofs.Restarting.{noted_back}
 use Rattle.class_disk.specs.Shown.{class_rules, IsPort, shown_state}
 use Rattle.class_disk.specs.Driver.{places_of, note, known, knowns, rooms_in, rooms_kept, most_over, view_of, packet_above, TakesParts, AreKept, AreBelow, IsCoupled, IsInHand}
 use Rattle.class_disk.specs.Parts.{EndsBack}
@@ -41,6 +43,7 @@ use Rattle.class_disk.proofs.Orderly.{orderly_above}
 use Rattle.class_disk.proofs.Ending.{noted_returned, noted_withdrawn, waits_again, ended_finish, ended_handed, ended_submitted}
 use Rattle.class_disk.proofs.Retaking.{known_at, kept_taken, sent_again, taking_begins}
 use Rattle.machine.specs.Sending.{IsStart}
+use Rattle.machine.specs.Cutting.{restarts}
 
 -- THE PIECE COMES BACK
 pub finish_begins : {R : Type 0} (v : DeviceView) (books : Books R) (tag : ℕ) (v' : DeviceView) → IsPort v.rules → (c : IsCoupled v books) → IsSound v.state → AreCounted v.rules v.state → All (IsUnfinished v.rules v.state) v.state.requests → (h : Finishes v tag v')
@@ -96,9 +99,10 @@ module _ (takes : Bool) (v : DeviceView) (request : Request) (climb : Climb) (v'
   answered_is = subst (λ (ls : List DeviceLabel). Run v.rules h.answered (map as_label ls) v'.state) (h.still port.no_window).0 h.moves.run
 
   pub goes_again : (packet : Packet) (v'' : DeviceView) → (d : Submits v' packet request h.payload v'') → EndedAre WasSent v.rules v.state → h.status ≡ DeviceBusy → 0 < place_count v.rules (as_client v.rules request [])
+      → noted_busy (front ++ (Sent h.packet.number again ∷ back)) < noted_back (front ++ (Sent h.packet.number again ∷ back)) + restarts (class_rules v.rules)
       → IsFalse k.cancelled → (limit : ℕ) → All (IsOver limit v.state.removing) others → All (HasSome (class_rules v.rules)) others
       → IsTaking (class_rules v.rules) first (labels ++ d.starts) v''.state (known_at k front (Sent packet.number (suc again)) back ∷ others) × EndedAre WasSent v.rules v''.state
-  goes_again packet v'' d sent busy some timely limit over all_some =
+  goes_again packet v'' d sent busy some few timely limit over all_some =
       let w = waits_again takes v request climb v' h port t.sound counted ordered.places sent again busy in
       let same_rules : v'.rules ≡ v.rules = h.moves.same_rules in
       let opens : Opens v.rules v'.state packet.number h.answers.request.request d.opened =
@@ -109,7 +113,7 @@ module _ (takes : Bool) (v : DeviceView) (request : Request) (climb : Climb) (v'
             → (map (shown_mark again) x.request.marks ≡ map (shown_mark (suc again)) (replicate (place_count (class_rules v.rules) x.request.request) Untouched)) → x.request.busy_returns ≡ 1
             → IsTaking (class_rules v.rules) first (labels ++ d.starts) v''.state (known_at k front (Sent packet.number (suc again)) back ∷ others))
             (sym port.below)
-            (λ x opened go shows once. sent_again (class_rules v.rules) refl first labels v.state ordered.places k front back again others h.packet.number h.status h.bytes h.answered x t shows once
+            (λ x opened go shows once. sent_again (class_rules v.rules) refl first labels v.state ordered.places k front back again others h.packet.number h.status h.bytes h.answered x t shows once few
             v'.state answered_is packet.number d.opened opened timely limit over all_some d.starts v''.state go)
             h.answers opens run w.0 w.1,
         subst (λ r. EndedAre WasSent r v''.state) same_rules

@@ -15,7 +15,8 @@ use Rattle.machine.proofs.Same.{IsSame-trans}
 use Rattle.machine.proofs.Permuting.{IsPermutation-uncons}
 use Rattle.machine.proofs.Counted.{AreCounted-Opens, AreCounted-Run}
 use Rattle.class_disk.specs.Joint.{Part, Below, Here, Note, Sent, Kept, Known, note_of, known_of, Master, Joint, IsPartOf, shown_mark, parts_requests, parts_marks, requests_of, pieces_of, lifted_pieces, shown, below, above, below_rules}
-use Rattle.class_disk.specs.Kept.{IsSound, IsMadeUp, AgreesOnCancel, IsAhead, Keeps, IsOver, HasSome}
+use Rattle.class_disk.specs.Kept.{IsSound, IsMadeUp, AgreesOnCancel, IsAhead, begins_back, IsInPieces, Keeps, IsOver, HasSome}
+use Rattle.class_disk.proofs.InPieces.{in_pieces_with}
 use Rattle.class_disk.specs.Midway.{IsTaking}
 use Rattle.class_disk.proofs.CoupledSteps.{in_requests, map_same}
 use Rattle.class_disk.proofs.CoupledRun.{keeps_permuted, Ran, run_coupled}
@@ -155,7 +156,10 @@ module _ (rules : Rules) (many : rules.one_piece ≡ false) (first : State) (lab
       let ahead : All (IsAhead t.j.removing e.number o.number) es = λ i d low.
       ahead_of rules t.j.removing limit e.number next (get_or es i d) (over_es i d low) (some_es i d low) (All-tail (IsMadeUp rules) _ es u_keeps.made_up i d low) (All-tail AgreesOnCancel _ es u_keeps.agree i d low)
       (given (get_or es i d) (Contains-get_or es i d low)) in
-      let n_keeps : Keeps rules n = down_keeps rules t.j e es pf pb o 0 (next + 1) is_part (sym timely ∙ sym cancelled_is) ahead u_keeps in
+      let begins : begins_back (map (shown_mark 0) o.marks) ≡ begins_back o.marks = ap begins_back (map_same (place_count rules q)) in
+      let in_pieces : IsInPieces rules (record e { parts = pf ++ (Below o 0 [] ∷ pb) }) =
+      in_pieces_with rules e pf pb (Here (map (shown_mark 0) o.marks) 0) (Below o 0 []) (sym (length-map o.marks (shown_mark 0))) (omega (arith, begins)) (All-head (IsInPieces rules) _ es u_keeps.in_pieces) in
+      let n_keeps : Keeps rules n = down_keeps rules t.j e es pf pb o 0 (next + 1) is_part (sym timely ∙ sym cancelled_is) ahead in_pieces.few u_keeps in
       let sound : IsSound opened = sound_open (below_rules rules) refl s next q opened t.sound opens in
       let ran : Ran rules n starts s' = run_coupled rules many starts n opened s' n_same sound n_keeps run in
       let notes : map note_of (pf ++ (Below o 0 [] ∷ pb)) ≡ front ++ (Sent next 0 ∷ back) =

@@ -17,7 +17,7 @@ use Rattle.device.specs.View.{DeviceView, Packet, IsOrderly, WaitsForTag}
 use Rattle.device.specs.Served.{IsUnfinished}
 use Rattle.class_disk.specs.declared.Sizes.{Sizes}
 use Rattle.class_disk.specs.Joint.{Known, Master}
-use Rattle.class_disk.specs.Kept.{IsMadeUp, AgreesOnCancel, IsInTurn, IsOver, HasSome}
+use Rattle.class_disk.specs.Kept.{IsMadeUp, AgreesOnCancel, IsInTurn, IsInPieces, IsOver, HasSome}
 use Rattle.class_disk.specs.Shown.{class_rules, IsPort, joint_of}
 use Rattle.class_disk.specs.Books.{Books, Opened}
 use Rattle.class_disk.specs.Turns.{empty_books}
@@ -70,6 +70,7 @@ module _ {R : Type 0} (out : List R → Type 0) (takes_srb : Bool) (stack_size :
             made_up = All-nil (IsMadeUp rules);
             agree = All-nil AgreesOnCancel;
             in_turn = All-nil (IsInTurn s.removing []);
+            in_pieces = All-nil (IsInPieces rules);
           };
         };
         rooms_out = none;

@@ -22,7 +22,7 @@ use Rattle.class_disk.specs.Blocks.{part_count_of, part_request_of, requests_for
 use Rattle.class_disk.specs.Parts.{lowest_status}
 use Rattle.class_disk.specs.Books.{Opened, Books, all_open, opened}
 use Rattle.class_disk.specs.Joint.{note_of, Known, known_of, Master, Joint, parts_marks, parts_busy, lifted_pieces, requests_below, pieces_below, pieces_above, shown, below, above}
-use Rattle.class_disk.specs.Kept.{IsMadeUp, AgreesOnCancel, IsAhead, AreBehind, IsInTurn, Keeps, IsOver, noted_busy}
+use Rattle.class_disk.specs.Kept.{IsMadeUp, AgreesOnCancel, IsAhead, AreBehind, IsInTurn, IsInPieces, Keeps, IsOver, noted_busy}
 use Rattle.class_disk.specs.Shown.{class_rules, shown_state}
 use Rattle.class_disk.specs.Driver.{known, knowns, view_of, note, places_of, request_of_part, IsOpen, HaveCauses, IsInHand}
 use Rattle.class_disk.proofs.Focus.{below_first}
@@ -174,6 +174,7 @@ module _ {R : Type 0} (out : List R → Type 0) (takes : Bool) (stack : ℕ) (v 
         in_turn = All-weaker (IsInTurn removing masters) (IsInTurn removing es)
             (λ x. All-weaker (AreBehind removing masters x.number) (AreBehind removing es x.number) (λ n. fewer (IsAhead removing x.number n)) _) es
             (fewer (IsInTurn removing masters) h.coupled.keeps.in_turn);
+        in_pieces = fewer (IsInPieces rules) h.coupled.keeps.in_pieces;
       }
 
   -- what is shown then

@@ -1,5 +1,5 @@
 -- What a step at one part leaves of the coupling.
-use Rattle.std.proofs.Common.{◌≡◌, ◌⊎◌, inl, inr, ℕ, ◌+◌, ◌*◌, not, Bool, true, false, List, [], ◌∷◌, ◌++◌, refl, sym, ◌∙◌, ap, subst, arith, map, length, take, drop, length-append}
+use Rattle.std.proofs.Common.{◌≡◌, ◌≤◌, ◌⊎◌, inl, inr, ℕ, ◌+◌, ◌*◌, not, Bool, true, false, List, [], ◌∷◌, ◌++◌, refl, sym, ◌∙◌, ap, subst, arith, map, length, take, drop, length-append}
 use Rattle.std.specs.Prelude.{All, Contains, IsTrue, IsFalse, slice_range}
 use Rattle.std.specs.List.{list_all}
 use Rattle.std.proofs.lemmas.List.{length-map, map-append}
@@ -12,18 +12,20 @@ use Rattle.machine.specs.State.{Mark, Untouched, Out, Done, Failed, Back, OpenRe
 use Rattle.machine.specs.Numbers.{request_number}
 use Rattle.machine.specs.Sending.{is_started, is_untouched}
 use Rattle.class_disk.specs.Joint.{Part, Below, Here, Master, Joint, IsPartOf, parts_requests, parts_marks, shown}
-use Rattle.class_disk.specs.Kept.{IsOwnedBy, AreParts, IsMadeUp, IsCancelledAs, AgreesOnCancel, HasPartBefore, IsAhead, AreBehind, IsInTurn, Keeps}
+use Rattle.class_disk.specs.Kept.{IsOwnedBy, AreParts, IsMadeUp, IsCancelledAs, AgreesOnCancel, HasPartBefore, IsAhead, AreBehind, IsInTurn, begins_back, IsInPieces, Keeps}
 use Rattle.class_disk.proofs.Coupled.{requests-append, marks-append}
+use Rattle.class_disk.proofs.InPieces.{in_pieces_with}
 use Rattle.class_disk.proofs.CoupledMarks.{started_part, all_of_append}
 use Rattle.class_disk.proofs.CoupledSteps.{master_with}
 
--- the same asked for, and as many places
+-- the same asked for, as many places, and no restart used up
 pub record IsAlikePart (o o' : OpenRequest) : Type 0 where
   pub number : o'.number ≡ o.number
   pub request : o'.request ≡ o.request
   pub late : o'.late ≡ o.late
   pub cancelled : o'.cancelled ≡ o.cancelled
   pub long : length o'.marks ≡ length o.marks
+  pub spare : o'.busy_returns + begins_back o.marks ≤ o.busy_returns + begins_back o'.marks
 
 part_alike : (rules : Rules) (q : ClientRequest) (first : ℕ) (o o' : OpenRequest) → IsAlikePart o o' → IsPartOf rules q first o → IsPartOf rules q first o'
 part_alike rules q first o o' a h = record {
@@ -142,6 +144,7 @@ module _ (rules : Rules) (j : Joint) (e : Master) (es : List Master) (front back
         (requests_with o o' again ps ps' front back (IsCancelledAs e.cancelled) (λ h. alike.cancelled ∙ h) (All-head AgreesOnCancel before_it es k.agree))
         (All-tail AgreesOnCancel before_it es k.agree);
     in_turn = turns_follow j.removing es before_it after_it f (numbers_with o o' again ps ps' front back alike.number) k.in_turn;
+    in_pieces = All-cons (IsInPieces rules) after_it es (in_pieces_with rules e front back (Below o again ps) (Below o' again ps') alike.long (let a = alike.spare in omega arith) (All-head (IsInPieces rules) before_it es k.in_pieces)) (All-tail (IsInPieces rules) before_it es k.in_pieces);
   }
 
 -- only the pieces of the part changed
@@ -157,7 +160,7 @@ follows_same removing e front back o again ps ps' =
     }
 
 pub alike_same : (o : OpenRequest) → IsAlikePart o o
-alike_same o = record { number = refl; request = refl; late = refl; cancelled = refl; long = refl }
+alike_same o = record { number = refl; request = refl; late = refl; cancelled = refl; long = refl; spare = omega arith }
 
 -- marks of which one isn't untouched
 pub started_with : (o : OpenRequest) (first : ℕ) (mark : Mark) (marks : List Mark) → is_untouched mark ≡ false → IsTrue (is_started (with_marks first (mark ∷ marks) o))

@@ -3,6 +3,7 @@ pub mod CoupledMarks
 pub mod CoupledRun
 pub mod CoupledSteps
 pub mod Focus
+pub mod InPieces
 pub mod Keeping
 pub mod Orderly
 pub mod Resting
@@ -10,6 +11,8 @@ pub mod Showing
 pub mod Taking
 pub mod Sending
 pub mod Ending
+pub mod NotedBusy
+pub mod Restarting
 pub mod Retaking
 pub mod Acting
 pub mod Asking

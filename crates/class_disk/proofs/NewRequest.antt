@@ -1,5 +1,5 @@
 -- A new request, with all of its parts here: the machine above opens it, and runs from there on.
-use Rattle.std.proofs.Common.{◌≡◌, ◌<◌, ◌≤◌, ℕ, zero, suc, ◌+◌, ◌-◌, ◌*◌, ◌/◌, ◌%◌, inl, inr, Bool, false, List, [], ◌∷◌, refl, sym, ◌∙◌, ap, subst, arith, map}
+use Rattle.std.proofs.Common.{◌≡◌, ◌<◌, ◌≤◌, ◌⊎◌, ℕ, zero, suc, ◌+◌, ◌-◌, ◌*◌, ◌/◌, ◌%◌, inl, inr, Bool, false, List, [], ◌∷◌, refl, sym, ◌∙◌, ap, subst, arith, map}
 use Rattle.std.proofs.Math.Nat.{mod-add-div', mod-lt}
 use Rattle.std.specs.Prelude.{IsPermutation, All, IsFalse}
 use Rattle.std.specs.List.{range_with_len}
@@ -25,13 +25,14 @@ use Rattle.class_disk.specs.Blocks.{part_count_of, part_request_of}
 use Rattle.class_disk.specs.Books.{Books, opened}
 use Rattle.class_disk.specs.Turns.{OpensAt, new_opened}
 use Rattle.class_disk.specs.Joint.{Known, shown, above}
+use Rattle.class_disk.specs.Kept.{AreCut}
 use Rattle.class_disk.specs.Shown.{class_rules}
 use Rattle.class_disk.specs.Driver.{view_of, known, knowns, note, note_by, places_of, IsReadyPart, IsReadyBy, IsInHand, IsRoom, IsCut, request_of_part}
 use Rattle.class_disk.specs.Midway.{IsTaking}
 use Rattle.class_disk.proofs.Acting.{shows}
 use Rattle.class_disk.proofs.Orderly.{All-from_map}
 use Rattle.class_disk.proofs.Admitting.{not_refused, carries_bytes, sectors_are}
-use Rattle.class_disk.proofs.Cutting.{whole_or_more}
+use Rattle.class_disk.proofs.Cutting.{whole_or_more, begins_within}
 use Rattle.class_disk.proofs.Submitting.{total, new_note, IsBefore, with_new, opens_new, taking_new}
 
 -- THE PARTS ARE READY
@@ -109,6 +110,44 @@ parts_cover rules r parts some some_limit cut =
     ap total (places_by_request rules parts ∙ ap (map (places_for rules)) cut.parts_are ∙ map_map (places_for rules) (part_request_of rules.max_transfer r) _)
     ∙ cut_covers rules some some_limit r.volume r.extent r.through r.kind
 
+-- EACH PART BUT THE LAST IS AS LONG AS A PIECE CAN BE
+
+-- from this piece on
+cut_from : (extent : Extent) (limit a n : ℕ) → 0 < limit → a + n ≡ piece_count limit extent.count → AreCut limit (map (λ k. (piece_of extent limit k).count) (range_with_len a n))
+cut_from extent limit a zero some is = tt
+cut_from extent limit a (suc n) some is =
+    let within : a * limit < extent.count = begins_within limit extent.count a some (omega (arith, is)) in
+    (omega (arith, within, some), omega arith, last n is, cut_from extent limit (a + 1) n some (omega (arith, is)))
+  where
+    last : (m : ℕ) → a + suc m ≡ piece_count limit extent.count
+        → ((piece_of extent limit a).count ≡ limit) ⊎ (map (λ k. (piece_of extent limit k).count) (range_with_len (a + 1) m) ≡ [])
+    last zero end = inr refl
+    last (suc m) more =
+        let within : (a + 1) * limit < extent.count = begins_within limit extent.count (a + 1) some (omega (arith, more)) in
+        inl (omega (arith, within))
+
+same_each : (f g : ℕ → ℕ) (xs : List ℕ) → ((k : ℕ) → f k ≡ g k) → map f xs ≡ map g xs
+same_each f g [] each = refl
+same_each f g (x ∷ xs) each = ap (λ n. n ∷ map f xs) (each x) ∙ ap (λ ns. g x ∷ ns) (same_each f g xs each)
+
+module _ (rules : Rules) (some : 0 < rules.sector_size) (some_limit : 0 < rules.max_transfer) (volume : ℕ) (extent : Extent) (through : Bool) where
+  pieces_cut : AreCut rules.max_transfer (map (λ k. (piece_of extent rules.max_transfer k).count * rules.sector_size / rules.sector_size) (range_with_len 0 (piece_count rules.max_transfer extent.count)))
+  pieces_cut =
+      subst (AreCut rules.max_transfer) (sym (same_each _ (λ k. (piece_of extent rules.max_transfer k).count) _ (λ k. sectors_are (piece_of extent rules.max_transfer k).count rules.sector_size some)))
+      (cut_from extent rules.max_transfer 0 (piece_count rules.max_transfer extent.count) some_limit (omega arith))
+
+  cut_by : (kind : Kind) → AreCut rules.max_transfer
+      (map (λ k. places_for rules (part_request_of rules.max_transfer (record { volume = volume; kind = kind; extent = extent; through = through }) k)) (range_with_len 0 (part_count_of rules.max_transfer (record { volume = volume; kind = kind; extent = extent; through = through }))))
+  cut_by Read = pieces_cut
+  cut_by Write = pieces_cut
+  cut_by Flush = (omega arith, some_limit, inr refl, tt)
+
+-- the parts of a request are its pieces
+pub parts_cut : {R : Type 0} (rules : Rules) (r : Request) (parts : List (Part R)) → 0 < rules.sector_size → 0 < rules.max_transfer → IsCut rules r parts → AreCut rules.max_transfer (map (places_of rules) parts)
+parts_cut rules r parts some some_limit cut =
+    subst (AreCut rules.max_transfer) (sym (places_by_request rules parts ∙ ap (map (places_for rules)) cut.parts_are ∙ map_map (places_for rules) (part_request_of rules.max_transfer r) _))
+    (cut_by rules some some_limit r.volume r.extent r.through r.kind)
+
 -- WHAT IS SHOWN
 
 pub taking_permuted : (rules : Rules) (first : State) (labels : List _) (s : State) (ks ks' : List Known) → IsPermutation ks ks' → IsTaking rules first labels s ks → IsTaking rules first labels s ks'
@@ -157,6 +196,7 @@ module _ {R : Type 0} (request_of : R → Request) (ready : R → Type 0) (out :
       let new : record { number = irp.number; request = q; cancelled = false; parts = map new_note counts } ≡ known rules (new_opened irp room.request room.parts.items) =
       ap (λ ns. record { number = irp.number; request = q; cancelled = false; parts = ns }) (sym (notes_ready request_of ready rules room.parts.items is_ready))
       ∙ ap (λ c. record { number = irp.number; request = q; cancelled = c; parts = map (note rules) room.parts.items }) (sym timely) in
+      let cut : AreCut rules.max_transfer counts = parts_cut rules room.request room.parts.items h.kept.sizes.whole.some_bytes h.port.some_transfer (All-head (IsRoom rules) room rooms h.kept.in_hand).cut in
       let permuted : IsPermutation (known rules (new_opened irp room.request room.parts.items) ∷ knowns rules b) (knowns rules b1) = IsPermutation-sym _ _ (IsPermutation-map (known rules) _ _ (IsPermutation-map opened _ _ opens.opens)) in
       taking_permuted rules first_above [] v.state _ _ (subst (λ (x : Known). IsPermutation (x ∷ knowns rules b) (knowns rules b1)) (sym new) permuted)
-      (taking_new rules h.coupled.j irp.number q counts covers refl v.state (knowns rules b) h.coupled.same h.coupled.knows before h.coupled.keeps h.sound (subst (λ r. AreCounted r v.state) h.port.below h.counted))
+      (taking_new rules h.coupled.j irp.number q counts covers refl v.state (knowns rules b) h.coupled.same h.coupled.knows cut before h.coupled.keeps h.sound (subst (λ r. AreCounted r v.state) h.port.below h.counted))

@@ -10,6 +10,7 @@ use Rattle.machine.specs.Rules.{Rules, place_count, as_client}
 use Rattle.machine.specs.State.{OpenRequest, State}
 use Rattle.machine.specs.Numbers.{IsGiven, HasPlaces, request_number}
 use Rattle.machine.specs.Marks.{AreCounted, IsCounted}
+use Rattle.machine.specs.Cutting.{restarts}
 use Rattle.machine.specs.Sending.{IsStart}
 use Rattle.machine.specs.Step.{DeviceStep, Run, as_label}
 use Rattle.irp.specs.declared.Climb.{Climb}
@@ -35,6 +36,9 @@ use Rattle.class_disk.specs.Books.{Opened, Books, opened, all_open, ended_in, re
 use Rattle.class_disk.specs.Turns.{next_number, spotted_books}
 use Rattle.class_disk.specs.Driver.{note, note_by, known, knowns, rooms_in, rooms_kept, most_over, IsAsked, IsAskedBy, IsSpotted, IsSpottedBy, IsTopmost, IsOpen, AreKept, AreBelow}
 use Rattle.class_disk.specs.Midway.{IsTaking, IsMidway, TakesOne, CanSendAgain, SendsDownAgain}
+use Rattle.class_disk.proofs.Restarting.{noted_back}
+use Rattle.class_disk.proofs.NotedBusy.{noted_few}
+use Rattle.class_disk.proofs.NewRequest.{parts_cut}
 use Rattle.class_disk.proofs.Retaking.{known_at}
 use Rattle.class_disk.proofs.Acting.{map_there}
 use Rattle.class_disk.proofs.CoupledRun.{Contains-map}
@@ -45,7 +49,7 @@ use Rattle.class_disk.proofs.Noting.{PartStands, rooms_of-append, rooms_kept-app
 use Rattle.class_disk.proofs.Handed.{Handed}
 use Rattle.class_disk.proofs.Withdrawing.{fewer_packets}
 use Rattle.class_disk.proofs.Changing.{b_now, each_entry, all_parts, packets_stay, left_now, long_now, known_old, known_new, some_now, over_now, causes_now, open_now, restarts-append}
-use Rattle.class_disk.proofs.Returning.{packets_taken, part_spotted, part_asked, taking_here, entry_open, same_request, open_below, no_starts, next_stays, removing_stays}
+use Rattle.class_disk.proofs.Returning.{packets_taken, part_spotted, part_asked, taking_here, entry_open, same_request, was_sent_as, open_below, no_starts, next_stays, removing_stays}
 
 -- NUMBERS
 
@@ -344,13 +348,26 @@ module _ {R : Type 0} (request_of : R → Request) (ready : R → Type 0) (out o
           (place_count v.rules) h.is_request in
           omega arith
 
+      -- a restart is left
+      few_noted : noted_busy (map (note rules) s.front ++ (Sent h.packet.number d.part.restarts ∷ map (note rules) s.back))
+          < noted_back (map (note rules) s.front ++ (Sent h.packet.number d.part.restarts ∷ map (note rules) s.back)) + restarts rules
+      few_noted =
+          let is : IsOpen rules (slot, d.o) = entry_open h ordered d m in
+          let notes : map (note rules) d.o.parts ≡ map (note rules) s.front ++ (Sent h.packet.number d.part.restarts ∷ map (note rules) s.back) =
+          ap (map (note rules)) s.parts_are ∙ map-append (note rules) s.front (d.part ∷ s.back)
+          ∙ ap (λ (n : Note). map (note rules) s.front ++ (n ∷ map (note rules) s.back)) (was_sent_as h ordered d m) in
+          let noted = noted_few rules d.o.parts (parts_cut rules d.o.request d.o.parts m.kept.sizes.whole.some_bytes m.port.some_transfer is.cut) in
+          let all = is.restarts in
+          let few = g.few in
+          subst (λ ns. noted_busy ns < noted_back ns + restarts rules) notes (omega arith)
+
       went : IsTaking rules first (labels ++ down.starts) v''.state
           (known_at (known rules d.o) (map (note rules) s.front) (Sent number (suc d.part.restarts))
           (map (note rules) s.back) ∷ others) × EndedAre WasSent v.rules v''.state
       went =
           goes_again takes_srb v request climb v' h m.port ordered first labels (known rules d.o) (map (note rules) s.front)
           (map (note rules) s.back) d.part.restarts others
-          (taking_here h ordered d m) packet v'' down m.ended g.busy some_places g.not_cancelled 17
+          (taking_here h ordered d m) packet v'' down m.ended g.busy some_places few_noted g.not_cancelled 17
           (beside (IsOver 17 v.state.removing) m.below.over) (beside (HasSome rules) m.below.some)
 
       again_note : note rules sent_again_part ≡ Sent number (suc d.part.restarts)

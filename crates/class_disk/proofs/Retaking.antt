@@ -13,6 +13,7 @@ use Rattle.machine.specs.State.{Mark, Untouched, Out, Done, Failed, Back, OpenRe
 use Rattle.machine.specs.Numbers.{IsGiven, AreDistinct, HavePlaces}
 use Rattle.machine.specs.Marks.{IsCounted, AreCounted}
 use Rattle.machine.specs.Calling.{Opens, new_request}
+use Rattle.machine.specs.Cutting.{restarts}
 use Rattle.machine.specs.Sending.{is_started, is_untouched}
 use Rattle.machine.specs.Answering.{Answers, information}
 use Rattle.machine.specs.Step.{Run, as_label}
@@ -24,12 +25,13 @@ use Rattle.machine.proofs.Earned.{HaveEarned-Answers, HaveEarned-Opens}
 use Rattle.machine.proofs.OnePiece.{AreOnePiece-Answers, AreOnePiece-Opens}
 use Rattle.machine.proofs.Counted.{AreCounted-Answers, AreCounted-Opens, AreCounted-Run, AreCounted-same}
 use Rattle.class_disk.specs.Joint.{Part, Below, Here, Note, Sent, Kept, Known, note_of, known_of, Master, Joint, IsPartOf, shown_mark, parts_requests, parts_marks, requests_below, shown, below, above, below_rules}
-use Rattle.class_disk.specs.Kept.{IsSound, IsMadeUp, AgreesOnCancel, IsCancelledAs, HasPartBefore, IsAhead, Keeps, IsOverMark, IsOverNote, IsOver, HasSome}
+use Rattle.class_disk.specs.Kept.{IsSound, IsMadeUp, AgreesOnCancel, IsCancelledAs, HasPartBefore, IsAhead, Keeps, IsOverMark, IsOverNote, IsOver, HasSome, noted_busy}
+use Rattle.class_disk.proofs.Restarting.{IsBusyOnce, busy_once, once_of, noted_back, few_again}
 use Rattle.class_disk.specs.Midway.{IsTaking}
 use Rattle.class_disk.proofs.CoupledSteps.{in_requests}
 use Rattle.class_disk.proofs.Focus.{Found}
 use Rattle.class_disk.proofs.Keeping.{part_in, there}
-use Rattle.class_disk.proofs.CoupledRun.{rest, here, keeps_here, one_request, Ran, run_coupled, sound_same}
+use Rattle.class_disk.proofs.CoupledRun.{rest, here, same_below, keeps_here, one_request, Ran, run_coupled, sound_same}
 use Rattle.class_disk.proofs.Taking.{TakenFrom, with_here, taken_from, notes_of}
 use Rattle.class_disk.proofs.Acting.{map_there, parts_long}
 use Rattle.class_disk.proofs.Orderly.{All-from_map}
@@ -238,6 +240,7 @@ part_again rules s number q first o count runs p =
 module _ (rules : Rules) (many : rules.one_piece ≡ false) (first : State) (labels : List DeviceLabel) (s : State) (places : HavePlaces s) (k : Known) (front back : List Note) (again : ℕ) (others : List Known)
     (number : ℕ) (status : NtStatus) (bytes : List ℕ) (answered : State) (h : Answers (below_rules rules) s number status bytes answered) (t : IsTaking rules first labels s (known_at k front (Sent number again) back ∷ others))
     (shows_again : map (shown_mark again) h.request.marks ≡ map (shown_mark (suc again)) (replicate (place_count rules h.request.request) Untouched)) (once : h.request.busy_returns ≡ 1)
+    (few : noted_busy (front ++ (Sent number again ∷ back)) < noted_back (front ++ (Sent number again ∷ back)) + restarts rules)
     (s1 : State) (to_s1 : IsSame answered s1) (next : ℕ) (opened : State) (opens : Opens (below_rules rules) s1 next h.request.request opened)
     (timely : IsFalse k.cancelled) (limit : ℕ) (over : All (IsOver limit s.removing) others) (some : All (HasSome rules) others) where
   abbrev old : OpenRequest
@@ -282,7 +285,13 @@ module _ (rules : Rules) (many : rules.one_piece ≡ false) (first : State) (lab
       let ahead : All (IsAhead t.j.removing e.number o.number) es = λ i d low.
       ahead_of rules t.j.removing limit e.number next (get_or es i d) (over_es i d low) (some_es i d low) (All-tail (IsMadeUp rules) _ es u_keeps.made_up i d low) (All-tail AgreesOnCancel _ es u_keeps.agree i d low)
       (given (get_or es i d) (Contains-get_or es i d low)) in
-      let n_keeps : Keeps rules n = down_keeps rules t.j e es fd.front fd.back o (suc again) (next + 1) (part_again rules s1 next e.request _ old counted (sym u_same.paused) part) (sym timely ∙ sym f.cancelled_is) ahead u_keeps in
+      let notes : map note_of (fd.front ++ (Below old again fd.pieces ∷ fd.back)) ≡ front ++ (Sent number again ∷ back) =
+      ap (λ (x : Known). x.parts) (known_is t.j old k front back again others f (Below old again fd.pieces)) ∙ ap (λ m. front ++ (Sent m again ∷ back)) h.is_number in
+      let all_once : All IsBusyOnce (requests_below (here rules t.j old fd fd.pieces).masters) = All-permutation IsBusyOnce _ _ (IsPermutation-trans _ _ _ (IsPermutation-sym _ _ t.same.requests) (same_below rules t.j old fd).requests) (busy_once (below_rules rules) s places t.counted) in
+      let own_once : All IsBusyOnce (parts_requests (fd.front ++ (Below old again fd.pieces ∷ fd.back))) =
+      subst (λ m. All IsBusyOnce (parts_requests (fd.front ++ (Below old m fd.pieces ∷ fd.back)))) f.again_is (once_of _ (requests_below es) all_once) in
+      let few_then = few_again rules fd.front fd.back old o again fd.pieces [] own_once once refl (subst (λ ns. noted_busy ns < noted_back ns + restarts rules) (sym notes) few) in
+      let n_keeps : Keeps rules n = down_keeps rules t.j e es fd.front fd.back o (suc again) (next + 1) (part_again rules s1 next e.request _ old counted (sym u_same.paused) part) (sym timely ∙ sym f.cancelled_is) ahead few_then u_keeps in
       let sound : IsSound opened = sound_open (below_rules rules) refl s1 next old.request opened sound1 opens in
       let ran : Ran rules n starts s' = run_coupled rules many starts n opened s' n_same sound n_keeps run in
       let noted : known_of (record e { parts = fd.front ++ (Below o (suc again) [] ∷ fd.back) }) ≡ known_at k front (Sent next (suc again)) back = known_is t.j old k front back again others f (Below o (suc again) []) in

@@ -10,10 +10,12 @@ use Rattle.machine.specs.Rules.{Rules}
 use Rattle.machine.specs.State.{Mark, OpenRequest, Piece, State, IsSame}
 use Rattle.machine.specs.Numbers.{request_number}
 use Rattle.machine.specs.Calling.{Opens, new_request}
+use Rattle.machine.specs.Cutting.{restarts}
 use Rattle.machine.specs.Sending.{is_started, is_untouched}
 use Rattle.machine.proofs.Same.{IsSame-refl, IsSame-sym, IsSame-trans}
 use Rattle.class_disk.specs.Joint.{Part, Below, Here, Master, Joint, IsPartOf, shown_mark, parts_requests, parts_pieces, parts_marks, parts_busy, parts_lifted, lifted, requests_below, pieces_below, shown, below, above, below_rules}
-use Rattle.class_disk.specs.Kept.{IsOwnedBy, AreParts, IsMadeUp, IsCancelledAs, AgreesOnCancel, HasPartBefore, IsAhead, AreBehind, IsInTurn, Keeps}
+use Rattle.class_disk.specs.Kept.{IsOwnedBy, AreParts, IsMadeUp, IsCancelledAs, AgreesOnCancel, HasPartBefore, IsAhead, AreBehind, IsInTurn, parts_back, IsInPieces, Keeps}
+use Rattle.class_disk.proofs.InPieces.{cut_with}
 use Rattle.class_disk.proofs.Coupled.{requests-append, pieces-append, marks-append}
 use Rattle.class_disk.proofs.CoupledSteps.{same_part}
 use Rattle.class_disk.proofs.Keeping.{Follows, behind_follows}
@@ -102,9 +104,10 @@ module _ (rules : Rules) (j : Joint) (e : Master) (es : List Master) (front back
   down_above none =
       same_part j e es front back j.next_below next (Here (map (shown_mark again) o.marks) again) (Below o again []) refl (omega (arith, none)) (λ first. ap (λ n. parts_lifted e.number (first + n) back) (length-map o.marks (shown_mark again)))
 
-  -- a part of its request, not cancelled, behind the parts of all earlier requests
-  pub down_keeps : IsPartOf rules e.request (length (parts_marks front)) o → o.cancelled ≡ e.cancelled → All (IsAhead j.removing e.number o.number) es → Keeps rules until_now → Keeps rules from_now
-  down_keeps part agrees ahead k =
+  -- a part of its request, not cancelled, behind the parts of all earlier requests, and a restart if it was sent before
+  pub down_keeps : IsPartOf rules e.request (length (parts_marks front)) o → o.cancelled ≡ e.cancelled → All (IsAhead j.removing e.number o.number) es
+      → parts_busy (gone_down e front back o again).parts ≤ parts_back (gone_down e front back o again).parts + restarts rules → Keeps rules until_now → Keeps rules from_now
+  down_keeps part agrees ahead few k =
       let was : Master = waiting e front back o again in
       let now : Master = gone_down e front back o again in
       let f : Follows j.removing was now = follows_down e front back o again j.removing in
@@ -121,4 +124,10 @@ module _ (rules : Rules) (j : Joint) (e : Master) (es : List Master) (front back
             (All-weaker (IsInTurn j.removing (was ∷ es)) (IsInTurn j.removing (now ∷ es))
             (λ x. All-weaker (AreBehind j.removing (was ∷ es) x.number) (AreBehind j.removing (now ∷ es) x.number) (λ n. behind_follows j.removing es was now f x.number n) (map request_number (parts_requests x.parts)))
             es (All-tail (IsInTurn j.removing (was ∷ es)) was es k.in_turn));
+        in_pieces = All-cons (IsInPieces rules) now es
+            (record {
+              cut = cut_with rules e front back (Here (map (shown_mark again) o.marks) again) (Below o again []) (sym (length-map o.marks (shown_mark again))) (All-head (IsInPieces rules) was es k.in_pieces).cut;
+              few = few;
+            })
+            (All-tail (IsInPieces rules) was es k.in_pieces);
       }

@@ -21,7 +21,7 @@ use Rattle.device.specs.View.{DeviceView, Packet, sent_bytes}
 use Rattle.device.specs.Served.{Submits, StaysOpen}
 use Rattle.class_disk.specs.Books.{Books}
 use Rattle.class_disk.specs.Joint.{Part, Here, Note, Kept, Known, note_of, known_of, Master, Joint, parts_requests, parts_pieces, parts_marks, parts_busy, parts_lifted, requests_below, pieces_below, pieces_above, shown, below, above, below_rules}
-use Rattle.class_disk.specs.Kept.{IsSound, AreParts, IsMadeUp, IsCancelledAs, AgreesOnCancel, IsAhead, AreBehind, IsInTurn, Keeps}
+use Rattle.class_disk.specs.Kept.{IsSound, AreParts, IsMadeUp, IsCancelledAs, AgreesOnCancel, IsAhead, AreBehind, IsInTurn, places_in, AreCut, IsInPieces, Keeps}
 use Rattle.class_disk.specs.Shown.{class_rules, IsPort, shown_state}
 use Rattle.class_disk.specs.Driver.{knowns, most_over, view_of, packet_above, IsCoupled}
 use Rattle.class_disk.specs.Midway.{IsTaking}
@@ -70,6 +70,10 @@ new_made rules q first [] covers = omega (arith, covers)
 new_made rules q first (count ∷ counts) covers =
     let long = length-replicate count Untouched in
     new_made rules q (first + length (replicate count Untouched)) counts (omega (arith, long, covers))
+
+new_places : (counts : List ℕ) → map places_in (map new_part counts) ≡ counts
+new_places [] = refl
+new_places (count ∷ counts) = ap (λ n. n ∷ map places_in (map new_part counts)) (length-replicate count Untouched) ∙ ap (λ ns. count ∷ ns) (new_places counts)
 
 -- the request has a number below this one
 abbrev pub IsBefore : ℕ → Master → Type 0
@@ -121,8 +125,8 @@ module _ (rules : Rules) (j : Joint) (number : ℕ) (q : ClientRequest) (counts 
   }
 
   -- and the coupling is kept: no part of it is below, and all other requests are earlier
-  pub keeps_new : All (IsBefore number) j.masters → Keeps rules j → Keeps rules with_new
-  keeps_new before k = record {
+  pub keeps_new : AreCut rules.max_transfer counts → All (IsBefore number) j.masters → Keeps rules j → Keeps rules with_new
+  keeps_new cut before k = record {
     made_up = All-cons (IsMadeUp rules) new_master j.masters (new_made rules q 0 counts (omega (arith, covers))) k.made_up;
     agree = All-cons AgreesOnCancel new_master j.masters (subst (All (IsCancelledAs false)) (sym (new_requests counts)) (All-nil (IsCancelledAs false))) k.agree;
     in_turn = All-cons (IsInTurn j.removing (new_master ∷ j.masters)) new_master j.masters
@@ -132,16 +136,18 @@ module _ (rules : Rules) (j : Joint) (number : ℕ) (q : ClientRequest) (counts 
         All-weaker (AreBehind j.removing j.masters x.number) (AreBehind j.removing (new_master ∷ j.masters) x.number)
         (λ n h. All-cons (IsAhead j.removing x.number n) new_master j.masters (λ staying lower timely. absurd (omega arith)) h)
         (map request_number (parts_requests x.parts)) (k.in_turn i d low));
+    in_pieces = All-cons (IsInPieces rules) new_master j.masters
+        (record { cut = subst (AreCut rules.max_transfer) (sym (new_places counts)) cut; few = let none = new_busy counts in omega arith }) k.in_pieces;
   }
 
   -- so the machine above runs from there on
-  pub taking_new : rules.one_piece ≡ false → (s : State) (ks : List Known) → IsSame (below j) s → IsPermutation (map known_of j.masters) ks → All (IsBefore number) j.masters → Keeps rules j → IsSound s → AreCounted (below_rules rules) s
+  pub taking_new : rules.one_piece ≡ false → (s : State) (ks : List Known) → IsSame (below j) s → IsPermutation (map known_of j.masters) ks → AreCut rules.max_transfer counts → All (IsBefore number) j.masters → Keeps rules j → IsSound s → AreCounted (below_rules rules) s
       → IsTaking rules (above with_new) [] s (record { number = number; request = q; cancelled = false; parts = map new_note counts } ∷ ks)
-  taking_new many s ks same knows before k sound counted =
+  taking_new many s ks same knows cut before k sound counted =
       taking_begins rules many with_new s s _ [] (below_new s same)
       (subst (λ ns. IsPermutation (record { number = number; request = q; cancelled = false; parts = ns } ∷ map known_of j.masters) (record { number = number; request = q; cancelled = false; parts = map new_note counts } ∷ ks))
       (sym (new_notes counts)) (IsPermutation-cons _ _ _ knows))
-      (keeps_new before k) sound counted (IsSame-refl s)
+      (keeps_new cut before k) sound counted (IsSame-refl s)
 
 -- ALL PARTS ARE SENT: what the class driver shows has taken its request in
 pub submits_above : {R : Type 0} (v : DeviceView) (b : Books R) (packet : Packet) (request : Request) (payload : Payload) (first : State) (starts : List DeviceLabel) (v' : DeviceView) (b' : Books R) → IsPort v.rules

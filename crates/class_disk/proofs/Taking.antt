@@ -18,7 +18,8 @@ use Rattle.machine.proofs.Permuting.{IsPermutation-uncons}
 use Rattle.machine.proofs.Owners.{Owns, owns}
 use Rattle.machine.proofs.Commuting.{out_ends_not, started_marks}
 use Rattle.class_disk.specs.Joint.{Part, Below, Here, Note, Sent, Kept, Known, note_of, known_of, Master, Joint, shown_mark, parts_requests, parts_pieces, parts_marks, requests_below, pieces_below, pieces_above, shown, below, above, below_rules}
-use Rattle.class_disk.specs.Kept.{IsSound, IsOwnedBy, AreParts, IsMadeUp, IsCancelledAs, AgreesOnCancel, HasPartBefore, IsAhead, AreBehind, IsInTurn, Keeps}
+use Rattle.class_disk.specs.Kept.{IsSound, IsOwnedBy, AreParts, IsMadeUp, IsCancelledAs, AgreesOnCancel, HasPartBefore, IsAhead, AreBehind, IsInTurn, IsInPieces, Keeps}
+use Rattle.class_disk.proofs.InPieces.{shown_begins, in_pieces_with}
 use Rattle.class_disk.proofs.Coupled.{requests-append, pieces-append, marks-append}
 use Rattle.class_disk.proofs.CoupledMarks.{started_part}
 use Rattle.class_disk.proofs.CoupledSteps.{master_with, request_first, in_requests, taken}
@@ -146,6 +147,9 @@ taken_at rules j s e es front back o again others s' sa sb kh _ is_open after go
         made_up = All-cons (IsMadeUp rules) now es (parts_taken rules e.request o again busy [] back 0 front (All-head (IsMadeUp rules) was es kh.made_up)) (All-tail (IsMadeUp rules) was es kh.made_up);
         agree = All-cons AgreesOnCancel now es (left_out (IsCancelledAs e.cancelled) (All-head AgreesOnCancel was es kh.agree)) (All-tail AgreesOnCancel was es kh.agree);
         in_turn = turns_follow_in j.removing es was now (follows_taken j.removing e front back o again busy gone) (λ P all. numbers_left P all) kh.in_turn;
+        in_pieces = All-cons (IsInPieces rules) now es
+            (in_pieces_with rules e front back (Below o again []) (Here (map (shown_mark again) o.marks) busy) (length-map o.marks (shown_mark again)) (let more = shown_begins again o.marks in omega arith) (All-head (IsInPieces rules) was es kh.in_pieces))
+            (All-tail (IsInPieces rules) was es kh.in_pieces);
       };
     }
   where

@@ -1,14 +1,15 @@
 -- What the class driver keeps between its packets and those below.
-use Rattle.std.specs.Prelude.{◌≡◌, ◌<◌, ◌≤◌, ◌⊎◌, ℕ, ◌+◌, Bool, List, [], ◌∷◌, map, length, IsTrue, IsFalse, All, Contains}
+use Rattle.std.specs.Prelude.{◌≡◌, ◌<◌, ◌≤◌, ◌⊎◌, ℕ, ◌+◌, Bool, List, [], ◌∷◌, map, length, get_or, IsTrue, IsFalse, All, Contains}
 use Rattle.machine.specs.declared.ClientRequest.{ClientRequest}
 use Rattle.machine.specs.Rules.{Rules, place_count}
 use Rattle.machine.specs.State.{Mark, Untouched, Out, Done, Failed, Back, OpenRequest, Piece, State}
 use Rattle.machine.specs.Numbers.{AreDistinct, request_number}
 use Rattle.machine.specs.Pieces.{ArePlaced}
 use Rattle.machine.specs.Marks.{HaveEarned, AreOnePiece}
+use Rattle.machine.specs.Cutting.{restarts}
 use Rattle.machine.specs.Sending.{is_started}
 use Rattle.machine.specs.Answering.{HasEnded}
-use Rattle.class_disk.specs.Joint.{Part, Below, Here, Note, Sent, Kept, Known, Master, Joint, IsPartOf, parts_requests, shown}
+use Rattle.class_disk.specs.Joint.{Part, Below, Here, Note, Sent, Kept, Known, Master, Joint, IsPartOf, parts_requests, parts_busy, shown}
 
 -- what the machine below keeps by its own steps
 pub record IsSound (s : State) : Type 0 where
@@ -58,11 +59,42 @@ AreBehind removing masters number part_number = All (IsAhead removing number par
 abbrev pub IsInTurn : Bool → List Master → Master → Type 0
 IsInTurn removing masters e = All (AreBehind removing masters e.number) (map request_number (parts_requests e.parts))
 
+-- as many places as a part has
+abbrev pub places_in : Part → ℕ
+places_in (Below o again pieces) = length o.marks
+places_in (Here marks busy) = length marks
+
+-- so many places, part by part: each part but the last is as long as a piece can be
+abbrev pub AreCut : ℕ → List ℕ → Type 0
+AreCut longest [] = Unit {0}
+AreCut longest (count ∷ counts) = (0 < count) × (count ≤ longest) × ((count ≡ longest) ⊎ (counts ≡ [])) × AreCut longest counts
+
+-- 1 for a place that came back busy
+abbrev pub one_if_back : Mark → ℕ
+one_if_back Back = 1
+one_if_back _ = 0
+
+-- and for places of which the first did
+abbrev pub begins_back : List Mark → ℕ
+begins_back marks = one_if_back (get_or marks 0 Untouched)
+
+-- as many parts came back busy, and were not sent again since
+abbrev pub parts_back : List Part → ℕ
+parts_back [] = 0
+parts_back (Below o again pieces ∷ parts) = begins_back o.marks + parts_back parts
+parts_back (Here marks busy ∷ parts) = begins_back marks + parts_back parts
+
+-- the parts are the pieces of their request, and were sent again no more often than a request may start again
+pub record IsInPieces (rules : Rules) (e : Master) : Type 0 where
+  pub cut : AreCut rules.max_transfer (map places_in e.parts)
+  pub few : parts_busy e.parts ≤ parts_back e.parts + restarts rules
+
 -- the coupling, at every moment but in the midst of a cancellation
 pub record Keeps (rules : Rules) (j : Joint) : Type 0 where
   pub made_up : All (IsMadeUp rules) j.masters
   pub agree : All AgreesOnCancel j.masters
   pub in_turn : All (IsInTurn j.removing j.masters) j.masters
+  pub in_pieces : All (IsInPieces rules) j.masters
 
 -- WHAT HAS ENDED, BY WHAT THE CLASS DRIVER KNOWS
 
