@@ -153,6 +153,8 @@ reset_sound limits below tables below1 sound r =
       rising = s.rising;
       given = s.given;
       apart = s.apart;
+      chained = s.chained;
+      counted = s.counted;
     }
 
 module _ (limits : Limits) (below : DeviceView) (tables : Tables) (old : ManagerView) (kept : ManagerKept limits below tables) (shown : view_of limits below tables ≡ old) (taken : old.labels ≡ [])

@@ -25,8 +25,11 @@ use Rattle.io_manager.specs.declared.tables.OpenRequest.{OpenRequest}
 use Rattle.io_manager.specs.declared.tables.Tables.{Tables}
 use Rattle.io_manager.specs.Calls.{number_limit}
 use Rattle.io_manager.specs.Ordering.{HasOtherNumber}
+use Rattle.io_manager.specs.Chains.{IsOpenIn}
 use Rattle.io_manager.specs.Sound.{rules_of, shown_state, is_gone, view_of, IsHeldAt, AreHeld, IsTopmost, IsSpotted, WasGiven, AreApart, IsInState, IsSound}
 use Rattle.io_manager.specs.Admitting.{request_of, HasCopies, Admits, SendsDown, IsAdmissible}
+use Rattle.io_manager.proofs.Chained.{AreChained-more}
+use Rattle.io_manager.proofs.Counted.{AreCounted-more}
 use Rattle.io_manager.proofs.Askings.{KeepsAsked-same, asks_same, AreHeld-along}
 use Rattle.io_manager.proofs.Righting.{IsSound-moves}
 use Rattle.io_manager.proofs.Handing.{numbers_last}
@@ -172,13 +175,13 @@ module _ (limits : Limits) (below : DeviceView) (tables : Tables) (q : ClientReq
         };
       }
 
-  pub admitted_sound : (handle : Handle) (copies : Copies) (spot slot : ℕ) (tables1 : Tables) (buffer : List ℕ) (below1 : DeviceView) → AreDistinct below.state → HasCopies q.kind buffer copies → q.length ≡ length buffer
+  pub admitted_sound : (handle : Handle) (copies : Copies) (spot slot : ℕ) (tables1 : Tables) (buffer : List ℕ) (below1 : DeviceView) → AreDistinct below.state → IsOpenIn tables.handles handle.slot handle.number → HasCopies q.kind buffer copies → q.length ≡ length buffer
       → deque_len tables.untaken + (slab_len tables.requests + 1) ≤ deque_capacity tables.untaken → Admits tables handle q copies spot slot tables1
       → SendsDown below tables.next_request spot (request_of limits.sector_size q) buffer below1 → IsSound limits below1 tables1
-  admitted_sound handle copies spot slot tables1 buffer below1 distinct buffers same_length place admits sends =
+  admitted_sound handle copies spot slot tables1 buffer below1 distinct is_open buffers same_length place admits sends =
       subst (IsSound limits below1) (sym admits.after)
       (IsSound-moves limits (record below { state = sends.submits.opened; packets = sends.packet ∷ below.packets; submitted = below.submitted + 1 })
-      (record tables { next_request = tables.next_request + 1; requests = tables1.requests; latest = tables1.latest; labels = tables1.labels }) sends.submits.starts below1 opened sends.submits.moves)
+      (record tables { next_request = tables.next_request + 1; requests = tables1.requests; latest = tables1.latest; chains = tables1.chains; open_counts = tables1.open_counts; labels = tables1.labels }) sends.submits.starts below1 opened sends.submits.moves)
     where
       asked : ClientRequest
       asked = as_client below.rules (request_of limits.sector_size q) (sent_bytes q.kind sends.payload)
@@ -197,7 +200,7 @@ module _ (limits : Limits) (below : DeviceView) (tables : Tables) (q : ClientReq
           stays removing = let e : below.state.removing ≡ false = (taken_in over (view_of limits below tables).state q k.not_refused).staying in cc (e, removing)
 
       opened : IsSound limits (record below { state = sends.submits.opened; packets = sends.packet ∷ below.packets; submitted = below.submitted + 1 })
-          (record tables { next_request = tables.next_request + 1; requests = tables1.requests; latest = tables1.latest; labels = tables1.labels })
+          (record tables { next_request = tables.next_request + 1; requests = tables1.requests; latest = tables1.latest; chains = tables1.chains; open_counts = tables1.open_counts; labels = tables1.labels })
       opened =
           let last : tables.next_request < number_limit = numbers_last tables.next_request k.numbers_last in
           let rising : below.state.next_request ≤ tables.next_request = h.numbers.rising in
@@ -238,4 +241,15 @@ module _ (limits : Limits) (below : DeviceView) (tables : Tables) (q : ClientReq
             rising = h.rising;
             given = All-weaker (WasGiven tables.next_request) (WasGiven (tables.next_request + 1)) (λ answer low. omega arith) tables.untaken.items h.given;
             apart = AreApart-more tables.requests tables1.requests slot _ tables.untaken.items admits.holds h.given h.apart;
+            chained =
+                AreChained-more tables.handles tables.requests tables1.requests tables.next_handle tables.chains tables1.chains h.chained slot _ is_open refl admits.was_free
+                (let low : slot < tables.requests.capacity = admits.in_range in let slots : tables.requests.capacity ≡ limits.open_requests = h.places.requests in let few : limits.open_requests ≤ 64 = h.fits.some_open.1 in omega (arith, low, slots, few))
+                admits.holds
+                (λ other request there.
+                let given : request.number < below.state.next_request = was_given tables.requests below.state.requests below.state.next_request distinct.given h.held other request there in omega (arith, given, rising))
+                admits.chains;
+            counted =
+                AreCounted-more tables.handles tables.requests tables1.requests tables.next_handle tables.chains h.chained tables.open_counts tables1.open_counts h.counted slot _ is_open admits.was_free
+                (let low : slot < tables.requests.capacity = admits.in_range in let slots : tables.requests.capacity ≡ limits.open_requests = h.places.requests in let few : limits.open_requests ≤ 64 = h.fits.some_open.1 in omega (arith, low, slots, few))
+                admits.holds admits.counts;
           }

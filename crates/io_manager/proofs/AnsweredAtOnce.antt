@@ -72,6 +72,8 @@ at_once_sound limits below tables q status tables1 h last answers =
       rising = h.rising;
       given = All-weaker (WasGiven tables.next_request) (WasGiven (tables.next_request + 1)) (λ answer low. omega arith) tables.untaken.items h.given;
       apart = h.apart;
+      chained = h.chained;
+      counted = h.counted;
     })
 
 module _ (limits : Limits) (below : DeviceView) (tables : Tables) (handle : Handle) (kind : Kind) (offset : ℕ) (buffer : List ℕ) (through : Bool) (h : IsSound limits below tables) (free : IsNone below.state.owed)

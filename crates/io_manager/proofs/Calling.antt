@@ -72,6 +72,8 @@ reserved_sound limits below tables below' tables' h reserves keeps =
       rising = rw keeps.same_untaken h.rising;
       given = subst (All (WasGiven tables.next_request)) (sym keeps.same_untaken) h.given;
       apart = subst (AreApart tables.requests) (sym keeps.same_untaken) h.apart;
+      chained = h.chained;
+      counted = h.counted;
     }))
 
 reserved_inside : (below below' : DeviceView) → AsksInside below → Reserves below below' → AsksInside below'

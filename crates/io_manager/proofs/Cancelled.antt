@@ -26,10 +26,12 @@ use Rattle.io_manager.specs.declared.tables.OpenRequest.{OpenRequest}
 use Rattle.io_manager.specs.declared.tables.Tables.{Tables}
 use Rattle.io_manager.specs.Calls.{partition_of}
 use Rattle.io_manager.specs.Cancelling.{HasSome, HasNoneOf, IsOpenAt, IsNotOpenAt, ClosesSlot, HasNoneToMark, CancelsSlot, CancelsUnlessMarked, IsUnmarked, CancelsAll}
+use Rattle.io_manager.specs.Chains.{IsOpenIn}
 use Rattle.io_manager.specs.Collecting.{IsAt, HasNone}
 use Rattle.io_manager.specs.Shown.{ManagerView, Holder}
 use Rattle.io_manager.specs.Right.{Told, SameHandles, RefusesAlone, tells_nothing, as_cancel, IsHandleOpen, IsToCancel, CancelsAllOf, CancelsOne, HasTarget, HasOtherNumber, CloseReplies, CancelReplies, MarkReplies, IsRight}
 use Rattle.io_manager.specs.Sound.{rules_of, shown_state, is_gone, holder_of, view_of, IsHeldAt, IsOnMap, IsSound, HasNoneToStart, Collects, ManagerKept}
+use Rattle.io_manager.proofs.Chained.{still_open, AreChained-closed}
 use Rattle.io_manager.proofs.KeptBack.{settled_none, all_cancelled_none}
 use Rattle.io_manager.proofs.Timely.{reached_timely}
 use Rattle.io_manager.proofs.Marking.{IsBelow, held_below, holders_same}
@@ -54,8 +56,8 @@ on_map_less rules old new slot updates h other handle there = elim (cases_eq oth
   | inr apart ↦ h other handle (sym (updates.others other apart) ∙ there)
 ]
 
-pub closed_sound : (limits : Limits) (below : DeviceView) (tables tables' : Tables) (slot : ℕ) → IsSound limits below tables → ClosesSlot tables slot tables' → IsSound limits below tables'
-closed_sound limits below tables tables' slot h closes =
+pub closed_sound : (limits : Limits) (below : DeviceView) (tables tables' : Tables) (slot number : ℕ) → IsSound limits below tables → IsOpenIn tables.handles slot number → HasNoneToMark tables.requests number → ClosesSlot tables slot tables' → IsSound limits below tables'
+closed_sound limits below tables tables' slot number h is_open none_left closes =
     subst (IsSound limits below) (sym closes.after) (record {
       fits = h.fits;
       numbers = record { requests = h.numbers.requests; handles = h.numbers.handles; rising = h.numbers.rising; submitted = h.numbers.submitted };
@@ -76,6 +78,8 @@ closed_sound limits below tables tables' slot h closes =
       rising = h.rising;
       given = h.given;
       apart = h.apart;
+      chained = AreChained-closed tables.handles tables'.handles tables.requests tables.next_handle tables.chains h.chained slot number is_open none_left closes.closes;
+      counted = record { places = h.counted.places; counted = λ other number' o. h.counted.counted other number' (record { handle = o.handle; there = still_open tables.handles tables'.handles slot closes.closes other o.handle o.there; is_number = o.is_number }) };
     })
 
 module _ (limits : Limits) (below : DeviceView) (tables : Tables) (old : ManagerView) (kept : ManagerKept limits below tables) (shown : view_of limits below tables ≡ old) (taken : old.labels ≡ []) where

@@ -1,6 +1,6 @@
 -- A packet that is handed up is that of one open request, whose slot is given up.
 use Rattle.std.proofs.Common.{◌≡◌, ◌≢◌, ◌<◌, ◌≤◌, ◌⊎◌, inl, inr, ℕ, zero, suc, ◌+◌, Bool, true, false, List, [], ◌∷◌, ◌++◌, Some, None, refl, sym, ◌∙◌, ap, subst, arith, map, length}
-use Rattle.std.specs.Prelude.{IsPermutation, IsTrue, All, Contains, ◌↔◌}
+use Rattle.std.specs.Prelude.{IsPermutation, IsTrue, All, Contains, ◌↔◌, MatchBool}
 use Rattle.std.specs.List.{list_all}
 use Rattle.std.proofs.lemmas.List.Sorted.{IsPermutation-map, All-permutation, Contains-permutation, length_permutation}
 use Rattle.std.proofs.lemmas.List.Elements.{All-head, All-tail, Contains-append_cases}
@@ -22,8 +22,10 @@ use Rattle.device.specs.View.{DeviceView, payload_bytes}
 use Rattle.device.specs.Served.{HandsUp}
 use Rattle.io_manager.specs.declared.tables.OpenRequest.{OpenRequest}
 use Rattle.io_manager.specs.declared.tables.Tables.{Tables}
+use Rattle.io_manager.specs.Chains.{TakesOut, IsWaiting, AreChained}
 use Rattle.io_manager.specs.Sound.{IsHeldAt, AreHeld, IsTopmost}
 use Rattle.io_manager.specs.Collecting.{IsAt, AreFilled, Closes, brought}
+use Rattle.io_manager.proofs.Chained.{IsKept, AreChained-same, AreChained-less}
 
 -- WITH NO LOCATION ABOVE A CLIMB IS FINISHED
 
@@ -163,3 +165,32 @@ module _ (old new : Tables) (done : Done) (c : Closes old done new) (below : Lis
       by_cases : (slot : ℕ) (x : OpenRequest) → get new.requests slot ≡ Some x → Contains (o.number ∷ []) x.number ⊎ Contains (map request_number others) x.number → Contains (map request_number others) x.number
       by_cases slot x there (inl h) = absurd (kept_number slot x there (sym (single o.number x.number h) ∙ number))
       by_cases slot x there (inr h) = h
+
+  -- it is in no chain any more
+  pub AreChained-ended : AreChained old.handles old.requests old.next_handle old.chains → AreChained old.handles new.requests old.next_handle new.chains
+  AreChained-ended chained = by_flag c.request.cancelled refl c.chains
+    where
+      kept : (other : ℕ) (x : OpenRequest) → get new.requests other ≡ Some x → IsKept old.requests c.slot other x
+      kept other x there =
+          let before : (other ≢ c.slot) × (get old.requests other ≡ Some x) = kept_slot other x there in
+          record { before = x; there = before.1; same_handle = refl; same_slot = refl; unmarked = λ not_yet. (refl, before.0) }
+
+      stays : (other : ℕ) (x : OpenRequest) → other ≢ c.slot → get old.requests other ≡ Some x → get new.requests other ≡ Some x
+      stays other x apart there = c.leaves.others other apart ∙ there
+
+      still : c.request.cancelled ≡ true → (handle other number : ℕ) → IsWaiting old.requests handle other number → IsWaiting new.requests handle other number
+      still marked handle other number w =
+          let apart : other ≢ c.slot = λ same.
+          let e : Some w.request ≡ Some c.request = sym w.there ∙ ap (λ s. get old.requests s) same ∙ c.there in
+          let same_request : w.request ≡ c.request = cc (e) in
+          let f : false ≡ true = sym w.not_yet ∙ ap (λ r. r.cancelled) same_request ∙ marked in
+          cc (f) in
+          record { request = w.request; there = stays other w.request apart w.there; at_handle = w.at_handle; is_number = w.is_number; not_yet = w.not_yet }
+
+      by_flag : (b : Bool) → c.request.cancelled ≡ b → MatchBool b (new.chains ≡ old.chains) (TakesOut old.chains c.slot new.chains) → AreChained old.handles new.requests old.next_handle new.chains
+      by_flag true marked same =
+          subst (λ x. AreChained old.handles new.requests old.next_handle x) (sym same)
+          (AreChained-same old.handles old.requests new.requests old.next_handle old.chains chained c.slot kept (still marked))
+      by_flag false not_yet out =
+          AreChained-less old.handles old.requests new.requests old.next_handle old.chains chained c.slot kept c.request c.there not_yet new.chains out stays
+          (λ other x there same. k.one_slot other c.slot x c.request there c.there same)

@@ -31,11 +31,13 @@ use Rattle.io_manager.specs.declared.tables.Tables.{Tables}
 use Rattle.io_manager.specs.Shown.{Holder}
 use Rattle.io_manager.specs.Ordering.{inserted, HasOtherNumber}
 use Rattle.io_manager.specs.Right.{as_answer, unless_answered, end_labels}
+use Rattle.io_manager.specs.Chains.{AreChained, AreCounted}
 use Rattle.io_manager.specs.Sound.{HasPlaces, WasGiven, AreApart, AreHeld, IsTopmost, IsSpotted, IsInState, EndsIf, IsSound, IsSoundWith, SamePlaces, Collects, holder_of}
 use Rattle.io_manager.specs.Collecting.{Closes, EndsRemoval, TakesEnded, Gathers, brought, answer_for, unlabelled}
 use Rattle.io_manager.proofs.AdapterJoins.{labels_moved}
 use Rattle.io_manager.proofs.Askings.{KeepsAsked, KeepsAsked-same, KeepsAsked-trans, asks_same, as_many, run_keeps, AreHeld-along}
-use Rattle.io_manager.proofs.Closing.{held_at, only_there, is_ended, is_given, brings, kept_slot, kept_number, AreHeld-less}
+use Rattle.io_manager.proofs.Counted.{AreCounted-ended}
+use Rattle.io_manager.proofs.Closing.{held_at, only_there, is_ended, is_given, brings, kept_slot, kept_number, AreHeld-less, AreChained-ended}
 use Rattle.io_manager.proofs.Inserting.{unless_one_more}
 use Rattle.io_manager.proofs.Fitted.{FitsBelow-same, no_length, IsInState-fewer}
 use Rattle.io_manager.proofs.NoneToStart.{handed_still}
@@ -173,6 +175,11 @@ module _ (takes_srb : Bool) (old new : DeviceView) (request : Request) (done : D
         spot = λ slot x there same. s.spot slot x (kept_slot t t' done c old.state.requests k slot x there).1 same;
       }) new.packets before
 
+  chained_after : AreChained t.handles t.requests t.next_handle t.chains → AreChained t'.handles t'.requests t'.next_handle t'.chains
+  chained_after chained =
+      subst (λ hs. AreChained hs t'.requests t'.next_handle t'.chains) (sym c.same_handles)
+      (subst (λ n. AreChained t.handles t'.requests n t'.chains) (sym c.same_next_handle) (AreChained-ended t t' done c old.state.requests k chained))
+
   pub sound_after : (put_by : List Answer) (limits : Limits) → AreDistinct old.state → IsSoundWith put_by limits old t → IsSoundWith t'.answered.items limits new t'
   sound_after put_by limits distinct s = record {
     fits = FitsBelow-same limits old new h.moves.same_rules h.moves.same_most s.fits;
@@ -193,6 +200,8 @@ module _ (takes_srb : Bool) (old new : DeviceView) (request : Request) (done : D
     rising = rw c.untaken (inserted_rises (answer_for c.request done) t.untaken.items (others_untaken s.apart) s.rising);
     given = given_after distinct s.numbers.rising s.given;
     apart = apart_after s.apart;
+    chained = chained_after s.chained;
+    counted = subst (λ hs. AreCounted hs t'.requests t'.open_counts) (sym c.same_handles) (AreCounted-ended t t' done c s.chained s.counted);
   }
 
 -- ONE AFTER ANOTHER
@@ -404,6 +413,8 @@ told_sound limits mid new t t' t'' taken s kept none e removal label_places answ
       rising = s.rising;
       given = s.given;
       apart = s.apart;
+      chained = s.chained;
+      counted = s.counted;
     }))
 
 -- the bounds of the tables' places

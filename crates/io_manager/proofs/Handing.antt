@@ -1,6 +1,6 @@
 -- A handle given, or refused, is a right step.
-use Rattle.std.proofs.Common.{◌≡◌, ◌<◌, ◌≤◌, inl, inr, ℕ, ◌+◌, ◌^◌, false, List, [], ◌∷◌, Option, Some, None, refl, sym, ◌∙◌, ap, subst, arith, length}
-use Rattle.std.specs.Prelude.{nat_le}
+use Rattle.std.proofs.Common.{◌≡◌, ◌<◌, inl, inr, ℕ, ◌+◌, false, List, [], ◌∷◌, Option, Some, None, refl, sym, ◌∙◌, ap, subst, arith, length}
+use Rattle.std.specs.Prelude.{nat_le, slice_set}
 use Rattle.std.proofs.lemmas.Bool.{cases_eq, leb-false}
 use Rattle.slab.specs.Slab.{Slab, get, slab_len, Updates as SlabUpdates}
 use Rattle.ntstatus.specs.declared.NtStatus.{NtStatus}
@@ -24,6 +24,8 @@ use Rattle.pnp.specs.declared.State.TheVariants.{Started, RemovePending, Removin
 use Rattle.machine.specs.Rules.{Rules}
 use Rattle.machine.specs.State.{State}
 use Rattle.io_manager.specs.Admitting.{is_going, handle_refusal, OpensHandle}
+use Rattle.io_manager.proofs.Chained.{AreChained-opened}
+use Rattle.io_manager.proofs.Counted.{AreCounted-opened}
 use Rattle.io_manager.proofs.Quiet.{right_alone, IsRightBy-unmoved}
 use Rattle.io_manager.proofs.Stepping.{ManagerKept-still}
 
@@ -54,11 +56,11 @@ on_map rules old new slot given updates known h other handle there = elim (cases
   | inr apart ↦ h other handle (sym (updates.others other apart) ∙ there)
 ]
 
-given_sound : (limits : Limits) (below : DeviceView) (old : Tables) (handles : Slab OpenHandle) (partition slot number : ℕ) → IsSound limits below old
+given_sound : (limits : Limits) (below : DeviceView) (old : Tables) (handles : Slab OpenHandle) (counts : List ℕ) (partition slot : ℕ) → IsSound limits below old → get old.handles slot ≡ None → slot < 64 → counts ≡ slice_set old.open_counts slot 0
     → handle_refusal old partition (length below.rules.partitions) ≡ None
-    → SlabUpdates old.handles handles slot (Some (record { number = number; partition = partition })) → handles.capacity ≡ old.handles.capacity
-    → IsSound limits below (record old { next_handle = old.next_handle + 1; handles = handles })
-given_sound limits below old handles partition slot number h admitted updates slots =
+    → SlabUpdates old.handles handles slot (Some (record { number = old.next_handle; partition = partition })) → handles.capacity ≡ old.handles.capacity
+    → IsSound limits below (record old { next_handle = old.next_handle + 1; handles = handles; open_counts = counts })
+given_sound limits below old handles counts partition slot h free in_range counts_are admitted updates slots =
     let a : (are_used_up old.next_handle ≡ false) × _ = none_first (are_used_up old.next_handle) BusyStatus _ admitted in
     let g : (is_going old.state ≡ false) × _ = none_first (is_going old.state) PendingStatus _ a.1 in
     let b : (nat_le (length below.rules.partitions) partition ≡ false) × _ = none_first (nat_le (length below.rules.partitions) partition) ParameterStatus _ g.1 in
@@ -83,12 +85,15 @@ given_sound limits below old handles partition slot number h admitted updates sl
       rising = h.rising;
       given = h.given;
       apart = h.apart;
+      chained = AreChained-opened old.handles handles old.requests old.next_handle old.chains h.chained slot partition free in_range updates;
+      counted = AreCounted-opened old.handles handles old.requests old.next_handle old.chains h.chained slot partition old.open_counts counts h.counted in_range updates counts_are;
     }
 
 opened_sound : (limits : Limits) (below : DeviceView) (old : Tables) (partition : ℕ) (reply : Reply) (new : Tables) → IsSound limits below old
     → OpensHandle old partition (length below.rules.partitions) reply new → IsSound limits below new
 opened_sound limits below old partition (HandleReply handle) new h opens =
-    subst (IsSound limits below) (sym opens.after) (given_sound limits below old new.handles partition handle.slot handle.number h opens.not_refused opens.opens opens.slots)
+    subst (IsSound limits below) (sym opens.after) (given_sound limits below old new.handles new.open_counts partition handle.slot h opens.was_free (let low : handle.slot < old.handles.capacity = opens.in_range in let slots : old.handles.capacity ≡ 64 = h.places.handles in omega (arith, low, slots)) opens.counts opens.not_refused
+    (subst (λ n. SlabUpdates old.handles new.handles handle.slot (Some (let given : OpenHandle = record { number = n; partition = partition } in given))) opens.next_number opens.opens) opens.slots)
 opened_sound limits below old partition (Refused reason bytes) new h opens = subst (IsSound limits below) (sym opens.2) h
 opened_sound limits below old partition OkReply new h opens = absurd opens
 opened_sound limits below old partition (Requested id) new h opens = absurd opens

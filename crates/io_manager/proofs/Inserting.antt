@@ -1,15 +1,17 @@
 -- Answers put in their place by number.
-use Rattle.std.proofs.Common.{◌≡◌, ◌≤◌, ℕ, suc, ◌+◌, ◌-◌, true, false, List, [], ◌∷◌, ◌++◌, take, drop, Option, Some, None, refl, ◌∙◌, ap, arith, length}
-use Rattle.std.specs.Prelude.{IsPermutation, nat_lt, ◌==◌, ◌||◌, if◌then◌else◌}
+use Rattle.std.proofs.Common.{◌≡◌, ◌<◌, ◌≤◌, ℕ, zero, suc, ◌+◌, ◌-◌, true, false, List, [], ◌∷◌, ◌++◌, take, drop, Option, Some, None, refl, ◌∙◌, ap, arith, map, length, get_or, nat_lt}
+use Rattle.std.specs.Prelude.{IsPermutation, ◌==◌, ◌||◌, if◌then◌else◌}
 use Rattle.std.specs.List.{list_any}
+use Rattle.std.proofs.Math.ListN.{get_or-map}
 use Rattle.std.proofs.Math.Seq.{drop-append_seam, take-append_seam}
-use Rattle.std.proofs.lemmas.List.{length-drop}
+use Rattle.std.proofs.lemmas.Bool.Decides.{nat_tests}
+use Rattle.std.proofs.lemmas.List.{length-drop, length-map}
 use Rattle.std.proofs.Math.Bool.{or-true}
 use Rattle.std.proofs.lemmas.List.Sorted.{list_any-IsPermutation}
 use Rattle.io_manager.specs.declared.Answer.{Answer}
 use Rattle.io_manager.specs.Shown.{Holder}
 use Rattle.io_manager.specs.Ordering.{inserted, lower_first}
-use Rattle.io_manager.specs.Right.{is_answer_of, unless_answered}
+use Rattle.io_manager.specs.Right.{is_answer_of, unless_answered, answer_number, AreRising}
 
 pub lower_first_within : (number : ℕ) (answers : List Answer) → lower_first number answers ≤ length answers
 lower_first_within number [] = omega arith
@@ -54,3 +56,30 @@ unless_one_more answer answers more (Some holder) p =
       | true ↦ ap (λ b. if b then None else Some holder) (or-true (answer.number == holder.number))
       | false ↦ refl
     ]
+
+-- none from here on has a lower number
+pub not_lower : (number : ℕ) (answers : List Answer) (k : ℕ) (answer : Answer) → k < length answers → get_or answers k answer ≡ answer → number ≤ answer.number → lower_first number answers ≤ k
+not_lower number [] k answer within there high = omega arith
+not_lower number (first ∷ rest) zero answer within there high =
+    let e : first.number ≡ answer.number = ap (λ (x : Answer). x.number) there in
+    let test : nat_lt first.number number ≡ false = grind (arith, nat_tests) in
+    rw test (omega arith)
+not_lower number (first ∷ rest) (suc k) answer within there high =
+    let below : lower_first number rest ≤ k = not_lower number rest k answer (omega arith) there high in
+    elim (nat_lt first.number number) as (λ b. (if b then suc (lower_first number rest) else 0) ≤ suc k) [ true ↦ omega arith | false ↦ omega arith ]
+
+-- all up to here have lower numbers
+pub all_lower : (number : ℕ) (answers : List Answer) (k : ℕ) (answer : Answer) → AreRising (map answer_number answers) → k < length answers → get_or answers k answer ≡ answer → answer.number < number → k + 1 ≤ lower_first number answers
+all_lower number [] k answer rising within there low = omega arith
+all_lower number (first ∷ rest) zero answer rising within there low =
+    let e : first.number ≡ answer.number = ap (λ (x : Answer). x.number) there in
+    let test : nat_lt first.number number ≡ true = grind (arith, nat_tests) in
+    rw test (omega arith)
+all_lower number (first ∷ rest) (suc k) answer rising within there low =
+    let inside : k < length rest = omega arith in
+    let before : k + 1 ≤ lower_first number rest = all_lower number rest k answer rising.1 inside there low in
+    let is : get_or (map answer_number rest) k (answer_number answer) ≡ answer.number = get_or-map answer_number rest k answer ∙ ap answer_number there in
+    let above : first.number < get_or (map answer_number rest) k (answer_number answer) = rising.0 k (answer_number answer) (rw (length-map rest answer_number) inside) in
+    let lower : first.number < number = omega (arith, is, above, low) in
+    let test : nat_lt first.number number ≡ true = grind (arith, nat_tests) in
+    rw test (omega arith)

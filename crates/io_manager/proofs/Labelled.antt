@@ -138,4 +138,6 @@ module _ (below : DeviceView) (tables : Tables) (below' : DeviceView) (tables' :
         rising = s.rising;
         given = s.given;
         apart = s.apart;
+        chained = s.chained;
+        counted = s.counted;
       }))

@@ -1,6 +1,8 @@
 pub mod Ordering
 pub mod Inserting
-pub mod Lowest
+pub mod Chaining
+pub mod Chained
+pub mod Counted
 pub mod Over
 pub mod Askings
 pub mod Starting

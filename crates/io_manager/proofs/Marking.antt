@@ -24,9 +24,12 @@ use Rattle.io_manager.specs.declared.cancelling.Place.{Place}
 use Rattle.io_manager.specs.declared.tables.OpenRequest.{OpenRequest}
 use Rattle.io_manager.specs.declared.tables.Tables.{Tables}
 use Rattle.io_manager.specs.Cancelling.{as_marked, IsLowestToMark, MarksAt, CancelsSlot, IsUnmarked, IsBelowUnmarked, CancelsAll}
+use Rattle.io_manager.specs.Chains.{of_handle}
 use Rattle.io_manager.specs.Ordering.{HasOtherNumber}
 use Rattle.io_manager.specs.Right.{as_cancel, AreRising, IsAbove}
 use Rattle.io_manager.specs.Sound.{holder_of, holders_of, IsHeldAt, AreHeld, IsTopmost, IsSpotted, AreApart, IsSound}
+use Rattle.io_manager.proofs.Chained.{IsKept, AreChained-less}
+use Rattle.io_manager.proofs.Counted.{AreCounted-same}
 use Rattle.io_manager.proofs.Askings.{KeepsAsked-same, asks_same, AreHeld-along}
 use Rattle.io_manager.proofs.Fitted.{FitsBelow-same, IsInState-fewer}
 
@@ -178,6 +181,42 @@ module _ (old new : Slab OpenRequest) (slot : ℕ) (request : OpenRequest) (ther
         s.spot other before.0 before.1 (sym (number_before x before.0 other before.2) ∙ same) ∙ sym (spot_before x before.0 other before.2);
   }
 
+  still_kept : (other : ℕ) (x : OpenRequest) → get new other ≡ Some x → IsKept old slot other x
+  still_kept other x at =
+      let before : (y : OpenRequest) × (get old other ≡ Some y) × ((x ≡ y) ⊎ ((other ≡ slot) × (x ≡ as_marked y))) = held_before other x at in
+      record {
+        before = before.0;
+        there = before.1;
+        same_handle = of_handle x before.0 other before.2;
+        same_slot = at_handle x before.0 other before.2;
+        unmarked = λ not_yet. (
+          unmarked_before x before.0 other before.2 not_yet,
+          λ same.
+              let is : as_marked request ≡ x = same_item (as_marked request) x (sym updates.changed ∙ ap (get new) (sym same) ∙ at) in
+              let e : true ≡ false = ap (λ (r : OpenRequest). r.cancelled) is ∙ not_yet in
+              cc (e),
+        );
+      }
+    where
+      of_handle : (x y : OpenRequest) (other : ℕ) → (x ≡ y) ⊎ ((other ≡ slot) × (x ≡ as_marked y)) → x.handle ≡ y.handle
+      of_handle x y other (inl same) = ap (λ (r : OpenRequest). r.handle) same
+      of_handle x y other (inr marked) = ap (λ (r : OpenRequest). r.handle) marked.1
+
+      at_handle : (x y : OpenRequest) (other : ℕ) → (x ≡ y) ⊎ ((other ≡ slot) × (x ≡ as_marked y)) → x.handle_slot ≡ y.handle_slot
+      at_handle x y other (inl same) = ap (λ (r : OpenRequest). r.handle_slot) same
+      at_handle x y other (inr marked) = ap (λ (r : OpenRequest). r.handle_slot) marked.1
+
+      unmarked_before : (x y : OpenRequest) (other : ℕ) → (x ≡ y) ⊎ ((other ≡ slot) × (x ≡ as_marked y)) → x.cancelled ≡ false → x ≡ y
+      unmarked_before x y other (inl same) not_yet = same
+      unmarked_before x y other (inr marked) not_yet = let e : true ≡ false = ap (λ (r : OpenRequest). r.cancelled) (sym marked.1) ∙ not_yet in cc (e)
+
+  -- the cancel flag counts for nothing
+  same_count : (other number : ℕ) → of_handle (get new other) number ≡ of_handle (get old other) number
+  same_count other number = elim (cases_eq other slot) [
+    | inl same ↦ ap (λ x. of_handle (get new x) number) same ∙ ap (λ x. of_handle x number) updates.changed ∙ sym (ap (λ x. of_handle x number) there) ∙ ap (λ x. of_handle (get old x) number) (sym same)
+    | inr apart ↦ ap (λ x. of_handle x number) (updates.others other apart)
+  ]
+
   still_apart : (answers : List Answer) → AreApart old answers → AreApart new answers
   still_apart answers h other x there' =
       let before : (y : OpenRequest) × (get old other ≡ Some y) × ((x ≡ y) ⊎ ((other ≡ slot) × (x ≡ as_marked y))) = held_before other x there' in
@@ -222,6 +261,10 @@ marked_sound limits below below' tables tables' slot place h distinct m cancels 
       rising = h.rising;
       given = h.given;
       apart = still_apart tables.requests tables'.requests slot m.request m.there m.marks tables.untaken.items h.apart;
+      chained =
+          AreChained-less tables.handles tables.requests tables'.requests tables.next_handle tables.chains h.chained slot (still_kept tables.requests tables'.requests slot m.request m.there m.marks)
+          m.request m.there m.not_yet tables'.chains m.chains (λ other x apart there. m.marks.others other apart ∙ there) (λ other x there same. h.held.one_slot other slot x m.request there m.there same);
+      counted = AreCounted-same tables.handles tables.requests tables'.requests tables.open_counts h.counted (same_count tables.requests tables'.requests slot m.request m.there m.marks);
     })
 
 -- HOW MANY CAN BE CANCELLED
@@ -399,7 +442,7 @@ module _ (below0 : DeviceView) (tables0 : Tables) (handle : ℕ) (below : Device
     same_holders = holders_same tables.requests tables'.requests slot c.marks.request c.marks.there c.marks.slots_are ∙ h.same_holders;
     tells = told_more;
     label_places = c.marks.label_places ∙ h.label_places;
-    after = c.marks.after ∙ ap (λ (t : Tables). record t { requests = tables'.requests; labels = tables'.labels }) h.after;
+    after = c.marks.after ∙ ap (λ (t : Tables). record t { requests = tables'.requests; chains = tables'.chains; labels = tables'.labels }) h.after;
     run = run_more;
     beside = IsBeside-trans below0 below below' h.beside c.beside;
   }

@@ -23,6 +23,7 @@ use Rattle.io_manager.specs.Right.{AreRising, answer_number}
 use Rattle.io_manager.specs.Inside.{WritesInside}
 use Rattle.io_manager.specs.Sound.{rules_of, shown_state, is_gone, holders_of, view_of, FitsBelow, HasNumbers, IsHeldAt, AreHeld, HasPlaces, IsTopmost, IsSpotted, WasGiven, IsInState, IsSound, ManagerKept}
 use Rattle.io_manager.specs.Opening.{IsUnasked, AreFor, AreEmpty, IsFirstView}
+use Rattle.io_manager.proofs.Chained.{AreChained-empty}
 use Rattle.machine_laws.proofs.DiskMap.{slice_is_part, length-part}
 
 -- the arrays of a map's partitions are whole
@@ -126,6 +127,8 @@ module _ (limits : Limits) (below : DeviceView) (tables : Tables) (orderly : IsO
     rising = subst (λ (xs : List Answer). AreRising (map answer_number xs)) (sym empty.no_answers) tt;
     given = subst (All (WasGiven tables.next_request)) (sym empty.no_answers) (All-nil (WasGiven tables.next_request));
     apart = λ slot request there. absurd (none_there tables.requests slot request empty.no_requests there);
+    chained = AreChained-empty tables.handles tables.requests tables.next_handle tables.chains empty.no_handles empty.no_requests empty.joints empty.after empty.before;
+    counted = record { places = empty.counts; counted = λ slot number o. absurd (none_there tables.handles slot o.handle empty.no_handles o.there) };
   }
 
   no_tags : below.adapter.tags ≡ []

@@ -124,6 +124,8 @@ beside_sound limits below below' tables tables1 p label h beside asks in_state m
       rising = h.rising;
       given = h.given;
       apart = h.apart;
+      chained = h.chained;
+      counted = h.counted;
     })
 
 module _ (limits : Limits) (below : DeviceView) (tables : Tables) (old : ManagerView) (kept : ManagerKept limits below tables) (shown : view_of limits below tables ≡ old) (taken : old.labels ≡ []) where

@@ -57,6 +57,8 @@ IsSound-moves limits below tables labels below' h moves =
       rising = h.rising;
       given = h.given;
       apart = h.apart;
+      chained = h.chained;
+      counted = h.counted;
     }
 
 -- each open request is on a partition

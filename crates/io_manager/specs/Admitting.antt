@@ -1,5 +1,5 @@
 -- A call at the manager's door: what it is answered at once, and the request and the packet of one that is admitted.
-use Rattle.std.specs.Prelude.{◌≡◌, ◌<◌, ◌≤◌, ℕ, true, false, Bool, ◌+◌, ◌/◌, nat_le, List, [], ◌∷◌, ◌++◌, Option, Some, None, length, if◌then◌else◌}
+use Rattle.std.specs.Prelude.{◌≡◌, ◌<◌, ◌≤◌, ℕ, true, false, Bool, ◌+◌, ◌/◌, nat_le, List, [], ◌∷◌, ◌++◌, Option, Some, None, length, slice_index, slice_set, if◌then◌else◌}
 use Rattle.std.specs.VecDeque.{deque_len, deque_capacity}
 use Rattle.slab.specs.Slab.{get, slab_len, Updates}
 use Rattle.ntstatus.specs.declared.NtStatus.{NtStatus}
@@ -31,6 +31,7 @@ use Rattle.io_manager.specs.declared.admission.AtOnce.TheVariants.{Empty, Refuse
 use Rattle.io_manager.specs.declared.admission.Bounds.{Bounds}
 use Rattle.io_manager.specs.declared.admission.Copies.{Copies}
 use Rattle.io_manager.specs.Calls.{status_of_refusal, bytes_called, are_used_up, handle_limit}
+use Rattle.io_manager.specs.Chains.{PutsLast}
 use Rattle.io_manager.specs.Shown.{ManagerView}
 use Rattle.io_manager.specs.Sound.{IsTopmost}
 
@@ -103,13 +104,15 @@ pub record Admits (old : Tables) (handle : Handle) (q : ClientRequest) (copies :
   pub was_free : get old.requests slot ≡ None
   pub in_range : slot < old.requests.capacity
   pub holds : Updates old.requests new.requests slot
-      (Some (record { number = old.next_request; handle = handle.number; kind = q.kind; spot = spot; cancelled = false; label_bytes = copies.label_bytes }))
+      (Some (record { number = old.next_request; handle = handle.number; handle_slot = handle.slot; kind = q.kind; spot = spot; cancelled = false; label_bytes = copies.label_bytes }))
   pub counted : slab_len new.requests ≡ slab_len old.requests + 1
   pub slots : new.requests.capacity ≡ old.requests.capacity
   pub tells : new.labels.items ≡ old.labels.items ++ Call old.next_request (record q { bytes = copies.call_bytes }) ∷ []
   pub one_more : deque_len new.labels ≡ deque_len old.labels + 1
   pub label_places : deque_capacity new.labels ≡ deque_capacity old.labels
-  pub after : new ≡ record old { next_request = old.next_request + 1; requests = new.requests; latest = new.latest; labels = new.labels }
+  pub chains : PutsLast old.chains handle.slot slot new.chains
+  pub counts : new.open_counts ≡ slice_set old.open_counts handle.slot (slice_index old.open_counts handle.slot + 1)
+  pub after : new ≡ record old { next_request = old.next_request + 1; requests = new.requests; latest = new.latest; chains = new.chains; open_counts = new.open_counts; labels = new.labels }
 
 -- what refuses a handle on a partition of so many, if anything: the first that fits
 abbrev pub handle_refusal : Tables → ℕ → ℕ → Option NtStatus
@@ -128,7 +131,8 @@ pub record Gives (old : Tables) (partition partitions : ℕ) (handle : Handle) (
   pub in_range : handle.slot < old.handles.capacity
   pub opens : Updates old.handles new.handles handle.slot (Some (record { number = handle.number; partition = partition }))
   pub slots : new.handles.capacity ≡ old.handles.capacity
-  pub after : new ≡ record old { next_handle = old.next_handle + 1; handles = new.handles }
+  pub counts : new.open_counts ≡ slice_set old.open_counts handle.slot 0
+  pub after : new ≡ record old { next_handle = old.next_handle + 1; handles = new.handles; open_counts = new.open_counts }
 
 -- a handle is given, or refused and nothing changes
 abbrev pub OpensHandle : Tables → ℕ → ℕ → Reply → Tables → Type 0

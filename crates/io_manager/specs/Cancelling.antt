@@ -11,6 +11,7 @@ use Rattle.io_manager.specs.declared.Id.{Id}
 use Rattle.io_manager.specs.declared.cancelling.Place.{Place}
 use Rattle.io_manager.specs.declared.tables.OpenRequest.{OpenRequest}
 use Rattle.io_manager.specs.declared.tables.Tables.{Tables}
+use Rattle.io_manager.specs.Chains.{TakesOut}
 use Rattle.io_manager.specs.Right.{as_cancel, AreRising}
 use Rattle.io_manager.specs.Sound.{holders_of}
 
@@ -86,7 +87,8 @@ pub record MarksAt (old : Tables) (slot : ℕ) (place : Place) (new : Tables) : 
   pub tells : new.labels.items ≡ old.labels.items ++ Cancel request.number ∷ []
   pub one_more : deque_len new.labels ≡ deque_len old.labels + 1
   pub label_places : deque_capacity new.labels ≡ deque_capacity old.labels
-  pub after : new ≡ record old { requests = new.requests; labels = new.labels }
+  pub chains : TakesOut old.chains slot new.chains
+  pub after : new ≡ record old { requests = new.requests; chains = new.chains; labels = new.labels }
 
 -- and its packet is cancelled below
 pub record CancelsSlot (below : DeviceView) (tables : Tables) (slot : ℕ) (below' : DeviceView) (tables' : Tables) : Type 0 where
@@ -126,6 +128,6 @@ pub record CancelsAll (below : DeviceView) (tables : Tables) (handle : ℕ) (bel
   pub same_holders : holders_of tables'.requests ≡ holders_of tables.requests
   pub tells : tables'.labels.items ≡ tables.labels.items ++ map as_cancel numbers
   pub label_places : deque_capacity tables'.labels ≡ deque_capacity tables.labels
-  pub after : tables' ≡ record tables { requests = tables'.requests; labels = tables'.labels }
+  pub after : tables' ≡ record tables { requests = tables'.requests; chains = tables'.chains; labels = tables'.labels }
   pub run : Run below.rules below.state (map as_cancel numbers) below'.state
   pub beside : IsBeside below below'

@@ -1,5 +1,5 @@
 -- What becomes of requests that have ended, until their answers are told.
-use Rattle.std.specs.Prelude.{◌≡◌, ◌≢◌, ◌<◌, ℕ, ◌+◌, Bool, IsTrue, IsFalse, List, [], ◌++◌, Some, None, option_map, map, length, All, IsPermutation}
+use Rattle.std.specs.Prelude.{◌≡◌, ◌≢◌, ◌<◌, ℕ, ◌+◌, ◌-◌, Bool, IsTrue, IsFalse, List, [], ◌++◌, Some, None, option_map, map, length, All, IsPermutation, MatchBool, is_some, slice_index, slice_set}
 use Rattle.std.specs.VecDeque.{deque_capacity}
 use Rattle.slab.specs.Slab.{Slab, get, slab_len, Updates}
 use Rattle.ntstatus.specs.declared.NtStatus.{NtStatus}
@@ -15,9 +15,12 @@ use Rattle.machine.specs.Step.{Run, as_label}
 use Rattle.machine.specs.Sending.{IsStart}
 use Rattle.device.specs.View.{DeviceView, payload_bytes}
 use Rattle.io_manager.specs.declared.Answer.{Answer}
+use Rattle.io_manager.specs.declared.Handle.{Handle}
 use Rattle.io_manager.specs.declared.tables.OpenRequest.{OpenRequest}
 use Rattle.io_manager.specs.declared.tables.Tables.{Tables}
 use Rattle.pnp.specs.declared.State.TheVariants.{Removing, Removed}
+use Rattle.io_manager.specs.Calls.{partition_of}
+use Rattle.io_manager.specs.Chains.{TakesOut}
 use Rattle.io_manager.specs.Ordering.{inserted}
 use Rattle.io_manager.specs.Right.{AreRising, answer_number, as_answer, unless_answered, end_labels}
 use Rattle.io_manager.specs.Sound.{holder_of, SamePlaces, HasNoneToStart}
@@ -58,6 +61,11 @@ IsFilled request done = request.kind ≡ Read → done.status ≡ Success → le
 abbrev pub AreFilled : Slab OpenRequest → Done → Type 0
 AreFilled requests done = (slot : ℕ) (request : OpenRequest) → get requests slot ≡ Some request → request.number ≡ done.number → IsFilled request done
 
+-- one request fewer is open on a handle, if the handle is open still
+abbrev pub CountsOut : Tables → Handle → Tables → Type 0
+CountsOut old handle new =
+    MatchBool (is_some (partition_of old.handles.slots handle)) (new.open_counts ≡ slice_set old.open_counts handle.slot (slice_index old.open_counts handle.slot - 1)) (new.open_counts ≡ old.open_counts)
+
 -- a request that has ended leaves its slot, and its answer is put by and waits to be taken
 pub record Closes (old : Tables) (done : Done) (new : Tables) : Type 0 where
   pub slot : ℕ
@@ -68,6 +76,8 @@ pub record Closes (old : Tables) (done : Done) (new : Tables) : Type 0 where
   pub fewer : slab_len new.requests + 1 ≡ slab_len old.requests
   pub answered : new.answered.items ≡ inserted (answer_for request done) old.answered.items
   pub untaken : new.untaken.items ≡ inserted (answer_for request done) old.untaken.items
+  pub counts : CountsOut old (record { slot = request.handle_slot; number = request.handle }) new
+  pub chains : MatchBool request.cancelled (new.chains ≡ old.chains) (TakesOut old.chains slot new.chains)
   pub same_labels : new.labels ≡ old.labels
   pub same_handles : new.handles ≡ old.handles
   pub same_next_handle : new.next_handle ≡ old.next_handle

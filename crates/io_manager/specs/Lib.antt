@@ -3,6 +3,7 @@ pub mod Calls
 pub mod Ordering
 pub mod Right
 pub mod Inside
+pub mod Chains
 pub mod Sound
 pub mod Admitting
 pub mod Collecting

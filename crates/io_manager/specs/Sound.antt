@@ -1,5 +1,5 @@
 -- What the manager's tables and the device below say of each other between two calls.
-use Rattle.std.specs.Prelude.{◌≡◌, ◌≢◌, ◌<◌, ◌≤◌, ℕ, ◌+◌, ◌^◌, ◌⊎◌, Bool, true, false, List, [], ◌++◌, Option, Some, option_map, is_some, map, length, IsTrue, IsFalse, All, Contains, IsPermutation}
+use Rattle.std.specs.Prelude.{◌≡◌, ◌≢◌, ◌<◌, ◌≤◌, ℕ, ◌+◌, ◌⊎◌, Bool, true, false, List, [], ◌++◌, Option, Some, option_map, is_some, map, length, IsTrue, IsFalse, All, Contains, IsPermutation}
 use Rattle.std.specs.VecDeque.{deque_len, deque_capacity}
 use Rattle.slab.specs.Slab.{Slab, get, slab_len}
 use Rattle.srb.specs.declared.DeviceLabel.{DeviceLabel}
@@ -21,6 +21,7 @@ use Rattle.io_manager.specs.declared.tables.OpenRequest.{OpenRequest}
 use Rattle.io_manager.specs.declared.tables.Tables.{Tables}
 use Rattle.io_manager.specs.Shown.{ManagerView, Holder}
 use Rattle.io_manager.specs.Calls.{number_limit, handle_limit}
+use Rattle.io_manager.specs.Chains.{AreChained, AreCounted}
 use Rattle.io_manager.specs.Ordering.{HasOtherNumber}
 use Rattle.io_manager.specs.Inside.{AllWriteInside}
 use Rattle.io_manager.specs.Right.{AreRising, answer_number, as_answer, unless_answered, AdapterMoves, end_labels}
@@ -145,6 +146,8 @@ pub record IsSoundWith (put_by : List Answer) (limits : Limits) (below : DeviceV
   pub rising : AreRising (map answer_number tables.untaken.items)
   pub given : All (WasGiven tables.next_request) tables.untaken.items
   pub apart : AreApart tables.requests tables.untaken.items
+  pub chained : AreChained tables.handles tables.requests tables.next_handle tables.chains
+  pub counted : AreCounted tables.handles tables.requests tables.open_counts
 
 -- between two calls no answer is put by
 abbrev pub IsSound : Limits → DeviceView → Tables → Type 0

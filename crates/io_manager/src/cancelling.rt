@@ -1,10 +1,13 @@
 //! Open requests are cancelled, each by the spot of its packet below.
 
-ghost use Rattle.std.specs.Prelude.{◌≡◌, ◌≤◌, ◌<◌, [], MatchBool, MatchOption};
+ghost use Rattle.std.specs.Prelude.{◌≡◌, ◌≤◌, ◌<◌, [], true, is_some, MatchBool, MatchOption};
 ghost use Rattle.std.specs.VecDeque.{deque_len, deque_capacity};
+ghost use Rattle.io_manager.specs.Calls.{partition_of};
+ghost use Rattle.io_manager.specs.Chains.{AreChained};
 ghost use Rattle.io_manager.specs.Cancelling.{IsUsed, IsToMark, IsMarkedOrNone, IsLowestToMark, HasNoneToMark, MarksAt, CancelsSlot, CancelsUnlessMarked, CancelsAll};
 ghost use Rattle.io_manager.specs.Sound.{IsSound};
 
+use crate::Handle;
 use crate::parts::Parts;
 use crate::tables::Tables;
 use device::{Device, Label};
@@ -17,26 +20,13 @@ pub(crate) struct Place {
 }
 
 impl Tables {
-    /// The slot of the open request of a handle that is not cancelled yet and has the lowest number.
-    pub(crate) fn next_to_mark(&self, handle: u64) -> Option<usize>
-        ensures { MatchOption result (HasNoneToMark self.now.requests handle) (λ slot. IsLowestToMark self.now.requests handle slot) }
+    /// The slot of the open request of an open handle that is not cancelled yet and has the lowest number.
+    pub(crate) fn next_to_mark(&self, handle: Handle) -> Option<usize>
+        requires chained { AreChained self.now.handles self.now.requests self.now.next_handle self.now.chains }
+        requires open { is_some (partition_of self.now.handles.slots handle) ≡ true }
+        ensures { MatchOption result (HasNoneToMark self.now.requests handle.number) (λ slot. IsLowestToMark self.now.requests handle.number slot) }
     {
-        let mut next: Option<(usize, u64)> = None;
-        for slot in 0..self.requests.capacity() {
-            if let Some(request) = self.requests.get(slot) {
-                let earlier = match next {
-                    Some((_, lowest)) => request.number < lowest,
-                    None => true,
-                };
-                if earlier && request.handle == handle && !request.cancelled {
-                    next = Some((slot, request.number));
-                }
-            }
-        }
-        match next {
-            Some((slot, _)) => Some(slot),
-            None => None,
-        }
+        self.chains.first(handle.slot as usize)
     }
 
     /// Whether the open request in a slot is cancelled; so is none.
@@ -51,6 +41,7 @@ impl Tables {
 
     /// Sets the cancel flag of an open request, and tells that.
     fn mark_at(&mut self, slot: usize) -> Place
+        requires chained { AreChained self.old.handles self.old.requests self.old.next_handle self.old.chains }
         requires there { IsToMark self.old.requests slot }
         requires label_place { deque_len self.old.labels < deque_capacity self.old.labels }
         ensures { MarksAt self.old slot result self.new }
@@ -63,6 +54,7 @@ impl Tables {
             spot: request.spot,
             number: request.number,
         };
+        self.chains.take_out(slot);
         self.labels.push_back_reserved(Label::Cancel {
             number: place.number,
         });
@@ -102,17 +94,18 @@ impl<D: Device> Parts<D> {
         }
     }
 
-    /// Cancels all open requests of a handle that are not cancelled yet, by rising numbers.
-    pub(crate) fn cancel_all_of(&mut self, handle: u64)
+    /// Cancels all open requests of an open handle that are not cancelled yet, by rising numbers.
+    pub(crate) fn cancel_all_of(&mut self, handle: Handle)
         requires rooms { D.rooms_out self.old.device [] }
         requires sound { IsSound self.old.limits (D.view self.old.device) self.old.tables }
+        requires open { is_some (partition_of self.old.tables.handles.slots handle) ≡ true }
         requires untold { deque_len self.old.tables.labels ≡ 0 }
         ensures rooms { D.rooms_out self.new.device [] }
         ensures limits { self.new.limits ≡ self.old.limits }
         ensures sound { IsSound self.new.limits (D.view self.new.device) self.new.tables }
-        ensures cancels { CancelsAll (D.view self.old.device) self.old.tables handle (D.view self.new.device) self.new.tables }
+        ensures cancels { CancelsAll (D.view self.old.device) self.old.tables handle.number (D.view self.new.device) self.new.tables }
         ensures few_labels { deque_len self.new.tables.labels ≤ 64 }
-        ensures none_left { HasNoneToMark self.new.tables.requests handle }
+        ensures none_left { HasNoneToMark self.new.tables.requests handle.number }
     {
         'next: while let Some(slot) = self.tables.next_to_mark(handle) {
             self.cancel_slot(slot);

@@ -1,6 +1,6 @@
 //! What becomes of requests that have ended: their slots, their answers, and the labels of a step.
 
-ghost use Rattle.std.specs.Prelude.{◌≡◌, ◌<◌, ◌≤◌, ◌+◌, ◌^◌, ◌++◌, ℕ, false, [], map, length, MatchBool, MatchOption};
+ghost use Rattle.std.specs.Prelude.{◌≡◌, ◌<◌, ◌≤◌, ◌+◌, ◌^◌, ◌++◌, ℕ, true, false, [], is_some, map, length, slice_index, MatchBool, MatchOption};
 ghost use Rattle.std.specs.VecDeque.{deque_len, deque_capacity};
 ghost use Rattle.slab.specs.Slab.{slab_len};
 ghost use Rattle.ntstatus.specs.declared.NtStatus.TheVariants.{Success};
@@ -9,14 +9,16 @@ ghost use Rattle.device.specs.View.{payload_bytes};
 ghost use Rattle.machine.specs.Step.{as_label};
 ghost use Rattle.device.specs.Served.{HandsUpNone};
 ghost use Rattle.machine.specs.Settled.{Settled};
-ghost use Rattle.io_manager.specs.Collecting.{IsAt, HasNone, AreFilled, Closes, EndsRemoval, TakesEnded, Gathers, brought, unlabelled};
-ghost use Rattle.io_manager.specs.Right.{as_answer};
+ghost use Rattle.io_manager.specs.Calls.{partition_of};
+ghost use Rattle.io_manager.specs.Chains.{AreChained, AreCounted};
+ghost use Rattle.io_manager.specs.Collecting.{IsAt, HasNone, AreFilled, CountsOut, Closes, EndsRemoval, TakesEnded, Gathers, brought, unlabelled};
+ghost use Rattle.io_manager.specs.Right.{as_answer, AreRising, answer_number};
 ghost use Rattle.io_manager.specs.Sound.{IsSound, IsSoundWith, TakesLabels, Collects};
 
-use crate::Answer;
 use crate::parts::Parts;
 use crate::rising::insert_rising;
 use crate::tables::{OpenRequest, REMAINDERS, Tables};
+use crate::{Answer, Handle};
 use device::{Device, Kind, Label};
 use irp::{Climb, Done, Payload};
 use ntstatus::NtStatus;
@@ -80,13 +82,28 @@ impl Tables {
         None
     }
 
+    /// One request fewer is open on a handle, if that is open still.
+    fn count_out(&mut self, handle: Handle)
+        requires { is_some (partition_of self.old.handles.slots handle) ≡ true → (handle.slot < 64) × (0 < slice_index self.old.open_counts handle.slot) }
+        ensures counts { CountsOut self.old handle self.new }
+        ensures after { self.new ≡ record self.old { open_counts = self.new.open_counts } }
+    {
+        if self.partition_of(handle).is_some() {
+            self.open_counts[handle.slot as usize] -= 1;
+        }
+    }
+
     /// Closes a request that has ended: its answer waits to be taken, and its label is put by.
     fn close(&mut self, done: Done)
         requires number { done.number < 2 ^ 64 }
+        requires chained { AreChained self.old.handles self.old.requests self.old.next_handle self.old.chains }
+        requires counted { AreCounted self.old.handles self.old.requests self.old.open_counts }
         requires held { (slot : ℕ) × IsAt self.old.requests done.number slot }
         requires filled { AreFilled self.old.requests done }
         requires answered_place { deque_len self.old.answered < deque_capacity self.old.answered }
         requires untaken_place { deque_len self.old.untaken < deque_capacity self.old.untaken }
+        requires answered_rising { AreRising (map answer_number self.old.answered.items) }
+        requires untaken_rising { AreRising (map answer_number self.old.untaken.items) }
         ensures { Closes self.old done self.new }
     {
         let Done {
@@ -102,6 +119,11 @@ impl Tables {
         let Some(open) = self.requests.try_remove(slot) else {
             unreachable!()
         };
+        self.chains.take_out_unless(slot, open.cancelled);
+        self.count_out(Handle {
+            slot: open.handle_slot,
+            number: open.handle,
+        });
         let brought = bytes_of(*self.untaken.allocator(), payload);
         let (bytes, label_bytes) = open.answer_bytes(status, brought);
         insert_rising(
@@ -184,6 +206,7 @@ impl<D: Device> Parts<D> {
         requires rooms { D.rooms_out self.old.device [] }
         requires sound { IsSoundWith self.old.tables.answered.items self.old.limits (D.view self.old.device) self.old.tables }
         requires few { deque_len self.old.tables.answered + slab_len self.old.tables.requests ≤ 64 }
+        requires rising { AreRising (map answer_number self.old.tables.answered.items) }
         ensures rooms { D.rooms_out self.new.device [] }
         ensures limits { self.new.limits ≡ self.old.limits }
         ensures sound { IsSoundWith self.new.tables.answered.items self.new.limits (D.view self.new.device) self.new.tables }

@@ -10,6 +10,7 @@
 
 mod admission;
 mod cancelling;
+mod chains;
 mod collecting;
 mod manager;
 mod opening;

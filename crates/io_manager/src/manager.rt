@@ -74,7 +74,7 @@ impl<D: Device> IoManager<D> {
         if self.parts.tables.partition_of(handle).is_none() {
             return refused_alone(alloc, Refusal::InvalidHandle);
         }
-        self.parts.cancel_all_of(handle.number);
+        self.parts.cancel_all_of(handle);
         self.parts.tables.close_handle(handle.slot);
         self.parts.collect();
         Reply::Ok
@@ -295,10 +295,10 @@ impl<D: Device> IoManager<D> {
         requires open { IsHandleOpen self.old handle }
         ensures right { IsRight (CancelReplies self.old handle None result self.new) self.old self.new }
     {
-        if !self.parts.tables.has_open(handle.number) {
+        if !self.parts.tables.has_open(handle) {
             return refused_alone(alloc, Refusal::NotFound);
         }
-        self.parts.cancel_all_of(handle.number);
+        self.parts.cancel_all_of(handle);
         self.parts.collect();
         Reply::Ok
     }

@@ -5,6 +5,7 @@ ghost use Rattle.io_manager.specs.Sound.{HasPlaces};
 ghost use Rattle.io_manager.specs.Opening.{IsUnasked, AreFor, AreEmpty, IsFirstView};
 
 use crate::Limits;
+use crate::chains::Chains;
 use crate::manager::IoManager;
 use crate::parts::Parts;
 use crate::tables::{HANDLE_LIMIT, LABEL_PLACES, REMAINDERS, Tables};
@@ -51,6 +52,8 @@ impl Tables {
             handles: slots(alloc, HANDLE_LIMIT)?,
             requests: slots(alloc, limits.open_requests as usize)?,
             latest: [0; REMAINDERS],
+            chains: Chains::new(),
+            open_counts: [0; HANDLE_LIMIT],
             labels: VecDeque::with_capacity(alloc, LABEL_PLACES)?,
             answered: VecDeque::with_capacity(alloc, ANSWER_PLACES)?,
             untaken: VecDeque::new(alloc),

@@ -1,11 +1,12 @@
 //! The parts of a manager in the middle of a step, where a room may be out and answers not told yet.
 
-ghost use Rattle.std.specs.Prelude.{◌≡◌, ◌≢◌, ◌≤◌, ◌<◌, ◌+◌, ◌^◌, false, [], ◌∷◌, length, IfOk, OnOk, OnErr};
+ghost use Rattle.std.specs.Prelude.{◌≡◌, ◌≢◌, ◌≤◌, ◌<◌, ◌+◌, ◌^◌, true, false, [], is_some, ◌∷◌, length, IfOk, OnOk, OnErr};
 ghost use Rattle.std.specs.VecDeque.{deque_len, deque_capacity};
 ghost use Rattle.slab.specs.Slab.{slab_len};
 ghost use Rattle.machine.specs.declared.Kind.TheVariants.{Write};
 ghost use Rattle.device.specs.View.{IsBounded};
 ghost use Rattle.device.specs.Served.{Reserves};
+ghost use Rattle.io_manager.specs.Calls.{partition_of};
 ghost use Rattle.io_manager.specs.Admitting.{request_of, HasCopies, IsSent, KeepsAnswers, IsAdmissible};
 ghost use Rattle.io_manager.specs.Sound.{IsSound, view_of};
 
@@ -72,6 +73,7 @@ impl<D: Device> Parts<D> {
         requires ready { D.ready room }
         requires sound { IsSound self.old.limits (D.view self.old.device) self.old.tables }
         requires untold { self.old.tables.labels.items ≡ [] }
+        requires open { is_some (partition_of self.old.tables.handles.slots handle) ≡ true }
         requires admissible { IsAdmissible (view_of self.old.limits (D.view self.old.device) self.old.tables) request }
         requires room { D.request_of room ≡ request_of self.old.limits.sector_size request }
         requires copies { HasCopies request.kind buffer copies }

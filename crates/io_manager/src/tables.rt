@@ -1,14 +1,16 @@
 //! What the manager keeps beside the device: handles, open requests, the plug and play state, labels and answers.
 
-ghost use Rattle.std.specs.Prelude.{◌≡◌, ◌≤◌, ◌<◌, ◌+◌, ◌^◌, ◌++◌, ◌∷◌, [], false, MatchBool};
+ghost use Rattle.std.specs.Prelude.{◌≡◌, ◌≤◌, ◌<◌, ◌+◌, ◌^◌, ◌++◌, ◌∷◌, [], true, false, is_some, MatchBool};
 ghost use Rattle.std.specs.VecDeque.{deque_len, deque_capacity};
 ghost use Rattle.slab.specs.Slab.{HasRoomFor};
 ghost use Rattle.io_manager.specs.declared.Reply.TheVariants.{Refused as RefusedReply};
 ghost use Rattle.io_manager.specs.Calls.{partition_of, are_used_up, handle_limit};
+ghost use Rattle.io_manager.specs.Chains.{AreChained, AreCounted};
 ghost use Rattle.io_manager.specs.Cancelling.{ClosesSlot, HasSome, HasNoneOf, IsOpenAt, IsNotOpenAt};
 ghost use Rattle.io_manager.specs.Admitting.{AnswersAtOnce, Admits, OpensHandle, status_at_once, reply_at_once, is_going};
 
 use crate::admission::{AtOnce, Copies};
+use crate::chains::Chains;
 use crate::{Answer, Handle, Id, OpenHandle, Refusal, Reply};
 use device::{ClientRequest, Kind, Label};
 use ntstatus::NtStatus;
@@ -36,6 +38,8 @@ pub(crate) struct OpenRequest {
     pub(crate) number: u64,
     /// The number of its call's handle.
     pub(crate) handle: u64,
+    /// And its slot.
+    pub(crate) handle_slot: u32,
     pub(crate) kind: Kind,
     /// Where the device below has its packet.
     pub(crate) spot: usize,
@@ -56,6 +60,10 @@ pub(crate) struct Tables {
     pub(crate) requests: Slab<OpenRequest>,
     /// The slot of the latest request with each remainder: where its number is most likely found.
     pub(crate) latest: [u32; REMAINDERS],
+    /// The requests that are not cancelled yet, by handle.
+    pub(crate) chains: Chains,
+    /// How many requests are open on the handle in each slot.
+    pub(crate) open_counts: [u8; HANDLE_LIMIT],
     /// Not yet taken, in order.
     pub(crate) labels: VecDeque<Label>,
     /// The labels of the answers of this step, by rising numbers.
@@ -135,6 +143,7 @@ impl Tables {
         let slot = self
             .handles
             .insert_reserved(OpenHandle { number, partition });
+        self.open_counts[slot] = 0;
         Reply::Handle(Handle {
             slot: slot as u32,
             number,
@@ -148,18 +157,14 @@ impl Tables {
         let _ = self.handles.try_remove(slot as usize);
     }
 
-    /// Whether a handle of this number has an open request.
-    pub(crate) fn has_open(&self, handle: u64) -> bool
-        ensures { MatchBool result (HasSome self.now.requests handle) (HasNoneOf self.now.requests handle) }
+    /// Whether an open handle has an open request.
+    pub(crate) fn has_open(&self, handle: Handle) -> bool
+        requires open { is_some (partition_of self.now.handles.slots handle) ≡ true }
+        requires chained { AreChained self.now.handles self.now.requests self.now.next_handle self.now.chains }
+        requires counted { AreCounted self.now.handles self.now.requests self.now.open_counts }
+        ensures { MatchBool result (HasSome self.now.requests handle.number) (HasNoneOf self.now.requests handle.number) }
     {
-        for slot in 0..self.requests.capacity() {
-            if let Some(request) = self.requests.get(slot) {
-                if request.handle == handle {
-                    return true;
-                }
-            }
-        }
-        false
+        self.open_counts[handle.slot as usize] > 0
     }
 
     /// Whether this request is open, on a handle of this number.
@@ -218,7 +223,10 @@ impl Tables {
         requires numbers_last { are_used_up self.old.next_request ≡ false }
         requires label_place { deque_len self.old.labels < deque_capacity self.old.labels }
         requires free_slot { HasRoomFor self.old.requests 1 }
-        requires slots { self.old.requests.capacity < 2 ^ 32 }
+        requires slots { self.old.requests.capacity ≤ 64 }
+        requires chained { AreChained self.old.handles self.old.requests self.old.next_handle self.old.chains }
+        requires counted { AreCounted self.old.handles self.old.requests self.old.open_counts }
+        requires open { is_some (partition_of self.old.handles.slots handle) ≡ true }
         ensures { Admits self.old handle request copies spot result self.new }
     {
         let Copies {
@@ -230,12 +238,15 @@ impl Tables {
         let slot = self.requests.insert_reserved(OpenRequest {
             number,
             handle: handle.number,
+            handle_slot: handle.slot,
             kind: request.kind,
             spot,
             cancelled: false,
             label_bytes,
         });
         self.latest[number as usize % REMAINDERS] = slot as u32;
+        self.chains.put_last(handle.slot as usize, slot);
+        self.open_counts[handle.slot as usize] += 1;
         let request = ClientRequest {
             bytes: call_bytes,
             ..request

@@ -1,6 +1,7 @@
-use Rattle.std.proofs.Common.{◌≡◌, ◌≤◌, ◌+◌, []}
-use Rattle.std.specs.Prelude.{count_by}
+use Rattle.std.proofs.Common.{◌≡◌, ◌≤◌, ◌+◌, [], true}
+use Rattle.std.specs.Prelude.{count_by, is_some}
 use Rattle.std.specs.VecDeque.{deque_len}
+use Rattle.io_manager.specs.Calls.{partition_of}
 use Rattle.io_manager.specs.Cancelling.{CancelsAll}
 use Rattle.io_manager.specs.Sound.{IsSound}
 use Rattle.io_manager.proofs.Marking.{is_unmarked}
@@ -11,8 +12,9 @@ invariant-next g l = record {
   rooms : g.D.Device.rooms_out l.self.device [];
   limits : l.self.limits ≡ l.initial.self.limits;
   sound : IsSound l.self.limits (g.D.Device.view l.self.device) l.self.tables;
+  is_open : is_some (partition_of l.self.tables.handles.slots l.handle) ≡ true;
   few : deque_len l.self.tables.labels + count_by is_unmarked (g.D.Device.view l.self.device).state.requests ≤ 64;
-  cancels : CancelsAll (g.D.Device.view l.initial.self.device) l.initial.self.tables l.handle (g.D.Device.view l.self.device) l.self.tables;
+  cancels : CancelsAll (g.D.Device.view l.initial.self.device) l.initial.self.tables l.handle.number (g.D.Device.view l.self.device) l.self.tables;
 }
 
 abbrev pub decreases-next : goal.decreases-next
