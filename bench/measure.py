@@ -7,53 +7,87 @@ import tempfile
 SETTINGS = """sector_size = {size}
 sectors = {sectors}
 max_transfer = {transfer}
-depth = 1
-window = 1
-open_requests = 1
+depth = {depth}
+window = {depth}
+open_requests = {depth}
 [[partition]]
 first = 1
 count = {count}
 """
 
 
-def small(rounds):
-    """One-sector writes and reads, each carried out and finished at once."""
-    lines = ['open 0']
+def small(rounds, out):
+    """One-sector writes and reads, of which so many are out at any time."""
+    def request(turn):
+        offset = turn * 7 % 1000 * 512
+        return 'read 1 %d 512' % offset if turn % 2 else 'write 1 %d 512 %02x' % (offset, turn % 256)
+    yield 'open 0'
+    for turn in range(out):
+        yield request(turn)
     for turn in range(rounds):
-        offset = turn % 1000 * 512
-        lines += ['write 1 %d 512 %02x' % (offset, turn % 256), 'act 0', 'finish 0']
-        lines += ['read 1 %d 512' % offset, 'act 0', 'finish 0']
-    return lines
+        yield 'act %d' % (turn % out)
+        yield 'finish %d' % (turn % out)
+        yield request(out + turn)
+
+
+def mixed(rounds):
+    """Reads of sixteen sectors, each full of another byte."""
+    yield 'open 0'
+    for sector in range(16):
+        yield 'write 1 %d 512 %02x' % (sector * 512, sector)
+        yield from ['act 0', 'finish 0']
+    for _ in range(rounds):
+        yield from ['read 1 0 8192', 'act 0', 'finish 0']
+
+
+def refused(rounds):
+    """Calls of the greatest length, which the partition does not hold, in turn of one byte and of another."""
+    yield 'open 0'
+    for turn in range(rounds):
+        yield 'write 1 0 268439552 %02x' % (turn % 2)
 
 
 def long(length):
     """One write and one read of so many bytes."""
-    return ['open 0', 'write 1 0 %d a5' % length, 'act 0', 'finish 0', 'read 1 0 %d' % length, 'act 0', 'finish 0']
+    yield from ['open 0', 'write 1 0 %d a5' % length, 'act 0', 'finish 0', 'read 1 0 %d' % length, 'act 0', 'finish 0']
 
 
-def measure(program, name, settings, lines):
+def measure(program, name, settings, lines, times):
     with tempfile.TemporaryDirectory() as folder:
         config = os.path.join(folder, 'config.toml')
         script = os.path.join(folder, 'script')
         with open(config, 'w') as f:
             f.write(settings)
+        # Line by line: a child's most memory counts what this process had when it began.
+        events = asked = 0
         with open(script, 'w') as f:
-            f.write('\n'.join(lines) + '\n')
-        with open(os.path.join(folder, 'out'), 'wb') as out:
-            child = subprocess.Popen([program, 'trace', config, script], stdout=out)
-            _, status, used = os.wait4(child.pid, 0)
-        seconds = used.ru_utime + used.ru_stime
-        print('%-12s %7d events, %6.2f s of processor time, %9.0f events a second, %6.0f MB at most, status %d' % (
-            name, len(lines), seconds, len(lines) / max(seconds, 1e-6), used.ru_maxrss / 1024, os.WEXITSTATUS(status)))
+            for line in lines:
+                f.write(line + '\n')
+                events += 1
+                if line.startswith(('read', 'write')):
+                    asked += int(line.split()[3])
+        user, both = [], []
+        for _ in range(times):
+            with open(os.path.join(folder, 'out'), 'wb') as out:
+                child = subprocess.Popen([program, 'trace', config, script], stdout=out)
+                _, status, used = os.wait4(child.pid, 0)
+            user.append(used.ru_utime)
+            both.append(used.ru_utime + used.ru_stime)
+        seconds = max(min(both), 1e-6)
+        print('%-13s %6d events: %.3f s of user time, %.3f s with system, the least of %d; a second %.0f events, %.1f MB asked for; %.0f MB at most; status %d' % (
+            name, events, min(user), seconds, times, events / seconds, asked / seconds / 1e6, used.ru_maxrss / 1024, os.WEXITSTATUS(status)))
 
 
 def main():
     program = sys.argv[1]
-    disk = SETTINGS.format(size=512, sectors=4096, transfer=64, count=1024)
-    measure(program, 'small events', disk, small(33_333))
-    # The longest transfer of the adapter: 65,535 sectors of 4,096 bytes.
-    disk = SETTINGS.format(size=4096, sectors=65_536, transfer=65_535, count=65_535)
-    measure(program, 'long request', disk, long(65_535 * 4096))
+    disk = dict(size=512, sectors=4096, transfer=64, count=1024)
+    measure(program, 'one out', SETTINGS.format(depth=1, **disk), small(66_666, 1), 9)
+    measure(program, 'eight out', SETTINGS.format(depth=8, **disk), small(66_664, 8), 9)
+    measure(program, 'mixed reads', SETTINGS.format(depth=1, **disk), mixed(10_000), 9)
+    measure(program, 'refused calls', SETTINGS.format(depth=1, **disk), refused(20), 3)
+    # The longest transfer in one piece: 65,535 sectors of 4,096 bytes.
+    disk = SETTINGS.format(size=4096, sectors=65_536, transfer=65_535, depth=1, count=65_535)
+    measure(program, 'long request', disk, long(65_535 * 4096), 3)
 
 
 main()

@@ -2,12 +2,14 @@ mod Asked
 mod EqualBytes
 mod Flushed
 mod GivenBack
+mod Hexadecimal
 mod Parted
 mod Playing
 mod Printed
 mod PrintedLabels
 mod Reading
 mod Shifted
+mod Skipped
 mod Spelled
 mod Trims
 mod Zipped

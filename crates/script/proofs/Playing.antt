@@ -129,7 +129,7 @@ played_more old [] text mid line more new h one =
 played_more old (next ∷ lines) text mid line more new h one =
     (h.0, h.1 ++ more, h.2, h.3, played_more h.2 lines h.1 mid line more new h.4 one, ap (λ (t : List ℕ). t ++ more) h.5 ∙ append_assoc h.0 h.1 more)
 
-pub none_played : (stack : ManagerView) (given : Given) (known : Option (List ℕ)) → IsEmpty given.handles → IsEmpty given.requests
+pub none_played : (stack : ManagerView) (given : Given) (known : Option (List ℕ)) → IsEmpty given.handles → given.requests.items ≡ []
     → Prints known known (λ text. IsTraceTo stack [] text (record { stack = stack; given = given }))
 none_played stack given known no_handle no_request = record {
   text = [];

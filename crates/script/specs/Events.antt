@@ -1,5 +1,5 @@
 -- The events that a script asks for.
-use Rattle.std.specs.Prelude.{◌≡◌, ◌≢◌, ◌<◌, ℕ, nat_lt, [], Option, Some, None, replicate, if◌then◌else◌}
+use Rattle.std.specs.Prelude.{◌≡◌, ◌≢◌, ◌<◌, ℕ, nat_lt, List, [], Option, Some, None, replicate, slice_get, if◌then◌else◌}
 use Rattle.std.specs.BTreeMap.{BTreeMap, get}
 use Rattle.std.specs.Ordering.{nat_cmp}
 use Rattle.io_manager.specs.declared.Handle.{Handle}
@@ -17,22 +17,26 @@ use Rattle.script.specs.declared.numbers.Given.{Given}
 abbrev pub Handles : Type 0
 Handles = BTreeMap ℕ Handle
 
--- requests by their numbers
+-- requests, each at the place of its number
 abbrev pub Requests : Type 0
-Requests = BTreeMap ℕ Id
+Requests = List (Option Id)
 
 -- each handle stands under its own number
 abbrev pub HandlesAreNamed : Handles → Type 0
 HandlesAreNamed handles = (number : ℕ) (handle : Handle) → get nat_cmp handles number ≡ Some handle → handle.number ≡ number
 
+-- the request that was given under a number, if one was
+abbrev pub given_as : Requests → ℕ → Option Id
+given_as requests number = elim (slice_get requests number) [ Some place ↦ place | None ↦ None ]
+
 -- each request stands under its own number
 abbrev pub RequestsAreNamed : Requests → Type 0
-RequestsAreNamed requests = (number : ℕ) (id : Id) → get nat_cmp requests number ≡ Some id → id.number ≡ number
+RequestsAreNamed requests = (number : ℕ) (id : Id) → given_as requests number ≡ Some id → id.number ≡ number
 
 -- both
 pub record AreNamed (given : Given) : Type 0 where
   pub handles : HandlesAreNamed given.handles
-  pub requests : RequestsAreNamed given.requests
+  pub requests : RequestsAreNamed given.requests.items
 
 -- the handle of a number; of one that was not given out a handle that isn't open
 abbrev pub handle_of : Handles → ℕ → Handle
@@ -40,7 +44,7 @@ handle_of handles number = elim (get nat_cmp handles number) [ Some handle ↦ h
 
 -- the request of a number; of one that was not given out a request that isn't open
 abbrev pub id_of : Requests → ℕ → Id
-id_of requests number = elim (get nat_cmp requests number) [ Some id ↦ id | None ↦ record { slot = 0; number = number } ]
+id_of requests number = elim (given_as requests number) [ Some id ↦ id | None ↦ record { slot = 0; number = number } ]
 
 -- the one request that a cancel is of, if it is of one
 abbrev pub target_of : Requests → Option ℕ → Option Id
@@ -60,7 +64,7 @@ pub record KeepsRequest (id : Id) (old new : Requests) : Type 0 where
 -- what becomes of the handles and the requests by a reply
 abbrev pub Keeps : Reply → Given → Given → Type 0
 Keeps (HandleReply handle) old new = KeepsHandle handle old.handles new.handles × (new.requests ≡ old.requests)
-Keeps (Requested id) old new = KeepsRequest id old.requests new.requests × (new.handles ≡ old.handles)
+Keeps (Requested id) old new = KeepsRequest id old.requests.items new.requests.items × (new.handles ≡ old.handles)
 Keeps _ old new = new ≡ old
 
 -- the adapter has such a tag: they count from 0, and there are at most 32
@@ -74,7 +78,7 @@ IsEventOf given (Close handle) event = event ≡ CloseEvent (handle_of given.han
 IsEventOf given (Read handle offset length) event = event ≡ ReadEvent (handle_of given.handles handle) offset (replicate length 0)
 IsEventOf given (Write handle offset length byte through) event = event ≡ WriteEvent (handle_of given.handles handle) offset (replicate length byte) through
 IsEventOf given (Flush handle) event = event ≡ FlushEvent (handle_of given.handles handle)
-IsEventOf given (Cancel handle request) event = event ≡ CancelIoEx (handle_of given.handles handle) (target_of given.requests request)
+IsEventOf given (Cancel handle request) event = event ≡ CancelIoEx (handle_of given.handles handle) (target_of given.requests.items request)
 IsEventOf given (Mark request) event = event ≡ MarkEvent request
 IsEventOf given QueryRemove event = event ≡ QueryEvent
 IsEventOf given CancelRemove event = event ≡ RecallEvent

@@ -77,7 +77,7 @@ IsPlayed old (line ∷ lines) text new =
 pub record IsTraceTo (stack : ManagerView) (lines : List Line) (text : List ℕ) (end : Between) : Type 0 where
   pub given : Given
   pub no_handle : IsEmpty given.handles
-  pub no_request : IsEmpty given.requests
+  pub no_request : given.requests.items ≡ []
   pub played : IsPlayed (record { stack = stack; given = given }) lines text end
 
 -- the same, with the stack that is left

@@ -1,6 +1,6 @@
-//! Equal bytes for reads and writes. A refused call gives them back, and the next of the same length and byte takes them.
+//! Equal bytes for reads and writes. A refused call gives them back, and the next of the same length takes them.
 
-ghost use Rattle.std.specs.Prelude.{◌≡◌, [], MatchResult, replicate};
+ghost use Rattle.std.specs.Prelude.{◌≡◌, [], MatchResult, length, replicate};
 ghost use Rattle.io_manager.specs.declared.Refusal.TheVariants.{InsufficientResources};
 ghost use Rattle.io_manager.specs.declared.Reply.TheVariants.{Refused};
 ghost use Rattle.script.specs.Filling.{GivesBack, IsFilled};
@@ -36,11 +36,24 @@ impl Spare {
         ensures bytes { MatchResult result (λ bytes. bytes ≡ replicate length byte) (λ reply. reply ≡ Refused InsufficientResources []) }
     {
         let spare = mem::replace(self, Spare::new(alloc));
-        if spare.byte == byte && spare.bytes.len() as u64 == length {
-            return Ok(spare.bytes);
+        if spare.bytes.len() as u64 == length {
+            return Ok(spare.filled_with(byte));
         }
         drop(spare);
         filled(alloc, byte, length)
+    }
+
+    /// As many bytes, all this one.
+    fn filled_with(self, byte: u8) -> Bytes
+        requires { IsFilled self }
+        ensures { result ≡ replicate (length self.bytes) byte }
+    {
+        if self.byte == byte {
+            return self.bytes;
+        }
+        let mut bytes = self.bytes.into_vec();
+        bytes.fill(byte);
+        Bytes::new(bytes)
     }
 
     /// Takes the bytes that a refused read or write gave back.

@@ -1,8 +1,8 @@
 //! Handles and requests by their numbers, as replies gave them.
 
-ghost use Rattle.std.specs.Prelude.{◌≡◌, OnOk};
+ghost use Rattle.std.specs.Prelude.{◌≡◌, ◌<◌, ℕ, [], OnOk, length};
 ghost use Rattle.std.specs.BTreeMap.{IsEmpty};
-ghost use Rattle.script.specs.Events.{AreNamed, HandlesAreNamed, Keeps, KeepsHandle, KeepsRequest, RequestsAreNamed, handle_of, id_of, target_of};
+ghost use Rattle.script.specs.Events.{AreNamed, HandlesAreNamed, Keeps, KeepsHandle, KeepsRequest, RequestsAreNamed, given_as, handle_of, id_of, target_of};
 
 use compose::{Handle, Id, Reply};
 use std::alloc::{AllocError, Global};
@@ -12,19 +12,20 @@ use std::collections::BTreeMap;
 #[derive(Drop)]
 pub struct Given {
     pub handles: BTreeMap<u64, Handle>,
-    pub requests: BTreeMap<u64, Id>,
+    /// Each at the place of its number, which the manager counts.
+    pub requests: Vec<Option<Id>>,
 }
 
 impl Given {
     /// Nothing was given yet.
     pub fn new(alloc: Global) -> Given
         ensures handles { IsEmpty result.handles }
-        ensures requests { IsEmpty result.requests }
+        ensures requests { result.requests.items ≡ [] }
         ensures named { AreNamed result }
     {
         Given {
             handles: BTreeMap::new(alloc),
-            requests: BTreeMap::new(alloc),
+            requests: Vec::new(alloc),
         }
     }
 
@@ -60,19 +61,16 @@ impl Given {
     /// The request of a number; one that isn't there, where the number was not given out.
     pub fn request(&self, number: u64) -> Id
         requires { AreNamed self.now }
-        ensures request { result ≡ id_of self.now.requests number }
+        ensures request { result ≡ id_of self.now.requests.items number }
         ensures number { result.number ≡ number }
     {
-        match self.requests.get(&number) {
-            Some(id) => *id,
-            None => Id { slot: 0, number },
-        }
+        given_as(self.requests.as_slice(), number).unwrap_or(Id { slot: 0, number })
     }
 
     /// The one request that a cancel is of, if it is of one.
     pub fn target(&self, request: Option<u64>) -> Option<Id>
         requires { AreNamed self.now }
-        ensures { result ≡ target_of self.now.requests request }
+        ensures { result ≡ target_of self.now.requests.items request }
     {
         Some(self.request(request?))
     }
@@ -88,12 +86,37 @@ fn keep_handle(handles: &mut BTreeMap<u64, Handle>, handle: Handle) -> Result<()
     Ok(())
 }
 
-/// Keeps a request under its number.
-fn keep_request(requests: &mut BTreeMap<u64, Id>, id: Id) -> Result<(), AllocError>
-    requires { RequestsAreNamed requests.old }
-    ensures named { OnOk result (RequestsAreNamed requests.new) }
-    ensures kept { OnOk result (KeepsRequest id requests.old requests.new) }
+/// The request that was given under a number, if one was.
+fn given_as(requests: &[Option<Id>], number: u64) -> Option<Id>
+    ensures { result ≡ given_as requests.now number }
 {
-    requests.insert(id.number, id)?;
+    match requests.get(number as usize) {
+        Some(place) => *place,
+        None => None,
+    }
+}
+
+/// Keeps a request at the place of its number.
+fn keep_request(requests: &mut Vec<Option<Id>>, id: Id) -> Result<(), AllocError>
+    requires { RequestsAreNamed requests.old.items }
+    ensures named { OnOk result (RequestsAreNamed requests.new.items) }
+    ensures kept { OnOk result (KeepsRequest id requests.old.items requests.new.items) }
+{
+    make_place(requests, id.number as usize)?;
+    requests[id.number as usize] = Some(id);
     Ok(())
+}
+
+/// Makes a place of this number, where there is none.
+fn make_place(requests: &mut Vec<Option<Id>>, number: usize) -> Result<(), AllocError>
+    ensures place { OnOk result (number < length requests.new.items) }
+    ensures same { OnOk result ((n : ℕ) → given_as requests.new.items n ≡ given_as requests.old.items n) }
+{
+    if number < requests.len() {
+        return Ok(());
+    }
+    let Some(len) = number.checked_add(1) else {
+        return Err(AllocError);
+    };
+    requests.resize(len, None)
 }

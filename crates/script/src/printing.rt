@@ -7,10 +7,11 @@ ghost use Rattle.script.specs.Printing.{answer_line, bytes_text, call_line, devi
 
 use crate::runs::write_runs;
 use compose::{Refusal, Reply};
+use hex::encode_to_slice;
 use itoa::{Buffer, Integer};
 use machine::{ClientRequest, Kind, Label};
 use ntstatus::NtStatus;
-use srb::{Class, DeviceLabel};
+use srb::{Class, CommandBlock, DeviceLabel};
 use std::io;
 use std::io::Write;
 
@@ -36,6 +37,25 @@ pub fn write_number<W: Write, N: Integer>(out: &mut W, number: N) -> io::Result<
     ensures { OnOk result (Appends (W.contents out.old) (W.contents out.new) (N.text number)) }
 {
     out.write_all(Buffer::new().format(number).as_bytes())
+}
+
+/// Writes the number of a piece, which seldom needs the digits of 128 bits.
+fn write_piece<W: Write>(out: &mut W, piece: u128) -> io::Result<()>
+    ensures { OnOk result (Appends (W.contents out.old) (W.contents out.new) (decimal piece)) }
+{
+    match u64::try_from(piece) {
+        Ok(short) => write_number(out, short),
+        Err(_) => write_number(out, piece),
+    }
+}
+
+/// Writes a line of a word and the number of a piece.
+fn write_of_piece<W: Write>(out: &mut W, word: &[u8], piece: u128) -> io::Result<()>
+    ensures { OnOk result (Appends (W.contents out.old) (W.contents out.new) (word.now ++ (decimal piece ++ line_end))) }
+{
+    out.write_all(word)?;
+    write_piece(out, piece)?;
+    out.write_all(b"\n")
 }
 
 /// Writes a line of a word and a number.
@@ -120,18 +140,18 @@ fn write_device_label<W: Write>(out: &mut W, label: &DeviceLabel) -> io::Result<
     match label {
         DeviceLabel::Start { piece, tag, block } => {
             out.write_all(b"start ")?;
-            write_number(out, *piece)?;
+            write_piece(out, *piece)?;
             out.write_all(b" tag ")?;
             write_number(out, *tag)?;
             out.write_all(b" ")?;
-            write_hex(out, block.as_slice())?;
+            write_hex(out, block)?;
             out.write_all(b"\n")
         }
-        DeviceLabel::Act { piece, .. } => write_numbered(out, b"act ", *piece),
-        DeviceLabel::Fault { piece } => write_numbered(out, b"fault ", *piece),
+        DeviceLabel::Act { piece, .. } => write_of_piece(out, b"act ", *piece),
+        DeviceLabel::Fault { piece } => write_of_piece(out, b"fault ", *piece),
         DeviceLabel::Return { piece, class } => {
             out.write_all(b"return ")?;
-            write_number(out, *piece)?;
+            write_piece(out, *piece)?;
             out.write_all(b" ")?;
             out.write_all(word_of(class).as_bytes())?;
             out.write_all(b"\n")
@@ -139,14 +159,18 @@ fn write_device_label<W: Write>(out: &mut W, label: &DeviceLabel) -> io::Result<
     }
 }
 
-/// Writes bytes as hexadecimal digits.
-fn write_hex<W: Write>(out: &mut W, bytes: &[u8]) -> io::Result<()>
-    ensures { OnOk result (Appends (W.contents out.old) (W.contents out.new) (hex_bytes bytes.now)) }
+/// Writes the bytes of a command block as hexadecimal digits.
+#[tactic(auto, using(crate::proofs::Hexadecimal::encoded))]
+fn write_hex<W: Write>(out: &mut W, block: &CommandBlock) -> io::Result<()>
+    ensures { OnOk result (Appends (W.contents out.old) (W.contents out.new) (hex_bytes block.now)) }
 {
-    for byte in bytes {
-        write_byte(out, *byte)?;
-    }
-    Ok(())
+    let bytes = block.as_slice();
+    let mut digits = [0; 32];
+    let text = &mut digits[..2 * bytes.len()];
+    let Ok(()) = encode_to_slice(bytes, text) else {
+        unreachable!()
+    };
+    out.write_all(text)
 }
 
 /// Writes a byte as two hexadecimal digits.

@@ -8,6 +8,9 @@ use crate::printing::{write_byte, write_number};
 use std::io;
 use std::io::Write;
 
+/// Bytes that are compared at once.
+const BLOCK: usize = 256;
+
 /// Whether all bytes equal the first one: whether they are the same without the first as without the last.
 fn is_one_run(bytes: &[u8]) -> bool
     requires { 0 < length bytes.now }
@@ -26,14 +29,44 @@ fn first_run(bytes: &[u8]) -> usize
     ensures equal { All (λ byte. byte ≡ slice_index bytes.now 0) (take result bytes.now) }
     ensures longest { result < length bytes.now → slice_index bytes.now result ≢ slice_index bytes.now 0 }
 {
-    let first = bytes[0];
     if is_one_run(bytes) {
         return bytes.len();
     }
-    bytes
-        .iter()
-        .position(|byte| *byte != first)
-        .unwrap_or(bytes.len())
+    run_of(bytes, bytes[0])
+}
+
+/// The number of bytes at the front that equal this one, found block by block.
+fn run_of(bytes: &[u8], byte: u8) -> usize
+    ensures within { result ≤ length bytes.now }
+    ensures equal { All (λ b. b ≡ byte) (take result bytes.now) }
+    ensures longest { result < length bytes.now → slice_index bytes.now result ≢ byte }
+{
+    let mut rest = bytes;
+    while rest.len() >= BLOCK {
+        let (block, behind) = rest.split_at(BLOCK);
+        if !is_all(block, byte) {
+            break;
+        }
+        rest = behind;
+    }
+    bytes.len() - rest.len() + equal_bytes(rest, byte)
+}
+
+/// The same, found byte by byte.
+fn equal_bytes(bytes: &[u8], byte: u8) -> usize
+    ensures within { result ≤ length bytes.now }
+    ensures equal { All (λ b. b ≡ byte) (take result bytes.now) }
+    ensures longest { result < length bytes.now → slice_index bytes.now result ≢ byte }
+{
+    bytes.iter().position(|b| *b != byte).unwrap_or(bytes.len())
+}
+
+/// Whether all bytes are this one.
+fn is_all(bytes: &[u8], byte: u8) -> bool
+    requires { 0 < length bytes.now }
+    ensures { IsTrue result → All (λ b. b ≡ byte) bytes.now }
+{
+    bytes[0] == byte && is_one_run(bytes)
 }
 
 /// Writes bytes as runs.
