@@ -242,11 +242,11 @@ pub steps_call_once : StepsCallOnce
 steps_call_once old event reply new right =
     let t : Tells event reply old new = tells old event reply new right in
     subst (CallsFirst event) (sym t.in_order) (
-      first_of event ((t.told.own ++ map as_label t.told.device) ++ map as_answer t.told.answers) (end_labels t.told.ends) (
-        first_of event (t.told.own ++ map as_label t.told.device) (map as_answer t.told.answers)
-        (first_of event t.told.own (map as_label t.told.device) t.own.calls (All-map IsNoCall as_label t.told.device (λ k d low. tt)))
-        (All-map IsNoCall as_answer t.told.answers (λ k d low. tt))
-      ) (ended_no_call t.told.ends)
+    first_of event ((t.told.own ++ map as_label t.told.device) ++ map as_answer t.told.answers) (end_labels t.told.ends) (
+    first_of event (t.told.own ++ map as_label t.told.device) (map as_answer t.told.answers)
+    (first_of event t.told.own (map as_label t.told.device) t.own.calls (All-map IsNoCall as_label t.told.device (λ k d low. tt)))
+    (All-map IsNoCall as_answer t.told.answers (λ k d low. tt))
+    ) (ended_no_call t.told.ends)
     )
 
 -- NO MEMORY

@@ -114,10 +114,13 @@ starts_not_alone piece tag block =
 
 pub starts_not_again : NeverStarts small worn_out
 starts_not_again piece tag block =
-    never_started small worn_out piece tag block ((λ places may h asks.
-        let from : places.first ≡ 0 = omega (arith, h.inside, h.some) in
-        let left : 0 < restarts_left small r = h.spare (ap (λ first. is_back (mark_at r first)) from) in
-        absurd (omega arith)), tt)
+    never_started small worn_out piece tag block (
+      (λ places may h asks.
+          let from : places.first ≡ 0 = omega (arith, h.inside, h.some) in
+          let left : 0 < restarts_left small r = h.spare (ap (λ first. is_back (mark_at r first)) from) in
+          absurd (omega arith)),
+      tt,
+    )
   where
     r : OpenRequest
     r = record (opened 1 (write 0 2 (full_of 165)) (Back ∷ [])) { busy_returns = 2 }
