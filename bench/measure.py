@@ -1,5 +1,6 @@
-"""Makes scripts, runs the program on each, and prints what it took."""
+"""Runs the programs, and prints what it took: `trace STACKRUN` on scripts that it makes, `layers LAYER_BENCH` on both layers."""
 import os
+import statistics
 import subprocess
 import sys
 import tempfile
@@ -78,8 +79,38 @@ def measure(program, name, settings, lines, times):
             name, events, min(user), seconds, times, events / seconds, asked / seconds / 1e6, used.ru_maxrss / 1024, os.WEXITSTATUS(status)))
 
 
-def main():
-    program = sys.argv[1]
+# Requests of a run of `layer_bench`, and how often each layer is run.
+REQUESTS = 200_000
+RUNS = 15
+
+
+def nanoseconds(program, layer):
+    """Processor time for each request of one run through a layer."""
+    child = subprocess.Popen([program, layer, str(REQUESTS)], stdout=subprocess.PIPE, text=True)
+    with child.stdout:
+        said = child.stdout.read()
+    _, status, used = os.wait4(child.pid, 0)
+    want = '%s: %d of %d succeeded\n' % (layer, REQUESTS, REQUESTS)
+    if status != 0 or said != want:
+        sys.exit('%s %s: status %d, %r' % (program, layer, os.waitstatus_to_exitcode(status), said))
+    return (used.ru_utime + used.ru_stime) / REQUESTS * 1e9
+
+
+def spread(values):
+    return '%5.0f ns (%.0f to %.0f)' % (statistics.median(values), min(values), max(values))
+
+
+def layers(program):
+    """Both layers in turn, so that other work on the machine meets both; what one request takes, at the median."""
+    pairs = [(nanoseconds(program, 'port'), nanoseconds(program, 'disk')) for _ in range(RUNS)]
+    print('%-12s %7d requests of one sector, %d runs, processor time of one: port %s, class driver over it %s, more %s' % (
+        'layers', REQUESTS, RUNS,
+        spread([port for port, _ in pairs]),
+        spread([disk for _, disk in pairs]),
+        spread([disk - port for port, disk in pairs])))
+
+
+def trace(program):
     disk = dict(size=512, sectors=4096, transfer=64, count=1024)
     measure(program, 'one out', SETTINGS.format(depth=1, **disk), small(66_666, 1), 9)
     measure(program, 'eight out', SETTINGS.format(depth=8, **disk), small(66_664, 8), 9)
@@ -88,6 +119,10 @@ def main():
     # The longest transfer in one piece: 65,535 sectors of 4,096 bytes.
     disk = SETTINGS.format(size=4096, sectors=65_536, transfer=65_535, depth=1, count=65_535)
     measure(program, 'long request', disk, long(65_535 * 4096), 3)
+
+
+def main():
+    {'trace': trace, 'layers': layers}[sys.argv[1]](sys.argv[2])
 
 
 main()

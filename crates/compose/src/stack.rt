@@ -2,6 +2,7 @@
 
 ghost use Rattle.std.specs.Prelude.{◌≡◌, [], IfOk, IfErr, MatchResult};
 ghost use Rattle.machine.specs.Settled.{Settled, IsFinished};
+ghost use Rattle.machine_laws.specs.Reached.{IsReached};
 ghost use Rattle.probe.specs.Exchange.{IsIdle};
 ghost use Rattle.io_manager.specs.Right.{FitsTogether, TakesAnswer, TakesLabel as TakesFirst};
 ghost use Rattle.compose.specs.Right.{IsRight};
@@ -67,6 +68,17 @@ impl<A: Adapter> Stack<A> {
         ensures whole { FitsTogether self.new }
     {
         events::step(&mut self.manager, alloc, event)
+    }
+
+    /// What is shown between two steps is settled and fits together, a removal with nothing open has ended, and a run leads
+    /// to it, for who calls this.
+    pub fn shows_whole(&self)
+        ensures settled { Settled self.now.rules self.now.state }
+        ensures finished { IsFinished self.now.state }
+        ensures whole { FitsTogether self.now }
+        ensures reached { IsReached self.now.rules self.now.state }
+    {
+        self.manager.shows_whole()
     }
 
     /// Takes the earliest label of the last step that was not taken yet.

@@ -1,0 +1,172 @@
+-- Handles opened one after another.
+use Rattle.std.proofs.Common.{◌≡◌, ◌≢◌, ℕ, zero, suc, false, ◌+◌, ◌<◌, ◌≤◌, List, [], ◌∷◌, ◌++◌, length, Option, Some, None, option_map, slice_index_or, refl, sym, ap, ◌∙◌, subst, arith, length-append}
+use Rattle.std.specs.Prelude.{slice_get}
+use Rattle.std.proofs.lemmas.Option.{slice_get_within}
+use mathlib.Core.Logic.{dite}
+use native.Mathlib.Decide.{ℕ_discrete}
+use Rattle.machine.specs.Rules.{Rules}
+use Rattle.machine.specs.State.{State}
+use Rattle.machine_laws.specs.LabelsLeft.{labels_left}
+use Rattle.machine_laws.specs.NumberLaws.{awaited}
+use Rattle.io_manager.specs.declared.Handle.{Handle}
+use Rattle.io_manager.specs.declared.OpenHandle.{OpenHandle}
+use Rattle.io_manager.specs.declared.Refusal.{Refusal}
+use Rattle.io_manager.specs.declared.Reply.TheVariants.{Handle as HandleReply, Refused}
+use Rattle.io_manager.specs.Calls.{status_of_refusal, open_refusal}
+use Rattle.io_manager.specs.Right.{Told, labels_of, unless_answered, IsUnmoved, IsRight, IsRightBy, OpenReplies}
+use Rattle.io_manager.specs.Shown.{ManagerView, Holder}
+use Rattle.book.specs.Opening.{IsNew, IsFirst, IsOpenOn, AreOpened, KeepsAll, OpensOne}
+use Rattle.book.proofs.Noting.{get_front, get_last, some_is}
+
+-- ONE HANDLE
+
+same_number : (holder : Option Holder) → option_map (λ h. h.number) (unless_answered [] holder) ≡ option_map (λ h. h.number) holder
+same_number None = refl
+same_number (Some h) = refl
+
+keeps_all : (old new : ManagerView) (told : Told) → IsUnmoved old new told → IsRightBy false told old new → KeepsAll old new
+keeps_all old new told unmoved by = record {
+  same_rules = by.same_rules;
+  same_state = unmoved.same_state;
+  no_labels = by.in_order ∙ ap labels_of unmoved.nothing;
+  same_open = λ k.
+      ap (option_map (λ h. h.number)) (by.holders k ∙ ap (λ (t : Told). unless_answered t.answers (slice_index_or t.admitted k None)) unmoved.nothing)
+      ∙ same_number (slice_index_or old.holders k None);
+}
+
+pub opens_one : (old : ManagerView) (partition : ℕ) (handle : Handle) (new : ManagerView) → IsRight (OpenReplies old partition (HandleReply handle) new) old new → OpensOne old partition handle new
+opens_one old partition handle new right =
+    let given = right.replies.1 in
+    record {
+      keeps = keeps_all old new right.told right.replies.0 right.by;
+      number = given.next_number;
+      counted = given.counted;
+      was_free = given.was_free;
+      opens = given.opens;
+    }
+
+pub refuses_one : (old : ManagerView) (partition : ℕ) (reason : Refusal) (bytes : List ℕ) (new : ManagerView) → IsRight (OpenReplies old partition (Refused reason bytes) new) old new
+    → open_refusal new partition ≡ Some (status_of_refusal reason)
+refuses_one old partition reason bytes new right =
+    let r = right.replies.1 in
+    let rules : new.rules ≡ old.rules = right.by.same_rules in
+    let state : new.state ≡ old.state = r.unmoved.same_state in
+    let handles : new.handles ≡ old.handles = r.same_handles.handles in
+    let next : new.next_handle ≡ old.next_handle = r.same_handles.next_handle in
+    let same : open_refusal new partition ≡ open_refusal old partition = cc (rules, state, handles, next) in
+    same ∙ right.replies.0
+
+-- ALL OF THEM
+
+none_at_all : (k : ℕ) → slice_index_or {A = Option Holder} [] k None ≡ None
+none_at_all k = refl
+
+pub first_of_new : (v : ManagerView) → IsNew v → IsFirst v
+first_of_new v new = record {
+  no_labels = new.no_labels;
+  first = ap (λ s. s.next_request) new.state;
+  none_wait = ap awaited new.state;
+  none_open = λ k. ap (λ hs. option_map (λ h. h.number) (slice_index_or hs k None)) new.no_requests;
+  few_left = subst (λ (s : State). labels_left v.rules s ≤ 2) (sym new.state) (omega arith);
+}
+
+first_keeps : (old new : ManagerView) → IsFirst old → KeepsAll old new → IsFirst new
+first_keeps old new first keeps = record {
+  no_labels = keeps.no_labels;
+  first = ap (λ s. s.next_request) keeps.same_state ∙ first.first;
+  none_wait = ap awaited keeps.same_state ∙ first.none_wait;
+  none_open = λ k. keeps.same_open k ∙ first.none_open k;
+  few_left = subst (λ (s : State). labels_left new.rules s ≤ 2) (sym keeps.same_state) (subst (λ (r : Rules). labels_left r old.state ≤ 2) (sym keeps.same_rules) first.few_left);
+}
+
+-- so many handles were opened
+pub record WereOpened (partitions : List ℕ) (count : ℕ) (handles : List Handle) (old now : ManagerView) : Type 0 where
+  pub same_rules : now.rules ≡ old.rules
+  pub same_state : now.state ≡ old.state
+  pub first : IsFirst now
+  pub counted : length handles ≡ count
+  pub next : now.next_handle ≡ count + 1
+  pub number : (c : ℕ) (handle : Handle) → slice_get handles c ≡ Some handle → handle.number ≡ c + 1
+  pub opened : (c : ℕ) (handle : Handle) (partition : ℕ) → slice_get handles c ≡ Some handle → slice_get partitions c ≡ Some partition → IsOpenOn now.handles handle partition
+  pub others : (slot : ℕ) (handle : OpenHandle) → slice_index_or now.handles slot None ≡ Some handle → (c : ℕ) × (handle.number ≡ c + 1) × (c < count)
+
+pub none_opened : (partitions : List ℕ) (old : ManagerView) → IsNew old → WereOpened partitions 0 [] old old
+none_opened partitions old new = record {
+  same_rules = refl;
+  same_state = refl;
+  first = first_of_new old new;
+  counted = refl;
+  next = new.first_handle;
+  number = λ c handle is. absurd (cc (is));
+  opened = λ c handle partition is at. absurd (cc (is));
+  others = λ slot handle is. absurd (none (sym (ap (λ hs. slice_index_or hs slot None) new.no_handles) ∙ is));
+}
+  where
+    none : {X : Type 0} {x : X} → None ≡ Some x → ⊥
+    none e = absurd (cc (e))
+
+in_front : (handles : List Handle) (handle other : Handle) (c : ℕ) → slice_get (handles ++ handle ∷ []) c ≡ Some other → c ≢ length handles → slice_get handles c ≡ Some other
+in_front handles handle other c is apart =
+    let within = slice_get_within (handles ++ handle ∷ []) c other is in
+    let less : c < length handles = omega (arith, within, length-append handles (handle ∷ [])) in
+    sym (get_front handles (handle ∷ []) c less) ∙ is
+
+last_is : (handles : List Handle) (handle other : Handle) (c : ℕ) → slice_get (handles ++ handle ∷ []) c ≡ Some other → c ≡ length handles → handle ≡ other
+last_is handles handle other c is here = some_is (sym (get_last handles handle) ∙ ap (slice_get (handles ++ handle ∷ [])) (sym here) ∙ is)
+
+pub opened_next : (partitions : List ℕ) (count : ℕ) (handles : List Handle) (old mid : ManagerView) (partition : ℕ) (handle : Handle) (new : ManagerView)
+    → WereOpened partitions count handles old mid → slice_get partitions count ≡ Some partition → OpensOne mid partition handle new
+    → WereOpened partitions (count + 1) (handles ++ handle ∷ []) old new
+opened_next partitions count handles old mid partition handle new were at one = record {
+  same_rules = one.keeps.same_rules ∙ were.same_rules;
+  same_state = one.keeps.same_state ∙ were.same_state;
+  first = first_keeps mid new were.first one.keeps;
+  counted = length-append handles (handle ∷ []) ∙ ap (λ n. n + 1) were.counted;
+  next = one.counted ∙ ap (λ n. n + 1) were.next;
+  number = λ c other is. dite
+      (ℕ_discrete c (length handles))
+      (λ (here : c ≡ length handles). ap (λ (h : Handle). h.number) (sym (last_is handles handle other c is here)) ∙ one.number ∙ were.next ∙ ap (λ n. n + 1) (sym were.counted ∙ sym here))
+      (λ (apart : c ≢ length handles). were.number c other (in_front handles handle other c is apart));
+  opened = λ c other p is on. dite
+      (ℕ_discrete c (length handles))
+      (λ (here : c ≡ length handles).
+      let same : partition ≡ p = some_is (sym at ∙ ap (slice_get partitions) (sym were.counted ∙ sym here) ∙ on) in
+      subst (λ (q : ℕ). IsOpenOn new.handles other q) same (subst (λ (h : Handle). IsOpenOn new.handles h partition) (last_is handles handle other c is here) one.opens.there))
+      (λ (apart : c ≢ length handles).
+      let was : IsOpenOn mid.handles other p = were.opened c other p (in_front handles handle other c is apart) on in
+      one.opens.others other.slot (λ e. taken (sym (ap (λ s. slice_index_or mid.handles s None) e ∙ one.was_free) ∙ was)) ∙ was);
+  others = λ slot open' is. dite
+      (ℕ_discrete slot handle.slot)
+      (λ (here : slot ≡ handle.slot).
+      let same : record { number = handle.number; partition = partition } ≡ open' = some_is (sym one.opens.there ∙ ap (λ s. slice_index_or new.handles s None) (sym here) ∙ is) in
+      (count, ap (λ (h : OpenHandle). h.number) (sym same) ∙ one.number ∙ were.next, (omega arith)))
+      (λ (apart : slot ≢ handle.slot).
+      let before = were.others slot open' (sym (one.opens.others slot apart) ∙ is) in
+      (before.0, before.1, (let less = before.2 in omega arith)));
+}
+  where
+    taken : {X : Type 0} {x : X} → None ≡ Some x → ⊥
+    taken e = absurd (cc (e))
+
+at_client : (handles : List Handle) (c : ℕ) → c < length handles → (handle : Handle) × (slice_get handles c ≡ Some handle)
+at_client [] c less = absurd (omega arith)
+at_client (h ∷ hs) zero less = (h, refl)
+at_client (h ∷ hs) (suc c) less = at_client hs c (omega arith)
+
+pub all_opened : (partitions : List ℕ) (handles : List Handle) (old new : ManagerView) → WereOpened partitions (length partitions) handles old new → AreOpened partitions handles old new
+all_opened partitions handles old new were = record {
+  same_rules = were.same_rules;
+  same_state = were.same_state;
+  first = were.first;
+  clients = record {
+    each = λ c partition at.
+        let within = slice_get_within partitions c partition at in
+        let counted = were.counted in
+        let less : c < length handles = omega arith in
+        let found = at_client handles c less in
+        let there : IsOpenOn new.handles found.0 partition = were.opened c found.0 partition found.1 at in
+        record { slot = found.0.slot; there = there ∙ ap (λ n. Some (record { number = n; partition = partition })) (were.number c found.0 found.1) };
+    others = were.others;
+  };
+  given = record { count = were.counted; number = were.number; opened = were.opened };
+}

@@ -1,0 +1,15 @@
+use Rattle.std.proofs.Common.{rules}
+use Rattle.book.proofs.Booking.{sound_first}
+use Rattle.book.proofs.book.Book.new.Goals as goal
+
+pub invariant_of-result : goal.invariant_of-result
+invariant_of-result g c =
+    let kept = c.reserve.ensures.kept in
+    let slots = c.in_ok-slots.ensures in
+    record {
+      sound = sound_first _ _ _ _ _ _ _ c.requires.named c.requires.first (search rules) (search rules) (search rules) _ c.requires.count.1 slots.numbers slots.owner;
+      tally = search rules;
+      clients = c.requires.handles;
+      same_sizes = c.requires.sizes.0;
+      sizes = c.requires.sizes.1;
+    }

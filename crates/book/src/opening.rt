@@ -1,0 +1,72 @@
+//! Handles for the clients of a book.
+
+ghost use Rattle.std.specs.Prelude.{◌≡◌, [], IfOk, IfErr, MatchResult};
+ghost use Rattle.book.specs.Opening.{AreOpened, IsNew, IsOpenFault, OpensOne, RefusesOne};
+
+use adapter::Adapter;
+use compose::{Event, Handle, Refusal, Reply, Stack};
+use std::alloc::{AllocError, Global};
+use thiserror::Error;
+
+/// Why the handles of the clients could not be opened.
+#[derive(Debug, Clone, Copy, PartialEq, Eq, Error)]
+pub enum OpenFault {
+    /// The stack refused to open one of them: `InvalidParameter` where it has no such partition, `DeviceBusy` for the 65th.
+    #[error("a handle was refused")]
+    Refused(Refusal),
+    /// Memory was refused.
+    #[error("no memory")]
+    NoMemory,
+}
+
+impl From<AllocError> for OpenFault {
+    ghost use Rattle.std.specs.Prelude.{◌≡◌};
+    ghost use Rattle.book.specs.declared.opening.OpenFault.TheVariants.{NoMemory};
+
+    ghost from_gives = { λ _ fault. fault ≡ NoMemory };
+
+    fn from(_refused: AllocError) -> OpenFault {
+        OpenFault::NoMemory
+    }
+}
+
+/// Opens handle c + 1 on `partitions[c]`, for each c, on a stack of which nothing was asked yet.
+///
+/// # Errors
+///
+/// [`OpenFault::Refused`] where the stack refuses one of them; [`OpenFault::NoMemory`]. Some handles may then be open.
+pub fn open_handles<A: Adapter>(
+    alloc: Global,
+    stack: &mut Stack<A>,
+    partitions: &[u8],
+) -> Result<Vec<Handle>, OpenFault>
+    requires { IsNew stack.old }
+    ensures opened { IfOk result (λ handles. AreOpened partitions.now handles.items stack.old stack.new) }
+    ensures fault { IfErr result (λ fault. IsOpenFault partitions.now fault stack.new) }
+{
+    let mut handles = Vec::new(alloc);
+    for c in 0..partitions.len() {
+        handles.reserve(1)?;
+        let handle = open_one(alloc, stack, partitions[c])?;
+        handles.push_reserved(handle);
+    }
+    Ok(handles)
+}
+
+// One handle.
+fn open_one<A: Adapter>(
+    alloc: Global,
+    stack: &mut Stack<A>,
+    partition: u8,
+) -> Result<Handle, OpenFault>
+    requires taken { stack.old.labels ≡ [] }
+    ensures { MatchResult result (λ handle. OpensOne stack.old partition handle stack.new) (λ fault. RefusesOne partition fault stack.new) }
+{
+    match stack.step(alloc, Event::Open { partition }) {
+        Reply::Handle(handle) => Ok(handle),
+        Reply::Refused { refusal, .. } => Err(OpenFault::Refused(refusal)),
+        Reply::Ok | Reply::Request(_) | Reply::Answered(_) | Reply::Ignored => {
+            Err(OpenFault::NoMemory)
+        }
+    }
+}

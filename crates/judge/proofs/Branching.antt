@@ -1,0 +1,66 @@
+-- The starts by each request in turn.
+use Rattle.std.proofs.Common.{◌≡◌, ◌<◌, ◌≤◌, ℕ, ◌+◌, List, [], ◌∷◌, ◌++◌, Option, Some, None, refl, sym, ◌∙◌, ap, arith, length, get_or, take, drop}
+use Rattle.std.specs.List.{flat_map, remove}
+use Rattle.std.proofs.lemmas.List.{drop_more, drop_all, append_assoc, append-nil}
+use Rattle.std.proofs.lemmas.List.Concat.{flat_map-append}
+use Rattle.sector.specs.declared.Extent.{Extent}
+use Rattle.cdb.specs.declared.Cdb.{Cdb}
+use Rattle.machine.specs.Rules.{Rules}
+use Rattle.machine.specs.State.{OpenRequest, State}
+use Rattle.judge.specs.Picking.{choices}
+use Rattle.judge.specs.Deciding.{startable}
+use Rattle.judge.specs.Next.{started_by, started_of, started_each}
+use Rattle.judge.specs.Starting.{choice_at, started_as}
+use Rattle.judge.proofs.Picking.{length-choices, choices_at}
+
+module _ {X : Type 0} (xs : List X) where
+  -- the choice at a place
+  one_choice : (k : ℕ) (x : X) → k < length xs → x ≡ get_or xs k x → take 1 (drop k (choices xs)) ≡ (x, remove xs k) ∷ []
+  one_choice k x low is =
+      let short : k < length (choices xs) = rw length-choices low in
+      ap (λ cs. take 1 cs) (drop_more (choices xs) k (x, remove xs k) short)
+      ∙ ap (λ c. c ∷ []) (choices_at xs k x (x, remove xs k) low ∙ ap (λ y. (y, remove xs k)) (sym is))
+
+  -- one place more
+  pub one_more : {Y : Type 0} (f : X × List X → List Y) (done after all : List Y) (k : ℕ) → k < length xs → after ≡ done ++ flat_map f (take 1 (drop k (choices xs)))
+      → done ++ flat_map f (drop k (choices xs)) ≡ all → after ++ flat_map f (drop (k + 1) (choices xs)) ≡ all
+  one_more f done after all k low e h =
+      let short : k < length (choices xs) = rw length-choices low in
+      ap (λ ys. ys ++ flat_map f (drop (k + 1) (choices xs))) e
+      ∙ append_assoc done (flat_map f (take 1 (drop k (choices xs)))) (flat_map f (drop (k + 1) (choices xs)))
+      ∙ ap (λ ys. done ++ ys) (sym (flat_map-append f (take 1 (drop k (choices xs))) (drop (k + 1) (choices xs))) ∙ ap (flat_map f) (parted (choices xs) k short))
+      ∙ h
+    where
+      parted : {Z : Type 0} (zs : List Z) (k : ℕ) → k < length zs → take 1 (drop k zs) ++ drop (k + 1) zs ≡ drop k zs
+      parted [] k low = absurd (omega arith)
+      parted (z ∷ zs) k low = let here : drop k (z ∷ zs) ≡ get_or (z ∷ zs) k z ∷ drop (k + 1) (z ∷ zs) = drop_more (z ∷ zs) k z low in rw here refl
+
+  pub no_more : {Y : Type 0} (f : X × List X → List Y) (done all : List Y) (k : ℕ) → length xs ≤ k → done ++ flat_map f (drop k (choices xs)) ≡ all → done ≡ all
+  no_more f done all k past h =
+      let past' : length (choices xs) ≤ k = rw length-choices past in
+      sym (append-nil done) ∙ ap (λ cs. done ++ flat_map f cs) (sym (drop_all k (choices xs) past')) ∙ h
+
+module _ (s : State) (tag : ℕ) where
+  -- a start by the request at a place
+  pub start_is : (k : ℕ) (o : OpenRequest) (places : Extent) → k < length s.requests → o ≡ get_or s.requests k o
+      → flat_map (started_as s tag places) (choice_at s k) ≡ started_by s tag o (remove s.requests k) places ∷ []
+  start_is k o places low is = ap (flat_map (started_as s tag places)) (one_choice s.requests k o low is)
+
+  module _ (rules : Rules) (command : Option Cdb) where
+    pub none_starts : (k : ℕ) (o : OpenRequest) → k < length s.requests → o ≡ get_or s.requests k o → None ≡ startable rules s command o
+        → flat_map (started_each rules s tag command) (choice_at s k) ≡ []
+    none_starts k o low is e = ap (flat_map (started_each rules s tag command)) (one_choice s.requests k o low is) ∙ append-nil _ ∙ ap (started_of s tag o (remove s.requests k)) (sym e)
+
+    pub one_starts : (k : ℕ) (o : OpenRequest) (places : Extent) → k < length s.requests → o ≡ get_or s.requests k o → Some places ≡ startable rules s command o
+        → flat_map (started_each rules s tag command) (choice_at s k) ≡ flat_map (started_as s tag places) (choice_at s k)
+    one_starts k o places low is e =
+        ap (flat_map (started_each rules s tag command)) (one_choice s.requests k o low is) ∙ append-nil _ ∙ ap (started_of s tag o (remove s.requests k)) (sym e)
+        ∙ sym (start_is k o places low is)
+
+    pub none_added : (done : List State) (k : ℕ) (o : OpenRequest) → k < length s.requests → o ≡ get_or s.requests k o → None ≡ startable rules s command o
+        → done ≡ done ++ flat_map (started_each rules s tag command) (choice_at s k)
+    none_added done k o low is e = sym (append-nil done) ∙ ap (λ ys. done ++ ys) (sym (none_starts k o low is e))
+
+    pub one_added : (done found : List State) (k : ℕ) (o : OpenRequest) (places : Extent) → k < length s.requests → o ≡ get_or s.requests k o → Some places ≡ startable rules s command o → found ≡ done
+        → found ++ flat_map (started_as s tag places) (choice_at s k) ≡ done ++ flat_map (started_each rules s tag command) (choice_at s k)
+    one_added done found k o places low is e same = ap (λ ys. ys ++ flat_map (started_as s tag places) (choice_at s k)) same ∙ ap (λ ys. done ++ ys) (sym (one_starts k o places low is e))

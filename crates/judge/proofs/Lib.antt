@@ -1,0 +1,16 @@
+pub mod Counting
+pub mod Picking
+pub mod Deciding
+pub mod Asking
+pub mod Moving
+pub mod AllPlaces
+pub mod Sound
+pub mod Complete
+pub mod Reaching
+pub mod Division
+pub mod Taking
+pub mod Stepping
+pub mod Lateness
+pub mod Branching
+pub mod Judged
+pub mod Settled

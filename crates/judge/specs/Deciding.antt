@@ -1,0 +1,204 @@
+-- The premises of the machine's rules, as tests.
+use Rattle.std.specs.Prelude.{ℕ, zero, suc, ◌+◌, ◌-◌, ◌*◌, ◌%◌, ◌^◌, ◌==◌, ◌&&◌, ◌||◌, nat_lt, nat_le, not, Bool, true, false, List, [], ◌∷◌, Option, Some, None, length, take, drop, slice_range, if◌then◌else◌}
+use Rattle.std.specs.List.{list_all, list_any}
+use Rattle.std.specs.Str.{bytes_eq}
+use Rattle.ntstatus.specs.declared.NtStatus.{NtStatus}
+use Rattle.ntstatus.specs.declared.NtStatus.TheVariants.{Success, Cancelled, DeviceBusy, NoSuchDevice, DeletePending}
+use Rattle.ntstatus.specs.Codes.{value_of}
+use Rattle.sector.specs.declared.Extent.{Extent}
+use Rattle.cdb.specs.declared.Cdb.{Cdb}
+use Rattle.cdb.specs.declared.Cdb.TheVariants.{Read10, Write10, Sync10, Read16, Write16, Sync16}
+use Rattle.srb.specs.declared.Class.{Class}
+use Rattle.srb.specs.declared.Class.TheVariants.{Good, Busy, Bad}
+use Rattle.machine.specs.declared.Kind.{Kind}
+use Rattle.machine.specs.declared.Kind.TheVariants.{Read, Write, Flush}
+use Rattle.machine.specs.declared.ClientRequest.{ClientRequest}
+use Rattle.machine.specs.Rules.{Rules, first_sector, home}
+use Rattle.machine.specs.State.{Mark, Untouched, Out, Done, Failed, Back, OpenRequest, Piece, State}
+use Rattle.machine.specs.Cutting.{mark_at, is_back, restarts_left}
+use Rattle.machine.specs.Sending.{is_unsent, is_started, fits_ten, sectors_at}
+use Rattle.machine.specs.Answering.{is_done, answer_bytes, information}
+use Rattle.judge.specs.Picking.{only}
+
+-- both hold or none does
+abbrev pub same_truth : Bool → Bool → Bool
+same_truth true b = b
+same_truth false b = not b
+
+abbrev pub same_status : NtStatus → NtStatus → Bool
+same_status a b = value_of a == value_of b
+
+-- the number is the request's, or the piece's
+abbrev pub has_number : ℕ → OpenRequest → Bool
+has_number number o = o.number == number
+
+abbrev pub is_piece : ℕ → Piece → Bool
+is_piece number piece = piece.number == number
+
+-- ANSWERS
+
+-- a place that waits will never be sent
+abbrev pub is_given_up : State → OpenRequest → Bool
+is_given_up s o = o.cancelled || s.removing
+
+-- and this is why
+abbrev pub gives_up_as : State → OpenRequest → NtStatus → Bool
+gives_up_as s o status =
+    (o.cancelled && same_status status Cancelled) || (s.removing && same_status status (if o.late then DeletePending else NoSuchDevice))
+
+-- busy returns have ended the request
+abbrev pub is_worn_out : Rules → OpenRequest → Bool
+is_worn_out rules o = nat_le rules.busy_limit o.busy_returns
+
+-- a place that is done, or has a cause not to be
+abbrev pub ended_by : Bool → Bool → Mark → Bool
+ended_by given_up worn_out Untouched = given_up
+ended_by given_up worn_out Out = false
+ended_by given_up worn_out (Done sector) = true
+ended_by given_up worn_out (Failed status) = true
+ended_by given_up worn_out Back = given_up || worn_out
+
+abbrev pub has_ended : Rules → State → OpenRequest → Mark → Bool
+has_ended rules s o = ended_by (is_given_up s o) (is_worn_out rules o)
+
+-- a status that a place not done gives its request
+abbrev pub cause_by : Bool → Bool → NtStatus → Mark → Bool
+cause_by given_up worn_out status Untouched = given_up
+cause_by given_up worn_out status Out = false
+cause_by given_up worn_out status (Done sector) = false
+cause_by given_up worn_out status (Failed failure) = same_status status failure
+cause_by given_up worn_out status Back = given_up || (worn_out && same_status status DeviceBusy)
+
+abbrev pub is_cause : Rules → State → OpenRequest → NtStatus → Mark → Bool
+is_cause rules s o status = cause_by (gives_up_as s o status) (is_worn_out rules o) status
+
+-- a cause of the lowest place that isn't done, if there is one
+abbrev pub lowest_by : (Mark → Bool) → List Mark → Bool
+lowest_by causes [] = true
+lowest_by causes (mark ∷ marks) = if is_done mark then lowest_by causes marks else causes mark
+
+abbrev pub has_cause : Rules → State → OpenRequest → NtStatus → List Mark → Bool
+has_cause rules s o status = lowest_by (is_cause rules s o status)
+
+-- the status may be the request's
+abbrev pub may_end_as : Rules → State → OpenRequest → NtStatus → Bool
+may_end_as rules s o status =
+    list_all (has_ended rules s o) o.marks
+    && (same_truth (same_status status Success) (list_all is_done o.marks) && has_cause rules s o status o.marks)
+
+-- and these are what its answer tells and hands back
+abbrev pub may_answer : Rules → State → OpenRequest → NtStatus → ℕ → List ℕ → Bool
+may_answer rules s o status informed bytes =
+    may_end_as rules s o status
+    && ((informed == information o.request status) && bytes_eq bytes (answer_bytes o.request.kind o.marks))
+
+-- STARTS
+
+abbrev pub has_tag : ℕ → Piece → Bool
+has_tag tag piece = piece.tag == tag
+
+abbrev pub has_other_tag : ℕ → Piece → Bool
+has_other_tag tag piece = not (has_tag tag piece)
+
+-- a piece is on each tag below this one
+abbrev pub all_used : ℕ → List Piece → Bool
+all_used zero pieces = true
+all_used (suc tag) pieces = list_any (has_tag tag) pieces && all_used tag pieces
+
+abbrev pub is_lowest_free : ℕ → List Piece → ℕ → Bool
+is_lowest_free depth pieces tag = nat_lt tag depth && (list_all (has_other_tag tag) pieces && all_used tag pieces)
+
+-- the other was started, if it came earlier and isn't cancelled
+abbrev pub is_in_turn : ℕ → OpenRequest → Bool
+is_in_turn number other = not (nat_lt other.number number) || (other.cancelled || is_started other)
+
+abbrev pub may_start : State → OpenRequest → Bool
+may_start s o =
+    (not o.cancelled && not s.removing)
+    && (not (s.paused && o.late) && list_all (is_in_turn o.number) s.requests)
+
+-- the request goes as one piece, and this is all of it for the first time, or it may go in several
+abbrev pub is_whole : Rules → OpenRequest → Extent → Bool
+is_whole rules o places = not rules.one_piece || ((places.count == length o.marks) && not (is_started o))
+
+-- a piece begins at the place, and if it came back a restart is left
+abbrev pub begins_piece : Rules → OpenRequest → ℕ → Bool
+begins_piece rules o place = (place % rules.max_transfer == 0) && (not (is_back (mark_at o place)) || nat_lt 0 (restarts_left rules o))
+
+abbrev pub is_sendable : Rules → OpenRequest → Extent → Bool
+is_sendable rules o places =
+    ((nat_lt 0 places.count && nat_le places.count rules.max_transfer)
+    && (nat_le (places.first + places.count) (length o.marks)
+    && (list_all is_unsent (slice_range o.marks places.first (places.first + places.count)) && is_whole rules o places)))
+    && begins_piece rules o places.first
+
+-- the places of the request whose sectors begin at this address
+abbrev pub places_at : Rules → ClientRequest → ℕ → ℕ → Option Extent
+places_at rules q lba count =
+    let base = home rules q.partition (first_sector rules q) in
+    if nat_le base lba then Some (record { first = lba - base; count = count }) else None
+
+-- the same, if the command has the form and the access that the machine gives it
+abbrev pub places_if : Bool → Rules → ClientRequest → ℕ → ℕ → Option Extent
+places_if test rules q lba count = if test then places_at rules q lba count else None
+
+-- the one place of a flush
+abbrev pub flush_place : Bool → Option Extent
+flush_place test = if test then Some (record { first = 0; count = 1 }) else None
+
+-- the places of a request that a command asks for
+abbrev pub places_for : Rules → ClientRequest → Kind → Cdb → Option Extent
+places_for rules q Read (Read10 lba count fua) = places_if (fits_ten lba count && same_truth fua q.through) rules q lba count
+places_for rules q Read (Read16 lba count fua) = places_if (not (fits_ten lba count) && same_truth fua q.through) rules q lba count
+places_for rules q Write (Write10 lba count fua) = places_if (fits_ten lba count && same_truth fua q.through) rules q lba count
+places_for rules q Write (Write16 lba count fua) = places_if (not (fits_ten lba count) && same_truth fua q.through) rules q lba count
+places_for rules q Flush (Sync10 lba blocks) = flush_place (nat_le rules.disk_sectors (2 ^ 32) && ((lba == 0) && (blocks == 0)))
+places_for rules q Flush (Sync16 lba blocks) = flush_place (not (nat_le rules.disk_sectors (2 ^ 32)) && ((lba == 0) && (blocks == 0)))
+places_for rules q kind command = None
+
+-- those places, if they may start now
+abbrev pub startable_at : Rules → State → OpenRequest → Option Extent → Option Extent
+startable_at rules s o None = None
+startable_at rules s o (Some places) = only (may_start s o && is_sendable rules o places) places
+
+-- the places of the request that may start now by this command
+abbrev pub startable : Rules → State → Option Cdb → OpenRequest → Option Extent
+startable rules s None o = None
+startable rules s (Some command) o = startable_at rules s o (places_for rules o.request o.request.kind command)
+
+-- ACTS
+
+-- bytes cut into so many sectors of a size
+abbrev pub chunked : ℕ → ℕ → List ℕ → List (List ℕ)
+chunked zero size bytes = []
+chunked (suc n) size bytes = take size bytes ∷ chunked n size (drop size bytes)
+
+-- the same sectors
+abbrev pub sectors_eq : List (List ℕ) → List (List ℕ) → Bool
+sectors_eq [] [] = true
+sectors_eq [] (y ∷ ys) = false
+sectors_eq (x ∷ xs) [] = false
+sectors_eq (x ∷ xs) (y ∷ ys) = bytes_eq x y && sectors_eq xs ys
+
+-- the sectors that an act of this many places hands over as these bytes
+abbrev pub sectors_moved : Rules → ℕ → Kind → List ℕ → List (List ℕ)
+sectors_moved rules count Read bytes = chunked count rules.sector_size bytes
+sectors_moved rules count Write bytes = chunked count rules.sector_size bytes
+sectors_moved rules count Flush bytes = [] ∷ []
+
+-- the bytes may be those of an act of this request on these places
+abbrev pub may_move : Rules → State → ClientRequest → Extent → Kind → List ℕ → Bool
+may_move rules s q places Read bytes =
+    (length bytes == places.count * rules.sector_size)
+    && (not rules.faithful || sectors_eq (chunked places.count rules.sector_size bytes) (sectors_at rules s q places))
+may_move rules s q places Write bytes =
+    (length bytes == places.count * rules.sector_size)
+    && bytes_eq bytes (slice_range q.bytes (places.first * rules.sector_size) ((places.first + places.count) * rules.sector_size))
+may_move rules s q places Flush bytes = (places.count == 1) && (length bytes == 0)
+
+-- RETURNS
+
+abbrev pub is_bad : Class → Bool
+is_bad Good = false
+is_bad Busy = false
+is_bad (Bad completion) = true

@@ -1,0 +1,9 @@
+pub mod Picking
+pub mod Deciding
+pub mod Next
+pub mod Judging
+pub mod Views
+pub mod Taking
+pub mod Verdicts
+pub mod Settling
+pub mod Starting

@@ -1,0 +1,67 @@
+-- Whether a state is settled, as a test.
+use Rattle.std.specs.Prelude.{ℕ, ◌==◌, ◌&&◌, ◌||◌, nat_lt, nat_le, not, Bool, true, false, Option, Some, None, length, is_none}
+use Rattle.std.specs.List.{list_all}
+use Rattle.machine.specs.Rules.{Rules}
+use Rattle.machine.specs.State.{Mark, Untouched, Out, Done, Failed, Back, OpenRequest, State}
+use Rattle.machine.specs.Calling.{is_full}
+use Rattle.machine.specs.Sending.{is_started}
+use Rattle.machine.specs.Settled.{has_out, has_unsent, started_count}
+
+-- the second holds where the first does
+abbrev pub holds_if : Bool → Bool → Bool
+holds_if a b = not a || b
+
+-- a place that will not be sent, where busy returns have ended its request or not
+abbrev pub has_gone : Bool → Mark → Bool
+has_gone worn_out Untouched = false
+has_gone worn_out Back = worn_out
+has_gone worn_out Out = true
+has_gone worn_out (Done sector) = true
+has_gone worn_out (Failed status) = true
+
+abbrev pub is_held : OpenRequest → Bool
+is_held o = not (is_started o) && o.late
+
+abbrev pub waits_if_cancelled : OpenRequest → Bool
+waits_if_cancelled o = holds_if o.cancelled (has_out o)
+
+-- a started request, not cancelled, of which no place waits that may go
+abbrev pub is_all_sent : ℕ → OpenRequest → Bool
+is_all_sent limit o = o.cancelled || holds_if (is_started o) (list_all (has_gone (nat_le limit o.busy_returns)) o.marks)
+
+-- started, late, or behind a full window
+abbrev pub is_held_back : Bool → OpenRequest → Bool
+is_held_back full o = is_started o || (o.late || full)
+
+abbrev pub has_more : OpenRequest → Bool
+has_more o = holds_if (is_started o) (has_out o || has_unsent o)
+
+abbrev pub is_at_work : OpenRequest → Bool
+is_at_work o = holds_if (is_started o) (has_out o)
+
+-- no more than the window, where there is one
+abbrev pub is_within : Option ℕ → ℕ → Bool
+is_within None count = true
+is_within (Some window) count = nat_le count window
+
+-- what holds of the requests alone
+abbrev pub are_waiting : State → Bool
+are_waiting s =
+    list_all waits_if_cancelled s.requests
+    && (holds_if s.removing (list_all has_out s.requests) && list_all has_more s.requests)
+
+-- with nothing at the adapter
+abbrev pub is_idle_well : State → Bool
+is_idle_well s = list_all is_held s.requests && holds_if (not s.paused) (length s.requests == 0)
+
+-- with a tag free
+abbrev pub is_served : Rules → State → Bool
+is_served rules s =
+    list_all is_at_work s.requests
+    && holds_if (not s.removing)
+    (list_all (is_all_sent rules.busy_limit) s.requests && list_all (is_held_back (is_full rules.window (started_count s))) s.requests)
+
+abbrev pub is_settled : Rules → State → Bool
+is_settled rules s =
+    (is_none s.owed && is_within rules.window (started_count s))
+    && (are_waiting s && (holds_if (length s.pieces == 0) (is_idle_well s) && holds_if (nat_lt (length s.pieces) rules.depth) (is_served rules s)))

@@ -1,0 +1,55 @@
+//! A checker of runs of the sector machine: it takes the rules of a machine, its sectors and a list of labels, whoever
+//! recorded them, and says whether the labels are a run.
+//!
+//! Promises, by `judge`'s `exact` and `verdict`: it answers a run exactly where some state follows from the opening one by
+//! the labels (`IsRun`), and then has all states that do, each in one order of its requests and pieces (`AreReached`); else
+//! it names the first label that no step allows (`StopsAt`). `Machine::is_settled` says whether a state is `Settled`.
+//! Most labels lead to one state at most. A start may lead to several, one for each request that may make it: the blocks of
+//! two flushes, or of two reads of one sector, are the same. The checker follows each of them.
+//!
+//! It doesn't promise to be fast, and `NoVerdict` meets any contract: tests show verdicts.
+#![tactic(auto)]
+
+mod adapter_labels;
+mod calls;
+mod commands;
+mod copies;
+mod finding;
+mod holding;
+mod judging;
+mod lists;
+mod machine_state;
+mod open;
+mod pieces;
+mod places;
+mod rules;
+mod sectors;
+mod settling;
+mod starts;
+mod steps;
+#[cfg(test)]
+mod tests;
+
+pub use judging::{Verdict, judge};
+pub use machine_state::{Machine, Sectors};
+pub use rules::MachineRules;
+use std::alloc::{AllocError, AllocFailed};
+use thiserror::Error;
+
+/// There is no verdict: memory was refused, or a count of calls, of pieces or of a request's busy returns has no successor
+/// that fits its type, which takes as many labels.
+#[derive(Debug, Clone, Copy, PartialEq, Eq, Error)]
+#[error("no memory for a verdict")]
+pub struct NoVerdict;
+
+impl From<AllocError> for NoVerdict {
+    fn from(_refused: AllocError) -> NoVerdict {
+        NoVerdict
+    }
+}
+
+impl<T: Drop> From<AllocFailed<T>> for NoVerdict {
+    fn from(_refused: AllocFailed<T>) -> NoVerdict {
+        NoVerdict
+    }
+}

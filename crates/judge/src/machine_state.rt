@@ -1,0 +1,194 @@
+//! The state of a machine.
+
+ghost use Rattle.std.specs.Prelude.{◌≡◌, ◌<◌, length, slice_index_or, IfOk, OnOk, List};
+ghost use Rattle.std.specs.List.{remove};
+ghost use Rattle.machine.specs.Sending.{array_at};
+ghost use Rattle.machine.specs.State.{opening};
+ghost use Rattle.judge.specs.Taking.{TakesOpen, TakesStarted, with_open, with_started};
+
+use crate::copies::{Copied, all_copied};
+use crate::finding::{take_piece, take_request};
+use crate::open::Open;
+use crate::pieces::Started;
+use ntstatus::NtStatus;
+use sector::Bytes;
+use std::alloc::{AllocError, Global};
+use std::marker::Model;
+
+/// The sectors of a partition, each with its bytes.
+#[derive(Debug, Drop)]
+pub struct Sectors {
+    sectors: Vec<Bytes>,
+}
+
+impl Model for Sectors {
+    ghost use Rattle.std.specs.Prelude.{List, ℕ};
+
+    ghost Value = { List (List ℕ) };
+
+    ghost view = { λ a. a.sectors.items };
+}
+
+impl Sectors {
+    /// These sectors.
+    pub fn new(sectors: Vec<Bytes>) -> Sectors
+        ensures { result ≡ sectors.items }
+    {
+        Sectors { sectors }
+    }
+
+    /// The sectors, to be read.
+    pub fn as_slice(&self) -> &[Bytes]
+        ensures { result.now ≡ self.now }
+    {
+        self.sectors.as_slice()
+    }
+
+    /// The vector again.
+    pub fn into_vec(self) -> Vec<Bytes>
+        ensures { result.items ≡ self }
+    {
+        self.sectors
+    }
+}
+
+impl Copied for Sectors {
+    fn copied(&self, alloc: Global) -> Result<Sectors, AllocError> {
+        Ok(Sectors {
+            sectors: all_copied(alloc, self.sectors.as_slice())?,
+        })
+    }
+}
+
+/// The answer that a refused call is owed.
+#[derive(Debug, Clone, Copy)]
+pub(crate) struct Debt {
+    pub(crate) number: u64,
+    pub(crate) status: NtStatus,
+}
+
+/// What a machine holds at a moment.
+#[derive(Debug, Drop)]
+pub struct Machine {
+    pub(crate) arrays: Vec<Sectors>,
+    pub(crate) next_request: u64,
+    pub(crate) next_piece: u128,
+    pub(crate) requests: Vec<Open>,
+    pub(crate) pieces: Vec<Started>,
+    pub(crate) owed: Option<Debt>,
+    pub(crate) paused: bool,
+    pub(crate) removing: bool,
+    pub(crate) removed: bool,
+}
+
+impl Model for Machine {
+    ghost use Rattle.machine.specs.State.{State};
+
+    ghost Value = { State };
+
+    ghost use Rattle.std.specs.Prelude.{option_map};
+    ghost use Rattle.judge.specs.Views.{owed_of};
+
+    ghost view = { λ m. record {
+      arrays = m.arrays.items;
+      next_request = m.next_request;
+      next_piece = m.next_piece;
+      requests = m.requests.items;
+      pieces = m.pieces.items;
+      owed = option_map owed_of m.owed;
+      paused = m.paused;
+      removing = m.removing;
+      removed = m.removed;
+    } };
+}
+
+impl Machine {
+    /// A machine at its start, with these sectors in its partitions.
+    pub fn new(alloc: Global, arrays: Vec<Sectors>) -> Machine
+        ensures { result ≡ opening arrays.items }
+    {
+        Machine {
+            arrays,
+            next_request: 1,
+            next_piece: 1,
+            requests: Vec::new(alloc),
+            pieces: Vec::new(alloc),
+            owed: None,
+            paused: false,
+            removing: false,
+            removed: false,
+        }
+    }
+
+    /// Takes the first request of this number out.
+    pub(crate) fn take_open(&mut self, number: u64) -> Option<Open>
+        ensures { TakesOpen self.old number result self.new }
+    {
+        take_request(&mut self.requests, number)
+    }
+
+    /// Takes the first piece of this number out.
+    pub(crate) fn take_started(&mut self, number: u128) -> Option<Started>
+        ensures { TakesStarted self.old number result self.new }
+    {
+        take_piece(&mut self.pieces, number)
+    }
+
+    /// Takes the request at this place out.
+    pub(crate) fn remove_open(&mut self, at: usize) -> Open
+        requires { at < length self.old.requests }
+        ensures taken { result ≡ slice_index_or self.old.requests at result }
+        ensures rest { self.new ≡ record self.old { requests = remove self.old.requests at } }
+    {
+        self.requests.remove(at)
+    }
+
+    /// The sectors of a partition; none where the machine has no such partition.
+    pub fn sectors(&self, partition: u8) -> &[Bytes]
+        ensures { result.now ≡ array_at self.now.arrays partition }
+    {
+        array_of(self.arrays.as_slice(), partition as usize)
+    }
+
+    /// Puts a request behind the others.
+    pub(crate) fn put_open(&mut self, entry: Open) -> Result<(), AllocError>
+        ensures { OnOk result (self.new ≡ with_open entry self.old) }
+    {
+        self.requests.push(entry)?;
+        Ok(())
+    }
+
+    /// Puts a piece behind the others.
+    pub(crate) fn put_started(&mut self, piece: Started) -> Result<(), AllocError>
+        ensures { OnOk result (self.new ≡ with_started piece self.old) }
+    {
+        self.pieces.push(piece)?;
+        Ok(())
+    }
+}
+
+/// The sectors of an array.
+pub(crate) fn array_of(arrays: &[Sectors], partition: usize) -> &[Bytes]
+    ensures { result.now ≡ array_at arrays.now partition }
+{
+    match arrays.get(partition) {
+        Some(array) => array.as_slice(),
+        None => &[],
+    }
+}
+
+impl Copied for Machine {
+    fn copied(&self, alloc: Global) -> Result<Machine, AllocError> {
+        Ok(Machine {
+            arrays: all_copied(alloc, self.arrays.as_slice())?,
+            next_request: self.next_request,
+            next_piece: self.next_piece,
+            requests: all_copied(alloc, self.requests.as_slice())?,
+            pieces: all_copied(alloc, self.pieces.as_slice())?,
+            owed: self.owed,
+            paused: self.paused,
+            removing: self.removing,
+            removed: self.removed,
+        })
+    }
+}

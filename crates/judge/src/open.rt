@@ -1,0 +1,374 @@
+//! Open requests.
+
+ghost use Rattle.std.specs.Prelude.{◌≡◌, ◌<◌, ◌^◌, ◌+◌, ◌==◌, false, List, IfOk, length, replicate};
+ghost use Rattle.std.specs.List.{list_all, list_any};
+ghost use Rattle.std.specs.Str.{bytes_eq};
+ghost use Rattle.machine.specs.State.{OpenRequest, Untouched, with_marks};
+ghost use Rattle.machine.specs.Cutting.{is_back, pieces_with, restarts_left};
+ghost use Rattle.machine.specs.Sending.{is_started, is_untouched, is_unsent, sent};
+ghost use Rattle.machine.specs.Answering.{is_done, answer_bytes};
+ghost use Rattle.machine.specs.Holding.{as_cancelled};
+ghost use Rattle.machine.specs.Settled.{is_out, has_out, has_unsent};
+ghost use Rattle.judge.specs.Deciding.{has_number, ended_by, cause_by, lowest_by, is_in_turn, is_sendable, begins_piece};
+ghost use Rattle.judge.specs.Settling.{has_gone, is_all_sent};
+ghost use Rattle.judge.specs.Views.{rules_of, opened, joined_marks, with_late, with_busy_returns};
+
+use crate::NoVerdict;
+use crate::copies::{Copied, all_copied, request_copied};
+use crate::lists::{part, spliced};
+use crate::places::Place;
+use crate::rules::MachineRules;
+use machine::{ClientRequest, Kind};
+use ntstatus::NtStatus;
+use sector::Extent;
+use std::alloc::{AllocError, Global};
+use std::marker::Model;
+
+/// An open request, from its call to its answer.
+#[derive(Debug, Drop)]
+pub(crate) struct Open {
+    number: u64,
+    request: ClientRequest,
+    cancelled: bool,
+    late: bool,
+    busy_returns: u64,
+    marks: Vec<Place>,
+}
+
+impl Model for Open {
+    ghost use Rattle.machine.specs.State.{OpenRequest};
+
+    ghost Value = { OpenRequest };
+
+    ghost view = { λ o. record {
+      number = o.number;
+      request = o.request;
+      cancelled = o.cancelled;
+      late = o.late;
+      busy_returns = o.busy_returns;
+      marks = o.marks.items;
+    } };
+}
+
+/// So many places that are all alike.
+pub(crate) fn alike(alloc: Global, count: u64, place: &Place) -> Result<Vec<Place>, AllocError>
+    ensures { IfOk result (λ places. places.items ≡ replicate count place.now) }
+{
+    let mut places = Vec::new(alloc);
+    for _ in 0..count {
+        places.push(place.copied(alloc)?)?;
+    }
+    Ok(places)
+}
+
+/// The bytes of all places, end to end.
+fn joined(alloc: Global, marks: &[Place]) -> Result<Vec<u8>, AllocError>
+    ensures { IfOk result (λ bytes. bytes.items ≡ joined_marks marks.now) }
+{
+    let mut bytes = Vec::new(alloc);
+    for place in marks {
+        bytes.extend_from_slice(place.bytes())?;
+    }
+    Ok(bytes)
+}
+
+/// Whether the lowest place that isn't done gives its request this status, if there is one.
+fn lowest_causes(marks: &[Place], given_up: bool, worn_out: bool, status: NtStatus) -> bool
+    ensures { result ≡ lowest_by (cause_by given_up worn_out status) marks.now }
+{
+    for place in marks {
+        if !place.is_done() {
+            return place.causes(given_up, worn_out, status);
+        }
+    }
+    true
+}
+
+/// Whether no place of them was ever sent.
+fn are_untouched(marks: &[Place]) -> bool
+    ensures { result ≡ list_all is_untouched marks.now }
+{
+    marks.iter().all(|place| place.is_untouched())
+}
+
+fn are_unsent(marks: &[Place]) -> bool
+    ensures { result ≡ list_all is_unsent marks.now }
+{
+    marks.iter().all(|place| place.is_unsent())
+}
+
+/// Whether some place of them is out.
+fn are_out(marks: &[Place]) -> bool
+    ensures { result ≡ list_any is_out marks.now }
+{
+    marks.iter().any(|place| place.is_out())
+}
+
+/// Whether some place of them waits to be sent.
+fn wait_some(marks: &[Place]) -> bool
+    ensures { result ≡ list_any is_unsent marks.now }
+{
+    marks.iter().any(|place| place.is_unsent())
+}
+
+fn have_gone(marks: &[Place], worn_out: bool) -> bool
+    ensures { result ≡ list_all (has_gone worn_out) marks.now }
+{
+    marks.iter().all(|place| place.has_gone(worn_out))
+}
+
+fn are_done(marks: &[Place]) -> bool
+    ensures { result ≡ list_all is_done marks.now }
+{
+    marks.iter().all(|place| place.is_done())
+}
+
+fn have_ended(marks: &[Place], given_up: bool, worn_out: bool) -> bool
+    ensures { result ≡ list_all (ended_by given_up worn_out) marks.now }
+{
+    marks
+        .iter()
+        .all(|place| place.has_ended(given_up, worn_out))
+}
+
+impl Open {
+    /// A request of so many places, none of which was sent.
+    pub(crate) fn new(
+        alloc: Global,
+        number: u64,
+        request: ClientRequest,
+        late: bool,
+        places: u64,
+    ) -> Result<Open, AllocError>
+        ensures { IfOk result (λ o. o ≡ opened number request late (replicate places Untouched)) }
+    {
+        Ok(Open {
+            number,
+            request,
+            cancelled: false,
+            late,
+            busy_returns: 0,
+            marks: alike(alloc, places, &Place::untouched())?,
+        })
+    }
+
+    pub(crate) fn number(&self) -> u64
+        ensures { result ≡ self.now.number }
+    {
+        self.number
+    }
+
+    pub(crate) fn has_number(&self, number: u64) -> bool
+        ensures { result ≡ has_number number self.now }
+    {
+        self.number == number
+    }
+
+    pub(crate) fn request(&self) -> &ClientRequest
+        ensures { result.now ≡ self.now.request }
+    {
+        &self.request
+    }
+
+    pub(crate) fn is_cancelled(&self) -> bool
+        ensures { result ≡ self.now.cancelled }
+    {
+        self.cancelled
+    }
+
+    /// Whether a pause holds it.
+    pub(crate) fn is_late(&self) -> bool
+        ensures { result ≡ self.now.late }
+    {
+        self.late
+    }
+
+    pub(crate) fn busy_returns(&self) -> u64
+        ensures { result ≡ self.now.busy_returns }
+    {
+        self.busy_returns
+    }
+
+    /// Whether a piece was started for some place.
+    pub(crate) fn is_started(&self) -> bool
+        ensures { result ≡ is_started self.now }
+    {
+        !are_untouched(self.marks.as_slice())
+    }
+
+    /// Whether a request of that number need not wait for this one.
+    pub(crate) fn lets_start(&self, number: u64) -> bool
+        ensures { result ≡ is_in_turn number self.now }
+    {
+        self.number >= number || self.cancelled || self.is_started()
+    }
+
+    /// Whether some place is out.
+    pub(crate) fn has_out(&self) -> bool
+        ensures { result ≡ has_out self.now }
+    {
+        are_out(self.marks.as_slice())
+    }
+
+    /// Whether some place waits to be sent.
+    pub(crate) fn has_unsent(&self) -> bool
+        ensures { result ≡ has_unsent self.now }
+    {
+        wait_some(self.marks.as_slice())
+    }
+
+    /// Whether no place waits that may go, if it is started and not cancelled.
+    pub(crate) fn is_all_sent(&self, busy_limit: u64) -> bool
+        ensures { result ≡ is_all_sent busy_limit self.now }
+    {
+        self.cancelled
+            || !self.is_started()
+            || have_gone(self.marks.as_slice(), busy_limit <= self.busy_returns)
+    }
+
+    /// Whether all its places are done.
+    pub(crate) fn is_done(&self) -> bool
+        ensures { result ≡ list_all is_done self.now.marks }
+    {
+        are_done(self.marks.as_slice())
+    }
+
+    /// Whether each place is done or never will be.
+    pub(crate) fn has_ended(&self, given_up: bool, worn_out: bool) -> bool
+        ensures { result ≡ list_all (ended_by given_up worn_out) self.now.marks }
+    {
+        have_ended(self.marks.as_slice(), given_up, worn_out)
+    }
+
+    /// Whether the lowest place that isn't done gives it this status.
+    pub(crate) fn ends_as(&self, given_up: bool, worn_out: bool, status: NtStatus) -> bool
+        ensures { result ≡ lowest_by (cause_by given_up worn_out status) self.now.marks }
+    {
+        lowest_causes(self.marks.as_slice(), given_up, worn_out, status)
+    }
+
+    /// Whether its answer hands these bytes back.
+    pub(crate) fn hands_back(&self, alloc: Global, bytes: &[u8]) -> Result<bool, AllocError>
+        ensures { IfOk result (λ same. same ≡ bytes_eq bytes.now (answer_bytes self.now.request.kind self.now.marks)) }
+    {
+        match self.request.kind {
+            Kind::Read if self.is_done() => {
+                let all = joined(alloc, self.marks.as_slice())?;
+                Ok(bytes == all.as_slice())
+            }
+            Kind::Read | Kind::Write | Kind::Flush => Ok(bytes.is_empty()),
+        }
+    }
+
+    /// Whether a piece may have those places.
+    pub(crate) fn can_send(&self, rules: &MachineRules, places: Extent) -> bool
+        ensures { result ≡ is_sendable (rules_of rules.now) self.now places }
+    {
+        let count = self.marks.len() as u64;
+        0 < places.count
+            && places.count <= rules.max_transfer
+            && places.first <= count
+            && places.count <= count - places.first
+            && are_unsent(part(
+                self.marks.as_slice(),
+                places.first as u128,
+                places.first as u128 + places.count as u128,
+            ))
+            && (!rules.one_piece || (places.count == count && !self.is_started()))
+            && self.begins_piece(rules, places.first)
+    }
+
+    /// Whether a piece begins at this place, and a restart is left if the place came back.
+    fn begins_piece(&self, rules: &MachineRules, place: u64) -> bool
+        requires some { 0 < rules.now.max_transfer }
+        requires there { place < length self.now.marks }
+        ensures { result ≡ begins_piece (rules_of rules.now) self.now place }
+    {
+        place % rules.max_transfer == 0
+            && (!self.marks[place as usize].is_back() || self.restarts_left(rules) > 0)
+    }
+
+    /// How many pieces begin with a place that came back.
+    fn pieces_back(&self, rules: &MachineRules) -> u128
+        requires some { 0 < rules.now.max_transfer }
+        ensures counts { result ≡ pieces_with (rules_of rules.now) is_back self.now }
+        ensures few { result < 2 ^ 65 }
+    {
+        let longest = rules.max_transfer as u128;
+        let count = self.marks.len() as u128;
+        let mut back = 0;
+        let mut place = 0;
+        while place < count {
+            if self.marks[place as usize].is_back() {
+                back += 1;
+            }
+            place += longest;
+        }
+        back
+    }
+
+    /// How often pieces of it may start again.
+    fn restarts_left(&self, rules: &MachineRules) -> u128
+        requires some { 0 < rules.now.max_transfer }
+        ensures { result ≡ restarts_left (rules_of rules.now) self.now }
+    {
+        let restarts = rules.busy_limit.saturating_sub(1);
+        (self.pieces_back(rules) + restarts as u128).saturating_sub(self.busy_returns as u128)
+    }
+
+    /// The request with its cancel flag set.
+    pub(crate) fn cancelled(mut self) -> Open
+        ensures { result ≡ as_cancelled self }
+    {
+        self.cancelled = true;
+        self
+    }
+
+    /// The request, late as the flag says.
+    pub(crate) fn set_late(&mut self, late: bool)
+        ensures { self.new ≡ with_late late self.old }
+    {
+        self.late = late;
+    }
+
+    /// The request with those places out.
+    pub(crate) fn sent(mut self, alloc: Global, places: Extent) -> Result<Open, AllocError>
+        ensures { IfOk result (λ o. o ≡ sent places self) }
+    {
+        let outs = alike(alloc, places.count, &Place::out())?;
+        self.marks = spliced(self.marks, places.first as u128, outs)?;
+        Ok(self)
+    }
+
+    /// The request with new marks from a place on.
+    pub(crate) fn marked(mut self, first: u64, marks: Vec<Place>) -> Result<Open, AllocError>
+        ensures { IfOk result (λ o. o ≡ with_marks first marks.items self) }
+    {
+        self.marks = spliced(self.marks, first as u128, marks)?;
+        Ok(self)
+    }
+
+    /// The request with one busy return more.
+    pub(crate) fn worn(mut self) -> Result<Open, NoVerdict>
+        ensures { IfOk result (λ o. o ≡ with_busy_returns (self.busy_returns + 1) self) }
+    {
+        let Some(more) = self.busy_returns.checked_add(1) else {
+            return Err(NoVerdict);
+        };
+        self.busy_returns = more;
+        Ok(self)
+    }
+}
+
+impl Copied for Open {
+    fn copied(&self, alloc: Global) -> Result<Open, AllocError> {
+        Ok(Open {
+            number: self.number,
+            request: request_copied(alloc, &self.request)?,
+            cancelled: self.cancelled,
+            late: self.late,
+            busy_returns: self.busy_returns,
+            marks: all_copied(alloc, self.marks.as_slice())?,
+        })
+    }
+}

@@ -1,0 +1,201 @@
+//! Pieces at the adapter.
+
+ghost use Rattle.std.specs.Prelude.{◌≡◌, IfOk, map, option_map};
+ghost use Rattle.machine.specs.State.{Done};
+ghost use Rattle.srb.specs.Fate.{Acted, Faulted, is_fresh, class_of};
+ghost use Rattle.machine.specs.Sending.{with_fate, status_of_completion};
+ghost use Rattle.judge.specs.Picking.{only};
+ghost use Rattle.judge.specs.Deciding.{is_piece, has_tag, is_bad};
+ghost use Rattle.judge.specs.Next.{marks_left, marks_of_fate};
+ghost use Rattle.judge.specs.Views.{fresh_piece, fate_of};
+
+use crate::copies::{Copied, all_copied};
+use crate::open::alike;
+use crate::places::Place;
+use ntstatus::NtStatus;
+use sector::{Bytes, Extent};
+use srb::{Class, Completion};
+use std::alloc::{AllocError, Global};
+use std::marker::Model;
+
+/// What a piece has done.
+#[derive(Debug, Drop)]
+enum Deed {
+    /// Nothing yet.
+    Fresh,
+    /// It acted on these sectors.
+    Acted(Vec<Bytes>),
+    /// It never will.
+    Faulted,
+}
+
+/// A piece at the adapter.
+#[derive(Debug, Drop)]
+pub(crate) struct Started {
+    number: u128,
+    tag: u8,
+    owner: u64,
+    places: Extent,
+    deed: Deed,
+}
+
+impl Model for Started {
+    ghost use Rattle.machine.specs.State.{Piece};
+
+    ghost Value = { Piece };
+
+    ghost use Rattle.judge.specs.Views.{fate_of};
+
+    ghost view = { λ p. record {
+      number = p.number;
+      tag = p.tag;
+      owner = p.owner;
+      places = p.places;
+      fate = fate_of p.deed;
+    } };
+}
+
+/// The marks of places that were done.
+fn done_marks(alloc: Global, sectors: Vec<Bytes>) -> Result<Vec<Place>, AllocError>
+    ensures { IfOk result (λ places. places.items ≡ map Done sectors.items) }
+{
+    let mut places = Vec::new(alloc);
+    for sector in sectors {
+        places.push(Place::done(sector))?;
+    }
+    Ok(places)
+}
+
+/// The marks that a piece leaves by a good return, if it acted.
+fn marks_of(alloc: Global, deed: Deed) -> Result<Option<Vec<Place>>, AllocError>
+    ensures { IfOk result (λ marks. option_map (λ v. v.items) marks ≡ marks_of_fate (fate_of deed)) }
+{
+    match deed {
+        Deed::Acted(sectors) => {
+            let marks = done_marks(alloc, sectors)?;
+            Ok(Some(marks))
+        }
+        Deed::Fresh | Deed::Faulted => Ok(None),
+    }
+}
+
+/// The completion's status, if it is a bad one.
+fn bad_status(completion: &Completion) -> Option<NtStatus>
+    ensures { result ≡ only (is_bad (class_of completion.now)) (status_of_completion completion.now) }
+{
+    match completion.class() {
+        Class::Bad(_) => Some(completion.status()),
+        Class::Good | Class::Busy => None,
+    }
+}
+
+impl Started {
+    /// A piece that has done nothing yet.
+    pub(crate) fn new(number: u128, tag: u8, owner: u64, places: Extent) -> Started
+        ensures { result ≡ fresh_piece number tag owner places }
+    {
+        Started {
+            number,
+            tag,
+            owner,
+            places,
+            deed: Deed::Fresh,
+        }
+    }
+
+    pub(crate) fn has_number(&self, number: u128) -> bool
+        ensures { result ≡ is_piece number self.now }
+    {
+        self.number == number
+    }
+
+    pub(crate) fn has_tag(&self, tag: u8) -> bool
+        ensures { result ≡ has_tag tag self.now }
+    {
+        self.tag == tag
+    }
+
+    /// The number of its request.
+    pub(crate) fn owner(&self) -> u64
+        ensures { result ≡ self.now.owner }
+    {
+        self.owner
+    }
+
+    pub(crate) fn places(&self) -> Extent
+        ensures { result ≡ self.now.places }
+    {
+        self.places
+    }
+
+    /// Whether it has done nothing yet.
+    pub(crate) fn is_fresh(&self) -> bool
+        ensures { result ≡ is_fresh self.now.fate }
+    {
+        match self.deed {
+            Deed::Fresh => true,
+            Deed::Acted(_) | Deed::Faulted => false,
+        }
+    }
+
+    /// The piece after its act on these sectors.
+    pub(crate) fn acted(mut self, sectors: Vec<Bytes>) -> Started
+        ensures { result ≡ with_fate (Acted sectors.items) self }
+    {
+        self.deed = Deed::Acted(sectors);
+        self
+    }
+
+    /// The piece after its fault.
+    pub(crate) fn faulted(mut self) -> Started
+        ensures { result ≡ with_fate Faulted self }
+    {
+        self.deed = Deed::Faulted;
+        self
+    }
+
+    /// The marks that it leaves by such a return, if it may come back so.
+    pub(crate) fn marks(
+        self,
+        alloc: Global,
+        class: &Class,
+    ) -> Result<Option<Vec<Place>>, AllocError>
+        ensures { IfOk result (λ marks. option_map (λ v. v.items) marks ≡ marks_left self class.now) }
+    {
+        let count = self.places.count;
+        match class {
+            Class::Good => marks_of(alloc, self.deed),
+            Class::Busy => {
+                if !self.is_fresh() {
+                    return Ok(None);
+                }
+                let marks = alike(alloc, count, &Place::back())?;
+                Ok(Some(marks))
+            }
+            Class::Bad(completion) => {
+                let Some(status) = bad_status(completion) else {
+                    return Ok(None);
+                };
+                let marks = alike(alloc, count, &Place::failed(status))?;
+                Ok(Some(marks))
+            }
+        }
+    }
+}
+
+impl Copied for Started {
+    fn copied(&self, alloc: Global) -> Result<Started, AllocError> {
+        let deed = match &self.deed {
+            Deed::Fresh => Deed::Fresh,
+            Deed::Acted(sectors) => Deed::Acted(all_copied(alloc, sectors.as_slice())?),
+            Deed::Faulted => Deed::Faulted,
+        };
+        Ok(Started {
+            number: self.number,
+            tag: self.tag,
+            owner: self.owner,
+            places: self.places,
+            deed,
+        })
+    }
+}

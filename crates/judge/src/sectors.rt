@@ -1,0 +1,82 @@
+//! Sectors of acts and of arrays.
+
+ghost use Rattle.std.specs.Prelude.{◌≡◌, ◌+◌, ◌*◌, [], IfOk, List, get_or, slice_set};
+ghost use Rattle.sector.specs.Splice.{splice};
+ghost use Rattle.judge.specs.Deciding.{chunked, sectors_eq, sectors_moved};
+ghost use Rattle.judge.specs.Views.{rules_of};
+
+use crate::lists::spliced;
+use crate::machine_state::Sectors;
+use crate::rules::MachineRules;
+use machine::Kind;
+use sector::Bytes;
+use std::alloc::{AllocError, Global};
+use std::mem;
+
+/// Bytes cut into so many sectors of a size; the last ones are shorter where there are too few bytes.
+fn chunked(alloc: Global, count: u64, size: u32, bytes: &[u8]) -> Result<Vec<Bytes>, AllocError>
+    ensures { IfOk result (λ sectors. sectors.items ≡ chunked count size bytes.now) }
+{
+    let mut sectors = Vec::new(alloc);
+    let mut rest = bytes;
+    for _ in 0..count {
+        let (first, behind) = rest.split_at(rest.len().min(size as usize));
+        sectors.push(Bytes::new(Vec::from_slice(alloc, first)?))?;
+        rest = behind;
+    }
+    Ok(sectors)
+}
+
+/// The sectors that an act of this many places hands over as these bytes.
+pub(crate) fn sectors_moved(
+    alloc: Global,
+    rules: &MachineRules,
+    count: u64,
+    kind: Kind,
+    bytes: &[u8],
+) -> Result<Vec<Bytes>, AllocError>
+    ensures { IfOk result (λ sectors. sectors.items ≡ sectors_moved (rules_of rules.now) count kind bytes.now) }
+{
+    match kind {
+        Kind::Read | Kind::Write => chunked(alloc, count, rules.sector_size, bytes),
+        Kind::Flush => {
+            let mut sectors = Vec::new(alloc);
+            sectors.push(Bytes::new(Vec::new(alloc)))?;
+            Ok(sectors)
+        }
+    }
+}
+
+/// Whether two lists have the same sectors.
+#[tactic(auto, using(crate::proofs::Stepping::other_length))]
+pub(crate) fn are_same_sectors(a: &[Bytes], b: &[Bytes]) -> bool
+    ensures { result ≡ sectors_eq a.now b.now }
+{
+    if a.len() != b.len() {
+        return false;
+    }
+    for i in 0..a.len() {
+        if a[i].as_slice() != b[i].as_slice() {
+            return false;
+        }
+    }
+    true
+}
+
+/// The arrays with sectors in place of as many in one of them.
+pub(crate) fn with_written(
+    alloc: Global,
+    mut arrays: Vec<Sectors>,
+    partition: usize,
+    first: u128,
+    sectors: Vec<Bytes>,
+) -> Result<Vec<Sectors>, AllocError>
+    ensures { IfOk result (λ new. new.items ≡ slice_set arrays.items partition (splice (get_or arrays.items partition []) first sectors.items)) }
+{
+    if partition >= arrays.len() {
+        return Ok(arrays);
+    }
+    let array = mem::replace(&mut arrays[partition], Sectors::new(Vec::new(alloc)));
+    arrays[partition] = Sectors::new(spliced(array.into_vec(), first, sectors)?);
+    Ok(arrays)
+}

@@ -1,0 +1,210 @@
+//! Starts, which several requests may make.
+
+ghost use Rattle.std.specs.Prelude.{◌≡◌, ◌<◌, ◌++◌, IfOk, OnOk, length, slice_index_or};
+ghost use Rattle.std.specs.List.{flat_map, list_all, remove};
+ghost use Rattle.machine.specs.State.{OpenRequest};
+ghost use Rattle.judge.specs.Picking.{choices};
+ghost use Rattle.judge.specs.Deciding.{is_in_turn, may_start, startable};
+ghost use Rattle.judge.specs.Next.{started_by, started_of, started_each, started};
+ghost use Rattle.judge.specs.Starting.{IsPending, pending_states, choice_at};
+ghost use Rattle.judge.specs.Views.{rules_of};
+
+use crate::NoVerdict;
+use crate::commands::places_for;
+use crate::copies::Copied;
+use crate::finding::is_lowest_free;
+use crate::machine_state::Machine;
+use crate::open::Open;
+use crate::pieces::Started;
+use crate::rules::MachineRules;
+use cdb::Cdb;
+use sector::Extent;
+use std::alloc::Global;
+
+/// A start that is found and not made yet.
+#[derive(Debug, Clone, Copy)]
+struct Pending {
+    /// The place of its request among those that are open.
+    at: usize,
+    places: Extent,
+}
+
+/// Whether none of the requests is to be started before that of this number.
+fn let_start(requests: &[Open], number: u64) -> bool
+    ensures { result ≡ list_all (is_in_turn number) requests.now }
+{
+    requests.iter().all(|other| other.lets_start(number))
+}
+
+impl Machine {
+    /// How many requests are open.
+    fn open_count(&self) -> usize
+        ensures { result ≡ length self.now.requests }
+    {
+        self.requests.len()
+    }
+
+    /// Whether a piece of the request may be started now.
+    fn may_start(&self, entry: &Open) -> bool
+        ensures { result ≡ may_start self.now entry.now }
+    {
+        !entry.is_cancelled()
+            && !self.removing
+            && !(self.paused && entry.is_late())
+            && let_start(self.requests.as_slice(), entry.number())
+    }
+
+    /// The places of the request that may be started now by this command.
+    fn startable(&self, rules: &MachineRules, command: Option<Cdb>, entry: &Open) -> Option<Extent>
+        ensures { result ≡ startable (rules_of rules.now) self.now command entry.now }
+    {
+        let Some(command) = command else {
+            return None;
+        };
+        let Some(places) = places_for(rules, entry.request(), command) else {
+            return None;
+        };
+        if self.may_start(entry) && entry.can_send(rules, places) {
+            Some(places)
+        } else {
+            None
+        }
+    }
+
+    /// The machine after a start of those places of a request that was taken out.
+    fn started_with(
+        mut self,
+        alloc: Global,
+        tag: u8,
+        entry: Open,
+        places: Extent,
+    ) -> Result<Machine, NoVerdict>
+        ensures { IfOk result (λ m. m ≡ started_by self tag entry self.requests places) }
+    {
+        let number = self.next_piece;
+        let Some(after) = number.checked_add(1) else {
+            return Err(NoVerdict);
+        };
+        self.next_piece = after;
+        let piece = Started::new(number, tag, entry.number(), places);
+        self.put_open(entry.sent(alloc, places)?)?;
+        self.put_started(piece)?;
+        Ok(self)
+    }
+
+    /// Adds the machine after a start of those places of the request at this place.
+    fn add_start(
+        mut self,
+        alloc: Global,
+        tag: u8,
+        start: Pending,
+        found: &mut Vec<Machine>,
+    ) -> Result<(), NoVerdict>
+        requires { start.at < length self.requests }
+        ensures { OnOk result (found.new.items ≡ found.old.items ++ pending_states self tag (Some start)) }
+    {
+        let entry = self.remove_open(start.at);
+        found.push(self.started_with(alloc, tag, entry, start.places)?)?;
+        Ok(())
+    }
+
+    /// Adds a copy of the machine after the start that was found before, if there was one.
+    fn add_pending(
+        &self,
+        alloc: Global,
+        tag: u8,
+        pending: Option<Pending>,
+        found: &mut Vec<Machine>,
+    ) -> Result<(), NoVerdict>
+        requires { IsPending self.now pending }
+        ensures { OnOk result (found.new.items ≡ found.old.items ++ pending_states self.now tag pending) }
+    {
+        let Some(start) = pending else {
+            return Ok(());
+        };
+        self.copied(alloc)?.add_start(alloc, tag, start, found)?;
+        Ok(())
+    }
+
+    /// Adds the machine itself after the start that was found last, if there was one.
+    fn add_last(
+        self,
+        alloc: Global,
+        tag: u8,
+        pending: Option<Pending>,
+        found: &mut Vec<Machine>,
+    ) -> Result<(), NoVerdict>
+        requires { IsPending self pending }
+        ensures { OnOk result (found.new.items ≡ found.old.items ++ pending_states self tag pending) }
+    {
+        let Some(start) = pending else {
+            return Ok(());
+        };
+        self.add_start(alloc, tag, start, found)?;
+        Ok(())
+    }
+
+    /// Looks at the request at this place. Where it may make the start, that one is pending, and the one before is added.
+    fn next_pending(
+        &self,
+        alloc: Global,
+        rules: &MachineRules,
+        tag: u8,
+        command: Option<Cdb>,
+        at: usize,
+        pending: Option<Pending>,
+        found: &mut Vec<Machine>,
+    ) -> Result<Option<Pending>, NoVerdict>
+        requires low { at < length self.now.requests }
+        requires pending { IsPending self.now pending }
+        ensures pending { IfOk result (IsPending self.now) }
+        ensures adds { IfOk result (λ after. found.new.items ++ pending_states self.now tag after
+            ≡ (found.old.items ++ pending_states self.now tag pending)
+            ++ flat_map (started_each (rules_of rules.now) self.now tag command) (choice_at self.now at)) }
+    {
+        let Some(places) = self.startable(rules, command, &self.requests[at]) else {
+            return Ok(pending);
+        };
+        self.add_pending(alloc, tag, pending, found)?;
+        Ok(Some(Pending { at, places }))
+    }
+
+    /// Adds the machine after a start by each request that may make it. Where one alone may, nothing is copied.
+    fn add_starts(
+        self,
+        alloc: Global,
+        rules: &MachineRules,
+        tag: u8,
+        command: Option<Cdb>,
+        found: &mut Vec<Machine>,
+    ) -> Result<(), NoVerdict>
+        ensures { OnOk result (found.new.items ≡ found.old.items
+            ++ flat_map (started_each (rules_of rules.now) self tag command) (choices self.requests)) }
+    {
+        let mut pending = None;
+        for at in 0..self.open_count() {
+            pending = self.next_pending(alloc, rules, tag, command, at, pending, found)?;
+        }
+        self.add_last(alloc, tag, pending, found)?;
+        Ok(())
+    }
+
+    /// Adds each machine that a start with this command leads to.
+    pub(crate) fn add_started(
+        self,
+        alloc: Global,
+        rules: &MachineRules,
+        number: u128,
+        tag: u8,
+        command: Option<Cdb>,
+        found: &mut Vec<Machine>,
+    ) -> Result<(), NoVerdict>
+        ensures { OnOk result (found.new.items ≡ found.old.items ++ started (rules_of rules.now) self number tag command) }
+    {
+        if number != self.next_piece || !is_lowest_free(rules.depth, self.pieces.as_slice(), tag) {
+            return Ok(());
+        }
+        self.add_starts(alloc, rules, tag, command, found)?;
+        Ok(())
+    }
+}

@@ -1,0 +1,72 @@
+//! What a layer costs: this program carries requests of one sector through the port alone, or through the class driver over
+//! it, each to its end before the next, and prints how many succeeded. Who runs it takes the time (`bench/run`).
+//!
+//! It promises, by the contract of [`client::carry`], that no more succeed than were asked for, and of times nothing. That
+//! all succeed is tested by what it prints.
+#![tactic(auto)]
+
+mod client;
+mod layers;
+
+use crate::client::carry;
+use crate::layers::{disk, port};
+use std::alloc::AllocError;
+use std::env;
+use std::process::ExitCode;
+use thiserror::Error;
+
+/// Why nothing was counted.
+#[derive(Debug, Drop, Error)]
+enum Fault {
+    #[error("usage: layer_bench [port COUNT | disk COUNT]..")]
+    Usage,
+    #[error("layer_bench: no memory")]
+    NoMemory,
+    #[error("layer_bench: output failed")]
+    Output,
+}
+
+impl From<AllocError> for Fault {
+    fn from(_error: AllocError) -> Fault {
+        Fault::NoMemory
+    }
+}
+
+/// Carries as many requests through a layer as the word says, and prints how many succeeded.
+fn measure(rt: &HostRuntime, layer: &str, count: &str) -> Result<(), Fault> {
+    let alloc = rt.alloc();
+    let Ok(count) = count.parse::<u32>() else {
+        return Err(Fault::Usage);
+    };
+    let succeeded = match layer {
+        "port" => carry(alloc, &mut port(alloc)?, count)?,
+        "disk" => carry(alloc, &mut disk(alloc)?, count)?,
+        _ => return Err(Fault::Usage),
+    };
+    println!(rt; "{layer}: {succeeded} of {count} succeeded").map_err(|_| Fault::Output)
+}
+
+/// Does what the words of the command line ask for, two by two.
+fn run(rt: &HostRuntime) -> Result<(), Fault> {
+    let Ok(words) = env::args(rt) else {
+        return Err(Fault::Usage);
+    };
+    let words = words.collect::<Vec<String>>(rt.alloc())?;
+    for asked in words.as_slice().get(1..).unwrap_or(&[]).chunks(2) {
+        let [layer, count] = asked else {
+            return Err(Fault::Usage);
+        };
+        measure(rt, layer.as_str(), count.as_str())?;
+    }
+    Ok(())
+}
+
+fn main(rt: HostRuntime) -> ExitCode {
+    match run(&rt) {
+        Ok(()) => ExitCode::SUCCESS,
+        Err(fault) => {
+            let _ = eprintln!(&rt; "{fault}");
+            ExitCode::FAILURE
+        }
+    }
+}

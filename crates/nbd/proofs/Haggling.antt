@@ -1,0 +1,151 @@
+-- The options, one after another.
+use Rattle.std.proofs.Common.{◌≡◌, inl, inr, ℕ, Bool, List, [], ◌∷◌, ◌++◌, length, append-nil, Option, refl, sym, subst, ◌∙◌, ap}
+use Rattle.std.specs.Io.KnownBytes.{Consumes, Appends}
+use Rattle.nbd.specs.declared.End.{End}
+use Rattle.nbd.specs.declared.End.TheVariants.{Input, Output}
+use Rattle.nbd.specs.declared.options.Wish.{Wish}
+use Rattle.nbd.specs.declared.options.Next.{Next}
+use Rattle.nbd.specs.declared.options.Next.TheVariants.{Options, Requests, Ended}
+use Rattle.nbd.specs.Content.{Content}
+use Rattle.nbd.specs.Options.{Asked, IsAsked, IsOptionHeader, TakesOption, TakesOptionHeader, greeting, next_of, option_bytes, replies_to, wish_in, wish_of}
+use Rattle.nbd.specs.Session.{Begins, Ends, IsTold, said}
+use Rattle.nbd.specs.Handshake.{IsLastEarly, AsksOnce, EndsHaggling, Greets, Haggles, IsLastOption, IsSession, Leads, TakesLastOption, answers_to, EndsGreeting}
+use Rattle.nbd.proofs.Streaming.{takes_nothing, takes_more, tells_nothing, tells_more}
+use Rattle.nbd.proofs.Serving.{begins_after, begins_nothing, begins_with, said_append, told_after, told_nothing}
+
+pub asked : (input mid rest : Option (List ℕ)) (code count : ℕ) (wish : Wish) (bytes : List ℕ) → TakesOptionHeader input mid code count → Consumes mid rest bytes
+    → length bytes ≡ count → wish ≡ wish_in code bytes → TakesOption input rest code wish
+asked input mid rest code count wish bytes t taken long is = record {
+  content = bytes;
+  header = t.header;
+  is_header = subst (IsOptionHeader t.header code) (sym long) t.is_header;
+  wish_is = is;
+  taken = takes_more input mid rest t.header bytes t.taken taken;
+}
+
+pub asks_once : (block size : ℕ) (no_zeroes : Bool) (input out rest after : Option (List ℕ)) (code : ℕ) (wish : Wish) (next : Next) → TakesOption input rest code wish
+    → Appends out after (replies_to block size no_zeroes code wish) → next ≡ next_of wish → AsksOnce block size no_zeroes input out rest after next
+asks_once block size no_zeroes input out rest after code wish next t told is = record {
+  option = record { header = t.header; code = code; content = t.content };
+  is = record { is_header = t.is_header };
+  next_is = is ∙ ap next_of t.wish_is;
+  taken = t.taken;
+  told = subst (λ (w : Wish). Appends out after (replies_to block size no_zeroes code w)) t.wish_is told;
+}
+
+leads_more : (xs : List Asked) (a : Asked) (next : Next) → Leads xs Options → IsAsked a → next ≡ next_of (wish_of a) → Leads (xs ++ (a ∷ [])) next
+leads_more [] a next h is e = (is, e)
+leads_more (x ∷ []) a next h is e = (h.0, h.1, (is, e))
+leads_more (x ∷ y ∷ xs) a next h is e = (h.0, h.1, leads_more (y ∷ xs) a next h.2 is e)
+
+one_more : {X : Type 0} (f : X → List ℕ) (xs : List X) (x : X) → said f (xs ++ (x ∷ [])) ≡ said f xs ++ f x
+one_more f xs x = said_append f xs (x ∷ []) ∙ ap (λ (l : List ℕ). said f xs ++ l) (append-nil (f x))
+
+pub haggles_none : (block size : ℕ) (no_zeroes : Bool) (input out : Option (List ℕ)) → Haggles block size no_zeroes input out input out Options
+haggles_none block size no_zeroes input out = record { options = []; leads = refl; taken = takes_nothing input; told = tells_nothing out }
+
+pub haggles_more : (block size : ℕ) (no_zeroes : Bool) (i x j y k z : Option (List ℕ)) (next : Next) → Haggles block size no_zeroes i x j y Options
+    → AsksOnce block size no_zeroes j y k z next → Haggles block size no_zeroes i x k z next
+haggles_more block size no_zeroes i x j y k z next h a = record {
+  options = h.options ++ (a.option ∷ []);
+  leads = leads_more h.options a.option next h.leads a.is a.next_is;
+  taken =
+      subst (Consumes i k) (sym (one_more option_bytes h.options a.option)) (takes_more i j k (said option_bytes h.options) (option_bytes a.option) h.taken a.taken);
+  told =
+      subst (Appends x z) (sym (one_more (answers_to block size no_zeroes) h.options a.option))
+      (tells_more x y z (said (answers_to block size no_zeroes) h.options) (answers_to block size no_zeroes a.option) h.told a.told);
+}
+
+-- what was told stays told
+told_so_far : (end : End) (x y : Option (List ℕ)) (a : List ℕ) → Appends x y a → IsTold end x y a
+told_so_far end x y a h = subst (IsTold end x y) (append-nil a) (told_after end x y y a [] h (told_nothing end y))
+
+pub ends_by_option : (block size : ℕ) (no_zeroes : Bool) (i x j y : Option (List ℕ)) (end : End) → Haggles block size no_zeroes i x j y (Ended end)
+    → EndsHaggling block size no_zeroes i x end y
+ends_by_option block size no_zeroes i x j y end h = record {
+  options = h.options;
+  next = Ended end;
+  last = [];
+  why = inl (refl, refl);
+  leads = h.leads;
+  asked = subst (Begins i) (sym (append-nil (said option_bytes h.options))) (begins_with i j (said option_bytes h.options) h.taken);
+  told = told_so_far end x y (said (answers_to block size no_zeroes) h.options) h.told;
+}
+
+pub ends_among_options : (block size : ℕ) (no_zeroes : Bool) (i x j y z : Option (List ℕ)) (end : End) → Haggles block size no_zeroes i x j y Options → TakesLastOption j end
+    → IsTold end y z [] → EndsHaggling block size no_zeroes i x end z
+ends_among_options block size no_zeroes i x j y z end h l told = record {
+  options = h.options;
+  next = Options;
+  last = l.last;
+  why = inr (refl, l.is_last);
+  leads = h.leads;
+  asked = begins_after i j (said option_bytes h.options) l.last h.taken l.asked;
+  told = subst (IsTold end x z) (append-nil _) (told_after end x y z (said (answers_to block size no_zeroes) h.options) [] h.told told);
+}
+
+-- where none came, or writing failed
+pub cut_short : (i : Option (List ℕ)) (end : End) → end ≡ Input → TakesLastOption i end
+cut_short i end e = record { last = []; asked = begins_nothing i; is_last = subst (λ (x : End). IsLastOption x []) (sym e) refl }
+
+pub untold : (i : Option (List ℕ)) (end : End) → end ≡ Output → TakesLastOption i end
+untold i end e = record { last = []; asked = begins_nothing i; is_last = subst (λ (x : End). IsLastOption x []) (sym e) refl }
+
+pub greeting_cut : (i x z : Option (List ℕ)) (end : End) → end ≡ Input → Appends x z greeting → EndsGreeting i x end z
+greeting_cut i x z end e told = record {
+  last = [];
+  is_last = subst (λ (y : End). IsLastEarly y []) (sym e) refl;
+  asked = begins_nothing i;
+  told = told_so_far end x z greeting told;
+}
+
+-- WHOLE SESSIONS
+
+pub ends_early : (old : Content) (i x z : Option (List ℕ)) (end : End) → EndsGreeting i x end z → IsSession old i x end old z
+ends_early old i x z end h = inl (record { same = refl; ended = h })
+
+-- of an array's own sizes
+pub at_sizes : (P : ℕ → ℕ → Type 0) (old : Content) (block size : ℕ) → block ≡ old.block → size ≡ length old.bytes → P block size → P old.block (length old.bytes)
+at_sizes P old block size eb es h = subst (P old.block) es (subst (λ (b : ℕ). P b size) eb h)
+
+pub ends_in_options : (old : Content) (block size : ℕ) (no_zeroes : Bool) (i x j y z : Option (List ℕ)) (end : End) → block ≡ old.block → size ≡ length old.bytes
+    → Greets i x j y no_zeroes → EndsHaggling block size no_zeroes j y end z → IsSession old i x end old z
+ends_in_options old block size no_zeroes i x j y z end eb es g h' =
+    let h : EndsHaggling old.block (length old.bytes) no_zeroes j y end z = at_sizes (λ (b s : ℕ). EndsHaggling b s no_zeroes j y end z) old block size eb es h' in
+    let ans = answers_to old.block (length old.bytes) no_zeroes in
+    inr (record {
+      flags = g.flags;
+      no_zeroes = no_zeroes;
+      are_flags = g.are_flags;
+      options = h.options;
+      next = h.next;
+      leads = h.leads;
+      exchanges = [];
+      last = h.last;
+      in_turn = inr (refl, h.why);
+      asked = begins_after i j g.flags (said option_bytes h.options ++ h.last) g.taken h.asked;
+      told =
+          told_after end x y z greeting (said ans h.options ++ []) g.told (subst (IsTold end y z) (sym (append-nil (said ans h.options))) h.told);
+      run = refl;
+    })
+
+pub whole_session : (old new : Content) (block size : ℕ) (no_zeroes : Bool) (i x j y k z w : Option (List ℕ)) (end : End) → block ≡ old.block → size ≡ length old.bytes
+    → Greets i x j y no_zeroes → Haggles block size no_zeroes j y k z Requests → Ends old k z end new w → IsSession old i x end new w
+whole_session old new block size no_zeroes i x j y k z w end eb es g h' e =
+    let h : Haggles old.block (length old.bytes) no_zeroes j y k z Requests = at_sizes (λ (b s : ℕ). Haggles b s no_zeroes j y k z Requests) old block size eb es h' in
+    let ans = answers_to old.block (length old.bytes) no_zeroes in
+    inr (record {
+      flags = g.flags;
+      no_zeroes = no_zeroes;
+      are_flags = g.are_flags;
+      options = h.options;
+      next = Requests;
+      leads = h.leads;
+      exchanges = e.exchanges;
+      last = e.last;
+      in_turn = inl (refl, e.is_last);
+      asked =
+          begins_after i j g.flags _ g.taken (begins_after j k (said option_bytes h.options) _ h.taken e.asked);
+      told = told_after end x y w greeting _ g.told (told_after end y z w (said ans h.options) _ h.told e.told);
+      run = e.run;
+    })

@@ -1,0 +1,5 @@
+pub mod Streaming
+pub mod Clearing
+pub mod Serving
+pub mod Haggling
+pub mod Spelling

@@ -1,0 +1,34 @@
+-- An array of bytes, and what is done to it.
+use Rattle.std.specs.Prelude.{◌≡◌, ◌≤◌, ◌<◌, ◌⊎◌, ℕ, ◌+◌, ◌%◌, List, ◌++◌, length, take, drop}
+
+-- an array as its user sees it
+pub record Content : Type 0 where
+  -- bytes of a block
+  pub block : ℕ
+  -- of the array
+  pub bytes : List ℕ
+
+abbrev pub IsBlockSize : ℕ → Type 0
+IsBlockSize size = (size ≡ 512) ⊎ (size ≡ 4096)
+
+-- so many bytes from this one on are whole blocks of an array of so many bytes, and at least one
+pub record AreInBounds (block size offset count : ℕ) : Type 0 where
+  pub begins : offset % block ≡ 0
+  pub ends : count % block ≡ 0
+  pub some : 0 < count
+  pub inside : offset + count ≤ size
+
+-- the list with others in the place of as many from this one on
+abbrev pub splice : List ℕ → ℕ → List ℕ → List ℕ
+splice xs first others = take first xs ++ (others ++ drop (first + length others) xs)
+
+-- the array with these bytes from this one on
+abbrev pub written : Content → ℕ → List ℕ → Content
+written c offset bytes = record c { bytes = splice c.bytes offset bytes }
+
+-- of the array, nothing changed but perhaps so many bytes from this one on
+pub record IsSameOutside (old : Content) (offset count : ℕ) (new : Content) : Type 0 where
+  pub block : new.block ≡ old.block
+  pub long : length new.bytes ≡ length old.bytes
+  pub before : take offset new.bytes ≡ take offset old.bytes
+  pub behind : drop (offset + count) new.bytes ≡ drop (offset + count) old.bytes

@@ -1,0 +1,114 @@
+-- What is said before a client's requests.
+use Rattle.std.specs.Prelude.{◌≡◌, ◌⊎◌, ℕ, Bool, List, [], ◌∷◌, ◌++◌, length, Option, IsTrue, IsFalse}
+use Rattle.std.specs.Io.KnownBytes.{Appends, Consumes}
+use Rattle.byteorder.specs.Endian.{big_from}
+use Rattle.nbd.specs.declared.End.{End}
+use Rattle.nbd.specs.declared.End.TheVariants.{Left, Malformed}
+use Rattle.nbd.specs.declared.options.Next.{Next}
+use Rattle.nbd.specs.declared.options.Next.TheVariants.{Options, Requests, Ended}
+use Rattle.nbd.specs.Content.{Content}
+use Rattle.nbd.specs.Options.{Asked, IsAsked, IsNoOption, are_known, greeting, next_of, option_bytes, replies_to, wants_no_zeroes, wish_of}
+use Rattle.nbd.specs.Session.{Begins, Exchange, IsTold, IsLast, Run, asked_by, said, told_by}
+
+-- the replies to an option
+abbrev pub answers_to : ℕ → ℕ → Bool → Asked → List ℕ
+answers_to block size no_zeroes a = replies_to block size no_zeroes a.code (wish_of a)
+
+-- each of these options but the last leads to another, and the last to this
+abbrev pub Leads : List Asked → Next → Type 0
+Leads [] next = next ≡ Options
+Leads (a ∷ []) next = IsAsked a × (next ≡ next_of (wish_of a))
+Leads (a ∷ b ∷ as') next = IsAsked a × (Options ≡ next_of (wish_of a)) × Leads (b ∷ as') next
+
+-- the bytes that end the options, where none of them did
+abbrev pub IsLastOption : End → List ℕ → Type 0
+IsLastOption Left bytes = ⊥
+IsLastOption Malformed bytes = IsNoOption bytes
+IsLastOption _ bytes = bytes ≡ []
+
+-- a stream began with such bytes
+pub record TakesLastOption (input : Option (List ℕ)) (end : End) : Type 0 where
+  pub last : List ℕ
+  pub asked : Begins input last
+  pub is_last : IsLastOption end last
+
+-- one option was taken and answered
+pub record AsksOnce (block size : ℕ) (no_zeroes : Bool) (input out rest after : Option (List ℕ)) (next : Next) : Type 0 where
+  pub option : Asked
+  pub is : IsAsked option
+  pub next_is : next ≡ next_of (wish_of option)
+  pub taken : Consumes input rest (option_bytes option)
+  pub told : Appends out after (answers_to block size no_zeroes option)
+
+-- options were taken and answered, in order
+pub record Haggles (block size : ℕ) (no_zeroes : Bool) (input out rest after : Option (List ℕ)) (next : Next) : Type 0 where
+  pub options : List Asked
+  pub leads : Leads options next
+  pub taken : Consumes input rest (said option_bytes options)
+  pub told : Appends out after (said (answers_to block size no_zeroes) options)
+
+-- the session ended among the options: by one of them, or where none came
+pub record EndsHaggling (block size : ℕ) (no_zeroes : Bool) (input out : Option (List ℕ)) (end : End) (after : Option (List ℕ)) : Type 0 where
+  pub options : List Asked
+  pub next : Next
+  pub last : List ℕ
+  pub why : ((next ≡ Ended end) × (last ≡ [])) ⊎ ((next ≡ Options) × IsLastOption end last)
+  pub leads : Leads options next
+  pub asked : Begins input (said option_bytes options ++ last)
+  pub told : IsTold end out after (said (answers_to block size no_zeroes) options)
+
+-- the four bytes of a client's flags
+pub record AreFlags (bytes : List ℕ) (no_zeroes : Bool) : Type 0 where
+  pub long : length bytes ≡ 4
+  pub known : IsTrue (are_known (big_from 0 4 bytes))
+  pub wants : no_zeroes ≡ wants_no_zeroes (big_from 0 4 bytes)
+
+-- the server greeted, and the client's flags were taken
+pub record Greets (input out rest after : Option (List ℕ)) (no_zeroes : Bool) : Type 0 where
+  pub flags : List ℕ
+  pub are_flags : AreFlags flags no_zeroes
+  pub taken : Consumes input rest flags
+  pub told : Appends out after greeting
+
+-- a session that came to its options: the bytes with which the stream began, what was written, what became of the array
+pub record Talks (old : Content) (input out : Option (List ℕ)) (end : End) (new : Content) (after : Option (List ℕ)) : Type 0 where
+  pub flags : List ℕ
+  pub no_zeroes : Bool
+  pub are_flags : AreFlags flags no_zeroes
+  pub options : List Asked
+  pub next : Next
+  pub leads : Leads options next
+  pub exchanges : List Exchange
+  pub last : List ℕ
+  -- no request is served but behind an option that leads to requests
+  pub in_turn : ((next ≡ Requests) × IsLast end last) ⊎ ((exchanges ≡ []) × (((next ≡ Ended end) × (last ≡ [])) ⊎ ((next ≡ Options) × IsLastOption end last)))
+  pub asked : Begins input (flags ++ (said option_bytes options ++ (said asked_by exchanges ++ last)))
+  pub told : IsTold end out after (greeting ++ (said (answers_to old.block (length old.bytes) no_zeroes) options ++ said told_by exchanges))
+  pub run : Run old exchanges new
+
+-- four bytes with a flag that isn't known
+pub record AreNoFlags (bytes : List ℕ) : Type 0 where
+  pub long : length bytes ≡ 4
+  pub unknown : IsFalse (are_known (big_from 0 4 bytes))
+
+-- the bytes that end a session before its options
+abbrev pub IsLastEarly : End → List ℕ → Type 0
+IsLastEarly Left bytes = ⊥
+IsLastEarly Malformed bytes = AreNoFlags bytes
+IsLastEarly _ bytes = bytes ≡ []
+
+-- a session that ended before its options
+pub record EndsGreeting (input out : Option (List ℕ)) (end : End) (after : Option (List ℕ)) : Type 0 where
+  pub last : List ℕ
+  pub is_last : IsLastEarly end last
+  pub asked : Begins input last
+  pub told : IsTold end out after greeting
+
+-- the array is then as it was
+pub record EndsEarly (old : Content) (input out : Option (List ℕ)) (end : End) (new : Content) (after : Option (List ℕ)) : Type 0 where
+  pub same : new ≡ old
+  pub ended : EndsGreeting input out end after
+
+-- a whole session
+abbrev pub IsSession : Content → Option (List ℕ) → Option (List ℕ) → End → Content → Option (List ℕ) → Type 0
+IsSession old input out end new after = EndsEarly old input out end new after ⊎ Talks old input out end new after

@@ -1,0 +1,105 @@
+-- What is said in a session, and what it does to the array.
+use Rattle.std.specs.Prelude.{◌≡◌, ◌≢◌, ℕ, List, [], ◌∷◌, ◌++◌, length, Option, None, Some, ⊤}
+use Rattle.std.specs.Io.KnownBytes.{Appends, Consumes}
+use Rattle.byteorder.specs.Endian.{big_from}
+use Rattle.nbd.specs.declared.End.{End}
+use Rattle.nbd.specs.declared.End.TheVariants.{Left, Malformed, Output}
+use Rattle.nbd.specs.declared.requests.Request.{Request}
+use Rattle.nbd.specs.declared.numbers.TheConstants.{NBD_CMD_DISC, NBD_REQUEST_MAGIC}
+use Rattle.nbd.specs.Content.{Content}
+use Rattle.nbd.specs.Requests.{IsRequest, payload_count}
+use Rattle.nbd.specs.Replies.{Outcome, reply_bytes}
+use Rattle.nbd.specs.Carrying.{Serves}
+
+-- a request that was served: its 28 bytes, those that came behind it, and how it ended
+pub record Exchange : Type 0 where
+  pub header : List ℕ
+  pub request : Request
+  pub payload : List ℕ
+  pub outcome : Outcome
+
+-- its bytes, and those of its reply
+abbrev pub asked_by : Exchange → List ℕ
+asked_by x = x.header ++ x.payload
+
+abbrev pub told_by : Exchange → List ℕ
+told_by x = reply_bytes x.request.cookie x.outcome
+
+-- what all of these say, one after the other
+abbrev pub said : {X : Type 0} → (X → List ℕ) → List X → List ℕ
+said bytes [] = []
+said bytes (x ∷ xs) = bytes x ++ said bytes xs
+
+pub record IsExchange (old : Content) (x : Exchange) (new : Content) : Type 0 where
+  pub is_request : IsRequest x.header x.request
+  pub goes_on : x.request.kind ≢ NBD_CMD_DISC
+  pub long : length x.payload ≡ payload_count x.request
+  pub serves : Serves x.request x.payload old x.outcome new
+
+-- the array moved by these, one after the other, and by nothing else
+abbrev pub Run : Content → List Exchange → Content → Type 0
+Run old [] new = new ≡ old
+Run old (x ∷ xs) new = (mid : Content) × IsExchange old x mid × Run mid xs new
+
+-- these requests were taken, served and answered, in order
+pub record Served (old : Content) (input out : Option (List ℕ)) (new : Content) (rest after : Option (List ℕ)) : Type 0 where
+  pub exchanges : List Exchange
+  pub run : Run old exchanges new
+  pub taken : Consumes input rest (said asked_by exchanges)
+  pub told : Appends out after (said told_by exchanges)
+
+-- a stream, where its bytes are known, begins with these
+abbrev pub Begins : Option (List ℕ) → List ℕ → Type 0
+Begins None bytes = ⊤
+Begins (Some xs) bytes = (rest : List ℕ) × (xs ≡ bytes ++ rest)
+
+-- unless writing failed, these bytes were written
+abbrev pub IsTold : End → Option (List ℕ) → Option (List ℕ) → List ℕ → Type 0
+IsTold Output out after bytes = ⊤
+IsTold _ out after bytes = Appends out after bytes
+
+-- 28 bytes that are a disconnect
+pub record IsDisconnect (bytes : List ℕ) : Type 0 where
+  pub request : Request
+  pub is_request : IsRequest bytes request
+  pub disconnects : request.kind ≡ NBD_CMD_DISC
+
+-- 28 bytes that don't begin as a request
+pub record IsNoRequest (bytes : List ℕ) : Type 0 where
+  pub long : length bytes ≡ 28
+  pub other : big_from 0 4 bytes ≢ NBD_REQUEST_MAGIC
+
+-- the bytes that end the requests
+abbrev pub IsLast : End → List ℕ → Type 0
+IsLast Left bytes = IsDisconnect bytes
+IsLast Malformed bytes = IsNoRequest bytes
+IsLast _ bytes = bytes ≡ []
+
+-- how a client's requests ended: these were served, by the bytes with which its stream began, and answered in order
+pub record Ends (old : Content) (input out : Option (List ℕ)) (end : End) (new : Content) (after : Option (List ℕ)) : Type 0 where
+  pub exchanges : List Exchange
+  pub last : List ℕ
+  pub run : Run old exchanges new
+  pub asked : Begins input (said asked_by exchanges ++ last)
+  pub told : IsTold end out after (said told_by exchanges)
+  pub is_last : IsLast end last
+
+-- one exchange
+pub record IsExchanged (old : Content) (input out : Option (List ℕ)) (new : Content) (rest after : Option (List ℕ)) : Type 0 where
+  pub exchange : Exchange
+  pub is : IsExchange old exchange new
+  pub taken : Consumes input rest (asked_by exchange)
+  pub told : Appends out after (told_by exchange)
+
+-- 28 bytes that are a request and no disconnect were taken
+pub record TakesRequest (input rest : Option (List ℕ)) (request : Request) : Type 0 where
+  pub header : List ℕ
+  pub is_request : IsRequest header request
+  pub goes_on : request.kind ≢ NBD_CMD_DISC
+  pub taken : Consumes input rest header
+
+-- the bytes with which a stream began end the requests
+pub record TakesLast (input : Option (List ℕ)) (end : End) : Type 0 where
+  pub last : List ℕ
+  pub asked : Begins input last
+  pub is_last : IsLast end last

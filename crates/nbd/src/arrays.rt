@@ -1,0 +1,80 @@
+//! What a server serves.
+
+ghost use Rattle.std.specs.Prelude.{◌≡◌, ◌≤◌, ◌+◌, length, slice_range, IfOk, MatchResult};
+ghost use Rattle.nbd.specs.Content.{AreInBounds, Content, IsBlockSize, IsSameOutside, written};
+
+use crate::numbers::LONGEST;
+use std::alloc::Global;
+use thiserror::Error;
+
+/// The sizes of an array.
+#[derive(Debug, Clone, Copy, PartialEq, Eq)]
+pub struct Sizes {
+    /// Bytes of a block, 512 or 4096. Each request has whole blocks.
+    pub block: u32,
+    /// Bytes of the array.
+    pub bytes: u64,
+}
+
+/// Why an array did not do what it was asked to.
+#[derive(Debug, Clone, Copy, PartialEq, Eq, Error)]
+pub enum ArrayFault {
+    /// Memory was refused.
+    #[error("no memory")]
+    NoMemory,
+    /// It can't be written.
+    #[error("write protected")]
+    Protected,
+    /// It isn't there any more.
+    #[error("gone")]
+    Gone,
+    /// It failed.
+    #[error("failed")]
+    Failed,
+}
+
+/// Bytes that are read and written in whole blocks.
+pub trait Array {
+    ghost content: { Self → Content };
+
+    /// The sizes, which never change.
+    fn sizes(&self) -> Sizes
+        ensures block { result.block ≡ (content self.now).block }
+        ensures bytes { result.bytes ≡ length (content self.now).bytes }
+        ensures block_size { IsBlockSize result.block };
+
+    /// Reads as many bytes as the buffer has, from byte `offset` on.
+    ///
+    /// # Errors
+    ///
+    /// As [`ArrayFault`] says.
+    fn read(&mut self, alloc: Global, offset: u64, buffer: Vec<u8>) -> Result<Vec<u8>, ArrayFault>
+        requires in_bounds { AreInBounds (content self.old).block (length (content self.old).bytes) offset (length buffer.items) }
+        requires short { length buffer.items ≤ LONGEST }
+        ensures reads { IfOk result (λ bytes. bytes.items ≡ slice_range (content self.old).bytes offset (offset + length buffer.items)) }
+        ensures same { content self.new ≡ content self.old };
+
+    /// Writes bytes from byte `offset` on; with `through`, past volatile caches.
+    ///
+    /// # Errors
+    ///
+    /// As [`ArrayFault`] says. What stands outside the bytes that were to be written is as it was.
+    fn write(
+        &mut self,
+        alloc: Global,
+        offset: u64,
+        bytes: Vec<u8>,
+        through: bool,
+    ) -> Result<(), ArrayFault>
+        requires in_bounds { AreInBounds (content self.old).block (length (content self.old).bytes) offset (length bytes.items) }
+        requires short { length bytes.items ≤ LONGEST }
+        ensures { MatchResult result (λ _. content self.new ≡ written (content self.old) offset bytes.items) (λ _. IsSameOutside (content self.old) offset (length bytes.items) (content self.new)) };
+
+    /// Brings what was written past volatile caches.
+    ///
+    /// # Errors
+    ///
+    /// As [`ArrayFault`] says.
+    fn flush(&mut self, alloc: Global) -> Result<(), ArrayFault>
+        ensures same { content self.new ≡ content self.old };
+}

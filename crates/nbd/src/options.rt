@@ -1,0 +1,309 @@
+//! The options that a client sends before its requests, and their replies.
+
+ghost use Rattle.std.specs.Prelude.{◌≡◌, ◌≤◌, ◌<◌, ◌^◌, ◌++◌, ℕ, List, true, length, IfErr, IfOk, OnOk};
+ghost use Rattle.std.specs.Io.KnownBytes.{Appends};
+ghost use Rattle.byteorder.specs.Endian.{big_bytes};
+ghost use Rattle.nbd.specs.Handshake.{TakesLastOption};
+ghost use Rattle.nbd.specs.Options.{block_bytes, export_bytes, info_in, info_replies, next_of, option_error_number, option_header, option_reply, replies_to, TakesOption, TakesOptionHeader, wish_in};
+
+use crate::End;
+use crate::arrays::Sizes;
+use crate::numbers::{
+    IHAVEOPT, LONGEST, LONGEST_OPTION, NBD_FLAG_HAS_FLAGS, NBD_FLAG_SEND_FLUSH, NBD_FLAG_SEND_FUA,
+    NBD_FLAG_SEND_WRITE_ZEROES, NBD_INFO_BLOCK_SIZE, NBD_INFO_EXPORT, NBD_OPT_ABORT,
+    NBD_OPT_EXPORT_NAME, NBD_OPT_GO, NBD_OPT_INFO, NBD_OPT_LIST, NBD_REP_ACK, NBD_REP_ERR_INVALID,
+    NBD_REP_ERR_TOO_BIG, NBD_REP_ERR_UNKNOWN, NBD_REP_ERR_UNSUP, NBD_REP_INFO, NBD_REP_MAGIC,
+    NBD_REP_SERVER,
+};
+use crate::streams::{skip, take};
+use byteorder::{BigEndian, ByteOrder};
+use std::io;
+use std::io::{Read, Write};
+
+/// What the server can do.
+const EXPORT_FLAGS: u16 = NBD_FLAG_HAS_FLAGS
+    + NBD_FLAG_SEND_FLUSH
+    + NBD_FLAG_SEND_FUA
+    + NBD_FLAG_SEND_WRITE_ZEROES;
+
+/// What an option asks for. There is one export, whose name is empty.
+#[derive(Debug, Clone, Copy, PartialEq, Eq)]
+pub enum Wish {
+    /// NBD_OPT_EXPORT_NAME: to go on to requests.
+    Export,
+    /// NBD_OPT_ABORT.
+    Leave,
+    /// NBD_OPT_LIST: the names of the exports.
+    Exports,
+    /// NBD_OPT_INFO: what the export is.
+    Info,
+    /// NBD_OPT_GO: that, and to go on to requests.
+    Go,
+    /// Something that isn't done.
+    Refuse(OptionError),
+    /// NBD_OPT_EXPORT_NAME of an export that isn't there, to which there is no reply.
+    Close,
+}
+
+/// Why an option isn't done.
+#[derive(Debug, Clone, Copy, PartialEq, Eq)]
+pub enum OptionError {
+    /// It isn't known.
+    Unsupported,
+    /// Its data are none of its own.
+    Invalid,
+    /// The export isn't there.
+    Unknown,
+    /// It has more data than are looked at.
+    TooBig,
+}
+
+/// What comes after an option.
+#[derive(Debug, Clone, Copy, PartialEq, Eq)]
+pub enum Next {
+    Options,
+    Requests,
+    Ended(End),
+}
+
+impl Wish {
+    /// What comes after it.
+    pub fn next(self) -> Next
+        ensures { result ≡ next_of self }
+    {
+        match self {
+            Wish::Export | Wish::Go => Next::Requests,
+            Wish::Leave => Next::Ended(End::Left),
+            Wish::Close => Next::Ended(End::Malformed),
+            Wish::Exports | Wish::Info | Wish::Refuse(_) => Next::Options,
+        }
+    }
+}
+
+impl OptionError {
+    /// Its number in a reply.
+    pub fn number(self) -> u32
+        ensures { result ≡ option_error_number self }
+    {
+        match self {
+            OptionError::Unsupported => NBD_REP_ERR_UNSUP,
+            OptionError::Invalid => NBD_REP_ERR_INVALID,
+            OptionError::Unknown => NBD_REP_ERR_UNKNOWN,
+            OptionError::TooBig => NBD_REP_ERR_TOO_BIG,
+        }
+    }
+}
+
+/// What an option of this code with these data asks for.
+pub fn parse_option(code: u32, bytes: &[u8]) -> Wish
+    requires { length bytes.now ≤ LONGEST_OPTION }
+    ensures { result ≡ wish_in code bytes.now }
+{
+    match code {
+        NBD_OPT_EXPORT_NAME if bytes.is_empty() => Wish::Export,
+        NBD_OPT_EXPORT_NAME => Wish::Close,
+        NBD_OPT_ABORT => Wish::Leave,
+        NBD_OPT_LIST if bytes.is_empty() => Wish::Exports,
+        NBD_OPT_LIST => Wish::Refuse(OptionError::Invalid),
+        NBD_OPT_INFO => parse_info(Wish::Info, bytes),
+        NBD_OPT_GO => parse_info(Wish::Go, bytes),
+        _ => Wish::Refuse(OptionError::Unsupported),
+    }
+}
+
+/// What the data of NBD_OPT_INFO or NBD_OPT_GO ask for.
+fn parse_info(wish: Wish, bytes: &[u8]) -> Wish
+    requires { length bytes.now ≤ LONGEST_OPTION }
+    ensures { result ≡ info_in wish bytes.now }
+{
+    if bytes.len() < 6 {
+        return Wish::Refuse(OptionError::Invalid);
+    }
+    let name = BigEndian::read_u32(bytes) as usize;
+    if bytes.len() < 6 + name {
+        return Wish::Refuse(OptionError::Invalid);
+    }
+    if name != 0 {
+        return Wish::Refuse(OptionError::Unknown);
+    }
+    if bytes.len() != 6 + 2 * BigEndian::read_u16(&bytes[4..]) as usize {
+        return Wish::Refuse(OptionError::Invalid);
+    }
+    wish
+}
+
+/// The next option: its code, and what it asks for. The buffer takes its data.
+///
+/// # Errors
+///
+/// [`End::Malformed`] where none begins, and [`End::Input`].
+pub fn next_option<R: Read>(input: &mut R, buffer: &mut [u8]) -> Result<(u32, Wish), End>
+    requires { length buffer.old ≡ LONGEST_OPTION }
+    ensures taken { IfOk result (λ found. TakesOption (R.remaining input.old) (R.remaining input.new) found.0 found.1) }
+    ensures ended { IfErr result (TakesLastOption (R.remaining input.old)) }
+{
+    let (code, count) = next_header(input)?;
+    if count > LONGEST_OPTION {
+        skip(input, count)?;
+        return Ok((code, too_long(code)));
+    }
+    let (data, _) = buffer.split_at_mut(count as usize);
+    take(input, data)?;
+    Ok((code, parse_option(code, data)))
+}
+
+/// The code of the next option, and how many bytes come behind it.
+///
+/// # Errors
+///
+/// [`End::Malformed`] where none begins, and [`End::Input`].
+fn next_header<R: Read>(input: &mut R) -> Result<(u32, u32), End>
+    ensures taken { IfOk result (λ found. TakesOptionHeader (R.remaining input.old) (R.remaining input.new) found.0 found.1) }
+    ensures ended { IfErr result (TakesLastOption (R.remaining input.old)) }
+{
+    let mut header = [0; 16];
+    take(input, &mut header)?;
+    if BigEndian::read_u64(&header) != IHAVEOPT {
+        return Err(End::Malformed);
+    }
+    Ok((
+        BigEndian::read_u32(&header[8..]),
+        BigEndian::read_u32(&header[12..]),
+    ))
+}
+
+/// What an option asks for that has more data than are looked at.
+fn too_long(code: u32) -> Wish
+    ensures { (bytes : List ℕ) → LONGEST_OPTION < length bytes → result ≡ wish_in code bytes }
+{
+    if code == NBD_OPT_EXPORT_NAME {
+        Wish::Close
+    } else {
+        Wish::Refuse(OptionError::TooBig)
+    }
+}
+
+/// Writes the replies to an option of this code, of an export of these sizes.
+///
+/// # Errors
+///
+/// Those of the writer.
+pub fn write_replies<W: Write>(
+    out: &mut W,
+    sizes: Sizes,
+    no_zeroes: bool,
+    code: u32,
+    wish: Wish,
+) -> io::Result<()>
+    ensures { OnOk result (Appends (W.contents out.old) (W.contents out.new) (replies_to sizes.block sizes.bytes no_zeroes code wish)) }
+{
+    match wish {
+        Wish::Export => write_export(out, sizes, no_zeroes),
+        Wish::Leave => write_option_reply(out, code, NBD_REP_ACK, &[]),
+        Wish::Exports => write_exports(out, code),
+        Wish::Info | Wish::Go => write_info(out, sizes, code),
+        Wish::Refuse(error) => write_option_reply(out, code, error.number(), &[]),
+        Wish::Close => Ok(()),
+    }
+}
+
+/// Writes the reply to NBD_OPT_EXPORT_NAME.
+///
+/// # Errors
+///
+/// Those of the writer.
+fn write_export<W: Write>(out: &mut W, sizes: Sizes, no_zeroes: bool) -> io::Result<()>
+    ensures { OnOk result (Appends (W.contents out.old) (W.contents out.new) (replies_to sizes.block sizes.bytes no_zeroes 0 Wish.Export)) }
+{
+    out.write_all(&export(sizes.bytes))?;
+    if !no_zeroes {
+        out.write_all(&[0; 124])?;
+    }
+    Ok(())
+}
+
+/// Writes the names of the exports: one, which is empty.
+///
+/// # Errors
+///
+/// Those of the writer.
+fn write_exports<W: Write>(out: &mut W, code: u32) -> io::Result<()>
+    ensures { OnOk result (Appends (W.contents out.old) (W.contents out.new) (replies_to 0 0 true code Wish.Exports)) }
+{
+    write_option_reply(out, code, NBD_REP_SERVER, &[0; 4])?;
+    write_option_reply(out, code, NBD_REP_ACK, &[])?;
+    Ok(())
+}
+
+/// Writes what the export is.
+///
+/// # Errors
+///
+/// Those of the writer.
+fn write_info<W: Write>(out: &mut W, sizes: Sizes, code: u32) -> io::Result<()>
+    ensures { OnOk result (Appends (W.contents out.old) (W.contents out.new) (info_replies sizes.block sizes.bytes code)) }
+{
+    write_option_reply(out, code, NBD_REP_INFO, &export_info(sizes.bytes))?;
+    write_option_reply(out, code, NBD_REP_INFO, &block_info(sizes.block))?;
+    write_option_reply(out, code, NBD_REP_ACK, &[])?;
+    Ok(())
+}
+
+/// Writes a reply.
+///
+/// # Errors
+///
+/// Those of the writer.
+fn write_option_reply<W: Write>(out: &mut W, code: u32, kind: u32, bytes: &[u8]) -> io::Result<()>
+    requires { length bytes.now < 2 ^ 32 }
+    ensures { OnOk result (Appends (W.contents out.old) (W.contents out.new) (option_reply code kind bytes.now)) }
+{
+    out.write_all(&header(code, kind, bytes.len() as u32))?;
+    out.write_all(bytes)?;
+    Ok(())
+}
+
+/// The bytes in front of a reply's data.
+fn header(code: u32, kind: u32, count: u32) -> [u8; 20]
+    ensures { result ≡ option_header code kind count }
+{
+    let mut bytes = [0; 20];
+    BigEndian::write_u64(&mut bytes, NBD_REP_MAGIC);
+    BigEndian::write_u32(&mut bytes[8..], code);
+    BigEndian::write_u32(&mut bytes[12..], kind);
+    BigEndian::write_u32(&mut bytes[16..], count);
+    bytes
+}
+
+/// The size of the export, and its transmission flags.
+fn export(size: u64) -> [u8; 10]
+    ensures { result ≡ export_bytes size }
+{
+    let mut bytes = [0; 10];
+    BigEndian::write_u64(&mut bytes, size);
+    BigEndian::write_u16(&mut bytes[8..], EXPORT_FLAGS);
+    bytes
+}
+
+/// What NBD_INFO_EXPORT tells.
+fn export_info(size: u64) -> [u8; 12]
+    ensures { result ≡ big_bytes 2 NBD_INFO_EXPORT ++ export_bytes size }
+{
+    let mut bytes = [0; 12];
+    BigEndian::write_u16(&mut bytes, NBD_INFO_EXPORT);
+    BigEndian::write_u64(&mut bytes[2..], size);
+    BigEndian::write_u16(&mut bytes[10..], EXPORT_FLAGS);
+    bytes
+}
+
+/// What NBD_INFO_BLOCK_SIZE tells.
+fn block_info(block: u32) -> [u8; 14]
+    ensures { result ≡ big_bytes 2 NBD_INFO_BLOCK_SIZE ++ block_bytes block }
+{
+    let mut bytes = [0; 14];
+    BigEndian::write_u16(&mut bytes, NBD_INFO_BLOCK_SIZE);
+    BigEndian::write_u32(&mut bytes[2..], block);
+    BigEndian::write_u32(&mut bytes[6..], 4096);
+    BigEndian::write_u32(&mut bytes[10..], LONGEST);
+    bytes
+}

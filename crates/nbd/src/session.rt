@@ -1,0 +1,108 @@
+//! A client's session.
+
+ghost use Rattle.std.specs.Prelude.{◌≡◌, IfErr, IfOk, MatchResult, OnOk};
+ghost use Rattle.std.specs.Io.KnownBytes.{Appends};
+ghost use Rattle.nbd.specs.Replies.{outcome_of, reply_bytes};
+ghost use Rattle.nbd.specs.Handshake.{IsSession};
+ghost use Rattle.nbd.specs.Session.{Ends, IsExchanged, TakesLast, TakesRequest};
+
+use crate::End;
+use crate::arrays::Array;
+use crate::carrying::serve_request;
+use crate::handshake::{answer_options, greet};
+use crate::numbers::NBD_CMD_DISC;
+use crate::replies::{Answer, write_reply};
+use crate::requests::{Request, parse_request};
+use crate::streams::take;
+use std::alloc::Global;
+use std::io::{Read, Write};
+
+/// Serves a client: greets it, answers its options, and serves its requests until it leaves, or can't go on.
+pub fn serve<R: Read, W: Write, A: Array>(
+    alloc: Global,
+    array: &mut A,
+    input: &mut R,
+    out: &mut W,
+) -> End
+    ensures { IsSession (A.content array.old) (R.remaining input.old) (W.contents out.old) result (A.content array.new) (W.contents out.new) }
+{
+    let no_zeroes = match greet(input, out) {
+        Ok(no_zeroes) => no_zeroes,
+        Err(end) => return end,
+    };
+    match answer_options(input, out, array.sizes(), no_zeroes) {
+        Ok(()) => serve_requests(alloc, array, input, out),
+        Err(end) => end,
+    }
+}
+
+/// Serves requests until the client leaves, or can't go on.
+fn serve_requests<R: Read, W: Write, A: Array>(
+    alloc: Global,
+    array: &mut A,
+    input: &mut R,
+    out: &mut W,
+) -> End
+    ensures { Ends (A.content array.old) (R.remaining input.old) (W.contents out.old) result (A.content array.new) (W.contents out.new) }
+{
+    for _ in 0..u64::MAX {
+        if let Err(end) = exchange(alloc, array, input, out) {
+            return end;
+        }
+    }
+    End::Input
+}
+
+/// Serves one request.
+///
+/// # Errors
+///
+/// How the session ends.
+fn exchange<R: Read, W: Write, A: Array>(
+    alloc: Global,
+    array: &mut A,
+    input: &mut R,
+    out: &mut W,
+) -> Result<(), End>
+    ensures exchanged { OnOk result (IsExchanged (A.content array.old) (R.remaining input.old) (W.contents out.old) (A.content array.new) (R.remaining input.new) (W.contents out.new)) }
+    ensures ended { IfErr result (λ end. Ends (A.content array.old) (R.remaining input.old) (W.contents out.old) end (A.content array.new) (W.contents out.new)) }
+{
+    let request = next_request(input)?;
+    let answer = serve_request(alloc, array, input, request)?;
+    tell(out, request.cookie, answer)?;
+    Ok(())
+}
+
+/// The next request.
+///
+/// # Errors
+///
+/// [`End::Left`] at NBD_CMD_DISC, [`End::Malformed`], [`End::Input`].
+fn next_request<R: Read>(input: &mut R) -> Result<Request, End>
+    ensures taken { IfOk result (TakesRequest (R.remaining input.old) (R.remaining input.new)) }
+    ensures ended { IfErr result (TakesLast (R.remaining input.old)) }
+{
+    let mut header = [0; 28];
+    take(input, &mut header)?;
+    match parse_request(&header) {
+        None => Err(End::Malformed),
+        Some(request) if request.kind == NBD_CMD_DISC => Err(End::Left),
+        Some(request) => Ok(request),
+    }
+}
+
+/// Writes a reply, and passes it on.
+///
+/// # Errors
+///
+/// [`End::Output`].
+fn tell<W: Write>(out: &mut W, cookie: u64, answer: Answer) -> Result<(), End>
+    ensures told { OnOk result (Appends (W.contents out.old) (W.contents out.new) (reply_bytes cookie (outcome_of answer))) }
+    ensures ended { IfErr result (λ end. end ≡ End.Output) }
+{
+    let written = write_reply(out, cookie, &answer);
+    if written.is_err() || out.flush().is_err() {
+        return Err(End::Output);
+    }
+    Ok(())
+}

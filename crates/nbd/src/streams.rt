@@ -1,0 +1,84 @@
+//! Bytes from a reader.
+
+ghost use Rattle.std.specs.Prelude.{◌≡◌, ◌≤◌, IfErr, IfOk, IfSome, MatchOption, OnOk, replicate};
+ghost use Rattle.std.specs.Io.KnownBytes.{Consumes};
+ghost use Rattle.nbd.specs.Streams.{Skips, Takes};
+
+use crate::End;
+use crate::numbers::LONGEST;
+use std::alloc::Global;
+use std::io::Read;
+
+/// Bytes that are skipped at once.
+const SKIPPED: u32 = 512;
+
+/// Fills the buffer.
+///
+/// # Errors
+///
+/// [`End::Input`].
+pub fn take<R: Read>(input: &mut R, buffer: &mut [u8]) -> Result<(), End>
+    ensures taken { OnOk result (Consumes (R.remaining input.old) (R.remaining input.new) buffer.new) }
+    ensures ended { IfErr result (λ end. end ≡ End.Input) }
+{
+    match input.read_exact(buffer) {
+        Ok(()) => Ok(()),
+        Err(_) => Err(End::Input),
+    }
+}
+
+/// Passes over so many bytes.
+///
+/// # Errors
+///
+/// [`End::Input`].
+pub fn skip<R: Read>(input: &mut R, count: u32) -> Result<(), End>
+    ensures taken { OnOk result (Skips count (R.remaining input.old) (R.remaining input.new)) }
+    ensures ended { IfErr result (λ end. end ≡ End.Input) }
+{
+    let mut left = count;
+    while left > 0 {
+        let piece = left.min(SKIPPED);
+        skip_piece(input, piece)?;
+        left -= piece;
+    }
+    Ok(())
+}
+
+/// # Errors
+///
+/// [`End::Input`].
+fn skip_piece<R: Read>(input: &mut R, count: u32) -> Result<(), End>
+    requires { count ≤ 512 }
+    ensures taken { OnOk result (Skips count (R.remaining input.old) (R.remaining input.new)) }
+    ensures ended { IfErr result (λ end. end ≡ End.Input) }
+{
+    let mut buffer = [0; 512];
+    take(input, &mut buffer[..count as usize])
+}
+
+/// So many zeros, or nothing where memory was refused.
+pub fn zeros(alloc: Global, count: u32) -> Option<Vec<u8>>
+    requires { count ≤ LONGEST }
+    ensures { IfSome result (λ bytes. bytes.items ≡ replicate count 0) }
+{
+    vec![in alloc; 0; count as usize].ok()
+}
+
+/// So many bytes, or nothing where memory was refused: they are passed over then.
+///
+/// # Errors
+///
+/// [`End::Input`].
+pub fn take_all<R: Read>(alloc: Global, input: &mut R, count: u32) -> Result<Option<Vec<u8>>, End>
+    requires { count ≤ LONGEST }
+    ensures taken { IfOk result (λ found. MatchOption found (Skips count (R.remaining input.old) (R.remaining input.new)) (λ bytes. Takes count (R.remaining input.old) (R.remaining input.new) bytes.items)) }
+    ensures ended { IfErr result (λ end. end ≡ End.Input) }
+{
+    let Some(mut bytes) = zeros(alloc, count) else {
+        skip(input, count)?;
+        return Ok(None);
+    };
+    take(input, bytes.as_mut_slice())?;
+    Ok(Some(bytes))
+}

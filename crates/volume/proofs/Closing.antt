@@ -1,0 +1,191 @@
+-- A handle that is opened or closed on a stack on which nothing else is open.
+use Rattle.std.proofs.Common.{◌≡◌, ◌<◌, inl, inr, ℕ, Bool, true, false, List, [], ◌∷◌, ◌++◌, Option, Some, None, refl, sym, ◌∙◌, ap, subst, arith, length, map}
+use Rattle.std.specs.Prelude.{All, nat_le, if◌then◌else◌, ◌==◌, count_by, is_some}
+use Rattle.std.proofs.lemmas.Bool.Decides.{nat_tests}
+use Rattle.std.proofs.lemmas.List.Elements.{All-head}
+use Rattle.std.proofs.lemmas.List.Sorted.{IsPermutation-sym}
+use Rattle.ntstatus.specs.declared.NtStatus.TheVariants.{InvalidHandle as HandleStatus, InvalidParameter as ParameterStatus, DeletePending as PendingStatus, DeviceBusy as BusyStatus, InvalidDeviceRequest as RequestStatus, NotFound as FoundStatus}
+use Rattle.ntstatus.specs.First.{when, first_some}
+use Rattle.ntstatus.proofs.First.{none_first}
+use Rattle.sector.specs.Extents.{IsSector}
+use Rattle.srb.specs.declared.DeviceLabel.{DeviceLabel}
+use Rattle.machine.specs.declared.Label.{Label}
+use Rattle.machine.specs.declared.Label.TheVariants.{Removed}
+use Rattle.machine.specs.Map.{sectors_in}
+use Rattle.machine.specs.Rules.{Rules}
+use Rattle.machine.specs.State.{State}
+use Rattle.machine.specs.Step.{Step, Run, as_label}
+use Rattle.machine.proofs.Same.{none_there}
+use Rattle.machine_laws.specs.Reached.{IsReached}
+use Rattle.io_manager.specs.declared.Answer.{Answer as AnswerOf}
+use Rattle.io_manager.specs.declared.Handle.{Handle}
+use Rattle.io_manager.specs.declared.Refusal.{Refusal}
+use Rattle.io_manager.specs.declared.Refusal.TheVariants.{InvalidHandle, InvalidParameter, DeletePending, DeviceBusy, InsufficientResources, InvalidDeviceRequest, NotFound}
+use Rattle.io_manager.specs.declared.Reply.{Reply}
+use Rattle.io_manager.specs.declared.Reply.TheVariants.{Handle as HandleReply, Ok as Done, Request as Requested, Answered, Refused, Ignored}
+use Rattle.io_manager.specs.declared.OpenHandle.{OpenHandle}
+use Rattle.io_manager.specs.Shown.{ManagerView}
+use Rattle.io_manager.specs.Calls.{are_used_up, handle_limit, open_refusal, partition_at, partition_of, status_of_refusal}
+use Rattle.io_manager.specs.Right.{Told, IsRight, IsRightBy, FitsTogether, CloseReplies, OpenReplies, IsGiven, IsToCancel, tells_nothing, as_answer, as_cancel, end_labels}
+use Rattle.volume.specs.Shown.{content_of, extent_at, parted_at}
+use Rattle.volume.specs.Ready.{AreUsable, IsReady}
+use Rattle.volume.specs.Opening.{IsOpenRefusal}
+use Rattle.volume.specs.Working.{answers_of}
+use Rattle.volume.proofs.Phases.{IsOver, none_in, run_over}
+use Rattle.volume.proofs.Steps.{answers_told, goes_on_reached, quiet_rest, rest_of}
+use Rattle.volume.proofs.Disk.{same_sectors}
+
+no_answers : (xs : List AnswerOf) → map as_answer xs ≡ [] → xs ≡ []
+no_answers [] e = refl
+no_answers (x ∷ xs) e = absurd (let k : as_answer x ∷ map as_answer xs ≡ [] = e in cc)
+
+-- a step that tells nothing of its own and nothing of the device
+module _ (old : ManagerView) (ready : IsReady old) (new : ManagerView) (told : Told) (by : IsRightBy false told old new) (whole : FitsTogether new) (own : told.own ≡ []) (device : told.device ≡ []) where
+  is_over : IsOver old.state
+  is_over = record { none_open = ready.idle.none_open; none_owed = ready.idle.none_owed; not_paused = ready.idle.not_paused; not_removing = ready.idle.not_removing }
+
+  labels_are : new.labels ≡ rest_of told
+  labels_are = by.in_order ∙ ap (λ o. ((o ++ map as_label told.device) ++ map as_answer told.answers) ++ end_labels told.ends) own
+
+  over : IsOver new.state × (new.state.arrays ≡ old.state.arrays) × (answers_of (rest_of told) ≡ [])
+  over = run_over old.rules old.state (rest_of told) new.state is_over (quiet_rest told) (subst (λ ls. Run old.rules old.state ls new.state) labels_are by.run)
+
+  none_answered : told.answers ≡ []
+  none_answered = no_answers told.answers (sym (answers_told told) ∙ over.2)
+
+  pieces_gone : (labels : List Label) → labels ≡ end_labels told.ends → Run old.rules old.state labels new.state → new.state.pieces ≡ []
+  pieces_gone labels e run = by_end told.ends (subst (λ ls. Run old.rules old.state ls new.state) e run)
+    where
+      by_end : (ends : Bool) → Run old.rules old.state (end_labels ends) new.state → new.state.pieces ≡ []
+      by_end false run = none_there old.state.pieces new.state.pieces ready.idle.none_out run.pieces
+      by_end true run = none_there run.0.pieces new.state.pieces (none_removed run.0 run.1) run.2.pieces
+        where
+          none_removed : (mid : State) → Step old.rules old.state Removed mid → mid.pieces ≡ []
+          none_removed mid (inl h) = none_there old.state.pieces mid.pieces ready.idle.none_out (IsPermutation-sym _ _ h.1.after.pieces)
+          none_removed mid (inr h) = absurd h
+
+  ends_alone : rest_of told ≡ end_labels told.ends
+  ends_alone = alone told.device told.answers device none_answered
+    where
+      alone : (ds : List DeviceLabel) (xs : List AnswerOf) → ds ≡ [] → xs ≡ [] → (map as_label ds ++ map as_answer xs) ++ end_labels told.ends ≡ end_labels told.ends
+      alone ds xs a b = rw (a, b) refl
+
+  same_disk : new.adapter.sectors ≡ old.adapter.sectors
+  same_disk =
+      same_sectors old.adapter.sectors new.adapter.sectors old.rules.partitions
+      (ap (λ (r : Rules). map (sectors_in new.adapter.sectors) r.partitions) (sym by.same_rules) ∙ sym whole.read.arrays ∙ over.1 ∙ ready.read.arrays)
+      by.outside
+
+  pub same_content : (p : ℕ) → content_of new p ≡ content_of old p
+  same_content p =
+      ap (λ (r : Rules). parted_at r.sector_size new.adapter.sectors (extent_at r.partitions p)) by.same_rules
+      ∙ ap (λ xs. parted_at old.rules.sector_size xs (extent_at old.rules.partitions p)) same_disk
+
+  pub ready_still : IsReady (record new { labels = [] })
+  ready_still = record {
+    usable = subst AreUsable (sym by.same_rules) ready.usable;
+    idle = record {
+      none_open = over.0.none_open;
+      none_out = pieces_gone new.labels (labels_are ∙ ends_alone) by.run;
+      none_owed = over.0.none_owed;
+      not_paused = over.0.not_paused;
+      not_removing = over.0.not_removing;
+    };
+    reached = subst (λ rules. IsReached rules new.state) (sym by.same_rules) (goes_on_reached old.rules old.state new.labels new.state ready.reached by.run);
+    read = whole.read;
+    whole_sectors =
+        subst (λ (r : Rules). All (IsSector r.sector_size) new.adapter.sectors) (sym by.same_rules)
+        (subst (λ xs. All (IsSector old.rules.sector_size) xs) (sym same_disk) ready.whole_sectors);
+    no_labels = refl;
+    no_answers = none_there (told.answers ++ old.answers) new.answers (ap (λ xs. xs ++ old.answers) none_answered ∙ ready.no_answers) (IsPermutation-sym _ _ by.untaken);
+  }
+
+-- A CLOSE
+
+none_to_cancel : (v : ManagerView) (handle : ℕ) (numbers : List ℕ) → v.state.requests ≡ [] → All (IsToCancel v handle) numbers → numbers ≡ []
+none_to_cancel v handle [] none all = refl
+none_to_cancel v handle (number ∷ numbers) none all =
+    let first : IsToCancel v handle number = All-head (IsToCancel v handle) number numbers all in
+    absurd (none_in v.state.requests first.request none first.is_open)
+
+-- what a close tells, on such a stack
+pub record IsSilent (old new : ManagerView) : Type 0 where
+  pub told : Told
+  pub by : IsRightBy false told old new
+  pub own : told.own ≡ []
+  pub device : told.device ≡ []
+
+unmoved : (old new : ManagerView) (told : Told) → IsRightBy false told old new → told ≡ tells_nothing old → IsSilent old new
+unmoved old new told by nothing = record { told = told; by = by; own = ap (λ (t : Told). t.own) nothing; device = ap (λ (t : Told). t.device) nothing }
+
+pub silent_close : (old : ManagerView) → IsReady old → (handle : Handle) (reply : Reply) (new : ManagerView) → IsRight (CloseReplies old handle reply new) old new → IsSilent old new
+silent_close old ready handle Done new h =
+    let numbers : h.replies.1.numbers ≡ [] = none_to_cancel old handle.number h.replies.1.numbers ready.idle.none_open h.replies.1.each in
+    record { told = h.told; by = h.by; own = h.replies.1.own ∙ ap (λ ns. map as_cancel ns) numbers; device = h.replies.1.no_device }
+silent_close old ready handle (Refused reason bytes) new h = unmoved old new h.told h.by h.replies.1.unmoved.nothing
+silent_close old ready handle (HandleReply given) new h = absurd h.replies
+silent_close old ready handle (Requested id) new h = absurd h.replies
+silent_close old ready handle (Answered answer) new h = absurd h.replies
+silent_close old ready handle Ignored new h = absurd h.replies
+
+-- AN OPEN
+
+pub silent_open : (old : ManagerView) (partition : ℕ) (reply : Reply) (new : ManagerView) → IsRight (OpenReplies old partition reply new) old new → IsSilent old new
+silent_open old partition (HandleReply given) new h = unmoved old new h.told h.by h.replies.0.nothing
+silent_open old partition (Refused reason bytes) new h = unmoved old new h.told h.by h.replies.1.unmoved.nothing
+silent_open old partition Done new h = absurd h.replies
+silent_open old partition (Requested id) new h = absurd h.replies
+silent_open old partition (Answered answer) new h = absurd h.replies
+silent_open old partition Ignored new h = absurd h.replies
+
+same_as_itself : (n : ℕ) → (n == n) ≡ true
+same_as_itself n = grind (arith, nat_tests)
+
+-- the handle is on the partition
+pub given_on : (old : ManagerView) (partition : ℕ) (handle : Handle) (new : ManagerView) → IsGiven old partition handle new → partition_of new.handles handle ≡ Some partition
+given_on old partition handle new h = ap (λ (o : Option OpenHandle). partition_at o handle.number) h.opens.there ∙ same_number handle.number
+  where
+    same_number : (n : ℕ) → (if n == n then Some partition else None) ≡ Some partition
+    same_number n = ap (λ b. if b then Some partition else None) (same_as_itself n)
+
+-- which is there
+pub given_known : (old : ManagerView) (partition : ℕ) → open_refusal old partition ≡ None → partition < length old.rules.partitions
+given_known old partition h =
+    let a : _ × _ = none_first (are_used_up old.next_handle) BusyStatus _ h in
+    let b : _ × _ = none_first old.state.removing PendingStatus _ a.1 in
+    let c : (nat_le (length old.rules.partitions) partition ≡ false) × _ = none_first (nat_le (length old.rules.partitions) partition) ParameterStatus _ b.1 in
+    below (length old.rules.partitions) partition c.0
+  where
+    below : (n m : ℕ) → nat_le n m ≡ false → m < n
+    below n m h = grind (arith, nat_tests)
+
+-- why none is given
+pub refused_open : (old : ManagerView) → IsReady old → (partition : ℕ) (reason : Refusal) → open_refusal old partition ≡ Some (status_of_refusal reason) → IsOpenRefusal old partition reason
+refused_open old ready partition reason h =
+    by (are_used_up old.next_handle) old.state.removing (nat_le (length old.rules.partitions) partition) (nat_le handle_limit (count_by is_some old.handles)) ready.idle.not_removing refl reason h
+  where
+    by : (used removing past full : Bool) → removing ≡ false → nat_le (length old.rules.partitions) partition ≡ past → (why : Refusal)
+        → first_some (when used BusyStatus ∷ when removing PendingStatus ∷ when past ParameterStatus ∷ when full BusyStatus ∷ []) ≡ Some (status_of_refusal why) → IsOpenRefusal old partition why
+    by used true past full a b why e = absurd (let k : true ≡ false = a in cc)
+    by used false past full a b DeviceBusy e = tt
+    by used false past full a b InsufficientResources e = tt
+    by used false true full a b InvalidParameter e = grind (arith, nat_tests)
+    by true false false full a b InvalidParameter e = absurd (let k : Some BusyStatus ≡ Some ParameterStatus = e in cc)
+    by false false false true a b InvalidParameter e = absurd (let k : Some BusyStatus ≡ Some ParameterStatus = e in cc)
+    by false false false false a b InvalidParameter e = absurd (let k : None ≡ Some ParameterStatus = e in cc)
+    by true false past full a b InvalidHandle e = absurd (let k : Some BusyStatus ≡ Some HandleStatus = e in cc)
+    by false false true full a b InvalidHandle e = absurd (let k : Some ParameterStatus ≡ Some HandleStatus = e in cc)
+    by false false false true a b InvalidHandle e = absurd (let k : Some BusyStatus ≡ Some HandleStatus = e in cc)
+    by false false false false a b InvalidHandle e = absurd (let k : None ≡ Some HandleStatus = e in cc)
+    by true false past full a b DeletePending e = absurd (let k : Some BusyStatus ≡ Some PendingStatus = e in cc)
+    by false false true full a b DeletePending e = absurd (let k : Some ParameterStatus ≡ Some PendingStatus = e in cc)
+    by false false false true a b DeletePending e = absurd (let k : Some BusyStatus ≡ Some PendingStatus = e in cc)
+    by false false false false a b DeletePending e = absurd (let k : None ≡ Some PendingStatus = e in cc)
+    by true false past full a b InvalidDeviceRequest e = absurd (let k : Some BusyStatus ≡ Some RequestStatus = e in cc)
+    by false false true full a b InvalidDeviceRequest e = absurd (let k : Some ParameterStatus ≡ Some RequestStatus = e in cc)
+    by false false false true a b InvalidDeviceRequest e = absurd (let k : Some BusyStatus ≡ Some RequestStatus = e in cc)
+    by false false false false a b InvalidDeviceRequest e = absurd (let k : None ≡ Some RequestStatus = e in cc)
+    by true false past full a b NotFound e = absurd (let k : Some BusyStatus ≡ Some FoundStatus = e in cc)
+    by false false true full a b NotFound e = absurd (let k : Some ParameterStatus ≡ Some FoundStatus = e in cc)
+    by false false false true a b NotFound e = absurd (let k : Some BusyStatus ≡ Some FoundStatus = e in cc)
+    by false false false false a b NotFound e = absurd (let k : None ≡ Some FoundStatus = e in cc)

@@ -1,0 +1,13 @@
+pub mod Labels
+pub mod Phases
+pub mod Using
+pub mod Steps
+pub mod Disk
+pub mod Ending
+pub mod Calling
+pub mod Bytes
+pub mod Content
+pub mod Methods
+pub mod Closing
+pub mod Sizing
+pub mod Starting

@@ -1,0 +1,9 @@
+use Rattle.std.proofs.Common.{◌≡◌, ◌*◌, subst, length}
+use Rattle.volume.specs.Shown.{VolumeView}
+use Rattle.volume.proofs.Methods.{counted}
+use Rattle.volume.proofs.volume.Volume.sizes.Goals as goal
+
+pub returns-clause-sectors : goal.returns-clause-sectors
+returns-clause-sectors g c =
+    subst (λ (w : VolumeView). c.self.inside.sizes.sectors * c.self.inside.sizes.sector_size ≡ length w.content.bytes) c.self.view_is
+    (counted c.self.inside.stack c.self.inside.handle c.self.inside.partition c.self.inside.sizes c.self.invariant)

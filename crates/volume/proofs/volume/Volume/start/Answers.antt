@@ -1,0 +1,22 @@
+use Rattle.std.proofs.Common.{◌∙◌}
+use Rattle.volume.proofs.Starting.{content_at_start, ready_at_start, refused_of}
+use Rattle.volume.proofs.volume.Volume.start.Goals as goal
+
+pub open-requires : goal.open-requires
+open-requires g c = record {
+  ready = ready_at_start (g.A.Adapter.view c.args.adapter) c.args.settings c.sector_size-size.ensures.order c.requires.faithful c.in-Ok.stack c.in-Ok.ensures.view;
+}
+
+pub returns-in-Ok-open-clause-content : goal.returns-in-Ok-open-clause-content
+returns-in-Ok-open-clause-content g c = record {
+  partitions = c.in-Ok.ensures.view.partitions;
+  told = c.in-Ok.ensures.view.told;
+  content =
+      c.in-Ok-open.ensures.content
+      ∙ content_at_start (g.A.Adapter.view c.args.adapter) c.args.settings c.sector_size-size.ensures.order c.requires.faithful c.in-Ok.stack c.in-Ok.ensures.view c.args.partition;
+}
+
+pub returns-in-Err-open-clause-fault : goal.returns-in-Err-open-clause-fault
+returns-in-Err-open-clause-fault g c =
+    refused_of (g.A.Adapter.view c.args.adapter) c.args.settings c.sector_size-size.ensures.order c.requires.faithful c.in-Ok.stack c.in-Ok.ensures.view c.args.partition c.in-Err-open.reason
+    c.in-Err-open.ensures.why

@@ -1,0 +1,75 @@
+-- What the calls of a volume do to its bytes, and what refuses them.
+use Rattle.std.specs.Prelude.{◌≡◌, ◌≢◌, ◌≤◌, ◌⊎◌, ℕ, ◌+◌, ◌*◌, ◌%◌, List, length, slice_range}
+use Rattle.ntstatus.specs.declared.NtStatus.TheVariants.{Success}
+use Rattle.sector.specs.Splice.{splice}
+use Rattle.io_manager.specs.declared.Refusal.{Refusal}
+use Rattle.io_manager.specs.declared.Refusal.TheVariants.{InvalidParameter, DeviceBusy, InsufficientResources}
+use Rattle.io_manager.specs.Calls.{number_limit}
+use Rattle.volume.specs.declared.Fault.{Fault}
+use Rattle.volume.specs.declared.Fault.TheVariants.{Refused, Failed}
+use Rattle.volume.specs.Shown.{Content, VolumeView}
+
+-- sectors of the longest request
+abbrev pub longest : ℕ
+longest = 65536
+
+-- so many bytes from this one on are whole sectors of the partition, and no more than the longest request
+pub record AreInBounds (c : Content) (offset count : ℕ) : Type 0 where
+  pub begins : offset % c.sector_size ≡ 0
+  pub ends : count % c.sector_size ≡ 0
+  pub inside : offset + count ≤ length c.bytes
+  pub short : count ≤ longest * c.sector_size
+
+-- why a request was refused: its bytes are not in bounds, numbers are used up, or memory was refused
+abbrev pub IsRefusal : VolumeView → Type 0 → Refusal → Type 0
+IsRefusal v InBounds InvalidParameter = ¬ InBounds
+IsRefusal v InBounds DeviceBusy = number_limit ≤ v.next_request
+IsRefusal v InBounds InsufficientResources = InBounds
+IsRefusal v InBounds _ = ⊥
+
+-- the same disk, after at most one request more
+pub record IsSameDisk (old new : VolumeView) : Type 0 where
+  pub content : new.content ≡ old.content
+  pub partition : new.partition ≡ old.partition
+  pub asked : new.next_request ≤ old.next_request + 1
+
+-- READ AND FLUSH
+
+-- those bytes of the partition
+pub record Reads (c : Content) (offset count : ℕ) (bytes : List ℕ) : Type 0 where
+  pub in_bounds : AreInBounds c offset count
+  pub bytes_are : bytes ≡ slice_range c.bytes offset (offset + count)
+
+-- a request that was refused, or sent and ended with another status than SUCCESS
+abbrev pub IsFault : VolumeView → Type 0 → Fault → Type 0
+IsFault v InBounds (Refused reason) = IsRefusal v InBounds reason
+IsFault v InBounds (Failed status) = InBounds × (status ≢ Success)
+
+-- WRITE
+
+-- the same disk with these bytes in the partition from this one on, after at most one request more
+pub record Writes (old : VolumeView) (offset : ℕ) (bytes : List ℕ) (new : VolumeView) : Type 0 where
+  pub content : new.content ≡ record old.content { bytes = splice old.content.bytes offset bytes }
+  pub partition : new.partition ≡ old.partition
+  pub asked : new.next_request ≤ old.next_request + 1
+
+-- the bytes of a sector among others
+abbrev pub sector_of : ℕ → ℕ → List ℕ → List ℕ
+sector_of size k bytes = slice_range bytes (k * size) ((k + 1) * size)
+
+-- sector by sector those of one list or those of the other
+pub record AreMixed (size : ℕ) (xs ys mixed : List ℕ) : Type 0 where
+  pub long : length mixed ≡ length ys
+  pub each : (k : ℕ) → (sector_of size k mixed ≡ sector_of size k xs) ⊎ (sector_of size k mixed ≡ sector_of size k ys)
+
+-- what a write that failed leaves: each of its sectors is as it was or was written, and nothing else changed
+pub record WritesSome (old : VolumeView) (offset : ℕ) (bytes : List ℕ) (new : VolumeView) : Type 0 where
+  pub mixed : List ℕ
+  pub are_mixed : AreMixed old.content.sector_size (slice_range old.content.bytes offset (offset + length bytes)) bytes mixed
+  pub writes : Writes old offset mixed new
+
+-- a refused write changed nothing
+abbrev pub IsWriteFault : VolumeView → ℕ → List ℕ → Fault → VolumeView → Type 0
+IsWriteFault old offset bytes (Refused reason) new = IsRefusal old (AreInBounds old.content offset (length bytes)) reason × IsSameDisk old new
+IsWriteFault old offset bytes (Failed status) new =
+    AreInBounds old.content offset (length bytes) × (status ≢ Success) × WritesSome old offset bytes new

@@ -1,0 +1,5 @@
+pub mod Shown
+pub mod Ready
+pub mod Calls
+pub mod Working
+pub mod Opening

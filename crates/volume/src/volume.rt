@@ -1,0 +1,136 @@
+//! What the user of a volume calls.
+
+ghost use Rattle.std.specs.Prelude.{◌≡◌, ◌*◌, ◌+◌, ⊤, length, IfOk, IfErr, MatchResult};
+ghost use Rattle.volume.specs.Shown.{content_of};
+ghost use Rattle.volume.specs.Ready.{IsReady};
+ghost use Rattle.volume.specs.Calls.{AreInBounds, IsFault, IsSameDisk, IsWriteFault, Reads, Writes};
+
+use crate::carrying::{carry_out, take_labels};
+use crate::{Fault, Sizes};
+use adapter::Adapter;
+use compose::{Event, Handle, Stack};
+use ntstatus::NtStatus;
+use sector::Bytes;
+use std::alloc::Global;
+use std::marker::Model;
+
+/// One partition of a stack, open for one user.
+#[derive(Drop)]
+pub struct Volume<A: Adapter> {
+    pub(crate) stack: Stack<A>,
+    pub(crate) handle: Handle,
+    pub(crate) partition: u8,
+    pub(crate) sizes: Sizes,
+}
+
+impl<A: Adapter> Model for Volume<A> {
+    ghost use Rattle.volume.specs.Shown.{VolumeView, volume_over};
+    ghost use Rattle.volume.specs.Ready.{VolumeKept};
+
+    ghost Value = { VolumeView };
+
+    ghost view = { λ v. volume_over v.stack v.partition };
+
+    ghost invariant = { λ v. VolumeKept v.stack v.handle v.partition v.sizes };
+}
+
+impl<A: Adapter> Volume<A> {
+    /// The bytes of a sector, and the sectors of the partition.
+    pub fn sizes(&self) -> Sizes
+        ensures sector_size { result.sector_size ≡ self.now.content.sector_size }
+        ensures sectors { result.sectors * result.sector_size ≡ length self.now.content.bytes }
+    {
+        self.sizes
+    }
+
+    /// Reads as many bytes as the buffer has, from byte `offset` of the partition on: whole sectors, 65,536 at most.
+    ///
+    /// # Errors
+    ///
+    /// As [`Fault`] says. Nothing has changed.
+    pub fn read(&mut self, alloc: Global, offset: u64, buffer: Bytes) -> Result<Bytes, Fault>
+        ensures reads { MatchResult result (Reads self.old.content offset (length buffer)) (IsFault self.old (AreInBounds self.old.content offset (length buffer))) }
+        ensures same { IsSameDisk self.old self.new }
+    {
+        let event = Event::Read {
+            handle: self.handle,
+            offset,
+            buffer,
+        };
+        let answer = match carry_out(&mut self.stack, alloc, event) {
+            Ok(answer) => answer,
+            Err(reason) => return Err(Fault::Refused(reason)),
+        };
+        match answer.status {
+            NtStatus::Success => Ok(answer.bytes),
+            status => Err(Fault::Failed(status)),
+        }
+    }
+
+    /// Writes these bytes from byte `offset` of the partition on: whole sectors, 65,536 at most. With `through` they go
+    /// past volatile caches (SBC: FUA).
+    ///
+    /// # Errors
+    ///
+    /// As [`Fault`] says. Where it was refused nothing has changed; where it failed, each sector of the write is as it was
+    /// or was written, and nothing else has changed.
+    pub fn write(
+        &mut self,
+        alloc: Global,
+        offset: u64,
+        bytes: Bytes,
+        through: bool,
+    ) -> Result<(), Fault>
+        ensures in_bounds { IfOk result (λ _. AreInBounds self.old.content offset (length bytes)) }
+        ensures writes { MatchResult result (λ _. Writes self.old offset bytes self.new) (λ fault. IsWriteFault self.old offset bytes fault self.new) }
+    {
+        let event = Event::Write {
+            handle: self.handle,
+            offset,
+            bytes,
+            through,
+        };
+        let answer = match carry_out(&mut self.stack, alloc, event) {
+            Ok(answer) => answer,
+            Err(reason) => return Err(Fault::Refused(reason)),
+        };
+        match answer.status {
+            NtStatus::Success => Ok(()),
+            status => Err(Fault::Failed(status)),
+        }
+    }
+
+    /// Flushes the disk's caches (SBC: SYNCHRONIZE CACHE).
+    ///
+    /// # Errors
+    ///
+    /// As [`Fault`] says, but never [`Refusal::InvalidParameter`]. Nothing has changed.
+    pub fn flush(&mut self, alloc: Global) -> Result<(), Fault>
+        ensures flushes { IfErr result (IsFault self.old ⊤) }
+        ensures same { IsSameDisk self.old self.new }
+    {
+        let event = Event::Flush {
+            handle: self.handle,
+        };
+        let answer = match carry_out(&mut self.stack, alloc, event) {
+            Ok(answer) => answer,
+            Err(reason) => return Err(Fault::Refused(reason)),
+        };
+        match answer.status {
+            NtStatus::Success => Ok(()),
+            status => Err(Fault::Failed(status)),
+        }
+    }
+
+    /// Closes the handle, and gives the stack back with nothing open.
+    pub fn close(self, alloc: Global) -> Stack<A>
+        ensures ready { IsReady result }
+        ensures same { content_of result self.partition ≡ self.content }
+    {
+        let handle = self.handle;
+        let mut stack = self.stack;
+        let _ = stack.step(alloc, Event::Close { handle });
+        take_labels(&mut stack);
+        stack
+    }
+}
