@@ -1,4 +1,16 @@
 //! The NBD protocol of a server: the fixed newstyle handshake, and requests with simple replies, over any [`Array`].
+//!
+//! It promises to the crate above, by the contract of [`serve`] (`IsSession` of `specs/Handshake`): the client's stream began
+//! with the bytes of its flags, of some options and of some requests; what was written is the greeting and then just their
+//! replies, in order; the array moved by just these requests, one after the other, each by its command or not at all; and
+//! none was served but behind an option that leads to requests. A request is a whole one: its 28 bytes, and those of a
+//! write behind it, also where it is refused. How the session ended has its bytes too.
+//!
+//! By [`parse_request`], [`command_of`], [`parse_option`], [`write_reply`] and [`write_replies`], what the bytes of requests and
+//! options mean, and what the bytes of replies are; by [`one_spelling`], that a request has one spelling.
+//!
+//! Of a reader or a writer that doesn't tell its bytes nothing is promised but what became of the array. Not promised, and
+//! tested: that a flush and a write past caches reach the array as such, and which error a fault is answered by.
 #![tactic(auto)]
 
 mod arrays;
