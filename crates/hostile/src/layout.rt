@@ -1,0 +1,108 @@
+//! Disks in memory, and adapters over them.
+
+ghost use Rattle.std.specs.Prelude.{◌≡◌, IfOk};
+ghost use Rattle.probe.specs.Exchange.{IsIdle};
+
+use crate::fault::HostileFault;
+use compose::Settings;
+use disk::{Medium, VecDisk};
+use miniport::MemAdapter;
+use std::alloc::Global;
+
+/// Bytes of a sector.
+pub const SECTOR: u32 = 512;
+
+/// The first sector of a partition, and the number of its sectors; 0 where there is none.
+pub type Partition = (u32, u32);
+
+/// No sector at all, in a list of bad ones.
+pub const NONE_BAD: u64 = u64::MAX;
+
+/// A disk, an adapter and a stack.
+#[derive(Debug, Clone, Copy)]
+pub struct Layout {
+    pub sectors: u32,
+    pub partitions: [Partition; 4],
+    pub bad: [u64; 2],
+    pub max_transfer: u32,
+    pub depth: u8,
+    pub write_protected: bool,
+    pub window: u32,
+    pub open_requests: u32,
+}
+
+impl Layout {
+    /// Sector 0. Entries have sixteen bytes each from byte 446 on; their type is byte 4, the first sector and the count are
+    /// the bytes from 8 and 12 on, the lowest first.
+    fn table(&self) -> [u8; 512] {
+        let mut bytes = [0; 512];
+        for n in 0..4 {
+            let (first, count) = self.partitions[n];
+            let entry = 446 + 16 * n;
+            bytes[entry + 4] = if count > 0 { 7 } else { 0 };
+            bytes[entry + 8..entry + 12].copy_from_slice(&first.to_le_bytes());
+            bytes[entry + 12..entry + 16].copy_from_slice(&count.to_le_bytes());
+        }
+        bytes[510] = 0x55;
+        bytes[511] = 0xAA;
+        bytes
+    }
+
+    /// The limits of its stack.
+    pub fn settings(&self) -> Settings {
+        Settings {
+            window: self.window,
+            open_requests: self.open_requests,
+        }
+    }
+}
+
+/// The adapter of a layout, over sectors of zeros with its partition table.
+///
+/// # Errors
+///
+/// [`HostileFault::NoDisk`] where the layout is out of the adapter's range; [`HostileFault::NoMemory`].
+pub fn adapter(alloc: Global, layout: &Layout) -> Result<MemAdapter<VecDisk>, HostileFault>
+    ensures idle { IfOk result (λ a. IsIdle a.shown) }
+    ensures unasked { IfOk result (λ a. a.shown.accepted ≡ 0) }
+{
+    if layout.sectors == 0 {
+        return Err(HostileFault::NoDisk);
+    }
+    let bad = Vec::from_slice(alloc, &layout.bad)?;
+    let table = layout.table();
+    let disk = VecDisk::starting_with(alloc, SECTOR, layout.sectors as u64, &table, bad)?;
+    adapter_over(alloc, disk, layout)
+}
+
+/// The adapter of a layout over a medium.
+fn adapter_over<M: Medium>(
+    alloc: Global,
+    medium: M,
+    layout: &Layout,
+) -> Result<MemAdapter<M>, HostileFault>
+    ensures idle { IfOk result (λ a. IsIdle a.shown) }
+    ensures unasked { IfOk result (λ a. a.shown.accepted ≡ 0) }
+{
+    let sectors = medium.sectors();
+    if sectors < 1 || sectors > 1 << 40 {
+        return Err(HostileFault::NoDisk);
+    }
+    if medium.sector_size() != 512 || medium.failures() != 0 {
+        return Err(HostileFault::NoDisk);
+    }
+    if layout.max_transfer < 1 || layout.max_transfer > 65_536 {
+        return Err(HostileFault::NoDisk);
+    }
+    if layout.depth < 1 || layout.depth > 32 {
+        return Err(HostileFault::NoDisk);
+    }
+    let adapter = MemAdapter::new(
+        alloc,
+        medium,
+        layout.max_transfer,
+        layout.depth,
+        layout.write_protected,
+    )?;
+    Ok(adapter)
+}

@@ -1,0 +1,110 @@
+//! Hostile runs of the whole stack, judged. A run is made of steps: client calls, cancels, calls of plug and play, acts,
+//! finishes and resets. There are runs worked by hand, with a reset, a cancel, a close or a removal put in at every place in
+//! turn, and with each act failing in turn; and runs of random settings and steps.
+//!
+//! Of each run it is asked whether its labels are a run of the sector machine, from sectors of zeros on (`judge`); whether
+//! the machine is settled where they end; whether the answers that were taken after each step are those of its labels; and,
+//! where all that was out came back and nothing is held, whether each request was answered.
+//!
+//! `hostile` takes a fixed seed, and `hostile SEED RUNS` makes as many random runs as one asks for; run n has the seed
+//! SEED + n, so a wrong one is made again by its own seed and 1. A line is printed for each sweep, and one for the first wrong run
+//! of a sweep; the exit status is 1 where a run was wrong, and 2 where there is no verdict. It promises nothing by contract:
+//! it is a test.
+#![tactic(auto)]
+
+mod dice;
+mod fault;
+mod layout;
+mod playing;
+mod random;
+mod rows;
+mod steps;
+mod sweeps;
+mod tally;
+mod verdicts;
+
+use crate::fault::HostileFault;
+use crate::random::random_runs;
+use crate::rows::{ROWS, Row};
+use crate::sweeps::{failures, insertions};
+use crate::tally::Tally;
+use std::env;
+use std::process::ExitCode;
+
+/// The seed where none is given.
+const SEED: u64 = 7;
+
+/// The number of random runs where none is given.
+const RUNS: u64 = 5000;
+
+/// What the command line asks for: a seed, and a number of runs.
+fn asked(rt: &HostRuntime) -> Result<(u64, u64), HostileFault> {
+    let words = match env::args(rt) {
+        Ok(words) => words.collect::<Vec<String>>(rt.alloc())?,
+        Err(_) => return Err(HostileFault::Usage),
+    };
+    match words.as_slice() {
+        [] | [_] => Ok((SEED, RUNS)),
+        [_, seed, runs] => Ok((number(seed)?, number(runs)?)),
+        _ => Err(HostileFault::Usage),
+    }
+}
+
+fn number(word: &String) -> Result<u64, HostileFault> {
+    word.as_str()
+        .parse::<u64>()
+        .map_err(|_| HostileFault::Usage)
+}
+
+/// Names the first wrong run of a tally, and says whether there is one.
+fn is_wrong(rt: &HostRuntime, tally: &Tally) -> Result<bool, HostileFault> {
+    if let Some((case, wrong)) = tally.first {
+        println!(rt; "first wrong: {case}: {wrong}")?;
+    }
+    Ok(tally.wrong > 0)
+}
+
+/// Both sweeps of a row.
+fn sweep(rt: &HostRuntime, row: &Row) -> Result<bool, HostileFault> {
+    let inserted = insertions(rt.alloc(), row)?;
+    println!(rt;
+        "{}: {} insertions, {} labels, {} wrong",
+        row.name, inserted.runs, inserted.labels, inserted.wrong
+    )?;
+    let failed = failures(rt.alloc(), row)?;
+    println!(rt;
+        "{}: {} runs with one act failing, {} started, {} labels, {} wrong",
+        row.name, failed.runs, failed.started, failed.labels, failed.wrong
+    )?;
+    let first = is_wrong(rt, &inserted)?;
+    let second = is_wrong(rt, &failed)?;
+    Ok(first || second)
+}
+
+/// All sweeps, and then the random runs; whether one was wrong.
+fn run(rt: &HostRuntime) -> Result<bool, HostileFault> {
+    let (seed, runs) = asked(rt)?;
+    let mut any = false;
+    for row in &ROWS {
+        let wrong = sweep(rt, row)?;
+        any = any || wrong;
+    }
+    let tally = random_runs(rt.alloc(), seed, runs)?;
+    println!(rt;
+        "random: seed {seed}, {} runs, {} started, {} labels, {} wrong",
+        tally.runs, tally.started, tally.labels, tally.wrong
+    )?;
+    let wrong = is_wrong(rt, &tally)?;
+    Ok(any || wrong)
+}
+
+fn main(rt: HostRuntime) -> ExitCode {
+    match run(&rt) {
+        Ok(false) => ExitCode::SUCCESS,
+        Ok(true) => ExitCode::FAILURE,
+        Err(fault) => {
+            let _ = eprintln!(rt; "hostile: {fault}");
+            ExitCode::from(2)
+        }
+    }
+}
