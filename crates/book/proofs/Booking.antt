@@ -1,5 +1,9 @@
 -- A step of a book.
 use Rattle.std.proofs.Common.{◌≡◌, inl, inr, ℕ, zero, suc, replicate, max, ◌+◌, ◌-◌, ◌<◌, ◌≤◌, Bool, true, false, List, [], ◌∷◌, ◌++◌, length, Option, Some, None, refl, sym, ap, ◌∙◌, subst, arith, length-append}
+use Rattle.std.specs.Prelude.{◌⊎◌, Contains, IfSome, remove, slice_get}
+use Rattle.std.proofs.lemmas.Option.{slice_get_within, get_or_from_slice_get}
+use Rattle.std.proofs.lemmas.List.Elements.{Contains-append_left, Contains-append_right}
+use Rattle.std.proofs.lemmas.List.Sorted.{Contains-permutation, IsPermutation-remove, IsPermutation-sym}
 use Rattle.machine.specs.declared.Label.{Label}
 use Rattle.machine.specs.declared.Label.TheVariants.{Call, Device, Answer, Cancel, Pause, Resume, Remove, Surprise, Removed}
 use Rattle.cancel_marks.specs.declared.rule.View.{View}
@@ -14,9 +18,10 @@ use Rattle.machine.proofs.Same.{IsSame-refl, Run-append}
 use Rattle.machine_laws.specs.LabelsLeft.{labels_left}
 use Rattle.cancel_marks.specs.Marks.{slot_at, starting}
 use Rattle.io_manager.specs.declared.Reply.{Reply}
+use Rattle.io_manager.specs.declared.Answer.{Answer as Waiting}
 use Rattle.io_manager.specs.declared.OpenHandle.{OpenHandle}
 use Rattle.io_manager.specs.declared.Reply.TheVariants.{Handle, Ok, Request, Answered, Refused, Ignored}
-use Rattle.io_manager.specs.Right.{IsSlotOf}
+use Rattle.io_manager.specs.Right.{IsSlotOf, as_answer, TakesAnswerOf}
 use Rattle.io_manager.specs.declared.Refusal.TheVariants.{InsufficientResources}
 use Rattle.compose.specs.declared.Event.{Event}
 use Rattle.compose.specs.declared.Event.TheVariants.{Open, Close, Read, Write, Flush, CancelIoEx, Mark, QueryRemove, CancelRemove, Remove as RemoveEvent, SurpriseRemove, Act, Finish, Reset}
@@ -110,6 +115,10 @@ module _ (laws : Laws) (rules : Rules) (opening : State) (handles : List (Option
   pub may_note : MayNoteAll clients client pages stepped.labels
   may_note = all_noted.0
 
+  in_trace : (answer : Waiting) → Contains stepped.labels (as_answer answer) ⊎ Contains stack.answers answer → Contains (labels_of pages.entries ++ stepped.labels) (as_answer answer)
+  in_trace answer (inl told) = Contains-append_right (labels_of pages.entries) stepped.labels (as_answer answer) told
+  in_trace answer (inr before) = Contains-append_left (labels_of pages.entries) stepped.labels (as_answer answer) (sound.answered answer before)
+
   later : stack.state.next_request ≤ stepped.state.next_request
   later = let c = laws.count rules stack.state stepped.labels stepped.state goes in omega arith
 
@@ -142,6 +151,10 @@ module _ (laws : Laws) (rules : Rules) (opening : State) (handles : List (Option
           ∙ sym (ap (λ v. open_at v k) stack_is);
       below = subst (λ (v : ManagerView). ArmedBelow v.state.next_request slots'.owner) (sym stack_is)
           (below_retired stepped.state.next_request (below_armed stepped.state.next_request (given_below stack event reply stepped right) (below_more stack.state.next_request stepped.state.next_request slots.owner later sound.below)));
+      answered = λ answer is.
+          let all : labels_of pages'.entries ≡ labels_of pages.entries ++ stepped.labels = ap (λ p. labels_of p.entries) pages_is ∙ labels_noted client pages stepped.labels in
+          let waits : Contains stepped.answers answer = subst (λ (v : ManagerView). Contains v.answers answer) stack_is is in
+          subst (λ (ls : List Label). Contains ls (as_answer answer)) (sym all) (in_trace answer (right.answers answer waits));
       room =
           let u = uses in
           let left : pages'.room ≡ pages.room - length stepped.labels = ap (λ p. p.room) pages_is ∙ room_noted client pages stepped.labels in
@@ -252,5 +265,40 @@ sound_first rules opening handles count stack pages slots named first entries ow
   below = λ k.
       let zero_is : (slot_at slots.owner k).last ≡ 0 = ap (λ v. (slot_at v k).last) owner ∙ never_armed (max most 1) k in
       let one = first.first in omega arith;
+  answered = λ answer is. absurd (first.no_answers answer is);
   room = subst (λ (r : Rules). labels_left r stack.state ≤ pages.room) named.same_rules (let few = first.few_left in omega arith);
 }
+
+-- AN ANSWER IS TAKEN
+
+was_there : (answers : List Waiting) (at : ℕ) (taken answer : Waiting) → slice_get answers at ≡ Some taken → Contains (remove answers at) answer → Contains answers answer
+was_there answers at taken answer there is =
+    let perm = IsPermutation-remove answers at taken (slice_get_within answers at taken there) (sym (get_or_from_slice_get answers at taken taken there)) in
+    Contains-permutation (taken ∷ remove answers at) answers answer (IsPermutation-sym answers (taken ∷ remove answers at) perm) (Contains-append_right (taken ∷ []) (remove answers at) answer is)
+
+module _ (rules : Rules) (opening : State) (handles : List (Option OpenHandle)) (count : ℕ) (stack : ManagerView) (pages : PagesView) (slots : SlotsView) (sound : IsSound rules opening handles count stack pages slots) where
+  without : (at : ℕ) (taken : Waiting) → slice_get stack.answers at ≡ Some taken → IsSound rules opening handles count (record stack { answers = remove stack.answers at }) pages slots
+  without at taken there = record {
+    same_rules = sound.same_rules;
+    as_many = sound.as_many;
+    same_handles = sound.same_handles;
+    taken = sound.taken;
+    run = sound.run;
+    told = sound.told;
+    numbers = sound.numbers;
+    below = sound.below;
+    answered = λ answer is. sound.answered answer (was_there stack.answers at taken answer there is);
+    room = sound.room;
+  }
+
+  pub sound_taken : (number : ℕ) (result : Option Waiting) (stack' : ManagerView) → TakesAnswerOf stack number result stack' → IsSound rules opening handles count stack' pages slots
+  sound_taken number None stack' takes = subst (λ (v : ManagerView). IsSound rules opening handles count v pages slots) (sym takes.1) sound
+  sound_taken number (Some taken) stack' takes = subst (λ (v : ManagerView). IsSound rules opening handles count v pages slots) (sym takes.3) (without takes.0 taken takes.1)
+
+  stands_taken : (number : ℕ) (taken : Waiting) (stack' : ManagerView) → TakesAnswerOf stack number (Some taken) stack' → Contains (labels_of pages.entries) (as_answer taken)
+  stands_taken number taken stack' takes =
+      sound.answered taken (takes.0, slice_get_within stack.answers takes.0 taken takes.1, get_or_from_slice_get stack.answers takes.0 taken taken takes.1)
+
+  pub stands_if : (number : ℕ) (result : Option Waiting) (stack' : ManagerView) → TakesAnswerOf stack number result stack' → IfSome result (λ answer. Contains (labels_of pages.entries) (as_answer answer))
+  stands_if number None stack' takes = tt
+  stands_if number (Some taken) stack' takes = stands_taken number taken stack' takes

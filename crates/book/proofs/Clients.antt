@@ -1,6 +1,7 @@
 -- Handles opened one after another.
 use Rattle.std.proofs.Common.{◌≡◌, ◌≢◌, ℕ, zero, suc, false, ◌+◌, ◌<◌, ◌≤◌, List, [], ◌∷◌, ◌++◌, length, Option, Some, None, option_map, slice_index_or, refl, sym, ap, ◌∙◌, subst, arith, length-append}
-use Rattle.std.specs.Prelude.{slice_get}
+use Rattle.std.specs.Prelude.{slice_get, Contains}
+use Rattle.std.proofs.lemmas.List.Sorted.{Contains-permutation}
 use Rattle.std.proofs.lemmas.Option.{slice_get_within}
 use mathlib.Core.Logic.{dite}
 use native.Mathlib.Decide.{ℕ_discrete}
@@ -8,6 +9,7 @@ use Rattle.machine.specs.Rules.{Rules}
 use Rattle.machine.specs.State.{State}
 use Rattle.machine_laws.specs.LabelsLeft.{labels_left}
 use Rattle.machine_laws.specs.NumberLaws.{awaited}
+use Rattle.io_manager.specs.declared.Answer.{Answer}
 use Rattle.io_manager.specs.declared.Handle.{Handle}
 use Rattle.io_manager.specs.declared.OpenHandle.{OpenHandle}
 use Rattle.io_manager.specs.declared.Refusal.{Refusal}
@@ -32,6 +34,8 @@ keeps_all old new told unmoved by = record {
   same_open = λ k.
       ap (option_map (λ h. h.number)) (by.holders k ∙ ap (λ (t : Told). unless_answered t.answers (slice_index_or t.admitted k None)) unmoved.nothing)
       ∙ same_number (slice_index_or old.holders k None);
+  same_answers = λ answer is.
+      subst (λ (t : Told). Contains (t.answers ++ old.answers) answer) unmoved.nothing (Contains-permutation new.answers (told.answers ++ old.answers) answer by.untaken is);
 }
 
 pub opens_one : (old : ManagerView) (partition : ℕ) (handle : Handle) (new : ManagerView) → IsRight (OpenReplies old partition (HandleReply handle) new) old new → OpensOne old partition handle new
@@ -58,6 +62,9 @@ refuses_one old partition reason bytes new right =
 
 -- ALL OF THEM
 
+no_member : (answer : Answer) → Contains [] answer → ⊥
+no_member answer is = absurd (let low = is.1 in omega arith)
+
 none_at_all : (k : ℕ) → slice_index_or {A = Option Holder} [] k None ≡ None
 none_at_all k = refl
 
@@ -67,6 +74,7 @@ first_of_new v new = record {
   first = ap (λ s. s.next_request) new.state;
   none_wait = ap awaited new.state;
   none_open = λ k. ap (λ hs. option_map (λ h. h.number) (slice_index_or hs k None)) new.no_requests;
+  no_answers = λ answer is. no_member answer (subst (λ (as' : List Answer). Contains as' answer) new.no_answers is);
   few_left = subst (λ (s : State). labels_left v.rules s ≤ 2) (sym new.state) (omega arith);
 }
 
@@ -76,6 +84,7 @@ first_keeps old new first keeps = record {
   first = ap (λ s. s.next_request) keeps.same_state ∙ first.first;
   none_wait = ap awaited keeps.same_state ∙ first.none_wait;
   none_open = λ k. keeps.same_open k ∙ first.none_open k;
+  no_answers = λ answer is. first.no_answers answer (keeps.same_answers answer is);
   few_left = subst (λ (s : State). labels_left new.rules s ≤ 2) (sym keeps.same_state) (subst (λ (r : Rules). labels_left r old.state ≤ 2) (sym keeps.same_rules) first.few_left);
 }
 

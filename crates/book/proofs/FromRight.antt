@@ -1,8 +1,9 @@
 -- What a book needs of a step, from what its stack promises of it.
-use Rattle.std.proofs.Common.{◌≡◌, ◌≢◌, inl, inr, ℕ, ◌+◌, ◌*◌, ◌/◌, ◌<◌, ◌≤◌, ◌==◌, ◌&&◌, ◌||◌, not, if◌then◌else◌, Bool, true, false, List, [], ◌∷◌, ◌++◌, length, map, Option, Some, None, option_map, slice_index_or, refl, sym, ap, ◌∙◌, subst, arith, append_assoc}
-use Rattle.std.specs.Prelude.{◌⊎◌, All, is_none, min}
+use Rattle.std.proofs.Common.{◌≡◌, ◌≢◌, inl, inr, ℕ, zero, suc, ◌+◌, ◌*◌, ◌/◌, ◌<◌, ◌≤◌, ◌==◌, ◌&&◌, ◌||◌, not, if◌then◌else◌, Bool, true, false, List, [], ◌∷◌, ◌++◌, length, map, Option, Some, None, option_map, slice_index_or, refl, sym, ap, ◌∙◌, subst, arith, append_assoc}
+use Rattle.std.specs.Prelude.{Contains, IsPermutation, ◌⊎◌, All, is_none, min}
 use Rattle.std.specs.List.{list_any}
-use Rattle.std.proofs.lemmas.List.Elements.{All-append, All-head, All-tail, All-cons, All-nil}
+use Rattle.std.proofs.lemmas.List.Sorted.{Contains-permutation}
+use Rattle.std.proofs.lemmas.List.Elements.{Contains-append_left, Contains-append_right, Contains-append_cases, All-append, All-head, All-tail, All-cons, All-nil}
 use Rattle.std.proofs.lemmas.Bool.Decides.{nat_tests}
 use mathlib.Core.Logic.{dite}
 use native.Mathlib.Decide.{ℕ_discrete}
@@ -518,6 +519,24 @@ behind_told told number =
     ∙ told_append (map as_label told.device) (map as_answer told.answers) number
     ∙ ap (unless_told (map as_answer told.answers)) (devices_told told.device number)
 
+-- an answer that is told is among the labels
+among : (answers : List Answer) (answer : Answer) → Contains answers answer → Contains (map as_answer answers) (as_answer answer)
+among (a ∷ more) answer (zero, low, is) = (zero, (omega arith), ap as_answer is)
+among (a ∷ more) answer (suc k, low, is) = let h = among more answer (k, (omega arith), is) in (suc (h.0), (let l = h.1 in omega arith), h.2)
+among [] answer (k, low, is) = absurd (omega arith)
+
+told_or_waited : (told : Told) (old new : ManagerView) → new.labels ≡ told.own ++ behind told → IsPermutation new.answers (told.answers ++ old.answers)
+    → (answer : Answer) → Contains new.answers answer → Contains new.labels (as_answer answer) ⊎ Contains old.answers answer
+unfolding behind
+told_or_waited told old new split untaken answer is = by_case (Contains-append_cases told.answers old.answers answer (Contains-permutation new.answers (told.answers ++ old.answers) answer untaken is))
+  where
+    by_case : Contains told.answers answer ⊎ Contains old.answers answer → Contains new.labels (as_answer answer) ⊎ Contains old.answers answer
+    by_case (inl here) = inl (subst (λ (ls : List Label). Contains ls (as_answer answer)) (sym split)
+        (Contains-append_right told.own _ (as_answer answer)
+        (Contains-append_left (map as_label told.device ++ map as_answer told.answers) (end_labels told.ends) (as_answer answer)
+        (Contains-append_right (map as_label told.device) (map as_answer told.answers) (as_answer answer) (among told.answers answer here)))))
+    by_case (inr before) = inr before
+
 -- the laws that serve here
 pub record Laws : Type 0 where
   pub count : CallsCount
@@ -615,6 +634,7 @@ serves laws old event reply new reached given right =
           ∙ sym (behind_told f.told _)
           ∙ sym (told_append f.told.own (behind f.told) _)
           ∙ sym (ap (λ ls. unless_told ls (admitted_at reply k (open_at old k))) split);
+      answers = told_or_waited f.told old new split f.by.untaken;
       used_up = subst (λ (ls : List Label). labels_left old.rules new.state + length ls ≤ labels_left old.rules old.state + brought_by (sizes_of old.rules) event) (sym split)
           (uses_up laws old event reply new reached f.told f.gist f.told.own f.gist.own (subst (λ (ls : List Label). Run old.rules old.state ls new.state) split f.by.run));
     }

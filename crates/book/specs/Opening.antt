@@ -1,8 +1,9 @@
 -- Handles opened for the clients of a book, on a stack of which nothing was asked yet.
-use Rattle.std.specs.Prelude.{◌≡◌, ◌<◌, ◌≤◌, ℕ, ◌+◌, List, [], Option, Some, None, length, slice_get, slice_index_or}
+use Rattle.std.specs.Prelude.{◌≡◌, Contains, ◌<◌, ◌≤◌, ℕ, ◌+◌, List, [], Option, Some, None, length, slice_get, slice_index_or}
 use Rattle.machine.specs.State.{opening}
 use Rattle.machine_laws.specs.LabelsLeft.{labels_left}
 use Rattle.machine_laws.specs.NumberLaws.{awaited}
+use Rattle.io_manager.specs.declared.Answer.{Answer}
 use Rattle.io_manager.specs.declared.Handle.{Handle}
 use Rattle.io_manager.specs.declared.OpenHandle.{OpenHandle}
 use Rattle.io_manager.specs.Calls.{status_of_refusal, open_refusal}
@@ -20,6 +21,7 @@ pub record IsNew (v : ManagerView) : Type 0 where
   pub first_handle : v.next_handle ≡ 1
   pub no_requests : v.holders ≡ []
   pub no_labels : v.labels ≡ []
+  pub no_answers : v.answers ≡ []
 
 -- a stack on which handles were opened, and of which nothing else was asked
 pub record IsFirst (v : ManagerView) : Type 0 where
@@ -27,6 +29,7 @@ pub record IsFirst (v : ManagerView) : Type 0 where
   pub first : v.state.next_request ≡ 1
   pub none_wait : awaited v.state ≡ []
   pub none_open : (k : ℕ) → open_at v k ≡ None
+  pub no_answers : (answer : Answer) → Contains v.answers answer → ⊥
   -- a removal and its end
   pub few_left : labels_left v.rules v.state ≤ 2
 
@@ -71,6 +74,7 @@ pub record KeepsAll (old new : ManagerView) : Type 0 where
   pub same_state : new.state ≡ old.state
   pub no_labels : new.labels ≡ []
   pub same_open : (k : ℕ) → open_at new k ≡ open_at old k
+  pub same_answers : (answer : Answer) → Contains new.answers answer → Contains old.answers answer
 
 -- a handle more, under the next number and in a slot that was free
 pub record OpensOne (old : ManagerView) (partition : ℕ) (handle : Handle) (new : ManagerView) : Type 0 where

@@ -1,14 +1,15 @@
 -- What a book needs of a right step of its stack.
-use Rattle.std.specs.Prelude.{◌≡◌, ◌<◌, ◌≤◌, ◌==◌, ℕ, ◌+◌, Bool, true, false, List, [], ◌∷◌, Option, Some, None, option_map, length, slice_index_or, if◌then◌else◌}
+use Rattle.std.specs.Prelude.{◌≡◌, ◌⊎◌, Contains, ◌<◌, ◌≤◌, ◌==◌, ℕ, ◌+◌, Bool, true, false, List, [], ◌∷◌, Option, Some, None, option_map, length, slice_index_or, if◌then◌else◌}
 use Rattle.machine.specs.declared.Label.{Label}
 use Rattle.machine.specs.declared.Label.TheVariants.{Call, Answer as AnswerLabel}
 use Rattle.machine.specs.Step.{Run}
 use Rattle.machine_laws.specs.LabelsLeft.{labels_left}
+use Rattle.io_manager.specs.declared.Answer.{Answer}
 use Rattle.io_manager.specs.declared.Id.{Id}
 use Rattle.io_manager.specs.declared.Reply.{Reply}
 use Rattle.io_manager.specs.declared.Reply.TheVariants.{Request as Requested}
 use Rattle.io_manager.specs.Calls.{number_limit}
-use Rattle.io_manager.specs.Right.{IsSlotOf}
+use Rattle.io_manager.specs.Right.{IsSlotOf, as_answer}
 use Rattle.io_manager.specs.Shown.{ManagerView}
 use Rattle.compose.specs.declared.Event.{Event}
 use Rattle.compose.specs.declared.Event.TheVariants.{Open, Close, Read, Write, Flush}
@@ -77,4 +78,6 @@ pub record Serves (old : ManagerView) (event : Event) (reply : Reply) (new : Man
   pub calls : HaveCallsOf (is_call_event event) new.labels
   pub opens : OpensSlot old reply new
   pub holders : (k : ℕ) → open_at new k ≡ unless_told new.labels (admitted_at reply k (open_at old k))
+  -- each answer that waits is told by the step, or waited before
+  pub answers : (answer : Answer) → Contains new.answers answer → Contains new.labels (as_answer answer) ⊎ Contains old.answers answer
   pub used_up : labels_left old.rules new.state + length new.labels ≤ labels_left old.rules old.state + brought_by (sizes_of old.rules) event

@@ -1,5 +1,5 @@
 -- What the parts of a book say of each other between two steps.
-use Rattle.std.specs.Prelude.{◌≡◌, ◌<◌, ◌≤◌, ◌^◌, ℕ, List, [], Option, Some}
+use Rattle.std.specs.Prelude.{◌≡◌, Contains, ◌<◌, ◌≤◌, ◌^◌, ℕ, List, [], Option, Some}
 use Rattle.machine.specs.declared.Label.{Label}
 use Rattle.machine.specs.declared.Label.TheVariants.{Answer}
 use Rattle.machine.specs.Rules.{Rules}
@@ -8,9 +8,11 @@ use Rattle.machine.specs.Step.{Run}
 use Rattle.machine_laws.specs.LabelsLeft.{labels_left}
 use Rattle.cancel_marks.specs.declared.rule.View.{View}
 use Rattle.cancel_marks.specs.Marks.{slot_at}
+use Rattle.io_manager.specs.declared.Answer.{Answer as Waiting}
 use Rattle.io_manager.specs.declared.OpenHandle.{OpenHandle}
 use Rattle.io_manager.specs.declared.Reply.{Reply}
 use Rattle.io_manager.specs.declared.Reply.TheVariants.{Request as Requested}
+use Rattle.io_manager.specs.Right.{as_answer}
 use Rattle.io_manager.specs.Shown.{ManagerView}
 use Rattle.book.specs.Serving.{open_at}
 use Rattle.book.specs.Book.{BookView}
@@ -34,6 +36,8 @@ pub record IsSound (rules : Rules) (opening : State) (handles : List (Option Ope
   -- a slot has the number of the open request there, and was never armed with one that is still to come
   pub numbers : (k : ℕ) → number_at slots.numbers k ≡ open_at stack k
   pub below : ArmedBelow stack.state.next_request slots.owner
+  -- each answer that waits to be taken stands in the trace
+  pub answered : (answer : Waiting) → Contains stack.answers answer → Contains (labels_of pages.entries) (as_answer answer)
   -- all labels that may still come have a place
   pub room : labels_left rules stack.state ≤ pages.room
 

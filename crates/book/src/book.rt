@@ -1,4 +1,4 @@
-ghost use Rattle.std.specs.Prelude.{◌≡◌, ◌<◌, ◌≤◌, ◌+◌, ◌∷◌, ℕ, List, [], max, slice_get, IfOk, OnErr, OnOk, Some, None, false, true, length};
+ghost use Rattle.std.specs.Prelude.{◌≡◌, ◌<◌, ◌≤◌, ◌+◌, ◌∷◌, ℕ, List, [], max, slice_get, Contains, IfOk, IfSome, OnOk, Some, None, false, true, length};
 ghost use Rattle.cancel_marks.specs.Marks.{standing, starting};
 ghost use Rattle.chronicle.specs.Claims.{AllStand};
 ghost use Rattle.machine.specs.Step.{Run};
@@ -6,6 +6,7 @@ ghost use Rattle.machine_laws.specs.LabelsLeft.{labels_left, RunsUseUp};
 ghost use Rattle.machine_laws.specs.NumberLaws.{CallsAwait, CallsCount, CallsRise};
 ghost use Rattle.io_manager.specs.declared.Refusal.TheVariants.{InsufficientResources};
 ghost use Rattle.io_manager.specs.declared.Reply.TheVariants.{Refused as RefusedReply};
+ghost use Rattle.io_manager.specs.Right.{TakesAnswerOf, as_answer};
 ghost use Rattle.compose.specs.Right.{IsRight};
 ghost use Rattle.book.specs.Opening.{AreClientsOf, IsFirst};
 ghost use Rattle.book.specs.Book.{AreLooked, AreRowsOf, FitsHandle, IsBook, IsCarried, IsLooked, IsServed, IsServedWith, IsStepped, IsWanting, HasCounted, call_handle, bytes_of, may_want};
@@ -28,7 +29,7 @@ use crate::slots::Slots;
 use adapter::Adapter;
 use cancel_marks::{Marks, Seat};
 use chronicle::{Claims, History, Whole};
-use compose::{Event, Refusal, Reply, Stack};
+use compose::{Answer, Event, Refusal, Reply, Stack};
 use machine::Label;
 use sector::Bytes;
 use std::alloc::{AllocError, Global};
@@ -450,6 +451,15 @@ impl<A: Adapter, N: Naming> Book<A, N> {
             0,
             event,
         )
+    }
+
+    /// Takes the waiting answer of a request, whose label stands in the trace. It takes no memory.
+    pub fn take_answer(&mut self, number: u64) -> Option<Answer>
+        ensures takes { TakesAnswerOf self.old.stack number result self.new.stack }
+        ensures same { self.new ≡ record self.old { stack = self.new.stack } }
+        ensures stands { IfSome result (λ answer. Contains (labels_of self.old.entries) (as_answer answer)) }
+    {
+        self.stack.take_answer_of(number)
     }
 
     /// Whenever a book is at rest, its trace is a run from the state that it was opened with to the state that the stack

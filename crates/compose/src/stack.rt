@@ -4,7 +4,7 @@ ghost use Rattle.std.specs.Prelude.{◌≡◌, [], IfOk, IfErr, MatchResult};
 ghost use Rattle.machine.specs.Settled.{Settled, IsFinished};
 ghost use Rattle.machine_laws.specs.Reached.{IsReached};
 ghost use Rattle.probe.specs.Exchange.{IsIdle};
-ghost use Rattle.io_manager.specs.Right.{FitsTogether, TakesAnswer, TakesLabel as TakesFirst};
+ghost use Rattle.io_manager.specs.Right.{FitsTogether, TakesAnswer, TakesAnswerOf, TakesLabel as TakesFirst};
 ghost use Rattle.compose.specs.Right.{IsRight};
 ghost use Rattle.compose.specs.Opening.{IsFirstView, IsSpent};
 ghost use Rattle.compose.specs.Runs.{CarriesAll, IsLawful, StopsAfter};
@@ -94,6 +94,13 @@ impl<A: Adapter> Stack<A> {
         ensures { TakesAnswer self.old result self.new }
     {
         self.manager.take_answer()
+    }
+
+    /// Takes the waiting answer of a number.
+    pub fn take_answer_of(&mut self, number: u64) -> Option<Answer>
+        ensures { TakesAnswerOf self.old number result self.new }
+    {
+        self.manager.take_answer_of(number)
     }
 
     /// Carries events out one after another, and gives the reply and the labels of each, which are then taken. All

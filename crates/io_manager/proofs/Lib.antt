@@ -31,3 +31,4 @@ pub mod Telling
 pub mod Removing
 pub mod Marking
 pub mod Cancelled
+pub mod TakenOut

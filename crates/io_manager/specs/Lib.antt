@@ -9,3 +9,4 @@ pub mod Admitting
 pub mod Collecting
 pub mod Cancelling
 pub mod Opening
+pub mod Taking

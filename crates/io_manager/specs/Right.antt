@@ -1,5 +1,5 @@
 -- When a call of the I/O manager, or a step of the adapter, is right.
-use Rattle.std.specs.Prelude.{◌≡◌, ◌≢◌, ◌<◌, ◌⊎◌, ℕ, ◌+◌, ◌==◌, Bool, true, false, List, [], ◌∷◌, ◌++◌, Option, Some, None, map, filter, slice_index_or, is_some, IsTrue, IsFalse, All, Contains, IsPermutation, if◌then◌else◌}
+use Rattle.std.specs.Prelude.{◌≡◌, ◌≢◌, ◌<◌, ◌⊎◌, ℕ, ◌+◌, ◌==◌, Bool, true, false, List, [], ◌∷◌, ◌++◌, Option, Some, None, map, filter, slice_get, slice_index_or, remove, is_some, IsTrue, IsFalse, All, Contains, IsPermutation, if◌then◌else◌}
 use Rattle.std.specs.List.{list_any}
 use Rattle.std.specs.List.Sorted.{IsStrictlyIncreasing}
 use Rattle.ntstatus.specs.declared.NtStatus.{NtStatus}
@@ -479,3 +479,13 @@ TakesAnswer old None new = (old.answers ≡ []) × (new ≡ old)
 TakesAnswer old (Some answer) new =
     (rest : List Answer) × (old.answers ≡ answer ∷ rest) × All (IsAbove answer.number) (map answer_number rest)
     × (new ≡ record old { answers = rest })
+
+-- the answer is that of another request
+abbrev pub IsOfAnother : ℕ → Answer → Type 0
+IsOfAnother number answer = answer.number ≢ number
+
+-- the waiting answer of a number leaves, if there is one
+abbrev pub TakesAnswerOf : ManagerView → ℕ → Option Answer → ManagerView → Type 0
+TakesAnswerOf old number None new = All (IsOfAnother number) old.answers × (new ≡ old)
+TakesAnswerOf old number (Some answer) new =
+    (at : ℕ) × (slice_get old.answers at ≡ Some answer) × (answer.number ≡ number) × (new ≡ record old { answers = remove old.answers at })

@@ -1,8 +1,12 @@
-//! All labels of a step are taken at once.
+//! All labels of a step are taken at once, and an answer by its number.
 
-ghost use Rattle.std.specs.Prelude.{◌≡◌, ◌≤◌, [], IfOk};
+ghost use Rattle.std.specs.Prelude.{◌≡◌, ◌≤◌, ◌<◌, [], IfOk, All, MatchOption, length, slice_get, Some};
 ghost use Rattle.std.specs.VecDeque.{deque_capacity};
 
+ghost use Rattle.io_manager.specs.Right.{IsOfAnother, TakesAnswerOf};
+ghost use Rattle.io_manager.specs.Taking.{IsAt};
+
+use crate::Answer;
 use crate::manager::IoManager;
 use crate::tables::LABEL_PLACES;
 use device::{Device, Label};
@@ -10,7 +14,27 @@ use std::alloc::{AllocError, Global};
 use std::collections::VecDeque;
 use std::mem;
 
+/// Where the answer of a number waits.
+fn place_of(answers: &VecDeque<Answer>, number: u64) -> Option<usize>
+    ensures { MatchOption result (All (IsOfAnother number) answers.now.items) (IsAt answers.now.items number) }
+{
+    for at in 0..answers.len() {
+        if answers[at].number == number {
+            return Some(at);
+        }
+    }
+    None
+}
+
 impl<D: Device> IoManager<D> {
+    /// Takes the waiting answer of a number. It takes no memory.
+    pub fn take_answer_of(&mut self, number: u64) -> Option<Answer>
+        ensures takes { TakesAnswerOf self.old number result self.new }
+    {
+        let at = place_of(&self.parts.tables.untaken, number)?;
+        self.parts.tables.untaken.remove(at)
+    }
+
     /// An empty queue with places for the labels of a step.
     ///
     /// # Errors

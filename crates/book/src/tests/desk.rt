@@ -161,13 +161,16 @@ pub(crate) fn play<A: Adapter, N: Naming>(
     Ok(())
 }
 
-/// What is wanted of a test: its rows, the whole trace, and the places of each client's calls and answers.
+/// What is wanted of a test: its rows, the whole trace, the places of each client's calls and answers, and
+/// what request 1 transferred.
 #[derive(Debug, Clone, Copy)]
 pub(crate) struct Run<'a> {
     pub rows: &'a [Row<'a>],
     pub trace: &'a str,
     pub first: &'a [usize],
     pub second: &'a [usize],
+    /// The bytes transferred of request 1, where it was open.
+    pub transferred: u64,
 }
 
 /// A book over this stack carries the rows out.
@@ -216,6 +219,11 @@ pub(crate) fn carry_out<A: Adapter, N: Naming>(
         (&mut first, &mut second),
         run.rows,
     )?;
+    let transferred = match book.take_answer(1) {
+        Some(answer) => answer.information,
+        None => 0,
+    };
+    assert!(rt; transferred == run.transferred);
     all.merge(first.into_part());
     all.merge(second.into_part());
     book.audit(&mut all);
