@@ -2,6 +2,7 @@
 
 mod disks;
 mod events;
+mod failing;
 mod refused_memory;
 mod starting;
 mod steps;

@@ -1,6 +1,6 @@
 //! Disks of 4,096 sectors of 512 bytes, and stacks over them.
 
-ghost use Rattle.std.specs.Prelude.{◌≡◌, [], IfOk};
+ghost use Rattle.std.specs.Prelude.{◌≡◌, ◌≤◌, ◌^◌, [], IfOk};
 ghost use Rattle.probe.specs.Exchange.{IsIdle};
 
 use crate::{Settings, Stack, StartFault};
@@ -59,7 +59,25 @@ pub(crate) fn disk(alloc: Global, table: &Table, bad: &[u64]) -> Result<VecDisk,
     VecDisk::starting_with(alloc, 512, 4096, &table.sector(), bad).map_err(no_memory)
 }
 
-/// An adapter of two tags that moves two sectors at most.
+/// An adapter of two tags that moves so many sectors at most.
+pub(crate) fn adapter_moving<M: Medium>(
+    rt: &impl Abort,
+    alloc: Global,
+    medium: M,
+    max_transfer: u32,
+) -> Result<MemAdapter<M>, AllocError>
+    requires some { 1 ≤ max_transfer }
+    requires short { max_transfer ≤ 2 ^ 16 }
+    ensures idle { IfOk result (λ a. IsIdle a.shown) }
+    ensures unasked { IfOk result (λ a. a.shown.accepted ≡ 0) }
+{
+    let sectors = medium.sectors();
+    assert!(rt; 1 <= sectors && sectors <= 1 << 40);
+    assert!(rt; medium.sector_size() == 512 && medium.failures() == 0);
+    MemAdapter::new(alloc, medium, max_transfer, 2, false).map_err(no_memory)
+}
+
+/// The same, of two sectors at most.
 pub(crate) fn adapter<M: Medium>(
     rt: &impl Abort,
     alloc: Global,
@@ -68,10 +86,7 @@ pub(crate) fn adapter<M: Medium>(
     ensures idle { IfOk result (λ a. IsIdle a.shown) }
     ensures unasked { IfOk result (λ a. a.shown.accepted ≡ 0) }
 {
-    let sectors = medium.sectors();
-    assert!(rt; 1 <= sectors && sectors <= 1 << 40);
-    assert!(rt; medium.sector_size() == 512 && medium.failures() == 0);
-    MemAdapter::new(alloc, medium, 2, 2, false).map_err(no_memory)
+    adapter_moving(rt, alloc, medium, 2)
 }
 
 /// A stack over an adapter that it can be started over, with two requests at work and four open.
