@@ -154,6 +154,7 @@ reset_sound limits below tables below1 sound r =
       given = s.given;
       apart = s.apart;
       chained = s.chained;
+      numbered = s.numbered;
       counted = s.counted;
     }
 

@@ -29,6 +29,7 @@ use Rattle.io_manager.specs.Chains.{IsOpenIn}
 use Rattle.io_manager.specs.Sound.{rules_of, shown_state, is_gone, view_of, IsHeldAt, AreHeld, IsTopmost, IsSpotted, WasGiven, AreApart, IsInState, IsSound}
 use Rattle.io_manager.specs.Admitting.{request_of, HasCopies, Admits, SendsDown, IsAdmissible}
 use Rattle.io_manager.proofs.Chained.{AreChained-more}
+use Rattle.io_manager.proofs.Numbered.{AreNumbered-more}
 use Rattle.io_manager.proofs.Counted.{AreCounted-more}
 use Rattle.io_manager.proofs.Askings.{KeepsAsked-same, asks_same, AreHeld-along}
 use Rattle.io_manager.proofs.Righting.{IsSound-moves}
@@ -181,10 +182,19 @@ module _ (limits : Limits) (below : DeviceView) (tables : Tables) (q : ClientReq
   admitted_sound handle copies spot slot tables1 buffer below1 distinct is_open buffers same_length place admits sends =
       subst (IsSound limits below1) (sym admits.after)
       (IsSound-moves limits (record below { state = sends.submits.opened; packets = sends.packet ∷ below.packets; submitted = below.submitted + 1 })
-      (record tables { next_request = tables.next_request + 1; requests = tables1.requests; latest = tables1.latest; chains = tables1.chains; open_counts = tables1.open_counts; labels = tables1.labels }) sends.submits.starts below1 opened sends.submits.moves)
+      (record tables { next_request = tables.next_request + 1; requests = tables1.requests; chains = tables1.chains; by_number = tables1.by_number; open_counts = tables1.open_counts; labels = tables1.labels }) sends.submits.starts below1 opened sends.submits.moves)
     where
       asked : ClientRequest
       asked = as_client below.rules (request_of limits.sector_size q) (sent_bytes q.kind sends.payload)
+
+      slot_low : slot < 64
+      slot_low = let low : slot < tables.requests.capacity = admits.in_range in let slots : tables.requests.capacity ≡ limits.open_requests = h.places.requests in let few : limits.open_requests ≤ 64 = h.fits.some_open.1 in omega (arith, low, slots, few)
+
+      number_given : (other : ℕ) (request : OpenRequest) → get tables.requests other ≡ Some request → request.number < tables.next_request
+      number_given other request there =
+          let given : request.number < below.state.next_request = was_given tables.requests below.state.requests below.state.next_request distinct.given h.held other request there in
+          let rising : below.state.next_request ≤ tables.next_request = h.numbers.rising in
+          omega (arith, given, rising)
 
       -- it was not removing, so a place was left
       in_state_opened : (p : PnpState) → IsInState p below.state → IsInState p sends.submits.opened
@@ -200,7 +210,7 @@ module _ (limits : Limits) (below : DeviceView) (tables : Tables) (q : ClientReq
           stays removing = let e : below.state.removing ≡ false = (taken_in over (view_of limits below tables).state q k.not_refused).staying in cc (e, removing)
 
       opened : IsSound limits (record below { state = sends.submits.opened; packets = sends.packet ∷ below.packets; submitted = below.submitted + 1 })
-          (record tables { next_request = tables.next_request + 1; requests = tables1.requests; latest = tables1.latest; chains = tables1.chains; open_counts = tables1.open_counts; labels = tables1.labels })
+          (record tables { next_request = tables.next_request + 1; requests = tables1.requests; chains = tables1.chains; by_number = tables1.by_number; open_counts = tables1.open_counts; labels = tables1.labels })
       opened =
           let last : tables.next_request < number_limit = numbers_last tables.next_request k.numbers_last in
           let rising : below.state.next_request ≤ tables.next_request = h.numbers.rising in
@@ -233,9 +243,7 @@ module _ (limits : Limits) (below : DeviceView) (tables : Tables) (q : ClientReq
             topmost = All-cons IsTopmost sends.packet below.packets sends.topmost h.topmost;
             spots =
                 AreSpotted-more tables.requests tables1.requests slot _ sends.packet below.packets admits.holds
-                (λ other request there.
-                let low : request.number < below.state.next_request = was_given tables.requests below.state.requests below.state.next_request distinct.given h.held other request there in omega arith)
-                number sends.is_spot h.spots;
+                number_given number sends.is_spot h.spots;
             in_state = in_state_opened tables.state h.in_state;
             none_put_by = h.none_put_by;
             rising = h.rising;
@@ -243,13 +251,11 @@ module _ (limits : Limits) (below : DeviceView) (tables : Tables) (q : ClientReq
             apart = AreApart-more tables.requests tables1.requests slot _ tables.untaken.items admits.holds h.given h.apart;
             chained =
                 AreChained-more tables.handles tables.requests tables1.requests tables.next_handle tables.chains tables1.chains h.chained slot _ is_open refl admits.was_free
-                (let low : slot < tables.requests.capacity = admits.in_range in let slots : tables.requests.capacity ≡ limits.open_requests = h.places.requests in let few : limits.open_requests ≤ 64 = h.fits.some_open.1 in omega (arith, low, slots, few))
-                admits.holds
-                (λ other request there.
-                let given : request.number < below.state.next_request = was_given tables.requests below.state.requests below.state.next_request distinct.given h.held other request there in omega (arith, given, rising))
-                admits.chains;
+                slot_low admits.holds number_given admits.chains;
+            numbered =
+                AreNumbered-more tables.requests tables1.requests tables.by_number tables1.by_number h.numbered slot _ admits.was_free
+                slot_low admits.holds number_given admits.by_number;
             counted =
                 AreCounted-more tables.handles tables.requests tables1.requests tables.next_handle tables.chains h.chained tables.open_counts tables1.open_counts h.counted slot _ is_open admits.was_free
-                (let low : slot < tables.requests.capacity = admits.in_range in let slots : tables.requests.capacity ≡ limits.open_requests = h.places.requests in let few : limits.open_requests ≤ 64 = h.fits.some_open.1 in omega (arith, low, slots, few))
-                admits.holds admits.counts;
+                slot_low admits.holds admits.counts;
           }

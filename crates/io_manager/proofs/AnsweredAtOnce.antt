@@ -73,6 +73,7 @@ at_once_sound limits below tables q status tables1 h last answers =
       given = All-weaker (WasGiven tables.next_request) (WasGiven (tables.next_request + 1)) (λ answer low. omega arith) tables.untaken.items h.given;
       apart = h.apart;
       chained = h.chained;
+      numbered = h.numbered;
       counted = h.counted;
     })
 

@@ -73,6 +73,7 @@ reserved_sound limits below tables below' tables' h reserves keeps =
       given = subst (All (WasGiven tables.next_request)) (sym keeps.same_untaken) h.given;
       apart = subst (AreApart tables.requests) (sym keeps.same_untaken) h.apart;
       chained = h.chained;
+      numbered = h.numbered;
       counted = h.counted;
     }))
 

@@ -79,6 +79,7 @@ closed_sound limits below tables tables' slot number h is_open none_left closes 
       given = h.given;
       apart = h.apart;
       chained = AreChained-closed tables.handles tables'.handles tables.requests tables.next_handle tables.chains h.chained slot number is_open none_left closes.closes;
+      numbered = h.numbered;
       counted = record { places = h.counted.places; counted = λ other number' o. h.counted.counted other number' (record { handle = o.handle; there = still_open tables.handles tables'.handles slot closes.closes other o.handle o.there; is_number = o.is_number }) };
     })
 

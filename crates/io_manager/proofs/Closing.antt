@@ -22,10 +22,11 @@ use Rattle.device.specs.View.{DeviceView, payload_bytes}
 use Rattle.device.specs.Served.{HandsUp}
 use Rattle.io_manager.specs.declared.tables.OpenRequest.{OpenRequest}
 use Rattle.io_manager.specs.declared.tables.Tables.{Tables}
-use Rattle.io_manager.specs.Chains.{TakesOut, IsWaiting, AreChained}
+use Rattle.io_manager.specs.Chains.{TakesOut, IsWaiting, AreChained, AreNumbered}
 use Rattle.io_manager.specs.Sound.{IsHeldAt, AreHeld, IsTopmost}
 use Rattle.io_manager.specs.Collecting.{IsAt, AreFilled, Closes, brought}
 use Rattle.io_manager.proofs.Chained.{IsKept, AreChained-same, AreChained-less}
+use Rattle.io_manager.proofs.Numbered.{AreNumbered-less}
 
 -- WITH NO LOCATION ABOVE A CLIMB IS FINISHED
 
@@ -166,7 +167,16 @@ module _ (old new : Tables) (done : Done) (c : Closes old done new) (below : Lis
       by_cases slot x there (inl h) = absurd (kept_number slot x there (sym (single o.number x.number h) ∙ number))
       by_cases slot x there (inr h) = h
 
+  stays : (other : ℕ) (x : OpenRequest) → other ≢ c.slot → get old.requests other ≡ Some x → get new.requests other ≡ Some x
+  stays other x apart there = c.leaves.others other apart ∙ there
+
+  one_number : (other : ℕ) (x : OpenRequest) → get old.requests other ≡ Some x → x.number ≡ c.request.number → other ≡ c.slot
+  one_number other x there same = k.one_slot other c.slot x c.request there c.there same
+
   -- it is in no chain any more
+  pub AreNumbered-ended : AreNumbered old.requests old.by_number → AreNumbered new.requests new.by_number
+  AreNumbered-ended linked = AreNumbered-less old.requests new.requests old.by_number new.by_number linked c.slot c.request c.there kept_slot stays one_number c.by_number
+
   pub AreChained-ended : AreChained old.handles old.requests old.next_handle old.chains → AreChained old.handles new.requests old.next_handle new.chains
   AreChained-ended chained = by_flag c.request.cancelled refl c.chains
     where
@@ -174,9 +184,6 @@ module _ (old new : Tables) (done : Done) (c : Closes old done new) (below : Lis
       kept other x there =
           let before : (other ≢ c.slot) × (get old.requests other ≡ Some x) = kept_slot other x there in
           record { before = x; there = before.1; same_handle = refl; same_slot = refl; unmarked = λ not_yet. (refl, before.0) }
-
-      stays : (other : ℕ) (x : OpenRequest) → other ≢ c.slot → get old.requests other ≡ Some x → get new.requests other ≡ Some x
-      stays other x apart there = c.leaves.others other apart ∙ there
 
       still : c.request.cancelled ≡ true → (handle other number : ℕ) → IsWaiting old.requests handle other number → IsWaiting new.requests handle other number
       still marked handle other number w =
@@ -192,5 +199,4 @@ module _ (old new : Tables) (done : Done) (c : Closes old done new) (below : Lis
           subst (λ x. AreChained old.handles new.requests old.next_handle x) (sym same)
           (AreChained-same old.handles old.requests new.requests old.next_handle old.chains chained c.slot kept (still marked))
       by_flag false not_yet out =
-          AreChained-less old.handles old.requests new.requests old.next_handle old.chains chained c.slot kept c.request c.there not_yet new.chains out stays
-          (λ other x there same. k.one_slot other c.slot x c.request there c.there same)
+          AreChained-less old.handles old.requests new.requests old.next_handle old.chains chained c.slot kept c.request c.there not_yet new.chains out stays one_number

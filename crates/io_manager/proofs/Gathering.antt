@@ -37,7 +37,7 @@ use Rattle.io_manager.specs.Collecting.{Closes, EndsRemoval, TakesEnded, Gathers
 use Rattle.io_manager.proofs.AdapterJoins.{labels_moved}
 use Rattle.io_manager.proofs.Askings.{KeepsAsked, KeepsAsked-same, KeepsAsked-trans, asks_same, as_many, run_keeps, AreHeld-along}
 use Rattle.io_manager.proofs.Counted.{AreCounted-ended}
-use Rattle.io_manager.proofs.Closing.{held_at, only_there, is_ended, is_given, brings, kept_slot, kept_number, AreHeld-less, AreChained-ended}
+use Rattle.io_manager.proofs.Closing.{held_at, only_there, is_ended, is_given, brings, kept_slot, kept_number, AreHeld-less, AreChained-ended, AreNumbered-ended}
 use Rattle.io_manager.proofs.Inserting.{unless_one_more}
 use Rattle.io_manager.proofs.Fitted.{FitsBelow-same, no_length, IsInState-fewer}
 use Rattle.io_manager.proofs.NoneToStart.{handed_still}
@@ -201,6 +201,7 @@ module _ (takes_srb : Bool) (old new : DeviceView) (request : Request) (done : D
     given = given_after distinct s.numbers.rising s.given;
     apart = apart_after s.apart;
     chained = chained_after s.chained;
+    numbered = AreNumbered-ended t t' done c old.state.requests k s.numbered;
     counted = subst (λ hs. AreCounted hs t'.requests t'.open_counts) (sym c.same_handles) (AreCounted-ended t t' done c s.chained s.counted);
   }
 
@@ -414,6 +415,7 @@ told_sound limits mid new t t' t'' taken s kept none e removal label_places answ
       given = s.given;
       apart = s.apart;
       chained = s.chained;
+      numbered = s.numbered;
       counted = s.counted;
     }))
 

@@ -86,6 +86,7 @@ given_sound limits below old handles counts partition slot h free in_range count
       given = h.given;
       apart = h.apart;
       chained = AreChained-opened old.handles handles old.requests old.next_handle old.chains h.chained slot partition free in_range updates;
+      numbered = h.numbered;
       counted = AreCounted-opened old.handles handles old.requests old.next_handle old.chains h.chained slot partition old.open_counts counts h.counted in_range updates counts_are;
     }
 

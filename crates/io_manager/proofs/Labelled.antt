@@ -139,5 +139,6 @@ module _ (below : DeviceView) (tables : Tables) (below' : DeviceView) (tables' :
         given = s.given;
         apart = s.apart;
         chained = s.chained;
+        numbered = s.numbered;
         counted = s.counted;
       }))

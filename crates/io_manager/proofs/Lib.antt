@@ -1,7 +1,9 @@
 pub mod Ordering
 pub mod Inserting
 pub mod Chaining
+pub mod Linked
 pub mod Chained
+pub mod Numbered
 pub mod Counted
 pub mod Over
 pub mod Askings

@@ -28,6 +28,9 @@ use Rattle.io_manager.specs.Chains.{of_handle}
 use Rattle.io_manager.specs.Ordering.{HasOtherNumber}
 use Rattle.io_manager.specs.Right.{as_cancel, AreRising, IsAbove}
 use Rattle.io_manager.specs.Sound.{holder_of, holders_of, IsHeldAt, AreHeld, IsTopmost, IsSpotted, AreApart, IsSound}
+use Rattle.io_manager.specs.declared.chains.Chains.{Chains}
+use Rattle.io_manager.specs.Chains.{IsNumbered, AreNumbered}
+use Rattle.io_manager.proofs.Linked.{AreLinked-still}
 use Rattle.io_manager.proofs.Chained.{IsKept, AreChained-less}
 use Rattle.io_manager.proofs.Counted.{AreCounted-same}
 use Rattle.io_manager.proofs.Askings.{KeepsAsked-same, asks_same, AreHeld-along}
@@ -217,6 +220,20 @@ module _ (old new : Slab OpenRequest) (slot : ℕ) (request : OpenRequest) (ther
     | inr apart ↦ ap (λ x. of_handle x number) (updates.others other apart)
   ]
 
+  -- and changes no number
+  still_numbered : (chains : Chains) → AreNumbered old chains → AreNumbered new chains
+  still_numbered chains l =
+      AreLinked-still (IsNumbered old) (IsNumbered new) chains l
+      (λ remainder other number n.
+      let before : (y : OpenRequest) × (get old other ≡ Some y) × ((n.request ≡ y) ⊎ ((other ≡ slot) × (n.request ≡ as_marked y))) = held_before other n.request n.there in
+      record { request = before.0; there = before.1; is_number = sym (number_before n.request before.0 other before.2) ∙ n.is_number; leaves = n.leaves })
+      (λ remainder other number n. numbered_now remainder other number n (held_now other n.request n.there))
+    where
+      numbered_now : (remainder other number : ℕ) (n : IsNumbered old remainder other number) → (get new other ≡ Some n.request) ⊎ ((other ≡ slot) × (n.request ≡ request) × (get new other ≡ Some (as_marked n.request)))
+          → IsNumbered new remainder other number
+      numbered_now remainder other number n (inl at) = record { request = n.request; there = at; is_number = n.is_number; leaves = n.leaves }
+      numbered_now remainder other number n (inr marked) = record { request = as_marked n.request; there = marked.2; is_number = n.is_number; leaves = n.leaves }
+
   still_apart : (answers : List Answer) → AreApart old answers → AreApart new answers
   still_apart answers h other x there' =
       let before : (y : OpenRequest) × (get old other ≡ Some y) × ((x ≡ y) ⊎ ((other ≡ slot) × (x ≡ as_marked y))) = held_before other x there' in
@@ -264,6 +281,7 @@ marked_sound limits below below' tables tables' slot place h distinct m cancels 
       chained =
           AreChained-less tables.handles tables.requests tables'.requests tables.next_handle tables.chains h.chained slot (still_kept tables.requests tables'.requests slot m.request m.there m.marks)
           m.request m.there m.not_yet tables'.chains m.chains (λ other x apart there. m.marks.others other apart ∙ there) (λ other x there same. h.held.one_slot other slot x m.request there m.there same);
+      numbered = still_numbered tables.requests tables'.requests slot m.request m.there m.marks tables.by_number h.numbered;
       counted = AreCounted-same tables.handles tables.requests tables'.requests tables.open_counts h.counted (same_count tables.requests tables'.requests slot m.request m.there m.marks);
     })
 

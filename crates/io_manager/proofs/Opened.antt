@@ -3,7 +3,7 @@ use Rattle.std.proofs.Common.{◌≡◌, ◌<◌, ◌≤◌, ◌+◌, ℕ, zero,
 use Rattle.std.specs.Prelude.{IsPermutation, slice_get}
 use Rattle.std.proofs.lemmas.List.Sorted.{length_permutation}
 use Rattle.std.proofs.lemmas.List.Elements.{All-nil, All-head, All-tail}
-use Rattle.slab.specs.Slab.{Slab, get, slab_len}
+use Rattle.slab.specs.Slab.{Slab, slab_len}
 use Rattle.sector.specs.declared.Extent.{Extent}
 use Rattle.machine.specs.Map.{IsPartition, sectors_in}
 use Rattle.machine.specs.Rules.{Rules}
@@ -23,7 +23,9 @@ use Rattle.io_manager.specs.Right.{AreRising, answer_number}
 use Rattle.io_manager.specs.Inside.{WritesInside}
 use Rattle.io_manager.specs.Sound.{rules_of, shown_state, is_gone, holders_of, view_of, FitsBelow, HasNumbers, IsHeldAt, AreHeld, HasPlaces, IsTopmost, IsSpotted, WasGiven, IsInState, IsSound, ManagerKept}
 use Rattle.io_manager.specs.Opening.{IsUnasked, AreFor, AreEmpty, IsFirstView}
-use Rattle.io_manager.proofs.Chained.{AreChained-empty}
+use Rattle.io_manager.specs.Chains.{IsNumbered}
+use Rattle.io_manager.proofs.Linked.{AreLinked-empty}
+use Rattle.io_manager.proofs.Chained.{none_there, AreChained-empty}
 use Rattle.machine_laws.proofs.DiskMap.{slice_is_part, length-part}
 
 -- the arrays of a map's partitions are whole
@@ -58,9 +60,6 @@ settled_opening rules arrays = record {
   at_work = λ _. All-nil IsAtWork;
   within_window = no_window rules.window;
 }
-
-none_there : {X : Type 0} (slab : Slab X) (slot : ℕ) (x : X) → slab.slots ≡ [] → get slab slot ≡ Some x → ⊥
-none_there {X} slab slot x empty there = let e : None ≡ Some x = sym (ap (λ (xs : List (Option X)). get (record slab { slots = xs }) slot) empty) ∙ there in cc (e)
 
 none_counted : {X : Type 0} (slab : Slab X) → slab.slots ≡ [] → slab_len slab ≡ 0
 none_counted {X} slab empty = ap (λ (xs : List (Option X)). slab_len (record slab { slots = xs })) empty
@@ -127,7 +126,8 @@ module _ (limits : Limits) (below : DeviceView) (tables : Tables) (orderly : IsO
     rising = subst (λ (xs : List Answer). AreRising (map answer_number xs)) (sym empty.no_answers) tt;
     given = subst (All (WasGiven tables.next_request)) (sym empty.no_answers) (All-nil (WasGiven tables.next_request));
     apart = λ slot request there. absurd (none_there tables.requests slot request empty.no_requests there);
-    chained = AreChained-empty tables.handles tables.requests tables.next_handle tables.chains empty.no_handles empty.no_requests empty.joints empty.after empty.before;
+    chained = AreChained-empty tables.handles tables.requests tables.next_handle tables.chains empty.no_handles empty.no_requests empty.chains;
+    numbered = AreLinked-empty (IsNumbered tables.requests) tables.by_number (λ remainder slot number n. none_there tables.requests slot n.request empty.no_requests n.there) empty.by_number;
     counted = record { places = empty.counts; counted = λ slot number o. absurd (none_there tables.handles slot o.handle empty.no_handles o.there) };
   }
 

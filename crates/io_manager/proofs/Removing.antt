@@ -125,6 +125,7 @@ beside_sound limits below below' tables tables1 p label h beside asks in_state m
       given = h.given;
       apart = h.apart;
       chained = h.chained;
+      numbered = h.numbered;
       counted = h.counted;
     })
 

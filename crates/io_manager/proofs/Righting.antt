@@ -58,6 +58,7 @@ IsSound-moves limits below tables labels below' h moves =
       given = h.given;
       apart = h.apart;
       chained = h.chained;
+      numbered = h.numbered;
       counted = h.counted;
     }
 

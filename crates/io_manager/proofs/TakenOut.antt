@@ -1,9 +1,9 @@
 -- One of the answers that wait is taken out.
-use Rattle.std.proofs.Common.{◌≡◌, ◌<◌, ◌≤◌, ℕ, zero, suc, ◌+◌, List, [], ◌∷◌, sym, subst, arith, length, map}
+use Rattle.std.proofs.Common.{◌≡◌, ◌≤◌, ℕ, zero, suc, List, [], ◌∷◌, sym, subst, arith, map}
 use Rattle.std.specs.Prelude.{All, Option, Some, OnSome, remove}
 use Rattle.std.specs.VecDeque.{deque_len, deque_capacity}
 use Rattle.std.proofs.lemmas.List.Elements.{All-head, All-tail, All-cons, All-nil}
-use Rattle.slab.specs.Slab.{Slab, get}
+use Rattle.slab.specs.Slab.{Slab}
 use Rattle.device.specs.View.{DeviceView}
 use Rattle.io_manager.specs.declared.Answer.{Answer}
 use Rattle.io_manager.specs.declared.Limits.{Limits}
@@ -11,7 +11,7 @@ use Rattle.io_manager.specs.declared.tables.OpenRequest.{OpenRequest}
 use Rattle.io_manager.specs.declared.tables.Tables.{Tables}
 use Rattle.io_manager.specs.Ordering.{HasOtherNumber}
 use Rattle.io_manager.specs.Right.{AreRising, IsAbove, answer_number}
-use Rattle.io_manager.specs.Sound.{IsSound, WasGiven, AreApart, ManagerKept}
+use Rattle.io_manager.specs.Sound.{WasGiven, AreApart, ManagerKept}
 
 all_but : {X : Type 0} (P : X → Type 0) (xs : List X) (at : ℕ) → All P xs → All P (remove xs at)
 all_but P [] zero all = All-nil _
@@ -64,6 +64,7 @@ with_fewer limits below tables other at kept items shorter same =
         given = subst (All (WasGiven tables.next_request)) (sym items) (all_but (WasGiven tables.next_request) tables.untaken.items at k.given);
         apart = subst (AreApart tables.requests) (sym items) (apart_but tables.requests tables.untaken.items at k.apart);
         chained = k.chained;
+        numbered = k.numbered;
         counted = k.counted;
       };
       inside = kept.inside;

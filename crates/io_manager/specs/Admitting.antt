@@ -31,7 +31,7 @@ use Rattle.io_manager.specs.declared.admission.AtOnce.TheVariants.{Empty, Refuse
 use Rattle.io_manager.specs.declared.admission.Bounds.{Bounds}
 use Rattle.io_manager.specs.declared.admission.Copies.{Copies}
 use Rattle.io_manager.specs.Calls.{status_of_refusal, bytes_called, are_used_up, handle_limit}
-use Rattle.io_manager.specs.Chains.{PutsLast}
+use Rattle.io_manager.specs.Chains.{PutsLast, remainder_of}
 use Rattle.io_manager.specs.Shown.{ManagerView}
 use Rattle.io_manager.specs.Sound.{IsTopmost}
 
@@ -111,8 +111,9 @@ pub record Admits (old : Tables) (handle : Handle) (q : ClientRequest) (copies :
   pub one_more : deque_len new.labels ≡ deque_len old.labels + 1
   pub label_places : deque_capacity new.labels ≡ deque_capacity old.labels
   pub chains : PutsLast old.chains handle.slot slot new.chains
+  pub by_number : PutsLast old.by_number (remainder_of old.next_request) slot new.by_number
   pub counts : new.open_counts ≡ slice_set old.open_counts handle.slot (slice_index old.open_counts handle.slot + 1)
-  pub after : new ≡ record old { next_request = old.next_request + 1; requests = new.requests; latest = new.latest; chains = new.chains; open_counts = new.open_counts; labels = new.labels }
+  pub after : new ≡ record old { next_request = old.next_request + 1; requests = new.requests; chains = new.chains; by_number = new.by_number; open_counts = new.open_counts; labels = new.labels }
 
 -- what refuses a handle on a partition of so many, if anything: the first that fits
 abbrev pub handle_refusal : Tables → ℕ → ℕ → Option NtStatus

@@ -78,6 +78,7 @@ pub record Closes (old : Tables) (done : Done) (new : Tables) : Type 0 where
   pub untaken : new.untaken.items ≡ inserted (answer_for request done) old.untaken.items
   pub counts : CountsOut old (record { slot = request.handle_slot; number = request.handle }) new
   pub chains : MatchBool request.cancelled (new.chains ≡ old.chains) (TakesOut old.chains slot new.chains)
+  pub by_number : TakesOut old.by_number slot new.by_number
   pub same_labels : new.labels ≡ old.labels
   pub same_handles : new.handles ≡ old.handles
   pub same_next_handle : new.next_handle ≡ old.next_handle

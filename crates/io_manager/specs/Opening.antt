@@ -1,5 +1,5 @@
 -- A manager before its first call.
-use Rattle.std.specs.Prelude.{◌≡◌, ◌<◌, ◌≤◌, ℕ, [], map, length, slice_index}
+use Rattle.std.specs.Prelude.{◌≡◌, ◌≤◌, [], map, length}
 use Rattle.machine.specs.Map.{IsMap, sectors_in}
 use Rattle.machine.specs.State.{opening}
 use Rattle.device.specs.View.{DeviceView}
@@ -8,6 +8,7 @@ use Rattle.io_manager.specs.declared.Limits.{Limits}
 use Rattle.io_manager.specs.declared.tables.Tables.{Tables}
 use Rattle.io_manager.specs.Shown.{ManagerView}
 use Rattle.io_manager.specs.Calls.{number_limit}
+use Rattle.io_manager.specs.Chains.{AreEnds}
 use Rattle.io_manager.specs.Sound.{rules_of}
 
 -- nothing was asked of the device below yet, whose partitions lie on the disk and share no sector
@@ -35,9 +36,8 @@ pub record AreEmpty (tables : Tables) : Type 0 where
   pub none_put_by : tables.answered.items ≡ []
   pub no_answers : tables.untaken.items ≡ []
   pub counts : length tables.open_counts ≡ 64
-  pub joints : (length tables.chains.after ≡ 128) × (length tables.chains.before ≡ 128)
-  pub after : (joint : ℕ) → joint < 128 → slice_index tables.chains.after joint ≡ joint
-  pub before : (joint : ℕ) → joint < 128 → slice_index tables.chains.before joint ≡ joint
+  pub chains : AreEnds tables.chains
+  pub by_number : AreEnds tables.by_number
 
 -- what a manager with these limits over this device shows before its first call
 pub record IsFirstView (limits : Limits) (below : DeviceView) (view : ManagerView) : Type 0 where

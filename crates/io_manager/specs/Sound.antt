@@ -21,7 +21,7 @@ use Rattle.io_manager.specs.declared.tables.OpenRequest.{OpenRequest}
 use Rattle.io_manager.specs.declared.tables.Tables.{Tables}
 use Rattle.io_manager.specs.Shown.{ManagerView, Holder}
 use Rattle.io_manager.specs.Calls.{number_limit, handle_limit}
-use Rattle.io_manager.specs.Chains.{AreChained, AreCounted}
+use Rattle.io_manager.specs.Chains.{AreChained, AreNumbered, AreCounted}
 use Rattle.io_manager.specs.Ordering.{HasOtherNumber}
 use Rattle.io_manager.specs.Inside.{AllWriteInside}
 use Rattle.io_manager.specs.Right.{AreRising, answer_number, as_answer, unless_answered, AdapterMoves, end_labels}
@@ -147,6 +147,7 @@ pub record IsSoundWith (put_by : List Answer) (limits : Limits) (below : DeviceV
   pub given : All (WasGiven tables.next_request) tables.untaken.items
   pub apart : AreApart tables.requests tables.untaken.items
   pub chained : AreChained tables.handles tables.requests tables.next_handle tables.chains
+  pub numbered : AreNumbered tables.requests tables.by_number
   pub counted : AreCounted tables.handles tables.requests tables.open_counts
 
 -- between two calls no answer is put by

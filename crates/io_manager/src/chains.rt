@@ -1,37 +1,48 @@
-//! For each handle the chain of its open requests that are not cancelled yet, by rising numbers.
+//! Chains of open requests, each by rising numbers: one for each handle, or for each remainder of a number by 64.
 
-ghost use Rattle.std.specs.Prelude.{◌≡◌, ◌<◌, ◌≤◌, ◌+◌, ℕ, false, length, slice_index, MatchBool, MatchOption};
-ghost use Rattle.io_manager.specs.Chains.{handle_end, PutsLast, TakesOut, CanJoin, CanLeave};
-
-use crate::tables::HANDLE_LIMIT;
+ghost use Rattle.std.specs.Prelude.{◌≡◌, ◌<◌, false, slice_index, MatchBool};
+ghost use Rattle.io_manager.specs.Chains.{chain_end, LeadsTo, AreEnds, PutsLast, TakesOut, CanJoin, CanLeave};
 
 /// Slots of open requests.
 pub(crate) const REQUEST_LIMIT: usize = 64;
 
-/// The joints of the chains: one for each slot of a request, and one behind them for each slot of a handle, its chain's end.
-const JOINTS: usize = REQUEST_LIMIT + HANDLE_LIMIT;
+/// Chains: one for each slot of a handle, or one for each remainder.
+pub(crate) const CHAIN_LIMIT: usize = 64;
 
-/// The chains, linked both ways: from a handle's end through its requests and back. A joint in no chain has any links.
+/// The joints of the chains: one for each slot of a request, and one behind them for each chain, its end.
+const JOINTS: usize = REQUEST_LIMIT + CHAIN_LIMIT;
+
+/// The chains, linked both ways: from an end through the requests and back. A joint in no chain has any links.
 #[derive(Drop)]
 pub(crate) struct Chains {
     after: [u8; JOINTS],
     before: [u8; JOINTS],
 }
 
-/// The end of the chain of the handle in this slot.
-fn end_of(handle: usize) -> usize
-    requires { handle < 64 }
-    ensures { result ≡ handle_end handle }
+/// The end of a chain.
+fn end_of(chain: usize) -> usize
+    requires { chain < 64 }
+    ensures { result ≡ chain_end chain }
 {
-    REQUEST_LIMIT + handle
+    REQUEST_LIMIT + chain
+}
+
+/// The slot of the request that a link leads to; none where that is an end.
+fn slot_at(link: u8) -> Option<usize>
+    ensures { LeadsTo link result }
+{
+    let slot = link as usize;
+    if slot < REQUEST_LIMIT {
+        Some(slot)
+    } else {
+        None
+    }
 }
 
 impl Chains {
     /// Chains of no requests: each end is linked to itself.
     pub(crate) fn new() -> Chains
-        ensures after { (joint : ℕ) → joint < 128 → slice_index result.after joint ≡ joint }
-        ensures before { (joint : ℕ) → joint < 128 → slice_index result.before joint ≡ joint }
-        ensures joints { (length result.after ≡ 128) × (length result.before ≡ 128) }
+        ensures { AreEnds result }
     {
         let mut ends = [0; JOINTS];
         for joint in 0..JOINTS {
@@ -43,25 +54,28 @@ impl Chains {
         }
     }
 
-    /// The slot of the first request in the chain of the handle in this slot.
-    pub(crate) fn first(&self, handle: usize) -> Option<usize>
-        requires { handle < 64 }
-        ensures { MatchOption result (64 ≤ slice_index self.now.after (handle_end handle)) (λ slot. (slot ≡ slice_index self.now.after (handle_end handle)) × (slot < 64)) }
+    /// The slot of the first request in a chain.
+    pub(crate) fn first(&self, chain: usize) -> Option<usize>
+        requires { chain < 64 }
+        ensures { LeadsTo (slice_index self.now.after (chain_end chain)) result }
     {
-        let first = self.after[end_of(handle)] as usize;
-        if first < REQUEST_LIMIT {
-            Some(first)
-        } else {
-            None
-        }
+        slot_at(self.after[end_of(chain)])
     }
 
-    /// Puts the request in a slot last in the chain of the handle in this slot.
-    pub(crate) fn put_last(&mut self, handle: usize, slot: usize)
-        requires { CanJoin self.old handle slot }
-        ensures { PutsLast self.old handle slot self.new }
+    /// The slot of the request behind the one in a slot.
+    pub(crate) fn next(&self, slot: usize) -> Option<usize>
+        requires { slot < 64 }
+        ensures { LeadsTo (slice_index self.now.after slot) result }
     {
-        let end = end_of(handle);
+        slot_at(self.after[slot])
+    }
+
+    /// Puts the request in a slot last in a chain.
+    pub(crate) fn put_last(&mut self, chain: usize, slot: usize)
+        requires { CanJoin self.old chain slot }
+        ensures { PutsLast self.old chain slot self.new }
+    {
+        let end = end_of(chain);
         let last = self.before[end];
         self.after[last as usize] = slot as u8;
         self.after[slot] = end as u8;

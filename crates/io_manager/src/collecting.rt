@@ -10,14 +10,14 @@ ghost use Rattle.machine.specs.Step.{as_label};
 ghost use Rattle.device.specs.Served.{HandsUpNone};
 ghost use Rattle.machine.specs.Settled.{Settled};
 ghost use Rattle.io_manager.specs.Calls.{partition_of};
-ghost use Rattle.io_manager.specs.Chains.{AreChained, AreCounted};
+ghost use Rattle.io_manager.specs.Chains.{AreChained, AreNumbered, AreCounted};
 ghost use Rattle.io_manager.specs.Collecting.{IsAt, HasNone, AreFilled, CountsOut, Closes, EndsRemoval, TakesEnded, Gathers, brought, unlabelled};
 ghost use Rattle.io_manager.specs.Right.{as_answer, AreRising, answer_number};
 ghost use Rattle.io_manager.specs.Sound.{IsSound, IsSoundWith, TakesLabels, Collects};
 
 use crate::parts::Parts;
 use crate::rising::insert_rising;
-use crate::tables::{OpenRequest, REMAINDERS, Tables};
+use crate::tables::{OpenRequest, Tables, remainder_of};
 use crate::{Answer, Handle};
 use device::{Device, Kind, Label};
 use irp::{Climb, Done, Payload};
@@ -55,29 +55,23 @@ impl OpenRequest {
 }
 
 impl Tables {
-    /// The slot of the open request of a number, found at once unless a later request has its remainder.
+    /// The slot of the open request of a number, looked for among those of the same remainder.
     pub(crate) fn slot_of(&self, number: u64) -> Option<usize>
+        requires numbered { AreNumbered self.now.requests self.now.by_number }
         ensures { MatchOption result (HasNone self.now.requests number) (λ slot. IsAt self.now.requests number slot) }
     {
-        let likely = self.latest[number as usize % REMAINDERS] as usize;
-        if let Some(request) = self.requests.get(likely) {
+        let mut next = self.by_number.first(remainder_of(number));
+        while let Some(slot) = next {
+            let Some(request) = self.requests.get(slot) else {
+                unreachable!()
+            };
             if request.number == number {
-                return Some(likely);
+                return Some(slot);
             }
-        }
-        self.search_slots(number)
-    }
-
-    /// The same, slot by slot.
-    fn search_slots(&self, number: u64) -> Option<usize>
-        ensures { MatchOption result (HasNone self.now.requests number) (λ slot. IsAt self.now.requests number slot) }
-    {
-        for slot in 0..self.requests.capacity() {
-            if let Some(request) = self.requests.get(slot) {
-                if request.number == number {
-                    return Some(slot);
-                }
+            if request.number > number {
+                return None;
             }
+            next = self.by_number.next(slot);
         }
         None
     }
@@ -97,6 +91,7 @@ impl Tables {
     fn close(&mut self, done: Done)
         requires number { done.number < 2 ^ 64 }
         requires chained { AreChained self.old.handles self.old.requests self.old.next_handle self.old.chains }
+        requires numbered { AreNumbered self.old.requests self.old.by_number }
         requires counted { AreCounted self.old.handles self.old.requests self.old.open_counts }
         requires held { (slot : ℕ) × IsAt self.old.requests done.number slot }
         requires filled { AreFilled self.old.requests done }
@@ -120,6 +115,7 @@ impl Tables {
             unreachable!()
         };
         self.chains.take_out_unless(slot, open.cancelled);
+        self.by_number.take_out(slot);
         self.count_out(Handle {
             slot: open.handle_slot,
             number: open.handle,

@@ -8,7 +8,7 @@ use crate::Limits;
 use crate::chains::Chains;
 use crate::manager::IoManager;
 use crate::parts::Parts;
-use crate::tables::{HANDLE_LIMIT, LABEL_PLACES, REMAINDERS, Tables};
+use crate::tables::{HANDLE_LIMIT, LABEL_PLACES, Tables};
 use device::Device;
 use pnp::State;
 use slab::Slab;
@@ -51,8 +51,8 @@ impl Tables {
             state: State::Started,
             handles: slots(alloc, HANDLE_LIMIT)?,
             requests: slots(alloc, limits.open_requests as usize)?,
-            latest: [0; REMAINDERS],
             chains: Chains::new(),
+            by_number: Chains::new(),
             open_counts: [0; HANDLE_LIMIT],
             labels: VecDeque::with_capacity(alloc, LABEL_PLACES)?,
             answered: VecDeque::with_capacity(alloc, ANSWER_PLACES)?,

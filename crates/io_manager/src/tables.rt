@@ -5,12 +5,12 @@ ghost use Rattle.std.specs.VecDeque.{deque_len, deque_capacity};
 ghost use Rattle.slab.specs.Slab.{HasRoomFor};
 ghost use Rattle.io_manager.specs.declared.Reply.TheVariants.{Refused as RefusedReply};
 ghost use Rattle.io_manager.specs.Calls.{partition_of, are_used_up, handle_limit};
-ghost use Rattle.io_manager.specs.Chains.{AreChained, AreCounted};
+ghost use Rattle.io_manager.specs.Chains.{AreChained, AreNumbered, AreCounted, remainder_of};
 ghost use Rattle.io_manager.specs.Cancelling.{ClosesSlot, HasSome, HasNoneOf, IsOpenAt, IsNotOpenAt};
 ghost use Rattle.io_manager.specs.Admitting.{AnswersAtOnce, Admits, OpensHandle, status_at_once, reply_at_once, is_going};
 
 use crate::admission::{AtOnce, Copies};
-use crate::chains::Chains;
+use crate::chains::{CHAIN_LIMIT, Chains};
 use crate::{Answer, Handle, Id, OpenHandle, Refusal, Reply};
 use device::{ClientRequest, Kind, Label};
 use ntstatus::NtStatus;
@@ -24,13 +24,10 @@ use std::collections::VecDeque;
 pub(crate) const NUMBER_LIMIT: u64 = 1 << 62;
 
 /// Handles open at once.
-pub(crate) const HANDLE_LIMIT: usize = 64;
+pub(crate) const HANDLE_LIMIT: usize = CHAIN_LIMIT;
 
 /// Places for labels: more than a step tells.
 pub(crate) const LABEL_PLACES: usize = 256;
-
-/// Remainders of request numbers, each with the slot that was last given.
-pub(crate) const REMAINDERS: usize = 64;
 
 /// An open request, at its slot.
 #[derive(Debug, Drop)]
@@ -58,10 +55,10 @@ pub(crate) struct Tables {
     pub(crate) state: State,
     pub(crate) handles: Slab<OpenHandle>,
     pub(crate) requests: Slab<OpenRequest>,
-    /// The slot of the latest request with each remainder: where its number is most likely found.
-    pub(crate) latest: [u32; REMAINDERS],
     /// The requests that are not cancelled yet, by handle.
     pub(crate) chains: Chains,
+    /// All open requests, by their number modulo 64.
+    pub(crate) by_number: Chains,
     /// How many requests are open on the handle in each slot.
     pub(crate) open_counts: [u8; HANDLE_LIMIT],
     /// Not yet taken, in order.
@@ -70,6 +67,14 @@ pub(crate) struct Tables {
     pub(crate) answered: VecDeque<Answer>,
     /// Answers not yet taken, by rising numbers.
     pub(crate) untaken: VecDeque<Answer>,
+}
+
+/// The chain that a request of this number stands in.
+pub(crate) fn remainder_of(number: u64) -> usize
+    ensures is { result ≡ remainder_of number }
+    ensures in_range { result < 64 }
+{
+    number as usize % CHAIN_LIMIT
 }
 
 /// A refusal, with the caller's bytes.
@@ -225,6 +230,7 @@ impl Tables {
         requires free_slot { HasRoomFor self.old.requests 1 }
         requires slots { self.old.requests.capacity ≤ 64 }
         requires chained { AreChained self.old.handles self.old.requests self.old.next_handle self.old.chains }
+        requires numbered { AreNumbered self.old.requests self.old.by_number }
         requires counted { AreCounted self.old.handles self.old.requests self.old.open_counts }
         requires open { is_some (partition_of self.old.handles.slots handle) ≡ true }
         ensures { Admits self.old handle request copies spot result self.new }
@@ -244,8 +250,8 @@ impl Tables {
             cancelled: false,
             label_bytes,
         });
-        self.latest[number as usize % REMAINDERS] = slot as u32;
         self.chains.put_last(handle.slot as usize, slot);
+        self.by_number.put_last(remainder_of(number), slot);
         self.open_counts[handle.slot as usize] += 1;
         let request = ClientRequest {
             bytes: call_bytes,
