@@ -1,8 +1,9 @@
 -- What a call on a volume leaves, in the words of its user.
-use Rattle.std.proofs.Common.{◌≡◌, ◌≢◌, ◌<◌, ℕ, ◌*◌, true, false, List, [], Option, Some, refl, sym, ◌∙◌, ap, subst, length}
+use Rattle.std.proofs.Common.{◌≡◌, ◌≢◌, ◌<◌, ◌≤◌, ◌⊎◌, ℕ, ◌+◌, ◌*◌, ◌^◌, arith, true, false, List, [], Option, Some, refl, sym, ◌∙◌, ap, subst, length}
 use Rattle.std.specs.Prelude.{IsTrue, IsFalse, is_none}
 use Rattle.std.specs.List.{concat}
 use Rattle.ntstatus.specs.declared.NtStatus.TheVariants.{Success}
+use Rattle.machine.specs.Map.{IsPartition}
 use Rattle.machine.specs.declared.Kind.TheVariants.{Read, Write, Flush}
 use Rattle.machine.specs.declared.ClientRequest.{ClientRequest}
 use Rattle.machine.specs.Rules.{Rules, is_transfer}
@@ -33,6 +34,17 @@ pub counted : (v : ManagerView) (handle : Handle) (p : ℕ) (sizes : Sizes) → 
 counted v handle p sizes kept =
     ap (λ n. n * sizes.sector_size) kept.sectors ∙ ap (λ n. (extent_at v.rules.partitions p).count * n) kept.sector_size
     ∙ sym (bytes_counted v kept.ready p kept.known (record { partition = Some p; kind = Flush; offset = 0; length = 0; through = false; bytes = [] }) refl)
+
+pub usual_sectors : (v : ManagerView) (handle : Handle) (p : ℕ) (sizes : Sizes) → VolumeKept v handle p sizes → (sizes.sector_size ≡ 512) ⊎ (sizes.sector_size ≡ 4096)
+usual_sectors v handle p sizes kept = subst (λ n. (n ≡ 512) ⊎ (n ≡ 4096)) (sym kept.sector_size) kept.ready.usable.sector_size
+
+pub few_sectors : (v : ManagerView) (handle : Handle) (p : ℕ) (sizes : Sizes) → VolumeKept v handle p sizes → sizes.sectors ≤ 2 ^ 40
+few_sectors v handle p sizes kept =
+    let part : IsPartition v.rules.disk_sectors (extent_at v.rules.partitions p) = kept.ready.usable.partitions p (record { first = 0; count = 0 }) kept.known in
+    let inside : (extent_at v.rules.partitions p).first + (extent_at v.rules.partitions p).count ≤ v.rules.disk_sectors = part.inside in
+    let few : v.rules.disk_sectors ≤ 2 ^ 40 = kept.ready.usable.few in
+    let same : sizes.sectors ≡ (extent_at v.rules.partitions p).count = kept.sectors in
+    omega arith
 
 module _ (v : ManagerView) (handle : Handle) (p : ℕ) (sizes : Sizes) (kept : VolumeKept v handle p sizes) (q : ClientRequest) (on : q.partition ≡ partition_of v.handles handle) where
   abbrev is : q.partition ≡ Some p

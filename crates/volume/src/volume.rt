@@ -1,6 +1,6 @@
 //! What the user of a volume calls.
 
-ghost use Rattle.std.specs.Prelude.{◌≡◌, ◌*◌, ◌+◌, ⊤, length, IfOk, IfErr, MatchResult};
+ghost use Rattle.std.specs.Prelude.{◌≡◌, ◌≤◌, ◌⊎◌, ◌*◌, ◌+◌, ◌^◌, ⊤, length, IfOk, IfErr, MatchResult};
 ghost use Rattle.volume.specs.Shown.{content_of};
 ghost use Rattle.volume.specs.Ready.{IsReady};
 ghost use Rattle.volume.specs.Calls.{AreInBounds, IsFault, IsSameDisk, IsWriteFault, Reads, Writes};
@@ -39,6 +39,8 @@ impl<A: Adapter> Volume<A> {
     pub fn sizes(&self) -> Sizes
         ensures sector_size { result.sector_size ≡ self.now.content.sector_size }
         ensures sectors { result.sectors * result.sector_size ≡ length self.now.content.bytes }
+        ensures usual { (result.sector_size ≡ 512) ⊎ (result.sector_size ≡ 4096) }
+        ensures few { result.sectors ≤ 2 ^ 40 }
     {
         self.sizes
     }
