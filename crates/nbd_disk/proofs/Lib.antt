@@ -1,0 +1,3 @@
+mod Starting
+mod Spelled
+mod Sessions

@@ -1,0 +1,28 @@
+-- What a run of the program reads and writes.
+use Rattle.std.proofs.Common.{◌≡◌, ℕ, List, Option, Some, inl, inr, refl, subst, sym}
+use Rattle.settings.specs.declared.Config.{Config}
+use Rattle.nbd.specs.Content.{Content}
+use Rattle.nbd.specs.Handshake.{IsSession}
+use Rattle.nbd.specs.declared.End.{End}
+use Rattle.nbd_disk.specs.declared.faults.Fault.{Fault}
+use Rattle.nbd_disk.specs.Serving.{AreRead, IsConfigFault, IsServed, IsStartFault, fault_of_end, new_array}
+
+module _ (config : Option (List ℕ)) (p : ℕ) (input out : Option (List ℕ)) where
+  pub without_settings : (fault : Fault) → IsConfigFault fault → IsServed config p input out (Some fault) input out
+  without_settings fault why = inl (record { fault = fault; told_is = refl; early = inl why; unread = refl; unwritten = refl })
+
+  module _ (settings : Config) (are_read : AreRead config settings) where
+    pub without_disk : (fault : Fault) → IsStartFault settings p fault → IsServed config p input out (Some fault) input out
+    without_disk fault why = inl (record { fault = fault; told_is = refl; early = inr (settings, are_read, why); unread = refl; unwritten = refl })
+
+    pub with_session : (first last : Content) (end : End) (told : Option Fault) (rest after : Option (List ℕ)) → first ≡ new_array settings p
+        → IsSession first input out end last after → told ≡ fault_of_end end → IsServed config p input out told rest after
+    with_session first last end told rest after is session ends =
+        inr (record {
+          settings = settings;
+          are_read = are_read;
+          end = end;
+          told_is = ends;
+          last = last;
+          session = subst (λ (c : Content). IsSession c input out end last after) is session;
+        })

@@ -1,0 +1,91 @@
+-- A session over the disk of some settings.
+use Rattle.std.specs.Prelude.{◌≡◌, ◌≤◌, ◌⊎◌, ℕ, List, Option, Some, None, Result, Err, IfSome, length}
+use Rattle.std.specs.List.{concat}
+use Rattle.mbr.specs.Faults.{said_of}
+use Rattle.io_manager.specs.declared.Refusal.TheVariants.{InvalidParameter}
+use Rattle.compose.specs.declared.StartFault.{StartFault}
+use Rattle.compose.specs.declared.StartFault.TheVariants.{Settings as WrongSettings, Mbr as WrongTable}
+use Rattle.settings.specs.declared.Config.{Config}
+use Rattle.settings.specs.Settings.{AreSettingsOf}
+use Rattle.settings.specs.Medium.{entries_of, extents_of, zeros}
+use Rattle.volume.specs.declared.OpenFault.{OpenFault}
+use Rattle.volume.specs.declared.OpenFault.TheVariants.{Start as NotStarted, Refused}
+use Rattle.volume.specs.Shown.{Content as VolumeContent, extent_at}
+use Rattle.nbd.specs.Content.{Content}
+use Rattle.nbd.specs.Handshake.{IsSession}
+use Rattle.nbd.specs.declared.End.{End}
+use Rattle.nbd.specs.declared.End.TheVariants.{Left, Malformed as NoProtocol, Input, Output}
+use Rattle.nbd_disk.specs.declared.faults.Fault.{Fault}
+use Rattle.nbd_disk.specs.declared.faults.Fault.TheVariants.{ConfigUnreadable, Settings, Start, NoPartition, Malformed, InputEnded, OutputFailed, NoMemory}
+
+-- the bytes of a partition as an array, in blocks of a sector
+abbrev pub array_of : VolumeContent → Content
+array_of c = record { block = c.sector_size; bytes = c.bytes }
+
+-- that of a partition of these settings, before anything was written: zeros
+abbrev pub new_array : Config → ℕ → Content
+new_array c p = record { block = c.sector_size; bytes = concat (zeros c (extent_at (extents_of c) p).count) }
+
+-- a text is all that an input has, where that is known
+abbrev pub IsAllOf : Option (List ℕ) → List ℕ → Type 0
+IsAllOf known text = IfSome known (λ bytes. text ≡ bytes)
+
+-- the settings that an input gives
+pub record AreRead (input : Option (List ℕ)) (settings : Config) : Type 0 where
+  pub text : List ℕ
+  pub all : IsAllOf input text
+  pub of_text : AreSettingsOf text settings
+
+-- the fault that an end of the session is told as
+abbrev pub fault_of_end : End → Option Fault
+fault_of_end Left = None
+fault_of_end NoProtocol = Some Malformed
+fault_of_end Input = Some InputEnded
+fault_of_end Output = Some OutputFailed
+
+-- the fault that a volume which can't be opened is told as
+abbrev pub fault_of_open : OpenFault → Fault
+fault_of_open (NotStarted fault) = Start fault
+fault_of_open (Refused InvalidParameter) = NoPartition
+fault_of_open (Refused _) = NoMemory
+
+-- why there is no disk of these settings, or no such partition of it
+abbrev pub IsStartFault : Config → ℕ → Fault → Type 0
+IsStartFault c p (Start WrongSettings) = ⊥
+IsStartFault c p (Start (WrongTable fault)) = said_of c.sectors (entries_of c) ≡ Err fault
+IsStartFault c p (Start _) = Unit {0}
+IsStartFault c p NoPartition = length (extents_of c) ≤ p
+IsStartFault c p NoMemory = Unit {0}
+IsStartFault c p _ = ⊥
+
+-- why there are no settings
+abbrev pub IsConfigFault : Fault → Type 0
+IsConfigFault ConfigUnreadable = Unit {0}
+IsConfigFault (Settings fault) = Unit {0}
+IsConfigFault NoMemory = Unit {0}
+IsConfigFault _ = ⊥
+
+-- why no session began
+abbrev pub IsEarly : Option (List ℕ) → ℕ → Fault → Type 0
+IsEarly config p fault = IsConfigFault fault ⊎ ((settings : Config) × AreRead config settings × IsStartFault settings p fault)
+
+-- no session began: nothing was read or written
+pub record HasNone (config : Option (List ℕ)) (p : ℕ) (input out : Option (List ℕ)) (told : Option Fault) (rest after : Option (List ℕ)) : Type 0 where
+  pub fault : Fault
+  pub told_is : told ≡ Some fault
+  pub early : IsEarly config p fault
+  pub unread : rest ≡ input
+  pub unwritten : after ≡ out
+
+-- a session, over the partition as the settings make it
+pub record HasSession (config : Option (List ℕ)) (p : ℕ) (input out : Option (List ℕ)) (told : Option Fault) (after : Option (List ℕ)) : Type 0 where
+  pub settings : Config
+  pub are_read : AreRead config settings
+  pub end : End
+  pub told_is : told ≡ fault_of_end end
+  pub last : Content
+  pub session : IsSession (new_array settings p) input out end last after
+
+-- what was read and written, and what is told at the end
+abbrev pub IsServed : Option (List ℕ) → ℕ → Option (List ℕ) → Option (List ℕ) → Option Fault → Option (List ℕ) → Option (List ℕ) → Type 0
+IsServed config p input out told rest after = HasNone config p input out told rest after ⊎ HasSession config p input out told after

@@ -1,0 +1,90 @@
+//! A volume as the array that a server of NBD serves.
+
+ghost use Rattle.std.specs.Prelude.{◌≡◌};
+ghost use Rattle.nbd_disk.specs.Serving.{array_of};
+
+use adapter::Adapter;
+use compose::Refusal;
+use nbd::{Array, ArrayFault, Sizes};
+use ntstatus::NtStatus;
+use sector::Bytes;
+use std::alloc::Global;
+use std::marker::Model;
+use volume::{Fault, Volume};
+
+/// A volume, served.
+#[derive(Drop)]
+pub struct Served<A: Adapter> {
+    volume: Volume<A>,
+}
+
+impl<A: Adapter> Model for Served<A> {
+    ghost use Rattle.nbd.specs.Content.{Content};
+    ghost use Rattle.nbd_disk.specs.Serving.{array_of};
+
+    ghost Value = { Content };
+
+    ghost view = { λ s. array_of s.volume.content };
+}
+
+impl<A: Adapter> Served<A> {
+    pub fn new(volume: Volume<A>) -> Served<A>
+        ensures { result ≡ array_of volume.content }
+    {
+        Served { volume }
+    }
+}
+
+impl<A: Adapter> Array for Served<A> {
+    ghost content = { λ s. s };
+
+    fn sizes(&self) -> Sizes {
+        let sizes = self.volume.sizes();
+        Sizes {
+            block: sizes.sector_size as u32,
+            bytes: sizes.sectors * sizes.sector_size,
+        }
+    }
+
+    fn read(&mut self, alloc: Global, offset: u64, buffer: Vec<u8>) -> Result<Vec<u8>, ArrayFault> {
+        match self.volume.read(alloc, offset, Bytes::new(buffer)) {
+            Ok(bytes) => Ok(bytes.into_vec()),
+            Err(fault) => Err(array_fault(fault)),
+        }
+    }
+
+    fn write(
+        &mut self,
+        alloc: Global,
+        offset: u64,
+        bytes: Vec<u8>,
+        through: bool,
+    ) -> Result<(), ArrayFault> {
+        // What a write that failed left in its own sectors changed nothing outside them.
+        nbd::written_inside();
+        match self.volume.write(alloc, offset, Bytes::new(bytes), through) {
+            Ok(()) => Ok(()),
+            Err(fault) => Err(array_fault(fault)),
+        }
+    }
+
+    fn flush(&mut self, alloc: Global) -> Result<(), ArrayFault> {
+        match self.volume.flush(alloc) {
+            Ok(()) => Ok(()),
+            Err(fault) => Err(array_fault(fault)),
+        }
+    }
+}
+
+/// The fault of an array for one of a volume.
+fn array_fault(fault: Fault) -> ArrayFault {
+    match fault {
+        Fault::Refused(Refusal::InsufficientResources) => ArrayFault::NoMemory,
+        Fault::Failed(NtStatus::InsufficientResources) => ArrayFault::NoMemory,
+        Fault::Failed(NtStatus::MediaWriteProtected) => ArrayFault::Protected,
+        Fault::Failed(NtStatus::NoSuchDevice) => ArrayFault::Gone,
+        Fault::Failed(NtStatus::DeletePending) => ArrayFault::Gone,
+        Fault::Refused(_) => ArrayFault::Failed,
+        Fault::Failed(_) => ArrayFault::Failed,
+    }
+}

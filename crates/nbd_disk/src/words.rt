@@ -1,0 +1,99 @@
+//! The command line.
+
+pub mod asked;
+
+ghost use Rattle.std.specs.Prelude.{◌≡◌, ◌≢◌, ◌⊎◌, IfErr, IfOk, false, map};
+ghost use Rattle.clap.specs.Words.{app_of, found_of, rule_of};
+ghost use Rattle.clap.specs.Walk.{rows_of};
+ghost use Rattle.clap.specs.declared.error.ErrorKind.TheVariants.{OutOfMemory};
+ghost use Rattle.nbd_disk.specs.declared.faults.Fault.TheVariants.{NoMemory, Usage};
+ghost use Rattle.nbd_disk.specs.CommandLine.{IsAsked, IsFoundIn, SpellsPartition, argument_rule, program};
+
+use crate::faults::Fault;
+use crate::words::asked::Asked;
+use clap::error::ErrorKind;
+use clap::{Arg, ArgAction, ArgMatches, Command};
+use std::alloc::{AllocError, Global};
+use std::convert::AsStr;
+
+/// Reads the words of a command line, of which the first is the program's name.
+///
+/// # Errors
+///
+/// [`Fault::NoMemory`] where memory was refused, else [`Fault::Usage`].
+pub fn command<'a, S: AsStr>(alloc: Global, words: &'a [S]) -> Result<Asked<'a>, Fault>
+    ensures asked { IfOk result (IsAsked (map S.text words.now)) }
+    ensures fault { IfErr result (λ fault. (fault ≡ NoMemory) ⊎ (fault ≡ Usage)) }
+{
+    let Ok(grammar) = grammar(alloc) else {
+        return Err(Fault::NoMemory);
+    };
+    match grammar.try_get_matches_from(words) {
+        Ok(matches) => asked_by(&matches),
+        Err(error) => Err(fault_of(error.kind())),
+    }
+}
+
+/// The words that the program takes.
+fn grammar<'a>(alloc: Global) -> Result<Command<'a>, AllocError>
+    ensures { IfOk result (λ command. app_of command ≡ program) }
+{
+    Command::new(alloc, "nbd_disk")
+        .arg(argument(alloc, "CONFIG", true))?
+        .arg(argument(alloc, "PARTITION", false))
+}
+
+fn argument<'a>(alloc: Global, name: &'a str, required: bool) -> Arg<'a>
+    ensures rule { rule_of result ≡ argument_rule name.entry.now required }
+    ensures local { result.global ≡ false }
+{
+    Arg::new(alloc, name)
+        .required(required)
+        .action(ArgAction::Set)
+}
+
+fn asked_by<'a>(matches: &ArgMatches<'a>) -> Result<Asked<'a>, Fault>
+    ensures found { IfOk result (IsFoundIn (rows_of (found_of matches.now))) }
+    ensures fault { IfErr result (λ fault. fault ≡ Usage) }
+{
+    let Some(config) = matches.get_str("CONFIG") else {
+        return Err(Fault::Usage);
+    };
+    match matches.get_str("PARTITION") {
+        None => Ok(Asked {
+            config,
+            partition: 0,
+        }),
+        Some(word) => {
+            let partition = number(word)?;
+            Ok(Asked { config, partition })
+        }
+    }
+}
+
+/// A number of decimal digits, below 256.
+fn number(word: &str) -> Result<u8, Fault>
+    ensures spelled { IfOk result (SpellsPartition word.now) }
+    ensures fault { IfErr result (λ fault. fault ≡ Usage) }
+{
+    // A plus sign would be taken by `parse`.
+    if word.starts_with('+') {
+        return Err(Fault::Usage);
+    }
+    match word.parse::<u8>() {
+        Ok(number) => Ok(number),
+        Err(_) => Err(Fault::Usage),
+    }
+}
+
+/// What it means that the words were refused.
+fn fault_of(kind: ErrorKind) -> Fault
+    ensures memory { kind ≡ OutOfMemory → result ≡ NoMemory }
+    ensures usage { kind ≢ OutOfMemory → result ≡ Usage }
+    ensures either { (result ≡ NoMemory) ⊎ (result ≡ Usage) }
+{
+    match kind {
+        ErrorKind::OutOfMemory => Fault::NoMemory,
+        _ => Fault::Usage,
+    }
+}

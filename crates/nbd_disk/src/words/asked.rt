@@ -1,0 +1,10 @@
+//! What a command line asks for.
+
+/// What the program is asked to serve.
+#[derive(Debug, Clone, Copy, PartialEq, Eq)]
+pub struct Asked<'a> {
+    /// The path of the settings.
+    pub config: &'a str,
+    /// Counted from 0.
+    pub partition: u8,
+}
