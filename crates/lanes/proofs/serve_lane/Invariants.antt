@@ -1,0 +1,5 @@
+use Rattle.lanes.specs.Queue.{HasPut, IsLane}
+use Rattle.lanes.proofs.serve_lane.Given as goal
+
+abbrev pub invariant-loop : goal.invariant-loop
+invariant-loop g l = IsLane l.completions.id l.tag l.pass × HasPut l.initial.pass.view l.pass.view

@@ -1,0 +1,271 @@
+//! Lanes: threads that carry a disk's acts and completions, one lane for each tag, and one worker for the completions that
+//! the lanes hand over through a bounded queue.
+//! A lane stands for what a device does on its own with one tag, the worker for the port's completion DPC
+//! (`StorPortNotification(RequestComplete)` queues, the DPC completes).
+//!
+//! A [`Pass`] stands for the right to put items of one tag, or, the worker's, to take items; its view is what was put or
+//! taken. What is promised to the crate above:
+//! - what the worker took, then what the queue holds, is in each lane's part just what that lane put, in its order: items of
+//!   its own tag with rising counts (`QueueKept`, which holds between any two steps, and `taken_is_put`, `in_order`);
+//! - [`serve_lane`] puts items of its own tag with the next counts (`put`), and a lane gets an item back only where the queue
+//!   was full at one moment;
+//! - [`serve_completions`] ends only where all that was put by one moment was taken (`took`, `emptied`).
+//!
+//! What is not promised: that a lane or the worker gets on or ends, and what they have the desk do; this is tested.
+#![tactic(auto)]
+
+ghost use Rattle.std.specs.Prelude.{◌≡◌, ◌≤◌, ◌+◌, ◌^◌, ◌⊎◌, [], IfErr, IfOk, MatchOption, MatchResult, false, true, length};
+ghost use Rattle.lanes.specs.Laws.{InOrder, TakenIsPut};
+ghost use Rattle.lanes.specs.Queue.{HasPut, HasTaken, IsLane, IsWorker, QueueView, Standing, StoodAt, fresh_worker, issued, item_of, lanes_of, with_put, with_taken};
+
+mod rule;
+#[cfg(test)]
+mod tests;
+
+pub use rule::Item;
+use rule::{Place, Put, Queue, Tag, Take};
+use std::alloc::{AllocError, Global};
+use std::marker::Model;
+use std::sync::Wait;
+use std::thread;
+use thiserror::Error;
+
+/// There was no memory.
+#[derive(Debug, Clone, Copy, PartialEq, Eq, Drop, Error)]
+#[error("no memory")]
+pub struct NoMemory;
+
+impl From<AllocError> for NoMemory {
+    fn from(_: AllocError) -> NoMemory {
+        NoMemory
+    }
+}
+
+/// Where a thread may be held before it goes on.
+pub trait Turnstile {
+    /// Returns once the tag may pass. It is called with no lock held.
+    fn pass<R: Wait>(&self, rt: &R, tag: u8);
+}
+
+/// What a tag's lane has to do next.
+#[derive(Debug, Clone, Copy, PartialEq, Eq, Drop)]
+pub enum Step {
+    /// A piece was started on the tag.
+    Ready,
+    /// The disk is removed: no piece will be started on the tag.
+    Ended,
+}
+
+/// Where the pieces of a disk's tags are acted and finished. Many threads share one.
+pub trait Desk {
+    /// Waits for the tag's next step: [`Step::Ready`] once for each piece started on the tag, also one that a reset met,
+    /// and [`Step::Ended`] once the disk is removed.
+    fn next<R: Wait>(&self, rt: &R, tag: u8) -> Step;
+
+    /// Has the adapter act the piece on the tag.
+    fn act<R: Wait>(&self, rt: &R, tag: u8);
+
+    /// Completes the piece on the tag.
+    fn finish<R: Wait>(&self, rt: &R, tag: u8);
+
+    /// Whether the disk is removed.
+    fn ended<R: Wait>(&self, rt: &R) -> bool;
+}
+
+/// The queue from the lanes to the worker. Contracts see it as its identity and its capacity.
+#[derive(Drop)]
+pub struct Completions {
+    queue: Queue,
+}
+
+impl Model for Completions {
+    ghost Value = { QueueView };
+
+    ghost view = { λ c. record { id = c.queue.table.shared.table_id; capacity = c.queue.cap } };
+}
+
+/// The right to put items of one tag, or, the worker's, to take items. Contracts see it as its queue and what it put or
+/// took.
+#[derive(Drop)]
+pub struct Pass {
+    place: Place,
+    /// The count of the next item that it puts.
+    count: u64,
+}
+
+impl Model for Pass {
+    ghost use Rattle.std.specs.Prelude.{◌≡◌, [], length};
+    ghost use Rattle.lanes.specs.Queue.{Standing};
+
+    ghost Value = { Standing };
+
+    ghost view = { λ p. record { queue = p.place.table_id; view = p.place.me.0.client } };
+
+    ghost invariant = { λ p. (p.place.me.1 ≡ []) × (length p.place.me.0.client.put ≡ p.count) };
+}
+
+// The passes of that many lanes, by rising tags.
+fn lane_passes(
+    alloc: Global,
+    queue: &Queue,
+    worker: &mut Place,
+    lanes: u8,
+) -> Result<Vec<Pass>, NoMemory>
+    requires queue { (worker.old.table_id ≡ queue.now.table.shared.table_id) × (worker.old.me.1 ≡ []) }
+    requires worker { worker.old.me.0.client ≡ fresh_worker 0 }
+    ensures queue { (worker.new.table_id ≡ worker.old.table_id) × (worker.new.me.1 ≡ []) }
+    ensures worker { IfOk result (λ _. worker.new.me.0.client ≡ fresh_worker lanes) }
+    ensures passes { IfOk result (λ v. v.items ≡ lanes_of queue.now.table.shared.table_id lanes) }
+{
+    let mut passes = Vec::new(alloc);
+    for _ in 0..lanes {
+        let place = queue.another::<Tag>(worker);
+        if passes.push(Pass { place, count: 0 }).is_err() {
+            return Err(NoMemory);
+        }
+    }
+    Ok(passes)
+}
+
+/// What the worker took of a lane, and what the queue holds of it, is what the lane put.
+pub fn taken_is_put()
+    ensures { TakenIsPut }
+{}
+
+/// The worker takes a lane's items in the order of their counts, and each of them once.
+pub fn in_order()
+    ensures { InOrder }
+{}
+
+impl Completions {
+    /// A queue with room for that many items, from 1 to 32. The pass at a tag's index is that tag's lane's; the last one is
+    /// the worker's.
+    ///
+    /// # Errors
+    ///
+    /// [`NoMemory`] where the memory for the queue or the passes was refused.
+    #[tactic(auto, using(crate::proofs::Steps::opens))]
+    pub fn new(
+        alloc: Global,
+        capacity: usize,
+        lanes: u8,
+    ) -> Result<(Completions, Vec<Pass>), NoMemory>
+        requires { (1 ≤ capacity) × (capacity ≤ 32) }
+        ensures capacity { IfOk result (λ r. r.0.capacity ≡ capacity) }
+        ensures passes { IfOk result (λ r. r.1.items ≡ issued r.0.id lanes) }
+    {
+        let (queue, mut worker) = Queue::ruled(alloc, capacity)?;
+        let mut passes = lane_passes(alloc, &queue, &mut worker, lanes)?;
+        let worker = Pass {
+            place: worker,
+            count: 0,
+        };
+        if passes.push(worker).is_err() {
+            return Err(NoMemory);
+        }
+        Ok((Completions { queue }, passes))
+    }
+
+    // Puts the lane's next item. It comes back where the queue was full at one moment of the call, or where the lane's counts
+    // have run out.
+    fn put<R: Wait>(&self, rt: &R, pass: &mut Pass, tag: u8) -> Result<(), Item>
+        requires lane { IsLane self.now.id tag pass.old }
+        ensures lane { IsLane self.now.id tag pass.new }
+        ensures put { MatchResult result (λ _. pass.new.view ≡ with_put pass.old.view (item_of tag (length pass.old.view.put))) (λ x. (x.tag ≡ tag) × (pass.new.view ≡ pass.old.view)) }
+        ensures full { IfErr result (λ _. StoodAt self.now.capacity pass.old.view ⊎ (length pass.old.view.put + 1 ≡ 2 ^ 64)) }
+    {
+        let item = Item {
+            tag,
+            count: pass.count,
+        };
+        if pass.count == u64::MAX {
+            return Err(item);
+        }
+        self.push(rt, &mut pass.place, item)?;
+        pass.count += 1;
+        Ok(())
+    }
+
+    // The two kinds of step on the queue.
+
+    fn push<R: Wait>(&self, rt: &R, place: &mut Place, item: Item) -> Result<(), Item>
+        requires queue { (place.old.table_id ≡ self.now.id) × (place.old.me.1 ≡ []) }
+        requires lane { place.old.me.0.client.takes ≡ false }
+        requires next { item ≡ item_of place.old.me.0.client.tag (length place.old.me.0.client.put) }
+        ensures queue { (place.new.table_id ≡ self.now.id) × (place.new.me.1 ≡ []) }
+        ensures put { MatchResult result (λ _. place.new.me.0.client ≡ with_put place.old.me.0.client item) (λ x. (x ≡ item) × (place.new.me.0.client ≡ place.old.me.0.client) × StoodAt self.now.capacity place.old.me.0.client) }
+    {
+        self.queue.push_as::<Put, R>(rt, place, item)
+    }
+
+    // There is no item only where the queue was empty at one moment of the call.
+    fn pop<R: Wait>(&self, rt: &R, place: &mut Place) -> Option<Item>
+        requires queue { (place.old.table_id ≡ self.now.id) × (place.old.me.1 ≡ []) }
+        requires worker { place.old.me.0.client.takes ≡ true }
+        ensures queue { (place.new.table_id ≡ self.now.id) × (place.new.me.1 ≡ []) }
+        ensures taken { MatchOption result ((place.new.me.0.client ≡ place.old.me.0.client) × StoodAt 0 place.old.me.0.client) (λ x. place.new.me.0.client ≡ with_taken place.old.me.0.client x) }
+    {
+        self.queue.pop_as::<Take, R>(rt, place)
+    }
+}
+
+/// A tag's lane. For each piece started on the tag it passes the turnstile, acts, and puts an item for the worker; where the
+/// queue is full it finishes the piece itself. It ends once the disk is removed, and gives its pass back.
+pub fn serve_lane<R: Wait, D: Desk, T: Turnstile>(
+    rt: &R,
+    desk: &D,
+    tag: u8,
+    turnstile: &T,
+    completions: &Completions,
+    mut pass: Pass,
+) -> Pass
+    requires lane { IsLane completions.now.id tag pass }
+    ensures lane { IsLane completions.now.id tag result }
+    ensures put { HasPut pass.view result.view }
+{
+    for _ in rt.forever() {
+        match desk.next(rt, tag) {
+            Step::Ended => break,
+            Step::Ready => {
+                turnstile.pass(rt, tag);
+                desk.act(rt, tag);
+                if let Err(item) = completions.put(rt, &mut pass, tag) {
+                    desk.finish(rt, item.tag);
+                }
+            }
+        }
+    }
+    pass
+}
+
+/// The worker. It takes items, passes its own turnstile with the tag of each, and finishes the piece on that tag. It ends
+/// where a look at the queue that began after the disk was removed finds none, and gives its pass back.
+pub fn serve_completions<R: Wait, D: Desk, T: Turnstile>(
+    rt: &R,
+    desk: &D,
+    completions: &Completions,
+    mut pass: Pass,
+    turnstile: &T,
+) -> Pass
+    requires worker { IsWorker completions.now.id pass }
+    ensures worker { IsWorker completions.now.id result }
+    ensures took { HasTaken pass.view result.view }
+    ensures emptied { StoodAt 0 result.view }
+{
+    for _ in rt.forever() {
+        let ended = desk.ended(rt);
+        match completions.pop(rt, &mut pass.place) {
+            Some(item) => {
+                turnstile.pass(rt, item.tag);
+                desk.finish(rt, item.tag);
+            }
+            None => {
+                if ended {
+                    return pass;
+                }
+                thread::yield_now();
+            }
+        }
+    }
+    unreachable!()
+}

@@ -1,0 +1,70 @@
+// The rule of the queue, and its kinds of step.
+ghost use Rattle.std.specs.Prelude.{◌≡◌};
+ghost use Rattle.lanes.specs.Queue.{QueueKept, Stands, fresh_lane, fresh_worker, with_lane, with_put, with_taken};
+
+use crossbeam_queue::protocol::{Lesson, Outcome, Protocol, Split};
+use crossbeam_queue::{Pass, RuledArrayQueue};
+use std::collections::LinkedList;
+
+/// A completion on its way to the worker.
+#[derive(Debug, Clone, Copy, PartialEq, Eq, Drop)]
+pub struct Item {
+    pub tag: u8,
+    /// How many items its lane had put before it.
+    pub count: u64,
+}
+
+/// What a pass knows. No value of it is made.
+pub struct View {
+    /// Whether it is the worker's, the one pass that takes.
+    pub takes: bool,
+    /// Of a lane, its tag; of the worker, how many lanes there are.
+    pub tag: u64,
+    /// What it put, the oldest first.
+    pub put: LinkedList<Item>,
+    /// What it took, the oldest first.
+    pub taken: LinkedList<Item>,
+}
+
+pub struct QueueRule;
+
+impl Protocol<Item, View> for QueueRule {
+    ghost holds = { QueueKept };
+
+    ghost first = { fresh_worker 0 };
+}
+
+pub type Queue = RuledArrayQueue<Item, View, QueueRule>;
+
+pub type Place = Pass<Item, View>;
+
+/// A lane puts an item.
+pub struct Put;
+
+impl Outcome<Item, View> for Put {
+    ghost then = { λ v x w. w ≡ with_put v x };
+}
+
+impl Lesson<Item, View> for Put {
+    ghost fact = { Stands };
+}
+
+/// The worker takes an item.
+pub struct Take;
+
+impl Outcome<Item, View> for Take {
+    ghost then = { λ v x w. w ≡ with_taken v x };
+}
+
+impl Lesson<Item, View> for Take {
+    ghost fact = { Stands };
+}
+
+/// The worker makes a lane's pass.
+pub struct Tag;
+
+impl Split<View> for Tag {
+    ghost left = { with_lane };
+
+    ghost right = { λ v. fresh_lane v.tag };
+}
