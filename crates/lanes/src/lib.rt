@@ -1,17 +1,17 @@
-//! Lanes: threads that carry a disk's acts and completions, one lane for each tag, and one worker for the completions that
-//! the lanes hand over through a bounded queue.
-//! A lane stands for what a device does on its own with one tag, the worker for the port's completion DPC
-//! (`StorPortNotification(RequestComplete)` queues, the DPC completes).
+//! Lanes: one thread for each tag of a disk, which acts the pieces started on it, and a worker, which finishes the pieces that
+//! the lanes hand over through a bounded queue. A lane stands for what a device does with one tag on its own; an item in the
+//! queue for a completed SRB that StorPortNotification (RequestComplete) hands to the port; the worker for the port's
+//! completion DPC.
 //!
-//! A [`Pass`] stands for the right to put items of one tag, or, the worker's, to take items; its view is what was put or
-//! taken. What is promised to the crate above:
+//! A [`Pass`] stands for the right to put items of one tag, or, the worker's, to take items; its view is what it put or took.
+//! What is promised to the crate above:
 //! - what the worker took, then what the queue holds, is in each lane's part just what that lane put, in its order: items of
-//!   its own tag with rising counts (`QueueKept`, which holds between any two steps, and `taken_is_put`, `in_order`);
-//! - [`serve_lane`] puts items of its own tag with the next counts (`put`), and a lane gets an item back only where the queue
-//!   was full at one moment;
-//! - [`serve_completions`] ends only where all that was put by one moment was taken (`took`, `emptied`).
+//!   its own tag with rising counts (`QueueKept`, which holds between any two steps; `taken_is_put`, `in_order`);
+//! - [`serve_lane`] puts items of its own tag alone, with the next counts (`put`);
+//! - [`serve_completions`] ends only where it had taken all that was put by one moment (`took`, `emptied`).
 //!
-//! What is not promised: that a lane or the worker gets on or ends, and what they have the desk do; this is tested.
+//! What is not promised: that a lane or the worker gets on or ends; what they have the desk do, and when, is tested.
+//! Where the worker's pass is dropped, nothing more is taken. Where a lane's is, nothing more of its tag is put.
 #![tactic(auto)]
 
 ghost use Rattle.std.specs.Prelude.{◌≡◌, ◌≤◌, ◌+◌, ◌^◌, ◌⊎◌, [], IfErr, IfOk, MatchOption, MatchResult, false, true, length};
@@ -22,8 +22,7 @@ mod rule;
 #[cfg(test)]
 mod tests;
 
-pub use rule::Item;
-use rule::{Place, Put, Queue, Tag, Take};
+use rule::{Item, Place, Put, Queue, Tag, Take};
 use std::alloc::{AllocError, Global};
 use std::marker::Model;
 use std::sync::Wait;

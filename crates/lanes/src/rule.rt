@@ -7,7 +7,7 @@ use crossbeam_queue::{Pass, RuledArrayQueue};
 use std::collections::LinkedList;
 
 /// A completion on its way to the worker.
-#[derive(Debug, Clone, Copy, PartialEq, Eq, Drop)]
+#[derive(Clone, Copy)]
 pub struct Item {
     pub tag: u8,
     /// How many items its lane had put before it.
