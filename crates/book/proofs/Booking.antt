@@ -269,6 +269,32 @@ sound_first rules opening handles count stack pages slots named first entries ow
   room = subst (λ (r : Rules). labels_left r stack.state ≤ pages.room) named.same_rules (let few = first.few_left in omega arith);
 }
 
+-- ROOM IS MADE
+
+-- for labels, or for a call of a client
+pub sound_with_room : (rules : Rules) (opening : State) (handles : List (Option OpenHandle)) (count : ℕ) (stack : ManagerView) (pages : PagesView) (slots : SlotsView) (pages' : PagesView) (room : ℕ) (ready : Option ℕ)
+    → IsSound rules opening handles count stack pages slots → pages' ≡ record pages { room = room; ready = ready } → pages.room ≤ room → IsSound rules opening handles count stack pages' slots
+sound_with_room rules opening handles count stack pages slots pages' room ready sound is more = subst (λ (p : PagesView). IsSound rules opening handles count stack p slots) (sym is) made
+  where
+    made : IsSound rules opening handles count stack (record pages { room = room; ready = ready }) slots
+    made = record {
+      same_rules = sound.same_rules;
+      as_many = sound.as_many;
+      same_handles = sound.same_handles;
+      taken = sound.taken;
+      run = sound.run;
+      told = sound.told;
+      numbers = sound.numbers;
+      below = sound.below;
+      answered = sound.answered;
+      room = (let left = sound.room in omega arith);
+    }
+
+pub sound_made_ready : (rules : Rules) (opening : State) (handles : List (Option OpenHandle)) (count : ℕ) (stack : ManagerView) (pages : PagesView) (slots : SlotsView) (roomy pages' : PagesView) (room : ℕ) (ready : Option ℕ)
+    → IsSound rules opening handles count stack pages slots → roomy ≡ record pages { room = room } → pages.room ≤ room → pages' ≡ record roomy { ready = ready } → IsSound rules opening handles count stack pages' slots
+sound_made_ready rules opening handles count stack pages slots roomy pages' room ready sound with_room more is =
+    sound_with_room rules opening handles count stack roomy slots pages' roomy.room ready (sound_with_room rules opening handles count stack pages slots roomy room pages.ready sound with_room more) is (omega arith)
+
 -- AN ANSWER IS TAKEN
 
 was_there : (answers : List Waiting) (at : ℕ) (taken answer : Waiting) → slice_get answers at ≡ Some taken → Contains (remove answers at) answer → Contains answers answer
