@@ -2,7 +2,6 @@
 
 ghost use Rattle.std.specs.Prelude.{◌≡◌, ◌≤◌, ◌<◌, [], IfOk, All, MatchOption, length, slice_get, Some};
 ghost use Rattle.std.specs.VecDeque.{deque_capacity};
-
 ghost use Rattle.io_manager.specs.Right.{IsOfAnother, TakesAnswerOf};
 ghost use Rattle.io_manager.specs.Taking.{IsAt};
 
