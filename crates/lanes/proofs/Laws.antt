@@ -24,7 +24,7 @@ some_there (x ∷ xs) (suc i) h = some_there xs i (omega arith)
 
 -- the part of any tag has rising counts
 part_counted : (items : List Item) (views : List View) (t : ℕ) → (r : QueueKept items views) → (m : ℕ) × (part t (r.worker.taken ++ items) ≡ numbered t m)
-part_counted items views t r = dite (dec_le r.worker.tag t)
+part_counted items views t r = dite (dec_le r.worker.lanes t)
     (λ past. (0, r.none t past))
     (λ below. let there = some_there views (suc t) (omega (arith, r.lanes)) in (length there.0.put, r.put t there.0 there.1 ∙ r.counted t there.0 there.1))
 

@@ -115,11 +115,11 @@ takes_at v x items views r at =
       worker = w;
       first = set_here views 0 w (below_length views 0 v at);
       takes = ap (λ (u : View). u.takes) (sym is) ∙ r.takes;
-      lanes = length-set views 0 w ∙ (r.lanes ∙ ap (λ (u : View). suc u.tag) is);
+      lanes = length-set views 0 w ∙ (r.lanes ∙ ap (λ (u : View). suc u.lanes) is);
       is_lane = λ j u e. r.is_lane j u (was j u e);
       counted = λ j u e. r.counted j u (was j u e);
       put = λ j u e. same j ∙ r.put j u (was j u e);
-      none = λ j past. same j ∙ r.none j (subst (λ (u : View). u.tag ≤ j) (sym is) past);
+      none = λ j past. same j ∙ r.none j (subst (λ (u : View). u.lanes ≤ j) (sym is) past);
     }
 
 pub takes : (by : ℕ) (v : View) → v.takes ≡ true → Pops QueueKept by v (λ x w. w ≡ with_taken v x)
@@ -130,21 +130,21 @@ takes by v worker x items views r at =
       refl,
     )
 
-makes_at : (v : View) (items : List Item) (views : List View) → QueueKept items views → get_elem? views 0 ≡ some v → QueueKept items (set views 0 (with_lane v) ++ fresh_lane v.tag ∷ [])
+makes_at : (v : View) (items : List Item) (views : List View) → QueueKept items views → get_elem? views 0 ≡ some v → QueueKept items (set views 0 (with_lane v) ++ fresh_lane v.lanes ∷ [])
 makes_at v items views r at =
     let w : View = with_lane v in
-    let new : View = fresh_lane v.tag in
+    let new : View = fresh_lane v.lanes in
     let vs : List View = set views 0 w in
     let is : r.worker ≡ v = some-injective r.worker v (sym r.first ∙ at) in
-    let many : length vs ≡ suc v.tag = length-set views 0 w ∙ (r.lanes ∙ ap (λ (u : View). suc u.tag) is) in
+    let many : length vs ≡ suc v.lanes = length-set views 0 w ∙ (r.lanes ∙ ap (λ (u : View). suc u.lanes) is) in
     let Case : (View → ℕ → Type 0) → Type 0 = λ P. (j : ℕ) (u : View) → get_elem? (vs ++ new ∷ []) (suc j) ≡ some u → P u j in
-    let each : (P : View → ℕ → Type 0) → P new v.tag → ((j : ℕ) (u : View) → get_elem? views (suc j) ≡ some u → P u j) → Case P =
+    let each : (P : View → ℕ → Type 0) → P new v.lanes → ((j : ℕ) (u : View) → get_elem? views (suc j) ≡ some u → P u j) → Case P =
     λ P mine others j u e. ⊎_elim
     (λ h. others j u (sym (set_else views 0 (suc j) w (λ k. omega arith)) ∙ h))
-    (λ h. let same : v.tag ≡ j = omega (arith, h.0, many) in subst (λ (y : View). P y j) h.1 (subst (λ (k : ℕ). P new k) same mine))
+    (λ h. let same : v.lanes ≡ j = omega (arith, h.0, many) in subst (λ (y : View). P y j) h.1 (subst (λ (k : ℕ). P new k) same mine))
     (at_snoc vs new u (suc j) e) in
     let same : (j : ℕ) → part j (v.taken ++ items) ≡ part j (r.worker.taken ++ items) = λ j. ap (λ (u : View). part j (u.taken ++ items)) (sym is) in
-    let none : (j : ℕ) → v.tag ≤ j → part j (v.taken ++ items) ≡ [] = λ j past. same j ∙ r.none j (subst (λ (u : View). u.tag ≤ j) (sym is) past) in
+    let none : (j : ℕ) → v.lanes ≤ j → part j (v.taken ++ items) ≡ [] = λ j past. same j ∙ r.none j (subst (λ (u : View). u.lanes ≤ j) (sym is) past) in
     record {
       worker = w;
       first = at_longer vs (new ∷ []) 0 w (set_here views 0 w (below_length views 0 v at));
@@ -152,14 +152,14 @@ makes_at v items views r at =
       lanes = length-append vs (new ∷ []) ∙ omega (arith, many);
       is_lane = each (λ u j. (u.takes ≡ false) × (u.tag ≡ j)) (refl, refl) (λ j u e. r.is_lane j u e);
       counted = each (λ u j. u.put ≡ numbered j (length u.put)) refl (λ j u e. r.counted j u e);
-      put = each (λ u j. part j (v.taken ++ items) ≡ u.put) (none v.tag (omega arith)) (λ j u e. same j ∙ r.put j u e);
+      put = each (λ u j. part j (v.taken ++ items) ≡ u.put) (none v.lanes (omega arith)) (λ j u e. same j ∙ r.put j u e);
       none = λ j past. none j (omega (arith, past));
     }
 
-pub makes : (by : ℕ) (v : View) → v.takes ≡ true → Forks QueueKept by v (with_lane v) (fresh_lane v.tag)
+pub makes : (by : ℕ) (v : View) → v.takes ≡ true → Forks QueueKept by v (with_lane v) (fresh_lane v.lanes)
 makes by v worker items views r at =
     let place = takes_first items views r by v at worker in
-    subst (λ (k : ℕ). QueueKept items (set views k (with_lane v) ++ fresh_lane v.tag ∷ [])) (sym place) (makes_at v items views r (subst (λ (k : ℕ). get_elem? views k ≡ some v) place at))
+    subst (λ (k : ℕ). QueueKept items (set views k (with_lane v) ++ fresh_lane v.lanes ∷ [])) (sym place) (makes_at v items views r (subst (λ (k : ℕ). get_elem? views k ≡ some v) place at))
 
 stands_by : (items : List Item) (views : List View) → QueueKept items views → (by : ℕ) (v : View) → get_elem? views by ≡ some v → (b : Bool) → v.takes ≡ b → get_elem? views (place_of b v.tag) ≡ some v
 stands_by items views r by v at true is = subst (λ (k : ℕ). get_elem? views k ≡ some v) (takes_first items views r by v at is) at

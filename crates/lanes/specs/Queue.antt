@@ -22,11 +22,11 @@ standing queue view = record { queue = queue; view = view }
 
 -- a lane's pass that has put nothing
 abbrev pub fresh_lane : ℕ → View
-fresh_lane tag = record { takes = false; tag = tag; put = []; taken = [] }
+fresh_lane tag = record { takes = false; tag = tag; lanes = 0; put = []; taken = [] }
 
 -- the pass of a worker over that many lanes, which has taken nothing
 abbrev pub fresh_worker : ℕ → View
-fresh_worker lanes = record { takes = true; tag = lanes; put = []; taken = [] }
+fresh_worker lanes = record { takes = true; tag = 0; lanes = lanes; put = []; taken = [] }
 
 -- the passes of that many lanes, by rising tags
 abbrev pub lanes_of : TableId → ℕ → List Standing
@@ -59,7 +59,7 @@ with_taken v x = record v { taken = v.taken ++ x ∷ [] }
 
 -- the worker has made one more lane's pass
 abbrev pub with_lane : View → View
-with_lane v = record v { tag = suc v.tag }
+with_lane v = record v { lanes = suc v.lanes }
 
 -- where a pass stands: the worker first, then the lanes by their tags
 abbrev pub place_of : Bool → ℕ → ℕ
@@ -71,15 +71,15 @@ pub record QueueKept (items : List Item) (views : List View) : Type 0 where
   pub worker : View
   pub first : get_elem? views 0 ≡ some worker
   pub takes : worker.takes ≡ true
-  -- a lane for each tag below the worker's number
-  pub lanes : length views ≡ suc worker.tag
+  -- a lane for each tag below their number
+  pub lanes : length views ≡ suc worker.lanes
   pub is_lane : (t : ℕ) (v : View) → get_elem? views (suc t) ≡ some v → (v.takes ≡ false) × (v.tag ≡ t)
   -- what a lane put are items of its own tag with rising counts
   pub counted : (t : ℕ) (v : View) → get_elem? views (suc t) ≡ some v → v.put ≡ numbered t (length v.put)
   -- what the worker took, then what the queue holds, is in each lane's part just what that lane put
   pub put : (t : ℕ) (v : View) → get_elem? views (suc t) ≡ some v → part t (worker.taken ++ items) ≡ v.put
   -- and there is nothing of a tag that has no lane
-  pub none : (t : ℕ) → worker.tag ≤ t → part t (worker.taken ++ items) ≡ []
+  pub none : (t : ℕ) → worker.lanes ≤ t → part t (worker.taken ++ items) ≡ []
 
 -- at some moment the queue held these items, and the pass knew this
 abbrev pub Stands : View → List Item → Type 0

@@ -22,7 +22,7 @@ mod rule;
 #[cfg(test)]
 mod tests;
 
-use rule::{Item, Place, Put, Queue, Tag, Take};
+use rule::{Another, Item, Place, Put, Queue, Take};
 use std::alloc::{AllocError, Global};
 use std::marker::Model;
 use std::sync::Wait;
@@ -118,7 +118,7 @@ fn lane_passes(
 {
     let mut passes = Vec::new(alloc);
     for _ in 0..lanes {
-        let place = queue.another::<Tag>(worker);
+        let place = queue.another::<Another>(worker);
         if passes.push(Pass { place, count: 0 }).is_err() {
             return Err(NoMemory);
         }

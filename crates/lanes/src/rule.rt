@@ -18,8 +18,10 @@ pub struct Item {
 pub struct View {
     /// Whether it is the worker's, the one pass that takes.
     pub takes: bool,
-    /// Of a lane, its tag; of the worker, how many lanes there are.
+    /// Of a lane, its tag.
     pub tag: u64,
+    /// Of the worker, how many lanes there are.
+    pub lanes: u64,
     /// What it put, the oldest first.
     pub put: LinkedList<Item>,
     /// What it took, the oldest first.
@@ -60,11 +62,11 @@ impl Lesson<Item, View> for Take {
     ghost fact = { Stands };
 }
 
-/// The worker makes a lane's pass.
-pub struct Tag;
+/// The worker makes the pass of one more lane.
+pub struct Another;
 
-impl Split<View> for Tag {
+impl Split<View> for Another {
     ghost left = { with_lane };
 
-    ghost right = { λ v. fresh_lane v.tag };
+    ghost right = { λ v. fresh_lane v.lanes };
 }
