@@ -1,5 +1,5 @@
 -- What a run of the program reads and writes.
-use Rattle.std.proofs.Common.{◌≡◌, ℕ, List, Option, Some, inl, inr, refl, subst, sym}
+use Rattle.std.proofs.Common.{◌≡◌, ℕ, List, Option, Some, inl, inr, refl, subst}
 use Rattle.settings.specs.declared.Config.{Config}
 use Rattle.nbd.specs.Content.{Content}
 use Rattle.nbd.specs.Handshake.{IsSession}

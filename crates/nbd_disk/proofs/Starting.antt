@@ -1,16 +1,15 @@
 -- The array that is served, over the adapter of some settings.
-use Rattle.std.proofs.Common.{◌≡◌, ◌≤◌, inl, inr, ℕ, List, [], Option, Some, None, Result, Ok, Err, All, length, get_or, refl, sym, ap, ◌∙◌, subst}
+use Rattle.std.proofs.Common.{◌≡◌, ◌≤◌, inl, inr, ℕ, List, [], Option, Some, None, Ok, All, length, get_or, refl, sym, ap, ◌∙◌, subst}
 use Rattle.std.specs.List.{concat}
 use Rattle.std.proofs.lemmas.Bool.{cases_lt}
 use Rattle.std.proofs.lemmas.List.{get_or_past}
 use Rattle.sector.specs.declared.Extent.{Extent}
-use Rattle.adapter.specs.View.{AdapterView}
 use Rattle.miniport.specs.Memory.{MemView}
 use Rattle.machine.specs.Map.{IsPartition, sectors_in}
 use Rattle.mbr.specs.declared.MbrFault.{MbrFault}
 use Rattle.mbr.specs.Table.{partitions_of}
 use Rattle.mbr.specs.Faults.{partitions_fault, unless_fault, said_of, told_by}
-use Rattle.probe.specs.Probing.{HasPartitions, told_partitions}
+use Rattle.probe.specs.Probing.{told_partitions}
 use Rattle.io_manager.specs.declared.Refusal.TheVariants.{InvalidHandle, InvalidParameter, DeletePending, DeviceBusy, InsufficientResources, InvalidDeviceRequest, NotFound}
 use Rattle.compose.specs.declared.StartFault.TheVariants.{Settings as WrongSettings, Device as FailedCommand, Mbr as WrongTable, NoMemory as WantOfMemory}
 use Rattle.settings.specs.declared.Config.{Config}

@@ -1,9 +1,8 @@
 -- A session over the disk of some settings.
-use Rattle.std.specs.Prelude.{◌≡◌, ◌≤◌, ◌⊎◌, ℕ, List, Option, Some, None, Result, Err, IfSome, length}
+use Rattle.std.specs.Prelude.{◌≡◌, ◌≤◌, ◌⊎◌, ℕ, List, Option, Some, None, Err, IfSome, length}
 use Rattle.std.specs.List.{concat}
 use Rattle.mbr.specs.Faults.{said_of}
 use Rattle.io_manager.specs.declared.Refusal.TheVariants.{InvalidParameter}
-use Rattle.compose.specs.declared.StartFault.{StartFault}
 use Rattle.compose.specs.declared.StartFault.TheVariants.{Settings as WrongSettings, Mbr as WrongTable}
 use Rattle.settings.specs.declared.Config.{Config}
 use Rattle.settings.specs.Settings.{AreSettingsOf}

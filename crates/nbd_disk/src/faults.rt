@@ -8,7 +8,7 @@ ghost use Rattle.nbd_disk.specs.declared.faults.Fault.TheVariants.{NoMemory, Set
 
 use compose::{MbrFault, StartFault};
 use settings::ConfigFault;
-use std::alloc::{AllocError, AllocFailed};
+use std::alloc::AllocError;
 use std::error::Error;
 use std::io::ErrorKind;
 use std::{fmt, io};
@@ -101,14 +101,6 @@ impl From<AllocError> for Fault {
     ghost from_gives = { λ _ fault. fault ≡ NoMemory };
 
     fn from(_error: AllocError) -> Fault {
-        Fault::NoMemory
-    }
-}
-
-impl<T: Drop> From<AllocFailed<T>> for Fault {
-    ghost from_gives = { λ _ fault. fault ≡ NoMemory };
-
-    fn from(_error: AllocFailed<T>) -> Fault {
         Fault::NoMemory
     }
 }

@@ -1,4 +1,4 @@
-use Rattle.std.proofs.Common.{◌≡◌, Err, Some, rules}
+use Rattle.std.proofs.Common.{◌≡◌, Err, rules}
 use Rattle.std.specs.Result.{result_err}
 use Rattle.nbd_disk.proofs.Sessions.{with_session, without_disk}
 use Rattle.nbd_disk.proofs.serving.serve_disk.Goals as goal
