@@ -1,5 +1,6 @@
 pub mod Arming
 pub mod Noting
+pub mod Finding
 pub mod Telling
 pub mod Booking
 pub mod FromRight

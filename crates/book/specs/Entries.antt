@@ -67,3 +67,23 @@ calls es = count_of (λ e. is_call e.label) es
 
 abbrev pub labels_of : List Entry → List Label
 labels_of es = map (λ e. e.label) es
+
+-- the label answers the request of this number
+abbrev pub IsAnswerTo : ℕ → Label → Type 0
+IsAnswerTo number (Answer answered status informed bytes) = answered ≡ number
+IsAnswerTo number _ = ⊥
+
+-- it answers another, or none
+abbrev pub IsNoAnswerTo : ℕ → Label → Type 0
+IsNoAnswerTo number label = IsAnswerTo number label → ⊥
+
+-- at this place stands the answer to the request
+pub record IsAnswerAt (number : ℕ) (entries : List Entry) (place : ℕ) : Type 0 where
+  pub entry : Entry
+  pub there : slice_get entries place ≡ Some entry
+  pub answers : IsAnswerTo number entry.label
+
+-- at none of a row's places, from the k-th of them on, stands the answer to the request
+abbrev pub HasNoAnswer : ℕ → List Entry → List ℕ → ℕ → Type 0
+HasNoAnswer number entries row from =
+    (k place : ℕ) (e : Entry) → from ≤ k → slice_get row k ≡ Some place → slice_get entries place ≡ Some e → IsNoAnswerTo number e.label

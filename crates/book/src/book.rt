@@ -1,4 +1,4 @@
-ghost use Rattle.std.specs.Prelude.{◌≡◌, ◌<◌, ◌≤◌, ◌+◌, ◌∷◌, ℕ, List, [], max, slice_get, Contains, IfOk, IfSome, OnOk, Some, None, false, true, length};
+ghost use Rattle.std.specs.Prelude.{◌≡◌, ◌<◌, ◌≤◌, ◌+◌, ◌∷◌, ℕ, List, [], max, slice_get, All, Contains, IfOk, IfSome, MatchOption, OnOk, Some, None, false, true, length};
 ghost use Rattle.cancel_marks.specs.Marks.{standing, starting};
 ghost use Rattle.chronicle.specs.Claims.{AllStand};
 ghost use Rattle.machine.specs.Step.{Run};
@@ -11,7 +11,7 @@ ghost use Rattle.compose.specs.Right.{IsRight};
 ghost use Rattle.book.specs.Opening.{AreClientsOf, IsFirst};
 ghost use Rattle.book.specs.Book.{AreLooked, AreRowsOf, FitsHandle, IsBook, IsCarried, IsLooked, IsServed, IsServedWith, IsStepped, IsWanting, HasCounted, call_handle, bytes_of, may_want};
 ghost use Rattle.book.specs.declared.Entry.{Entry as EntryView};
-ghost use Rattle.book.specs.Entries.{calls, labels_of, places};
+ghost use Rattle.book.specs.Entries.{IsAnswerAt, IsNoAnswerTo, calls, labels_of, places};
 ghost use Rattle.book.specs.Pages.{MayNote, noted_all};
 ghost use Rattle.book.specs.Sizes.{AreSizes, brought_by, sizes_of};
 ghost use Rattle.book.specs.Serving.{Serves, admitted_at, is_call_event, is_handle_event, open_at, unless_told};
@@ -313,6 +313,14 @@ impl<A: Adapter, N: Naming> Book<A, N> {
         ensures { result.now ≡ places client 0 self.now.entries }
     {
         self.pages.row(client)
+    }
+
+    /// Where the answer to a request stands in the trace, if it has come. It looks through the row of the request's client
+    /// from its end back.
+    pub fn answer_place(&self, number: u64) -> Option<usize>
+        ensures { MatchOption result (All (IsNoAnswerTo number) (labels_of self.now.entries)) (IsAnswerAt number self.now.entries) }
+    {
+        self.pages.answer_place(number)
     }
 
     /// A claim on a place of the trace, by the entry there.

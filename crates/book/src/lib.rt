@@ -10,6 +10,8 @@
 //! - want of memory for the trace is answered before any step of the event, and only a read, a write, a flush and a
 //!   query-remove are refused for it (`memory`): all labels that a request will ever bring have their places from its call
 //!   on;
+//! - the answer of a request is taken by its number, and the place of its label in the trace is found ([`Book::take_answer`],
+//!   [`Book::answer_place`]);
 //! - at the end the trace is a run, and the rows are those of its labels (`rows`, `run` of [`Book::into_rows`]).
 //!
 //! Nothing is known of what lies under a lock but its type's invariant. So a book names by a type parameter what it was

@@ -1,7 +1,7 @@
-ghost use Rattle.std.specs.Prelude.{◌≡◌, ◌<◌, ◌≤◌, ◌+◌, ◌-◌, ◌∷◌, [], ℕ, Some, None, true, false, IfOk, IfSome, OnOk, length, slice_get, vec_len, vec_capacity};
+ghost use Rattle.std.specs.Prelude.{◌≡◌, ◌<◌, ◌≤◌, ◌+◌, ◌-◌, ◌∷◌, [], ℕ, Some, None, true, false, All, MatchBool, MatchOption, IfOk, IfSome, OnOk, length, slice_get, vec_len, vec_capacity};
 ghost use Rattle.chronicle.specs.Claims.{AllStand};
 ghost use Rattle.book.specs.declared.Entry.{Entry};
-ghost use Rattle.book.specs.Entries.{AreRowed, is_call, places, row_of};
+ghost use Rattle.book.specs.Entries.{AreRowed, HasNoAnswer, IsAnswerAt, IsAnswerTo, IsNoAnswerTo, WasCalled, is_call, labels_of, owner_of, places, row_of};
 ghost use Rattle.book.specs.Pages.{ArePages, IsNext, MayNote, owners_after, noted, ready_after};
 ghost use Rattle.book.specs.Rows.{MayStand, rows_after};
 
@@ -122,6 +122,27 @@ impl<N: Naming> Pages<N> {
         self.rows[client].places()
     }
 
+    /// Where the answer to a request stands, if it has come.
+    pub(crate) fn answer_place(&self, number: u64) -> Option<usize>
+        ensures { MatchOption result (All (IsNoAnswerTo number) (labels_of self.now.entries)) (IsAnswerAt number self.now.entries) }
+    {
+        self.shows_rows();
+        let client = self.client_of(number)?;
+        last_answer(self.trace.as_slice(), self.row(client), number)
+    }
+
+    // Whose request a number is of, if it was called.
+    fn client_of(&self, number: u64) -> Option<usize>
+        ensures { MatchOption result (WasCalled self.now.owners number → ⊥) (λ c. (owner_of self.now.owners number ≡ Some c) × (c < length N.partitions)) }
+    {
+        let index = (number as usize).checked_sub(1)?;
+        if index < self.owners.len() {
+            Some(self.owners[index])
+        } else {
+            None
+        }
+    }
+
     /// What stands at a place.
     pub(crate) fn entry(&self, place: usize) -> &Entry
         requires { place < length self.now.entries }
@@ -220,4 +241,32 @@ fn note_place(rows: &mut Vec<Row>, label: &Label, row: Option<usize>, place: usi
         Label::Answer { .. } => rows[row].answer(place),
         _ => {}
     }
+}
+
+fn is_answer_to(label: &Label, number: u64) -> bool
+    ensures { MatchBool result (IsAnswerTo number label.now) (IsNoAnswerTo number label.now) }
+{
+    match label {
+        Label::Answer {
+            number: answered,
+            ..
+        } => *answered == number,
+        _ => false,
+    }
+}
+
+// Where the answer to a request stands, among the places of a row.
+fn last_answer(trace: &[Entry], row: &[usize], number: u64) -> Option<usize>
+    requires { (k place : ℕ) → slice_get row.now k ≡ Some place → place < length trace.now }
+    ensures { MatchOption result (HasNoAnswer number trace.now row.now 0) (IsAnswerAt number trace.now) }
+{
+    let mut left = row.len();
+    while left > 0 {
+        left -= 1;
+        let place = row[left];
+        if is_answer_to(&trace[place].label, number) {
+            return Some(place);
+        }
+    }
+    None
 }

@@ -161,15 +161,16 @@ pub(crate) fn play<A: Adapter, N: Naming>(
     Ok(())
 }
 
-/// What is wanted of a test: its rows, the whole trace, the places of each client's calls and answers, and
-/// what request 1 transferred.
+/// What is wanted of a test: its rows, the whole trace, the places of each client's calls and answers, and of request 1
+/// where its answer stands and what it transferred.
 #[derive(Debug, Clone, Copy)]
 pub(crate) struct Run<'a> {
     pub rows: &'a [Row<'a>],
     pub trace: &'a str,
     pub first: &'a [usize],
     pub second: &'a [usize],
-    /// The bytes transferred of request 1, where it was open.
+    pub answered: Option<usize>,
+    /// In bytes, and 0 where it was answered at once.
     pub transferred: u64,
 }
 
@@ -219,6 +220,7 @@ pub(crate) fn carry_out<A: Adapter, N: Naming>(
         (&mut first, &mut second),
         run.rows,
     )?;
+    assert!(rt; book.answer_place(1) == run.answered);
     let transferred = match book.take_answer(1) {
         Some(answer) => answer.information,
         None => 0,

@@ -73,6 +73,7 @@ const TWO_CLIENTS: Run = Run {
     trace: "call 1 of 0 / start 1 / call 2 of 1 / start 2 / act 2 / return 2 / answer 2 SUCCESS of 1 / act 1 / return 1 / answer 1 SUCCESS of 0",
     first: &[0, 9],
     second: &[2, 6],
+    answered: Some(9),
     transferred: 512,
 };
 
@@ -92,6 +93,7 @@ const MARKED: Run = Run {
     trace: "call 1 of 0 / start 1 / start 2 / cancel 1 / act 1 / return 1 / act 2 / return 2 / answer 1 CANCELLED of 0",
     first: &[0, 8],
     second: &[],
+    answered: Some(8),
     transferred: 0,
 };
 
@@ -120,6 +122,7 @@ const REMOVED: Run = Run {
     trace: "call 1 of 0 / answer 1 INVALID_PARAMETER of 0 / call 2 of 1 / answer 2 SUCCESS of 1 / call 3 of 1 / start 1 / pause / call 4 of 0 / resume / start 2 / pause / act 1 / return 1 / answer 3 SUCCESS of 1 / call 5 of 1 / remove / answer 5 DELETE_PENDING of 1 / cancel 4 / act 2 / return 2 / answer 4 SUCCESS of 0 / removed / call 6 of 1 / answer 6 DELETE_PENDING of 1",
     first: &[0, 1, 7, 20],
     second: &[2, 3, 4, 13, 14, 16, 22, 23],
+    answered: Some(1),
     transferred: 0,
 };
 
