@@ -26,6 +26,7 @@ use Rattle.book.specs.Pages.{PagesView, noted_all, AreKept}
 use Rattle.book.specs.Rows.{RowView}
 use Rattle.book.specs.Shares.{ShareView}
 use Rattle.book.specs.Slots.{IsArmedAs, LooksNowhere, LooksAt}
+use Rattle.book.specs.Told.{AreTold}
 
 -- its stack between two steps, the entries of the trace, the clients of all requests by number, and what the owner of the marks knows
 pub record BookView : Type 0 where
@@ -40,7 +41,8 @@ pub record BookView : Type 0 where
 abbrev pub AreMarked : ManagerView → View → Type 0
 AreMarked stack marks = (k : ℕ) → IsArmedAs (slot_at marks k) (open_at stack k)
 
--- the trace is a run from the opening state to the one that the stack shows, which is settled, and each label stands in its row
+-- the trace is a run from the opening state to the one that the stack shows, which is settled; each label stands in its row, and the calls have the
+-- numbers from 1 on
 pub record IsBook (rules : Rules) (opening : State) (partitions : List ℕ) (handles : List (Option OpenHandle)) (v : BookView) : Type 0 where
   pub same_rules : v.stack.rules ≡ rules
   pub run : Run rules opening (labels_of v.entries) v.stack.state
@@ -52,6 +54,7 @@ pub record IsBook (rules : Rules) (opening : State) (partitions : List ℕ) (han
   pub clients : AreClientsOf partitions v.stack.handles
   pub marked : AreMarked v.stack v.marks
   pub rowed : AreRowed v.owners v.entries
+  pub told : AreTold v.entries v.owners v.stack.state
 
 -- A STEP
 
