@@ -1,0 +1,246 @@
+/* An nbdkit plugin over the static library: nbdkit ./saddlemug.so size=256M [sector=512] [transfer=128], or
+ * nbdkit ./saddlemug.so settings=FILE [partition=0] */
+#include <errno.h>
+#include <inttypes.h>
+#include <malloc.h>
+#include <stdio.h>
+#include <stdlib.h>
+#include <string.h>
+
+#define NBDKIT_API_VERSION 2
+#include <nbdkit-plugin.h>
+
+#include "saddlemug.h"
+
+#define THREAD_MODEL NBDKIT_THREAD_MODEL_SERIALIZE_ALL_REQUESTS
+
+/* Sectors of the longest request that the library takes. */
+#define LONGEST 65536
+
+static int64_t size = 64 << 20;
+static uint32_t sector = 512, transfer = 128;
+static char *settings_file;
+static uint8_t partition;
+
+static struct saddlemug volume;
+static struct saddlemug_sizes sizes;
+
+/* A request takes memory for copies of its bytes, and gives it back: keep that memory in the process. */
+static void
+load(void)
+{
+	mallopt(M_MMAP_THRESHOLD, 1 << 30);
+	mallopt(M_TRIM_THRESHOLD, 1 << 30);
+	mallopt(M_TOP_PAD, 64 << 20);
+}
+
+static int
+config(const char *key, const char *value)
+{
+	if (strcmp(key, "size") == 0) {
+		size = nbdkit_parse_size(value);
+		return size < 0 ? -1 : 0;
+	}
+	if (strcmp(key, "sector") == 0)
+		return nbdkit_parse_uint32_t(key, value, &sector);
+	if (strcmp(key, "transfer") == 0)
+		return nbdkit_parse_uint32_t(key, value, &transfer);
+	if (strcmp(key, "settings") == 0) {
+		free(settings_file);
+		settings_file = nbdkit_realpath(value);
+		return settings_file == NULL ? -1 : 0;
+	}
+	if (strcmp(key, "partition") == 0)
+		return nbdkit_parse_uint8_t(key, value, &partition);
+	nbdkit_error("unknown parameter '%s'", key);
+	return -1;
+}
+
+static int
+open_with(const char *text, size_t length)
+{
+	uint32_t status = saddlemug_open(&volume, (const uint8_t *) text, length, partition);
+	if (status != SADDLEMUG_SUCCESS) {
+		nbdkit_error("saddlemug_open: status %08" PRIX32, status);
+		return -1;
+	}
+	sizes = saddlemug_sizes(&volume);
+	return 0;
+}
+
+static int
+open_with_file(void)
+{
+	static char text[1 << 20];
+	FILE *file = fopen(settings_file, "rb");
+	if (file == NULL) {
+		nbdkit_error("%s: %m", settings_file);
+		return -1;
+	}
+	size_t length = fread(text, 1, sizeof text, file);
+	int failed = ferror(file) || !feof(file);
+	fclose(file);
+	if (failed) {
+		nbdkit_error("%s can't be read, or is above a megabyte", settings_file);
+		return -1;
+	}
+	return open_with(text, length);
+}
+
+/* The disk is one sector longer: its first sector has the partition table. */
+static int
+get_ready(void)
+{
+	char text[256];
+
+	if (settings_file != NULL)
+		return open_with_file();
+	if (sector == 0 || size % sector != 0 || size / sector > UINT32_MAX) {
+		nbdkit_error("size %" PRIi64 " is no number of sectors that a partition has", size);
+		return -1;
+	}
+	int length = snprintf(text, sizeof text,
+		"sector_size = %" PRIu32 "\nsectors = %" PRIi64 "\nmax_transfer = %" PRIu32 "\ndepth = 1\nwindow = 1\n"
+		"[[partition]]\nfirst = 1\ncount = %" PRIi64 "\n",
+		sector, size / sector + 1, transfer, size / sector);
+	return open_with(text, length);
+}
+
+static void
+unload(void)
+{
+	if (volume.at != NULL)
+		saddlemug_close(&volume);
+	free(settings_file);
+}
+
+static void *
+open_(int readonly)
+{
+	(void) readonly;
+	return NBDKIT_HANDLE_NOT_NEEDED;
+}
+
+static int64_t
+get_size(void *handle)
+{
+	(void) handle;
+	return sizes.sectors * sizes.sector_size;
+}
+
+static int
+block_size(void *handle, uint32_t *minimum, uint32_t *preferred, uint32_t *maximum)
+{
+	(void) handle;
+	*minimum = sizes.sector_size;
+	*preferred = 4096;
+	*maximum = LONGEST * sizes.sector_size;
+	return 0;
+}
+
+/* Each connection goes to the one volume, so that a flush is of all that was answered on any. */
+static int
+can_multi_conn(void *handle)
+{
+	(void) handle;
+	return 1;
+}
+
+static int
+can_fua(void *handle)
+{
+	(void) handle;
+	return NBDKIT_FUA_NATIVE;
+}
+
+static int
+answered(const char *call, uint32_t status)
+{
+	if (status == SADDLEMUG_SUCCESS)
+		return 0;
+	nbdkit_error("%s: status %08" PRIX32, call, status);
+	switch (status) {
+	case SADDLEMUG_INVALID_PARAMETER:
+		errno = EINVAL;
+		break;
+	case SADDLEMUG_INSUFFICIENT_RESOURCES:
+		errno = ENOMEM;
+		break;
+	case SADDLEMUG_MEDIA_WRITE_PROTECTED:
+		errno = EROFS;
+		break;
+	default:
+		errno = EIO;
+	}
+	return -1;
+}
+
+/* The bytes of the next call, of `count` that are left. */
+static uint32_t
+piece_of(uint32_t count)
+{
+	uint64_t longest = LONGEST * sizes.sector_size;
+	return count < longest ? count : longest;
+}
+
+static int
+pread_(void *handle, void *buffer, uint32_t count, uint64_t offset, uint32_t flags)
+{
+	(void) handle;
+	(void) flags;
+	for (uint8_t *at = buffer; count > 0;) {
+		uint32_t piece = piece_of(count);
+		if (answered("saddlemug_read", saddlemug_read(&volume, offset, at, piece)) != 0)
+			return -1;
+		at += piece;
+		offset += piece;
+		count -= piece;
+	}
+	return 0;
+}
+
+static int
+pwrite_(void *handle, const void *buffer, uint32_t count, uint64_t offset, uint32_t flags)
+{
+	(void) handle;
+	bool through = (flags & NBDKIT_FLAG_FUA) != 0;
+	for (const uint8_t *at = buffer; count > 0;) {
+		uint32_t piece = piece_of(count);
+		if (answered("saddlemug_write", saddlemug_write(&volume, offset, at, piece, through)) != 0)
+			return -1;
+		at += piece;
+		offset += piece;
+		count -= piece;
+	}
+	return 0;
+}
+
+static int
+flush_(void *handle, uint32_t flags)
+{
+	(void) handle;
+	(void) flags;
+	return answered("saddlemug_flush", saddlemug_flush(&volume));
+}
+
+static struct nbdkit_plugin plugin = {
+	.name = "saddlemug",
+	.description = "a disk in memory behind a proved storage stack",
+	.load = load,
+	.config = config,
+	.config_help = "size=SIZE [sector=512|4096] [transfer=SECTORS], or settings=FILE [partition=NUMBER]",
+	.magic_config_key = "size",
+	.get_ready = get_ready,
+	.unload = unload,
+	.open = open_,
+	.get_size = get_size,
+	.block_size = block_size,
+	.can_multi_conn = can_multi_conn,
+	.can_fua = can_fua,
+	.pread = pread_,
+	.pwrite = pwrite_,
+	.flush = flush_,
+	.errno_is_preserved = 1,
+};
+
+NBDKIT_REGISTER_PLUGIN(plugin)

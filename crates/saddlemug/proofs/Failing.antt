@@ -1,0 +1,48 @@
+-- No call that did not succeed has the status of success.
+use Rattle.std.proofs.Common.{◌≡◌, ℕ, ◌==◌, sym, ap, subst, ◌∙◌, if◌then◌else◌, bit_and}
+use Rattle.ntstatus.specs.declared.NtStatus.{NtStatus}
+use Rattle.ntstatus.specs.declared.NtStatus.TheVariants.{Success}
+use Rattle.ntstatus.proofs.Rows.{success_code}
+use Rattle.srb.specs.declared.Class.{Class}
+use Rattle.srb.specs.declared.Class.TheVariants.{Good, Busy, Bad}
+use Rattle.srb.specs.Fate.{class_of}
+use Rattle.adapter.specs.View.{AdapterView}
+use Rattle.probe.specs.Exchange.{IsOfFailure}
+use Rattle.io_manager.specs.declared.Refusal.{Refusal}
+use Rattle.io_manager.specs.declared.Refusal.TheVariants.{InvalidHandle, InvalidParameter, DeletePending, DeviceBusy, InsufficientResources, InvalidDeviceRequest, NotFound}
+use Rattle.compose.specs.declared.Settings.{Settings as StackSettings}
+use Rattle.compose.specs.declared.StartFault.{StartFault}
+use Rattle.compose.specs.declared.StartFault.TheVariants.{Device, Settings, Mbr, NoMemory}
+use Rattle.compose.specs.Opening.{IsSpent}
+use Rattle.volume.specs.declared.OpenFault.{OpenFault}
+use Rattle.volume.specs.declared.OpenFault.TheVariants.{Start}
+use Rattle.volume.specs.Opening.{IsOpenFault}
+use Rattle.saddlemug.specs.Statuses.{refusal_status, start_status}
+
+failure_fails : (s : NtStatus) → IsOfFailure s → s ≡ Success → ⊥
+failure_fails s f e =
+    let code : bit_and f.completion.srb_status 0x3F ≡ 0x01 = success_code f.completion.srb_status f.completion.scsi_status f.completion.sense (sym f.means ∙ e) in
+    let good : class_of f.completion ≡ Good = ap (λ (n : ℕ). if n == 1 then Good else (if n == 5 then Busy else Bad f.completion)) code in
+    let same : Good ≡ Bad f.completion = sym good ∙ f.is_bad in
+    cc (same)
+
+pub start_fails : (disk after : AdapterView) (settings : StackSettings) (fault : StartFault) → IsSpent disk settings fault after → start_status fault ≡ Success → ⊥
+start_fails disk after settings (Device s) spent e = failure_fails s spent.why.1.failure e
+start_fails disk after settings NoMemory spent e = cc (e)
+start_fails disk after settings Settings spent e = cc (e)
+start_fails disk after settings (Mbr fault) spent e = cc (e)
+
+pub open_fails : (disk : AdapterView) (settings : StackSettings) (p : ℕ) (opened : OpenFault) (fault : StartFault) → opened ≡ Start fault
+    → IsOpenFault disk settings p opened → start_status fault ≡ Success → ⊥
+open_fails disk settings p opened fault is told e =
+    let spent : IsOpenFault disk settings p (Start fault) = subst (IsOpenFault disk settings p) is told in
+    start_fails disk spent.0 settings fault spent.1 e
+
+pub refusal_fails : (reason : Refusal) → refusal_status reason ≡ Success → ⊥
+refusal_fails InvalidHandle e = cc (e)
+refusal_fails InvalidParameter e = cc (e)
+refusal_fails DeletePending e = cc (e)
+refusal_fails DeviceBusy e = cc (e)
+refusal_fails InsufficientResources e = cc (e)
+refusal_fails InvalidDeviceRequest e = cc (e)
+refusal_fails NotFound e = cc (e)

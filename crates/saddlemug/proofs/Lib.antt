@@ -1,0 +1,3 @@
+mod Failing
+mod Texts
+pub mod Values

@@ -1,0 +1,19 @@
+-- What settings open is what the text opens that gives them.
+use Rattle.std.proofs.Common.{◌≡◌, ℕ, List, Result, Ok, Err}
+use Rattle.std.specs.Prelude.{IfOk}
+use Rattle.ntstatus.specs.declared.NtStatus.{NtStatus}
+use Rattle.settings.specs.declared.Config.{Config}
+use Rattle.settings.specs.Settings.{AreSettingsOf}
+use Rattle.io_manager.specs.Shown.{ManagerView}
+use Rattle.volume.specs.Shown.{VolumeView}
+use Rattle.saddlemug.specs.Opened.{IsFirstOf, IsNewOf, IsNewStack, IsNewVolume}
+
+pub volume_of_text : (text : List ℕ) (config : Config) (partition : ℕ) (opened : Result VolumeView NtStatus) → AreSettingsOf text config
+    → IfOk opened (IsNewOf config partition) → IfOk opened (IsNewVolume text partition)
+volume_of_text text config partition (Ok v) = λ settings new. record { config = config; settings = settings; new = new }
+volume_of_text text config partition (Err s) = λ settings new. new
+
+pub stack_of_text : (text : List ℕ) (config : Config) (opened : Result ManagerView NtStatus) → AreSettingsOf text config
+    → IfOk opened (IsFirstOf config) → IfOk opened (IsNewStack text)
+stack_of_text text config (Ok v) = λ settings first. record { config = config; settings = settings; first = first }
+stack_of_text text config (Err s) = λ settings first. first

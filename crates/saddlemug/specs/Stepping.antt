@@ -1,0 +1,50 @@
+-- What a stack did, as C is told it.
+use Rattle.std.specs.Prelude.{◌≡◌, ◌≢◌, ℕ, Bool, true, false, List, [], Option, Some, None, MatchOption}
+use Rattle.std.specs.Option.{option_map}
+use Rattle.machine.specs.declared.Label.{Label}
+use Rattle.io_manager.specs.declared.Answer.{Answer}
+use Rattle.io_manager.specs.declared.Reply.{Reply}
+use Rattle.io_manager.specs.Right.{TakesAnswer, TakesLabel}
+use Rattle.io_manager.specs.Shown.{ManagerView}
+use Rattle.compose.specs.declared.Event.{Event}
+use Rattle.compose.specs.Right.{IsRight}
+use Rattle.saddlemug.specs.declared.events.StackEvent.{StackEvent}
+use Rattle.saddlemug.specs.declared.events.StackReply.{StackReply}
+use Rattle.saddlemug.specs.declared.labels.StackAnswer.{StackAnswer}
+use Rattle.saddlemug.specs.declared.labels.StackLabel.{StackLabel}
+use Rattle.saddlemug.specs.Stacks.{AreToldIn, asked_event, label_bytes, shown_answer, shown_label, shown_reply}
+
+-- the same with all labels taken
+abbrev pub quiet : ManagerView → ManagerView
+quiet v = record v { labels = [] }
+
+-- the event that C told was carried out, and its reply was told
+pub record Steps (old : ManagerView) (e : StackEvent) (bytes : List ℕ) (told : StackReply) (new : ManagerView) : Type 0 where
+  pub event : Event
+  pub asked : asked_event e bytes ≡ Some event
+  pub reply : Reply
+  pub right : IsRight (quiet old) event reply new
+  pub is_told : told ≡ shown_reply reply
+
+-- an event that there is not, or for whose bytes memory was refused
+abbrev pub IsNotStepped : ManagerView → ManagerView → Type 0
+IsNotStepped old new = new ≡ old
+
+-- what was told, if anything was
+abbrev pub told_if : {A : Type 0} → Bool → A → Option A
+told_if true told = Some told
+told_if false told = None
+
+-- a label was taken, if there was one, and told with its bytes
+pub record TellsLabel (old : ManagerView) (before : List ℕ) (told : Option StackLabel) (after : List ℕ) (new : ManagerView) : Type 0 where
+  pub found : Option Label
+  pub takes : TakesLabel old found new
+  pub is_told : told ≡ option_map shown_label found
+  pub bytes : MatchOption found (after ≡ before) (λ label. AreToldIn before (label_bytes label) after)
+
+-- an answer was
+pub record TellsAnswer (old : ManagerView) (before : List ℕ) (told : Option StackAnswer) (after : List ℕ) (new : ManagerView) : Type 0 where
+  pub found : Option Answer
+  pub takes : TakesAnswer old found new
+  pub is_told : told ≡ option_map shown_answer found
+  pub bytes : MatchOption found (after ≡ before) (λ answer. AreToldIn before answer.bytes after)

@@ -1,0 +1,42 @@
+//! Bytes that come from C and go to it.
+
+ghost use Rattle.std.specs.Prelude.{◌≡◌, IfOk, length, min, replicate, take};
+
+use sector::Bytes;
+use std::alloc::{AllocError, Global};
+
+/// The same bytes, in memory of their own.
+///
+/// # Errors
+///
+/// Where memory was refused.
+pub fn copied(alloc: Global, bytes: &[u8]) -> Result<Bytes, AllocError>
+    ensures { IfOk result (λ copy. copy ≡ bytes.now) }
+{
+    let mut copy = Vec::with_capacity(alloc, bytes.len())?;
+    copy.extend_from_slice(bytes)?;
+    Ok(Bytes::new(copy))
+}
+
+/// So many zeros.
+///
+/// # Errors
+///
+/// Where memory was refused.
+pub fn zeros(alloc: Global, count: u64) -> Result<Bytes, AllocError>
+    ensures { IfOk result (λ zeros. zeros ≡ replicate count 0) }
+{
+    let mut zeros = Vec::new(alloc);
+    zeros.resize(count as usize, 0)?;
+    Ok(Bytes::new(zeros))
+}
+
+/// Puts bytes into a buffer, as many as it has room for, and gives their whole number.
+pub fn put(buffer: &mut [u8], bytes: &[u8]) -> u64
+    ensures count { result ≡ length bytes.now }
+    ensures put { take (min (length bytes.now) (length buffer.old)) buffer.new ≡ take (min (length bytes.now) (length buffer.old)) bytes.now }
+{
+    let room = bytes.len().min(buffer.len());
+    buffer[..room].copy_from_slice(&bytes[..room]);
+    bytes.len() as u64
+}

@@ -1,0 +1,152 @@
+//! The events of a stack as C tells them, and the replies as C is told them.
+
+ghost use Rattle.std.specs.Prelude.{◌≡◌, ◌≢◌, Some, IfErr, IfOk};
+ghost use Rattle.ntstatus.specs.declared.NtStatus.TheVariants.{Success};
+ghost use Rattle.saddlemug.specs.Stacks.{asked_event, replied, shown_reply};
+
+use crate::bytes::{copied, zeros};
+use crate::status::refusal_status;
+use compose::{Event, Handle, Id, Reply};
+use ntstatus::NtStatus;
+use std::alloc::Global;
+
+/// A handle or an open request: its number, and its slot in the stack's table.
+#[repr(C)]
+#[derive(Debug, Clone, Copy, Drop)]
+pub struct StackId {
+    pub number: u64,
+    pub slot: u32,
+}
+
+/// An event. What its kind doesn't ask for is not read.
+#[repr(C)]
+#[derive(Debug, Clone, Copy)]
+pub struct StackEvent {
+    /// Which of the fourteen, in the order of [`Event`], from 0.
+    pub kind: u32,
+    /// Of an open.
+    pub partition: u8,
+    /// Of an act and a finish.
+    pub tag: u8,
+    /// Of a write.
+    pub through: bool,
+    /// Whether a CancelIoEx is for `request` alone.
+    pub one: bool,
+    pub handle: StackId,
+    /// Of a CancelIoEx of one request; a mark is of its number.
+    pub request: StackId,
+    /// In bytes, of a read and a write.
+    pub offset: u64,
+    /// In bytes, of a read.
+    pub length: u64,
+}
+
+/// What an event was answered.
+#[repr(C)]
+#[derive(Debug, Clone, Copy)]
+pub struct StackReply {
+    /// Which reply, in the order of [`Reply`], from 0.
+    pub kind: u32,
+    /// Of a request that was answered at once, or of a refusal; else 0.
+    pub status: u32,
+    /// The handle or the request; only the number, of a request that was answered at once; else 0.
+    pub id: StackId,
+}
+
+/// The event that C tells, with the bytes of a write.
+///
+/// # Errors
+///
+/// [`NtStatus::InvalidParameter`] where there is no such kind; [`NtStatus::InsufficientResources`] where memory was
+/// refused.
+pub fn event_of(alloc: Global, event: &StackEvent, bytes: &[u8]) -> Result<Event, NtStatus>
+    ensures event { IfOk result (λ e. asked_event event.now bytes.now ≡ Some e) }
+    ensures fault { IfErr result (λ status. status ≢ Success) }
+{
+    let handle = handle_of(event.handle);
+    let offset = event.offset;
+    let tag = event.tag;
+    match event.kind {
+        0 => Ok(Event::Open {
+            partition: event.partition,
+        }),
+        1 => Ok(Event::Close { handle }),
+        2 => match zeros(alloc, event.length) {
+            Ok(buffer) => Ok(Event::Read {
+                handle,
+                offset,
+                buffer,
+            }),
+            Err(_) => Err(NtStatus::InsufficientResources),
+        },
+        3 => match copied(alloc, bytes) {
+            Ok(bytes) => Ok(Event::Write {
+                handle,
+                offset,
+                bytes,
+                through: event.through,
+            }),
+            Err(_) => Err(NtStatus::InsufficientResources),
+        },
+        4 => Ok(Event::Flush { handle }),
+        5 => Ok(Event::CancelIoEx {
+            handle,
+            target: event.one.then_some(id_of(event.request)),
+        }),
+        6 => Ok(Event::Mark {
+            number: event.request.number,
+        }),
+        7 => Ok(Event::QueryRemove),
+        8 => Ok(Event::CancelRemove),
+        9 => Ok(Event::Remove),
+        10 => Ok(Event::SurpriseRemove),
+        11 => Ok(Event::Act { tag }),
+        12 => Ok(Event::Finish { tag }),
+        13 => Ok(Event::Reset),
+        _ => Err(NtStatus::InvalidParameter),
+    }
+}
+
+fn handle_of(id: StackId) -> Handle
+    ensures slot { result.slot ≡ id.slot }
+    ensures number { result.number ≡ id.number }
+{
+    Handle {
+        slot: id.slot,
+        number: id.number,
+    }
+}
+
+fn id_of(id: StackId) -> Id
+    ensures slot { result.slot ≡ id.slot }
+    ensures number { result.number ≡ id.number }
+{
+    Id {
+        slot: id.slot,
+        number: id.number,
+    }
+}
+
+/// A reply as C is told it. The bytes of a refused write are let go: C has its own.
+pub fn told_reply(reply: Reply) -> StackReply
+    ensures { result ≡ shown_reply reply }
+{
+    match reply {
+        Reply::Handle(handle) => replied(0, 0, handle.number, handle.slot),
+        Reply::Ok => replied(1, 0, 0, 0),
+        Reply::Request(id) => replied(2, 0, id.number, id.slot),
+        Reply::Answered(answer) => replied(3, answer.status.value(), answer.number, 0),
+        Reply::Refused { refusal, .. } => replied(4, refusal_status(refusal).value(), 0, 0),
+        Reply::Ignored => replied(5, 0, 0, 0),
+    }
+}
+
+fn replied(kind: u32, status: u32, number: u64, slot: u32) -> StackReply
+    ensures { result ≡ replied kind status number slot }
+{
+    StackReply {
+        kind,
+        status,
+        id: StackId { number, slot },
+    }
+}

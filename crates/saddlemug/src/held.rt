@@ -1,0 +1,243 @@
+//! What C holds, and the calls on it.
+
+ghost use Rattle.std.specs.Prelude.{◌≡◌, ◌≢◌, ◌*◌, ⊤, length, IfErr, IfOk, MatchResult};
+ghost use Rattle.volume.specs.Calls.{AreInBounds, IsFault, IsSameDisk, Reads, Writes};
+ghost use Rattle.saddlemug.specs.Calls.{IsReadFault, IsWriteFault};
+ghost use Rattle.ntstatus.specs.declared.NtStatus.TheVariants.{Success};
+ghost use Rattle.saddlemug.specs.Holding.{IsAnyStack, IsAnyVolume, IsStack, IsVolume};
+ghost use Rattle.saddlemug.specs.Stepping.{IsNotStepped, Steps, TellsAnswer, TellsLabel, quiet};
+
+use crate::bytes::copied;
+use crate::events::{StackEvent, StackReply, event_of, told_reply};
+use crate::labels::{StackAnswer, StackLabel, told_answer, told_label};
+use adapter::Adapter;
+use compose::{Refusal, Stack};
+use disk::SparseDisk;
+use miniport::MemAdapter;
+use ntstatus::NtStatus;
+use std::alloc::Global;
+use volume::{Fault, Sizes, Volume};
+
+/// What C holds.
+#[derive(Drop)]
+pub enum Held {
+    /// One partition as an array of bytes, over a stack of its own.
+    Volume(Volume<MemAdapter<SparseDisk>>),
+    /// A whole stack, event by event.
+    Stack(Stack<MemAdapter<SparseDisk>>),
+}
+
+impl Held {
+    /// The sizes of the volume.
+    pub fn sizes(&self) -> Sizes
+        requires { IsAnyVolume self.now }
+        ensures sector_size { IsVolume (λ v. result.sector_size ≡ v.content.sector_size) self.now }
+        ensures sectors { IsVolume (λ v. result.sectors * result.sector_size ≡ length v.content.bytes) self.now }
+    {
+        match self {
+            Held::Volume(volume) => volume.sizes(),
+            Held::Stack(_) => unreachable!(),
+        }
+    }
+
+    /// Reads from the volume, as [`read_into`].
+    ///
+    /// # Errors
+    ///
+    /// As [`read_into`].
+    pub fn read(&mut self, alloc: Global, offset: u64, buffer: &mut [u8]) -> Result<(), Fault>
+        requires { IsAnyVolume self.old }
+        ensures reads { IsVolume (λ v. MatchResult result (λ _. Reads v.content offset (length buffer.old) buffer.new) (IsReadFault v offset (length buffer.old))) self.old }
+        ensures as_it_was { IfErr result (λ _. buffer.new ≡ buffer.old) }
+        ensures same { IsVolume (λ old. IsVolume (IsSameDisk old) self.new) self.old }
+    {
+        match self {
+            Held::Volume(volume) => read_into(volume, alloc, offset, buffer),
+            Held::Stack(_) => unreachable!(),
+        }
+    }
+
+    /// Writes to the volume, as [`write_from`].
+    ///
+    /// # Errors
+    ///
+    /// As [`write_from`].
+    pub fn write(
+        &mut self,
+        alloc: Global,
+        offset: u64,
+        bytes: &[u8],
+        through: bool,
+    ) -> Result<(), Fault>
+        requires { IsAnyVolume self.old }
+        ensures in_bounds { IsVolume (λ v. IfOk result (λ _. AreInBounds v.content offset (length bytes.now))) self.old }
+        ensures writes { IsVolume (λ old. IsVolume (λ new. MatchResult result (λ _. Writes old offset bytes.now new) (λ fault. IsWriteFault old offset bytes.now fault new)) self.new) self.old }
+    {
+        match self {
+            Held::Volume(volume) => write_from(volume, alloc, offset, bytes, through),
+            Held::Stack(_) => unreachable!(),
+        }
+    }
+
+    /// Flushes the disk's caches, as [`Volume::flush`].
+    ///
+    /// # Errors
+    ///
+    /// As [`Volume::flush`].
+    pub fn flush(&mut self, alloc: Global) -> Result<(), Fault>
+        requires { IsAnyVolume self.old }
+        ensures flushes { IsVolume (λ v. IfErr result (IsFault v ⊤)) self.old }
+        ensures same { IsVolume (λ old. IsVolume (IsSameDisk old) self.new) self.old }
+    {
+        match self {
+            Held::Volume(volume) => volume.flush(alloc),
+            Held::Stack(_) => unreachable!(),
+        }
+    }
+
+    /// Carries an event out on the stack, as [`step_as_told`].
+    ///
+    /// # Errors
+    ///
+    /// As [`step_as_told`].
+    pub fn step(
+        &mut self,
+        alloc: Global,
+        event: &StackEvent,
+        bytes: &[u8],
+    ) -> Result<StackReply, NtStatus>
+        requires { IsAnyStack self.old }
+        ensures steps { IsStack (λ old. IsStack (λ new. MatchResult result (λ told. Steps old event.now bytes.now told new) (λ _. IsNotStepped old new)) self.new) self.old }
+        ensures fault { IfErr result (λ status. status ≢ Success) }
+    {
+        match self {
+            Held::Stack(stack) => step_as_told(stack, alloc, event, bytes),
+            Held::Volume(_) => unreachable!(),
+        }
+    }
+
+    /// Takes the stack's next label, as [`tell_label`].
+    pub fn next_label(&mut self, buffer: &mut [u8]) -> Option<StackLabel>
+        requires { IsAnyStack self.old }
+        ensures { IsStack (λ old. IsStack (TellsLabel old buffer.old result buffer.new) self.new) self.old }
+    {
+        match self {
+            Held::Stack(stack) => tell_label(stack, buffer),
+            Held::Volume(_) => unreachable!(),
+        }
+    }
+
+    /// Takes the stack's next answer, as [`tell_answer`].
+    pub fn next_answer(&mut self, buffer: &mut [u8]) -> Option<StackAnswer>
+        requires { IsAnyStack self.old }
+        ensures { IsStack (λ old. IsStack (TellsAnswer old buffer.old result buffer.new) self.new) self.old }
+    {
+        match self {
+            Held::Stack(stack) => tell_answer(stack, buffer),
+            Held::Volume(_) => unreachable!(),
+        }
+    }
+}
+
+/// Reads as many bytes as the buffer has, from byte `offset` of the partition on.
+///
+/// # Errors
+///
+/// As [`Volume::read`], and [`Refusal::InsufficientResources`] where memory for the bytes was refused. The buffer is as it
+/// was.
+fn read_into<A: Adapter>(
+    volume: &mut Volume<A>,
+    alloc: Global,
+    offset: u64,
+    buffer: &mut [u8],
+) -> Result<(), Fault>
+    ensures reads { MatchResult result (λ _. Reads volume.old.content offset (length buffer.old) buffer.new) (IsReadFault volume.old offset (length buffer.old)) }
+    ensures as_it_was { IfErr result (λ _. buffer.new ≡ buffer.old) }
+    ensures same { IsSameDisk volume.old volume.new }
+{
+    let Ok(room) = copied(alloc, buffer) else {
+        return Err(Fault::Refused(Refusal::InsufficientResources));
+    };
+    match volume.read(alloc, offset, room) {
+        Ok(bytes) => {
+            buffer.copy_from_slice(bytes.as_slice());
+            Ok(())
+        }
+        Err(fault) => Err(fault),
+    }
+}
+
+/// Writes these bytes from byte `offset` of the partition on, past volatile caches if `through`.
+///
+/// # Errors
+///
+/// As [`Volume::write`], and [`Refusal::InsufficientResources`] where memory for the bytes was refused; then nothing has
+/// changed.
+fn write_from<A: Adapter>(
+    volume: &mut Volume<A>,
+    alloc: Global,
+    offset: u64,
+    bytes: &[u8],
+    through: bool,
+) -> Result<(), Fault>
+    ensures in_bounds { IfOk result (λ _. AreInBounds volume.old.content offset (length bytes.now)) }
+    ensures writes { MatchResult result (λ _. Writes volume.old offset bytes.now volume.new) (λ fault. IsWriteFault volume.old offset bytes.now fault volume.new) }
+{
+    match copied(alloc, bytes) {
+        Ok(copy) => volume.write(alloc, offset, copy, through),
+        Err(_) => Err(Fault::Refused(Refusal::InsufficientResources)),
+    }
+}
+
+/// Carries an event out, with the bytes of a write. Labels that were not taken are let go.
+///
+/// # Errors
+///
+/// As [`event_of`]. Nothing has changed.
+fn step_as_told<A: Adapter>(
+    stack: &mut Stack<A>,
+    alloc: Global,
+    event: &StackEvent,
+    bytes: &[u8],
+) -> Result<StackReply, NtStatus>
+    ensures steps { MatchResult result (λ told. Steps stack.old event.now bytes.now told stack.new) (λ _. IsNotStepped stack.old stack.new) }
+    ensures fault { IfErr result (λ status. status ≢ Success) }
+{
+    match event_of(alloc, event, bytes) {
+        Ok(event) => {
+            drop_labels(stack);
+            let reply = stack.step(alloc, event);
+            Ok(told_reply(reply))
+        }
+        Err(status) => Err(status),
+    }
+}
+
+/// Takes all labels that wait.
+fn drop_labels<A: Adapter>(stack: &mut Stack<A>)
+    ensures { stack.new ≡ quiet stack.old }
+{
+    while let Some(label) = stack.take_label() {
+        drop(label);
+    }
+}
+
+/// Takes the earliest label that waits, and tells it.
+fn tell_label<A: Adapter>(stack: &mut Stack<A>, buffer: &mut [u8]) -> Option<StackLabel>
+    ensures { TellsLabel stack.old buffer.old result buffer.new stack.new }
+{
+    match stack.take_label() {
+        Some(label) => Some(told_label(label, buffer)),
+        None => None,
+    }
+}
+
+/// Takes the waiting answer with the lowest number, and tells it.
+fn tell_answer<A: Adapter>(stack: &mut Stack<A>, buffer: &mut [u8]) -> Option<StackAnswer>
+    ensures { TellsAnswer stack.old buffer.old result buffer.new stack.new }
+{
+    match stack.take_answer() {
+        Some(answer) => Some(told_answer(answer, buffer)),
+        None => None,
+    }
+}

@@ -1,0 +1,130 @@
+//! What settings open.
+
+ghost use Rattle.std.specs.Prelude.{◌≡◌, ◌≢◌, IfErr, IfOk};
+ghost use Rattle.ntstatus.specs.declared.NtStatus.TheVariants.{Success};
+ghost use Rattle.settings.specs.InRange.{AreInRange};
+ghost use Rattle.settings.specs.Settings.{AreSettingsOf};
+ghost use Rattle.saddlemug.specs.Opened.{IsFirstOf, IsNewOf, IsNewStack, IsNewVolume};
+ghost use Rattle.saddlemug.specs.Statuses.{start_status};
+
+use crate::status::refusal_status;
+use compose::{Settings, Stack, StartFault};
+use disk::SparseDisk;
+use miniport::MemAdapter;
+use ntstatus::NtStatus;
+use settings::{Config, ConfigFault, document, new_adapter};
+use std::alloc::Global;
+use volume::{OpenFault, Volume};
+
+/// A volume of a partition, counted from 0, over a disk of zeros with the partition table of a text's settings.
+///
+/// # Errors
+///
+/// As [`config_of`], [`start_status`] and [`Volume::open`] say.
+pub fn new_volume(
+    alloc: Global,
+    text: &[u8],
+    partition: u8,
+) -> Result<Volume<MemAdapter<SparseDisk>>, NtStatus>
+    ensures volume { IfOk result (IsNewVolume text.now partition) }
+    ensures fault { IfErr result (λ status. status ≢ Success) }
+{
+    let config = config_of(alloc, text)?;
+    volume_of(alloc, config, partition)
+}
+
+/// A stack over a disk of zeros with the partition table of a text's settings.
+///
+/// # Errors
+///
+/// As [`config_of`] and [`start_status`] say; [`NtStatus::InsufficientResources`].
+pub fn new_stack(alloc: Global, text: &[u8]) -> Result<Stack<MemAdapter<SparseDisk>>, NtStatus>
+    ensures stack { IfOk result (IsNewStack text.now) }
+    ensures fault { IfErr result (λ status. status ≢ Success) }
+{
+    let config = config_of(alloc, text)?;
+    stack_of(alloc, config)
+}
+
+/// The settings of a text.
+///
+/// # Errors
+///
+/// [`NtStatus::InvalidParameter`] where the text gives none; [`NtStatus::InsufficientResources`] where memory was refused.
+fn config_of(alloc: Global, text: &[u8]) -> Result<Config, NtStatus>
+    ensures settings { IfOk result (AreSettingsOf text.now) }
+    ensures in_range { IfOk result AreInRange }
+    ensures fault { IfErr result (λ status. status ≢ Success) }
+{
+    let Ok(text) = std::str::from_utf8(text) else {
+        return Err(NtStatus::InvalidParameter);
+    };
+    match document::config(alloc, text) {
+        Ok(config) => Ok(config),
+        Err(ConfigFault::NoMemory) => Err(NtStatus::InsufficientResources),
+        Err(_) => Err(NtStatus::InvalidParameter),
+    }
+}
+
+/// A volume of a partition over the disk of some settings.
+///
+/// # Errors
+///
+/// As [`start_status`] and [`Volume::open`] say; [`NtStatus::InsufficientResources`].
+fn volume_of(
+    alloc: Global,
+    config: Config,
+    partition: u8,
+) -> Result<Volume<MemAdapter<SparseDisk>>, NtStatus>
+    requires { AreInRange config }
+    ensures volume { IfOk result (IsNewOf config partition) }
+    ensures fault { IfErr result (λ status. status ≢ Success) }
+{
+    let settings = Settings {
+        window: config.window,
+        open_requests: config.open_requests,
+    };
+    let Ok(adapter) = new_adapter(alloc, config) else {
+        return Err(NtStatus::InsufficientResources);
+    };
+    match Volume::start(alloc, adapter, settings, partition) {
+        Ok(volume) => Ok(volume),
+        Err(OpenFault::Start(fault)) => Err(start_status(fault)),
+        Err(OpenFault::Refused(reason)) => Err(refusal_status(reason)),
+    }
+}
+
+/// A stack over the disk of some settings.
+///
+/// # Errors
+///
+/// As [`start_status`] says; [`NtStatus::InsufficientResources`].
+fn stack_of(alloc: Global, config: Config) -> Result<Stack<MemAdapter<SparseDisk>>, NtStatus>
+    requires { AreInRange config }
+    ensures stack { IfOk result (IsFirstOf config) }
+    ensures fault { IfErr result (λ status. status ≢ Success) }
+{
+    let settings = Settings {
+        window: config.window,
+        open_requests: config.open_requests,
+    };
+    let Ok(adapter) = new_adapter(alloc, config) else {
+        return Err(NtStatus::InsufficientResources);
+    };
+    match Stack::start(alloc, adapter, settings) {
+        Ok(stack) => Ok(stack),
+        Err(fault) => Err(start_status(fault)),
+    }
+}
+
+/// The status of a start that failed: that of the command that the device failed; [`NtStatus::InsufficientResources`];
+/// or [`NtStatus::InvalidParameter`], where the settings have partitions that a disk can't have.
+fn start_status(fault: StartFault) -> NtStatus
+    ensures { result ≡ start_status fault }
+{
+    match fault {
+        StartFault::Device(status) => status,
+        StartFault::NoMemory => NtStatus::InsufficientResources,
+        StartFault::Settings | StartFault::Mbr(_) => NtStatus::InvalidParameter,
+    }
+}

@@ -1,0 +1,44 @@
+//! The statuses that say why a call did not succeed.
+
+ghost use Rattle.std.specs.Prelude.{◌≡◌, MatchResult};
+ghost use Rattle.ntstatus.specs.Codes.{value_of};
+ghost use Rattle.saddlemug.specs.Statuses.{fault_status, refusal_status};
+
+use compose::Refusal;
+use ntstatus::NtStatus;
+use volume::Fault;
+
+/// The status of a request that did not succeed.
+pub fn fault_status(fault: Fault) -> NtStatus
+    ensures { result ≡ fault_status fault }
+{
+    match fault {
+        Fault::Refused(refusal) => refusal_status(refusal),
+        Fault::Failed(status) => status,
+    }
+}
+
+/// The status of a refusal, which has its name.
+pub fn refusal_status(refusal: Refusal) -> NtStatus
+    ensures { result ≡ refusal_status refusal }
+{
+    match refusal {
+        Refusal::InvalidHandle => NtStatus::InvalidHandle,
+        Refusal::InvalidParameter => NtStatus::InvalidParameter,
+        Refusal::DeletePending => NtStatus::DeletePending,
+        Refusal::DeviceBusy => NtStatus::DeviceBusy,
+        Refusal::InsufficientResources => NtStatus::InsufficientResources,
+        Refusal::InvalidDeviceRequest => NtStatus::InvalidDeviceRequest,
+        Refusal::NotFound => NtStatus::NotFound,
+    }
+}
+
+/// The number of a request's status.
+pub fn number_of(outcome: Result<(), Fault>) -> u32
+    ensures { MatchResult outcome (λ _. result ≡ 0) (λ fault. result ≡ value_of (fault_status fault)) }
+{
+    match outcome {
+        Ok(()) => NtStatus::Success.value(),
+        Err(fault) => fault_status(fault).value(),
+    }
+}

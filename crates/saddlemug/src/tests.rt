@@ -1,0 +1,54 @@
+//! The calls that C makes, in order.
+
+use crate::events::{StackEvent, StackId, StackReply};
+use crate::labels::{StackAnswer, StackLabel};
+use crate::slot::Slot;
+use crate::stack_calls::{
+    saddlemug_stack_close, saddlemug_stack_open, saddlemug_stack_step, saddlemug_stack_take_answer,
+    saddlemug_stack_take_label,
+};
+use crate::volume_calls::{
+    saddlemug_close, saddlemug_flush, saddlemug_open, saddlemug_read, saddlemug_sizes,
+    saddlemug_write,
+};
+
+/// A partition of the sectors 1 to 8, of which the last is bad, in transfers of two.
+const SETTINGS: &[u8] =
+    b"sector_size = 512\nsectors = 9\nmax_transfer = 2\ndepth = 1\nwindow = 1\nbad_sectors = [8]\n[[partition]]\nfirst = 1\ncount = 8\n";
+
+#[test]
+fn writes_and_reads(rt: HostRuntime) {
+    let alloc = rt.alloc();
+    let mut slot = Slot::empty(alloc);
+    if saddlemug_open(alloc, &mut slot, SETTINGS, 0) != 0 {
+        panic!(rt; "no volume");
+    }
+    let sizes = saddlemug_sizes(alloc, &mut slot);
+    let mut buffer = [0; 2048];
+    let wrote = saddlemug_write(alloc, &mut slot, 512, &[0xA5; 1024], true);
+    let flushed = saddlemug_flush(alloc, &mut slot);
+    let was_read = saddlemug_read(alloc, &mut slot, 0, &mut buffer);
+    let first = [buffer[511], buffer[512], buffer[1535], buffer[1536]];
+    // Past the end, and no whole sectors: STATUS_INVALID_PARAMETER.
+    let past = saddlemug_write(alloc, &mut slot, 3584, &[0x5A; 1024], false);
+    let odd = saddlemug_read(alloc, &mut slot, 100, &mut buffer);
+    // A bad sector: STATUS_DEVICE_DATA_ERROR.
+    let bad = saddlemug_read(alloc, &mut slot, 2048, &mut buffer);
+    saddlemug_close(alloc, &mut slot);
+    assert!(rt; sizes.sector_size == 512 && sizes.sectors == 8);
+    assert_eq!(rt; [wrote, flushed, was_read], [0, 0, 0]);
+    assert_eq!(rt; first, [0, 0xA5, 0xA5, 0]);
+    assert_eq!(rt; [past, odd, bad], [0xC000_000D, 0xC000_000D, 0xC000_009C]);
+    assert_eq!(rt; buffer[512], 0xA5);
+}
+
+#[test]
+fn refuses_what_it_cannot_open(rt: HostRuntime) {
+    let alloc = rt.alloc();
+    let rows: [(&[u8], u8); 4] = [(b"\xFF", 0), (b"sectors = 9", 0), (b"[", 0), (SETTINGS, 1)];
+    for (text, partition) in rows {
+        let mut slot = Slot::empty(alloc);
+        let status = saddlemug_open(alloc, &mut slot, text, partition);
+        assert_eq!(rt; status, 0xC000_000D);
+    }
+}
