@@ -47,6 +47,7 @@ impl Held {
     /// As [`read_into`].
     pub fn read(&mut self, alloc: Global, offset: u64, buffer: &mut [u8]) -> Result<(), Fault>
         requires { IsAnyVolume self.old }
+        ensures held { IsAnyVolume self.new }
         ensures reads { IsVolume (λ v. MatchResult result (λ _. Reads v.content offset (length buffer.old) buffer.new) (IsReadFault v offset (length buffer.old))) self.old }
         ensures as_it_was { IfErr result (λ _. buffer.new ≡ buffer.old) }
         ensures same { IsVolume (λ old. IsVolume (IsSameDisk old) self.new) self.old }
@@ -70,6 +71,7 @@ impl Held {
         through: bool,
     ) -> Result<(), Fault>
         requires { IsAnyVolume self.old }
+        ensures held { IsAnyVolume self.new }
         ensures in_bounds { IsVolume (λ v. IfOk result (λ _. AreInBounds v.content offset (length bytes.now))) self.old }
         ensures writes { IsVolume (λ old. IsVolume (λ new. MatchResult result (λ _. Writes old offset bytes.now new) (λ fault. IsWriteFault old offset bytes.now fault new)) self.new) self.old }
     {
@@ -86,6 +88,7 @@ impl Held {
     /// As [`Volume::flush`].
     pub fn flush(&mut self, alloc: Global) -> Result<(), Fault>
         requires { IsAnyVolume self.old }
+        ensures held { IsAnyVolume self.new }
         ensures flushes { IsVolume (λ v. IfErr result (IsFault v ⊤)) self.old }
         ensures same { IsVolume (λ old. IsVolume (IsSameDisk old) self.new) self.old }
     {
@@ -107,6 +110,7 @@ impl Held {
         bytes: &[u8],
     ) -> Result<StackReply, NtStatus>
         requires { IsAnyStack self.old }
+        ensures held { IsAnyStack self.new }
         ensures steps { IsStack (λ old. IsStack (λ new. MatchResult result (λ told. Steps old event.now bytes.now told new) (λ _. IsNotStepped old new)) self.new) self.old }
         ensures fault { IfErr result (λ status. status ≢ Success) }
     {
@@ -119,7 +123,8 @@ impl Held {
     /// Takes the stack's next label, as [`tell_label`].
     pub fn next_label(&mut self, buffer: &mut [u8]) -> Option<StackLabel>
         requires { IsAnyStack self.old }
-        ensures { IsStack (λ old. IsStack (TellsLabel old buffer.old result buffer.new) self.new) self.old }
+        ensures held { IsAnyStack self.new }
+        ensures told { IsStack (λ old. IsStack (TellsLabel old buffer.old result buffer.new) self.new) self.old }
     {
         match self {
             Held::Stack(stack) => tell_label(stack, buffer),
@@ -130,7 +135,8 @@ impl Held {
     /// Takes the stack's next answer, as [`tell_answer`].
     pub fn next_answer(&mut self, buffer: &mut [u8]) -> Option<StackAnswer>
         requires { IsAnyStack self.old }
-        ensures { IsStack (λ old. IsStack (TellsAnswer old buffer.old result buffer.new) self.new) self.old }
+        ensures held { IsAnyStack self.new }
+        ensures told { IsStack (λ old. IsStack (TellsAnswer old buffer.old result buffer.new) self.new) self.old }
     {
         match self {
             Held::Stack(stack) => tell_answer(stack, buffer),

@@ -43,7 +43,8 @@ pub extern "C" fn saddlemug_stack_step(
     reply: &mut StackReply,
 ) -> u32
     requires { HoldsAnyStack slot.old.held }
-    ensures { HoldsStack (λ old. HoldsStack (λ new. MatchBool (nat_eq result 0) (Steps old event.now bytes.now reply.new new) (IsNotStepped old new)) slot.new.held) slot.old.held }
+    ensures held { HoldsAnyStack slot.new.held }
+    ensures steps { HoldsStack (λ old. HoldsStack (λ new. MatchBool (nat_eq result 0) (Steps old event.now bytes.now reply.new new) (IsNotStepped old new)) slot.new.held) slot.old.held }
 {
     let mut held = slot.take(alloc);
     let outcome = held.step(alloc, event, bytes);
@@ -67,7 +68,8 @@ pub extern "C" fn saddlemug_stack_take_label(
     buffer: &mut [u8],
 ) -> bool
     requires { HoldsAnyStack slot.old.held }
-    ensures { HoldsStack (λ old. HoldsStack (TellsLabel old buffer.old (told_if result label.new) buffer.new) slot.new.held) slot.old.held }
+    ensures held { HoldsAnyStack slot.new.held }
+    ensures told { HoldsStack (λ old. HoldsStack (TellsLabel old buffer.old (told_if result label.new) buffer.new) slot.new.held) slot.old.held }
 {
     let mut held = slot.take(alloc);
     let found = held.next_label(buffer);
@@ -90,7 +92,8 @@ pub extern "C" fn saddlemug_stack_take_answer(
     buffer: &mut [u8],
 ) -> bool
     requires { HoldsAnyStack slot.old.held }
-    ensures { HoldsStack (λ old. HoldsStack (TellsAnswer old buffer.old (told_if result answer.new) buffer.new) slot.new.held) slot.old.held }
+    ensures held { HoldsAnyStack slot.new.held }
+    ensures told { HoldsStack (λ old. HoldsStack (TellsAnswer old buffer.old (told_if result answer.new) buffer.new) slot.new.held) slot.old.held }
 {
     let mut held = slot.take(alloc);
     let found = held.next_answer(buffer);

@@ -52,3 +52,62 @@ fn refuses_what_it_cannot_open(rt: HostRuntime) {
         assert_eq!(rt; status, 0xC000_000D);
     }
 }
+
+/// An event of a kind.
+fn event(kind: u32, handle: StackId) -> StackEvent {
+    StackEvent {
+        kind,
+        partition: 0,
+        tag: 0,
+        through: false,
+        one: false,
+        handle,
+        request: StackId { number: 0, slot: 0 },
+        offset: 1024,
+        length: 512,
+    }
+}
+
+#[test]
+fn steps_a_stack(rt: HostRuntime) {
+    let alloc = rt.alloc();
+    let mut slot = Slot::empty(alloc);
+    if saddlemug_stack_open(alloc, &mut slot, SETTINGS) != 0 {
+        panic!(rt; "no stack");
+    }
+    let id = StackId { number: 0, slot: 0 };
+    let mut reply = StackReply {
+        kind: 0,
+        status: 0,
+        id,
+    };
+    let mut label = StackLabel::default();
+    let mut answer = StackAnswer::default();
+    let mut bytes = [0; 512];
+    let opened = saddlemug_stack_step(alloc, &mut slot, &event(0, id), &[], &mut reply);
+    let handle = reply;
+    let write = event(3, handle.id);
+    let wrote = saddlemug_stack_step(alloc, &mut slot, &write, &[0xA5; 512], &mut reply);
+    let request = reply;
+    let called = saddlemug_stack_take_label(alloc, &mut slot, &mut label, &mut bytes);
+    let call = label;
+    let started = saddlemug_stack_take_label(alloc, &mut slot, &mut label, &mut bytes);
+    let start = label;
+    let code = bytes[0];
+    let acted = saddlemug_stack_step(alloc, &mut slot, &event(11, id), &[], &mut reply);
+    let finished = saddlemug_stack_step(alloc, &mut slot, &event(12, id), &[], &mut reply);
+    let answered = saddlemug_stack_take_answer(alloc, &mut slot, &mut answer, &mut bytes);
+    let unknown = saddlemug_stack_step(alloc, &mut slot, &event(14, id), &[], &mut reply);
+    saddlemug_stack_close(alloc, &mut slot);
+    assert_eq!(rt;
+        [opened, wrote, acted, finished, unknown],
+        [0, 0, 0, 0, 0xC000_000D]
+    );
+    assert!(rt; handle.kind == 0 && handle.id.number == 1);
+    assert!(rt; request.kind == 2 && request.id.number == 1);
+    assert!(rt; called && call.kind == 0 && call.number == 1 && call.request == 1);
+    assert!(rt; call.partition == 1 && call.offset == 1024 && call.length == 512);
+    // WRITE(10), of ten bytes.
+    assert!(rt; started && start.kind == 1 && start.bytes == 10 && code == 0x2A);
+    assert!(rt; answered && answer.number == 1 && answer.status == 0 && answer.information == 512);
+}

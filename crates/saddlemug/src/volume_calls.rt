@@ -51,6 +51,7 @@ pub extern "C" fn saddlemug_open(
 #[unsafe(no_mangle)]
 pub extern "C" fn saddlemug_sizes(alloc: Global, slot: &mut Slot) -> DiskSizes
     requires { HoldsAnyVolume slot.old.held }
+    ensures held { HoldsAnyVolume slot.new.held }
     ensures sector_size { HoldsVolume (λ v. result.sector_size ≡ v.content.sector_size) slot.old.held }
     ensures sectors { HoldsVolume (λ v. result.sectors * result.sector_size ≡ length v.content.bytes) slot.old.held }
     ensures same { slot.new.held ≡ slot.old.held }
@@ -74,6 +75,7 @@ pub extern "C" fn saddlemug_read(
     buffer: &mut [u8],
 ) -> u32
     requires { HoldsAnyVolume slot.old.held }
+    ensures held { HoldsAnyVolume slot.new.held }
     ensures reads { HoldsVolume (λ v. MatchBool (nat_eq result 0) (Reads v.content offset (length buffer.old) buffer.new) (IsNumberOf (IsReadFault v offset (length buffer.old)) result)) slot.old.held }
     ensures as_it_was { (result ≡ 0) ⊎ (buffer.new ≡ buffer.old) }
     ensures same { HoldsVolume (λ old. HoldsVolume (IsSameDisk old) slot.new.held) slot.old.held }
@@ -94,6 +96,7 @@ pub extern "C" fn saddlemug_write(
     through: bool,
 ) -> u32
     requires { HoldsAnyVolume slot.old.held }
+    ensures held { HoldsAnyVolume slot.new.held }
     ensures in_bounds { HoldsVolume (λ v. MatchBool (nat_eq result 0) (AreInBounds v.content offset (length bytes.now)) ⊤) slot.old.held }
     ensures writes { HoldsVolume (λ old. HoldsVolume (λ new. MatchBool (nat_eq result 0) (Writes old offset bytes.now new) (IsNumberOf (λ fault. IsWriteFault old offset bytes.now fault new) result)) slot.new.held) slot.old.held }
 {
@@ -107,6 +110,7 @@ pub extern "C" fn saddlemug_write(
 #[unsafe(no_mangle)]
 pub extern "C" fn saddlemug_flush(alloc: Global, slot: &mut Slot) -> u32
     requires { HoldsAnyVolume slot.old.held }
+    ensures held { HoldsAnyVolume slot.new.held }
     ensures flushes { HoldsVolume (λ v. MatchBool (nat_eq result 0) ⊤ (IsNumberOf (IsFault v ⊤) result)) slot.old.held }
     ensures same { HoldsVolume (λ old. HoldsVolume (IsSameDisk old) slot.new.held) slot.old.held }
 {
