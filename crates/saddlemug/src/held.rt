@@ -7,7 +7,7 @@ ghost use Rattle.ntstatus.specs.declared.NtStatus.TheVariants.{Success};
 ghost use Rattle.saddlemug.specs.Holding.{IsAnyStack, IsAnyVolume, IsStack, IsVolume};
 ghost use Rattle.saddlemug.specs.Stepping.{IsNotStepped, Steps, TellsAnswer, TellsLabel, quiet};
 
-use crate::bytes::copied;
+use crate::bytes::{copied, zeros};
 use crate::events::{StackEvent, StackReply, event_of, told_reply};
 use crate::labels::{StackAnswer, StackLabel, told_answer, told_label};
 use adapter::Adapter;
@@ -161,7 +161,7 @@ fn read_into<A: Adapter>(
     ensures as_it_was { IfErr result (λ _. buffer.new ≡ buffer.old) }
     ensures same { IsSameDisk volume.old volume.new }
 {
-    let Ok(room) = copied(alloc, buffer) else {
+    let Ok(room) = zeros(alloc, buffer.len() as u64) else {
         return Err(Fault::Refused(Refusal::InsufficientResources));
     };
     match volume.read(alloc, offset, room) {
