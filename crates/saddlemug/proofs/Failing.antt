@@ -3,7 +3,6 @@ use Rattle.std.proofs.Common.{◌≡◌, ℕ, ◌==◌, sym, ap, subst, ◌∙�
 use Rattle.ntstatus.specs.declared.NtStatus.{NtStatus}
 use Rattle.ntstatus.specs.declared.NtStatus.TheVariants.{Success}
 use Rattle.ntstatus.proofs.Rows.{success_code}
-use Rattle.srb.specs.declared.Class.{Class}
 use Rattle.srb.specs.declared.Class.TheVariants.{Good, Busy, Bad}
 use Rattle.srb.specs.Fate.{class_of}
 use Rattle.adapter.specs.View.{AdapterView}

@@ -1,5 +1,5 @@
 -- What settings open is what the text opens that gives them.
-use Rattle.std.proofs.Common.{◌≡◌, ℕ, List, Result, Ok, Err}
+use Rattle.std.proofs.Common.{ℕ, List, Result, Ok, Err}
 use Rattle.std.specs.Prelude.{IfOk}
 use Rattle.ntstatus.specs.declared.NtStatus.{NtStatus}
 use Rattle.settings.specs.declared.Config.{Config}

@@ -1,5 +1,5 @@
 -- What C is answered.
-use Rattle.std.specs.Prelude.{◌≡◌, ◌⊎◌, ℕ, List, length}
+use Rattle.std.specs.Prelude.{◌≡◌, ◌⊎◌, ℕ, List}
 use Rattle.ntstatus.specs.Codes.{value_of}
 use Rattle.io_manager.specs.declared.Refusal.TheVariants.{InsufficientResources}
 use Rattle.volume.specs.declared.Fault.{Fault}

@@ -1,5 +1,5 @@
 -- What a stack did, as C is told it.
-use Rattle.std.specs.Prelude.{◌≡◌, ◌≢◌, ℕ, Bool, true, false, List, [], Option, Some, None, MatchOption}
+use Rattle.std.specs.Prelude.{◌≡◌, ℕ, Bool, true, false, List, [], Option, Some, None, MatchOption}
 use Rattle.std.specs.Option.{option_map}
 use Rattle.machine.specs.declared.Label.{Label}
 use Rattle.io_manager.specs.declared.Answer.{Answer}
