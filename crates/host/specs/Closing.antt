@@ -1,0 +1,48 @@
+-- What a closed host gives.
+use Rattle.std.specs.Prelude.{◌≡◌, ◌<◌, ℕ, zero, suc, ◌+◌, List, [], ◌∷◌, length, if◌then◌else◌}
+use Rattle.machine.specs.Rules.{Rules}
+use Rattle.machine.specs.State.{State}
+use Rattle.machine.specs.Step.{Run}
+use Rattle.chronicle.specs.Claims.{AllStand}
+use Rattle.book.specs.declared.Entry.{Entry}
+use Rattle.book.specs.Entries.{AreRowed, is_call_of, labels_of, places}
+use Rattle.book.specs.Rows.{RowView, row_at}
+use Rattle.host.specs.Receipts.{Receipt, AreAnswers, AreCalls, AreRising, places_of}
+use Rattle.host.specs.Clients.{ClientView, client_at}
+
+-- f of each number below, added up
+abbrev pub total : ℕ → (ℕ → ℕ) → ℕ
+total zero f = 0
+total (suc n) f = total n f + f n
+
+-- a client's receipts stand in the trace: calls and answers of its own, the calls in rising places
+pub record HasReceiptsIn (es : List Entry) (client : ℕ) (called answered : List Receipt) : Type 0 where
+  pub calls_stand : AllStand es called
+  pub answers_stand : AllStand es answered
+  pub calls : AreCalls client called
+  pub rising : AreRising 0 called
+  pub answers : AreAnswers client answered
+
+abbrev pub IsBorneOut : List Entry → ClientView → Type 0
+IsBorneOut es v = HasReceiptsIn es v.client v.called v.answered
+
+abbrev pub AreBorneOut : List Entry → ℕ → List ClientView → Type 0
+AreBorneOut es count clients = (c : ℕ) → c < count → IsBorneOut es (client_at clients c)
+
+-- the places of the calls of a row, where the entries begin at this one
+abbrev pub call_places : ℕ → ℕ → List Entry → List ℕ
+call_places c from [] = []
+call_places c from (e ∷ es) = if is_call_of c e then from ∷ call_places c (suc from) es else call_places c (suc from) es
+
+-- The trace and the rows of a closed host, with what its clients have receipts of: the trace is a run of the machine from the opening state, and each
+-- call is in the row of the one client that made it, and an answer in its call's
+pub record IsClosed (rules : Rules) (opening : State) (clients : List ClientView) (trace : List Entry) (rows : List RowView) : Type 0 where
+  pub last : State
+  pub run : Run rules opening (labels_of trace) last
+  pub owners : List ℕ
+  pub rowed : AreRowed owners trace
+  pub row : (c : ℕ) → c < length clients → (row_at rows c).places ≡ places c 0 trace
+  -- each receipt's label stands at its place
+  pub stand : AreBorneOut trace (length clients) clients
+  -- each row's calls are just its client's, in its order
+  pub calls : (c : ℕ) → c < length clients → call_places c 0 trace ≡ places_of (client_at clients c).called

@@ -1,0 +1,7 @@
+pub mod Receipts
+pub mod Calls
+pub mod Tickets
+pub mod Accounts
+pub mod Clients
+pub mod Opening
+pub mod Closing

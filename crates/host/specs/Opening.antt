@@ -1,0 +1,82 @@
+-- What a host is opened with.
+use Rattle.std.specs.Prelude.{◌≡◌, ◌<◌, ◌≤◌, ℕ, ◌+◌, List, [], map, Option, Some, All, length, max, slice_get, slice_index_or}
+use Rattle.atomic_table.specs.Seated.{TableId}
+use Rattle.machine.specs.Rules.{Rules}
+use Rattle.machine.specs.State.{State}
+use Rattle.machine.specs.Numbers.{piece_number}
+use Rattle.machine_laws.specs.NumberLaws.{awaited}
+use Rattle.io_manager.specs.declared.Handle.{Handle}
+use Rattle.io_manager.specs.declared.OpenHandle.{OpenHandle}
+use Rattle.io_manager.specs.Calls.{open_refusal}
+use Rattle.io_manager.specs.Shown.{ManagerView}
+use Rattle.ntstatus.specs.declared.NtStatus.{NtStatus}
+use Rattle.remove_lock.specs.Gate.{Standing as PassStanding, standing as pass_of, fresh as fresh_pass}
+use Rattle.cancel_marks.specs.Marks.{Standing as SeatStanding, standing as seat_of, starting, IsOther}
+use Rattle.book.specs.declared.sizes.Sizes.{Sizes}
+use Rattle.book.specs.Sizes.{AreSizes, sizes_of}
+use Rattle.book.specs.Opening.{AreClientsOf, IsFirst, IsOpenOn}
+use Rattle.host.specs.declared.opened.HostFault.{HostFault}
+use Rattle.host.specs.declared.opened.HostFault.TheVariants.{TooManyClients, NoPartition, NoMemory}
+use Rattle.host.specs.Clients.{ticket_limit}
+
+-- at most so many clients
+abbrev pub client_limit : ℕ
+client_limit = 64
+
+-- all that a host's type names: the rules of its stack, the state that it was opened with, the clients' partitions, all handles, the marks with
+-- the number of their slots, the history, the ledger with the number of its parts, and the gate
+pub record Names : Type 0 where
+  pub rules : Rules
+  pub opening : State
+  pub partitions : List ℕ
+  pub handles : List (Option OpenHandle)
+  pub marks : TableId
+  pub slots : ℕ
+  pub table : TableId
+  pub name : ℕ
+  pub parts : ℕ
+  pub gate : TableId
+
+-- a state in which nothing waits for an answer, and no piece is out
+abbrev pub IsOpening : State → Type 0
+IsOpening s = (awaited s ≡ []) × (map piece_number s.pieces ≡ [])
+
+-- a pass of a client, which has made no step
+abbrev pub IsClientPass : TableId → PassStanding → Type 0
+IsClientPass gate pass = pass ≡ pass_of gate (fresh_pass ticket_limit)
+
+-- a handle that is open for client c, on its partition
+abbrev pub IsHandleFor : List ℕ → List (Option OpenHandle) → ℕ → Handle → Type 0
+IsHandleFor partitions open' c handle = (handle.number ≡ c + 1) × IsOpenOn open' handle (slice_index_or partitions c 0)
+
+-- one for each client
+pub record AreHandlesFor (partitions : List ℕ) (open' : List (Option OpenHandle)) (handles : List Handle) : Type 0 where
+  pub count : length handles ≡ length partitions
+  pub each : (c : ℕ) (handle : Handle) → slice_get handles c ≡ Some handle → IsHandleFor partitions open' c handle
+
+-- a stack of which nothing was asked but a handle for each client, with a part of the ledger, a seat and a pass for each, and one more of each
+pub record IsReady (partitions : List ℕ) (stack : ManagerView) (handles : List Handle) (sizes : Sizes) (slots parts : ℕ) (marks : TableId × ℕ)
+    (owner : SeatStanding) (seats : List SeatStanding) (gate : TableId) (passes : List PassStanding) : Type 0 where
+  pub few : length partitions ≤ client_limit
+  pub first : IsFirst stack
+  pub opens : IsOpening stack.state
+  pub clients : AreClientsOf partitions stack.handles
+  pub given : AreHandlesFor partitions stack.handles handles
+  pub as_many : stack.rules.open_requests ≡ Some slots
+  pub same_sizes : sizes ≡ sizes_of stack.rules
+  pub are_sizes : AreSizes sizes
+  pub parts_is : parts ≡ length partitions + 1
+  pub slots_is : marks.1 ≡ slots
+  pub owner_is : owner ≡ seat_of marks.0 0 (starting (max slots 1))
+  pub count_seats : length seats ≡ length partitions
+  pub are_seats : All (IsOther marks.0) seats
+  pub count_passes : length passes ≡ length partitions + 1
+  pub are_passes : All (IsClientPass gate) passes
+
+-- why there is no host: too many clients; or a partition on which the stack, with some of the handles open, opens no handle; or memory was refused
+abbrev pub IsHostFault : List ℕ → HostFault → Type 0
+IsHostFault partitions TooManyClients = client_limit < length partitions
+IsHostFault partitions NoPartition =
+    (stack : ManagerView) × (c : ℕ) × (partition : ℕ) × (status : NtStatus)
+    × (slice_get partitions c ≡ Some partition) × (open_refusal stack partition ≡ Some status)
+IsHostFault partitions NoMemory = Unit {0}

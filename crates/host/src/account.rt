@@ -1,0 +1,296 @@
+ghost use Rattle.std.specs.Prelude.{◌≡◌, ◌<◌, ◌≤◌, ◌+◌, ◌-◌, ◌++◌, ◌↔◌, ℕ, [], IfErr, IfOk, IfSome, IfNone, IsTrue, OnOk, length, slice_index_or};
+ghost use Rattle.machine.specs.declared.ClientRequest.{ClientRequest};
+ghost use Rattle.machine.specs.declared.Label.TheVariants.{Call as CallLabel};
+ghost use Rattle.machine_laws.specs.NumberLaws.{CallsCount};
+ghost use Rattle.io_manager.specs.Right.{as_answer};
+ghost use Rattle.book.specs.Opening.{IsOpenOn};
+ghost use Rattle.host.specs.Accounts.{IsCalled, IsTaken, IsTurnedDown};
+ghost use Rattle.host.specs.Calls.{AnswerLaws, FindsAnswer, FindsCall, IsAnswerOf, IsTold, Stands, buffer_of, request_of};
+ghost use Rattle.host.specs.Receipts.{none_yet, receipt};
+ghost use Rattle.host.specs.Opening.{IsHandleFor};
+
+use crate::call::{Answered, Call, Places, Reason, Refusal};
+use crate::host::Host;
+use crate::name::Naming;
+use crate::receipts::Receipts;
+use crate::ticket::Ticket;
+use adapter::Adapter;
+use book::{Book, Entry, Share};
+use chronicle::{Claims, History};
+use compose::{Answer, Handle, Reply};
+use machine::Label;
+use std::alloc::{AllocError, Global};
+use std::marker::Model;
+use std::sync::Wait;
+use std::sync::ledger::Share as Part;
+
+/// A client's share of the book, and its receipts.
+#[derive(Drop)]
+pub(crate) struct Account<N: Naming> {
+    pub share: Share<N>,
+    pub called: Receipts<N>,
+    pub answered: Receipts<N>,
+}
+
+impl<N: Naming> Model for Account<N> {
+    ghost use Rattle.host.specs.Accounts.{AccountView, AccountKept};
+
+    ghost Value = { AccountView };
+
+    ghost view = { λ a. record { share = a.share; called = a.called; answered = a.answered } };
+
+    ghost invariant = { λ a. AccountKept N.handles N.partitions a.share a.called.list a.answered.list };
+}
+
+// The laws on the numbers of a run, for who calls it.
+fn laws_of_numbers()
+    ensures count { CallsCount }
+{
+    machine_laws::numbers_rise();
+}
+
+// Those on its answers.
+fn laws_of_answers()
+    ensures laws { AnswerLaws }
+{
+    machine_laws::numbers_are_used_once();
+    machine_laws::calls_await_answers();
+}
+
+// The place of the first call from a place of the trace on.
+fn find_call<A: Adapter, N: Naming>(book: &Book<A, N>, from: usize) -> Option<usize>
+    ensures { FindsCall from book.now.entries result }
+{
+    for place in from..book.len() {
+        if let Label::Call { .. } = &book.entry(place).label {
+            return Some(place);
+        }
+    }
+    None
+}
+
+// Carries a call out, and finds its label.
+fn carry_call<A: Adapter, N: Naming>(
+    host: &Host<A, N>,
+    book: &mut Book<A, N>,
+    share: &mut Share<N>,
+    call: Call,
+) -> (Reply, Option<usize>)
+    requires open { IsOpenOn N.handles share.old.handle (slice_index_or N.partitions share.old.client 0) }
+    ensures late { IfSome result.1 (λ place. length book.old.entries ≤ place) }
+    ensures told { IsTold N.slots share.old share.new (request_of (slice_index_or N.partitions share.old.client 0) call) (buffer_of call) book.new.entries result.0 result.1 }
+{
+    book.shows_whole();
+    let from = book.len();
+    let event = call.on(share.handle());
+    let reply = book.step(host.alloc, &host.history, &host.table.marks, Some(share), event);
+    book.shows_whole();
+    let place = find_call(book, from);
+    (reply, place)
+}
+
+// The place of the first answer of this number from a place of the trace on.
+fn find_answer<A: Adapter, N: Naming>(
+    book: &Book<A, N>,
+    number: u64,
+    from: usize,
+) -> Option<usize>
+    ensures { FindsAnswer number from book.now.entries result }
+{
+    for place in from..book.len() {
+        if answers(&book.entry(place).label, number) {
+            return Some(place);
+        }
+    }
+    None
+}
+
+// Whether a label answers the request of this number.
+fn answers(label: &Label, number: u64) -> bool
+    ensures { IsTrue result ↔ IsAnswerOf number label.now }
+{
+    match label {
+        Label::Answer {
+            number: answered, ..
+        } => *answered == number,
+        _ => false,
+    }
+}
+
+// Takes the answer of a request whose call stands at this place, with its own place.
+fn take_answer<A: Adapter, N: Naming>(
+    host: &Host<A, N>,
+    book: &mut Book<A, N>,
+    number: u64,
+    call: usize,
+) -> Option<(usize, Answer)>
+    requires called { (q : ClientRequest) × (client : ℕ) × Stands book.old.entries call (CallLabel number q) client }
+    ensures entries { book.new.entries ≡ book.old.entries }
+    ensures answer { IfSome result (λ r. (r.1.number ≡ number) × (call < r.0) × ((client : ℕ) (q : ClientRequest) → Stands book.old.entries call (CallLabel number q) client → Stands book.old.entries r.0 (as_answer r.1) client)) }
+{
+    laws_of_answers();
+    book.shows_whole();
+    let opening = &host.table;
+    let answer = book.take_answer(number)?;
+    let Some(place) = find_answer(book, number, call) else {
+        unreachable!()
+    };
+    Some((place, answer))
+}
+
+impl<N: Naming> Account<N> {
+    /// That of a client that has called nothing.
+    pub(crate) fn new(
+        alloc: Global,
+        client: usize,
+        handle: Handle,
+        part: Part<N>,
+        called: Claims<Entry, N>,
+        answered: Claims<Entry, N>,
+    ) -> Account<N>
+        requires client { client < length N.partitions }
+        requires handle { IsHandleFor N.partitions N.handles client handle }
+        requires part { (part.parts ≡ 1) × (part.amount ≡ 0) }
+        requires claims { (called ≡ []) × (answered ≡ []) }
+        ensures { result ≡ record { share = record { client = client; handle = handle; calls = 0 }; called = none_yet; answered = none_yet } }
+    {
+        Account {
+            share: Share::new(client, handle, part),
+            called: Receipts::new(alloc, called),
+            answered: Receipts::new(alloc, answered),
+        }
+    }
+
+    /// Makes the places of a call's two receipts, beside those of so many answers that are still to come.
+    pub(crate) fn make_places(&mut self, awaited: usize) -> Result<(), AllocError>
+        requires { awaited ≤ 64 }
+        ensures share { self.new.share ≡ self.old.share }
+        ensures lists { (self.new.called.list ≡ self.old.called.list) × (self.new.answered.list ≡ self.old.answered.list) }
+        ensures no_less { self.old.answered.room ≤ self.new.answered.room }
+        ensures room { OnOk result ((0 < self.new.called.room) × (awaited < self.new.answered.room)) }
+    {
+        self.called.reserve(1)?;
+        self.answered.reserve(awaited + 1)?;
+        Ok(())
+    }
+
+    /// The part of `issue` that has the book.
+    pub(crate) fn issue_in<A: Adapter>(
+        &mut self,
+        host: &Host<A, N>,
+        book: &mut Book<A, N>,
+        call: Call,
+    ) -> Result<Ticket<N>, Refusal>
+        requires room { (0 < self.old.called.room) × (0 < self.old.answered.room) }
+        ensures issued { IfOk result (λ t. IsCalled (slice_index_or N.partitions self.old.share.client 0) self.old t call self.new) }
+        ensures refused { IfErr result (λ r. IsTurnedDown (slice_index_or N.partitions self.old.share.client 0) self.old call r self.new) }
+    {
+        self.called.check(&host.history, book);
+        let client = self.share.client();
+        let (reply, place) = carry_call(host, book, &mut self.share, call);
+        let Some(place) = place else {
+            let Reply::Refused { refusal, bytes } = reply else {
+                unreachable!()
+            };
+            return Err(Refusal {
+                reason: Reason::Refused(refusal),
+                bytes,
+                places: None,
+            });
+        };
+        let claim = self.called.note(&host.history, book, place);
+        match reply {
+            Reply::Request(id) => Ok(Ticket {
+                client,
+                number: id.number,
+                place,
+                claim,
+                slot: id.slot as usize,
+                early: None,
+            }),
+            Reply::Answered(answer) => {
+                let number = answer.number;
+                let told = book.claim(&host.history, place + 1);
+                Ok(Ticket {
+                    client,
+                    number,
+                    place,
+                    claim,
+                    slot: 0,
+                    early: Some((answer, told)),
+                })
+            }
+            Reply::Refused { refusal, bytes } => {
+                self.answered.note(&host.history, book, place + 1);
+                Err(Refusal {
+                    reason: Reason::Refused(refusal),
+                    bytes,
+                    places: Some(Places {
+                        call: place,
+                        answer: place + 1,
+                    }),
+                })
+            }
+            Reply::Handle(_) | Reply::Ok | Reply::Ignored => unreachable!(),
+        }
+    }
+
+    /// Waits for the answer to a call of this account.
+    pub(crate) fn answer_of<A: Adapter, R: Wait>(
+        &mut self,
+        rt: &R,
+        host: &Host<A, N>,
+        ticket: Ticket<N>,
+    ) -> Answered
+        requires ticket { ticket.client ≡ self.old.share.client }
+        requires room { 0 < self.old.answered.room }
+        ensures taken { IsTaken self.old ticket result self.new }
+    {
+        let mut ticket = ticket;
+        if let Some((answer, claim)) = ticket.early {
+            return self.keep_answer(&host.history, ticket.place, ticket.place + 1, answer, claim);
+        }
+        let mut book = host.book.lock(rt);
+        for _ in rt.forever() {
+            if let Some(answered) = self.answer_in(host, &mut book, &mut ticket) {
+                return answered;
+            }
+            book = host.told.wait(rt, book);
+        }
+        unreachable!()
+    }
+
+    // The part of `wait` that has the book.
+    fn answer_in<A: Adapter>(
+        &mut self,
+        host: &Host<A, N>,
+        book: &mut Book<A, N>,
+        ticket: &mut Ticket<N>,
+    ) -> Option<Answered>
+        requires ticket { ticket.old.client ≡ self.old.share.client }
+        requires room { 0 < self.old.answered.room }
+        ensures ticket { ticket.new ≡ ticket.old }
+        ensures taken { IfSome result (λ answered. IsTaken self.old ticket.old answered self.new) }
+        ensures none { IfNone result (self.new ≡ self.old) }
+    {
+        book.check(&host.history, &mut ticket.claim);
+        let (place, answer) = take_answer(host, book, ticket.number, ticket.place)?;
+        let claim = book.claim(&host.history, place);
+        Some(self.keep_answer(&host.history, ticket.place, place, answer, claim))
+    }
+
+    // An answer that stands in the trace, with its receipt.
+    fn keep_answer(&mut self, history: &History<Entry, N>, call: usize, place: usize, answer: Answer, claim: Claims<Entry, N>) -> Answered
+        requires claim { claim ≡ receipt place (as_answer answer) self.old.share.client }
+        requires room { 0 < self.old.answered.room }
+        ensures result { result ≡ record { answer = answer; places = record { call = call; answer = place } } }
+        ensures share { (self.new.share ≡ self.old.share) × (self.new.called ≡ self.old.called) }
+        ensures kept { self.new.answered ≡ record { list = self.old.answered.list ++ claim; room = self.old.answered.room - 1 } }
+    {
+        self.answered.keep(history, place, claim);
+        Answered {
+            answer,
+            places: Places { call, answer: place },
+        }
+    }
+}

@@ -1,0 +1,134 @@
+ghost use Rattle.std.specs.Prelude.{◌≡◌, ◌<◌, ◌+◌, IfErr, IfOk, slice_index_or};
+ghost use Rattle.host.specs.Clients.{IsIssued, IsMarked, IsRefused, IsWaited};
+ghost use Rattle.host.specs.Receipts.{places_of};
+
+use crate::account::Account;
+use crate::call::{Answered, Call, Reason, Refusal};
+use crate::host::Host;
+use crate::name::Naming;
+use crate::ticket::Ticket;
+use adapter::Adapter;
+use cancel_marks::{Marking, Seat};
+use compose::Refusal as Why;
+use remove_lock::{AcquireFault, Pass};
+use std::marker::Model;
+use std::sync::Wait;
+
+/// A client of a host. Contracts see it as its number, its receipts, and what it knows of the gate and of the marks.
+#[derive(Drop)]
+pub struct Client<N: Naming> {
+    pub(crate) account: Account<N>,
+    pub(crate) pass: Pass,
+    pub(crate) seat: Seat,
+    // its tickets that are not waited for yet
+    pub(crate) out: usize,
+}
+
+impl<N: Naming> Model for Client<N> {
+    ghost use Rattle.host.specs.Clients.{ClientView, ClientKept};
+
+    ghost Value = { ClientView };
+
+    ghost view = { λ c. record {
+      client = c.account.share.client;
+      called = c.account.called.list;
+      answered = c.account.answered.list;
+      pass = c.pass.view;
+      seat = c.seat.view;
+    } };
+
+    ghost invariant = { λ c. ClientKept N.gate N.marks c.account c.pass c.seat c.out };
+}
+
+impl<N: Naming> Client<N> {
+    /// Its number, from 0.
+    pub fn client(&self) -> usize
+        ensures { result ≡ self.now.client }
+    {
+        self.account.share.client()
+    }
+
+    /// The places of its calls in the trace, rising.
+    pub fn calls(&self) -> &[usize]
+        ensures { result.now ≡ places_of self.now.called }
+    {
+        self.account.called.places()
+    }
+
+    /// The places of the answers to its calls, in the order in which it was told of them.
+    pub fn answers(&self) -> &[usize]
+        ensures { result.now ≡ places_of self.now.answered }
+    {
+        self.account.answered.places()
+    }
+
+    /// Issues a call on the client's partition. The ticket holds the gate until it was waited for.
+    ///
+    /// # Errors
+    ///
+    /// As the stack refuses calls, with the places of both labels where it has them. Before the book is asked:
+    /// `InsufficientResources` where memory for the receipts was refused, `DeletePending` where the gate is closed, and
+    /// [`Reason::TooManyTickets`] with 64 tickets out.
+    pub fn issue<A: Adapter, R: Wait>(
+        &mut self,
+        rt: &R,
+        host: &Host<A, N>,
+        call: Call,
+    ) -> Result<Ticket<N>, Refusal>
+        ensures issued { IfOk result (λ t. IsIssued (slice_index_or N.partitions self.old.client 0) self.old t call self.new) }
+        ensures refused { IfErr result (λ r. IsRefused (slice_index_or N.partitions self.old.client 0) self.old call r self.new) }
+    {
+        if self.account.make_places(self.out).is_err() {
+            return Err(call.refused(host.alloc, Reason::Refused(Why::InsufficientResources)));
+        }
+        match host.door.gate.acquire(&mut self.pass) {
+            Ok(()) => {}
+            Err(AcquireFault::DeletePending) => {
+                return Err(call.refused(host.alloc, Reason::Refused(Why::DeletePending)));
+            }
+            Err(AcquireFault::TooManyHolds) => {
+                return Err(call.refused(host.alloc, Reason::TooManyTickets));
+            }
+        }
+        let issued = self.account.issue_in(host, &mut host.book.lock(rt), call);
+        host.told.notify_all();
+        match issued {
+            Ok(ticket) => {
+                self.out += 1;
+                Ok(ticket)
+            }
+            Err(refusal) => {
+                host.door.gate.release(&mut self.pass);
+                Err(refusal)
+            }
+        }
+    }
+
+    /// Waits for the answer to a call of this client. It takes no memory.
+    pub fn wait<A: Adapter, R: Wait>(
+        &mut self,
+        rt: &R,
+        host: &Host<A, N>,
+        ticket: Ticket<N>,
+    ) -> Answered
+        requires ticket { ticket.client ≡ self.old.client }
+        requires held { 0 < self.old.pass.holds }
+        ensures waited { IsWaited self.old ticket result self.new }
+    {
+        let answered = self.account.answer_of(rt, host, ticket);
+        host.door.gate.release(&mut self.pass);
+        self.out -= 1;
+        answered
+    }
+
+    /// Marks the ticket's request for cancellation, with no lock: `Gone` where it was answered.
+    pub fn mark_cancel<A: Adapter>(&mut self, host: &Host<A, N>, ticket: &Ticket<N>) -> Marking
+        ensures marked { IsMarked ticket.now.slot ticket.now.number self.old.seat result self.new.seat }
+        ensures same { self.new ≡ record self.old { seat = self.new.seat } }
+    {
+        if ticket.early.is_some() {
+            return Marking::Gone;
+        }
+        host.table.marks.mark(&mut self.seat, ticket.slot, ticket.number)
+    }
+}

@@ -1,0 +1,169 @@
+ghost use Rattle.std.specs.Prelude.{◌≡◌, ◌+◌, All, IfOk, None, false, length};
+ghost use mathlib.Core.Logic.{inl};
+ghost use Rattle.cancel_marks.specs.Marks.{IsOther};
+ghost use Rattle.book.specs.Book.{IsStepped, call_handle};
+ghost use Rattle.book.specs.Serving.{is_handle_event};
+ghost use Rattle.host.specs.Clients.{AreNumbered};
+ghost use Rattle.host.specs.Opening.{AreHandlesFor, IsClientPass};
+
+use crate::account::Account;
+use crate::client::Client;
+use crate::name::Naming;
+use crate::opened::{HostFault, Opened};
+use crate::shared::{Door, Table};
+use adapter::Adapter;
+use book::{Book, Entry, Share};
+use cancel_marks::Seat;
+use chronicle::{History, Whole};
+use compose::{Event, Handle, Reply};
+use remove_lock::Pass;
+use std::alloc::{AllocError, Global};
+use std::marker::{Model, PhantomData};
+use std::sync::ledger::Share as Part;
+use std::sync::{Condvar, Mutex, Wait};
+
+/// A book under its lock, and what threads share beside it.
+#[derive(Drop)]
+pub struct Host<A: Adapter, N: Naming> {
+    pub(crate) book: Mutex<Book<A, N>>,
+    // notified of each step
+    pub(crate) told: Condvar,
+    pub(crate) history: History<Entry, N>,
+    pub(crate) table: Table<N>,
+    pub(crate) door: Door<N>,
+    pub(crate) alloc: Global,
+}
+
+/// The right to remove the device and to close the host: the part of the ledger that no client has, and a pass of the gate.
+#[derive(Drop)]
+pub struct Keeper<N: Naming> {
+    pub(crate) part: Part<N>,
+    pub(crate) pass: Pass,
+}
+
+impl<N: Naming> Model for Keeper<N> {
+    ghost use Rattle.std.specs.Prelude.{◌≡◌};
+    ghost use Rattle.remove_lock.specs.declared.rule.View.{View};
+
+    ghost Value = { View };
+
+    ghost view = { λ k. k.pass.view };
+
+    ghost invariant = { λ k. (k.part.parts ≡ 1) × (k.part.amount ≡ 0) × (k.pass.gate ≡ N.gate) };
+}
+
+// A client for each handle, with a part of the ledger, a seat and a pass.
+fn make_clients<N: Naming>(
+    alloc: Global,
+    history: &History<Entry, N>,
+    whole: &mut Whole<Entry, N>,
+    all: &mut Part<N>,
+    handles: Vec<Handle>,
+    seats: Vec<Seat>,
+    passes: &mut Vec<Pass>,
+) -> Result<Vec<Client<N>>, AllocError>
+    requires handles { AreHandlesFor N.partitions N.handles handles.items }
+    requires seats { (length seats.items ≡ length N.partitions) × All (IsOther N.marks) seats.items }
+    requires passes { (length passes.old.items ≡ length N.partitions + 1) × All (IsClientPass N.gate) passes.old.items }
+    requires parts { (all.old.parts ≡ length N.partitions + 1) × (all.old.amount ≡ 0) }
+    ensures whole { whole.new ≡ whole.old }
+    ensures rest { IfOk result (λ _. (all.new.parts ≡ 1) × (all.new.amount ≡ 0)) }
+    ensures passes { IfOk result (λ _. (length passes.new.items ≡ 1) × All (IsClientPass N.gate) passes.new.items) }
+    ensures clients { IfOk result (λ v. AreNumbered (length N.partitions) v.items) }
+{
+    let mut clients = Vec::new(alloc);
+    let mut seats = seats;
+    for c in 0..handles.len() {
+        clients.reserve(1)?;
+        let (Some(seat), Some(pass)) = (seats.pop(), passes.pop()) else {
+            unreachable!()
+        };
+        let account = Account::new(alloc, c, handles[c], all.split_off(1, 0), whole.no_claims(history), whole.no_claims(history));
+        clients.push_reserved(Client { account, pass, seat, out: 0 });
+    }
+    Ok(clients)
+}
+
+impl<A: Adapter, N: Naming> Host<A, N> {
+    /// A host of a stack, with its keeper and its clients, client c over the partition that was given as number c.
+    ///
+    /// # Errors
+    ///
+    /// [`HostFault::NoMemory`].
+    pub fn new(
+        alloc: Global,
+        opened: Opened<A>,
+    ) -> Result<(Host<A, N>, Keeper<N>, Vec<Client<N>>), HostFault>
+        requires named { opened ≡ record { rules = N.rules; opening = N.opening; partitions = N.partitions; handles = N.handles; marks = N.marks; slots = N.slots; table = N.table; name = N.name; parts = N.parts; gate = N.gate } }
+        ensures { IfOk result (λ r. AreNumbered (length N.partitions) r.2.items) }
+    {
+        let Opened {
+            stack,
+            handles,
+            partitions,
+            sizes,
+            slots,
+            history,
+            ledger,
+            marks,
+            owner,
+            seats,
+            gate,
+            passes,
+        } = opened;
+        let count = partitions.len();
+        let (history, mut whole) = history.named::<N>();
+        let (tally, mut all) = ledger.open::<N>();
+        let mut passes = passes;
+        let clients = make_clients(alloc, &history, &mut whole, &mut all, handles, seats, &mut passes)?;
+        let Some(pass) = passes.pop() else {
+            unreachable!()
+        };
+        let book = Book::new(alloc, stack, whole, owner, tally, count, slots, sizes)?;
+        let host = Host {
+            book: Mutex::new(book),
+            told: Condvar::new(),
+            history,
+            table: Table {
+                marks,
+                of: PhantomData,
+            },
+            door: Door {
+                gate,
+                of: PhantomData,
+            },
+            alloc,
+        };
+        Ok((host, Keeper { part: all, pass }, clients))
+    }
+
+    /// The adapter carries out the command of the piece on a tag, or fails it; `Ignored` where there is none.
+    pub fn act<R: Wait>(&self, rt: &R, tag: u8) -> Reply {
+        self.step(rt, Event::Act { tag })
+    }
+
+    /// The adapter hands the piece on a tag back; `Ignored` where there is none.
+    pub fn finish<R: Wait>(&self, rt: &R, tag: u8) -> Reply {
+        self.step(rt, Event::Finish { tag })
+    }
+
+    /// The adapter is reset.
+    pub fn reset<R: Wait>(&self, rt: &R) -> Reply {
+        self.step(rt, Event::Reset)
+    }
+
+    // The part of a step that has the book.
+    fn step_in(&self, book: &mut Book<A, N>, event: Event) -> Reply
+        requires { (is_handle_event event ≡ false) × (call_handle event ≡ None) }
+        ensures { IsStepped N.slots None (inl tt) book.old event result book.new }
+    {
+        book.step(self.alloc, &self.history, &self.table.marks, Share::none(), event)
+    }
+
+    // A step that is no client's, of which those who wait are told.
+    fn step<R: Wait>(&self, rt: &R, event: Event) -> Reply {
+        let reply = self.step_in(&mut self.book.lock(rt), event);
+        self.told.notify_all();
+        reply
+    }
+}
