@@ -1,6 +1,7 @@
 -- The answer to a request stands once, behind its call and in its row.
 use Rattle.std.proofs.Common.{◌≡◌, ◌≢◌, ℕ, zero, suc, ◌+◌, ◌-◌, ◌<◌, ◌≤◌, List, [], ◌∷◌, ◌++◌, length, map, Option, Some, None, refl, sym, ap, ◌∙◌, subst, arith, inl, inr}
-use Rattle.std.specs.Prelude.{◌⊎◌, All, Contains, slice_get, slice_index_or}
+use Rattle.std.specs.Prelude.{◌⊎◌, All, Contains, IsNone, eqb, slice_get, slice_index_or}
+use Rattle.std.specs.List.{IsDistinct}
 use Rattle.std.proofs.lemmas.List.Elements.{All-nil}
 use mathlib.Core.Logic.{dite}
 use native.Mathlib.Decide.{ℕ_discrete}
@@ -141,10 +142,17 @@ answer_named r Removed is = absurd is
 
 -- OF A RUN
 
+distinct_none : IsDistinct eqb []
+unfolding IsDistinct
+distinct_none = tt
+
 no_owed : (owed : Option Owed) (requests : List OpenRequest) → owed_number owed ++ map request_number requests ≡ [] → (owed ≡ None) × (requests ≡ [])
 no_owed None [] e = (refl, refl)
 no_owed None (r ∷ rs) e = absurd (cc)
 no_owed (Some o) rs e = absurd (cc)
+
+none_owed : (s : State) → IsOpening s → IsNone s.owed
+none_owed s opens = subst (λ (o : Option Owed). IsNone o) (sym (no_owed s.owed s.requests opens.0).0) refl
 
 no_pieces : (pieces : List Piece) → map piece_number pieces ≡ [] → pieces ≡ []
 no_pieces [] e = refl
@@ -152,9 +160,9 @@ no_pieces (p ∷ ps) e = absurd (cc)
 
 distinct_at_first : (s : State) → IsOpening s → AreDistinct s
 distinct_at_first s opens = record {
-  requests = subst (λ (rs : List OpenRequest). IsDistinct eqb (map request_number rs)) (sym (no_owed s.owed s.requests opens.0).1) (IsDistinct-nil);
+  requests = subst (λ (rs : List OpenRequest). IsDistinct eqb (map request_number rs)) (sym (no_owed s.owed s.requests opens.0).1) distinct_none;
   given = subst (All (IsGiven s.next_request)) (sym (no_owed s.owed s.requests opens.0).1) (All-nil _);
-  pieces = subst (IsDistinct eqb) (sym opens.1) (IsDistinct-nil);
+  pieces = subst (IsDistinct eqb) (sym opens.1) distinct_none;
   sent = subst (All (IsSent s.next_piece)) (sym (no_pieces s.pieces opens.1)) (All-nil _);
 }
 
@@ -175,7 +183,7 @@ module _ (laws : AnswerLaws) (rules : Rules) (first last : State) (opens : IsOpe
   no_later_answer j k r e f answer at is number there answers less =
       let a = around es j e at in
       let b = behind a.front a.back e f k (ap (λ xs. slice_get xs k) (sym a.is) ∙ there) (let l = a.long in omega arith) in
-      let once = laws.answers rules first (distinct_at_first opens.0) refl (labels_of a.front) answer.number answer.status answer.information answer.bytes (labels_of a.back) last
+      let once = laws.answers rules first (distinct_at_first first opens) (none_owed first opens) (labels_of a.front) answer.number answer.status answer.information answer.bytes (labels_of a.back) last
       (subst (λ l. Run rules first (labels_of a.front ++ l ∷ labels_of a.back) last) is (run_around j e a)) in
       no_answer_of r f.label (subst (λ n. IsNoAnswerOf n f.label) number (each_label (IsNoAnswerOf answer.number) a.back b.0 f once b.1)) answers
 
@@ -224,3 +232,23 @@ module _ (laws : AnswerLaws) (rules : Rules) (first last : State) (opens : IsOpe
       go (Some p) finds k e at is less there =
           let same : k ≡ p = one_answer k p answer.number e finds.1.0 at is finds.1.1 finds.1.2 in
           (p, refl, subst (λ n. call < n) same less, subst (λ n. Stands es n (as_answer answer) client) same there)
+
+-- the answer that was taken, and what a search found
+module _ (laws : AnswerLaws) (rules : Rules) (first last : State) (opens : IsOpening first) (owners : List ℕ) (es found_in : List Entry) (rowed : AreRowed owners es) (run : Run rules first (labels_of es) last)
+    (number call client : ℕ) (q : ClientRequest) (answer : Answer) (is : answer.number ≡ number) (stood : Stands es call (Call number q) client) (told : Contains (labels_of es) (as_answer answer)) (same : found_in ≡ es) where
+  found_told : (found : Option ℕ) → FindsAnswer number call found_in found → (p : ℕ) × (found ≡ Some p) × (call < p) × Stands es p (as_answer answer) client
+  found_told found finds =
+      answer_found laws rules first last opens owners es rowed run call client q answer (subst (λ n. Stands es call (Call n q) client) (sym is) stood) told found
+      (subst (λ n. FindsAnswer n call es found) (sym is) (subst (λ (xs : List Entry). FindsAnswer number call xs found) same finds))
+
+  pub is_found : (found : Option ℕ) → FindsAnswer number call found_in found → found ≡ None → ⊥
+  is_found found finds none = let f = found_told found finds in no_some f.0 (sym f.1 ∙ none)
+    where
+      no_some : (p : ℕ) → Some p ≡ None → ⊥
+      no_some p e = absurd (cc)
+
+  pub found_at : (found : Option ℕ) (place : ℕ) → FindsAnswer number call found_in found → found ≡ Some place → (call < place) × Stands es place (as_answer answer) client
+  found_at found place finds at =
+      let f = found_told found finds in
+      let same' : f.0 ≡ place = some_same (sym f.1 ∙ at) in
+      (subst (λ n. call < n) same' f.2, subst (λ n. Stands es n (as_answer answer) client) same' f.3)

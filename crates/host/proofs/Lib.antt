@@ -1,3 +1,9 @@
 pub mod Quiet
 pub mod Calling
 pub mod Answering
+pub mod Keeping
+pub mod Counting
+pub mod Collecting
+pub mod Ending
+pub mod Accounts
+pub mod Issuing

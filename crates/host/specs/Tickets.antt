@@ -22,7 +22,7 @@ slot_of slot (Some early) = None
 -- a request that was opened can be marked, and an answer that came with the call stands right behind it
 abbrev pub IsStage : ℕ → ℕ → ℕ → ℕ → ℕ → Option (Answer × List Receipt) → Type 0
 IsStage slots client number place slot None = (slot < slots) × (0 < number) × (number < 2 ^ 62)
-IsStage slots client number place slot (Some early) = (early.0.number ≡ number) × (early.1 ≡ receipt (place + 1) (as_answer early.0) client)
+IsStage slots client number place slot (Some early) = (place + 1 < 2 ^ 64) × (early.0.number ≡ number) × (early.1 ≡ receipt (place + 1) (as_answer early.0) client)
 
 -- the receipt is that of its call
 pub record TicketKept (slots client number place : ℕ) (claim : List Receipt) (slot : ℕ) (early : Option (Answer × List Receipt)) : Type 0 where

@@ -1,4 +1,4 @@
-ghost use Rattle.std.specs.Prelude.{◌≡◌, ◌<◌, ◌≤◌, ◌+◌, ◌-◌, ◌++◌, ◌↔◌, ℕ, [], IfErr, IfOk, IfSome, IfNone, IsTrue, OnOk, length, slice_index_or};
+ghost use Rattle.std.specs.Prelude.{◌≡◌, ◌<◌, ◌≤◌, ◌+◌, ◌-◌, ◌^◌, ◌++◌, ◌↔◌, ℕ, [], IfErr, IfOk, IfSome, IfNone, IsTrue, OnOk, length, slice_index_or};
 ghost use Rattle.machine.specs.declared.ClientRequest.{ClientRequest};
 ghost use Rattle.machine.specs.declared.Label.TheVariants.{Call as CallLabel};
 ghost use Rattle.machine_laws.specs.NumberLaws.{CallsCount};
@@ -59,7 +59,8 @@ fn laws_of_answers()
 
 // The place of the first call from a place of the trace on.
 fn find_call<A: Adapter, N: Naming>(book: &Book<A, N>, from: usize) -> Option<usize>
-    ensures { FindsCall from book.now.entries result }
+    ensures finds { FindsCall from book.now.entries result }
+    ensures fits { IfSome result (λ place. place + 1 < 2 ^ 64) }
 {
     for place in from..book.len() {
         if let Label::Call { .. } = &book.entry(place).label {
@@ -78,8 +79,11 @@ fn carry_call<A: Adapter, N: Naming>(
 ) -> (Reply, Option<usize>)
     requires open { IsOpenOn N.handles share.old.handle (slice_index_or N.partitions share.old.client 0) }
     ensures late { IfSome result.1 (λ place. length book.old.entries ≤ place) }
+    ensures fits { IfSome result.1 (λ place. place + 1 < 2 ^ 64) }
     ensures told { IsTold N.slots share.old share.new (request_of (slice_index_or N.partitions share.old.client 0) call) (buffer_of call) book.new.entries result.0 result.1 }
 {
+    laws_of_numbers();
+    host.table.shows_opening();
     book.shows_whole();
     let from = book.len();
     let event = call.on(share.handle());
@@ -129,8 +133,8 @@ fn take_answer<A: Adapter, N: Naming>(
     ensures answer { IfSome result (λ r. (r.1.number ≡ number) × (call < r.0) × ((client : ℕ) (q : ClientRequest) → Stands book.old.entries call (CallLabel number q) client → Stands book.old.entries r.0 (as_answer r.1) client)) }
 {
     laws_of_answers();
+    host.table.shows_opening();
     book.shows_whole();
-    let opening = &host.table;
     let answer = book.take_answer(number)?;
     let Some(place) = find_answer(book, number, call) else {
         unreachable!()
@@ -244,15 +248,22 @@ impl<N: Naming> Account<N> {
     ) -> Answered
         requires ticket { ticket.client ≡ self.old.share.client }
         requires room { 0 < self.old.answered.room }
-        ensures taken { IsTaken self.old ticket result self.new }
+        ensures taken { IsTaken self.old ticket.number ticket.place result self.new }
     {
-        let mut ticket = ticket;
-        if let Some((answer, claim)) = ticket.early {
-            return self.keep_answer(&host.history, ticket.place, ticket.place + 1, answer, claim);
+        let Ticket {
+            number,
+            place,
+            claim,
+            early,
+            ..
+        } = ticket;
+        if let Some((answer, told)) = early {
+            return self.keep_answer(&host.history, place, place + 1, answer, told);
         }
+        let mut claim = claim;
         let mut book = host.book.lock(rt);
         for _ in rt.forever() {
-            if let Some(answered) = self.answer_in(host, &mut book, &mut ticket) {
+            if let Some(answered) = self.answer_in(host, &mut book, number, place, &mut claim) {
                 return answered;
             }
             book = host.told.wait(rt, book);
@@ -265,18 +276,20 @@ impl<N: Naming> Account<N> {
         &mut self,
         host: &Host<A, N>,
         book: &mut Book<A, N>,
-        ticket: &mut Ticket<N>,
+        number: u64,
+        call: usize,
+        claim: &mut Claims<Entry, N>,
     ) -> Option<Answered>
-        requires ticket { ticket.old.client ≡ self.old.share.client }
+        requires claim { (q : ClientRequest) × (claim.old ≡ receipt call (CallLabel number q) self.old.share.client) }
         requires room { 0 < self.old.answered.room }
-        ensures ticket { ticket.new ≡ ticket.old }
-        ensures taken { IfSome result (λ answered. IsTaken self.old ticket.old answered self.new) }
+        ensures claim { claim.new ≡ claim.old }
+        ensures taken { IfSome result (λ answered. IsTaken self.old number call answered self.new) }
         ensures none { IfNone result (self.new ≡ self.old) }
     {
-        book.check(&host.history, &mut ticket.claim);
-        let (place, answer) = take_answer(host, book, ticket.number, ticket.place)?;
-        let claim = book.claim(&host.history, place);
-        Some(self.keep_answer(&host.history, ticket.place, place, answer, claim))
+        book.check(&host.history, claim);
+        let (place, answer) = take_answer(host, book, number, call)?;
+        let told = book.claim(&host.history, place);
+        Some(self.keep_answer(&host.history, call, place, answer, told))
     }
 
     // An answer that stands in the trace, with its receipt.

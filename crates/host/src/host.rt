@@ -161,7 +161,9 @@ impl<A: Adapter, N: Naming> Host<A, N> {
     }
 
     // A step that is no client's, of which those who wait are told.
-    fn step<R: Wait>(&self, rt: &R, event: Event) -> Reply {
+    fn step<R: Wait>(&self, rt: &R, event: Event) -> Reply
+        requires { (is_handle_event event ≡ false) × (call_handle event ≡ None) }
+    {
         let reply = self.step_in(&mut self.book.lock(rt), event);
         self.told.notify_all();
         reply

@@ -25,3 +25,11 @@ pub(crate) struct Door<N: Naming> {
     pub of: PhantomData<N>,
     pub ghost is: { gate ≡ N.gate },
 }
+
+impl<N: Naming> Table<N> {
+    /// What is known of the names, for who calls this.
+    pub(crate) fn shows_opening(&self)
+        ensures slots { N.rules.open_requests ≡ Some N.slots }
+        ensures opening { IsOpening N.opening }
+    {}
+}

@@ -1,0 +1,12 @@
+use Rattle.std.proofs.Common.{◌≡◌, refl, sym, ap, ◌∙◌, subst}
+use Rattle.io_manager.specs.Right.{as_answer}
+use Rattle.host.specs.Receipts.{ReceiptsView, receipt}
+use Rattle.host.specs.Accounts.{AccountKept, AccountView}
+use Rattle.host.proofs.Accounts.{account_answered}
+use Rattle.host.proofs.account.Account.keep_answer.Goals as goal
+
+pub invariant_of-self : goal.invariant_of-self
+invariant_of-self g c =
+    let is = c.requires.claim ∙ (λ i. receipt c.args.place (as_answer c.args.answer) (sym c.self.view_is i).share.client) in
+    subst (λ (r : ReceiptsView). AccountKept g.N.Naming-2.handles g.N.Naming-2.partitions c.self.inside.share c.self.inside.called.list r.list) (sym c.keep.ensures)
+    (account_answered g.N.Naming-2.handles g.N.Naming-2.partitions c.self.inside.share c.self.inside.called.list c.self.inside.answered.list c.args.claim c.args.place (as_answer c.args.answer) c.self.invariant is tt)
