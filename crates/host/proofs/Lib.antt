@@ -7,3 +7,6 @@ pub mod Collecting
 pub mod Ending
 pub mod Accounts
 pub mod Issuing
+pub mod Opening
+pub mod Ticketing
+pub mod Making

@@ -92,6 +92,12 @@ HasReceipts partition old call reason None new = HasNoReceipt old new × IsWitho
 HasReceipts partition old call (Refused reason) (Some places) new = AreAnsweredAt partition call reason places old.client old.called old.answered new.called new.answered
 HasReceipts partition old call TooManyTickets (Some places) new = ⊥
 
+-- why a pass got no hold: it saw the gate closed, or it has as many as its quota
+abbrev pub HasNoHold : Reason → PassView → PassView → Type 0
+HasNoHold (Refused DeletePending) old new = (new.holds ≡ old.holds) × (new.quota ≡ old.quota) × (new.saw_closed ≡ true)
+HasNoHold (Refused _) old new = ⊥
+HasNoHold TooManyTickets old new = (new ≡ old) × (old.holds ≡ old.quota)
+
 -- no ticket, and the caller's bytes
 pub record IsRefused (partition : ℕ) (old : ClientView) (call : Call) (refusal : Refusal) (new : ClientView) : Type 0 where
   pub bytes : refusal.bytes ≡ buffer_of call

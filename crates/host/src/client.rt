@@ -1,5 +1,6 @@
 ghost use Rattle.std.specs.Prelude.{◌≡◌, ◌<◌, ◌+◌, IfErr, IfOk, slice_index_or};
-ghost use Rattle.host.specs.Clients.{IsIssued, IsMarked, IsRefused, IsWaited};
+ghost use Rattle.remove_lock.specs.Answers.{IsHeld};
+ghost use Rattle.host.specs.Clients.{HasNoHold, IsIssued, IsMarked, IsRefused, IsWaited};
 ghost use Rattle.host.specs.Receipts.{places_of};
 
 use crate::account::Account;
@@ -40,6 +41,20 @@ impl<N: Naming> Model for Client<N> {
     ghost invariant = { λ c. ClientKept N.gate N.marks c.account c.pass c.seat c.out };
 }
 
+// Takes a hold on the gate for a ticket.
+fn take_hold<A: Adapter, N: Naming>(host: &Host<A, N>, pass: &mut Pass) -> Result<(), Reason>
+    requires gate { pass.old.gate ≡ N.gate }
+    ensures gate { pass.new.gate ≡ N.gate }
+    ensures held { IfOk result (λ _. IsHeld pass.old.view pass.new.view) }
+    ensures refused { IfErr result (λ reason. HasNoHold reason pass.old.view pass.new.view) }
+{
+    match host.door.gate.acquire(pass) {
+        Ok(()) => Ok(()),
+        Err(AcquireFault::DeletePending) => Err(Reason::Refused(Why::DeletePending)),
+        Err(AcquireFault::TooManyHolds) => Err(Reason::TooManyTickets),
+    }
+}
+
 impl<N: Naming> Client<N> {
     /// Its number, from 0.
     pub fn client(&self) -> usize
@@ -78,17 +93,12 @@ impl<N: Naming> Client<N> {
         ensures issued { IfOk result (λ t. IsIssued (slice_index_or N.partitions self.old.client 0) self.old t call self.new) }
         ensures refused { IfErr result (λ r. IsRefused (slice_index_or N.partitions self.old.client 0) self.old call r self.new) }
     {
-        if self.account.make_places(self.out).is_err() {
+        let Ok(()) = self.account.make_places(self.out) else {
             return Err(call.refused(host.alloc, Reason::Refused(Why::InsufficientResources)));
-        }
-        match host.door.gate.acquire(&mut self.pass) {
+        };
+        match take_hold(host, &mut self.pass) {
             Ok(()) => {}
-            Err(AcquireFault::DeletePending) => {
-                return Err(call.refused(host.alloc, Reason::Refused(Why::DeletePending)));
-            }
-            Err(AcquireFault::TooManyHolds) => {
-                return Err(call.refused(host.alloc, Reason::TooManyTickets));
-            }
+            Err(reason) => return Err(call.refused(host.alloc, reason)),
         }
         let issued = self.account.issue_in(host, &mut host.book.lock(rt), call);
         host.told.notify_all();
