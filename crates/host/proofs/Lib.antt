@@ -8,5 +8,4 @@ pub mod Ending
 pub mod Accounts
 pub mod Issuing
 pub mod Opening
-pub mod Ticketing
 pub mod Making
