@@ -1,6 +1,6 @@
 -- The answer to a request stands once, behind its call and in its row.
-use Rattle.std.proofs.Common.{◌≡◌, ◌≢◌, ℕ, zero, suc, ◌+◌, ◌-◌, ◌<◌, ◌≤◌, List, [], ◌∷◌, ◌++◌, length, map, Option, Some, None, refl, sym, ap, ◌∙◌, subst, arith, inl, inr}
-use Rattle.std.specs.Prelude.{◌⊎◌, All, Contains, IsNone, eqb, slice_get, slice_index_or}
+use Rattle.std.proofs.Common.{◌≡◌, ◌≢◌, ℕ, zero, suc, ◌<◌, List, [], ◌∷◌, ◌++◌, length, map, Option, Some, None, refl, sym, ap, ◌∙◌, subst, arith}
+use Rattle.std.specs.Prelude.{All, Contains, IsNone, eqb, slice_get, slice_index_or}
 use Rattle.std.specs.List.{IsDistinct}
 use Rattle.std.proofs.lemmas.List.Elements.{All-nil}
 use mathlib.Core.Logic.{dite}
@@ -16,7 +16,7 @@ use Rattle.machine_laws.specs.NumberLaws.{IsNoAnswerOf, IsNoCallOf, call_numbers
 use Rattle.io_manager.specs.declared.Answer.{Answer}
 use Rattle.io_manager.specs.Right.{as_answer}
 use Rattle.book.specs.declared.Entry.{Entry}
-use Rattle.book.specs.Entries.{AreRowed, entry, labels_of, owner_of, row_of}
+use Rattle.book.specs.Entries.{AreRowed, entry, labels_of, row_of}
 use Rattle.host.specs.Calls.{AnswerLaws, FindsAnswer, IsAnswerOf, Stands}
 use Rattle.host.specs.Opening.{IsOpening}
 
@@ -66,6 +66,7 @@ each_label P es k e all at = subst P (same es k at) (all k e.label (long es k at
     same [] k at = absurd (cc)
     same (x ∷ es) zero at = ap (λ y. y.label) (some_same at)
     same (x ∷ es) (suc k) at = same es k at
+
     long : (es : List Entry) (k : ℕ) → slice_get es k ≡ Some e → k < length (labels_of es)
     long [] k at = absurd (cc)
     long (x ∷ es) zero at = omega arith

@@ -1,6 +1,6 @@
 -- What the trace tells of a client's call.
 use Rattle.std.proofs.Common.{◌≡◌, ℕ, zero, suc, ◌+◌, ◌-◌, ◌<◌, ◌≤◌, ◌==◌, Bool, true, false, if◌then◌else◌, List, [], ◌∷◌, ◌++◌, length, map, Option, Some, None, refl, sym, ap, ◌∙◌, subst, arith, append_assoc, length-append, inl, inr}
-use Rattle.std.specs.Prelude.{◌⊎◌, ◌^◌, nat_le, slice_get, slice_index_or}
+use Rattle.std.specs.Prelude.{◌⊎◌, ◌^◌, slice_get, slice_index_or}
 use Rattle.std.proofs.lemmas.Bool.Decides.{nat_tests}
 use Rattle.ntstatus.specs.declared.NtStatus.{NtStatus}
 use Rattle.ntstatus.specs.declared.NtStatus.TheVariants.{Success}
@@ -20,7 +20,7 @@ use Rattle.compose.specs.declared.Event.TheVariants.{Read as ReadEvent, Write as
 use Rattle.io_manager.specs.declared.Reply.{Reply}
 use Rattle.io_manager.specs.declared.Reply.TheVariants.{Handle as HandleReply, Ok as OkReply, Request as Requested, Answered, Refused, Ignored}
 use Rattle.io_manager.specs.Calls.{are_used_up, bytes_called, call_on, partition_at, partition_of, status_of_refusal, without_bytes}
-use Rattle.io_manager.specs.Right.{IsRight, CallReplies, IsAdmitted, IsAnsweredAtOnce as AnswersAtOnce, IsSlotOf, IsTurnedAway, Told, TransferReplies, as_answer, end_labels, labels_of, tells_nothing}
+use Rattle.io_manager.specs.Right.{IsRight, CallReplies, IsAdmitted, IsAnsweredAtOnce as AnswersAtOnce, IsSlotOf, IsTurnedAway, Told, TransferReplies, as_answer, end_labels, labels_of}
 use Rattle.io_manager.specs.Shown.{ManagerView}
 use Rattle.book.specs.declared.Entry.{Entry}
 use Rattle.book.specs.Entries.{entry, is_call, owner_of, row_of}
@@ -28,11 +28,11 @@ use Rattle.book.specs.Pages.{PagesView, noted, noted_all}
 use Rattle.book.specs.Told.{AreNoCalls}
 use Rattle.book.specs.Shares.{ShareView}
 use Rattle.book.specs.Opening.{IsOpenOn}
-use Rattle.book.specs.Book.{BookView, AreLooked, HasCounted as Counts, IsCarried, IsServed, IsWanting, bytes_of, pages_of}
+use Rattle.book.specs.Book.{BookView, AreLooked, HasCounted as Counts, IsServed, IsWanting, bytes_of, pages_of}
 use Rattle.host.specs.declared.call.Call.{Call}
 use Rattle.host.specs.declared.call.Call.TheVariants.{Read, Write, Flush}
 use Rattle.host.specs.Calls.{FindsCall, HasCounted, IsAnsweredAtOnce, IsOpened, IsTold, LeavesNoLabel, Stands, asked, buffer_of, event_of, request_of}
-use Rattle.host.proofs.Quiet.{IsQuiet, NoCalls, Still, no_calls_append, quiet, rest_calls_none, still_all}
+use Rattle.host.proofs.Quiet.{NoCalls, Still, quiet, rest_calls_none, still_all}
 
 -- PLACES
 
@@ -86,8 +86,7 @@ called : (client : ℕ) (p : PagesView) (labels rest : List Label) (n : ℕ) (q 
     → (back : List Entry) × AddsCall client p labels (CallLabel n q) back
 called client p labels rest n q is none next =
     let quiet' = quiet client (noted client p (CallLabel n q)) rest none in
-    let row : row_of (p.owners ++ client ∷ []) (CallLabel n q) ≡ Some client = owner_new p.owners n client next in
-    (
+    let row : row_of (p.owners ++ client ∷ []) (CallLabel n q) ≡ Some client = owner_new p.owners n client next in (
       quiet'.more,
       record {
         entries = ap (λ ls. (noted_all client p ls).entries) is ∙ quiet'.entries ∙ append_assoc p.entries (entry (CallLabel n q) (row_of (p.owners ++ client ∷ []) (CallLabel n q)) ∷ []) quiet'.more
@@ -143,11 +142,13 @@ found client old new label back is comes (Some p) finds = (p, refl, subst (λ k.
   where
     same : p ≡ length old.entries + length comes.front
     same = at_call old.entries comes.front back (entry label (Some client)) p finds.1.0 comes.none_front comes.none_back finds.0 (ap (λ es. slice_get es p) (sym comes.entries) ∙ finds.1.1) finds.1.2
+
     here : slice_get new.entries (length old.entries + length comes.front) ≡ Some (entry label (Some client))
     here = ap (λ es. slice_get es (length old.entries + length comes.front)) comes.entries
         ∙ get_behind old.entries (comes.front ++ entry label (Some client) ∷ back) (length comes.front)
         ∙ ap (slice_get (comes.front ++ entry label (Some client) ∷ back)) (let z : length comes.front ≡ length comes.front + 0 = omega arith in z)
         ∙ get_behind comes.front (entry label (Some client) ∷ back) 0
+
     behind : slice_get new.entries (length old.entries + (length comes.front + 1)) ≡ slice_get back 0
     behind = ap (λ es. slice_get es (length old.entries + (length comes.front + 1))) comes.entries
         ∙ get_behind old.entries (comes.front ++ entry label (Some client) ∷ back) (length comes.front + 1)
@@ -202,8 +203,7 @@ module _ (slots : ℕ) (old mid new : BookView) (before after : ShareView) (q : 
       let number_is : number ≡ length mid.owners + 1 = a.next_number ∙ next in
       let adds = called before.client (pages_of mid) stepped.labels ((map as_label told.device ++ map as_answer told.answers) ++ end_labels told.ends) number q (order ∙ opened_labels mid.stack handle q slot number told a) (rest_calls_none told) number_is in
       let f = found before.client old new (CallLabel number q) adds.0 refl (comes before.client old mid new stepped.labels (CallLabel number q) adds.0 still carried.entries adds.1) place finds in
-      let limit = small_number mid.stack.state.next_request a.numbers_last in
-      (
+      let limit = small_number mid.stack.state.next_request a.numbers_last in (
         f.0,
         f.1,
         record {
@@ -223,8 +223,7 @@ module _ (slots : ℕ) (old mid new : BookView) (before after : ShareView) (q : 
       let n : ℕ = mid.stack.state.next_request in
       let back : List Entry = entry (AnswerLabel n status 0 []) (Some before.client) ∷ [] in
       let adds = called_twice before.client (pages_of mid) stepped.labels n (without_bytes q) status 0 [] (order ∙ at_once_labels mid.stack q status stepped' told a) next in
-      let f = found before.client old new (CallLabel n (without_bytes q)) back refl (comes before.client old mid new stepped.labels (CallLabel n (without_bytes q)) back still carried.entries adds) place finds in
-      (
+      let f = found before.client old new (CallLabel n (without_bytes q)) back refl (comes before.client old mid new stepped.labels (CallLabel n (without_bytes q)) back still carried.entries adds) place finds in (
         f.0,
         f.1,
         record {

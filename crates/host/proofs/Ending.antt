@@ -18,8 +18,10 @@ closed_is rules opening last n v clients trace rows numbered are run borne sum =
   where
     sum_n : total n (λ c. length (client_at clients c).called) ≡ calls v.entries
     sum_n = ap (λ (k : ℕ). total k (λ c. length (client_at clients c).called)) (sym numbered.all) ∙ sum
+
     borne_n : AreBorneOut v.entries n clients
     borne_n = subst (λ (k : ℕ). AreBorneOut v.entries k clients) numbered.all borne
+
     at : IsClosed rules opening clients v.entries rows
     at = record {
       last = last;

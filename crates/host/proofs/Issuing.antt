@@ -1,5 +1,5 @@
 -- A call that was taken in, and its receipt.
-use Rattle.std.proofs.Common.{◌≡◌, ℕ, ◌+◌, ◌-◌, ◌<◌, ◌≤◌, List, [], ◌∷◌, ◌++◌, length, Option, Some, refl, sym, ap, ◌∙◌, subst, arith}
+use Rattle.std.proofs.Common.{◌≡◌, ℕ, ◌-◌, ◌<◌, ◌≤◌, List, [], ◌∷◌, ◌++◌, length, Option, Some, sym, ap, ◌∙◌, subst}
 use Rattle.std.specs.Prelude.{slice_get}
 use Rattle.std.proofs.lemmas.Option.{slice_get_within}
 use Rattle.machine.specs.declared.ClientRequest.{ClientRequest}
@@ -38,10 +38,13 @@ received handles partitions share share' called checked noted answered claim es 
   where
     claim_is : claim ≡ receipt place (CallLabel number q) share.client
     claim_is = receipt_is new place (CallLabel number q) share.client entry.0 claim stands entry.1 entry.2
+
     below : AreBelow (length es) called.list
     below = below_stand es called.list stand
+
     late' : length es ≤ place
     late' = subst (λ (xs : List Entry). length xs ≤ place) same_es late
+
     list : noted.list ≡ called.list ++ claim
     list = ap (λ (r : ReceiptsView). r.list) noted_is ∙ ap (λ (r : ReceiptsView). r.list ++ claim) same
 

@@ -1,12 +1,9 @@
 -- What a host is opened with.
-use Rattle.std.proofs.Common.{◌≡◌, ℕ, zero, suc, ◌+◌, ◌<◌, ◌≤◌, List, [], ◌∷◌, length, map, replicate, Option, Some, refl, sym, ap, ◌∙◌, subst, arith}
-use Rattle.std.specs.Prelude.{All, max, slice_get, slice_index_or}
+use Rattle.std.proofs.Common.{◌≡◌, ℕ, zero, suc, ◌+◌, ◌≤◌, List, length, map, replicate, Some, refl, sym, ap, ◌∙◌, subst, arith}
+use Rattle.std.specs.Prelude.{All, max, slice_index_or}
 use Rattle.std.proofs.lemmas.List.Elements.{All-nil, All-cons}
 use Rattle.std.proofs.lemmas.Option.{slice_get-get_or, slice_get_within}
 use Rattle.atomic_table.specs.Seated.{TableId}
-use Rattle.machine.specs.State.{State, opening}
-use Rattle.machine.specs.Numbers.{piece_number}
-use Rattle.machine_laws.specs.NumberLaws.{awaited}
 use Rattle.io_manager.specs.declared.Handle.{Handle}
 use Rattle.io_manager.specs.Shown.{ManagerView}
 use Rattle.remove_lock.specs.Gate.{Standing, issued, standing, fresh}
@@ -14,7 +11,7 @@ use Rattle.cancel_marks.specs.Marks.{Standing as SeatStanding, standing as seat_
 use Rattle.book.specs.declared.sizes.Sizes.{Sizes}
 use Rattle.book.specs.Opening.{AreOpened, IsNew}
 use Rattle.book.specs.Sizes.{AreSizes, sizes_of}
-use Rattle.host.specs.Opening.{AreHandlesFor, IsClientPass, IsOpening, IsReady, client_limit}
+use Rattle.host.specs.Opening.{IsClientPass, IsOpening, IsReady, client_limit}
 use Rattle.host.specs.Clients.{ticket_limit}
 
 -- PASSES

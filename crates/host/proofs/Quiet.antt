@@ -1,5 +1,5 @@
 -- Steps that tell of no call.
-use Rattle.std.proofs.Common.{◌≡◌, ℕ, zero, suc, ◌+◌, Bool, true, false, if◌then◌else◌, List, [], ◌∷◌, ◌++◌, length, map, Option, Some, None, refl, sym, ap, ◌∙◌, subst, arith, append_assoc}
+use Rattle.std.proofs.Common.{◌≡◌, ℕ, zero, suc, Bool, true, false, if◌then◌else◌, List, [], ◌∷◌, ◌++◌, length, map, Option, Some, None, refl, sym, ap, ◌∙◌, subst, arith, append_assoc}
 use Rattle.std.proofs.lemmas.List.{append-nil}
 use Rattle.srb.specs.declared.DeviceLabel.{DeviceLabel}
 use Rattle.machine.specs.declared.Label.{Label}
@@ -9,7 +9,7 @@ use Rattle.machine_laws.specs.NumberLaws.{CallsCount, call_numbers}
 use Rattle.io_manager.specs.declared.Answer.{Answer}
 use Rattle.io_manager.specs.declared.Reply.{Reply}
 use Rattle.io_manager.specs.declared.Reply.TheVariants.{Handle, Ok as OkReply, Request, Answered, Refused, Ignored}
-use Rattle.io_manager.specs.Right.{IsRight, MarkReplies, Told, CancelsOne, as_answer, end_labels, labels_of, tells_nothing}
+use Rattle.io_manager.specs.Right.{MarkReplies, Told, CancelsOne, as_answer, end_labels, labels_of}
 use Rattle.io_manager.specs.Shown.{ManagerView}
 use Rattle.compose.specs.declared.Event.TheVariants.{Mark}
 use Rattle.book.specs.declared.Entry.{Entry}

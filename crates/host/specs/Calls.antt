@@ -1,5 +1,5 @@
 -- A client's call, and what the trace tells of it.
-use Rattle.std.specs.Prelude.{◌≡◌, ◌≤◌, ◌<◌, ◌^◌, ◌⊎◌, ℕ, ◌+◌, Bool, false, true, List, [], Option, Some, None, length, slice_get}
+use Rattle.std.specs.Prelude.{◌≡◌, ◌≤◌, ◌<◌, ◌^◌, ℕ, ◌+◌, Bool, false, true, List, [], Option, Some, None, length, slice_get}
 use Rattle.machine.specs.declared.Kind.{Kind}
 use Rattle.machine.specs.declared.Kind.TheVariants.{Read as ReadKind, Write as WriteKind, Flush as FlushKind}
 use Rattle.machine.specs.declared.ClientRequest.{ClientRequest}
@@ -7,11 +7,10 @@ use Rattle.machine.specs.declared.Label.{Label}
 use Rattle.machine.specs.declared.Label.TheVariants.{Call as CallLabel, Answer as AnswerLabel}
 use Rattle.machine_laws.specs.NumberLaws.{AnswersOnce, AnswersWereCalled, CallsOnce}
 use Rattle.io_manager.specs.declared.Handle.{Handle}
-use Rattle.io_manager.specs.declared.OpenHandle.{OpenHandle}
 use Rattle.io_manager.specs.declared.Refusal.{Refusal}
 use Rattle.io_manager.specs.declared.Refusal.TheVariants.{DeviceBusy, InsufficientResources}
 use Rattle.io_manager.specs.declared.Reply.{Reply}
-use Rattle.io_manager.specs.declared.Reply.TheVariants.{Request as Requested, Answered, Refused, Handle as HandleReply, Ok as OkReply, Ignored}
+use Rattle.io_manager.specs.declared.Reply.TheVariants.{Request as Requested, Answered, Refused}
 use Rattle.io_manager.specs.Calls.{bytes_called, status_of_refusal, without_bytes}
 use Rattle.io_manager.specs.Right.{as_answer}
 use Rattle.compose.specs.declared.Event.{Event}

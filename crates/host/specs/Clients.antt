@@ -1,13 +1,7 @@
 -- A client, and what issuing, waiting and marking do to it.
-use Rattle.std.specs.Prelude.{◌≡◌, ◌≤◌, ◌<◌, ℕ, ◌+◌, true, List, [], ◌∷◌, ◌++◌, Option, Some, None, length, slice_index_or}
-use Rattle.machine.specs.declared.ClientRequest.{ClientRequest}
-use Rattle.machine.specs.declared.Label.TheVariants.{Call as CallLabel, Answer as AnswerLabel}
-use Rattle.io_manager.specs.declared.Answer.{Answer}
-use Rattle.io_manager.specs.declared.Handle.{Handle}
-use Rattle.io_manager.specs.declared.OpenHandle.{OpenHandle}
-use Rattle.io_manager.specs.declared.Refusal.{Refusal as Why}
+use Rattle.std.specs.Prelude.{◌≡◌, ◌≤◌, ◌<◌, ℕ, ◌+◌, true, List, [], ◌++◌, Option, Some, None, length, slice_index_or}
+use Rattle.machine.specs.declared.Label.TheVariants.{Call as CallLabel}
 use Rattle.io_manager.specs.declared.Refusal.TheVariants.{DeletePending}
-use Rattle.io_manager.specs.Calls.{status_of_refusal, without_bytes}
 use Rattle.io_manager.specs.Right.{as_answer}
 use Rattle.atomic_table.specs.Seated.{TableId}
 use Rattle.remove_lock.specs.declared.rule.View.{View as PassView}
@@ -18,15 +12,13 @@ use Rattle.cancel_marks.specs.declared.Marking.{Marking}
 use Rattle.cancel_marks.specs.declared.Marking.TheVariants.{Gone}
 use Rattle.cancel_marks.specs.Marks.{Standing as SeatStanding, fresh as fresh_seat}
 use Rattle.cancel_marks.specs.Answers.{IsAnswer}
-use Rattle.book.specs.Opening.{IsOpenOn}
-use Rattle.book.specs.Shares.{ShareView}
 use Rattle.host.specs.declared.call.Answered.{Answered}
 use Rattle.host.specs.declared.call.Call.{Call}
 use Rattle.host.specs.declared.call.Places.{Places}
 use Rattle.host.specs.declared.call.Reason.{Reason}
 use Rattle.host.specs.declared.call.Reason.TheVariants.{Refused, TooManyTickets}
 use Rattle.host.specs.declared.call.Refusal.{Refusal}
-use Rattle.host.specs.Receipts.{Receipt, ReceiptsView, AreBelow, AreCalls, AreAnswers, AreRising, receipt}
+use Rattle.host.specs.Receipts.{Receipt, AreBelow, receipt}
 use Rattle.host.specs.Calls.{buffer_of, request_of}
 use Rattle.host.specs.Tickets.{TicketView}
 use Rattle.host.specs.Accounts.{AccountView, AreAnsweredAt, told_request}

@@ -87,18 +87,20 @@ fn carry_call<A: Adapter, N: Naming>(
     book.shows_whole();
     let from = book.len();
     let event = call.on(share.handle());
-    let reply = book.step(host.alloc, &host.history, &host.table.marks, Some(share), event);
+    let reply = book.step(
+        host.alloc,
+        &host.history,
+        &host.table.marks,
+        Some(share),
+        event,
+    );
     book.shows_whole();
     let place = find_call(book, from);
     (reply, place)
 }
 
 // The place of the first answer of this number from a place of the trace on.
-fn find_answer<A: Adapter, N: Naming>(
-    book: &Book<A, N>,
-    number: u64,
-    from: usize,
-) -> Option<usize>
+fn find_answer<A: Adapter, N: Naming>(book: &Book<A, N>, number: u64, from: usize) -> Option<usize>
     ensures { FindsAnswer number from book.now.entries result }
 {
     for place in from..book.len() {
@@ -115,7 +117,8 @@ fn answers(label: &Label, number: u64) -> bool
 {
     match label {
         Label::Answer {
-            number: answered, ..
+            number: answered,
+            ..
         } => *answered == number,
         _ => false,
     }
@@ -293,7 +296,14 @@ impl<N: Naming> Account<N> {
     }
 
     // An answer that stands in the trace, with its receipt.
-    fn keep_answer(&mut self, history: &History<Entry, N>, call: usize, place: usize, answer: Answer, claim: Claims<Entry, N>) -> Answered
+    fn keep_answer(
+        &mut self,
+        history: &History<Entry, N>,
+        call: usize,
+        place: usize,
+        answer: Answer,
+        claim: Claims<Entry, N>,
+    ) -> Answered
         requires claim { claim ≡ receipt place (as_answer answer) self.old.share.client }
         requires room { 0 < self.old.answered.room }
         ensures result { result ≡ record { answer = answer; places = record { call = call; answer = place } } }
@@ -303,7 +313,10 @@ impl<N: Naming> Account<N> {
         self.answered.keep(history, place, claim);
         Answered {
             answer,
-            places: Places { call, answer: place },
+            places: Places {
+                call,
+                answer: place,
+            },
         }
     }
 }

@@ -11,7 +11,10 @@ use std::alloc::Global;
 #[derive(Debug, Drop)]
 pub enum Call {
     /// A read of as many bytes as the buffer has (WDK: IRP_MJ_READ).
-    Read { offset: u64, buffer: Bytes },
+    Read {
+        offset: u64,
+        buffer: Bytes,
+    },
     /// A write of these bytes, past volatile caches if `through` (WDK: IRP_MJ_WRITE, SL_WRITE_THROUGH).
     Write {
         offset: u64,

@@ -139,6 +139,8 @@ impl<N: Naming> Client<N> {
         if ticket.early.is_some() {
             return Marking::Gone;
         }
-        host.table.marks.mark(&mut self.seat, ticket.slot, ticket.number)
+        host.table
+            .marks
+            .mark(&mut self.seat, ticket.slot, ticket.number)
     }
 }

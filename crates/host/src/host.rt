@@ -78,8 +78,20 @@ fn make_clients<N: Naming>(
         let (Some(seat), Some(pass)) = (seats.pop(), passes.pop()) else {
             unreachable!()
         };
-        let account = Account::new(alloc, c, handles[c], all.split_off(1, 0), whole.no_claims(history), whole.no_claims(history));
-        clients.push_reserved(Client { account, pass, seat, out: 0 });
+        let account = Account::new(
+            alloc,
+            c,
+            handles[c],
+            all.split_off(1, 0),
+            whole.no_claims(history),
+            whole.no_claims(history),
+        );
+        clients.push_reserved(Client {
+            account,
+            pass,
+            seat,
+            out: 0,
+        });
     }
     Ok(clients)
 }
@@ -115,7 +127,15 @@ impl<A: Adapter, N: Naming> Host<A, N> {
         let (history, mut whole) = history.named::<N>();
         let (tally, mut all) = ledger.open::<N>();
         let mut passes = passes;
-        let clients = make_clients(alloc, &history, &mut whole, &mut all, handles, seats, &mut passes)?;
+        let clients = make_clients(
+            alloc,
+            &history,
+            &mut whole,
+            &mut all,
+            handles,
+            seats,
+            &mut passes,
+        )?;
         let Some(pass) = passes.pop() else {
             unreachable!()
         };
@@ -157,7 +177,13 @@ impl<A: Adapter, N: Naming> Host<A, N> {
         requires { (is_handle_event event ≡ false) × (call_handle event ≡ None) }
         ensures { IsStepped N.slots None (inl tt) book.old event result book.new }
     {
-        book.step(self.alloc, &self.history, &self.table.marks, Share::none(), event)
+        book.step(
+            self.alloc,
+            &self.history,
+            &self.table.marks,
+            Share::none(),
+            event,
+        )
     }
 
     // A step that is no client's, of which those who wait are told.

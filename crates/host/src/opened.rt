@@ -85,7 +85,11 @@ impl<A: Adapter> Model for Opened<A> {
 }
 
 // A table of so many slots, with the owner's seat and one for each client.
-fn make_marks(alloc: Global, slots: usize, clients: usize) -> Result<(Marks, Seat, Vec<Seat>), HostFault>
+fn make_marks(
+    alloc: Global,
+    slots: usize,
+    clients: usize,
+) -> Result<(Marks, Seat, Vec<Seat>), HostFault>
     requires few { clients ≤ client_limit }
     ensures slots { IfOk result (λ r. r.0.1 ≡ slots) }
     ensures owner { IfOk result (λ r. r.1 ≡ standing r.0.0 0 (starting (max slots 1))) }

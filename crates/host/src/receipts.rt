@@ -64,7 +64,12 @@ impl<N: Naming> Receipts<N> {
     }
 
     /// One more.
-    pub(crate) fn keep(&mut self, history: &History<Entry, N>, place: usize, claim: Claims<Entry, N>)
+    pub(crate) fn keep(
+        &mut self,
+        history: &History<Entry, N>,
+        place: usize,
+        claim: Claims<Entry, N>,
+    )
         requires one { (e : EntryView) × (claim ≡ (place, e) ∷ []) }
         requires room { 0 < self.old.room }
         ensures { self.new ≡ record { list = self.old.list ++ claim; room = self.old.room - 1 } }
@@ -94,11 +99,7 @@ impl<N: Naming> Receipts<N> {
     }
 
     /// All of them stand in the trace.
-    pub(crate) fn check<A: Adapter>(
-        &mut self,
-        history: &History<Entry, N>,
-        book: &mut Book<A, N>,
-    )
+    pub(crate) fn check<A: Adapter>(&mut self, history: &History<Entry, N>, book: &mut Book<A, N>)
         ensures same { (book.new ≡ book.old) × (self.new ≡ self.old) }
         ensures stand { AllStand book.old.entries self.old.list }
     {

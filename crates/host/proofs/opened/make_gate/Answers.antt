@@ -1,4 +1,4 @@
-use Rattle.std.proofs.Common.{◌≡◌, ◌+◌, ℕ, sym, ap, ◌∙◌, subst}
+use Rattle.std.proofs.Common.{◌+◌, ◌∙◌}
 use Rattle.host.proofs.Opening.{passes_are}
 use Rattle.host.proofs.opened.make_gate.Goals as goal
 

@@ -1,9 +1,8 @@
-use Rattle.std.proofs.Common.{◌≡◌, ℕ, List, Option, Some, length, sym, ap, ◌∙◌, subst}
+use Rattle.std.proofs.Common.{ℕ, sym, subst}
 use Rattle.machine.specs.declared.ClientRequest.{ClientRequest}
 use Rattle.machine.specs.declared.Label.TheVariants.{Call as CallLabel}
 use Rattle.io_manager.specs.Right.{as_answer}
 use Rattle.chronicle.specs.Claims.{AllStand}
-use Rattle.book.specs.declared.Entry.{Entry}
 use Rattle.book.specs.Book.{BookView}
 use Rattle.host.specs.Calls.{Stands}
 use Rattle.host.proofs.Issuing.{stands_within}

@@ -1,10 +1,9 @@
-use Rattle.std.proofs.Common.{◌≡◌, ◌≤◌, ◌+◌, ◌-◌, ◌++◌, ℕ, List, [], Option, Some, None, length, refl, sym, ap, ◌∙◌, subst, arith}
+use Rattle.std.proofs.Common.{◌≤◌, ◌+◌, ◌++◌, ℕ, List, [], Option, Some, None, length, refl, ap, ◌∙◌, subst, arith}
 use Rattle.std.specs.Prelude.{IfSome, slice_index_or}
 use Rattle.machine.specs.declared.ClientRequest.{ClientRequest}
 use Rattle.machine.specs.declared.Label.{Label}
 use Rattle.machine.specs.declared.Label.TheVariants.{Answer as AnswerLabel}
 use Rattle.io_manager.specs.declared.Reply.{Reply}
-use Rattle.io_manager.specs.declared.Reply.TheVariants.{Request as Requested, Answered, Refused as RefusedReply}
 use Rattle.io_manager.specs.Calls.{status_of_refusal, without_bytes}
 use Rattle.io_manager.specs.Right.{as_answer}
 use Rattle.book.specs.declared.Entry.{Entry}
@@ -151,8 +150,8 @@ returns-in-Refused-reply-clause-refused g c =
     let rooms = ap (λ (v : ReceiptsView). v.room) c.note.ensures.noted in
     subst (λ (v : AccountView). IsTurnedDown (slice_index_or P v.share.client 0) v c.args.call refusal new) c.self.view_is
     (record {
-          bytes = told.0;
-          same_client = told.1.1.counted.client;
-          room = omega (arith, rooms);
-          labels = record { number = told.1.0; behind = refl; above = r.above; called_is = r.list ∙ ap (λ x. c.self.inside.called.list ++ x) r.claim_is; answered_is = a.list };
-        })
+      bytes = told.0;
+      same_client = told.1.1.counted.client;
+      room = omega (arith, rooms);
+      labels = record { number = told.1.0; behind = refl; above = r.above; called_is = r.list ∙ ap (λ x. c.self.inside.called.list ++ x) r.claim_is; answered_is = a.list };
+    })

@@ -1,7 +1,7 @@
-use Rattle.std.proofs.Common.{◌≡◌, refl, sym, ap, ◌∙◌, subst}
+use Rattle.std.proofs.Common.{sym, ◌∙◌, subst}
 use Rattle.io_manager.specs.Right.{as_answer}
 use Rattle.host.specs.Receipts.{ReceiptsView, receipt}
-use Rattle.host.specs.Accounts.{AccountKept, AccountView}
+use Rattle.host.specs.Accounts.{AccountKept}
 use Rattle.host.proofs.Accounts.{account_answered}
 use Rattle.host.proofs.account.Account.keep_answer.Goals as goal
 

@@ -1,5 +1,4 @@
-use Rattle.std.proofs.Common.{◌≡◌, ℕ, List, length, sym, ap, ◌∙◌, subst, arith}
-use Rattle.book.specs.declared.Entry.{Entry}
+use Rattle.std.proofs.Common.{◌≡◌, List, length, sym, ap, ◌∙◌, subst, arith}
 use Rattle.book.specs.Book.{BookView}
 use Rattle.book.specs.Entries.{calls}
 use Rattle.host.specs.Clients.{ClientView, client_at}

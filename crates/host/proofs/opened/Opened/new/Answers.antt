@@ -1,4 +1,4 @@
-use Rattle.std.proofs.Common.{rules, ◌≡◌, ◌≤◌, ◌+◌, ◌++◌, ℕ, List, length, sym, ap, ◌∙◌, subst, arith}
+use Rattle.std.proofs.Common.{rules, ◌≡◌, ◌≤◌, ◌++◌, ℕ, List, length, sym, ap, ◌∙◌, subst}
 use Rattle.host.specs.Opening.{IsReady, client_limit}
 use Rattle.host.proofs.Opening.{is_ready}
 use Rattle.host.proofs.opened.Opened.new.Goals as goal
