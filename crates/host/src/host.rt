@@ -187,7 +187,7 @@ impl<A: Adapter, N: Naming> Host<A, N> {
     }
 
     // A step that is no client's, of which those who wait are told.
-    fn step<R: Wait>(&self, rt: &R, event: Event) -> Reply
+    pub(crate) fn step<R: Wait>(&self, rt: &R, event: Event) -> Reply
         requires { (is_handle_event event ≡ false) × (call_handle event ≡ None) }
     {
         let reply = self.step_in(&mut self.book.lock(rt), event);

@@ -10,6 +10,8 @@
 //! - `wait` spends the ticket and gives the answer of its request, which stands behind its call, with its receipt
 //!   (`waited` of [`Client::wait`]);
 //! - `mark_cancel` marks the ticket's request and no other (`marked` of [`Client::mark_cancel`]);
+//! - a removal that is accepted returns once the remove lock was closed and seen drained: no ticket is out (`drained` of
+//!   [`Host::remove`]);
 //! - once all threads are done, [`Host::close`] gives the trace, which is a run of the sector machine from the state that the
 //!   host was opened with, and a row for each client, in which all its receipts stand: the calls of a row are just its
 //!   client's, in its order (`closed`).
@@ -26,6 +28,7 @@ mod host;
 mod name;
 mod opened;
 mod receipts;
+mod removal;
 mod shared;
 mod ticket;
 
