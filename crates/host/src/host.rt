@@ -8,6 +8,7 @@ ghost use Rattle.host.specs.Opening.{AreHandlesFor, IsClientPass};
 
 use crate::account::Account;
 use crate::client::Client;
+use crate::desk::Board;
 use crate::name::Naming;
 use crate::opened::{HostFault, Opened};
 use crate::shared::{Door, Table};
@@ -31,6 +32,7 @@ pub struct Host<A: Adapter, N: Naming> {
     pub(crate) history: History<Entry, N>,
     pub(crate) table: Table<N>,
     pub(crate) door: Door<N>,
+    pub(crate) board: Board,
     pub(crate) alloc: Global,
 }
 
@@ -152,6 +154,7 @@ impl<A: Adapter, N: Naming> Host<A, N> {
                 gate,
                 of: PhantomData,
             },
+            board: Board::blank(),
             alloc,
         };
         Ok((host, Keeper { part: all, pass }, clients))

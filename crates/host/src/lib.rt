@@ -24,6 +24,7 @@ mod account;
 mod call;
 mod client;
 mod closing;
+mod desk;
 mod host;
 mod name;
 mod opened;

@@ -1,0 +1,118 @@
+//! The host as the desk of its lanes.
+
+use crate::host::Host;
+use crate::name::Naming;
+use adapter::Adapter;
+use book::Book;
+use compose::Event;
+use lanes::{Desk, Step};
+use machine::Label;
+use srb::DeviceLabel;
+use std::sync::{Mutex, Wait};
+
+/// What the trace has told of the tags.
+#[derive(Debug, Drop)]
+struct Tags {
+    // So many labels were looked at.
+    seen: usize,
+    // By tag: a piece was started of which no lane was told.
+    started: [bool; 32],
+    removed: bool,
+}
+
+impl Tags {
+    /// Looks at the labels that have come since.
+    fn catch_up<A: Adapter, N: Naming>(&mut self, book: &Book<A, N>) {
+        for place in self.seen..book.len() {
+            match &book.entry(place).label {
+                Label::Device(DeviceLabel::Start { tag, .. }) => self.start(*tag),
+                Label::Removed => self.removed = true,
+                _ => {}
+            }
+        }
+        self.seen = book.len();
+    }
+
+    fn start(&mut self, tag: u8) {
+        if let Some(started) = self.started.get_mut(usize::from(tag)) {
+            *started = true;
+        }
+    }
+
+    /// What a tag's lane has to do next, if anything. It is told of a piece once.
+    fn take(&mut self, tag: u8) -> Option<Step> {
+        if let Some(started) = self.started.get_mut(usize::from(tag)) {
+            if *started {
+                *started = false;
+                return Some(Step::Ready);
+            }
+        }
+        if self.removed {
+            Some(Step::Ended)
+        } else {
+            None
+        }
+    }
+}
+
+/// The tags, under a lock that is taken by who has the book.
+#[derive(Drop)]
+pub(crate) struct Board {
+    tags: Mutex<Tags>,
+}
+
+impl Board {
+    /// Of a book with no label.
+    pub(crate) fn blank() -> Board {
+        Board {
+            tags: Mutex::new(Tags {
+                seen: 0,
+                started: [false; 32],
+                removed: false,
+            }),
+        }
+    }
+
+    fn take<A: Adapter, N: Naming, R: Wait>(
+        &self,
+        rt: &R,
+        book: &Book<A, N>,
+        tag: u8,
+    ) -> Option<Step> {
+        let mut tags = self.tags.lock(rt);
+        tags.catch_up(book);
+        tags.take(tag)
+    }
+
+    fn is_removed<A: Adapter, N: Naming, R: Wait>(&self, rt: &R, book: &Book<A, N>) -> bool {
+        let mut tags = self.tags.lock(rt);
+        tags.catch_up(book);
+        tags.removed
+    }
+}
+
+impl<A: Adapter, N: Naming> Desk for Host<A, N> {
+    fn next<R: Wait>(&self, rt: &R, tag: u8) -> Step {
+        let mut book = self.book.lock(rt);
+        for _ in rt.forever() {
+            if let Some(step) = self.board.take(rt, &book, tag) {
+                return step;
+            }
+            book = self.told.wait(rt, book);
+        }
+        unreachable!()
+    }
+
+    fn act<R: Wait>(&self, rt: &R, tag: u8) {
+        self.step(rt, Event::Act { tag });
+    }
+
+    fn finish<R: Wait>(&self, rt: &R, tag: u8) {
+        self.step(rt, Event::Finish { tag });
+    }
+
+    fn ended<R: Wait>(&self, rt: &R) -> bool {
+        let book = self.book.lock(rt);
+        self.board.is_removed(rt, &book)
+    }
+}
