@@ -44,6 +44,7 @@ fn run(rt: &HostRuntime) -> Result<(), Fault> {
             };
             trace(alloc, config, script, &mut out)
         }
+        Command::Clients { .. } => Err(Fault::Usage),
     }
 }
 

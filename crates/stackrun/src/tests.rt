@@ -12,38 +12,55 @@ use std::test::Fail;
 #[test]
 fn reads_a_command_line(rt: HostRuntime) -> Result<(), Fail> {
     let alloc = rt.alloc();
-    let words = ["stackrun", "trace", "a/config.toml", "script"];
+    let trace = ["stackrun", "trace", "a/config.toml", "script"];
     let wanted = Command::Trace {
         config: "a/config.toml",
         script: "script",
     };
-    assert_eq!(rt; command(alloc, words.as_slice())?, wanted);
+    assert_eq!(rt; command(alloc, trace.as_slice())?, wanted);
+    let clients = ["stackrun", "clients", "a/config.toml", "32", "0010000"];
+    let wanted = Command::Clients {
+        config: "a/config.toml",
+        threads: 32,
+        rounds: 10_000,
+    };
+    assert_eq!(rt; command(alloc, clients.as_slice())?, wanted);
     Ok(())
 }
 
+/// Command lines behind the program's name that ask for nothing that there is, or for help.
+static REFUSED: [&[&str]; 20] = [
+    &[],
+    &["--help"],
+    &["help"],
+    &["tracing", "config.toml", "script"],
+    &["trace", "config.toml"],
+    &["trace", "config.toml", "script", "more"],
+    &["trace", "--help"],
+    &["clients", "config.toml", "2"],
+    &["clients", "config.toml", "2", "3", "more"],
+    &["clients", "--help"],
+    &["clients", "config.toml", "0", "3"],
+    &["clients", "config.toml", "33", "3"],
+    &["clients", "config.toml", "2", "0"],
+    &["clients", "config.toml", "2", "10001"],
+    &["clients", "config.toml", "65537", "1"],
+    &["clients", "config.toml", "2", "-3"],
+    &["clients", "config.toml", "+2", "3"],
+    &["clients", "config.toml", "2", "3.0"],
+    &["clients", "config.toml", "", "3"],
+    &["clients", "config.toml", "two", "3"],
+];
+
 #[test]
-fn refuses_other_command_lines(rt: HostRuntime) {
+fn refuses_other_command_lines(rt: HostRuntime) -> Result<(), Fail> {
     let alloc = rt.alloc();
-    let none: [&str; 1] = ["stackrun"];
-    let short = ["stackrun", "trace", "config.toml"];
-    let long = ["stackrun", "trace", "config.toml", "script", "more"];
-    let help = ["stackrun", "--help"];
-    let help_word = ["stackrun", "help"];
-    let help_of_trace = ["stackrun", "trace", "--help"];
-    let clients = ["stackrun", "clients", "config.toml", "2", "3"];
-    let unknown = ["stackrun", "tracing", "config.toml", "script"];
-    let lines = [
-        none.as_slice(),
-        short.as_slice(),
-        long.as_slice(),
-        help.as_slice(),
-        help_word.as_slice(),
-        help_of_trace.as_slice(),
-        clients.as_slice(),
-        unknown.as_slice(),
-    ];
-    for words in lines {
-        let refused = command(alloc, words) == Err(Fault::Usage);
-        assert!(rt; refused, "at {words:?}");
+    for row in REFUSED {
+        let mut words = Vec::new(alloc);
+        words.push("stackrun")?;
+        words.extend_from_slice(row)?;
+        let refused = command(alloc, words.as_slice()) == Err(Fault::Usage);
+        assert!(rt; refused, "at {row:?}");
     }
+    Ok(())
 }

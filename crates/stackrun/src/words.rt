@@ -2,12 +2,12 @@
 
 pub mod asked;
 
-ghost use Rattle.std.specs.Prelude.{◌≡◌, ◌≢◌, ◌⊎◌, IfErr, IfOk, false, map};
+ghost use Rattle.std.specs.Prelude.{◌≡◌, ◌≢◌, ◌⊎◌, IfErr, IfOk, IsSomeAnd, codes, false, map, option_map};
 ghost use Rattle.clap.specs.Words.{app_of, found_of, rule_of, subcommand_rows_of};
 ghost use Rattle.clap.specs.Walk.{rows_of};
 ghost use Rattle.clap.specs.declared.error.ErrorKind.TheVariants.{OutOfMemory};
 ghost use Rattle.stackrun.specs.declared.faults.Fault.TheVariants.{NoMemory, Usage};
-ghost use Rattle.stackrun.specs.CommandLine.{HasPaths, IsAsked, IsFoundIn, path_rule, program};
+ghost use Rattle.stackrun.specs.CommandLine.{HasWords, IsAsked, IsCount, IsFoundIn, name_of, program, word_rule};
 
 use crate::faults::Fault;
 use crate::words::asked::Command;
@@ -15,6 +15,12 @@ use clap::error::ErrorKind;
 use clap::{Arg, ArgAction, ArgMatches};
 use std::alloc::{AllocError, Global};
 use std::convert::AsStr;
+
+/// The most clients that can be asked for.
+const MOST_THREADS: u16 = 32;
+
+/// The most rounds of a client that can be asked for.
+const MOST_ROUNDS: u16 = 10_000;
 
 /// Reads the words of a command line, of which the first is the program's name.
 ///
@@ -29,7 +35,7 @@ pub fn command<'a, S: AsStr>(alloc: Global, words: &'a [S]) -> Result<Command<'a
         return Err(Fault::NoMemory);
     };
     match grammar.try_get_matches_from(words) {
-        Ok(matches) => trace_of(&matches),
+        Ok(matches) => found_in(&matches),
         Err(error) => Err(fault_of(error.kind())),
     }
 }
@@ -39,39 +45,82 @@ fn grammar<'a>(alloc: Global) -> Result<clap::Command<'a>, AllocError>
     ensures { IfOk result (λ command. app_of command ≡ program) }
 {
     let trace = clap::Command::new(alloc, "trace")
-        .arg(path(alloc, "CONFIG"))?
-        .arg(path(alloc, "SCRIPT"))?;
-    clap::Command::new(alloc, "stackrun").subcommand(trace)
+        .arg(word(alloc, "CONFIG"))?
+        .arg(word(alloc, "SCRIPT"))?;
+    let clients = clap::Command::new(alloc, "clients")
+        .arg(word(alloc, "CONFIG"))?
+        .arg(word(alloc, "THREADS"))?
+        .arg(word(alloc, "CALLS"))?;
+    clap::Command::new(alloc, "stackrun")
+        .subcommand(trace)?
+        .subcommand(clients)
 }
 
-fn path<'a>(alloc: Global, name: &'a str) -> Arg<'a>
-    ensures rule { rule_of result ≡ path_rule name.entry.now }
+fn word<'a>(alloc: Global, name: &'a str) -> Arg<'a>
+    ensures rule { rule_of result ≡ word_rule name.entry.now }
     ensures local { result.global ≡ false }
 {
     Arg::new(alloc, name).required(true).action(ArgAction::Set)
 }
 
-fn trace_of<'a>(matches: &ArgMatches<'a>) -> Result<Command<'a>, Fault>
+fn found_in<'a>(matches: &ArgMatches<'a>) -> Result<Command<'a>, Fault>
     ensures found { IfOk result (IsFoundIn (subcommand_rows_of matches.now)) }
     ensures fault { IfErr result (λ fault. fault ≡ Usage) }
 {
-    match matches.subcommand_matches("trace") {
-        Some(trace) => paths_of(trace),
+    if let Some(words) = matches.subcommand_matches("trace") {
+        return trace_of(words);
+    }
+    match matches.subcommand_matches("clients") {
+        Some(words) => clients_of(words),
         None => Err(Fault::Usage),
     }
 }
 
-fn paths_of<'a>(trace: &ArgMatches<'a>) -> Result<Command<'a>, Fault>
-    ensures paths { IfOk result (HasPaths (rows_of (found_of trace.now))) }
+fn trace_of<'a>(words: &ArgMatches<'a>) -> Result<Command<'a>, Fault>
+    ensures words { IfOk result (λ command. (name_of command ≡ codes "trace") × HasWords (rows_of (found_of words.now)) command) }
     ensures fault { IfErr result (λ fault. fault ≡ Usage) }
 {
-    let Some(config) = trace.get_str("CONFIG") else {
+    let Some(config) = words.get_str("CONFIG") else {
         return Err(Fault::Usage);
     };
-    let Some(script) = trace.get_str("SCRIPT") else {
+    let Some(script) = words.get_str("SCRIPT") else {
         return Err(Fault::Usage);
     };
     Ok(Command::Trace { config, script })
+}
+
+fn clients_of<'a>(words: &ArgMatches<'a>) -> Result<Command<'a>, Fault>
+    ensures words { IfOk result (λ command. (name_of command ≡ codes "clients") × HasWords (rows_of (found_of words.now)) command) }
+    ensures fault { IfErr result (λ fault. fault ≡ Usage) }
+{
+    let Some(config) = words.get_str("CONFIG") else {
+        return Err(Fault::Usage);
+    };
+    let threads = count_of(words.get_str("THREADS"), MOST_THREADS)?;
+    let rounds = count_of(words.get_str("CALLS"), MOST_ROUNDS)?;
+    Ok(Command::Clients {
+        config,
+        threads,
+        rounds,
+    })
+}
+
+/// The number that a word spells in decimal, where there is one from 1 to `most`.
+fn count_of(word: Option<&str>, most: u16) -> Result<u16, Fault>
+    ensures count { IfOk result (λ n. IsSomeAnd (option_map (λ w. w.now) word.entry) (λ text. IsCount most text n)) }
+    ensures fault { IfErr result (λ fault. fault ≡ Usage) }
+{
+    let Some(word) = word else {
+        return Err(Fault::Usage);
+    };
+    // A plus sign would be taken by `parse`.
+    if word.starts_with('+') {
+        return Err(Fault::Usage);
+    }
+    match word.parse::<u16>() {
+        Ok(count) if count >= 1 && count <= most => Ok(count),
+        _ => Err(Fault::Usage),
+    }
 }
 
 /// What it means that the words were refused.

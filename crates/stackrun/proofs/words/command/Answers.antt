@@ -19,5 +19,5 @@ asked app words matches result same found h =
 
 pub returns-in-Ok-try_get_matches_from-clause-asked : goal.returns-in-Ok-try_get_matches_from-clause-asked
 returns-in-Ok-try_get_matches_from-clause-asked g c =
-    asked (app_of c.in-Ok.grammar) (map g.S.AsStr.text c.args.words.now) c.in-Ok-try_get_matches_from.matches c.trace_of.result
-    c.in-Ok.ensures c.in-Ok-try_get_matches_from.ensures.matches c.trace_of.ensures.found
+    asked (app_of c.in-Ok.grammar) (map g.S.AsStr.text c.args.words.now) c.in-Ok-try_get_matches_from.matches c.found_in.result
+    c.in-Ok.ensures c.in-Ok-try_get_matches_from.ensures.matches c.found_in.ensures.found

@@ -1,7 +1,11 @@
-use Rattle.std.proofs.lemmas.Result.{IfOk-weaker}
+use Rattle.std.proofs.Common.{sym, refl, codes, ◌∙◌}
 use Rattle.clap.specs.Words.{found_of}
-use Rattle.clap.specs.Walk.{rows_of}
+use Rattle.clap.proofs.WalkLemmas.{first_value-rows}
 use Rattle.stackrun.proofs.words.trace_of.Goals as goal
 
-pub returns-in-Some-clause-found : goal.returns-in-Some-clause-found
-returns-in-Some-clause-found c = IfOk-weaker c.paths_of.result _ _ (λ command h. (rows_of (found_of c.in-Some.trace.now), c.in-Some.ensures.rows, h)) c.paths_of.ensures.paths
+pub returns-clause-words : goal.returns-clause-words
+returns-clause-words c =
+    let found = found_of c.args.words.now in (
+      refl,
+      (sym (c.in-Some.ensures ∙ first_value-rows found (codes "CONFIG")), sym (c.in-Some-get_str.ensures ∙ first_value-rows found (codes "SCRIPT"))),
+    )
