@@ -7,6 +7,8 @@ use Rattle.compose.specs.declared.StartFault.{StartFault}
 use Rattle.compose.specs.declared.StartFault.TheVariants.{Settings as WrongSettings, Device as FailedCommand, Mbr as WrongTable, NoMemory as WantOfMemory}
 use Rattle.script.specs.Faults.{text_of as script_text}
 use Rattle.settings.specs.FaultTexts.{text_of as settings_text}
+use Rattle.stackrun.specs.declared.ending.Verdict.{Verdict}
+use Rattle.stackrun.specs.declared.ending.Verdict.TheVariants.{Passed, Failed}
 use Rattle.stackrun.specs.declared.faults.Fault.{Fault}
 use Rattle.stackrun.specs.declared.faults.Fault.TheVariants.{Usage, ConfigUnreadable, ScriptUnreadable, Settings, Start, Script, NoMemory}
 
@@ -41,7 +43,8 @@ abbrev pub status_of : Fault → ℕ
 status_of Usage = 2
 status_of _ = 1
 
--- the status that the program ends with: 0 where there was no fault
-abbrev pub exit_status : {A : Type 0} → Result A Fault → ℕ
-exit_status (Ok done) = 0
+-- the status that the program ends with: 0 where there was no fault, and all succeeded
+abbrev pub exit_status : Result Verdict Fault → ℕ
+exit_status (Ok Passed) = 0
+exit_status (Ok Failed) = 1
 exit_status (Err fault) = status_of fault

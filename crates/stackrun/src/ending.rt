@@ -8,13 +8,23 @@ use crate::faults::Fault;
 use std::io;
 use std::io::Write;
 
+/// What is said of a run that no fault ended.
+#[derive(Debug, Clone, Copy, PartialEq, Eq)]
+pub enum Verdict {
+    /// It did what it was asked for.
+    Passed,
+    /// Not all of its clients' calls succeeded with what was written, as it has printed.
+    Failed,
+}
+
 /// Says why a run ended early, where it did, and gives the exit status.
-pub fn ended<F: Write>(outcome: Result<(), Fault>, faults: &mut F) -> u8
+pub fn ended<F: Write>(outcome: Result<Verdict, Fault>, faults: &mut F) -> u8
     ensures status { result ≡ exit_status outcome }
     ensures silent { IfOk outcome (λ _. F.contents faults.new ≡ F.contents faults.old) }
 {
     match outcome {
-        Ok(()) => 0,
+        Ok(Verdict::Passed) => 0,
+        Ok(Verdict::Failed) => 1,
         Err(fault) => {
             // Nobody is left to hear of a fault of this writer.
             let _ = say(faults, &fault);

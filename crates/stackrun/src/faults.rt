@@ -4,6 +4,7 @@ ghost use Rattle.std.specs.Prelude.{◌≡◌, ◌≢◌};
 ghost use Rattle.std.specs.IoError.{error_kind};
 ghost use Rattle.std.specs.declared.io.ErrorKind.TheVariants.{OutOfMemory};
 ghost use Rattle.stackrun.specs.Faults.{mbr_text, status_of};
+ghost use Rattle.script.specs.declared.ScriptFault.TheVariants.{OutputFailed};
 ghost use Rattle.stackrun.specs.declared.faults.Fault.TheVariants.{NoMemory, Settings, Start, Script};
 
 use compose::{MbrFault, StartFault};
@@ -47,6 +48,14 @@ impl Fault {
             ErrorKind::OutOfMemory => Fault::NoMemory,
             _ => unreadable,
         }
+    }
+
+    /// What a failed write means.
+    pub fn of_output(error: &io::Error) -> Fault
+        ensures memory { error_kind error.now ≡ OutOfMemory → result ≡ NoMemory }
+        ensures failed { error_kind error.now ≢ OutOfMemory → result ≡ Script OutputFailed }
+    {
+        Fault::of_read(error, Fault::Script(ScriptFault::OutputFailed))
     }
 
     /// What it means that the words of the command line can't be had.

@@ -7,6 +7,7 @@
 //! inputs is blamed first is tested and not proved, and no contract says what a file holds.
 #![tactic(auto)]
 
+mod clients;
 mod ending;
 mod faults;
 mod input;
@@ -16,7 +17,8 @@ mod tests;
 mod trace;
 mod words;
 
-use crate::ending::ended;
+use crate::clients::clients;
+use crate::ending::{Verdict, ended};
 use crate::faults::Fault;
 use crate::trace::trace;
 use crate::words::asked::Command;
@@ -24,12 +26,14 @@ use crate::words::command;
 use std::env;
 use std::io::BufWriter;
 use std::process::ExitCode;
+use std::sync::Wait;
+use std::thread::Threads;
 
 /// Bytes of output that are written at once.
 const BUFFER: usize = 65_536;
 
-/// Does what the command line asks for.
-fn run(rt: &HostRuntime) -> Result<(), Fault> {
+/// Does what the command line asks for. Clients run in threads of `host`.
+fn run<H: Threads + Wait + Sync>(rt: &HostRuntime, host: &H) -> Result<Verdict, Fault> {
     let alloc = rt.alloc();
     let words = match env::args(rt) {
         Ok(words) => words.collect::<Vec<String>>(alloc)?,
@@ -42,12 +46,24 @@ fn run(rt: &HostRuntime) -> Result<(), Fault> {
             let Ok(mut out) = BufWriter::with_capacity(alloc, BUFFER, rt.stdout()) else {
                 return Err(Fault::NoMemory);
             };
-            trace(alloc, config, script, &mut out)
+            trace(alloc, config, script, &mut out)?;
+            Ok(Verdict::Passed)
         }
-        Command::Clients { .. } => Err(Fault::Usage),
+        Command::Clients {
+            config,
+            threads,
+            rounds,
+        } => clients(
+            host,
+            alloc,
+            input::open(rt, config),
+            threads,
+            rounds,
+            &mut rt.stdout(),
+        ),
     }
 }
 
 fn main(rt: HostRuntime) -> ExitCode {
-    ExitCode::from(ended(run(&rt), &mut rt.stderr()))
+    ExitCode::from(ended(run(&rt, &rt), &mut rt.stderr()))
 }

@@ -40,7 +40,7 @@ pub fn trace<C: Read + Drop, S: Read + Drop, O: Write>(
 }
 
 /// The settings that an input gives.
-fn settings<R: Read + Drop>(alloc: Global, input: R) -> Result<Config, Fault>
+pub fn settings<R: Read + Drop>(alloc: Global, input: R) -> Result<Config, Fault>
     ensures in_range { IfOk result AreInRange }
     ensures read { IfOk result (AreRead (R.remaining input)) }
 {

@@ -1,6 +1,6 @@
 //! Readers and writers that fail, and runs of a trace over readers and writers.
 
-use crate::ending::ended;
+use crate::ending::{Verdict, ended};
 use crate::trace::trace;
 use std::alloc::Global;
 use std::io;
@@ -78,6 +78,7 @@ pub fn run<C: Read + Drop, S: Read + Drop, O: Write>(
     out: &mut O,
 ) -> Outcome {
     let mut faults = Vec::new(alloc);
-    let status = ended(trace(alloc, config, script, out), &mut faults);
+    let outcome = trace(alloc, config, script, out).map(|()| Verdict::Passed);
+    let status = ended(outcome, &mut faults);
     Outcome { faults, status }
 }
