@@ -1,7 +1,7 @@
 //! The threads: lanes, a completion worker, and clients.
 
-ghost use Rattle.std.specs.Prelude.{◌≡◌, ◌≤◌, ◌<◌, ◌+◌, ◌*◌, ℕ, IfOk, get_or, length};
-ghost use Rattle.lanes.specs.Queue.{issued};
+ghost use Rattle.std.specs.Prelude.{◌≡◌, ◌≤◌, ◌<◌, ◌+◌, ◌*◌, ℕ, suc, IfOk, IfSome, get_or, length};
+ghost use Rattle.lanes.specs.Queue.{fresh_lane, issued, lanes_of, standing};
 ghost use Rattle.host.specs.Clients.{AreNumbered};
 
 use crate::client::{Served, serve_client};
@@ -33,6 +33,15 @@ impl<N: Naming> Promise<Served<N>> for OfClient {
     ghost kept_by = { λ p served. (served.client.client ≡ p.number) × (served.tally.answered ≤ 2 * p.rounds) };
 }
 
+/// The pass of the highest tag that is left.
+fn last_lane(passes: &mut Vec<Pass>, completions: &Completions, tag: u8) -> Option<Pass>
+    requires { passes.old.items ≡ lanes_of completions.now.id (suc tag) }
+    ensures lane { IfSome result (λ pass. pass ≡ standing completions.now.id (fresh_lane tag)) }
+    ensures rest { passes.new.items ≡ lanes_of completions.now.id tag }
+{
+    passes.pop()
+}
+
 /// Starts a lane for each tag, and the completion worker. Not all of them may be there.
 fn start_lanes<'s, E, A: Adapter + Send, N: Naming + Send + Sync, R: Threads + Wait + Sync>(
     rt: &'s R,
@@ -56,7 +65,7 @@ fn start_lanes<'s, E, A: Adapter + Send, N: Naming + Send + Sync, R: Threads + W
     }
     for started in 0..depth {
         let tag = depth - 1 - started;
-        let Some(pass) = passes.pop() else {
+        let Some(pass) = last_lane(&mut passes, completions, tag) else {
             return false;
         };
         if scope
@@ -85,7 +94,6 @@ fn start_clients<'s, E, A: Adapter + Send, N: Naming + Send + Sync, R: Threads +
 {
     let mut handles = Vec::new(alloc);
     for client in clients {
-        handles.reserve(1)?;
         let of = OfClient {
             number: client.client(),
             rounds: plan.rounds,
@@ -94,7 +102,7 @@ fn start_clients<'s, E, A: Adapter + Send, N: Naming + Send + Sync, R: Threads +
         else {
             return Err(AllocError);
         };
-        handles.push_reserved(handle);
+        handles.push(handle)?;
     }
     Ok(handles)
 }

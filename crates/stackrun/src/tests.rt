@@ -2,6 +2,7 @@
 
 mod endings;
 mod given;
+mod rounds;
 mod traces;
 
 use crate::faults::Fault;

@@ -1,0 +1,20 @@
+use Rattle.rounds.proofs.run.Given as goal
+
+abbrev pub ghosts-serve-N-Ledger : goal.ghosts-serve-N-Ledger
+ghosts-serve-N-Ledger g a = record { name = a.opened.name; parts = a.opened.parts }
+
+abbrev pub ghosts-serve-N-Naming-1 : goal.ghosts-serve-N-Naming-1
+ghosts-serve-N-Naming-1 g a = record { gate = a.opened.gate }
+
+abbrev pub ghosts-serve-N-Naming-2 : goal.ghosts-serve-N-Naming-2
+ghosts-serve-N-Naming-2 g a = record {
+  rules = a.opened.rules;
+  opening = a.opened.opening;
+  partitions = a.opened.partitions;
+  handles = a.opened.handles;
+  marks = a.opened.marks;
+  slots = a.opened.slots;
+}
+
+abbrev pub ghosts-serve-N-Naming-3 : goal.ghosts-serve-N-Naming-3
+ghosts-serve-N-Naming-3 g a = record { table = a.opened.table }
