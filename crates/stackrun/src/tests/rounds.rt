@@ -5,8 +5,7 @@ use crate::ending::ended;
 use std::test::Fail;
 
 /// A disk of 4,096 sectors of 512 bytes with two tags.
-const DISK: &str =
-    "sector_size = 512\nsectors = 4096\nmax_transfer = 64\ndepth = 2\nwindow = 2\n";
+const DISK: &str = "sector_size = 512\nsectors = 4096\nmax_transfer = 64\ndepth = 2\nwindow = 2\n";
 
 const PARTITION: &str = "[[partition]]\nfirst = 2048\ncount = 1024\n";
 
