@@ -2,7 +2,7 @@
 
 mod endings;
 mod given;
-mod rounds;
+mod tallies;
 mod traces;
 
 use crate::faults::Fault;
