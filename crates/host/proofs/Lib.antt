@@ -9,3 +9,4 @@ pub mod Accounts
 pub mod Issuing
 pub mod Opening
 pub mod Making
+pub mod Pairs

@@ -33,6 +33,9 @@ mod removal;
 mod shared;
 mod ticket;
 
+#[cfg(test)]
+mod tests;
+
 pub use call::{Answered, Call, Places, Reason, Refusal};
 pub use client::Client;
 pub use closing::Closed;

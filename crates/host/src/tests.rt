@@ -1,0 +1,7 @@
+//! A host in one thread.
+
+mod desk;
+mod disks;
+mod rows;
+mod told;
+mod user;
