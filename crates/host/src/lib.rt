@@ -31,10 +31,9 @@ mod opened;
 mod receipts;
 mod removal;
 mod shared;
-mod ticket;
-
 #[cfg(test)]
 mod tests;
+mod ticket;
 
 pub use call::{Answered, Call, Places, Reason, Refusal};
 pub use client::Client;

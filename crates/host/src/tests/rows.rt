@@ -150,9 +150,17 @@ const TICKETS: Run = Run {
     ],
     trace: "call 1 of 0 / start 1 / call 2 of 0 / start 2 / call 3 of 0 / call 4 of 0 / call 5 of 0 / call 6 of 0 / call 7 of 0 / call 8 of 0 / call 9 of 0 / call 10 of 0 / call 11 of 0 / call 12 of 0 / call 13 of 0 / call 14 of 0 / call 15 of 0 / call 16 of 0 / call 17 of 0 / call 18 of 0 / call 19 of 0 / call 20 of 0 / call 21 of 0 / call 22 of 0 / call 23 of 0 / call 24 of 0 / call 25 of 0 / call 26 of 0 / call 27 of 0 / call 28 of 0 / call 29 of 0 / call 30 of 0 / call 31 of 0 / call 32 of 0 / call 33 of 0 / call 34 of 0 / call 35 of 0 / call 36 of 0 / call 37 of 0 / call 38 of 0 / call 39 of 0 / call 40 of 0 / call 41 of 0 / call 42 of 0 / call 43 of 0 / call 44 of 0 / call 45 of 0 / call 46 of 0 / call 47 of 0 / call 48 of 0 / call 49 of 0 / call 50 of 0 / call 51 of 0 / call 52 of 0 / call 53 of 0 / call 54 of 0 / call 55 of 0 / call 56 of 0 / call 57 of 0 / call 58 of 0 / call 59 of 0 / call 60 of 0 / call 61 of 0 / call 62 of 0 / call 63 of 0 / call 64 of 0",
     first: Part {
-        calls: &[0, 2, 4, 5, 6, 7, 8, 9, 10, 11, 12, 13, 14, 15, 16, 17, 18, 19, 20, 21, 22, 23, 24, 25, 26, 27, 28, 29, 30, 31, 32, 33, 34, 35, 36, 37, 38, 39, 40, 41, 42, 43, 44, 45, 46, 47, 48, 49, 50, 51, 52, 53, 54, 55, 56, 57, 58, 59, 60, 61, 62, 63, 64, 65],
+        calls: &[
+            0, 2, 4, 5, 6, 7, 8, 9, 10, 11, 12, 13, 14, 15, 16, 17, 18, 19, 20, 21, 22, 23, 24, 25,
+            26, 27, 28, 29, 30, 31, 32, 33, 34, 35, 36, 37, 38, 39, 40, 41, 42, 43, 44, 45, 46, 47,
+            48, 49, 50, 51, 52, 53, 54, 55, 56, 57, 58, 59, 60, 61, 62, 63, 64, 65,
+        ],
         answers: &[],
-        row: &[0, 2, 4, 5, 6, 7, 8, 9, 10, 11, 12, 13, 14, 15, 16, 17, 18, 19, 20, 21, 22, 23, 24, 25, 26, 27, 28, 29, 30, 31, 32, 33, 34, 35, 36, 37, 38, 39, 40, 41, 42, 43, 44, 45, 46, 47, 48, 49, 50, 51, 52, 53, 54, 55, 56, 57, 58, 59, 60, 61, 62, 63, 64, 65],
+        row: &[
+            0, 2, 4, 5, 6, 7, 8, 9, 10, 11, 12, 13, 14, 15, 16, 17, 18, 19, 20, 21, 22, 23, 24, 25,
+            26, 27, 28, 29, 30, 31, 32, 33, 34, 35, 36, 37, 38, 39, 40, 41, 42, 43, 44, 45, 46, 47,
+            48, 49, 50, 51, 52, 53, 54, 55, 56, 57, 58, 59, 60, 61, 62, 63, 64, 65,
+        ],
     },
     second: Part {
         calls: &[],
