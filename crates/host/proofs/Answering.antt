@@ -22,7 +22,7 @@ use Rattle.host.specs.Opening.{IsOpening}
 
 -- LISTS
 
-some_same : {A : Type 0} {x y : A} → Some x ≡ Some y → x ≡ y
+pub some_same : {A : Type 0} {x y : A} → Some x ≡ Some y → x ≡ y
 some_same {A} {x} {y} e = cc
 
 -- a list around the place k
@@ -108,7 +108,7 @@ called_in (x ∷ es) r k less at = go (called_in es r) x.label refl k less at
     go rest Surprise is j less at = later x es r (rest j less at)
     go rest Removed is j less at = later x es r (rest j less at)
 
-rowed_at : (owners : List ℕ) (es : List Entry) (k : ℕ) (e : Entry) → AreRowed owners es → slice_get es k ≡ Some e → e.row ≡ row_of owners e.label
+pub rowed_at : (owners : List ℕ) (es : List Entry) (k : ℕ) (e : Entry) → AreRowed owners es → slice_get es k ≡ Some e → e.row ≡ row_of owners e.label
 rowed_at owners [] k e all at = absurd (cc)
 rowed_at owners (x ∷ es) zero e all at = subst (λ y. y.row ≡ row_of owners y.label) (some_same at) all.0.1
 rowed_at owners (x ∷ es) (suc k) e all at = rowed_at owners es k e all.1 at

@@ -62,7 +62,7 @@ no_call_behind [] more k e none less at = none_at more k e none at
 no_call_behind (x ∷ xs) more zero e none less at = absurd (omega arith)
 no_call_behind (x ∷ xs) more (suc k) e none less at = no_call_behind xs more k e none (omega arith) at
 
-get_behind : (xs ys : List Entry) (j : ℕ) → slice_get (xs ++ ys) (length xs + j) ≡ slice_get ys j
+pub get_behind : (xs ys : List Entry) (j : ℕ) → slice_get (xs ++ ys) (length xs + j) ≡ slice_get ys j
 get_behind [] ys j = ap (slice_get ys) (let z : 0 + j ≡ j = omega arith in z)
 get_behind (x ∷ xs) ys j = ap (slice_get (x ∷ (xs ++ ys))) (let z : length (x ∷ xs) + j ≡ suc (length xs + j) = omega arith in z) ∙ get_behind xs ys j
 

@@ -9,4 +9,5 @@ pub mod Accounts
 pub mod Issuing
 pub mod Opening
 pub mod Making
+pub mod Noticing
 pub mod Pairs

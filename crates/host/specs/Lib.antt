@@ -4,4 +4,5 @@ pub mod Tickets
 pub mod Accounts
 pub mod Clients
 pub mod Opening
+pub mod Keepers
 pub mod Closing

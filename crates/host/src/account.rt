@@ -42,8 +42,8 @@ impl<N: Naming> Model for Account<N> {
     ghost invariant = { λ a. AccountKept N.handles N.partitions a.share a.called.list a.answered.list };
 }
 
-// The laws on the numbers of a run, for who calls it.
-fn laws_of_numbers()
+/// The laws on the numbers of a run, for who calls it.
+pub(crate) fn laws_of_numbers()
     ensures count { CallsCount }
 {
     machine_laws::numbers_rise();

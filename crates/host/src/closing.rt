@@ -1,4 +1,5 @@
 ghost use Rattle.std.specs.Prelude.{◌≡◌, ◌+◌, length};
+ghost use Rattle.chronicle.specs.Claims.{AllStand};
 ghost use Rattle.host.specs.Clients.{AreNumbered, client_at};
 ghost use Rattle.host.specs.Closing.{AreBorneOut, HasReceiptsIn, IsClosed, total};
 
@@ -64,11 +65,17 @@ impl<A: Adapter, N: Naming> Host<A, N> {
     pub fn close(self, keeper: Keeper<N>, clients: Vec<Client<N>>) -> Closed
         requires parts { N.parts ≡ length N.partitions + 1 }
         requires all { AreNumbered (length N.partitions) clients.items }
+        ensures told { AllStand result.trace.items keeper.told }
         ensures closed { IsClosed N.rules N.opening clients.items result.trace.items result.rows.items }
     {
         let Host { book, history, .. } = self;
         let mut book = book.into_inner();
-        let Keeper { part: mut all, .. } = keeper;
+        let Keeper {
+            part: mut all,
+            mut told,
+            ..
+        } = keeper;
+        book.check(&history, &mut told);
         collect(&history, &mut book, &mut all, clients);
         book.audit(&mut all);
         let (trace, rows) = book.into_rows();

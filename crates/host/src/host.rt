@@ -1,4 +1,4 @@
-ghost use Rattle.std.specs.Prelude.{◌≡◌, ◌+◌, All, IfOk, None, false, length};
+ghost use Rattle.std.specs.Prelude.{◌≡◌, ◌+◌, [], All, IfOk, None, false, length};
 ghost use mathlib.Core.Logic.{inl};
 ghost use Rattle.cancel_marks.specs.Marks.{IsOther};
 ghost use Rattle.book.specs.Book.{IsStepped, call_handle};
@@ -15,7 +15,7 @@ use crate::shared::{Door, Table};
 use adapter::Adapter;
 use book::{Book, Entry, Share};
 use cancel_marks::Seat;
-use chronicle::{History, Whole};
+use chronicle::{Claims, History, Whole};
 use compose::{Event, Handle, Reply};
 use remove_lock::Pass;
 use std::alloc::{AllocError, Global};
@@ -37,19 +37,21 @@ pub struct Host<A: Adapter, N: Naming> {
 }
 
 /// The right to remove the device and to close the host: the part of the ledger that no client has, and a pass of the gate.
+/// Contracts see it as what it knows of the gate, and its receipts.
 #[derive(Drop)]
 pub struct Keeper<N: Naming> {
     pub(crate) part: Part<N>,
     pub(crate) pass: Pass,
+    pub(crate) told: Claims<Entry, N>,
 }
 
 impl<N: Naming> Model for Keeper<N> {
     ghost use Rattle.std.specs.Prelude.{◌≡◌};
-    ghost use Rattle.remove_lock.specs.declared.rule.View.{View};
+    ghost use Rattle.host.specs.Keepers.{KeeperView};
 
-    ghost Value = { View };
+    ghost Value = { KeeperView };
 
-    ghost view = { λ k. k.pass.view };
+    ghost view = { λ k. record { pass = k.pass.view; told = k.told } };
 
     ghost invariant = { λ k. (k.part.parts ≡ 1) × (k.part.amount ≡ 0) × (k.pass.gate ≡ N.gate) };
 }
@@ -109,7 +111,8 @@ impl<A: Adapter, N: Naming> Host<A, N> {
         opened: Opened<A>,
     ) -> Result<(Host<A, N>, Keeper<N>, Vec<Client<N>>), HostFault>
         requires named { opened ≡ record { rules = N.rules; opening = N.opening; partitions = N.partitions; handles = N.handles; marks = N.marks; slots = N.slots; table = N.table; name = N.name; parts = N.parts; gate = N.gate } }
-        ensures { IfOk result (λ r. AreNumbered (length N.partitions) r.2.items) }
+        ensures clients { IfOk result (λ r. AreNumbered (length N.partitions) r.2.items) }
+        ensures keeper { IfOk result (λ r. r.1.told ≡ []) }
     {
         let Opened {
             stack,
@@ -141,6 +144,7 @@ impl<A: Adapter, N: Naming> Host<A, N> {
         let Some(pass) = passes.pop() else {
             unreachable!()
         };
+        let told = whole.no_claims(&history);
         let book = Book::new(alloc, stack, whole, owner, tally, count, slots, sizes)?;
         let host = Host {
             book: Mutex::new(book),
@@ -157,7 +161,12 @@ impl<A: Adapter, N: Naming> Host<A, N> {
             board: Board::blank(),
             alloc,
         };
-        Ok((host, Keeper { part: all, pass }, clients))
+        let keeper = Keeper {
+            part: all,
+            pass,
+            told,
+        };
+        Ok((host, keeper, clients))
     }
 
     /// The adapter carries out the command of the piece on a tag, or fails it; `Ignored` where there is none.
@@ -176,7 +185,7 @@ impl<A: Adapter, N: Naming> Host<A, N> {
     }
 
     // The part of a step that has the book.
-    fn step_in(&self, book: &mut Book<A, N>, event: Event) -> Reply
+    pub(crate) fn step_in(&self, book: &mut Book<A, N>, event: Event) -> Reply
         requires { (is_handle_event event ≡ false) × (call_handle event ≡ None) }
         ensures { IsStepped N.slots None (inl tt) book.old event result book.new }
     {

@@ -2,19 +2,20 @@
 //! cancellation, a keeper removes the device, and whoever drives the adapter acts and finishes.
 //!
 //! Each client has a part of a ledger that nobody can copy, a pass of the remove lock, a seat at the cancel marks, and
-//! receipts: of each call and each answer that it was told of, the place in the trace and the entry there. A receipt
-//! outlives the lock. What is promised to the crate above:
+//! receipts: of each call and each answer that it was told of, the place in the trace and the entry there. So has the keeper
+//! of each pause and of the removal's end. A receipt outlives the lock. What is promised to the crate above:
 //! - `issue` that gives a ticket adds one receipt, of this client's call with the request that was handed in, at a place
 //!   above all of its calls before, and the ticket holds the remove lock until it was waited for (`issued` of
 //!   [`Client::issue`]); a refusal has the caller's bytes, and says whether the call reached the book (`refused`);
 //! - `wait` spends the ticket and gives the answer of its request, which stands behind its call, with its receipt
 //!   (`waited` of [`Client::wait`]);
 //! - `mark_cancel` marks the ticket's request and no other (`marked` of [`Client::mark_cancel`]);
-//! - a removal that is accepted returns once the remove lock was closed and seen drained: no ticket is out (`drained` of
-//!   [`Host::remove`]);
+//! - a query that is accepted gives the keeper one receipt more, of the query's pause (`told` of [`Host::query_remove`]);
+//! - a removal that is accepted returns once the remove lock was closed and seen drained: no ticket is out; and with one
+//!   receipt more, of the removal's end (`drained`, `told` of [`Host::remove`]);
 //! - once all threads are done, [`Host::close`] gives the trace, which is a run of the sector machine from the state that the
 //!   host was opened with, and a row for each client, in which all its receipts stand: the calls of a row are just its
-//!   client's, in its order (`closed`).
+//!   client's, in its order (`closed`); and the keeper's receipts stand in the trace (`told`).
 //!
 //! It does not promise that anybody is served, nor an order between clients that told each other nothing. A call that takes
 //! a [`Wait`](std::sync::Wait) promises what it does if it returns.
@@ -27,6 +28,7 @@ mod closing;
 mod desk;
 mod host;
 mod name;
+mod notice;
 mod opened;
 mod receipts;
 mod removal;

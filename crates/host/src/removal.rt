@@ -1,12 +1,22 @@
 //! Removal of the device under the clients of a host.
 
-ghost use Rattle.std.specs.Prelude.{◌≡◌, true};
+ghost use Rattle.std.specs.Prelude.{◌≡◌, None, false, true, length};
+ghost use mathlib.Core.Logic.{inl};
+ghost use Rattle.machine.specs.declared.Label.TheVariants.{Pause as PauseLabel, Removed as RemovedLabel};
 ghost use Rattle.io_manager.specs.declared.Reply.TheVariants.{Ok as OkReply};
+ghost use Rattle.book.specs.Book.{IsStepped, call_handle};
+ghost use Rattle.book.specs.Serving.{is_handle_event};
+ghost use Rattle.host.specs.Keepers.{HasNoted, HasNotedIfOk, IsNoticed};
+ghost use Rattle.host.specs.Receipts.{AreBelow};
 
+use crate::account::laws_of_numbers;
 use crate::host::{Host, Keeper};
 use crate::name::Naming;
+use crate::notice::{Notice, claim_notice};
 use crate::shared::Door;
 use adapter::Adapter;
+use book::{Book, Entry};
+use chronicle::Claims;
 use compose::{Event, Reply};
 use remove_lock::Pass;
 use std::sync::Wait;
@@ -31,18 +41,98 @@ fn close_and_drain<N: Naming, R: Wait>(rt: &R, door: &Door<N>, pass: &mut Pass)
 impl<N: Naming> Keeper<N> {
     // Waits until no ticket is out.
     fn drain<R: Wait>(&mut self, rt: &R, door: &Door<N>)
-        ensures drained { self.new.saw_drained ≡ true }
+        ensures drained { self.new.pass.saw_drained ≡ true }
+        ensures told { self.new.told ≡ self.old.told }
     {
         close_and_drain(rt, door, &mut self.pass);
     }
 }
 
 impl<A: Adapter, N: Naming> Host<A, N> {
-    /// Asks whether the device may go; where it may, requests are held from now on (WDK: IRP_MN_QUERY_REMOVE_DEVICE).
-    pub fn query_remove<R: Wait>(&self, rt: &R, _keeper: &mut Keeper<N>) -> Reply
-        ensures same { _keeper.new ≡ _keeper.old }
+    // The part of a keeper's step that has the book, and the place from which on its labels stand: above all receipts.
+    fn begin(
+        &self,
+        book: &mut Book<A, N>,
+        told: &mut Claims<Entry, N>,
+        event: Event,
+    ) -> (Reply, usize)
+        requires { (is_handle_event event ≡ false) × (call_handle event ≡ None) }
+        ensures same { told.new ≡ told.old }
+        ensures above { AreBelow result.1 told.old }
+        ensures from { result.1 ≡ length book.old.entries }
+        ensures stepped { IsStepped N.slots None (inl tt) book.old event result.0 book.new }
     {
-        self.step(rt, Event::QueryRemove)
+        book.check(&self.history, told);
+        let from = book.len();
+        let reply = self.step_in(book, event);
+        (reply, from)
+    }
+
+    // The part of a query that has the book.
+    fn query_in(&self, book: &mut Book<A, N>, told: &mut Claims<Entry, N>) -> Reply
+        ensures { HasNotedIfOk PauseLabel result told.old told.new }
+    {
+        laws_of_numbers();
+        let (reply, from) = self.begin(book, told, Event::QueryRemove);
+        if let Reply::Ok = reply {
+            let Some(claim) = claim_notice(&self.history, book, Notice::Pause, from) else {
+                unreachable!()
+            };
+            told.join(&self.history, claim);
+        }
+        reply
+    }
+
+    // Waits until the removal has ended: its label stands at a place from this one on.
+    fn await_removed<R: Wait>(&self, rt: &R, from: usize) -> Claims<Entry, N>
+        ensures { IsNoticed from RemovedLabel result }
+    {
+        let mut from = from;
+        let mut book = self.book.lock(rt);
+        for _ in rt.forever() {
+            if let Some(claim) = claim_notice(&self.history, &mut book, Notice::Removed, from) {
+                return claim;
+            }
+            from = from.max(book.len());
+            book = self.told.wait(rt, book);
+        }
+        unreachable!()
+    }
+
+    // Waits for all tickets, and for the end of the removal.
+    fn end_removal<R: Wait>(&self, rt: &R, keeper: &mut Keeper<N>, from: usize)
+        requires above { AreBelow from keeper.old.told }
+        ensures drained { keeper.new.pass.saw_drained ≡ true }
+        ensures told { HasNoted RemovedLabel keeper.old.told keeper.new.told }
+    {
+        keeper.drain(rt, &self.door);
+        let claim = self.await_removed(rt, from);
+        keeper.told.join(&self.history, claim);
+    }
+
+    // A removal of either kind.
+    fn take_out<R: Wait>(&self, rt: &R, keeper: &mut Keeper<N>, event: Event) -> Reply
+        requires { (is_handle_event event ≡ false) × (call_handle event ≡ None) }
+        ensures drained { result ≡ OkReply → keeper.new.pass.saw_drained ≡ true }
+        ensures told { HasNotedIfOk RemovedLabel result keeper.old.told keeper.new.told }
+    {
+        let (reply, from) = self.begin(&mut self.book.lock(rt), &mut keeper.told, event);
+        self.told.notify_all();
+        if let Reply::Ok = reply {
+            self.end_removal(rt, keeper, from);
+        }
+        reply
+    }
+
+    /// Asks whether the device may go; where it may, requests are held from now on, and the keeper has a receipt of the
+    /// pause (WDK: IRP_MN_QUERY_REMOVE_DEVICE).
+    pub fn query_remove<R: Wait>(&self, rt: &R, keeper: &mut Keeper<N>) -> Reply
+        ensures pass { keeper.new.pass ≡ keeper.old.pass }
+        ensures told { HasNotedIfOk PauseLabel result keeper.old.told keeper.new.told }
+    {
+        let reply = self.query_in(&mut self.book.lock(rt), &mut keeper.told);
+        self.told.notify_all();
+        reply
     }
 
     /// Takes the query back, and held requests go on (WDK: IRP_MN_CANCEL_REMOVE_DEVICE).
@@ -53,25 +143,19 @@ impl<A: Adapter, N: Naming> Host<A, N> {
     }
 
     /// Removes the device after a query (WDK: IRP_MN_REMOVE_DEVICE). Where it is accepted the gate is closed, and the call
-    /// returns once every ticket was waited for.
+    /// returns once every ticket was waited for and the removal has ended, of which the keeper has a receipt then.
     pub fn remove<R: Wait>(&self, rt: &R, keeper: &mut Keeper<N>) -> Reply
-        ensures drained { result ≡ OkReply → keeper.new.saw_drained ≡ true }
+        ensures drained { result ≡ OkReply → keeper.new.pass.saw_drained ≡ true }
+        ensures told { HasNotedIfOk RemovedLabel result keeper.old.told keeper.new.told }
     {
-        let reply = self.step(rt, Event::Remove);
-        if let Reply::Ok = reply {
-            keeper.drain(rt, &self.door);
-        }
-        reply
+        self.take_out(rt, keeper, Event::Remove)
     }
 
     /// The device was pulled out (WDK: IRP_MN_SURPRISE_REMOVAL), and else as [`Host::remove`].
     pub fn surprise_remove<R: Wait>(&self, rt: &R, keeper: &mut Keeper<N>) -> Reply
-        ensures drained { result ≡ OkReply → keeper.new.saw_drained ≡ true }
+        ensures drained { result ≡ OkReply → keeper.new.pass.saw_drained ≡ true }
+        ensures told { HasNotedIfOk RemovedLabel result keeper.old.told keeper.new.told }
     {
-        let reply = self.step(rt, Event::SurpriseRemove);
-        if let Reply::Ok = reply {
-            keeper.drain(rt, &self.door);
-        }
-        reply
+        self.take_out(rt, keeper, Event::SurpriseRemove)
     }
 }

@@ -124,6 +124,7 @@ const REMOVED: Run = Run {
     },
 };
 
+// The device is pulled out under clients that have called nothing.
 const SURPRISED: Run = Run {
     rows: &[
         Row::Host(Drive::SurpriseRemove, "ok"),

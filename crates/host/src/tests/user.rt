@@ -15,9 +15,9 @@ use std::sync::Wait;
 /// What a client does. A call leaves a ticket, which a mark looks at and a wait spends.
 #[derive(Debug, Clone, Copy)]
 pub(crate) enum Deed {
-    /// A read of so many bytes.
+    /// A read at this offset of so many bytes.
     Read(u64, usize),
-    /// A write of so many equal bytes.
+    /// A write at this offset of so many equal bytes.
     Write(u64, usize, u8),
     Flush,
     /// Reads of a sector each, from the first on, sixty-four of them. The last one's ticket is left.

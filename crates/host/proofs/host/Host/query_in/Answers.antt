@@ -1,0 +1,23 @@
+use Rattle.std.proofs.Common.{◌≡◌, ℕ, List, ◌++◌, ap, ◌∙◌, subst}
+use Rattle.machine.specs.declared.Label.TheVariants.{Pause as PauseLabel}
+use Rattle.book.specs.Book.{BookView}
+use Rattle.host.specs.declared.notice.Notice.TheVariants.{Pause}
+use Rattle.host.specs.Keepers.{HasNone}
+use Rattle.host.specs.Receipts.{Receipt}
+use Rattle.host.proofs.Noticing.{noted_one, pause_stands}
+use Rattle.host.proofs.host.Host.query_in.Goals as goal
+
+pub unreachable-requires : goal.unreachable-requires
+unreachable-requires g c =
+    let new : BookView = c.begin-reply.new.book in
+    let stepped = c.begin-reply.ensures.stepped in
+    pause_stands c.laws_of_numbers.ensures.count g.N.Naming-2.slots c.args.book.now stepped.mid new c.begin-reply.result.0 stepped.looks stepped.serves c.in-Ok.is
+    (subst (λ (n : ℕ). HasNone Pause n new.entries) c.begin-reply.ensures.from c.in_default-claim_notice.ensures.none)
+
+pub returns-in-Some : goal.returns-in-Some
+returns-in-Some g c =
+    let same : c.join.new.self ≡ c.args.told.now ++ c.in-Some.claim = c.join.ensures ∙ ap (λ (cs : List Receipt). cs ++ c.in-Some.claim) c.begin-reply.ensures.same in
+    record {
+      accepted = λ ok. noted_one PauseLabel c.begin-reply.result.1 c.args.told.now c.in-Some.claim c.join.new.self c.begin-reply.ensures.above c.in-Some.ensures.noticed same;
+      otherwise = λ not. absurd (not c.in-Ok.is);
+    }
