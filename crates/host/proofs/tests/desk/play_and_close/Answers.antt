@@ -6,7 +6,7 @@ use Rattle.host.proofs.tests.desk.play_and_close.Goals as goal
 pub close-requires-clause-all : goal.close-requires-clause-all
 close-requires-clause-all g c =
     let two : length g.N.Naming-2.partitions ≡ 2 = c.requires.partitions in
-    let all : AreNumbered 2 c.in-Ok.clients.items = subst (λ (n : ℕ). AreNumbered n c.in-Ok.clients.items) two c.in-Ok.ensures in
+    let all : AreNumbered 2 c.in-Ok.clients.items = subst (λ (n : ℕ). AreNumbered n c.in-Ok.clients.items) two c.in-Ok.ensures.clients in
     let x : ClientView = c.in-Some-Some.first in
     let y : ClientView = c.in-Some-Some.second in
     let n = two_left c.in-Ok.clients.items c.pop.new.self.items c.pop-2.new.self.items x y all (search rules) (search rules) in
