@@ -1,16 +1,18 @@
-"""Runs the programs, and prints what it took: `trace STACKRUN` on scripts that it makes, `layers LAYER_BENCH` on both layers."""
+"""Runs the programs, and prints what it took: `trace STACKRUN` on scripts that it makes, `clients STACKRUN` with threads,
+`layers LAYER_BENCH` on both layers."""
 import os
 import statistics
 import subprocess
 import sys
 import tempfile
+import time
 
 SETTINGS = """sector_size = {size}
 sectors = {sectors}
 max_transfer = {transfer}
 depth = {depth}
-window = {depth}
-open_requests = {depth}
+window = {window}
+open_requests = {window}
 [[partition]]
 first = 1
 count = {count}
@@ -39,6 +41,24 @@ def mixed(rounds):
         yield from ['act 0', 'finish 0']
     for _ in range(rounds):
         yield from ['read 1 0 8192', 'act 0', 'finish 0']
+
+
+def transfers(rounds, sectors):
+    """Writes and reads of so many sectors in turn, one out."""
+    yield 'open 0'
+    for turn in range(rounds):
+        yield 'read 1 0 %d' % (sectors * 512) if turn % 2 else 'write 1 0 %d 5a' % (sectors * 512)
+        yield from ['act 0', 'finish 0']
+
+
+def cancelled(rounds, queue):
+    """Cancels in the middle of a queue of so many, each followed by a new read."""
+    yield 'open 0'
+    for _ in range(queue):
+        yield 'read 1 0 512'
+    for turn in range(rounds):
+        yield 'cancel 1 %d' % (queue // 2 + 1 + turn)
+        yield 'read 1 0 512'
 
 
 def refused(rounds):
@@ -79,6 +99,51 @@ def measure(program, name, settings, lines, times):
             name, events, min(user), seconds, times, events / seconds, asked / seconds / 1e6, used.ru_maxrss / 1024, os.WEXITSTATUS(status)))
 
 
+# Threads of clients, and the calls of a run, by all of them.
+THREADS = (1, 4, 16, 32)
+CALLS = 6_400
+
+
+def rounds_by_one(threads, rounds):
+    """What so many clients call in so many rounds, by one client, one call after another."""
+    yield 'open 0'
+    for turn in range(rounds):
+        for client in range(threads):
+            for call in ('write 1 %d 512 %02x' % (client * 512, (client + turn) % 256), 'read 1 %d 512' % (client * 512)):
+                yield from [call, 'act 0', 'finish 0']
+
+
+def seconds_of(words, times):
+    """Wall clock of the fastest of so many runs, and what the last one printed."""
+    taken = []
+    for _ in range(times):
+        begun = time.monotonic()
+        said = subprocess.run(words, stdout=subprocess.PIPE, check=True).stdout
+        taken.append(time.monotonic() - begun)
+    return min(taken), said
+
+
+def clients(program):
+    """As many calls by 1, 4, 16 and 32 threads, and by no thread through `trace`."""
+    with tempfile.TemporaryDirectory() as folder:
+        config, script = os.path.join(folder, 'config.toml'), os.path.join(folder, 'script')
+        with open(config, 'w') as f:
+            f.write(SETTINGS.format(size=512, sectors=4096, transfer=64, depth=4, window=64, count=1024))
+        for threads in THREADS:
+            rounds = CALLS // 2 // threads
+            seconds, said = seconds_of([program, 'clients', config, str(threads), str(rounds)], 3)
+            want = 'threads %d rounds %d answered %d differing 0\n' % (threads, rounds, CALLS)
+            if said.decode() != want:
+                sys.exit('%s clients: %r' % (program, said))
+            print('%-13s %6d calls: %.3f s of wall clock, the least of 3; a second %.0f calls' % (
+                '%d threads' % threads, CALLS, seconds, CALLS / seconds))
+        with open(script, 'w') as f:
+            f.writelines(line + '\n' for line in rounds_by_one(THREADS[-1], CALLS // 2 // THREADS[-1]))
+        seconds, _ = seconds_of([program, 'trace', config, script], 3)
+        print('%-13s %6d calls: %.3f s of wall clock, the least of 3; a second %.0f calls, with their text' % (
+            'by trace', CALLS, seconds, CALLS / seconds))
+
+
 # Requests of a run of `layer_bench`, and how often each layer is run.
 REQUESTS = 200_000
 RUNS = 15
@@ -112,17 +177,23 @@ def layers(program):
 
 def trace(program):
     disk = dict(size=512, sectors=4096, transfer=64, count=1024)
-    measure(program, 'one out', SETTINGS.format(depth=1, **disk), small(66_666, 1), 9)
-    measure(program, 'eight out', SETTINGS.format(depth=8, **disk), small(66_664, 8), 9)
-    measure(program, 'mixed reads', SETTINGS.format(depth=1, **disk), mixed(10_000), 9)
-    measure(program, 'refused calls', SETTINGS.format(depth=1, **disk), refused(20), 3)
+    one, eight, most = ({'depth': n, 'window': n, **disk} for n in (1, 8, 32))
+    measure(program, 'one out', SETTINGS.format(**one), small(66_666, 1), 9)
+    measure(program, 'eight out', SETTINGS.format(**eight), small(66_664, 8), 9)
+    measure(program, '32 out', SETTINGS.format(**most), small(66_656, 32), 9)
+    for queue in (4, 64):
+        waiting = SETTINGS.format(depth=1, window=queue, **disk)
+        measure(program, 'cancels in %d' % queue, waiting, cancelled(50_000, queue), 9)
+    measure(program, 'mixed reads', SETTINGS.format(**one), mixed(10_000), 9)
+    measure(program, '64 sectors', SETTINGS.format(**one), transfers(10_000, 64), 9)
+    measure(program, 'refused calls', SETTINGS.format(**one), refused(20), 3)
     # The longest transfer in one piece: 65,535 sectors of 4,096 bytes.
-    disk = SETTINGS.format(size=4096, sectors=65_536, transfer=65_535, depth=1, count=65_535)
+    disk = SETTINGS.format(size=4096, sectors=65_536, transfer=65_535, depth=1, window=1, count=65_535)
     measure(program, 'long request', disk, long(65_535 * 4096), 3)
 
 
 def main():
-    {'trace': trace, 'layers': layers}[sys.argv[1]](sys.argv[2])
+    {'trace': trace, 'clients': clients, 'layers': layers}[sys.argv[1]](sys.argv[2])
 
 
 main()

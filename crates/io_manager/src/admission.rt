@@ -142,7 +142,7 @@ pub(crate) struct Copies {
     pub(crate) label_bytes: Bytes,
 }
 
-/// Copies of a buffer, as many as a request of it needs.
+/// A copy of a write's buffer, and one as long as a read's.
 ///
 /// # Errors
 ///
@@ -150,15 +150,16 @@ pub(crate) struct Copies {
 pub(crate) fn copies_for(alloc: Global, kind: Kind, buffer: &Bytes) -> Result<Copies, AllocError>
     ensures { IfOk result (λ copies. HasCopies kind buffer.now copies) }
 {
-    let empty = Bytes::new(Vec::new(alloc));
-    let copy = Bytes::new(Vec::from_slice(alloc, buffer.as_slice())?);
+    let none = Vec::new(alloc);
     let (call_bytes, label_bytes) = match kind {
-        Kind::Write => (copy, empty),
-        Kind::Read | Kind::Flush => (empty, copy),
+        Kind::Write => (Vec::from_slice(alloc, buffer.as_slice())?, none),
+        // No label tells what the buffer of a read holds at its call.
+        Kind::Read => (none, vec![in alloc; 0u8; buffer.len()]?),
+        Kind::Flush => (none, Vec::new(alloc)),
     };
     Ok(Copies {
-        call_bytes,
-        label_bytes,
+        call_bytes: Bytes::new(call_bytes),
+        label_bytes: Bytes::new(label_bytes),
     })
 }
 
