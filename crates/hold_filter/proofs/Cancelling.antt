@@ -48,9 +48,6 @@ module _ {R : Type 0} (b : Books R) (h : AreMarked b.spots (marks_of b)) where
   held_stands : All (λ e. StandsIn b.spots (held_mark e)) b.held
   held_stands = All-from_map (StandsIn b.spots) held_mark b.held (All-first (StandsIn b.spots) (map held_mark b.held) (map ended_mark b.ended ++ map sent_mark b.sent) h.stand)
 
-  ended_stands : All (λ x. StandsIn b.spots (ended_mark x)) b.ended
-  ended_stands = All-from_map (StandsIn b.spots) ended_mark b.ended (All-first (StandsIn b.spots) (map ended_mark b.ended) (map sent_mark b.sent) (All-second (StandsIn b.spots) (map held_mark b.held) (map ended_mark b.ended ++ map sent_mark b.sent) h.stand))
-
   sent_stands : All (λ e. StandsIn b.spots (sent_mark e)) b.sent
   sent_stands = All-from_map (StandsIn b.spots) sent_mark b.sent (All-second (StandsIn b.spots) (map ended_mark b.ended) (map sent_mark b.sent) (All-second (StandsIn b.spots) (map held_mark b.held) (map ended_mark b.ended ++ map sent_mark b.sent) h.stand))
 
@@ -74,9 +71,6 @@ module _ {R : Type 0} (request_of : R → Request) (ready : R → Type 0) (stack
   pub record Cancelled (spot number : ℕ) (result : Bool) (b' : Books R) : Type 0 where
     pub rooms : (rooms : List R) → IsInHand request_of ready stack_size takes_srb out v b rooms → IsInHand request_of ready stack_size takes_srb out v b' rooms
     pub cancels : MatchBool result (CancelsHeld request_of v b spot number b') (CancelsNone b spot number b')
-
-  pub cancelled_none : (spot number : ℕ) → All (IsNotHeldBy spot number) b.held → Cancelled spot number false b
-  cancelled_none spot number none = record { rooms = λ rooms k. k; cancels = record { none = none; same = refl } }
 
   module _ (rooms : List R) (k : IsInHand request_of ready stack_size takes_srb out v b rooms) (number at : ℕ) (b' : Books R) where
     -- by its number, and where it stands

@@ -28,10 +28,6 @@ true_false true h k = absurd (cc (k))
 true_false false h k = absurd (cc (h))
 
 module _ {R : Type 0} where
-  -- what holds of all packets here
-  pub all_here : (P : Held R → Type 0) (b : Books R) → All P (map packet_in b.held) → All P b.ended → All P (here b)
-  all_here P b held ended = All-append P (map packet_in b.held) b.ended held ended
-
   -- one of the held among all that are here
   pub held_first : (held before : List (ℕ × Held R)) (at : ℕ) (x : Held R) (behind : List (ℕ × Held R)) (ended : List (Held R)) → held ≡ before ++ (at, x) ∷ behind
       → IsPermutation (map packet_in held ++ ended) (x ∷ (map packet_in (before ++ behind) ++ ended))

@@ -26,7 +26,7 @@ use Rattle.hold_filter.specs.Kept.{sent_number}
 -- LOCATIONS
 
 -- the location below asks for what the filter's own did
-pub passed_asks : (takes_srb : Bool) (r : Request) (old new : Irp) → AsksInLocation takes_srb r old → PassesDown old new → AsksInLocation takes_srb r new
+pub passed_asks : (takes_srb : Bool) (r : Request) (old new : Irp) → AsksInLocation takes_srb r old → PassesDown takes_srb old new → AsksInLocation takes_srb r new
 passed_asks takes_srb r old new h p = record {
   higher = h.higher ++ silent h.own ∷ [];
   own = _;
@@ -42,7 +42,7 @@ pub asks_with : (takes_srb : Bool) (r : Request) (irp : Irp) (routine : Option C
 asks_with takes_srb r irp routine h = record { higher = h.higher; own = h.own; is_own = h.is_own; major = h.major; flags = h.flags; volume = h.volume; extent = h.extent }
 
 -- above the location below are those above the filter's own, and that one, silent
-pub passed_above : (takes_srb : Bool) (r : Request) (old new : Irp) → (h : AsksInLocation takes_srb r old) → PassesDown old new → locations_above new ≡ locations_above old ++ silent h.own ∷ []
+pub passed_above : (takes_srb : Bool) (r : Request) (old new : Irp) → (h : AsksInLocation takes_srb r old) → PassesDown takes_srb old new → locations_above new ≡ locations_above old ++ silent h.own ∷ []
 passed_above takes_srb r old new h p =
     above_is new (h.higher ++ silent h.own ∷ []) _ (p.locations h.higher h.own h.is_own) ∙ ap (λ (ls : List StackLocation). ls ++ silent h.own ∷ []) (sym (above_is old h.higher h.own h.is_own))
 
@@ -53,7 +53,7 @@ but_pushed ls own =
     ap (λ k. take k (ls ++ own ∷ [])) e ∙ take-append_seam ls (own ∷ [])
 
 -- so a packet that goes below is shown as it was before
-pub shown_as : {R : Type 0} (takes_srb : Bool) (r : Request) (held : Held R) (irp : Irp) (below : ℕ) (sent : List (ℕ × Sent)) → AsksInLocation takes_srb r held.irp → PassesDown (with_cancel_routine held.routine held.irp) irp → spot_of sent held.irp.number ≡ held.spot
+pub shown_as : {R : Type 0} (takes_srb : Bool) (r : Request) (held : Held R) (irp : Irp) (below : ℕ) (sent : List (ℕ × Sent)) → AsksInLocation takes_srb r held.irp → PassesDown takes_srb (with_cancel_routine held.routine held.irp) irp → spot_of sent held.irp.number ≡ held.spot
     → packet_below sent (packet_of irp below) ≡ packet_here held
 shown_as takes_srb r held irp below sent asks' p spot =
     let asked : AsksInLocation takes_srb r (with_cancel_routine held.routine held.irp) = asks_with takes_srb r held.irp held.routine asks' in

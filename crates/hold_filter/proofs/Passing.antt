@@ -90,10 +90,6 @@ module _ {R : Type 0} (request_of : R → Request) (ready : R → Type 0) (stack
   takes None h = (same (h.1 ∙ ap (λ (x : DeviceView). record v { adapter = x.adapter }) (sym h.1)), (h.0, ap Shown h.1))
   takes (Some label) h = (same (h.2 ∙ ap (λ (x : DeviceView). record v { adapter = x.adapter }) (sym h.2)), (h.0, h.1, ap Shown h.2))
 
-  -- places are made
-  pub reserves : Reserves v v' → IsPassed × Reserves (Shown v) (Shown v')
-  reserves h = (same (h.same ∙ ap (λ (x : DeviceView). record v { adapter = x.adapter }) (sym h.same)), record { same = ap Shown h.same; adapter = h.adapter })
-
   -- a packet below is cancelled, or none
   pub cancels : (number : ℕ) → CancelsIfOpen v number v' → IsPassed
   cancels number h = elim h.one_of [

@@ -103,7 +103,7 @@ module _ {R : Type 0} (request_of : R → Request) (ready : R → Type 0) (stack
   room_first : IsPermutation (rooms ++ map room_in (here b)) (held.room ∷ (rooms ++ map room_in (map packet_in rest ++ b.ended)))
   room_first = subst (λ (hs : List (Held R)). IsPermutation (rooms ++ map room_in hs) (held.room ∷ (rooms ++ map room_in (map packet_in rest ++ b.ended)))) (sym here_is) (IsPermutation-middle rooms held.room _)
 
-  pub may_submit : (irp : Irp) → PassesDown (with_cancel_routine held.routine held.irp) irp → MaySubmit request_of ready stack_size takes_srb out v held irp
+  pub may_submit : (irp : Irp) → PassesDown takes_srb (with_cancel_routine held.routine held.irp) irp → MaySubmit request_of ready stack_size takes_srb out v held irp
   may_submit irp p =
       let asks : AsksInLocation takes_srb (request_of held.room) irp = passed_asks takes_srb (request_of held.room) (with_cancel_routine held.routine held.irp) irp (asks_with takes_srb (request_of held.room) held.irp held.routine front.asks) p in
       let n : length b.held ≡ length rest + 1 = ap length is_front ∙ (omega arith) in
@@ -121,7 +121,7 @@ module _ {R : Type 0} (request_of : R → Request) (ready : R → Type 0) (stack
 
   -- THE PACKET BELOW
 
-  module _ (out' : List R → Type 0) (irp : Irp) (below : ℕ) (p : PassesDown (with_cancel_routine held.routine held.irp) irp) (s : State) (packets : List Packet) (adapter : AdapterView)
+  module _ (out' : List R → Type 0) (irp : Irp) (below : ℕ) (p : PassesDown takes_srb (with_cancel_routine held.routine held.irp) irp) (s : State) (packets : List Packet) (adapter : AdapterView)
       (h : Submits v (packet_of irp below) (request_of held.room) irp.payload (sent_to v s packets adapter))
       (keeps : (rooms : List R) → out (held.room ∷ rooms) → out' rooms) (order : (some others : List R) → IsPermutation some others → out some → out others) (law : (rooms : List R) → out' rooms → IsOrderly (sent_to v s packets adapter))
       (at' : ℕ) (spots : List (Option Spot)) (changes : Changes b.spots held.spot (mark held.irp.number (IsBelowAt below)) spots) where
@@ -308,7 +308,7 @@ module _ {R : Type 0} (request_of : R → Request) (ready : R → Type 0) (stack
 
   module _ (out out' : List R → Type 0) (v : DeviceView) (b : Books R) (rooms : List R) (v' : DeviceView) (b1 b' : Books R) (held : Held R) (irp : Irp) (below : ℕ)
       (k : FilterKept request_of ready stack_size takes_srb out v b rooms) (paused : IsFalse b.paused) (staying : IsFalse b.removing) (room : length b.sent < b.window)
-      (lets : LetsGo b held b1) (p : PassesDown (with_cancel_routine held.routine held.irp) irp) (h : Submits v (packet_of irp below) (request_of held.room) irp.payload v')
+      (lets : LetsGo b held b1) (p : PassesDown takes_srb (with_cancel_routine held.routine held.irp) irp) (h : Submits v (packet_of irp below) (request_of held.room) irp.payload v')
       (keeps : (rooms : List R) → out (held.room ∷ rooms) → out' rooms) (order : (some others : List R) → IsPermutation some others → out some → out others) (law : (rooms : List R) → out' rooms → IsOrderly v')
       (notes : NotesSent b1 (record { number = held.irp.number; spot = held.spot; below = below }) b') where
     changes : Changes b.spots held.spot (mark held.irp.number (IsBelowAt below)) notes.spots
@@ -375,10 +375,6 @@ module _ {R : Type 0} (request_of : R → Request) (ready : R → Type 0) (stack
     pub few_locations : length held.irp.locations.items < 4
     few_locations = let a = goes.locations in let c = k.below.own_location in omega arith
 
-    pub place_left : packet_count b1 < b1.places
-    place_left =
-        subst (λ (x : Books R). packet_count x < x.places) (sym lets.after) (let c = k.places in let n = ap length lets.is_front in omega arith)
-
     pub spot_left : IsSome (spot_at b1.spots held.spot)
     spot_left =
         let stands : StandsIn b.spots (held_mark (lets.at, held)) = All-head (StandsIn b.spots) _ _ (subst (λ (es : List (ℕ × Held R)). All (StandsIn b.spots) (map held_mark es ++ (map ended_mark b.ended ++ map sent_mark b.sent))) lets.is_front k.marked.stand) in
@@ -414,14 +410,18 @@ releases_then first second third g h = record {
 
 -- THE STEP, AS ITS CALLS SAY IT
 
+-- a packet goes to the driver that the device below is by any name of it
+pub passes_as : (given takes_srb : Bool) (old new : Irp) → given ≡ takes_srb → PassesDown given old new → PassesDown takes_srb old new
+passes_as given takes_srb old new e p = subst (λ (t : Bool). PassesDown t old new) e p
+
 module _ {R : Type 0} (request_of : R → Request) (ready : R → Type 0) (stack_size : ℕ) (takes_srb : Bool) (out : List R → Type 0) (v : DeviceView) (b : Books R) (rooms : List R) (held : Held R) (b1 : Books R) (irp1 irp : Irp) (result : Bool)
     (k : FilterKept request_of ready stack_size takes_srb out v b rooms) (is : result ≡ (not b.paused && not b.removing && nat_lt (length b.sent) b.window)) (yes' : result ≡ true) (lets : LetsGo b held b1)
-    (given : irp1 ≡ with_cancel_routine held.routine held.irp) (passes : PassesDown irp1 irp) where
+    (given : irp1 ≡ with_cancel_routine held.routine held.irp) (passes : PassesDown takes_srb irp1 irp) where
   may : IsFalse b.paused × IsFalse b.removing × (length b.sent < b.window)
   may = may_go b.paused b.removing (length b.sent) b.window result is yes'
 
-  passed : PassesDown (with_cancel_routine held.routine held.irp) irp
-  passed = subst (λ (x : Irp). PassesDown x irp) given passes
+  passed : PassesDown takes_srb (with_cancel_routine held.routine held.irp) irp
+  passed = subst (λ (x : Irp). PassesDown takes_srb x irp) given passes
 
   pub step_may : MaySubmit request_of ready stack_size takes_srb out v held irp
   step_may = may_submit request_of ready stack_size takes_srb out v b rooms k may.0 may.1 may.2 lets.at held lets.rest lets.is_front irp passed

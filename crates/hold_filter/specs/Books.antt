@@ -1,5 +1,6 @@
 -- What the filter has in its table.
-use Rattle.std.specs.Prelude.{ℕ, ◌+◌, Bool, List, ◌++◌, map, length, Option, Some, None, is_some, count_by, slice_index_or}
+use Rattle.std.specs.Prelude.{◌<◌, ℕ, ◌+◌, ◌^◌, Bool, List, ◌++◌, map, length, Option, Some, None, is_some, count_by, slice_index_or}
+use Rattle.std.specs.VecDeque.{deque_capacity}
 use Rattle.irp.specs.declared.CancelRoutine.{CancelRoutine}
 use Rattle.irp.specs.declared.Driver.TheVariants.{Filter as IsFilter}
 use Rattle.irp.specs.declared.Irp.{Irp}
@@ -54,6 +55,14 @@ module _ {R : Type 0} where
     removing = t.removing;
     places = t.places;
   }
+
+  -- each queue has room for one packet more than there are places
+  pub record HasRoomForMore (t : Table R) : Type 0 where
+    pub countable : t.places + 1 < 2 ^ 64
+    pub held : t.places < t.held.places
+    pub ended : t.places < deque_capacity t.ended
+    pub sent : t.places < t.sent.places
+    pub spots : t.places < t.spots.capacity
 
   -- how often an entry of the queue of held packets was visited
   abbrev pub visits_of : Table R → ℕ

@@ -13,7 +13,7 @@ use crate::packets::{give_back, number_of, pass_down};
 use crate::table::{Held, Sent};
 use crate::{Filter, FilterRoom};
 use device::{Device, Hold, Request};
-use irp::{Climb, Driver, Irp, complete};
+use irp::{Climb, Irp, complete};
 use ntstatus::NtStatus;
 use srb::DeviceLabel;
 use std::alloc::AllocError;
@@ -72,12 +72,7 @@ impl<D: Device> Filter<D> {
         };
         let number = irp.number;
         give_back(&mut irp, routine);
-        let driver = if D::TAKES_SRB {
-            Driver::Port
-        } else {
-            Driver::Class
-        };
-        pass_down(&mut irp, driver);
+        pass_down(&mut irp, D::TAKES_SRB);
         let below = self.device.submit(irp, room);
         self.table.note_sent(Sent {
             number,

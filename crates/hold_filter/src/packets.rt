@@ -3,7 +3,7 @@ ghost use Rattle.std.specs.Prelude.{◌≡◌, ◌<◌, ◌+◌, Some};
 ghost use Rattle.arrayvec.specs.ArrayVec.{array_vec_len};
 ghost use Rattle.irp.specs.Packet.{cancel_routine_of, with_cancel_routine};
 ghost use Rattle.hold_filter.specs.Books.{own_routine};
-ghost use Rattle.hold_filter.specs.Packets.{PassesDown, number_in};
+ghost use Rattle.hold_filter.specs.Packets.{PassesDown, driver_below as driver_of, number_in};
 
 use irp::{CancelRoutine, Climb, Driver, Irp};
 
@@ -29,14 +29,25 @@ pub fn give_back(irp: &mut Irp, routine: Option<CancelRoutine>)
     }
 }
 
+/// The driver below, which takes packets with an SRB or with a buffer.
+fn driver_below(takes_srb: bool) -> Driver
+    ensures { result ≡ driver_of takes_srb }
+{
+    if takes_srb {
+        Driver::Port
+    } else {
+        Driver::Class
+    }
+}
+
 /// The packet goes to the driver below with a copy of the filter's own location; the filter has no completion routine.
-pub fn pass_down(irp: &mut Irp, driver: Driver)
+pub fn pass_down(irp: &mut Irp, takes_srb: bool)
     requires own { 0 < array_vec_len irp.old.locations }
     requires place { array_vec_len irp.old.locations < 4 }
-    ensures { PassesDown irp.old irp.new }
+    ensures { PassesDown takes_srb irp.old irp.new }
 {
     irp.set_completion(false, false, false);
-    irp.copy_to_next(driver);
+    irp.copy_to_next(driver_below(takes_srb));
 }
 
 /// The number of a packet on its way up.

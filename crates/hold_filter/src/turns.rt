@@ -1,7 +1,7 @@
 // What is done to the table.
-ghost use Rattle.std.specs.Prelude.{◌≡◌, ◌<◌, ◌≤◌, ◌+◌, ◌^◌, ◌-◌, ◌&&◌, not, nat_lt, ℕ, true, false, All, Any, Some, None, IsSome, OnOk, OnErr, MatchBool, MatchOption, length};
+ghost use Rattle.std.specs.Prelude.{◌≡◌, ◌<◌, ◌≤◌, ◌+◌, ◌^◌, ◌-◌, ◌&&◌, not, nat_lt, ℕ, true, false, All, Any, Some, None, IsOk, IsSome, OnOk, OnErr, MatchBool, MatchOption, length};
 ghost use Rattle.linked.specs.Queue.{VisitsAtMost};
-ghost use Rattle.hold_filter.specs.Books.{books_of, visits_of, spot_at, spots_used, packet_count};
+ghost use Rattle.hold_filter.specs.Books.{books_of, visits_of, spot_at, spots_used, packet_count, HasRoomForMore};
 ghost use Rattle.hold_filter.specs.declared.table.Place.TheVariants.{Held as IsHeldAt, Below as IsBelowAt};
 ghost use Rattle.hold_filter.specs.Opening.{held_count};
 ghost use Rattle.hold_filter.specs.Turns.{empty, TakesIn, LetsGo, LetsNoneGo, NotesSent, NotesReturned, Withdraws, WithdrawsNot, Hands, HandsNone, Changes, mark, IsSentInUse, IsHeldInUse, IsPacketInUse, IsNotMarked, IsNotHeld, IsNotBelow, HasNumber, LacksNumber, HoldsAt};
@@ -44,6 +44,7 @@ impl<R> Table<R> {
         requires spots { spots_used (books_of self.old).spots ≤ (books_of self.old).places }
         ensures added { OnOk result (books_of self.new ≡ record (books_of self.old) { places = (books_of self.old).places + 1 }) }
         ensures refused { OnErr result (books_of self.new ≡ books_of self.old) }
+        ensures succeeds { HasRoomForMore self.old → IsOk result }
     {
         let Some(places) = self.places.checked_add(1) else {
             return Err(AllocError);
