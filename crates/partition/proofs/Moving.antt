@@ -156,27 +156,6 @@ module _ (table : List Extent) (old new : DeviceView) (k : IsOnDisk table old) (
   pub shown_same : new ≡ old → shown' ≡ shown
   shown_same same = ap (view_of table) same
 
-  -- the adapter alone changes, and not by a label
-  pub goes_beside : (changed : DeviceView) → changed.rules ≡ old.rules → changed.state ≡ old.state → changed.packets ≡ old.packets
-      → new ≡ changed → GoesOn table old new
-  goes_beside changed rules state packets same = record {
-    on_disk = subst (λ v. IsOnDisk table v) (sym same) (record {
-      whole = rw rules k.whole;
-      partitions = rw rules k.partitions;
-      packets = rw packets k.packets;
-      requests = rw (rules, state, packets) k.requests;
-      placed = rw state k.placed;
-    });
-    same_rules = ap (λ (v : DeviceView). v.rules) same ∙ rules;
-  }
-
-  pub Reserves-over : Reserves old new → Reserves shown shown' × GoesOn table old new
-  Reserves-over h = (record { same = ap (view_of table) h.same; adapter = h.adapter }, goes_beside _ refl refl refl h.same)
-
-  pub TakesLabel-over : (label : Option DeviceLabel) → TakesLabel old label new → TakesLabel shown label shown' × GoesOn table old new
-  TakesLabel-over None (none, same) = ((none, shown_same same), goes_same same)
-  TakesLabel-over (Some label) (rest, is, same) = ((rest, is, ap (view_of table) same), goes_beside _ refl refl refl same)
-
   -- THE ADAPTER'S LABELS
 
   fresh_is : (tag : ℕ) (piece : Piece) → IsFreshOn old.state tag piece → IsFreshOn shown.state tag piece
