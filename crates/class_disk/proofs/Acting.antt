@@ -237,9 +237,6 @@ as_many es = sym (length-map (pieces_above es) piece_on_tag) ∙ ap length (on_t
 -- IN HAND AGAIN
 
 module _ {R : Type 0} (out : List R → Type 0) (takes : Bool) (stack : ℕ) (v : DeviceView) (books : Books R) (rooms : List (DiskRoom R)) (h : IsInHand out takes stack v books rooms) where
-  abbrev at_first : ℕ
-  at_first = books.last_request + 1
-
   -- the coupled machine is the one shown
   pub shows : IsSame (above h.coupled.j) (view_of v books).state
   shows = subst (λ n. IsSame (above h.coupled.j) (shown_state v.state n (knowns (class_rules v.rules) books))) h.coupled.next_above

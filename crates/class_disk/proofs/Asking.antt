@@ -61,9 +61,6 @@ module _ (rules : Rules) (r : Request) (number : ℕ) where
       asks_with below s number q s' (λ same. has)
       (All-weaker (IsGiven s.next_request) (AsksUnder rules r number) (λ o low same. absurd (let a = h.new_number in omega (arith, same))) s.requests distinct.given) h
 
-  pub asks_finish : (v : DeviceView) (tag : ℕ) (v' : DeviceView) → AllUnder v.state → Finishes v tag v' → AllUnder v'.state
-  asks_finish v tag v' all h = asks_run v.rules (Return h.piece.number h.class ∷ h.starts) v.state v'.state all h.moves.run
-
   pub asks_handed : (takes : Bool) (v : DeviceView) (request : Request) (climb : Climb) (v' : DeviceView) → AllUnder v.state → HandsUp takes v request climb v' → AllUnder v'.state
   asks_handed takes v request climb v' all h = asks_run v.rules h.starts h.answered v'.state (asks_answer v.rules v.state h.packet.number h.status h.bytes h.answered all h.answers) h.moves.run
 

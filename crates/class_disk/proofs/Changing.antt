@@ -138,8 +138,6 @@ module _ {R : Type 0} (rules : Rules) {b : Books R} {slot k : ℕ} {o : Opened R
       (All-cons P' (slot, o_now) rest_open own (λ i d low. other (get_or rest_open i d) (s.stands.apart i d low) (rest i d low)))
 
   -- OF EACH PART
-  pub own_part : (P : Part R → Type 0) → All P o.parts → P part
-  own_part P all = All-at P s.front part s.back (subst (All P) s.parts_are all)
 
   pub each_part : (P P' : Part R → Type 0) → P' part' → ((x : Part R) → P x → P' x) → All P o.parts → All P' (s.front ++ (part' ∷ s.back))
   each_part P P' own other all =

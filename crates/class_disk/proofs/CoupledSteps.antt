@@ -348,32 +348,7 @@ module _ (j : Joint) (e : Master) (es : List Master) (front back : List Part) wh
   pub taken : (o : OpenRequest) (again : ℕ) → IsSame (above (with_part j.next_below (Below o again []))) (above (with_part j.next_below (Here (map (shown_mark again) o.marks) (again + o.busy_returns))))
   taken o again = same_part j.next_below j.next_below _ _ refl refl (λ first. ap (λ n. parts_lifted e.number (first + n) back) (sym (length-map o.marks (shown_mark again))))
 
-  untouched_again : (more n : ℕ) → map (shown_mark (suc more)) (replicate n Untouched) ≡ replicate n Back
-  untouched_again more zero = refl
-  untouched_again more (suc n) = ap (λ zs. Back ∷ zs) (untouched_again more n)
-
-  -- a part that came back busy, sent again under a new number
-  pub sent_again : (o o' : OpenRequest) (again more n next : ℕ) → o.marks ≡ replicate n Back → suc more ≡ again + o.busy_returns → o'.marks ≡ replicate n Untouched → o'.busy_returns ≡ 0
-      → IsSame (above (with_part j.next_below (Below o again []))) (above (with_part next (Below o' (suc more) [])))
-  sent_again o o' again more n next is_back count fresh none =
-      let g : map (shown_mark again) o.marks ≡ map (shown_mark (suc more)) o'.marks =
-      ap (map (shown_mark again)) is_back ∙ shown_many again n Back (back_stays again) ∙ sym (untouched_again more n) ∙ ap (map (shown_mark (suc more))) (sym fresh) in
-      let long : length o.marks ≡ length o'.marks = ap length is_back ∙ length-replicate n Back ∙ sym (length-replicate n Untouched) ∙ sym (ap length fresh) in
-      same_part j.next_below next (Below o again []) (Below o' (suc more) []) (ap (λ z. z ++ parts_marks back) g) (omega arith) (λ first. ap (λ m. parts_lifted e.number (first + m) back) long)
-
 -- ALL PARTS OF A NEW REQUEST, SENT
-
-abbrev pub AllFresh : List OpenRequest → Type 0
-AllFresh [] = Unit {0}
-AllFresh (o ∷ os) = (o.marks ≡ replicate (length o.marks) Untouched) × (o.busy_returns ≡ 0) × AllFresh os
-
-abbrev pub fresh_parts : List OpenRequest → List Part
-fresh_parts [] = []
-fresh_parts (o ∷ os) = Below o 0 [] ∷ fresh_parts os
-
-abbrev pub places_of : List OpenRequest → ℕ
-places_of [] = 0
-places_of (o ∷ os) = length o.marks + places_of os
 
 pub map_same : (n : ℕ) → map (shown_mark 0) (replicate n Untouched) ≡ replicate n Untouched
 map_same zero = refl
@@ -383,70 +358,7 @@ pub replicate_more : (m n : ℕ) (mark : Mark) → replicate m mark ++ replicate
 replicate_more zero n mark = ap (λ k. replicate k mark) (omega arith)
 replicate_more (suc m) n mark = let e : suc m + n ≡ suc (m + n) = omega arith in rw e (ap (λ zs. mark ∷ zs) (replicate_more m n mark))
 
-fresh_marks : (os : List OpenRequest) → AllFresh os → parts_marks (fresh_parts os) ≡ replicate (places_of os) Untouched
-fresh_marks [] h = refl
-fresh_marks (o ∷ os) (m, b, rest) =
-    ap (λ z. z ++ parts_marks (fresh_parts os)) (ap (map (shown_mark 0)) m ∙ map_same (length o.marks))
-    ∙ ap (λ z. replicate (length o.marks) Untouched ++ z) (fresh_marks os rest) ∙ replicate_more (length o.marks) (places_of os) Untouched
-
-fresh_busy : (os : List OpenRequest) → AllFresh os → parts_busy (fresh_parts os) ≡ 0
-fresh_busy [] h = refl
-fresh_busy (o ∷ os) (m, b, rest) = let e = fresh_busy os rest in omega (arith, b)
-
-fresh_lifted : (owner first : ℕ) (os : List OpenRequest) → parts_lifted owner first (fresh_parts os) ≡ []
-fresh_lifted owner first [] = refl
-fresh_lifted owner first (o ∷ os) = fresh_lifted owner (first + length o.marks) os
-
-pub Opens-above : (rules : Rules) (j : Joint) (number next : ℕ) (q : ClientRequest) (os : List OpenRequest) → j.next_above ≤ number → refusal rules (above j) q ≡ None → length q.bytes ≡ bytes_carried q.kind q.length
-    → AllFresh os → places_of os ≡ place_count rules q
-    → Opens rules (above j) number q (above (record j { next_above = number + 1; next_below = next; masters = record { number = number; request = q; cancelled = false; parts = fresh_parts os } ∷ j.masters }))
-Opens-above rules j number next q os above_all free carries fresh covers =
-    let made : Master = record { number = number; request = q; cancelled = false; parts = fresh_parts os } in
-    let m : parts_marks (fresh_parts os) ≡ replicate (place_count rules q) Untouched = fresh_marks os fresh ∙ ap (λ n. replicate n Untouched) covers in
-    let same : shown made ≡ new_request rules (above j) number q = ap (λ z. record (shown made) { marks = z }) m ∙ ap (λ z. record (new_request rules (above j) number q) { busy_returns = z }) (fresh_busy os fresh) in
-    record {
-      new_number = above_all;
-      not_refused = free;
-      carries = carries;
-      after = record {
-        arrays = refl;
-        next_request = refl;
-        next_piece = refl;
-        requests = subst (λ z. IsPermutation (shown made ∷ map shown j.masters) (z ∷ map shown j.masters)) same (IsPermutation-refl _);
-        pieces = subst (λ z. IsPermutation (z ++ pieces_above j.masters) (pieces_above j.masters)) (sym (fresh_lifted number 0 os)) (IsPermutation-refl _);
-        owed = refl;
-        paused = refl;
-        removing = refl;
-        removed = refl;
-      };
-    }
-
--- A CAUSE BELOW IS A CAUSE ABOVE, but for a busy return with some to spare: then the part is sent again
-
-module _ (rules : Rules) (j : Joint) (e : Master) (o : OpenRequest) (same_cancel : o.cancelled ≡ e.cancelled) (timely : o.late ≡ false) where
-  given_up : (status : NtStatus) → IsGivenUp (below j) o status → IsGivenUp (above j) (shown e) status
-  given_up status (inl (cancelled, is)) = inl (sym same_cancel ∙ cancelled, is)
-  given_up status (inr (removing, is)) = inr (removing, is ∙ ap (λ b. if b then DeletePending else NoSuchDevice) timely)
-
-  pub cause_above : (again : ℕ) (mark : Mark) (status : NtStatus) → (status ≡ DeviceBusy → mark ≡ Back → rules.busy_limit ≤ parts_busy e.parts)
-      → Cause (below_rules rules) (below j) o mark status → Cause rules (above j) (shown e) (shown_mark again mark) status
-  cause_above zero Untouched status enough h = given_up status h
-  cause_above (suc n) Untouched status enough h = inl (given_up status h)
-  cause_above zero Back status enough (inl h) = inl (given_up status h)
-  cause_above (suc n) Back status enough (inl h) = inl (given_up status h)
-  cause_above zero Back status enough (inr (one, is)) = inr (enough is refl, is)
-  cause_above (suc n) Back status enough (inr (one, is)) = inr (enough is refl, is)
-  cause_above zero (Failed failure) status enough h = h
-  cause_above (suc n) (Failed failure) status enough h = h
-  cause_above again Out status enough h = absurd h
-  cause_above again (Done sector) status enough h = absurd h
-
--- CANCELLATION AND REMOVAL
-
-module _ (j : Joint) (e : Master) (es : List Master) (front back : List Part) where
-  -- a part cancelled below
-  pub cancelled_below : (o : OpenRequest) (again : ℕ) (ps : List Piece) (next : ℕ) → IsSame (above (with_part j e es front back next (Below o again ps))) (above (with_part j e es front back next (Below (as_cancelled o) again ps)))
-  cancelled_below o again ps next = same_part j e es front back next next (Below o again ps) (Below (as_cancelled o) again ps) refl refl (λ first. refl)
+-- CANCELLATION
 
 pub Cancels-above : (j : Joint) (e : Master) (es : List Master) → IsFalse e.cancelled → Cancels (above (record j { masters = e ∷ es })) e.number (above (record j { masters = record e { cancelled = true } ∷ es }))
 Cancels-above j e es not_yet = record {
@@ -456,46 +368,4 @@ Cancels-above j e es not_yet = record {
   is_number = refl;
   not_yet = not_yet;
   after = IsSame-refl _;
-}
-
-pub Drains-above : (rules : Rules) (j : Joint) → rules.window ≡ None → Drains rules (above j) (above (record j { removing = true }))
-Drains-above rules j none =
-    let same : map shown j.masters ≡ held_back rules.window (map shown j.masters) = ap (λ w. held_back w (map shown j.masters)) (sym none) in
-    record {
-      arrays = refl;
-      next_request = refl;
-      next_piece = refl;
-      requests = subst (λ z. IsPermutation (map shown j.masters) z) same (IsPermutation-refl _);
-      pieces = IsPermutation-refl _;
-      owed = refl;
-      paused = refl;
-      removing = refl;
-      removed = refl;
-    }
-
--- an master of which every part has ended may be answered, with no part below
-pub Answers-above : (rules : Rules) (j : Joint) (e : Master) (es : List Master) (status : NtStatus) (bytes : List ℕ) → All (HasEnded rules (above (record j { masters = e ∷ es })) (shown e)) (parts_marks e.parts)
-    → (status ≡ Success) ↔ IsTrue (list_all is_done (parts_marks e.parts)) → HasCause rules (above (record j { masters = e ∷ es })) (shown e) (parts_marks e.parts) status
-    → bytes ≡ answer_bytes e.request.kind (parts_marks e.parts) → parts_lifted e.number 0 e.parts ≡ []
-    → Answers rules (above (record j { masters = e ∷ es })) e.number status bytes (above (record j { masters = es }))
-Answers-above rules j e es status bytes ended success cause hands none = record {
-  request = shown e;
-  others = map shown es;
-  is_open = IsPermutation-refl _;
-  is_number = refl;
-  ended = ended;
-  success = success;
-  cause = cause;
-  hands_back = hands;
-  after = record {
-    arrays = refl;
-    next_request = refl;
-    next_piece = refl;
-    requests = IsPermutation-refl _;
-    pieces = subst (λ z. IsPermutation (pieces_above es) (z ++ pieces_above es)) (sym none) (IsPermutation-refl _);
-    owed = refl;
-    paused = refl;
-    removing = refl;
-    removed = refl;
-  };
 }

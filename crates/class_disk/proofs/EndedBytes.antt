@@ -83,21 +83,10 @@ cut_more (suc m) n size xs =
     ∙ ap (λ zs. take size xs ∷ zs) (cut_more m n size (drop size xs))
     ∙ ap (λ k. cut k size xs) (sym e)
 
-take_all : (n : ℕ) (xs : List ℕ) → length xs ≤ n → take n xs ≡ xs
-take_all zero [] h = refl
-take_all (suc n) [] h = refl
-take_all zero (x ∷ xs) h = absurd (omega arith)
-take_all (suc n) (x ∷ xs) h = ap (λ zs. x ∷ zs) (take_all n xs (omega arith))
-
 take_drop_is : (n : ℕ) (xs : List ℕ) → take n xs ++ drop n xs ≡ xs
 take_drop_is zero xs = refl
 take_drop_is (suc n) [] = refl
 take_drop_is (suc n) (x ∷ xs) = ap (λ zs. x ∷ zs) (take_drop_is n xs)
-
-length_take : (n : ℕ) (xs : List ℕ) → n ≤ length xs → length (take n xs) ≡ n
-length_take zero xs h = refl
-length_take (suc n) [] h = absurd (omega arith)
-length_take (suc n) (x ∷ xs) h = ap suc (length_take n xs (omega arith))
 
 -- only the bytes of the sectors say something
 pub cut_taken : (n size : ℕ) (xs : List ℕ) → cut n size (take (n * size) xs) ≡ cut n size xs

@@ -16,9 +16,6 @@ use Rattle.class_disk.specs.Midway.{CanSendPart, SendsDown}
 some_same : {X : Type 0} {x y : X} → Some x ≡ Some y → x ≡ y
 some_same {X} {x} {y} e = cc (e)
 
-ready_same : {R : Type 0} {x y : Place R} → Ready x ≡ Ready y → x ≡ y
-ready_same {R} {x} {y} e = cc (e)
-
 equal : (a : ℕ) → (a == a) ≡ true
 equal a = elim (cases_Bool (a == a)) [
   | inl yes' ↦ yes'

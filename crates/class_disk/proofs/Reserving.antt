@@ -32,10 +32,6 @@ reserves_joined u v w a b = record {
   };
 }
 
--- the rules stay
-pub same_rules : (v w : DeviceView) → Reserves v w → v.rules ≡ w.rules
-same_rules v w h = sym (ap (λ (x : DeviceView). x.rules) h.same)
-
 -- RESERVING ABOVE
 
 -- more is reserved at the adapter
@@ -47,21 +43,6 @@ abbrev with_vacant : {R : Type 0} → Books R → List ℕ → ℕ → Books R
 with_vacant b vacant places = record b { vacant = vacant; ended_places = places }
 
 module _ {R : Type 0} where
-  -- what a reservation below shows
-  pub reserves_above : (v v' : DeviceView) (b b' : Books R) (vacant : List ℕ) (places : ℕ) → Reserves v v'
-      → b' ≡ with_vacant b vacant places → Reserves (view_of v b) (view_of v' b')
-  reserves_above v v' b b' vacant places h is =
-      subst (λ x. Reserves (view_of v b) (view_of v' x)) (sym is)
-      (subst (λ x. Reserves (view_of v b) (view_of x b)) (sym h.same) (record {
-        same = refl;
-        adapter = subst (ReservesMore v.adapter) (ap (λ (x : DeviceView). x.adapter) h.same) h.adapter;
-      }))
-
-  -- nothing changes
-  pub same_above : (v v' : DeviceView) (b b' : Books R) (vacant : List ℕ) (places : ℕ) → v' ≡ v
-      → b' ≡ with_vacant b vacant places → view_of v' b' ≡ view_of v b
-  same_above v v' b b' vacant places same is = ap (λ x. view_of v' x) is ∙ ap (λ x. view_of x b) same
-
   -- IN ORDER
 
   module _ (out out' : List R → Type 0) (takes_srb : Bool) (stack_size : ℕ) (v : DeviceView) (reserved : List Extent)

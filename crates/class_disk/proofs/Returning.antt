@@ -122,9 +122,6 @@ module _ {R : Type 0} {out : List R → Type 0} {takes_srb : Bool} {stack : ℕ}
   abbrev pub slot_here : ℕ
   slot_here = slot_in h.packet.number
 
-  abbrev pub place_here : ℕ
-  place_here = part_in h.packet.number
-
   abbrev pub notes_front : List Note
   notes_front = map (note rules_here) d.stands.front
 

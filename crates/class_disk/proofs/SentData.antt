@@ -26,10 +26,6 @@ pub found_part : {R : Type 0} (parts : List (Part R)) (k : ℕ) (found part : Pa
     → slice_get parts k ≡ Some part → found ≡ part
 found_part parts k found part is there = is ∙ get_or_from_slice_get parts k part found there
 
-pub same_part : {R : Type 0} (parts : List (Part R)) (k : ℕ) (one other : Part R) → slice_get parts k ≡ Some one
-    → slice_get parts k ≡ Some other → one ≡ other
-same_part parts k one other a b = sym (get_or_from_slice_get parts k one one a) ∙ get_or_from_slice_get parts k other one b
-
 pub same_place : {R : Type 0} (p : Progress R) (one other : Place R) → p ≡ Ready one → p ≡ Ready other → one ≡ other
 same_place {R} p one other a b = cc (a, b)
 

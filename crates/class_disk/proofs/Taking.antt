@@ -27,27 +27,6 @@ use Rattle.class_disk.proofs.Focus.{Found, find}
 use Rattle.class_disk.proofs.Keeping.{Follows, turns_follow_in, part_in, there}
 use Rattle.class_disk.proofs.CoupledRun.{rest, here, same_below, same_above, keeps_here, moved}
 
--- what the class driver knows of a request of which this is a part
-abbrev pub known_with : Master → List Part → List Part → Note → Known
-known_with e front back note = record (known_of e) { parts = map note_of front ++ (note ∷ map note_of back) }
-
--- both machines once the packet of this part was taken
-pub record Taken (j : Joint) (rules : Rules) (o : OpenRequest) (s' : State) : Type 0 where
-  pub next : Joint
-  pub same : IsSame (below next) s'
-  pub shown : IsSame (above j) (above next)
-  pub keeps : Keeps rules next
-  -- the class driver's own change: the part's number goes, and its marks and busy returns come
-  pub master : Master
-  pub front : List Part
-  pub back : List Part
-  pub again : ℕ
-  pub others : List Known
-  pub was : IsPermutation (map known_of j.masters) (known_with master front back (Sent o.number again) ∷ others)
-  pub is : map known_of next.masters ≡ known_with master front back (Kept (map (shown_mark again) o.marks) (again + o.busy_returns)) ∷ others
-  pub next_above : next.next_above ≡ j.next_above
-  pub removing : next.removing ≡ j.removing
-
 parts_taken : (rules : Rules) (q : ClientRequest) (o : OpenRequest) (again busy : ℕ) (ps : List Piece) (back : List Part) (first : ℕ) (front : List Part)
     → AreParts rules q first (front ++ (Below o again ps ∷ back)) → AreParts rules q first (front ++ (Here (map (shown_mark again) o.marks) busy ∷ back))
 parts_taken rules q o again busy ps back first [] h = subst (λ n. AreParts rules q (first + n) back) (sym (length-map o.marks (shown_mark again))) h.2
@@ -184,25 +163,3 @@ module _ (rules : Rules) (j : Joint) (s : State) (same : IsSame (below j) s) (so
       in_pieces : {o : OpenRequest} (f : Found j.masters o) (es : List Master) (p : Piece) → Contains f.pieces p → Contains (pieces_below (master_with f.master f.front f.back o f.again f.pieces ∷ es)) p
       in_pieces {o} f es p c =
           Contains-append_left _ (pieces_below es) p (subst (λ zs. Contains zs p) (sym (pieces-append f.front (Below o f.again f.pieces ∷ f.back))) (Contains-append_right (parts_pieces f.front) _ p (Contains-append_left f.pieces (parts_pieces f.back) p c)))
-
-  pub taken_coupled : (number : ℕ) (status : NtStatus) (bytes : List ℕ) (s' : State) → (h : Answers (below_rules rules) s number status bytes s') → Taken j rules h.request s'
-  taken_coupled number status bytes s' h =
-      let o : OpenRequest = h.request in
-      let in_s : Contains s.requests o = Contains-permutation _ _ o (IsPermutation-sym _ _ h.is_open) (0, omega arith, refl) in
-      let f : Found j.masters o = find j.masters o (Contains-permutation _ _ o (IsPermutation-sym _ _ same.requests) in_s) in
-      let t : TakenFrom j rules f.master (rest rules j o f) f.front f.back o f.again s' = taken_from number status bytes s' h f in
-      record {
-        next = with_here j f.master (rest rules j o f) f.front f.back o f.again;
-        same = t.same;
-        shown = t.shown;
-        keeps = t.keeps;
-        master = f.master;
-        front = f.front;
-        back = f.back;
-        again = f.again;
-        others = map known_of (rest rules j o f);
-        was = subst (λ ns. IsPermutation (map known_of j.masters) (record (known_of f.master) { parts = ns } ∷ map known_of (rest rules j o f))) (notes_of f.front (Below o f.again f.pieces) f.back) (IsPermutation-map known_of _ _ (moved rules j o f));
-        is = ap (λ ns. record (known_of f.master) { parts = ns } ∷ map known_of (rest rules j o f)) (notes_of f.front (Here (map (shown_mark f.again) o.marks) (f.again + o.busy_returns)) f.back);
-        next_above = refl;
-        removing = refl;
-      }

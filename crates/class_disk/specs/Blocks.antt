@@ -1,6 +1,7 @@
 -- What a request is cut into, and the packet of a part.
 use Rattle.std.specs.Prelude.{◌≡◌, ◌<◌, ℕ, ◌+◌, ◌*◌, ◌^◌, List, [], ◌∷◌, None, map, IsFalse, if◌then◌else◌}
 use Rattle.std.specs.List.{range_with_len}
+use Rattle.ntstatus.specs.declared.NtStatus.TheVariants.{Pending}
 use Rattle.split.specs.Pieces.{piece_count, piece_of}
 use Rattle.cdb.specs.declared.Cdb.{Cdb}
 use Rattle.irp.specs.declared.Driver.TheVariants.{Port}
@@ -72,10 +73,12 @@ port_location r = record {
   extent = r.extent;
 }
 
--- a packet of the class driver's own: it has the port's location alone, and no cancel routine
+-- a packet of the class driver's own as it goes down: it has the port's location alone, and no cancel routine
 pub record IsOwnPacket (number : ℕ) (r : Request) (payload : Payload) (irp : Irp) : Type 0 where
   pub is_number : irp.number ≡ number
   pub is_payload : irp.payload ≡ payload
+  -- nobody has completed it
+  pub pending : irp.io_status ≡ record { status = Pending; information = 0 }
   pub not_cancelled : IsFalse irp.cancelled
   pub location : irp.locations.items ≡ port_location r ∷ []
   pub no_routine : cancel_routine_of irp ≡ None

@@ -1,6 +1,7 @@
 -- What the class driver has in its table.
-use Rattle.std.specs.Prelude.{ℕ, ◌+◌, ◌-◌, ◌*◌, ◌/◌, ◌%◌, ◌^◌, ◌==◌, Bool, List, [], ◌∷◌, ◌++◌, map, Option, Some, None, if◌then◌else◌}
+use Rattle.std.specs.Prelude.{◌<◌, ℕ, ◌+◌, ◌-◌, ◌*◌, ◌/◌, ◌%◌, ◌^◌, ◌==◌, Bool, List, [], ◌∷◌, ◌++◌, map, Option, Some, None, if◌then◌else◌}
 use Rattle.std.specs.VecDeque.{deque_capacity}
+use Rattle.slab.specs.Slab.{slab_len}
 use Rattle.irp.specs.declared.Irp.{Irp}
 use Rattle.machine.specs.declared.Request.{Request}
 use Rattle.class_disk.specs.declared.Sizes.{Sizes}
@@ -88,6 +89,13 @@ module _ {R : Type 0} where
     submitted = table.submitted;
     removing = table.removing;
   }
+
+  -- one slot more needs no memory, and has a number
+  pub record HasRoomForMore (table : Table R) : Type 0 where
+    pub countable : slab_len table.slots + 1 < 2 ^ 64
+    pub numbered : table.slots.vacant_key < slot_limit
+    pub slots : slab_len table.slots < table.slots.capacity
+    pub ended : slab_len table.slots < deque_capacity table.ended
 
   -- an open request without its slot
   abbrev pub opened : ℕ × Opened R → Opened R

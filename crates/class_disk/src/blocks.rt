@@ -1,5 +1,5 @@
 // The packet of a part, and its SRB.
-ghost use Rattle.std.specs.Prelude.{◌≡◌, ◌<◌, ◌≤◌, ◌*◌, ◌^◌, ◌-◌, true, length};
+ghost use Rattle.std.specs.Prelude.{◌≡◌, ◌<◌, ◌≤◌, ◌*◌, ◌^◌, ◌-◌, None, true, length};
 ghost use Rattle.machine.specs.Rules.{Rules};
 ghost use Rattle.machine.specs.Sending.{fits_ten, read_command, write_command, flush_command};
 ghost use Rattle.device.specs.View.{AsksFor, AsksInLocation, direction as direction_of, transfer_length};
@@ -137,6 +137,7 @@ pub fn srb_for(disk_sectors: u64, request: &Request, data: Bytes, for_label: Byt
     requires fits { FitsBlock request.now }
     requires volume { request.now.volume ≡ 0 }
     ensures data { result.data ≡ «data» }
+    ensures sense { result.sense ≡ None }
     ensures asks { (rules : Rules) → IsWholeDisk disk_sectors rules → length «data» ≡ transfer_length rules request.now → length for_label ≡ transfer_length rules request.now
         → AsksFor rules request.now result }
 {

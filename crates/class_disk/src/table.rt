@@ -1,11 +1,11 @@
 // The requests that are open, by their slots.
 
-ghost use Rattle.std.specs.Prelude.{◌≡◌, ◌==◌, ◌<◌, ◌≤◌, ◌+◌, ◌-◌, ◌^◌, ℕ, Some, All, Contains, IfNone, IfOk, IfSome, OnErr, IsSome, IsTrue, MatchBool, MatchOption, length, slice_get};
+ghost use Rattle.std.specs.Prelude.{◌≡◌, ◌==◌, ◌<◌, ◌≤◌, ◌+◌, ◌-◌, ◌^◌, ℕ, Some, All, Contains, IfNone, IfOk, IfSome, IsOk, OnErr, IsSome, IsTrue, MatchBool, MatchOption, length, slice_get};
 ghost use Rattle.class_disk.specs.declared.parts.Part.{Part};
 ghost use Rattle.class_disk.specs.declared.parts.Place.{Place};
 ghost use Rattle.class_disk.specs.declared.parts.Progress.TheVariants.{Ready, Below};
 ghost use Rattle.class_disk.specs.Parts.{EndsBack, HasReason, GoesAgain, below_by};
-ghost use Rattle.class_disk.specs.Books.{Opened, books_of, opened_of, open_at};
+ghost use Rattle.class_disk.specs.Books.{Opened, books_of, opened_of, open_at, HasRoomForMore};
 ghost use Rattle.class_disk.specs.declared.requests.Transfer.{Transfer};
 ghost use Rattle.class_disk.specs.Turns.{Becomes, with_part, sent_part, new_opened, IsReadyAt, SendsAs, SendsAgain, ended_at, empty_books, AddsSlot, AddsNoSlot, RemovesSlot, OpensAt, IsPartAt, CanNumber, next_number, SendsPart, SendsPartAgain, spotted_books, ended_books, is_cancellable, can_cancel, cancelled_if, CannotCancel, CancelsAtSlot, CancelsNoneAt, TakesEnded, TakesNone};
 
@@ -61,6 +61,7 @@ impl<R: Drop> Table<R> {
         requires { length (books_of self.old).ended ≤ length (books_of self.old).opens }
         ensures added { IfOk result (λ slot. AddsSlot (books_of self.old) slot (books_of self.new)) }
         ensures refused { OnErr result (AddsNoSlot (books_of self.old) (books_of self.new)) }
+        ensures succeeds { HasRoomForMore self.old → IsOk result }
     {
         if self.slots.vacant_key() as u128 >= SLOTS {
             return Err(AllocError);
