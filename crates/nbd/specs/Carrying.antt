@@ -3,15 +3,23 @@ use Rattle.std.specs.Prelude.{◌≡◌, ◌⊎◌, ℕ, ◌+◌, List, [], leng
 use Rattle.std.specs.Io.KnownBytes.{Consumes}
 use Rattle.nbd.specs.declared.requests.Request.{Request}
 use Rattle.nbd.specs.declared.requests.ReplyError.{ReplyError}
+use Rattle.nbd.specs.declared.requests.ReplyError.TheVariants.{Einval, Enospc}
 use Rattle.nbd.specs.declared.requests.Command.{Command}
 use Rattle.nbd.specs.declared.requests.Command.TheVariants.{Read, Write, Flush, WriteZeroes}
 use Rattle.nbd.specs.Content.{Content, IsSameOutside, written}
 use Rattle.nbd.specs.Requests.{command_in, payload_count, payload_of}
 use Rattle.nbd.specs.Replies.{Outcome, success, failure}
 
--- it failed with an error of the protocol, and brought nothing
+-- an error of the array, and not of the request that asked for it
+abbrev pub IsOfArray : ReplyError → Type 0
+IsOfArray Einval = ⊥
+IsOfArray Enospc = ⊥
+IsOfArray _ = Unit {0}
+
+-- it failed with such an error, and brought nothing
 pub record Fails (o : Outcome) : Type 0 where
   pub error : ReplyError
+  pub of_array : IsOfArray error
   pub is : o ≡ failure error
 
 -- these bytes were written from this one on, or it failed and the rest of the array is as it was

@@ -3,7 +3,7 @@
 ghost use Rattle.std.specs.Prelude.{◌≡◌, ◌≤◌, ◌<◌, ◌^◌, length, replicate, IfErr, IfOk, MatchResult};
 ghost use Rattle.nbd.specs.Content.{AreInBounds, IsBlockSize, IsSameOutside, written};
 ghost use Rattle.nbd.specs.Replies.{outcome_of};
-ghost use Rattle.nbd.specs.Carrying.{Flushes, Gets, IsCarried, IsServed, IsWritten, Puts};
+ghost use Rattle.nbd.specs.Carrying.{Flushes, Gets, IsCarried, IsOfArray, IsServed, IsWritten, Puts};
 ghost use Rattle.nbd.specs.Requests.{IsWithin};
 
 use crate::End;
@@ -160,7 +160,7 @@ fn clear_piece<A: Array>(
 ) -> Result<(), ReplyError>
     requires in_bounds { AreInBounds (A.content array.old).block (length (A.content array.old).bytes) offset count }
     requires short { count ≤ LONGEST }
-    ensures { MatchResult result (λ _. A.content array.new ≡ written (A.content array.old) offset (replicate count 0)) (λ error. IsSameOutside (A.content array.old) offset count (A.content array.new)) }
+    ensures { MatchResult result (λ _. A.content array.new ≡ written (A.content array.old) offset (replicate count 0)) (λ error. IsOfArray error × IsSameOutside (A.content array.old) offset count (A.content array.new)) }
 {
     let Some(zeros) = zeros(alloc, count) else {
         return Err(ReplyError::Enomem);
@@ -182,7 +182,9 @@ fn flush<A: Array>(alloc: Global, array: &mut A) -> Answer
 }
 
 /// The error that a fault is answered by.
-fn error_of(fault: ArrayFault) -> ReplyError {
+fn error_of(fault: ArrayFault) -> ReplyError
+    ensures { IsOfArray result }
+{
     match fault {
         ArrayFault::NoMemory => ReplyError::Enomem,
         ArrayFault::Protected => ReplyError::Eperm,

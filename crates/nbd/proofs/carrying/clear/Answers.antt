@@ -19,5 +19,5 @@ loop-done-preserved g c =
 
 pub returns-in-Err : goal.returns-in-Err
 returns-in-Err g c =
-    failed_piece (g.A.Array.content c.args.array.now) (g.A.Array.content c.loop-done.array) _ c.args.offset c.loop-done.done c.min-piece.result c.args.count c.in-Err.error
-    c.requires.in_bounds.inside (omega arith) c.loop-done.invariant.cleared c.in-Err.ensures
+    failed_piece (g.A.Array.content c.args.array.now) (g.A.Array.content c.loop-done.array) _ c.args.offset c.loop-done.done c.min-piece.result c.args.count c.in-Err.error c.in-Err.ensures.0
+    c.requires.in_bounds.inside (omega arith) c.loop-done.invariant.cleared c.in-Err.ensures.1
