@@ -1,5 +1,5 @@
 -- A call on a stack on which nothing else is open: it goes, or ends at once.
-use Rattle.std.proofs.Common.{◌≡◌, ◌≤◌, ◌⊎◌, inl, inr, ℕ, ◌+◌, ◌-◌, ◌/◌, Bool, true, false, List, [], ◌∷◌, ◌++◌, Option, Some, None, refl, sym, ◌∙◌, ap, subst, arith, length, take, drop, map}
+use Rattle.std.proofs.Common.{◌≡◌, ◌<◌, ◌≤◌, ◌⊎◌, inl, inr, ℕ, ◌+◌, ◌-◌, ◌/◌, Bool, true, false, List, [], ◌∷◌, ◌++◌, Option, Some, None, refl, sym, ◌∙◌, ap, subst, arith, length, take, drop, map}
 use Rattle.std.specs.Prelude.{All, Any, IsPermutation, IsNone, IsFalse, slice_get, ◌&&◌, ◌==◌, not, nat_le, is_none, if◌then◌else◌}
 use Rattle.std.specs.List.{concat}
 use Rattle.std.proofs.lemmas.Bool.Decides.{nat_tests}
@@ -140,9 +140,10 @@ pub record Rests (s s' : State) : Type 0 where
   pub arrays : s'.arrays ≡ s.arrays
   pub idle : IsIdle s'
   pub asked : s'.next_request ≤ s.next_request + 1
+  pub none_sent : s'.next_piece ≡ s.next_piece
 
 rests_same : (s s' : State) → IsIdle s → s' ≡ s → Rests s s'
-rests_same s s' idle e = subst (λ (t : State). Rests s t) (sym e) (record { arrays = refl; idle = idle; asked = omega arith })
+rests_same s s' idle e = subst (λ (t : State). Rests s t) (sym e) (record { arrays = refl; idle = idle; asked = omega arith; none_sent = refl })
 
 -- a refused call, and its answer
 rests_refused : (rules : Rules) (s : State) (number : ℕ) (q : ClientRequest) (status : NtStatus) (s' : State) → IsIdle s → number ≡ s.next_request → refusal rules s q ≡ Some status
@@ -175,6 +176,7 @@ rests_refused rules s number q status s' idle is_next refused run = by run.0 run
             not_removing = sym same.removing ∙ h.after.removing ∙ r.after.removing ∙ idle.not_removing;
           };
           asked = omega arith;
+          none_sent = sym same.next_piece ∙ h.after.next_piece ∙ r.after.next_piece;
         }
 
 -- what it leaves of the stack
@@ -311,13 +313,14 @@ module _ (old : ManagerView) (ready : IsReady old) (q : ClientRequest) (known : 
         leaves = leaves_rest old ready new told by handles whole rests none;
         why = reason_of old q reason (refused_for old.rules old.state q (status_of_refusal reason) ready.idle ready.usable.takes_one known h.is_refused);
         same_sectors = same_disk old ready new told by handles whole rests none;
+        none_sent = rests.none_sent;
       }
 
   turned_still : (reason : Refusal) → told ≡ tells_nothing old → new.state ≡ old.state → HasReason old q reason → Turns old q reason (record new { labels = [] })
   turned_still reason nothing same why =
       let rests : Rests old.state new.state = rests_same old.state new.state ready.idle same in
       let none : told.answers ≡ [] = ap (λ (t : Told). t.answers) nothing in
-      record { leaves = leaves_rest old ready new told by handles whole rests none; why = why; same_sectors = same_disk old ready new told by handles whole rests none }
+      record { leaves = leaves_rest old ready new told by handles whole rests none; why = why; same_sectors = same_disk old ready new told by handles whole rests none; none_sent = rests.none_sent }
 
   turned_away : (reason : Refusal) → IsTurnedAway old q reason new told → Turns old q reason (record new { labels = [] })
   turned_away DeviceBusy h = turned_still DeviceBusy h.1.nothing h.1.same_state (used_up h.0)
@@ -355,6 +358,7 @@ module _ (old : ManagerView) (ready : IsReady old) (q : ClientRequest) (known : 
               no_sectors old.rules q new.adapter.sectors count ∙ sym (no_bytes q.bytes long);
           changes = λ is_write. record { elsewhere = λ i out. ap (λ xs. slice_get xs i) same; each = λ place low. inl (ap (λ xs. slice_get xs (disk_first old.rules q + place)) same) };
           same = λ other. same;
+          sent = λ has_place. absurd (let none : 0 < 0 = subst (λ n. 0 < n) count (has_place (ap (λ (a : AnswerOf). a.status) is)) in omega arith);
         }
   ]
 

@@ -1,11 +1,12 @@
 -- A request from its call to its answer, on the disk.
 use Rattle.std.proofs.Common.{◌≡◌, ◌≢◌, ◌<◌, ◌≤◌, ◌⊎◌, inl, inr, ℕ, zero, suc, ◌+◌, ◌-◌, ◌*◌, ◌/◌, ◌%◌, Bool, true, false, List, [], ◌∷◌, Option, Some, None, refl, sym, ◌∙◌, ap, subst, arith, length, take, drop, map, length-take, length-drop}
-use Rattle.std.specs.Prelude.{All, IsPermutation, IsNone, IsTrue, slice_get, slice_range, ◌&&◌, ◌==◌, not, nat_le, is_none, unwrap_or, if◌then◌else◌}
+use Rattle.std.specs.Prelude.{All, IsPermutation, IsNone, IsFalse, IsTrue, slice_get, slice_range, ◌&&◌, ◌==◌, not, nat_le, is_none, unwrap_or, if◌then◌else◌}
 use Rattle.std.specs.List.{concat}
 use Rattle.std.proofs.Math.Nat.{mul-le-mul_right, mod-add-div'}
 use Rattle.std.proofs.lemmas.Bool.{cases_lt}
 use Rattle.std.proofs.lemmas.Bool.Decides.{nat_tests}
 use Rattle.std.proofs.lemmas.List.Elements.{All-nil, All-cons, All-head, All-tail}
+use Rattle.std.proofs.lemmas.List.Sorted.{IsPermutation-sym}
 use Rattle.ntstatus.specs.declared.NtStatus.TheVariants.{Success}
 use Rattle.sector.specs.declared.Extent.{Extent}
 use Rattle.sector.specs.Extents.{IsSector}
@@ -20,8 +21,8 @@ use Rattle.machine.specs.State.{State}
 use Rattle.machine.specs.Calling.{refusal, Admits, new_request, bytes_carried}
 use Rattle.machine.specs.Sending.{array_at, partition_number}
 use Rattle.machine.specs.Solo.{IsAnswered}
-use Rattle.machine.proofs.Places.{IsTakenIn, taken_in}
-use Rattle.machine.proofs.Same.{IsSame-refl}
+use Rattle.machine.proofs.Places.{IsTakenIn, some_places, taken_in}
+use Rattle.machine.proofs.Same.{IsSame-refl, none_there}
 use Rattle.machine_laws.specs.NumberLaws.{CallsCount, call_numbers}
 use Rattle.machine_laws.specs.Reached.{IsReached}
 use Rattle.machine_laws.specs.Sectors.{sector_of, bytes_for}
@@ -33,7 +34,8 @@ use Rattle.io_manager.specs.Right.{TakesAnswer, as_answer}
 use Rattle.volume.specs.Shown.{extent_at}
 use Rattle.volume.specs.Ready.{AreUsable, IsReady}
 use Rattle.volume.specs.Working.{IsQuiet, IsBetween, Goes, IsPlaceOf, ChangesSome, Ends, disk_first, sectors_on}
-use Rattle.volume.proofs.Phases.{IsWorking, IsServed, run_working, always_alone, written_at, single}
+use Rattle.volume.proofs.Commands.{IsWaiting, NoneSent, sent_by}
+use Rattle.volume.proofs.Phases.{IsWorking, IsServed, run_working, always_alone, of_sole, works_last, written_at, single}
 use Rattle.volume.proofs.Steps.{goes_on_reached}
 use Rattle.volume.proofs.Disk.{same_items, slice_get-range, slice_get-range_past, at_partition, sectors_of-extent, same_sector}
 
@@ -338,6 +340,26 @@ module _ (reads : SoloReadsHold) (writes : SoloWritesHold) (failed : FailedWrite
       single (map as_answer now.answers) (Answer number served.status served.informed served.bytes)
       (subst (λ ls. IsPermutation (map as_answer now.answers) ls) served.told goes.untaken)
 
+  -- a command was sent for it
+  sent : before.state.next_piece < now.state.next_piece
+  unfolding working
+  sent =
+      let first : goes.called.next_piece ≡ before.state.next_piece = goes.opens.after.next_piece in
+      let some : 0 < place_count rules q = some_places rules before.state q (some_bytes rules.sector_size ready.usable.sector_size) goes.opens.not_refused in
+      let none : NoneSent (place_count rules q) goes.called = record {
+        none_out = none_there before.state.pieces goes.called.pieces ready.idle.none_out (IsPermutation-sym _ _ goes.opens.after.pieces);
+        waiting = of_sole (IsWaiting (place_count rules q)) working.o goes.called.requests working.one (record { untouched = refl; not_cancelled = refl });
+      } in
+      let staying : IsFalse served.ended.removing = works_last number q rules goes.called served.between served.ended served.run served.working in
+      let more : goes.called.next_piece < served.after.next_piece =
+      sent_by (place_count rules q) rules goes.called served.between served.ended number served.status served.bytes served.after some served.devices none served.run staying served.answers in
+      let last : served.after.next_piece ≤ now.state.next_piece = served.commands in
+      omega arith
+    where
+      some_bytes : (size : ℕ) → (size ≡ 512) ⊎ (size ≡ 4096) → 0 < size
+      some_bytes size (inl e) = omega arith
+      some_bytes size (inr e) = omega arith
+
   pub answer_is_there : (new : ManagerView) → TakesAnswer now None new → ⊥
   answer_is_there new t = let e : map as_answer [] ≡ Answer number served.status served.informed served.bytes ∷ [] = ap (λ xs. map as_answer xs) (sym t.0) ∙ one_answer in cc
 
@@ -384,6 +406,7 @@ module _ (reads : SoloReadsHold) (writes : SoloWritesHold) (failed : FailedWrite
         writes = λ is_write ok. write_is is_write (sym status ∙ ok);
         changes = changes;
         same = same_disk;
+        sent = λ has_place. sent;
       }
     where
       empty_of : (xs : List AnswerOf) → map as_answer xs ≡ [] → xs ≡ []

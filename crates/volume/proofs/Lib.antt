@@ -1,5 +1,6 @@
 pub mod Labels
 pub mod Phases
+pub mod Commands
 pub mod Using
 pub mod Steps
 pub mod Disk

@@ -1,6 +1,6 @@
 -- What a call on a volume leaves, in the words of its user.
-use Rattle.std.proofs.Common.{◌≡◌, ◌≢◌, ◌<◌, ◌≤◌, ◌⊎◌, ℕ, ◌+◌, ◌*◌, ◌^◌, arith, true, false, List, [], Option, Some, refl, sym, ◌∙◌, ap, subst, length}
-use Rattle.std.specs.Prelude.{IsTrue, IsFalse, is_none}
+use Rattle.std.proofs.Common.{◌≡◌, ◌≢◌, ◌<◌, ◌≤◌, ◌⊎◌, ℕ, ◌+◌, ◌*◌, ◌/◌, ◌^◌, arith, true, false, List, [], Option, Some, refl, sym, ◌∙◌, ap, subst, length}
+use Rattle.std.specs.Prelude.{IsTrue, IsFalse, is_none, if◌then◌else◌}
 use Rattle.std.specs.List.{concat}
 use Rattle.ntstatus.specs.declared.NtStatus.TheVariants.{Success}
 use Rattle.machine.specs.Map.{IsPartition}
@@ -86,6 +86,13 @@ module _ (v : ManagerView) (handle : Handle) (p : ℕ) (sizes : Sizes) (kept : V
 
     pub kept_content : q.kind ≢ Write → IsSameDisk (volume_over v p) (volume_over new p)
     kept_content other = same_disk new h.leaves (h.same other)
+
+    -- it was sent
+    pub sent_flush : q.kind ≡ Flush → (volume_over v p).next_command < (volume_over new p).next_command
+    sent_flush is_flush = h.sent (λ ok. subst (λ n. 0 < n) (sym (ap (λ k. if is_transfer k then q.length / v.rules.sector_size else 1) is_flush)) (omega arith))
+
+    pub sent_failed : answer.status ≢ Success → (volume_over v p).next_command < (volume_over new p).next_command
+    sent_failed bad = h.sent (λ ok. absurd (bad ok))
 
     write_some : q.kind ≡ Write → Writes (volume_over v p) q.offset (concat (sectors_on v.rules q new.adapter.sectors)) (volume_over new p)
     write_some is_write =

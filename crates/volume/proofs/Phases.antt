@@ -1,5 +1,5 @@
 -- A request alone: what quiet labels make of it.
-use Rattle.std.proofs.Common.{◌≡◌, ◌<◌, ◌⊎◌, inl, inr, ℕ, Bool, true, false, List, [], ◌∷◌, Option, Some, refl, sym, ◌∙◌, ap, subst, arith, length}
+use Rattle.std.proofs.Common.{◌≡◌, ◌<◌, ◌≤◌, ◌⊎◌, inl, inr, ℕ, Bool, true, false, List, [], ◌∷◌, Option, Some, refl, sym, ◌∙◌, ap, subst, arith, length}
 use Rattle.std.specs.Prelude.{All, Contains, IsPermutation, IsNone, IsTrue, IsFalse}
 use Rattle.std.proofs.lemmas.List.Elements.{All-nil, All-cons, All-head, All-tail, All-contains}
 use Rattle.std.proofs.lemmas.List.Sorted.{IsPermutation-sym, length_permutation, All-permutation}
@@ -166,7 +166,41 @@ module _ (rules : Rules) where
       let more : IsOver s' × (s'.arrays ≡ run.0.arrays) × (answers_of labels ≡ []) = run_over run.0 labels s' one.0 (All-tail IsQuiet label labels quiet) run.2 in
       (more.0, more.1 ∙ one.1, one.2 labels ∙ more.2)
 
+-- HOW MANY COMMANDS WERE SENT
+
+device_rises : (rules : Rules) (s : State) (label : DeviceLabel) (s' : State) → DeviceStep rules s label s' → s.next_piece ≤ s'.next_piece
+device_rises rules s (Start piece tag block) s' h = rw h.after.next_piece (omega arith)
+device_rises rules s (Act piece bytes) s' h = rw h.after.next_piece (omega arith)
+device_rises rules s (Fault piece) s' h = rw h.after.next_piece (omega arith)
+device_rises rules s (Return piece class) s' h = rw h.after.next_piece (omega arith)
+
+step_rises : (rules : Rules) (s : State) (label : Label) (s' : State) → IsQuiet label → Step rules s label s' → s.next_piece ≤ s'.next_piece
+step_rises rules s (Device label) s' quiet (inl h) = device_rises rules s label s' h.1
+step_rises rules s (Answer r status informed bytes) s' quiet (inl h) = rw h.1.answers.after.next_piece (omega arith)
+step_rises rules s (Answer r status informed bytes) s' quiet (inr h) = rw h.after.next_piece (omega arith)
+step_rises rules s Removed s' quiet (inl h) = rw h.1.after.next_piece (omega arith)
+step_rises rules s (Device label) s' quiet (inr h) = absurd h
+step_rises rules s Removed s' quiet (inr h) = absurd h
+step_rises rules s (Call r asked) s' quiet h = absurd quiet
+step_rises rules s (Cancel r) s' quiet h = absurd quiet
+step_rises rules s Pause s' quiet h = absurd quiet
+step_rises rules s Resume s' quiet h = absurd quiet
+step_rises rules s Remove s' quiet h = absurd quiet
+step_rises rules s Surprise s' quiet h = absurd quiet
+
+pub quiet_rises : (rules : Rules) (s : State) (labels : List Label) (s' : State) → All IsQuiet labels → Run rules s labels s' → s.next_piece ≤ s'.next_piece
+quiet_rises rules s [] s' quiet run = rw run.next_piece (omega arith)
+quiet_rises rules s (label ∷ labels) s' quiet run =
+    let one : s.next_piece ≤ run.0.next_piece = step_rises rules s label run.0 (All-head IsQuiet label labels quiet) run.1 in
+    let more : run.0.next_piece ≤ s'.next_piece = quiet_rises rules run.0 labels s' (All-tail IsQuiet label labels quiet) run.2 in
+    omega arith
+
 -- FROM ITS CALL ON
+
+-- a label of the adapter's
+abbrev pub IsDevice : Label → Type 0
+IsDevice (Device label) = Unit {0}
+IsDevice _ = ⊥
 
 -- it was answered on the way
 pub record IsServed (number : ℕ) (q : ClientRequest) (rules : Rules) (s : State) (labels : List Label) (s' : State) : Type 0 where
@@ -178,10 +212,12 @@ pub record IsServed (number : ℕ) (q : ClientRequest) (rules : Rules) (s : Stat
   pub after : State
   pub run : Run rules s between ended
   pub working : AlwaysWorking number q rules s between ended run
+  pub devices : All IsDevice between
   pub answers : Answers rules ended number status bytes after
   pub told : answers_of labels ≡ Answer number status informed bytes ∷ []
   pub over : IsOver s'
   pub arrays : s'.arrays ≡ after.arrays
+  pub commands : after.next_piece ≤ s'.next_piece
 
 module _ (number : ℕ) (q : ClientRequest) (rules : Rules) where
   abbrev Outcome : (s : State) (labels : List Label) (s' : State) → Type 0
@@ -199,10 +235,12 @@ module _ (number : ℕ) (q : ClientRequest) (rules : Rules) where
     after = h.after;
     run = (mid, step, h.run);
     working = (w, h.working);
+    devices = All-cons IsDevice (Device label) h.between tt h.devices;
     answers = h.answers;
     told = h.told;
     over = h.over;
     arrays = h.arrays;
+    commands = h.commands;
   })
 
   answered : (s : State) (r : ℕ) (status : NtStatus) (informed : ℕ) (bytes : List ℕ) (labels : List Label) (mid s' : State) → IsWorking number q s → Answers rules s r status bytes mid
@@ -219,10 +257,12 @@ module _ (number : ℕ) (q : ClientRequest) (rules : Rules) where
         after = mid;
         run = IsSame-refl s;
         working = w;
+        devices = All-nil IsDevice;
         answers = subst (λ n. Answers rules s n status bytes mid) ends.0 h;
         told = ap (λ ls. Answer r status informed bytes ∷ ls) rest.2 ∙ ap (λ n. Answer n status informed bytes ∷ []) ends.0;
         over = rest.0;
         arrays = rest.1;
+        commands = quiet_rises rules mid labels s' quiet run;
       }
 
   by_label : (s : State) (label : Label) (labels : List Label) (mid s' : State) → IsWorking number q s → IsQuiet label → Step rules s label mid → All IsQuiet labels → Run rules mid labels s'
@@ -253,6 +293,10 @@ module _ (number : ℕ) (q : ClientRequest) (rules : Rules) where
   pub always_alone : (s : State) (labels : List Label) (s' : State) (run : Run rules s labels s') → AlwaysWorking number q rules s labels s' run → IsSolo rules number q s labels s' run
   always_alone s [] s' run w = alone s w
   always_alone s (label ∷ labels) s' run w = (alone s w.0, always_alone run.0 labels s' run.2 w.1)
+
+  pub works_last : (s : State) (labels : List Label) (s' : State) (run : Run rules s labels s') → AlwaysWorking number q rules s labels s' run → IsFalse s'.removing
+  works_last s [] s' run w = sym run.removing ∙ w.not_removing
+  works_last s (label ∷ labels) s' run w = works_last run.0 labels s' run.2 w.1
 
   -- a sector that is written is one of its own
   written_here : (p i : ℕ) (s : State) (label : Label) (s' : State) → IsWorking number q s → IsWriteAt rules p i s label s' → (q.kind ≡ Write) × IsPlaceOf rules q p i

@@ -1,5 +1,5 @@
 -- What the calls of a volume do to its bytes, and what refuses them.
-use Rattle.std.specs.Prelude.{◌≡◌, ◌≢◌, ◌≤◌, ◌⊎◌, ℕ, ◌+◌, ◌*◌, ◌%◌, List, length, slice_range}
+use Rattle.std.specs.Prelude.{◌≡◌, ◌≢◌, ◌<◌, ◌≤◌, ◌⊎◌, ℕ, ◌+◌, ◌*◌, ◌%◌, List, length, slice_range}
 use Rattle.ntstatus.specs.declared.NtStatus.TheVariants.{Success}
 use Rattle.sector.specs.Splice.{splice}
 use Rattle.io_manager.specs.declared.Refusal.{Refusal}
@@ -32,6 +32,11 @@ pub record IsSameDisk (old new : VolumeView) : Type 0 where
   pub content : new.content ≡ old.content
   pub partition : new.partition ≡ old.partition
   pub asked : new.next_request ≤ old.next_request + 1
+
+-- a request that was refused was not sent; one that failed was
+abbrev pub WasSent : VolumeView → VolumeView → Fault → Type 0
+WasSent old new (Refused reason) = new.next_command ≡ old.next_command
+WasSent old new (Failed status) = old.next_command < new.next_command
 
 -- READ AND FLUSH
 

@@ -21,6 +21,8 @@ pub record VolumeView : Type 0 where
   pub partition : ℕ
   -- the number of the stack's next request; there are 2^62 - 1
   pub next_request : ℕ
+  -- the number of the next command that the stack sends to its device
+  pub next_command : ℕ
 
 -- the extent of a partition
 abbrev pub extent_at : List Extent → ℕ → Extent
@@ -41,4 +43,4 @@ content_of v p = parted_at v.rules.sector_size v.adapter.sectors (extent_at v.ru
 
 -- what a volume shows over a stack
 abbrev pub volume_over : ManagerView → ℕ → VolumeView
-volume_over v p = record { content = content_of v p; partition = p; next_request = v.state.next_request }
+volume_over v p = record { content = content_of v p; partition = p; next_request = v.state.next_request; next_command = v.state.next_piece }

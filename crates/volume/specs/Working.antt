@@ -144,6 +144,8 @@ pub record Ends (old : ManagerView) (q : ClientRequest) (answer : AnswerOf) (new
   pub writes : q.kind ≡ Write → answer.status ≡ Success → concat (sectors_on old.rules q new.adapter.sectors) ≡ q.bytes
   pub changes : q.kind ≡ Write → ChangesSome old.rules q old.adapter.sectors new.adapter.sectors
   pub same : q.kind ≢ Write → new.adapter.sectors ≡ old.adapter.sectors
+  -- a command was sent for it, unless it succeeded and has no place
+  pub sent : (answer.status ≡ Success → 0 < place_count old.rules q) → old.state.next_piece < new.state.next_piece
 
 -- why one was refused
 abbrev pub HasReason : ManagerView → ClientRequest → Refusal → Type 0
@@ -157,3 +159,4 @@ pub record Turns (old : ManagerView) (q : ClientRequest) (reason : Refusal) (new
   pub leaves : Leaves old new
   pub why : HasReason old q reason
   pub same_sectors : new.adapter.sectors ≡ old.adapter.sectors
+  pub none_sent : new.state.next_piece ≡ old.state.next_piece

@@ -4,10 +4,11 @@
 //! a read that succeeds gives just the bytes of the partition ([`Volume::read`], clause `reads`); a write that succeeds
 //! has replaced just its bytes, and nothing else of the disk ([`Volume::write`], `writes`); a flush and a read change
 //! nothing (`same`). A failure names its status, and says what may have changed: nothing at all where it was refused, and
-//! after a write that failed sectors of its own extent, each as it was or as it was to be.
+//! after a write that failed sectors of its own extent, each as it was or as it was to be. Of a request that was refused no
+//! command was sent; of one that failed there was one, and of a flush that succeeded (`sent`).
 //!
-//! It promises nothing of power loss, and not that a call succeeds. Its stack stands on an adapter whose acts read and
-//! write the sectors that it shows.
+//! It promises nothing of power loss, not that a call succeeds, and not that a write past caches goes as such. Its stack
+//! stands on an adapter whose acts read and write the sectors that it shows.
 #![tactic(auto)]
 
 use compose::StartFault;

@@ -1,9 +1,9 @@
 //! What the user of a volume calls.
 
-ghost use Rattle.std.specs.Prelude.{◌≡◌, ◌≤◌, ◌⊎◌, ◌*◌, ◌+◌, ◌^◌, ⊤, length, IfOk, IfErr, MatchResult};
+ghost use Rattle.std.specs.Prelude.{◌≡◌, ◌<◌, ◌≤◌, ◌⊎◌, ◌*◌, ◌+◌, ◌^◌, ⊤, length, IfOk, IfErr, MatchResult};
 ghost use Rattle.volume.specs.Shown.{content_of};
 ghost use Rattle.volume.specs.Ready.{IsReady};
-ghost use Rattle.volume.specs.Calls.{AreInBounds, IsFault, IsSameDisk, IsWriteFault, Reads, Writes};
+ghost use Rattle.volume.specs.Calls.{AreInBounds, IsFault, IsSameDisk, IsWriteFault, Reads, WasSent, Writes};
 
 use crate::carrying::{carry_out, take_labels};
 use crate::{Fault, Sizes};
@@ -52,6 +52,7 @@ impl<A: Adapter> Volume<A> {
     /// As [`Fault`] says. Nothing has changed.
     pub fn read(&mut self, alloc: Global, offset: u64, buffer: Bytes) -> Result<Bytes, Fault>
         ensures reads { MatchResult result (Reads self.old.content offset (length buffer)) (IsFault self.old (AreInBounds self.old.content offset (length buffer))) }
+        ensures sent { IfErr result (WasSent self.old self.new) }
         ensures same { IsSameDisk self.old self.new }
     {
         let event = Event::Read {
@@ -85,6 +86,7 @@ impl<A: Adapter> Volume<A> {
     ) -> Result<(), Fault>
         ensures in_bounds { IfOk result (λ _. AreInBounds self.old.content offset (length bytes)) }
         ensures writes { MatchResult result (λ _. Writes self.old offset bytes self.new) (λ fault. IsWriteFault self.old offset bytes fault self.new) }
+        ensures sent { IfErr result (WasSent self.old self.new) }
     {
         let event = Event::Write {
             handle: self.handle,
@@ -102,13 +104,14 @@ impl<A: Adapter> Volume<A> {
         }
     }
 
-    /// Flushes the disk's caches (SBC: SYNCHRONIZE CACHE).
+    /// Flushes the disk's caches (SBC: SYNCHRONIZE CACHE). A flush that succeeds has sent the device a command.
     ///
     /// # Errors
     ///
     /// As [`Fault`] says, but never [`Refusal::InvalidParameter`]. Nothing has changed.
     pub fn flush(&mut self, alloc: Global) -> Result<(), Fault>
         ensures flushes { IfErr result (IsFault self.old ⊤) }
+        ensures sent { MatchResult result (λ _. self.old.next_command < self.new.next_command) (WasSent self.old self.new) }
         ensures same { IsSameDisk self.old self.new }
     {
         let event = Event::Flush {

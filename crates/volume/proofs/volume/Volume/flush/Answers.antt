@@ -1,4 +1,4 @@
-use Rattle.std.proofs.Common.{◌≡◌, ◌≢◌, [], false, refl, subst}
+use Rattle.std.proofs.Common.{◌≡◌, ◌≢◌, ◌<◌, [], false, refl, subst}
 use Rattle.std.specs.Prelude.{is_none}
 use Rattle.machine.specs.declared.Kind.TheVariants.{Write, Flush}
 use Rattle.machine.specs.declared.ClientRequest.{ClientRequest}
@@ -6,7 +6,7 @@ use Rattle.io_manager.specs.Calls.{call_on}
 use Rattle.volume.specs.Shown.{VolumeView, volume_over}
 use Rattle.volume.specs.Calls.{IsRefusal, IsSameDisk}
 use Rattle.volume.specs.Working.{Ends, Turns}
-use Rattle.volume.proofs.Methods.{has_partition, kept_after, kept_content, refused_flush, same_disk}
+use Rattle.volume.proofs.Methods.{has_partition, kept_after, kept_content, refused_flush, same_disk, sent_failed, sent_flush}
 use Rattle.volume.proofs.volume.Volume.flush.Goals as goal
 
 not_write : Flush ≢ Write
@@ -18,6 +18,13 @@ invariant_of-self g c =
     let known : is_none q.partition ≡ false = has_partition c.self.inside.stack c.self.inside.handle c.self.inside.partition c.self.inside.sizes c.self.invariant q refl in
     let h : Turns c.self.inside.stack q c.in-Err.reason c.carry_out.new.stack = c.in-Err.ensures q refl known in
     kept_after c.self.inside.stack c.carry_out.new.stack c.self.inside.handle c.self.inside.partition c.self.inside.sizes c.self.invariant h.leaves
+
+pub returns-in-Err-clause-sent : goal.returns-in-Err-clause-sent
+returns-in-Err-clause-sent g c =
+    let q : ClientRequest = call_on c.self.inside.stack c.self.inside.handle Flush 0 [] false in
+    let known : is_none q.partition ≡ false = has_partition c.self.inside.stack c.self.inside.handle c.self.inside.partition c.self.inside.sizes c.self.invariant q refl in
+    let h : Turns c.self.inside.stack q c.in-Err.reason c.carry_out.new.stack = c.in-Err.ensures q refl known in
+    subst (λ (w : VolumeView). (volume_over c.carry_out.new.stack c.self.inside.partition).next_command ≡ w.next_command) c.self.view_is h.none_sent
 
 pub returns-in-Err-clause-flushes : goal.returns-in-Err-clause-flushes
 returns-in-Err-clause-flushes g c =
@@ -40,6 +47,13 @@ invariant_of-self-in-Success g c =
     let h : Ends c.self.inside.stack q c.in-Ok.answer c.carry_out.new.stack = c.in-Ok.ensures q refl known in
     kept_after c.self.inside.stack c.carry_out.new.stack c.self.inside.handle c.self.inside.partition c.self.inside.sizes c.self.invariant h.leaves
 
+pub returns-in-Success-clause-sent : goal.returns-in-Success-clause-sent
+returns-in-Success-clause-sent g c =
+    let q : ClientRequest = call_on c.self.inside.stack c.self.inside.handle Flush 0 [] false in
+    let known : is_none q.partition ≡ false = has_partition c.self.inside.stack c.self.inside.handle c.self.inside.partition c.self.inside.sizes c.self.invariant q refl in
+    let h : Ends c.self.inside.stack q c.in-Ok.answer c.carry_out.new.stack = c.in-Ok.ensures q refl known in
+    subst (λ (w : VolumeView). w.next_command < (volume_over c.carry_out.new.stack c.self.inside.partition).next_command) c.self.view_is (sent_flush c.self.inside.stack c.self.inside.handle c.self.inside.partition c.self.inside.sizes c.self.invariant q refl c.in-Ok.answer c.carry_out.new.stack h refl)
+
 pub returns-in-Success-clause-same : goal.returns-in-Success-clause-same
 returns-in-Success-clause-same g c =
     let q : ClientRequest = call_on c.self.inside.stack c.self.inside.handle Flush 0 [] false in
@@ -61,5 +75,6 @@ returns g c =
     let h : Ends c.self.inside.stack q c.in-Ok.answer c.carry_out.new.stack = c.in-Ok.ensures q refl known in
     record {
       flushes = (tt, c.in_default.not-Success);
+      sent = subst (λ (w : VolumeView). w.next_command < (volume_over c.carry_out.new.stack c.self.inside.partition).next_command) c.self.view_is (sent_failed c.self.inside.stack c.self.inside.handle c.self.inside.partition c.self.inside.sizes c.self.invariant q refl c.in-Ok.answer c.carry_out.new.stack h c.in_default.not-Success);
       same = subst (λ (w : VolumeView). IsSameDisk w (volume_over c.carry_out.new.stack c.self.inside.partition)) c.self.view_is (kept_content c.self.inside.stack c.self.inside.handle c.self.inside.partition c.self.inside.sizes c.self.invariant q refl c.in-Ok.answer c.carry_out.new.stack h not_write);
     }

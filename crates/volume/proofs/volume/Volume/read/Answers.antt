@@ -1,12 +1,12 @@
-use Rattle.std.proofs.Common.{◌≡◌, ◌≢◌, false, refl, subst, length}
-use Rattle.std.specs.Prelude.{MatchResult, is_none}
+use Rattle.std.proofs.Common.{◌≡◌, ◌≢◌, ◌<◌, false, refl, subst, length}
+use Rattle.std.specs.Prelude.{IfErr, MatchResult, is_none}
 use Rattle.machine.specs.declared.Kind.TheVariants.{Read, Write}
 use Rattle.machine.specs.declared.ClientRequest.{ClientRequest}
 use Rattle.io_manager.specs.Calls.{call_on}
 use Rattle.volume.specs.Shown.{VolumeView, volume_over}
-use Rattle.volume.specs.Calls.{AreInBounds, IsFault, IsRefusal, IsSameDisk, Reads}
+use Rattle.volume.specs.Calls.{AreInBounds, IsFault, IsRefusal, IsSameDisk, Reads, WasSent}
 use Rattle.volume.specs.Working.{Ends, Turns}
-use Rattle.volume.proofs.Methods.{has_partition, in_bounds, kept_after, kept_content, reads, refused, same_disk}
+use Rattle.volume.proofs.Methods.{has_partition, in_bounds, kept_after, kept_content, reads, refused, same_disk, sent_failed}
 use Rattle.volume.proofs.volume.Volume.read.Goals.{in-Success, in_default}
 use Rattle.volume.proofs.volume.Volume.read.Goals as goal
 
@@ -19,6 +19,13 @@ invariant_of-self g c =
     let known : is_none q.partition ≡ false = has_partition c.self.inside.stack c.self.inside.handle c.self.inside.partition c.self.inside.sizes c.self.invariant q refl in
     let h : Turns c.self.inside.stack q c.in-Err.reason c.carry_out.new.stack = c.in-Err.ensures q refl known in
     kept_after c.self.inside.stack c.carry_out.new.stack c.self.inside.handle c.self.inside.partition c.self.inside.sizes c.self.invariant h.leaves
+
+pub returns-in-Err-clause-sent : goal.returns-in-Err-clause-sent
+returns-in-Err-clause-sent g c =
+    let q : ClientRequest = call_on c.self.inside.stack c.self.inside.handle Read c.args.offset c.args.buffer false in
+    let known : is_none q.partition ≡ false = has_partition c.self.inside.stack c.self.inside.handle c.self.inside.partition c.self.inside.sizes c.self.invariant q refl in
+    let h : Turns c.self.inside.stack q c.in-Err.reason c.carry_out.new.stack = c.in-Err.ensures q refl known in
+    subst (λ (w : VolumeView). (volume_over c.carry_out.new.stack c.self.inside.partition).next_command ≡ w.next_command) c.self.view_is h.none_sent
 
 pub returns-in-Err-clause-reads : goal.returns-in-Err-clause-reads
 returns-in-Err-clause-reads g c =
@@ -59,3 +66,14 @@ returns-clause-same g c =
     let known : is_none q.partition ≡ false = has_partition c.self.inside.stack c.self.inside.handle c.self.inside.partition c.self.inside.sizes c.self.invariant q refl in
     let h : Ends c.self.inside.stack q c.in-Ok.answer c.carry_out.new.stack = c.in-Ok.ensures q refl known in
     subst (λ (w : VolumeView). IsSameDisk w (volume_over c.carry_out.new.stack c.self.inside.partition)) c.self.view_is (kept_content c.self.inside.stack c.self.inside.handle c.self.inside.partition c.self.inside.sizes c.self.invariant q refl c.in-Ok.answer c.carry_out.new.stack h not_write)
+
+pub returns-clause-sent : goal.returns-clause-sent
+returns-clause-sent g c =
+    let q : ClientRequest = call_on c.self.inside.stack c.self.inside.handle Read c.args.offset c.args.buffer false in
+    let known : is_none q.partition ≡ false = has_partition c.self.inside.stack c.self.inside.handle c.self.inside.partition c.self.inside.sizes c.self.invariant q refl in
+    let h : Ends c.self.inside.stack q c.in-Ok.answer c.carry_out.new.stack = c.in-Ok.ensures q refl known in
+    subst (λ (w : VolumeView). IfErr c.match-answer.result (WasSent w (volume_over c.carry_out.new.stack c.self.inside.partition))) c.self.view_is
+    (elim c.match-answer.branch [
+      | in-Success w ↦ rw w.result-is tt
+      | in_default w ↦ rw w.result-is (sent_failed c.self.inside.stack c.self.inside.handle c.self.inside.partition c.self.inside.sizes c.self.invariant q refl c.in-Ok.answer c.carry_out.new.stack h w.in_default.not-Success)
+    ])

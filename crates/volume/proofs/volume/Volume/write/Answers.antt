@@ -1,4 +1,4 @@
-use Rattle.std.proofs.Common.{◌≡◌, false, refl, subst, length}
+use Rattle.std.proofs.Common.{◌≡◌, ◌<◌, false, refl, subst, length}
 use Rattle.std.specs.Prelude.{is_none}
 use Rattle.machine.specs.declared.Kind.TheVariants.{Write}
 use Rattle.machine.specs.declared.ClientRequest.{ClientRequest}
@@ -6,7 +6,7 @@ use Rattle.io_manager.specs.Calls.{call_on}
 use Rattle.volume.specs.Shown.{VolumeView, volume_over}
 use Rattle.volume.specs.Calls.{AreInBounds, IsRefusal, IsSameDisk, Writes, WritesSome}
 use Rattle.volume.specs.Working.{Ends, Turns}
-use Rattle.volume.proofs.Methods.{has_partition, in_bounds, kept_after, refused, same_disk, writes, writes_part}
+use Rattle.volume.proofs.Methods.{has_partition, in_bounds, kept_after, refused, same_disk, sent_failed, writes, writes_part}
 use Rattle.volume.proofs.volume.Volume.write.Goals as goal
 
 pub invariant_of-self : goal.invariant_of-self
@@ -15,6 +15,13 @@ invariant_of-self g c =
     let known : is_none q.partition ≡ false = has_partition c.self.inside.stack c.self.inside.handle c.self.inside.partition c.self.inside.sizes c.self.invariant q refl in
     let h : Turns c.self.inside.stack q c.in-Err.reason c.carry_out.new.stack = c.in-Err.ensures q refl known in
     kept_after c.self.inside.stack c.carry_out.new.stack c.self.inside.handle c.self.inside.partition c.self.inside.sizes c.self.invariant h.leaves
+
+pub returns-in-Err-clause-sent : goal.returns-in-Err-clause-sent
+returns-in-Err-clause-sent g c =
+    let q : ClientRequest = call_on c.self.inside.stack c.self.inside.handle Write c.args.offset c.args.bytes c.args.through in
+    let known : is_none q.partition ≡ false = has_partition c.self.inside.stack c.self.inside.handle c.self.inside.partition c.self.inside.sizes c.self.invariant q refl in
+    let h : Turns c.self.inside.stack q c.in-Err.reason c.carry_out.new.stack = c.in-Err.ensures q refl known in
+    subst (λ (w : VolumeView). (volume_over c.carry_out.new.stack c.self.inside.partition).next_command ≡ w.next_command) c.self.view_is h.none_sent
 
 pub returns-in-Err-clause-writes : goal.returns-in-Err-clause-writes
 returns-in-Err-clause-writes g c =
@@ -68,4 +75,5 @@ returns g c =
         subst (λ (w : VolumeView). WritesSome w c.args.offset c.args.bytes (volume_over c.carry_out.new.stack c.self.inside.partition)) c.self.view_is
             (writes_part c.self.inside.stack c.self.inside.handle c.self.inside.partition c.self.inside.sizes c.self.invariant q refl c.in-Ok.answer c.carry_out.new.stack h refl refl),
       );
+      sent = subst (λ (w : VolumeView). w.next_command < (volume_over c.carry_out.new.stack c.self.inside.partition).next_command) c.self.view_is (sent_failed c.self.inside.stack c.self.inside.handle c.self.inside.partition c.self.inside.sizes c.self.invariant q refl c.in-Ok.answer c.carry_out.new.stack h c.in_default.not-Success);
     }
