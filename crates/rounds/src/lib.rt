@@ -7,6 +7,8 @@
 #![tactic(auto)]
 
 mod client;
+#[cfg(test)]
+mod tests;
 mod threads;
 
 ghost use Rattle.std.specs.Prelude.{◌≡◌, ◌≤◌, ◌*◌, IfOk, Some};

@@ -16,6 +16,7 @@ use std::thread;
 use std::thread::{Promise, PromisedHandle, Scope, Threads};
 
 /// A turnstile that holds nobody.
+#[derive(Drop)]
 struct Open;
 
 impl Turnstile for Open {
@@ -42,14 +43,23 @@ fn last_lane(passes: &mut Vec<Pass>, completions: &Completions, tag: u8) -> Opti
     passes.pop()
 }
 
-/// Starts a lane for each tag, and the completion worker. Not all of them may be there.
-fn start_lanes<'s, E, A: Adapter + Send, N: Naming + Send + Sync, R: Threads + Wait + Sync>(
+/// Starts a lane for each tag, which passes the turnstile with each piece, and the completion worker. Not all of them may be
+/// there.
+pub(crate) fn start_lanes<
+    's,
+    E,
+    A: Adapter + Send,
+    N: Naming + Send + Sync,
+    T: Turnstile + Sync,
+    R: Threads + Wait + Sync,
+>(
     rt: &'s R,
     scope: &'s Scope<'s, E>,
     host: &'s Host<A, N>,
     completions: &'s Completions,
     passes: Vec<Pass>,
     depth: u8,
+    turnstile: &'s T,
 ) -> bool
     requires { passes.items ≡ issued completions.now.id depth }
 {
@@ -69,7 +79,7 @@ fn start_lanes<'s, E, A: Adapter + Send, N: Naming + Send + Sync, R: Threads + W
             return false;
         };
         if scope
-            .spawn(move || serve_lane(rt, host, tag, &Open, completions, pass))
+            .spawn(move || serve_lane(rt, host, tag, turnstile, completions, pass))
             .is_err()
         {
             return false;
@@ -141,7 +151,7 @@ fn join_clients<N: Naming, R: Threads>(
 }
 
 /// Removes the device, by surprise where the query is refused for want of memory. Whether it was removed in order.
-fn remove<A: Adapter, N: Naming, R: Wait>(
+pub(crate) fn remove<A: Adapter, N: Naming, R: Wait>(
     rt: &R,
     host: &Host<A, N>,
     keeper: &mut Keeper<N>,
@@ -168,6 +178,7 @@ fn serve_clients<'s, E, A: Adapter + Send, N: Naming + Send + Sync, R: Threads +
     passes: Vec<Pass>,
     clients: Vec<Client<N>>,
     plan: Plan,
+    open: &'s Open,
 ) -> Result<(Tally, Vec<Client<N>>), AllocError>
     requires passes { passes.items ≡ issued completions.now.id plan.depth }
     requires clients { AreNumbered plan.clients clients.items }
@@ -175,7 +186,7 @@ fn serve_clients<'s, E, A: Adapter + Send, N: Naming + Send + Sync, R: Threads +
     ensures clients { IfOk result (λ r. AreNumbered plan.clients r.1.items) }
     ensures most { IfOk result (λ r. r.0.answered ≤ 2 * (plan.clients * plan.rounds)) }
 {
-    if !start_lanes(rt, scope, host, completions, passes, plan.depth) {
+    if !start_lanes(rt, scope, host, completions, passes, plan.depth, open) {
         return Err(AllocError);
     }
     let handles = start_clients(rt, alloc, scope, host, clients, plan)?;
@@ -199,6 +210,7 @@ fn run_threads<A: Adapter + Send, N: Naming + Send + Sync, R: Threads + Wait + S
     ensures clients { IfOk result.1 (λ r. AreNumbered plan.clients r.1.items) }
     ensures most { IfOk result.1 (λ r. r.0.answered ≤ 2 * (plan.clients * plan.rounds)) }
 {
+    let open = Open;
     thread::scope(
         thread::scope_env(),
         rt,
@@ -210,7 +222,17 @@ fn run_threads<A: Adapter + Send, N: Naming + Send + Sync, R: Threads + Wait + S
             ensures most { IfOk result.1 (λ r. r.0.answered ≤ 2 * (plan.clients * plan.rounds)) }
         {
             let mut keeper = keeper;
-            let served = serve_clients(rt, alloc, scope, host, completions, passes, clients, plan);
+            let served = serve_clients(
+                rt,
+                alloc,
+                scope,
+                host,
+                completions,
+                passes,
+                clients,
+                plan,
+                &open,
+            );
             // The lanes and the worker end with the removal, also where not all threads are there.
             if remove(rt, host, &mut keeper) {
                 (keeper, served)

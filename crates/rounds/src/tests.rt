@@ -1,0 +1,270 @@
+//! Two clients at once: the second is answered while the lane of the first is held.
+
+ghost use Rattle.std.specs.Prelude.{◌≡◌, ◌+◌, IfOk, Some, length};
+ghost use Rattle.lanes.specs.Queue.{issued};
+ghost use Rattle.probe.specs.Exchange.{IsIdle};
+ghost use Rattle.book.specs.Opening.{IsNew};
+ghost use Rattle.book.specs.Sizes.{AreSizes, sizes_of};
+
+use crate::threads::{remove, start_lanes};
+use adapter::Adapter;
+use book::Sizes;
+use compose::{Settings, Stack, StartFault};
+use disk::{Medium, NoMemory, VecDisk};
+use host::{Answered, Call, Client, Host, HostFault, Keeper, Naming, Opened};
+use lanes::{Completions, Pass, Turnstile};
+use miniport::MemAdapter;
+use sector::Bytes;
+use std::alloc::{AllocError, Global};
+use std::marker::Brand;
+use std::process::Abort;
+use std::sync::{Mutex, Wait};
+use std::test::Fail;
+use std::thread;
+use std::thread::Threads;
+use std::time::{Clock, Duration};
+
+// So many turns of a millisecond a lane is held at most.
+const TURNS: u32 = 10_000;
+
+#[derive(Debug, Clone, Copy, PartialEq, Eq, Drop)]
+enum Hold {
+    Held,
+    LetGo,
+    // The turns have run out.
+    GivenUp,
+}
+
+// It holds tag 0 until it is let go.
+#[derive(Drop)]
+struct HoldsFirst<'a, C: Clock> {
+    clock: &'a C,
+    hold: Mutex<Hold>,
+}
+
+impl<'a, C: Clock> HoldsFirst<'a, C> {
+    fn let_go<R: Wait>(&self, rt: &R) {
+        let mut hold = self.hold.lock(rt);
+        if *hold == Hold::Held {
+            *hold = Hold::LetGo;
+        }
+    }
+}
+
+impl<'a, C: Clock> Turnstile for HoldsFirst<'a, C> {
+    fn pass<R: Wait>(&self, rt: &R, tag: u8) {
+        if tag != 0 {
+            return;
+        }
+        for _ in 0..TURNS {
+            if *self.hold.lock(rt) == Hold::LetGo {
+                return;
+            }
+            thread::sleep(self.clock, Duration::from_millis(1));
+        }
+        *self.hold.lock(rt) = Hold::GivenUp;
+    }
+}
+
+// Both clients read a sector. The second waits for its answer, then the first is let go, and waits for its own.
+fn read_both<A: Adapter, N: Naming, R: Wait, C: Clock>(
+    rt: &R,
+    alloc: Global,
+    host: &Host<A, N>,
+    first: Client<N>,
+    second: Client<N>,
+    turnstile: &HoldsFirst<C>,
+) -> Result<(Answered, Answered), AllocError> {
+    let (mut first, mut second) = (first, second);
+    let buffers = (bytes(alloc)?, bytes(alloc)?);
+    let offset = 0;
+    let Ok(held) = first.issue(
+        rt,
+        host,
+        Call::Read {
+            offset,
+            buffer: buffers.0,
+        },
+    ) else {
+        return Err(AllocError);
+    };
+    let answered = match second.issue(
+        rt,
+        host,
+        Call::Read {
+            offset,
+            buffer: buffers.1,
+        },
+    ) {
+        Ok(ticket) => Ok(second.wait(rt, host, ticket)),
+        Err(_) => Err(AllocError),
+    };
+    turnstile.let_go(rt);
+    let late = first.wait(rt, host, held);
+    Ok((late, answered?))
+}
+
+fn bytes(alloc: Global) -> Result<Bytes, AllocError> {
+    Ok(Bytes::new(vec![in alloc; 0; 512]?))
+}
+
+// Two lanes and the worker, the two clients, and the removal.
+fn run_threads<
+    A: Adapter + Send,
+    N: Naming + Send + Sync,
+    R: Threads + Wait + Sync,
+    C: Clock + Sync,
+>(
+    rt: &R,
+    alloc: Global,
+    host: &Host<A, N>,
+    completions: &Completions,
+    passes: Vec<Pass>,
+    keeper: Keeper<N>,
+    first: Client<N>,
+    second: Client<N>,
+    turnstile: &HoldsFirst<C>,
+) -> Result<(Answered, Answered), AllocError>
+    requires { passes.items ≡ issued completions.now.id 2 }
+{
+    thread::scope(
+        thread::scope_env(),
+        rt,
+        |scope| -> Result<(Answered, Answered), AllocError>
+            requires { passes.items ≡ issued completions.now.id 2 }
+        {
+            let mut keeper = keeper;
+            let read = if start_lanes(rt, scope, host, completions, passes, 2, turnstile) {
+                read_both(rt, alloc, host, first, second, turnstile)
+            } else {
+                Err(AllocError)
+            };
+            remove(rt, host, &mut keeper);
+            read
+        },
+    )
+}
+
+// A host of two clients. The answer to the second stands before that to the first.
+fn hold_first<
+    A: Adapter + Send,
+    N: Naming + Send + Sync,
+    R: Threads + Wait + Sync + Abort,
+    C: Clock + Sync,
+>(rt: &R, alloc: Global, opened: Opened<A>, clock: &C) -> Result<(), AllocError>
+    requires named { opened ≡ record { rules = N.rules; opening = N.opening; partitions = N.partitions; handles = N.handles; marks = N.marks; slots = N.slots; table = N.table; name = N.name; parts = N.parts; gate = N.gate } }
+{
+    let Ok((host, keeper, mut clients)) = Host::<A, N>::new(alloc, opened) else {
+        return Err(AllocError);
+    };
+    let (Some(second), Some(first)) = (clients.pop(), clients.pop()) else {
+        panic!(rt; "not two clients")
+    };
+    let Ok((completions, passes)) = Completions::new(alloc, 1, 2) else {
+        return Err(AllocError);
+    };
+    let turnstile = HoldsFirst {
+        clock,
+        hold: Mutex::new(Hold::Held),
+    };
+    let (held, free) = run_threads(
+        rt,
+        alloc,
+        &host,
+        &completions,
+        passes,
+        keeper,
+        first,
+        second,
+        &turnstile,
+    )?;
+    assert!(rt;
+        *turnstile.hold.lock(rt) == Hold::LetGo,
+        "the turns have run out"
+    );
+    assert!(rt; held.answer.status.is_success() && free.answer.status.is_success());
+    assert!(rt; held.places.call < free.places.call && free.places.answer < held.places.answer);
+    Ok(())
+}
+
+// Sector 0: an entry of type 7, of the sectors 2,048 to 3,071; the others are unused.
+fn table() -> [u8; 512] {
+    let mut bytes = [0; 512];
+    bytes[450] = 7;
+    bytes[455] = 0x08;
+    bytes[459] = 0x04;
+    bytes[510] = 0x55;
+    bytes[511] = 0xAA;
+    bytes
+}
+
+fn no_memory(_refused: NoMemory) -> AllocError {
+    AllocError
+}
+
+// Two tags, over a disk of 4,096 sectors of 512 bytes.
+fn adapter(rt: &impl Abort, alloc: Global) -> Result<MemAdapter<VecDisk>, AllocError>
+    ensures idle { IfOk result (λ a. IsIdle a.shown) }
+    ensures unasked { IfOk result (λ a. a.shown.accepted ≡ 0) }
+{
+    let medium = VecDisk::starting_with(alloc, 512, 4096, &table(), Vec::new(alloc)).map_err(
+        no_memory,
+    )?;
+    let sectors = medium.sectors();
+    assert!(rt; 1 <= sectors && sectors <= 1 << 40);
+    assert!(rt; medium.sector_size() == 512 && medium.failures() == 0);
+    MemAdapter::new(alloc, medium, 64, 2, false).map_err(no_memory)
+}
+
+// A stack that was started, and its sizes; two requests at work and two open.
+fn start<A: Adapter>(
+    rt: &impl Abort,
+    alloc: Global,
+    adapter: A,
+) -> Result<(Stack<A>, Sizes), AllocError>
+    requires idle { IsIdle (A.view adapter) }
+    requires unasked { (A.view adapter).accepted ≡ 0 }
+    ensures new { IfOk result (λ r. IsNew r.0) }
+    ensures sizes { IfOk result (λ r. (r.1 ≡ sizes_of r.0.rules) × AreSizes r.1) }
+    ensures slots { IfOk result (λ r. r.0.rules.open_requests ≡ Some 2) }
+{
+    let sizes = Sizes {
+        sector_size: adapter.sector_size(),
+        longest: 65_536,
+        max_transfer: adapter.max_transfer(),
+        busy_limit: 17,
+    };
+    let settings = Settings {
+        window: 2,
+        open_requests: 2,
+    };
+    match Stack::start(alloc, adapter, settings) {
+        Ok(stack) => Ok((stack, sizes)),
+        Err(StartFault::NoMemory) => Err(AllocError),
+        Err(fault) => panic!(rt; "{fault:?}"),
+    }
+}
+
+fn hold_first_over<A: Adapter + Send, R: Threads + Wait + Sync + Abort, C: Clock + Sync>(
+    rt: &R,
+    alloc: Global,
+    adapter: A,
+    clock: &C,
+) -> Result<(), AllocError>
+    requires idle { IsIdle (A.view adapter) }
+    requires unasked { (A.view adapter).accepted ≡ 0 }
+{
+    let (stack, sizes) = start(rt, alloc, adapter)?;
+    match Opened::new(alloc, stack, sizes, 2, &[0, 0]) {
+        Ok(opened) => hold_first::<A, Brand, R, C>(rt, alloc, opened, clock),
+        Err(HostFault::NoMemory) => Err(AllocError),
+        Err(fault) => panic!(rt; "{fault}"),
+    }
+}
+
+#[test]
+fn second_is_answered_while_first_is_held(rt: HostRuntime) -> Result<(), Fail> {
+    let adapter = adapter(&rt, rt.alloc())?;
+    hold_first_over(&rt, rt.alloc(), adapter, &rt)?;
+    Ok(())
+}
