@@ -24,15 +24,15 @@ use std::thread;
 use std::thread::Threads;
 use std::time::{Clock, Duration};
 
-// So many turns of a millisecond a lane is held at most.
+// So many turns of a millisecond a thread is held at most.
 const TURNS: u32 = 10_000;
 
 #[derive(Debug, Clone, Copy, PartialEq, Eq, Drop)]
 enum Hold {
+    // Nobody has come yet.
+    Free,
     Held,
     LetGo,
-    // The turns have run out.
-    GivenUp,
 }
 
 // It holds tag 0 until it is let go.
@@ -40,33 +40,41 @@ enum Hold {
 struct HoldsFirst<'a, C: Clock> {
     clock: &'a C,
     hold: Mutex<Hold>,
+    given_up: Mutex<bool>,
 }
 
 impl<'a, C: Clock> HoldsFirst<'a, C> {
-    fn let_go<R: Wait>(&self, rt: &R) {
-        let mut hold = self.hold.lock(rt);
-        if *hold == Hold::Held {
-            *hold = Hold::LetGo;
+    fn put<R: Wait>(&self, rt: &R, hold: Hold) {
+        *self.hold.lock(rt) = hold;
+    }
+
+    // Waits until this was put, or until the turns have run out.
+    fn wait_for<R: Wait>(&self, rt: &R, hold: Hold) {
+        for _ in 0..TURNS {
+            if *self.hold.lock(rt) == hold {
+                return;
+            }
+            thread::sleep(self.clock, Duration::from_millis(1));
         }
+        *self.given_up.lock(rt) = true;
+    }
+
+    fn has_given_up<R: Wait>(&self, rt: &R) -> bool {
+        *self.given_up.lock(rt)
     }
 }
 
 impl<'a, C: Clock> Turnstile for HoldsFirst<'a, C> {
     fn pass<R: Wait>(&self, rt: &R, tag: u8) {
-        if tag != 0 {
-            return;
+        if tag == 0 {
+            self.put(rt, Hold::Held);
+            self.wait_for(rt, Hold::LetGo);
         }
-        for _ in 0..TURNS {
-            if *self.hold.lock(rt) == Hold::LetGo {
-                return;
-            }
-            thread::sleep(self.clock, Duration::from_millis(1));
-        }
-        *self.hold.lock(rt) = Hold::GivenUp;
     }
 }
 
-// Both clients read a sector. The second waits for its answer, then the first is let go, and waits for its own.
+// Both clients read a sector. Once the lane of the first is held, the second calls and waits for its answer. Then the first is
+// let go, and waits for its own.
 fn read_both<A: Adapter, N: Naming, R: Wait, C: Clock>(
     rt: &R,
     alloc: Global,
@@ -88,6 +96,7 @@ fn read_both<A: Adapter, N: Naming, R: Wait, C: Clock>(
     ) else {
         return Err(AllocError);
     };
+    turnstile.wait_for(rt, Hold::Held);
     let answered = match second.issue(
         rt,
         host,
@@ -99,7 +108,7 @@ fn read_both<A: Adapter, N: Naming, R: Wait, C: Clock>(
         Ok(ticket) => Ok(second.wait(rt, host, ticket)),
         Err(_) => Err(AllocError),
     };
-    turnstile.let_go(rt);
+    turnstile.put(rt, Hold::LetGo);
     let late = first.wait(rt, host, held);
     Ok((late, answered?))
 }
@@ -165,7 +174,8 @@ fn hold_first<
     };
     let turnstile = HoldsFirst {
         clock,
-        hold: Mutex::new(Hold::Held),
+        hold: Mutex::new(Hold::Free),
+        given_up: Mutex::new(false),
     };
     let (held, free) = run_threads(
         rt,
@@ -178,10 +188,7 @@ fn hold_first<
         second,
         &turnstile,
     )?;
-    assert!(rt;
-        *turnstile.hold.lock(rt) == Hold::LetGo,
-        "the turns have run out"
-    );
+    assert!(rt; !turnstile.has_given_up(rt), "the turns have run out");
     assert!(rt; held.answer.status.is_success() && free.answer.status.is_success());
     assert!(rt; held.places.call < free.places.call && free.places.answer < held.places.answer);
     Ok(())
