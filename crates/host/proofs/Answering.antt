@@ -1,6 +1,6 @@
 -- The answer to a request stands once, behind its call and in its row.
 use Rattle.std.proofs.Common.{◌≡◌, ◌≢◌, ℕ, zero, suc, ◌<◌, List, [], ◌∷◌, ◌++◌, length, map, Option, Some, None, refl, sym, ap, ◌∙◌, subst, arith}
-use Rattle.std.specs.Prelude.{All, Contains, IsNone, eqb, slice_get, slice_index_or}
+use Rattle.std.specs.Prelude.{All, Contains, IsNone, MatchOption, eqb, slice_get, slice_index_or}
 use Rattle.std.specs.List.{IsDistinct}
 use Rattle.std.proofs.lemmas.List.Elements.{All-nil}
 use mathlib.Core.Logic.{dite}
@@ -9,21 +9,25 @@ use Rattle.machine.specs.declared.ClientRequest.{ClientRequest}
 use Rattle.machine.specs.declared.Label.{Label}
 use Rattle.machine.specs.declared.Label.TheVariants.{Call, Device, Answer as AnswerLabel, Cancel, Pause, Resume, Remove, Surprise, Removed}
 use Rattle.machine.specs.Rules.{Rules}
-use Rattle.machine.specs.State.{OpenRequest, Owed, Piece, State}
+use Rattle.machine.specs.State.{State}
 use Rattle.machine.specs.Step.{Run}
-use Rattle.machine.specs.Numbers.{AreDistinct, IsGiven, IsSent, piece_number, request_number}
-use Rattle.machine_laws.specs.NumberLaws.{IsNoAnswerOf, IsNoCallOf, call_numbers, owed_number}
+use Rattle.machine.specs.Numbers.{AreDistinct}
+use Rattle.machine_laws.specs.NumberLaws.{IsNoAnswerOf, IsNoCallOf, awaited, call_numbers}
 use Rattle.io_manager.specs.declared.Answer.{Answer}
 use Rattle.io_manager.specs.Right.{as_answer}
 use Rattle.book.specs.declared.Entry.{Entry}
-use Rattle.book.specs.Entries.{AreRowed, entry, labels_of, row_of}
-use Rattle.host.specs.Calls.{AnswerLaws, FindsAnswer, IsAnswerOf, Stands}
+use Rattle.book.specs.Entries.{AreRowed, IsAnswerAt, IsAnswerTo, IsNoAnswerTo, entry, labels_of, row_of}
+use Rattle.host.specs.Calls.{AnswerLaws, Stands}
 use Rattle.host.specs.Opening.{IsOpening}
 
 -- LISTS
 
 pub some_same : {A : Type 0} {x y : A} → Some x ≡ Some y → x ≡ y
 some_same {A} {x} {y} e = cc
+
+-- what a search of the whole trace finds
+abbrev Finds : ℕ → List Entry → Option ℕ → Type 0
+Finds number es found = MatchOption found (All (IsNoAnswerTo number) (labels_of es)) (IsAnswerAt number es)
 
 -- a list around the place k
 record Around (es : List Entry) (k : ℕ) (e : Entry) : Type 0 where
@@ -119,7 +123,7 @@ by_order zero (suc y) ne above below = below (omega arith)
 by_order (suc x) zero ne above below = above (omega arith)
 by_order (suc x) (suc y) ne above below = by_order x y (λ e. ne (ap suc e)) (λ l. above (omega arith)) (λ l. below (omega arith))
 
-no_answer_of : (r : ℕ) (l : Label) → IsNoAnswerOf r l → IsAnswerOf r l → ⊥
+no_answer_of : (r : ℕ) (l : Label) → IsNoAnswerOf r l → IsAnswerTo r l → ⊥
 no_answer_of r (AnswerLabel n s i b) none is = none is
 no_answer_of r (Call n q) none is = is
 no_answer_of r (Device l) none is = is
@@ -130,7 +134,7 @@ no_answer_of r Remove none is = is
 no_answer_of r Surprise none is = is
 no_answer_of r Removed none is = is
 
-answer_named : (r : ℕ) (l : Label) → IsAnswerOf r l → (answer : Answer) × (l ≡ as_answer answer) × (answer.number ≡ r)
+answer_named : (r : ℕ) (l : Label) → IsAnswerTo r l → (answer : Answer) × (l ≡ as_answer answer) × (answer.number ≡ r)
 answer_named r (AnswerLabel n s i b) is = (record { number = n; status = s; information = i; bytes = b }, refl, is)
 answer_named r (Call n q) is = absurd is
 answer_named r (Device l) is = absurd is
@@ -147,25 +151,19 @@ distinct_none : IsDistinct eqb []
 unfolding IsDistinct
 distinct_none = tt
 
-no_owed : (owed : Option Owed) (requests : List OpenRequest) → owed_number owed ++ map request_number requests ≡ [] → (owed ≡ None) × (requests ≡ [])
-no_owed None [] e = (refl, refl)
-no_owed None (r ∷ rs) e = absurd (cc)
-no_owed (Some o) rs e = absurd (cc)
-
 none_owed : (s : State) → IsOpening s → IsNone s.owed
-none_owed s opens = subst (λ (o : Option Owed). IsNone o) (sym (no_owed s.owed s.requests opens.0).0) refl
-
-no_pieces : (pieces : List Piece) → map piece_number pieces ≡ [] → pieces ≡ []
-no_pieces [] e = refl
-no_pieces (p ∷ ps) e = absurd (cc)
+none_owed s opens = subst (λ (t : State). IsNone t.owed) (sym opens) refl
 
 distinct_at_first : (s : State) → IsOpening s → AreDistinct s
-distinct_at_first s opens = record {
-  requests = subst (λ (rs : List OpenRequest). IsDistinct eqb (map request_number rs)) (sym (no_owed s.owed s.requests opens.0).1) distinct_none;
-  given = subst (All (IsGiven s.next_request)) (sym (no_owed s.owed s.requests opens.0).1) (All-nil _);
-  pieces = subst (IsDistinct eqb) (sym opens.1) distinct_none;
-  sent = subst (All (IsSent s.next_piece)) (sym (no_pieces s.pieces opens.1)) (All-nil _);
-}
+distinct_at_first s opens = subst AreDistinct (sym opens) (record {
+  requests = distinct_none;
+  given = All-nil _;
+  pieces = distinct_none;
+  sent = All-nil _;
+})
+
+none_awaited : (s : State) → IsOpening s → awaited s ≡ []
+none_awaited s opens = ap awaited opens
 
 module _ (laws : AnswerLaws) (rules : Rules) (first last : State) (opens : IsOpening first) (owners : List ℕ) (es : List Entry) (rowed : AreRowed owners es) (run : Run rules first (labels_of es) last) where
   run_around : (k : ℕ) (e : Entry) (a : Around es k e) → Run rules first (labels_of a.front ++ e.label ∷ labels_of a.back) last
@@ -180,7 +178,7 @@ module _ (laws : AnswerLaws) (rules : Rules) (first last : State) (opens : IsOpe
       subst (IsNoCallOf r) same (each_label (IsNoCallOf r) a.back b.0 f once b.1) refl
 
   -- nor an answer behind an answer
-  no_later_answer : (j k r : ℕ) (e f : Entry) (answer : Answer) → slice_get es j ≡ Some e → e.label ≡ as_answer answer → answer.number ≡ r → slice_get es k ≡ Some f → IsAnswerOf r f.label → j < k → ⊥
+  no_later_answer : (j k r : ℕ) (e f : Entry) (answer : Answer) → slice_get es j ≡ Some e → e.label ≡ as_answer answer → answer.number ≡ r → slice_get es k ≡ Some f → IsAnswerTo r f.label → j < k → ⊥
   no_later_answer j k r e f answer at is number there answers less =
       let a = around es j e at in
       let b = behind a.front a.back e f k (ap (λ xs. slice_get xs k) (sym a.is) ∙ there) (let l = a.long in omega arith) in
@@ -189,7 +187,7 @@ module _ (laws : AnswerLaws) (rules : Rules) (first last : State) (opens : IsOpe
       no_answer_of r f.label (subst (λ n. IsNoAnswerOf n f.label) number (each_label (IsNoAnswerOf answer.number) a.back b.0 f once b.1)) answers
 
   -- nor an answer behind any answer of the same number
-  no_answer_behind : (j k r : ℕ) (e f : Entry) → slice_get es j ≡ Some e → IsAnswerOf r e.label → slice_get es k ≡ Some f → IsAnswerOf r f.label → j < k → ⊥
+  no_answer_behind : (j k r : ℕ) (e f : Entry) → slice_get es j ≡ Some e → IsAnswerTo r e.label → slice_get es k ≡ Some f → IsAnswerTo r f.label → j < k → ⊥
   no_answer_behind j k r e f at is there answers less =
       let n = answer_named r e.label is in
       no_later_answer j k r e f n.0 at n.1 n.2 there answers less
@@ -198,7 +196,7 @@ module _ (laws : AnswerLaws) (rules : Rules) (first last : State) (opens : IsOpe
   call_before : (call k : ℕ) (e f : Entry) (q : ClientRequest) (answer : Answer) → slice_get es call ≡ Some e → e.label ≡ Call answer.number q → slice_get es k ≡ Some f → f.label ≡ as_answer answer → call < k
   call_before call k e f q answer at is there same =
       let a = around es k f there in
-      let was = laws.called rules first (labels_of a.front) answer.number answer.status answer.information answer.bytes (labels_of a.back) last opens.0
+      let was = laws.called rules first (labels_of a.front) answer.number answer.status answer.information answer.bytes (labels_of a.back) last (none_awaited first opens)
       (subst (λ l. Run rules first (labels_of a.front ++ l ∷ labels_of a.back) last) same (run_around k f a)) in
       let c = called_in a.front answer.number was.0 was.1 was.2 in
       let there' : slice_get es c.place ≡ Some c.e = ap (λ xs. slice_get xs c.place) a.is ∙ before a.front a.back f c.e c.place c.there in
@@ -210,7 +208,7 @@ module _ (laws : AnswerLaws) (rules : Rules) (first last : State) (opens : IsOpe
       (λ less. no_later_call call c.place answer.number e c.e q c.q at is there' c.call less)))
 
   -- the one answer
-  one_answer : (j k r : ℕ) (e f : Entry) → slice_get es j ≡ Some e → IsAnswerOf r e.label → slice_get es k ≡ Some f → IsAnswerOf r f.label → j ≡ k
+  one_answer : (j k r : ℕ) (e f : Entry) → slice_get es j ≡ Some e → IsAnswerTo r e.label → slice_get es k ≡ Some f → IsAnswerTo r f.label → j ≡ k
   one_answer j k r e f at is there answers =
       dite (ℕ_discrete j k)
       (λ (eq : j ≡ k). eq)
@@ -218,37 +216,37 @@ module _ (laws : AnswerLaws) (rules : Rules) (first last : State) (opens : IsOpe
 
   -- it is found behind its call, in the row of the call's client
   answer_found : (call client : ℕ) (q : ClientRequest) (answer : Answer) → Stands es call (Call answer.number q) client → Contains (labels_of es) (as_answer answer)
-      → (found : Option ℕ) → FindsAnswer answer.number call es found → (p : ℕ) × (found ≡ Some p) × (call < p) × Stands es p (as_answer answer) client
+      → (found : Option ℕ) → Finds answer.number es found → (p : ℕ) × (found ≡ Some p) × (call < p) × Stands es p (as_answer answer) client
   answer_found call client q answer stood told found finds =
       let at = stands es (as_answer answer) told.0 told.1 told.2 in
-      let is : IsAnswerOf answer.number at.0.label = subst (IsAnswerOf answer.number) (sym at.2) refl in
+      let is : IsAnswerTo answer.number at.0.label = subst (IsAnswerTo answer.number) (sym at.2) refl in
       let less = call_before call told.0 (entry (Call answer.number q) (Some client)) at.0 q answer stood refl at.1 at.2 in
       let row : at.0.row ≡ Some client = rowed_at owners es told.0 at.0 rowed at.1 ∙ ap (row_of owners) at.2 ∙ sym (rowed_at owners es call (entry (Call answer.number q) (Some client)) rowed stood) in
       let there : Stands es told.0 (as_answer answer) client = at.1 ∙ ap Some (λ i. record { label = at.2 i; row = row i }) in
       go found finds told.0 at.0 at.1 is less there
     where
-      go : (found : Option ℕ) → FindsAnswer answer.number call es found → (k : ℕ) (e : Entry) → slice_get es k ≡ Some e → IsAnswerOf answer.number e.label → call < k → Stands es k (as_answer answer) client
+      go : (found : Option ℕ) → Finds answer.number es found → (k : ℕ) (e : Entry) → slice_get es k ≡ Some e → IsAnswerTo answer.number e.label → call < k → Stands es k (as_answer answer) client
           → (p : ℕ) × (found ≡ Some p) × (call < p) × Stands es p (as_answer answer) client
-      go None finds k e at is less there = absurd (finds k e (omega arith) at is)
+      go None finds k e at is less there = absurd (each_label (IsNoAnswerTo answer.number) es k e finds at is)
       go (Some p) finds k e at is less there =
-          let same : k ≡ p = one_answer k p answer.number e finds.1.0 at is finds.1.1 finds.1.2 in
+          let same : k ≡ p = one_answer k p answer.number e finds.entry at is finds.there finds.answers in
           (p, refl, subst (λ n. call < n) same less, subst (λ n. Stands es n (as_answer answer) client) same there)
 
 -- the answer that was taken, and what a search found
 module _ (laws : AnswerLaws) (rules : Rules) (first last : State) (opens : IsOpening first) (owners : List ℕ) (es found_in : List Entry) (rowed : AreRowed owners es) (run : Run rules first (labels_of es) last)
     (number call client : ℕ) (q : ClientRequest) (answer : Answer) (is : answer.number ≡ number) (stood : Stands es call (Call number q) client) (told : Contains (labels_of es) (as_answer answer)) (same : found_in ≡ es) where
-  found_told : (found : Option ℕ) → FindsAnswer number call found_in found → (p : ℕ) × (found ≡ Some p) × (call < p) × Stands es p (as_answer answer) client
+  found_told : (found : Option ℕ) → Finds number found_in found → (p : ℕ) × (found ≡ Some p) × (call < p) × Stands es p (as_answer answer) client
   found_told found finds =
       answer_found laws rules first last opens owners es rowed run call client q answer (subst (λ n. Stands es call (Call n q) client) (sym is) stood) told found
-      (subst (λ n. FindsAnswer n call es found) (sym is) (subst (λ (xs : List Entry). FindsAnswer number call xs found) same finds))
+      (subst (λ n. Finds n es found) (sym is) (subst (λ (xs : List Entry). Finds number xs found) same finds))
 
-  pub is_found : (found : Option ℕ) → FindsAnswer number call found_in found → found ≡ None → ⊥
+  pub is_found : (found : Option ℕ) → Finds number found_in found → found ≡ None → ⊥
   is_found found finds none = let f = found_told found finds in no_some f.0 (sym f.1 ∙ none)
     where
       no_some : (p : ℕ) → Some p ≡ None → ⊥
       no_some p e = absurd (cc)
 
-  pub found_at : (found : Option ℕ) (place : ℕ) → FindsAnswer number call found_in found → found ≡ Some place → (call < place) × Stands es place (as_answer answer) client
+  pub found_at : (found : Option ℕ) (place : ℕ) → Finds number found_in found → found ≡ Some place → (call < place) × Stands es place (as_answer answer) client
   found_at found place finds at =
       let f = found_told found finds in
       let same' : f.0 ≡ place = some_same (sym f.1 ∙ at) in

@@ -5,6 +5,7 @@ pub mod Keeping
 pub mod Counting
 pub mod Collecting
 pub mod Ending
+pub mod Settling
 pub mod Accounts
 pub mod Issuing
 pub mod Opening

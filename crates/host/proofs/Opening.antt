@@ -26,7 +26,7 @@ passes_are gate n quotas passes is equal = subst (All (IsClientPass gate)) (sym 
 -- A STACK THAT IS READY
 
 opens_first : (v : ManagerView) → IsNew v → IsOpening v.state
-opens_first v new = subst IsOpening (sym new.state) (refl, refl)
+opens_first v new = subst IsOpening (sym new.state) refl
 
 pub is_ready : (partitions : List ℕ) (old stack : ManagerView) (handles : List Handle) (sizes : Sizes) (slots parts : ℕ) (marks : TableId × ℕ) (owner : SeatStanding) (seats : List SeatStanding) (gate : TableId) (passes : List Standing)
     → length partitions ≤ client_limit → IsNew old → AreOpened partitions handles old stack → sizes ≡ sizes_of old.rules → AreSizes sizes → old.rules.open_requests ≡ Some slots → parts ≡ length partitions + 1

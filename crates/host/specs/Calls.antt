@@ -102,13 +102,3 @@ pub record AnswerLaws : Type 0 where
   pub calls : CallsOnce
   pub answers : AnswersOnce
   pub called : AnswersWereCalled
-
--- the label answers the request of this number
-abbrev pub IsAnswerOf : ℕ → Label → Type 0
-IsAnswerOf number (AnswerLabel answered status informed bytes) = answered ≡ number
-IsAnswerOf number _ = ⊥
-
--- the first answer of this number from a place on, or that there is none
-abbrev pub FindsAnswer : ℕ → ℕ → List Entry → Option ℕ → Type 0
-FindsAnswer number from entries (Some place) = (from ≤ place) × ((e : Entry) × (slice_get entries place ≡ Some e) × IsAnswerOf number e.label)
-FindsAnswer number from entries None = (place : ℕ) (e : Entry) → from ≤ place → slice_get entries place ≡ Some e → IsAnswerOf number e.label → ⊥

@@ -1,8 +1,11 @@
 -- What a closed host gives.
-use Rattle.std.specs.Prelude.{◌≡◌, ◌<◌, ℕ, zero, suc, ◌+◌, List, [], ◌∷◌, length, if◌then◌else◌}
+use Rattle.std.specs.Prelude.{◌≡◌, ◌<◌, ℕ, zero, suc, ◌+◌, List, [], ◌∷◌, Some, length, slice_get, take, if◌then◌else◌}
+use Rattle.machine.specs.declared.Label.{Label}
+use Rattle.machine.specs.declared.Label.TheVariants.{Removed}
 use Rattle.machine.specs.Rules.{Rules}
 use Rattle.machine.specs.State.{State}
 use Rattle.machine.specs.Step.{Run}
+use Rattle.machine_laws.specs.EndLaws.{IsEmpty}
 use Rattle.chronicle.specs.Claims.{AllStand}
 use Rattle.book.specs.declared.Entry.{Entry}
 use Rattle.book.specs.Entries.{AreRowed, is_call_of, labels_of, places}
@@ -46,3 +49,14 @@ pub record IsClosed (rules : Rules) (opening : State) (clients : List ClientView
   pub stand : AreBorneOut trace (length clients) clients
   -- each row's calls are just its client's, in its order
   pub calls : (c : ℕ) → c < length clients → call_places c 0 trace ≡ places_of (client_at clients c).called
+
+-- these labels are a run, and whichever run they are, nothing is open or out at its end
+pub record LeaveNothing (rules : Rules) (opening : State) (labels : List Label) : Type 0 where
+  pub last : State
+  pub run : Run rules opening labels last
+  pub empty : (s : State) → Run rules opening labels s → IsEmpty s
+
+-- so for the trace up to the end of a removal, and up to each place behind it
+abbrev pub SettledAtRemoved : Rules → State → List Entry → Type 0
+SettledAtRemoved rules opening trace =
+    (place count : ℕ) (e : Entry) → slice_get trace place ≡ Some e → e.label ≡ Removed → place < count → LeaveNothing rules opening (take count (labels_of trace))

@@ -2,9 +2,7 @@
 use Rattle.std.specs.Prelude.{◌≡◌, ◌<◌, ◌≤◌, ℕ, ◌+◌, List, [], map, Option, Some, All, length, max, slice_get, slice_index_or}
 use Rattle.atomic_table.specs.Seated.{TableId}
 use Rattle.machine.specs.Rules.{Rules}
-use Rattle.machine.specs.State.{State}
-use Rattle.machine.specs.Numbers.{piece_number}
-use Rattle.machine_laws.specs.NumberLaws.{awaited}
+use Rattle.machine.specs.State.{State, opening}
 use Rattle.io_manager.specs.declared.Handle.{Handle}
 use Rattle.io_manager.specs.declared.OpenHandle.{OpenHandle}
 use Rattle.io_manager.specs.Calls.{open_refusal}
@@ -37,9 +35,9 @@ pub record Names : Type 0 where
   pub parts : ℕ
   pub gate : TableId
 
--- a state in which nothing waits for an answer, and no piece is out
+-- a state of which nothing was asked: nothing is open or out, and the next numbers are 1
 abbrev pub IsOpening : State → Type 0
-IsOpening s = (awaited s ≡ []) × (map piece_number s.pieces ≡ [])
+IsOpening s = s ≡ opening s.arrays
 
 -- a pass of a client, which has made no step
 abbrev pub IsClientPass : TableId → PassStanding → Type 0

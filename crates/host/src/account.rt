@@ -5,7 +5,7 @@ ghost use Rattle.machine_laws.specs.NumberLaws.{CallsCount};
 ghost use Rattle.io_manager.specs.Right.{as_answer};
 ghost use Rattle.book.specs.Opening.{IsOpenOn};
 ghost use Rattle.host.specs.Accounts.{IsCalled, IsTaken, IsTurnedDown};
-ghost use Rattle.host.specs.Calls.{AnswerLaws, FindsAnswer, FindsCall, IsAnswerOf, IsTold, Stands, buffer_of, request_of};
+ghost use Rattle.host.specs.Calls.{AnswerLaws, FindsCall, IsTold, Stands, buffer_of, request_of};
 ghost use Rattle.host.specs.Receipts.{none_yet, receipt};
 ghost use Rattle.host.specs.Opening.{IsHandleFor};
 
@@ -99,31 +99,6 @@ fn carry_call<A: Adapter, N: Naming>(
     (reply, place)
 }
 
-// The place of the first answer of this number from a place of the trace on.
-fn find_answer<A: Adapter, N: Naming>(book: &Book<A, N>, number: u64, from: usize) -> Option<usize>
-    ensures { FindsAnswer number from book.now.entries result }
-{
-    for place in from..book.len() {
-        if answers(&book.entry(place).label, number) {
-            return Some(place);
-        }
-    }
-    None
-}
-
-// Whether a label answers the request of this number.
-fn answers(label: &Label, number: u64) -> bool
-    ensures { IsTrue result ↔ IsAnswerOf number label.now }
-{
-    match label {
-        Label::Answer {
-            number: answered,
-            ..
-        } => *answered == number,
-        _ => false,
-    }
-}
-
 // Takes the answer of a request whose call stands at this place, with its own place.
 fn take_answer<A: Adapter, N: Naming>(
     host: &Host<A, N>,
@@ -139,7 +114,7 @@ fn take_answer<A: Adapter, N: Naming>(
     host.table.shows_opening();
     book.shows_whole();
     let answer = book.take_answer(number)?;
-    let Some(place) = find_answer(book, number, call) else {
+    let Some(place) = book.answer_place(number) else {
         unreachable!()
     };
     Some((place, answer))

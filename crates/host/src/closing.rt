@@ -1,7 +1,9 @@
 ghost use Rattle.std.specs.Prelude.{◌≡◌, ◌+◌, length};
 ghost use Rattle.chronicle.specs.Claims.{AllStand};
 ghost use Rattle.host.specs.Clients.{AreNumbered, client_at};
-ghost use Rattle.host.specs.Closing.{AreBorneOut, HasReceiptsIn, IsClosed, total};
+ghost use Rattle.machine_laws.specs.EndLaws.{RemovedAreEmpty};
+ghost use Rattle.machine_laws.specs.Reached.{RunsSplit};
+ghost use Rattle.host.specs.Closing.{AreBorneOut, HasReceiptsIn, IsClosed, SettledAtRemoved, total};
 
 use crate::account::Account;
 use crate::client::Client;
@@ -59,16 +61,34 @@ fn collect_one<A: Adapter, N: Naming>(
     all.merge(share.into_part());
 }
 
+// The laws on the end of a removal, for who calls it.
+fn laws_of_removals()
+    ensures empty { RemovedAreEmpty }
+    ensures splits { RunsSplit }
+{
+    machine_laws::removed_is_last();
+    machine_laws::goes_on();
+}
+
 impl<A: Adapter, N: Naming> Host<A, N> {
     /// The trace, which is a run from the state that the host was opened with, and the rows, in which all receipts of the
-    /// clients stand; the calls of each row are just its client's. It asks for all clients, in their order.
+    /// clients stand; the calls of each row are just its client's. From the end of a removal on, of which the keeper may have
+    /// a receipt, nothing is open or out. It asks for all clients, in their order.
     pub fn close(self, keeper: Keeper<N>, clients: Vec<Client<N>>) -> Closed
         requires parts { N.parts ≡ length N.partitions + 1 }
         requires all { AreNumbered (length N.partitions) clients.items }
         ensures told { AllStand result.trace.items keeper.told }
         ensures closed { IsClosed N.rules N.opening clients.items result.trace.items result.rows.items }
+        ensures settled_at_removed { SettledAtRemoved N.rules N.opening result.trace.items }
     {
-        let Host { book, history, .. } = self;
+        laws_of_removals();
+        let Host {
+            book,
+            history,
+            table,
+            ..
+        } = self;
+        table.shows_opening();
         let mut book = book.into_inner();
         let Keeper {
             part: mut all,

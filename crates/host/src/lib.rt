@@ -15,7 +15,8 @@
 //!   receipt more, of the removal's end (`drained`, `told` of [`Host::remove`]);
 //! - once all threads are done, [`Host::close`] gives the trace, which is a run of the sector machine from the state that the
 //!   host was opened with, and a row for each client, in which all its receipts stand: the calls of a row are just its
-//!   client's, in its order (`closed`); and the keeper's receipts stand in the trace (`told`).
+//!   client's, in its order (`closed`); and the keeper's receipts stand in the trace (`told`), where nothing is open or out
+//!   from a removal's end on (`settled_at_removed`).
 //!
 //! It does not promise that anybody is served, nor an order between clients that told each other nothing. A call that takes
 //! a [`Wait`](std::sync::Wait) promises what it does if it returns.

@@ -10,7 +10,7 @@ unreachable-requires g c =
     let shown = c.shows_whole.ensures in
     let r = c.requires.called in
     is_found c.laws_of_answers.ensures.laws g.N.Naming-2.rules g.N.Naming-2.opening old.stack.state c.shows_opening.ensures.opening old.owners old.entries c.take_answer.new.self.entries shown.rowed shown.run
-    c.args.number c.args.call r.1 r.0 c.in_ok-answer.answer c.in_ok-answer.ensures.takes.2 r.2 c.in_ok-answer.ensures.stands same c.find_answer.result c.find_answer.ensures c.in_default.is
+    c.args.number c.args.call r.1 r.0 c.in_ok-answer.answer c.in_ok-answer.ensures.takes.2 r.2 c.in_ok-answer.ensures.stands same c.answer_place.result c.answer_place.ensures c.in_default.is
 
 pub returns-clause-answer : goal.returns-clause-answer
 returns-clause-answer g c =
@@ -20,7 +20,7 @@ returns-clause-answer g c =
     let r = c.requires.called in (
       c.in_ok-answer.ensures.takes.2,
       (found_at c.laws_of_answers.ensures.laws g.N.Naming-2.rules g.N.Naming-2.opening old.stack.state c.shows_opening.ensures.opening old.owners old.entries c.take_answer.new.self.entries shown.rowed shown.run
-          c.args.number c.args.call r.1 r.0 c.in_ok-answer.answer c.in_ok-answer.ensures.takes.2 r.2 c.in_ok-answer.ensures.stands same c.find_answer.result c.in-Some.place c.find_answer.ensures c.in-Some.is).0,
+          c.args.number c.args.call r.1 r.0 c.in_ok-answer.answer c.in_ok-answer.ensures.takes.2 r.2 c.in_ok-answer.ensures.stands same c.answer_place.result c.in-Some.place c.answer_place.ensures c.in-Some.is).0,
       λ client q stood. (found_at c.laws_of_answers.ensures.laws g.N.Naming-2.rules g.N.Naming-2.opening old.stack.state c.shows_opening.ensures.opening old.owners old.entries c.take_answer.new.self.entries shown.rowed shown.run
-          c.args.number c.args.call client q c.in_ok-answer.answer c.in_ok-answer.ensures.takes.2 stood c.in_ok-answer.ensures.stands same c.find_answer.result c.in-Some.place c.find_answer.ensures c.in-Some.is).1,
+          c.args.number c.args.call client q c.in_ok-answer.answer c.in_ok-answer.ensures.takes.2 stood c.in_ok-answer.ensures.stands same c.answer_place.result c.in-Some.place c.answer_place.ensures c.in-Some.is).1,
     )

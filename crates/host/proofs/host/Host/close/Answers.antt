@@ -7,6 +7,7 @@ use Rattle.host.specs.Clients.{ClientView, client_at}
 use Rattle.host.specs.Closing.{AreBorneOut, total}
 use Rattle.host.specs.Keepers.{KeeperView}
 use Rattle.host.proofs.Ending.{closed_is}
+use Rattle.host.proofs.Settling.{settled}
 use Rattle.host.proofs.host.Host.close.Goals as goal
 
 pub returns : goal.returns
@@ -22,4 +23,5 @@ returns g c =
     record {
       told = subst (λ (es : List Entry). AllStand es c.args.keeper.told) (sym c.into_rows-trace.ensures.rows.stored) told;
       closed = closed_is _ _ _ _ v clients _ _ c.requires.all c.into_rows-trace.ensures.rows c.into_rows-trace.ensures.run borne sum;
+      settled_at_removed = settled c.laws_of_removals.ensures.empty c.laws_of_removals.ensures.splits _ _ _ c.shows_opening.ensures.opening _ c.into_rows-trace.ensures.run;
     }
