@@ -13,6 +13,7 @@ use Rattle.cancel_marks.specs.Marks.{Standing as SeatStanding, standing as seat_
 use Rattle.book.specs.declared.sizes.Sizes.{Sizes}
 use Rattle.book.specs.Sizes.{AreSizes, sizes_of}
 use Rattle.book.specs.Opening.{AreClientsOf, IsFirst, IsOpenOn}
+use Rattle.host.specs.declared.opened.Gear.{Gear}
 use Rattle.host.specs.declared.opened.HostFault.{HostFault}
 use Rattle.host.specs.declared.opened.HostFault.TheVariants.{TooManyClients, NoPartition, NoMemory}
 use Rattle.host.specs.Clients.{ticket_limit}
@@ -51,6 +52,16 @@ IsHandleFor partitions open' c handle = (handle.number ≡ c + 1) × IsOpenOn op
 pub record AreHandlesFor (partitions : List ℕ) (open' : List (Option OpenHandle)) (handles : List Handle) : Type 0 where
   pub count : length handles ≡ length partitions
   pub each : (c : ℕ) (handle : Handle) → slice_get handles c ≡ Some handle → IsHandleFor partitions open' c handle
+
+-- a list of the partitions, a table of so many slots with its owner's seat and one for each client, and a gate with a pass for each and one more
+pub record IsGear (partitions : List ℕ) (slots : ℕ) (gear : Gear) : Type 0 where
+  pub kept : gear.partitions.items ≡ partitions
+  pub slots_is : gear.marks.1 ≡ slots
+  pub owner_is : gear.owner ≡ seat_of gear.marks.0 0 (starting (max slots 1))
+  pub count_seats : length gear.seats.items ≡ length partitions
+  pub are_seats : All (IsOther gear.marks.0) gear.seats.items
+  pub count_passes : length gear.passes.items ≡ length partitions + 1
+  pub are_passes : All (IsClientPass gear.gate) gear.passes.items
 
 -- a stack of which nothing was asked but a handle for each client, with a part of the ledger, a seat and a pass for each, and one more of each
 pub record IsReady (partitions : List ℕ) (stack : ManagerView) (handles : List Handle) (sizes : Sizes) (slots parts : ℕ) (marks : TableId × ℕ)

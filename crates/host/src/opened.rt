@@ -2,7 +2,7 @@ ghost use Rattle.std.specs.Prelude.{◌≡◌, ◌≤◌, ◌+◌, Some, All, If
 ghost use Rattle.cancel_marks.specs.Marks.{IsOther, standing, starting};
 ghost use Rattle.book.specs.Opening.{IsNew};
 ghost use Rattle.book.specs.Sizes.{AreSizes, sizes_of};
-ghost use Rattle.host.specs.Opening.{IsClientPass, IsHostFault, client_limit};
+ghost use Rattle.host.specs.Opening.{IsClientPass, IsGear, IsHostFault, client_limit};
 ghost use Rattle.host.specs.declared.opened.HostFault.TheVariants.{NoMemory};
 
 use adapter::Adapter;
@@ -118,6 +118,40 @@ fn make_gate(alloc: Global, clients: usize) -> Result<(Gate, Vec<Pass>), HostFau
     }
 }
 
+/// What the threads of a host will share, a seat and a pass for each client, and a list of their partitions.
+#[derive(Drop)]
+struct Gear {
+    partitions: Vec<u8>,
+    marks: Marks,
+    owner: Seat,
+    seats: Vec<Seat>,
+    gate: Gate,
+    passes: Vec<Pass>,
+}
+
+// All of it, for clients on these partitions.
+fn make_gear(alloc: Global, slots: usize, partitions: &[u8]) -> Result<Gear, HostFault>
+    ensures few { IfOk result (λ _. length partitions.now ≤ client_limit) }
+    ensures gear { IfOk result (λ gear. IsGear partitions.now slots gear) }
+    ensures fault { IfErr result (IsHostFault partitions.now) }
+{
+    if partitions.len() > CLIENTS {
+        return Err(HostFault::TooManyClients);
+    }
+    let (marks, owner, seats) = make_marks(alloc, slots, partitions.len())?;
+    let (gate, passes) = make_gate(alloc, partitions.len())?;
+    let mut kept = Vec::new(alloc);
+    kept.extend_from_slice(partitions)?;
+    Ok(Gear {
+        partitions: kept,
+        marks,
+        owner,
+        seats,
+        gate,
+        passes,
+    })
+}
+
 impl<A: Adapter> Opened<A> {
     /// Opens handle c + 1 on `partitions[c]` for client c, on a stack as it was started, of these sizes and so many slots for
     /// open requests; and makes what the threads of a host will share.
@@ -140,33 +174,27 @@ impl<A: Adapter> Opened<A> {
         ensures stack { IfOk result (λ o. (o.rules ≡ stack.rules) × (o.opening ≡ stack.state)) }
         ensures fault { IfErr result (IsHostFault partitions.now) }
     {
-        if partitions.len() > CLIENTS {
-            return Err(HostFault::TooManyClients);
-        }
+        let gear = make_gear(alloc, slots, partitions)?;
         let mut stack = stack;
         let handles = match open_handles(alloc, &mut stack, partitions) {
             Ok(handles) => handles,
             Err(OpenFault::Refused(_)) => return Err(HostFault::NoPartition),
             Err(OpenFault::NoMemory) => return Err(HostFault::NoMemory),
         };
-        let (marks, owner, seats) = make_marks(alloc, slots, partitions.len())?;
-        let (gate, passes) = make_gate(alloc, partitions.len())?;
-        let mut kept = Vec::new(alloc);
-        kept.extend_from_slice(partitions)?;
         let history = chronicle::Opened::new(alloc)?;
         Ok(Opened {
             stack,
             handles,
-            partitions: kept,
+            partitions: gear.partitions,
             sizes,
             slots,
             history,
             ledger: Blank::new(partitions.len() as u64 + 1),
-            marks,
-            owner,
-            seats,
-            gate,
-            passes,
+            marks: gear.marks,
+            owner: gear.owner,
+            seats: gear.seats,
+            gate: gear.gate,
+            passes: gear.passes,
         })
     }
 }
