@@ -1,0 +1,129 @@
+-- What is opened over the adapter of some settings.
+use Rattle.std.proofs.Common.{◌≡◌, ◌≤◌, ℕ, List, [], ◌∷◌, Option, Some, None, Ok, map, length, get_or, refl, sym, ap, ◌∙◌, subst, All, inl, inr}
+use Rattle.std.specs.List.{concat}
+use Rattle.std.proofs.lemmas.Bool.{cases_lt}
+use Rattle.std.proofs.lemmas.List.{get_or_past}
+use Rattle.std.proofs.lemmas.List.Elements.{All-head, All-tail}
+use Rattle.sector.specs.declared.Extent.{Extent}
+use Rattle.adapter.specs.View.{AdapterView}
+use Rattle.miniport.specs.Memory.{MemView}
+use Rattle.machine.specs.Map.{IsMap, IsPartition, sectors_in}
+use Rattle.machine.specs.State.{opening}
+use Rattle.mbr.specs.declared.MbrFault.{MbrFault}
+use Rattle.mbr.specs.Table.{partitions_of}
+use Rattle.mbr.specs.Faults.{partitions_fault, unless_fault, said_of, told_by}
+use Rattle.probe.specs.Probing.{told_partitions}
+use Rattle.io_manager.specs.Shown.{ManagerView}
+use Rattle.io_manager.specs.declared.Refusal.TheVariants.{InvalidHandle, InvalidParameter, DeletePending, DeviceBusy, InsufficientResources, InvalidDeviceRequest, NotFound}
+use Rattle.compose.specs.declared.StartFault.{StartFault}
+use Rattle.compose.specs.declared.StartFault.TheVariants.{Settings as WrongSettings, Device as FailedCommand, Mbr as WrongTable, NoMemory as WantOfMemory}
+use Rattle.compose.specs.Opening.{IsFirstView, IsSpent, first_rules}
+use Rattle.settings.specs.declared.Config.{Config}
+use Rattle.settings.specs.InRange.{AreInRange}
+use Rattle.settings.specs.Medium.{disk_of, entries_of, extents_of, zeros, HasBlankPartitions, IsNewAdapter}
+use Rattle.volume.specs.declared.OpenFault.{OpenFault}
+use Rattle.volume.specs.declared.OpenFault.TheVariants.{Start as NotStarted, Refused}
+use Rattle.volume.specs.Opening.{IsOpenFault as IsOpenFaultOver, ShowsDisk}
+use Rattle.volume.specs.Shown.{Content, VolumeView, extent_at, parted_at}
+use Rattle.startup.specs.Started.{limits_of, rules_of, IsOpenFault, IsStartFault, IsStartOf, IsVolumeOf}
+
+-- partitions that were told are all that the entries say
+unfaulted : (fault : Option MbrFault) (given told : List Extent) → unless_fault fault given ≡ Ok told → told ≡ given
+unfaulted None given told e = cc (e)
+unfaulted (Some why) given told e = absurd (cc (e))
+
+-- the sectors of each are zeros
+zero_sectors : (c : Config) (sectors : List (List ℕ)) → HasBlankPartitions c sectors → (extents : List Extent) → All (IsPartition c.sectors) extents
+    → map (sectors_in sectors) extents ≡ map (λ extent. zeros c extent.count) extents
+zero_sectors c sectors blank [] = λ each. refl
+zero_sectors c sectors blank (extent ∷ extents) = λ each.
+    let first = blank extent (All-head (IsPartition c.sectors) extent extents each) in
+    let rest = zero_sectors c sectors blank extents (All-tail (IsPartition c.sectors) extent extents each) in
+    cc (first, rest)
+
+-- so are those of the one of any number
+blank_at : (c : Config) (sectors : List (List ℕ)) → HasBlankPartitions c sectors → (partitions : List Extent) → All (IsPartition c.sectors) partitions → (p : ℕ)
+    → sectors_in sectors (extent_at partitions p) ≡ zeros c (extent_at partitions p).count
+blank_at c sectors blank partitions each p = elim (cases_lt p (length partitions)) [
+  | inl low ↦ blank (extent_at partitions p) (each p (record { first = 0; count = 0 }) low)
+  | inr past ↦ subst (λ (e : Extent). sectors_in sectors e ≡ zeros c e.count) (sym (get_or_past partitions p (record { first = 0; count = 0 }) past)) refl
+]
+
+module _ (c : Config) (view : MemView) (new : IsNewAdapter c view)
+    (says : told_by c.sectors (get_or view.shown.sectors 0 []) ≡ said_of c.sectors (entries_of c))
+    (extents : partitions_of (entries_of c) ≡ extents_of c) where
+  -- what the probe of this adapter is told is what the settings say
+  told_is : told_partitions view.shown ≡ said_of c.sectors (entries_of c)
+  told_is = ap (λ (n : ℕ). told_by n (get_or view.shown.sectors 0 [])) new.count ∙ says
+
+  same_extents : (told : List Extent) → told_partitions view.shown ≡ Ok told → told ≡ extents_of c
+  same_extents told e = unfaulted (partitions_fault c.sectors (partitions_of (entries_of c))) (partitions_of (entries_of c)) told (sym told_is ∙ e) ∙ extents
+
+  -- which are a map
+  map_of : (told : List Extent) → told ≡ extents_of c → IsMap (length view.shown.sectors) told → IsMap c.sectors (extents_of c)
+  map_of told same h = subst (λ (n : ℕ). IsMap n (extents_of c)) new.count (subst (IsMap (length view.shown.sectors)) same h)
+
+  rules_started : (told : List Extent) → told ≡ extents_of c → first_rules view.shown (limits_of c) told ≡ rules_of c
+  rules_started told same =
+      let sector_size = new.sector_size in
+      let count = new.count in
+      let max_transfer = new.max_transfer in
+      let depth = new.depth in
+      let faithful = new.faithful in
+      cc
+
+  pub started : (stack : ManagerView) → HasBlankPartitions c view.shown.sectors → IsFirstView view.shown (limits_of c) stack → IsStartOf c stack
+  started stack blank first =
+      let same : first.partitions ≡ extents_of c = same_extents first.partitions first.told.told in
+      let is_map : IsMap c.sectors (extents_of c) = map_of first.partitions same first.told.is_map in
+      let arrays : map (sectors_in view.shown.sectors) first.partitions ≡ map (λ (extent : Extent). zeros c extent.count) (extents_of c) =
+      ap (map (sectors_in view.shown.sectors)) same ∙ zero_sectors c view.shown.sectors blank (extents_of c) is_map.each in
+      record {
+        rules = first.rules ∙ rules_started first.partitions same;
+        is_map = is_map;
+        state = first.state ∙ ap opening arrays;
+        adapter = record {
+          sector_size = first.same_disk.sector_size ∙ new.sector_size;
+          sectors = first.same_disk.sectors ∙ new.sectors;
+          max_transfer = first.same_disk.max_transfer ∙ new.max_transfer;
+          depth = first.same_disk.depth ∙ new.depth;
+          idle = first.same_disk.idle;
+        };
+        no_handles = first.no_handles;
+        first_handle = first.first_handle;
+        no_requests = first.no_requests;
+        no_labels = first.no_labels;
+        no_answers = first.no_answers;
+      }
+
+  pub not_started : AreInRange c → (why : StartFault) (after : AdapterView) → IsSpent view.shown (limits_of c) why after → IsStartFault c why
+  not_started settings WrongSettings after spent = absurd (spent.why.0 (record { window = settings.window; open_requests = settings.open_requests }))
+  not_started settings (FailedCommand status) after spent = spent.why.1.failure
+  not_started settings (WrongTable fault) after spent = sym told_is ∙ spent.why.1.1
+  not_started settings WantOfMemory after spent = tt
+
+  pub opened : (p : ℕ) (volume : VolumeView) → HasBlankPartitions c view.shown.sectors → ShowsDisk view.shown p volume.content → volume.partition ≡ p → IsVolumeOf c p volume
+  opened p volume blank shows is_on =
+      let same : shows.partitions ≡ extents_of c = same_extents shows.partitions shows.told.told in
+      let is_map : IsMap c.sectors (extents_of c) = map_of shows.partitions same shows.told.is_map in
+      let sector_size : view.shown.sector_size ≡ c.sector_size = new.sector_size in
+      let sectors : view.shown.sectors ≡ disk_of c = new.sectors in
+      let content : volume.content ≡ parted_at c.sector_size (disk_of c) (extent_at (extents_of c) p) = shows.content ∙ cc (sector_size, sectors, same) in
+      record {
+        is_map = is_map;
+        content = content;
+        blank =
+            ap (λ (shown : Content). shown.bytes) shows.content ∙ ap (λ (es : List Extent). concat (sectors_in view.shown.sectors (extent_at es p))) same
+            ∙ ap concat (blank_at c view.shown.sectors blank (extents_of c) is_map.each p);
+        partition = is_on;
+      }
+
+  pub not_opened : AreInRange c → (p : ℕ) (why : OpenFault) → IsOpenFaultOver view.shown (limits_of c) p why → IsOpenFault c p why
+  not_opened settings p (NotStarted fault) h = not_started settings fault h.0 h.1
+  not_opened settings p (Refused InvalidParameter) h = subst (λ (es : List Extent). length es ≤ p) (same_extents h.0 h.1.told) h.2
+  not_opened settings p (Refused DeviceBusy) h = tt
+  not_opened settings p (Refused InsufficientResources) h = tt
+  not_opened settings p (Refused InvalidHandle) h = absurd h
+  not_opened settings p (Refused DeletePending) h = absurd h
+  not_opened settings p (Refused InvalidDeviceRequest) h = absurd h
+  not_opened settings p (Refused NotFound) h = absurd h

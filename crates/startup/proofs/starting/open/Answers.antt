@@ -1,0 +1,16 @@
+use Rattle.std.proofs.Common.{◌≡◌, Err, rules, subst}
+use Rattle.compose.specs.declared.Settings.{Settings}
+use Rattle.volume.specs.Opening.{IsOpenFault}
+use Rattle.startup.proofs.OverDisk.{opened, not_opened}
+use Rattle.startup.proofs.starting.open.Goals as goal
+
+pub returns-clause-volume : goal.returns-clause-volume
+returns-clause-volume c =
+    opened c.args.config c.in-Ok.adapter c.in-Ok.ensures.new c.in-Ok.ensures.says c.new_adapter.ensures.extents c.args.partition c.in_ok-volume.volume c.in-Ok.ensures.blank
+    c.in_ok-volume.ensures.content c.in_ok-volume.ensures.partition
+
+pub returns-in_err-volume-clause-fault : goal.returns-in_err-volume-clause-fault
+returns-in_err-volume-clause-fault c =
+    let given : c.from_residual.result ≡ Err c.in_err-volume.field-0.0 = search rules in
+    rw given (not_opened c.args.config c.in-Ok.adapter c.in-Ok.ensures.new c.in-Ok.ensures.says c.new_adapter.ensures.extents c.requires c.args.partition
+    c.in_err-volume.field-0.0 (subst (λ (s : Settings). IsOpenFault c.in-Ok.adapter.shown s c.args.partition c.in_err-volume.field-0.0) c.limits_of-settings.ensures c.in_err-volume.ensures.fault))

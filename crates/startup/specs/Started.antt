@@ -1,0 +1,93 @@
+-- What settings start.
+use Rattle.std.specs.Prelude.{◌≡◌, ◌≤◌, ℕ, true, false, Err, [], length, map, Some}
+use Rattle.std.specs.List.{concat}
+use Rattle.adapter.specs.View.{AdapterView}
+use Rattle.miniport.specs.Memory.{MemView}
+use Rattle.machine.specs.Map.{IsMap}
+use Rattle.machine.specs.Rules.{Rules}
+use Rattle.machine.specs.State.{opening}
+use Rattle.mbr.specs.Faults.{said_of}
+use Rattle.probe.specs.Exchange.{IsIdle, IsOfFailure}
+use Rattle.io_manager.specs.Shown.{ManagerView}
+use Rattle.io_manager.specs.declared.Refusal.TheVariants.{InvalidParameter, DeviceBusy, InsufficientResources}
+use Rattle.compose.specs.declared.Settings.{Settings}
+use Rattle.compose.specs.declared.StartFault.{StartFault}
+use Rattle.compose.specs.declared.StartFault.TheVariants.{Settings as WrongSettings, Device as FailedCommand, Mbr as WrongTable, NoMemory as WantOfMemory}
+use Rattle.compose.specs.Opening.{IsFirstView}
+use Rattle.settings.specs.declared.Config.{Config}
+use Rattle.settings.specs.Medium.{disk_of, entries_of, extents_of, zeros, HasBlankPartitions, IsNewAdapter}
+use Rattle.volume.specs.declared.OpenFault.{OpenFault}
+use Rattle.volume.specs.declared.OpenFault.TheVariants.{Start as NotStarted, Refused}
+use Rattle.volume.specs.Shown.{VolumeView, extent_at, parted_at}
+
+-- how many requests may be open and at work
+abbrev pub limits_of : Config → Settings
+limits_of c = record { window = c.window; open_requests = c.open_requests }
+
+-- the rules of the stack: requests of up to 65,536 sectors, in pieces as long as a transfer; the seventeenth busy return of a
+-- request ends it
+abbrev pub rules_of : Config → Rules
+rules_of c = record {
+  sector_size = c.sector_size;
+  disk_sectors = c.sectors;
+  partitions = extents_of c;
+  longest = 65536;
+  max_transfer = c.max_transfer;
+  depth = c.depth;
+  open_requests = Some c.open_requests;
+  window = Some c.window;
+  one_piece = false;
+  busy_limit = 17;
+  faithful = true;
+}
+
+-- the adapter of the settings, after the partition table was read
+pub record IsOverDisk (c : Config) (adapter : AdapterView) : Type 0 where
+  pub sector_size : adapter.sector_size ≡ c.sector_size
+  pub sectors : adapter.sectors ≡ disk_of c
+  pub max_transfer : adapter.max_transfer ≡ c.max_transfer
+  pub depth : adapter.depth ≡ c.depth
+  pub idle : IsIdle adapter
+
+-- the stack of these settings before its first event: all sectors of each partition are zeros, and nothing is open
+pub record IsStartOf (c : Config) (view : ManagerView) : Type 0 where
+  pub rules : view.rules ≡ rules_of c
+  pub is_map : IsMap c.sectors (extents_of c)
+  pub state : view.state ≡ opening (map (λ extent. zeros c extent.count) (extents_of c))
+  pub adapter : IsOverDisk c view.adapter
+  pub no_handles : view.handles ≡ []
+  pub first_handle : view.next_handle ≡ 1
+  pub no_requests : view.holders ≡ []
+  pub no_labels : view.labels ≡ []
+  pub no_answers : view.answers ≡ []
+
+-- the same as what a stack shows over an adapter of these settings before its first event
+pub record IsFirstOf (c : Config) (view : ManagerView) : Type 0 where
+  -- with nothing asked of it
+  pub adapter : MemView
+  pub new : IsNewAdapter c adapter
+  pub blank : HasBlankPartitions c adapter.shown.sectors
+  pub first : IsFirstView adapter.shown (limits_of c) view
+
+-- why no stack of these settings could be started: the adapter failed a command, a partition is wrong, or memory was refused
+abbrev pub IsStartFault : Config → StartFault → Type 0
+IsStartFault c (FailedCommand status) = IsOfFailure status
+IsStartFault c (WrongTable fault) = said_of c.sectors (entries_of c) ≡ Err fault
+IsStartFault c WantOfMemory = Unit {0}
+IsStartFault c WrongSettings = ⊥
+
+-- a volume of a partition of the disk of these settings: all its bytes are zeros
+pub record IsVolumeOf (c : Config) (p : ℕ) (v : VolumeView) : Type 0 where
+  pub is_map : IsMap c.sectors (extents_of c)
+  pub content : v.content ≡ parted_at c.sector_size (disk_of c) (extent_at (extents_of c) p)
+  pub blank : v.content.bytes ≡ concat (zeros c (extent_at (extents_of c) p).count)
+  pub partition : v.partition ≡ p
+
+-- why no volume of these settings could be opened: no stack could be started, there is no such partition, or no number is left, or
+-- memory was refused
+abbrev pub IsOpenFault : Config → ℕ → OpenFault → Type 0
+IsOpenFault c p (NotStarted fault) = IsStartFault c fault
+IsOpenFault c p (Refused InvalidParameter) = length (extents_of c) ≤ p
+IsOpenFault c p (Refused DeviceBusy) = Unit {0}
+IsOpenFault c p (Refused InsufficientResources) = Unit {0}
+IsOpenFault c p (Refused _) = ⊥

@@ -1,0 +1,64 @@
+//! What is opened over the disk of some settings.
+
+ghost use Rattle.std.specs.Prelude.{◌≡◌, IfErr, IfOk};
+ghost use Rattle.settings.specs.InRange.{AreInRange};
+ghost use Rattle.startup.specs.Started.{IsFirstOf, IsOpenFault, IsStartFault, IsStartOf, IsVolumeOf, limits_of};
+
+use compose::{Settings, Stack, StartFault};
+use disk::SparseDisk;
+use miniport::MemAdapter;
+use settings::{Config, new_adapter};
+use std::alloc::Global;
+use volume::{OpenFault, Volume};
+
+/// A stack over a disk of zeros, but for its partition table.
+///
+/// # Errors
+///
+/// [`StartFault::Mbr`] with what is wrong with the partitions of the settings, [`StartFault::Device`] where the adapter
+/// failed a command, [`StartFault::NoMemory`].
+pub fn start(alloc: Global, config: Config) -> Result<Stack<MemAdapter<SparseDisk>>, StartFault>
+    requires { AreInRange config }
+    ensures view { IfOk result (IsStartOf config) }
+    ensures first { IfOk result (IsFirstOf config) }
+    ensures fault { IfErr result (IsStartFault config) }
+{
+    let settings = limits_of(&config);
+    let Ok(adapter) = new_adapter(alloc, config) else {
+        return Err(StartFault::NoMemory);
+    };
+    let stack = Stack::start(alloc, adapter, settings)?;
+    Ok(stack)
+}
+
+/// A volume of a partition, counted from 0, of such a stack.
+///
+/// # Errors
+///
+/// [`OpenFault::Start`] as [`start`] says; [`OpenFault::Refused`] as [`Volume::open`] says.
+pub fn open(
+    alloc: Global,
+    config: Config,
+    partition: u8,
+) -> Result<Volume<MemAdapter<SparseDisk>>, OpenFault>
+    requires { AreInRange config }
+    ensures volume { IfOk result (IsVolumeOf config partition) }
+    ensures fault { IfErr result (IsOpenFault config partition) }
+{
+    let settings = limits_of(&config);
+    let Ok(adapter) = new_adapter(alloc, config) else {
+        return Err(OpenFault::Start(StartFault::NoMemory));
+    };
+    let volume = Volume::start(alloc, adapter, settings, partition)?;
+    Ok(volume)
+}
+
+/// How many requests may be open and at work.
+fn limits_of(config: &Config) -> Settings
+    ensures { result ≡ limits_of config.now }
+{
+    Settings {
+        window: config.window,
+        open_requests: config.open_requests,
+    }
+}
