@@ -1,3 +1,3 @@
-mod Starting
+mod Opening
 mod Spelled
 mod Sessions

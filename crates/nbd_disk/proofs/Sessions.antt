@@ -5,7 +5,8 @@ use Rattle.nbd.specs.Content.{Content}
 use Rattle.nbd.specs.Handshake.{IsSession}
 use Rattle.nbd.specs.declared.End.{End}
 use Rattle.nbd_disk.specs.declared.faults.Fault.{Fault}
-use Rattle.nbd_disk.specs.Serving.{AreRead, IsConfigFault, IsServed, IsStartFault, fault_of_end, new_array}
+use Rattle.startup.specs.Reading.{AreRead}
+use Rattle.nbd_disk.specs.Serving.{IsConfigFault, IsServed, IsStartFault, fault_of_end, new_array}
 
 module _ (config : Option (List ℕ)) (p : ℕ) (input out : Option (List ℕ)) where
   pub without_settings : (fault : Fault) → IsConfigFault fault → IsServed config p input out (Some fault) input out

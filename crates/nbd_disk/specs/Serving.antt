@@ -1,12 +1,12 @@
 -- A session over the disk of some settings.
-use Rattle.std.specs.Prelude.{◌≡◌, ◌≤◌, ◌⊎◌, ℕ, List, Option, Some, None, Err, IfSome, length}
+use Rattle.std.specs.Prelude.{◌≡◌, ◌≤◌, ◌⊎◌, ℕ, List, Option, Some, None, length}
 use Rattle.std.specs.List.{concat}
-use Rattle.mbr.specs.Faults.{said_of}
 use Rattle.io_manager.specs.declared.Refusal.TheVariants.{InvalidParameter}
-use Rattle.compose.specs.declared.StartFault.TheVariants.{Settings as WrongSettings, Mbr as WrongTable}
 use Rattle.settings.specs.declared.Config.{Config}
-use Rattle.settings.specs.Settings.{AreSettingsOf}
-use Rattle.settings.specs.Medium.{entries_of, extents_of, zeros}
+use Rattle.settings.specs.Medium.{extents_of, zeros}
+use Rattle.startup.specs.declared.faults.Fault.TheVariants.{Start}
+use Rattle.startup.specs.Reading.{AreRead, IsUnread}
+use Rattle.startup.specs.Started.{IsStartFault as IsStackFault}
 use Rattle.volume.specs.declared.OpenFault.{OpenFault}
 use Rattle.volume.specs.declared.OpenFault.TheVariants.{Start as NotStarted, Refused}
 use Rattle.volume.specs.Shown.{Content as VolumeContent, extent_at}
@@ -15,7 +15,7 @@ use Rattle.nbd.specs.Handshake.{IsSession}
 use Rattle.nbd.specs.declared.End.{End}
 use Rattle.nbd.specs.declared.End.TheVariants.{Left, Malformed as NoProtocol, Input, Output}
 use Rattle.nbd_disk.specs.declared.faults.Fault.{Fault}
-use Rattle.nbd_disk.specs.declared.faults.Fault.TheVariants.{ConfigUnreadable, Settings, Start, NoPartition, Malformed, InputEnded, OutputFailed, NoMemory}
+use Rattle.nbd_disk.specs.declared.faults.Fault.TheVariants.{Startup, NoPartition, Malformed, InputEnded, OutputFailed, NoMemory}
 
 -- the bytes of a partition as an array, in blocks of a sector
 abbrev pub array_of : VolumeContent → Content
@@ -24,16 +24,6 @@ array_of c = record { block = c.sector_size; bytes = c.bytes }
 -- that of a partition of these settings, before anything was written: zeros
 abbrev pub new_array : Config → ℕ → Content
 new_array c p = record { block = c.sector_size; bytes = concat (zeros c (extent_at (extents_of c) p).count) }
-
--- a text is all that an input has, where that is known
-abbrev pub IsAllOf : Option (List ℕ) → List ℕ → Type 0
-IsAllOf known text = IfSome known (λ bytes. text ≡ bytes)
-
--- the settings that an input gives
-pub record AreRead (input : Option (List ℕ)) (settings : Config) : Type 0 where
-  pub text : List ℕ
-  pub all : IsAllOf input text
-  pub of_text : AreSettingsOf text settings
 
 -- the fault that an end of the session is told as
 abbrev pub fault_of_end : End → Option Fault
@@ -44,24 +34,20 @@ fault_of_end Output = Some OutputFailed
 
 -- the fault that a volume which can't be opened is told as
 abbrev pub fault_of_open : OpenFault → Fault
-fault_of_open (NotStarted fault) = Start fault
+fault_of_open (NotStarted fault) = Startup (Start fault)
 fault_of_open (Refused InvalidParameter) = NoPartition
 fault_of_open (Refused _) = NoMemory
 
 -- why there is no disk of these settings, or no such partition of it
 abbrev pub IsStartFault : Config → ℕ → Fault → Type 0
-IsStartFault c p (Start WrongSettings) = ⊥
-IsStartFault c p (Start (WrongTable fault)) = said_of c.sectors (entries_of c) ≡ Err fault
-IsStartFault c p (Start _) = Unit {0}
+IsStartFault c p (Startup (Start fault)) = IsStackFault c fault
 IsStartFault c p NoPartition = length (extents_of c) ≤ p
 IsStartFault c p NoMemory = Unit {0}
 IsStartFault c p _ = ⊥
 
 -- why there are no settings
 abbrev pub IsConfigFault : Fault → Type 0
-IsConfigFault ConfigUnreadable = Unit {0}
-IsConfigFault (Settings fault) = Unit {0}
-IsConfigFault NoMemory = Unit {0}
+IsConfigFault (Startup fault) = IsUnread fault
 IsConfigFault _ = ⊥
 
 -- why no session began

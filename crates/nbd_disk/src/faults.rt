@@ -1,26 +1,20 @@
 //! Why the program ends early.
 
-ghost use Rattle.std.specs.Prelude.{◌≡◌, ◌≢◌};
-ghost use Rattle.std.specs.IoError.{error_kind};
-ghost use Rattle.std.specs.declared.io.ErrorKind.TheVariants.{OutOfMemory};
-ghost use Rattle.nbd_disk.specs.Faults.{mbr_text, status_of};
-ghost use Rattle.nbd_disk.specs.declared.faults.Fault.TheVariants.{NoMemory, Settings};
+ghost use Rattle.std.specs.Prelude.{◌≡◌};
+ghost use Rattle.nbd_disk.specs.Faults.{is_usage};
+ghost use Rattle.nbd_disk.specs.declared.faults.Fault.TheVariants.{NoMemory, Startup};
 
-use compose::{MbrFault, StartFault};
-use settings::ConfigFault;
+use startup::Ending;
 use std::alloc::AllocError;
 use std::error::Error;
-use std::io::ErrorKind;
-use std::{fmt, io};
+use std::fmt;
 
 #[derive(Debug, Clone, Copy, PartialEq, Eq)]
 pub enum Fault {
     /// The words of the command line ask for nothing that there is, or for help.
     Usage,
-    ConfigUnreadable,
-    Settings(ConfigFault),
-    /// No stack of the settings could be started.
-    Start(StartFault),
+    /// There is no stack of the settings.
+    Startup(startup::Fault),
     /// The settings have no such partition.
     NoPartition,
     /// What came is not the protocol, or asks for an export that isn't there.
@@ -31,26 +25,11 @@ pub enum Fault {
     NoMemory,
 }
 
-impl Fault {
-    /// The status that the program ends with: 2 where nothing was tried, else 1.
-    pub fn exit_status(&self) -> u8
-        ensures { result ≡ status_of self.now }
-    {
-        match self {
-            Fault::Usage => 2,
-            _ => 1,
-        }
-    }
+impl Ending for Fault {
+    ghost usage = { is_usage };
 
-    /// What a failed read means, for an input that can't be read as `unreadable` says.
-    pub fn of_read(error: &io::Error, unreadable: Fault) -> Fault
-        ensures memory { error_kind error.now ≡ OutOfMemory → result ≡ NoMemory }
-        ensures unreadable { error_kind error.now ≢ OutOfMemory → result ≡ unreadable }
-    {
-        match error.kind() {
-            ErrorKind::OutOfMemory => Fault::NoMemory,
-            _ => unreadable,
-        }
+    fn is_usage(&self) -> bool {
+        matches!(self, Fault::Usage)
     }
 }
 
@@ -64,34 +43,13 @@ impl fmt::Display for Fault {
     fn fmt<W: fmt::Write>(&self, f: &mut fmt::Formatter<W>) -> fmt::Result {
         match self {
             Fault::Usage => f.write_str("usage: nbd_disk CONFIG [PARTITION]"),
-            Fault::ConfigUnreadable => f.write_str("nbd_disk: cannot read CONFIG"),
-            Fault::Settings(fault) => write!(f, "nbd_disk: {fault}"),
-            Fault::Start(StartFault::Settings) => f.write_str("nbd_disk: config: out of range"),
-            Fault::Start(StartFault::Device(status)) => {
-                write!(f, "nbd_disk: start: {}", status.name())
-            }
-            Fault::Start(StartFault::Mbr(fault)) => write!(f, "nbd_disk: mbr: {}", text_of(*fault)),
-            Fault::Start(StartFault::NoMemory) => f.write_str("nbd_disk: no memory"),
+            Fault::Startup(fault) => write!(f, "nbd_disk: {fault}"),
             Fault::NoPartition => f.write_str("nbd_disk: no such partition"),
             Fault::Malformed => f.write_str("nbd_disk: malformed input"),
             Fault::InputEnded => f.write_str("nbd_disk: input ended"),
             Fault::OutputFailed => f.write_str("nbd_disk: output failed"),
             Fault::NoMemory => f.write_str("nbd_disk: no memory"),
         }
-    }
-}
-
-/// What is wrong with a partition table, in print.
-fn text_of(fault: MbrFault) -> &'static str
-    ensures { result.now ≡ mbr_text fault }
-{
-    match fault {
-        MbrFault::ShortSector => "short sector",
-        MbrFault::NoSignature => "no signature",
-        MbrFault::EmptyEntry => "empty entry",
-        MbrFault::CoversTable => "covers table",
-        MbrFault::PastEnd => "past end",
-        MbrFault::Overlap => "overlap",
     }
 }
 
@@ -105,10 +63,10 @@ impl From<AllocError> for Fault {
     }
 }
 
-impl From<ConfigFault> for Fault {
-    ghost from_gives = { λ why fault. fault ≡ Settings why };
+impl From<startup::Fault> for Fault {
+    ghost from_gives = { λ why fault. fault ≡ Startup why };
 
-    fn from(fault: ConfigFault) -> Fault {
-        Fault::Settings(fault)
+    fn from(fault: startup::Fault) -> Fault {
+        Fault::Startup(fault)
     }
 }

@@ -4,12 +4,12 @@
 //!
 //! It promises, by the contract of [`serving::serve_disk`] (`served`), that what a session has read and written is a session
 //! of the NBD protocol, over the bytes of the partition of the settings' disk, which are zeros at its start; by [`words::command`],
-//! that path and partition are those that the parser of the command line found under their names; by [`ending::ended`] and
-//! [`ending::say`], the exit status and the line of each fault. The bytes of standard input and output themselves are told by
-//! no contract: what is promised is promised of readers and writers that tell theirs. Each client has a disk of its own.
+//! that path and partition are those that the parser of the command line found under their names; by [`Fault`]'s text and
+//! [`Ending`](startup::Ending), the line and the exit status of each fault, as [`startup::say`] and [`startup::ended`] give
+//! them. The bytes of standard input and output themselves are told by no contract: what is promised is promised of readers
+//! and writers that tell theirs. Each client has a disk of its own.
 #![tactic(auto)]
 
-mod ending;
 mod faults;
 mod served;
 mod serving;
@@ -17,31 +17,31 @@ mod serving;
 mod tests;
 mod words;
 
-use crate::ending::ended;
 use crate::faults::Fault;
 use crate::serving::serve_disk;
 use crate::words::asked::Asked;
 use crate::words::command;
-use std::env;
+use startup::{Verdict, ended, fault_of};
 use std::fs::File;
 use std::io::{BufReader, BufWriter};
 use std::process::ExitCode;
+use std::{env, io};
 
 /// Bytes of output that are written at once. The bytes of a longer read go past the buffer, as those of a long write go past
 /// the reader's.
 const BUFFER: usize = 65_536;
 
 /// Serves as the command line asks for.
-fn run(rt: &HostRuntime) -> Result<(), Fault> {
+fn run(rt: &HostRuntime) -> Result<Verdict, Fault> {
     let alloc = rt.alloc();
     let words = match env::args(rt) {
         Ok(words) => words.collect::<Vec<String>>(alloc)?,
-        Err(error) => return Err(Fault::of_read(&error, Fault::Usage)),
+        Err(error) => return Err(fault_of(&error, Fault::Usage)),
     };
     let Asked { config, partition } = command(alloc, words.as_slice())?;
     let config = match File::open(rt, config) {
         Ok(config) => config,
-        Err(error) => return Err(Fault::of_read(&error, Fault::ConfigUnreadable)),
+        Err(error) => return Err(unopened(&error)),
     };
     let Ok(mut input) = BufReader::new(alloc, rt.stdin()) else {
         return Err(Fault::NoMemory);
@@ -49,7 +49,13 @@ fn run(rt: &HostRuntime) -> Result<(), Fault> {
     let Ok(mut out) = BufWriter::with_capacity(alloc, BUFFER, rt.stdout()) else {
         return Err(Fault::NoMemory);
     };
-    serve_disk(alloc, config, partition, &mut input, &mut out)
+    serve_disk(alloc, config, partition, &mut input, &mut out)?;
+    Ok(Verdict::Passed)
+}
+
+/// The fault of settings that can't be opened.
+fn unopened(error: &io::Error) -> Fault {
+    Fault::Startup(fault_of(error, startup::Fault::ConfigUnreadable))
 }
 
 fn main(rt: HostRuntime) -> ExitCode {

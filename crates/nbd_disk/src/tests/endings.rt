@@ -1,11 +1,12 @@
 //! Which fault is told, in which words, and with which exit status.
 
-use crate::ending::{ended, say};
 use crate::faults::Fault;
 use crate::serving::serve_disk;
 use compose::{MbrFault, StartFault};
 use ntstatus::NtStatus;
 use settings::ConfigFault;
+use startup::Fault::{ConfigUnreadable, Settings, Start};
+use startup::{Verdict, ended, say};
 use std::io;
 use std::io::{ErrorKind, Read, Write};
 use std::test::Fail;
@@ -13,19 +14,23 @@ use std::test::Fail;
 /// Faults, their lines, and the exit status.
 static FAULTS: [(Fault, &str, u8); 10] = [
     (Fault::Usage, "usage: nbd_disk CONFIG [PARTITION]\n", 2),
-    (Fault::ConfigUnreadable, "nbd_disk: cannot read CONFIG\n", 1),
     (
-        Fault::Settings(ConfigFault::MissingKey),
+        Fault::Startup(ConfigUnreadable),
+        "nbd_disk: cannot read CONFIG\n",
+        1,
+    ),
+    (
+        Fault::Startup(Settings(ConfigFault::MissingKey)),
         "nbd_disk: config: missing key\n",
         1,
     ),
     (
-        Fault::Start(StartFault::Device(NtStatus::DeviceDataError)),
+        Fault::Startup(Start(StartFault::Device(NtStatus::DeviceDataError))),
         "nbd_disk: start: DEVICE_DATA_ERROR\n",
         1,
     ),
     (
-        Fault::Start(StartFault::Mbr(MbrFault::PastEnd)),
+        Fault::Startup(Start(StartFault::Mbr(MbrFault::PastEnd))),
         "nbd_disk: mbr: past end\n",
         1,
     ),
@@ -42,7 +47,8 @@ fn says_each_fault(rt: HostRuntime) -> Result<(), Fail> {
         let mut faults = Vec::new(rt.alloc());
         say(&mut faults, &fault)?;
         assert_eq!(rt; faults.as_slice(), line.as_bytes());
-        assert_eq!(rt; fault.exit_status(), status, "at {line:?}");
+        let outcome: Result<Verdict, Fault> = Err(fault);
+        assert_eq!(rt; ended(outcome, &mut faults), status, "at {line:?}");
     }
     Ok(())
 }
@@ -80,7 +86,7 @@ fn blames_the_first_fault(rt: HostRuntime) -> Result<(), Fail> {
         let mut out = Vec::new(alloc);
         let mut faults = Vec::new(alloc);
         let outcome = serve_disk(alloc, config.as_bytes(), partition, &mut input, &mut out);
-        let status = ended(outcome, &mut faults);
+        let status = ended(outcome.map(|()| Verdict::Passed), &mut faults);
         assert_eq!(rt; faults.as_slice(), wanted.as_bytes(), "at {more:?}");
         assert_eq!(rt; status, 1);
         assert_eq!(rt; out.len(), 0);
@@ -119,9 +125,9 @@ fn says_what_cannot_be_read_or_written(rt: HostRuntime) -> Result<(), Fail> {
     let mut input = b"".as_slice();
     let mut out = Vec::new(alloc);
     let unread = serve_disk(alloc, Broken { kind: denied }, 0, &mut input, &mut out);
-    assert!(rt; unread == Err(Fault::ConfigUnreadable));
+    assert!(rt; unread == Err(Fault::Startup(ConfigUnreadable)));
     let refused = serve_disk(alloc, Broken { kind: memory }, 0, &mut input, &mut out);
-    assert!(rt; refused == Err(Fault::NoMemory));
+    assert!(rt; refused == Err(Fault::Startup(startup::Fault::NoMemory)));
     let mut broken = Broken { kind: denied };
     let unwritten = serve_disk(alloc, config.as_bytes(), 0, &mut input, &mut broken);
     assert!(rt; unwritten == Err(Fault::OutputFailed));

@@ -1,16 +1,13 @@
 use Rattle.std.proofs.Common.{◌∙◌, subst, sym}
 use Rattle.nbd_disk.specs.declared.faults.Fault.{Fault}
 use Rattle.nbd_disk.specs.Serving.{IsStartFault}
-use Rattle.nbd_disk.proofs.Starting.{array_is, fault_is}
+use Rattle.nbd_disk.proofs.Opening.{array_is, fault_is}
 use Rattle.nbd_disk.proofs.serving.start.Goals as goal
 
-pub returns-in-Ok-start-clause-content : goal.returns-in-Ok-start-clause-content
-returns-in-Ok-start-clause-content c =
-    c.new.ensures
-    ∙ array_is c.args.config c.in-Ok.adapter c.in-Ok.ensures.new c.in-Ok.ensures.says c.new_adapter.ensures.extents c.in-Ok.ensures.blank c.args.partition c.in-Ok-start.volume.content
-    c.in-Ok-start.ensures.content
+pub returns-in-Ok-clause-content : goal.returns-in-Ok-clause-content
+returns-in-Ok-clause-content c = c.new.ensures ∙ array_is c.args.config c.args.partition c.in-Ok.volume c.in-Ok.ensures.volume
 
 pub returns-in-Err-clause-fault : goal.returns-in-Err-clause-fault
 returns-in-Err-clause-fault c =
     subst (λ (f : Fault). IsStartFault c.args.config c.args.partition f) (sym c.open_fault.ensures)
-    (fault_is c.args.config c.in-Ok.adapter c.in-Ok.ensures.new c.in-Ok.ensures.says c.new_adapter.ensures.extents c.requires c.args.partition c.in-Err.fault c.in-Err.ensures.fault)
+    (fault_is c.args.config c.args.partition c.in-Err.fault c.in-Err.ensures.fault)
