@@ -5,17 +5,15 @@ use Rattle.ntstatus.specs.declared.NtStatus.TheVariants.{Success}
 use Rattle.ntstatus.proofs.Rows.{success_code}
 use Rattle.srb.specs.declared.Class.TheVariants.{Good, Busy, Bad}
 use Rattle.srb.specs.Fate.{class_of}
-use Rattle.adapter.specs.View.{AdapterView}
 use Rattle.probe.specs.Exchange.{IsOfFailure}
 use Rattle.io_manager.specs.declared.Refusal.{Refusal}
 use Rattle.io_manager.specs.declared.Refusal.TheVariants.{InvalidHandle, InvalidParameter, DeletePending, DeviceBusy, InsufficientResources, InvalidDeviceRequest, NotFound}
-use Rattle.compose.specs.declared.Settings.{Settings as StackSettings}
 use Rattle.compose.specs.declared.StartFault.{StartFault}
 use Rattle.compose.specs.declared.StartFault.TheVariants.{Device, Settings, Mbr, NoMemory}
-use Rattle.compose.specs.Opening.{IsSpent}
 use Rattle.volume.specs.declared.OpenFault.{OpenFault}
 use Rattle.volume.specs.declared.OpenFault.TheVariants.{Start}
-use Rattle.volume.specs.Opening.{IsOpenFault}
+use Rattle.settings.specs.declared.Config.{Config}
+use Rattle.startup.specs.Started.{IsOpenFault, IsStartFault}
 use Rattle.saddlemug.specs.Statuses.{refusal_status, start_status}
 
 failure_fails : (s : NtStatus) → IsOfFailure s → s ≡ Success → ⊥
@@ -25,17 +23,14 @@ failure_fails s f e =
     let same : Good ≡ Bad f.completion = sym good ∙ f.is_bad in
     cc (same)
 
-pub start_fails : (disk after : AdapterView) (settings : StackSettings) (fault : StartFault) → IsSpent disk settings fault after → start_status fault ≡ Success → ⊥
-start_fails disk after settings (Device s) spent e = failure_fails s spent.why.1.failure e
-start_fails disk after settings NoMemory spent e = cc (e)
-start_fails disk after settings Settings spent e = cc (e)
-start_fails disk after settings (Mbr fault) spent e = cc (e)
+pub start_fails : (c : Config) (fault : StartFault) → IsStartFault c fault → start_status fault ≡ Success → ⊥
+start_fails c (Device s) failure e = failure_fails s failure e
+start_fails c NoMemory failure e = cc (e)
+start_fails c Settings failure e = cc (e)
+start_fails c (Mbr fault) failure e = cc (e)
 
-pub open_fails : (disk : AdapterView) (settings : StackSettings) (p : ℕ) (opened : OpenFault) (fault : StartFault) → opened ≡ Start fault
-    → IsOpenFault disk settings p opened → start_status fault ≡ Success → ⊥
-open_fails disk settings p opened fault is told e =
-    let spent : IsOpenFault disk settings p (Start fault) = subst (IsOpenFault disk settings p) is told in
-    start_fails disk spent.0 settings fault spent.1 e
+pub open_fails : (c : Config) (p : ℕ) (opened : OpenFault) (fault : StartFault) → opened ≡ Start fault → IsOpenFault c p opened → start_status fault ≡ Success → ⊥
+open_fails c p opened fault is told e = start_fails c fault (subst (IsOpenFault c p) is told) e
 
 pub refusal_fails : (reason : Refusal) → refusal_status reason ≡ Success → ⊥
 refusal_fails InvalidHandle e = cc (e)

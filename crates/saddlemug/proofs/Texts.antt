@@ -6,10 +6,11 @@ use Rattle.settings.specs.declared.Config.{Config}
 use Rattle.settings.specs.Settings.{AreSettingsOf}
 use Rattle.io_manager.specs.Shown.{ManagerView}
 use Rattle.volume.specs.Shown.{VolumeView}
-use Rattle.saddlemug.specs.Opened.{IsFirstOf, IsNewOf, IsNewStack, IsNewVolume}
+use Rattle.startup.specs.Started.{IsFirstOf, IsVolumeOf}
+use Rattle.saddlemug.specs.Opened.{IsNewStack, IsNewVolume}
 
 pub volume_of_text : (text : List ℕ) (config : Config) (partition : ℕ) (opened : Result VolumeView NtStatus) → AreSettingsOf text config
-    → IfOk opened (IsNewOf config partition) → IfOk opened (IsNewVolume text partition)
+    → IfOk opened (IsVolumeOf config partition) → IfOk opened (IsNewVolume text partition)
 volume_of_text text config partition (Ok v) = λ settings new. record { config = config; settings = settings; new = new }
 volume_of_text text config partition (Err s) = λ settings new. new
 

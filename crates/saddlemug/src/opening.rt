@@ -4,15 +4,17 @@ ghost use Rattle.std.specs.Prelude.{◌≡◌, ◌≢◌, IfErr, IfOk};
 ghost use Rattle.ntstatus.specs.declared.NtStatus.TheVariants.{Success};
 ghost use Rattle.settings.specs.InRange.{AreInRange};
 ghost use Rattle.settings.specs.Settings.{AreSettingsOf};
-ghost use Rattle.saddlemug.specs.Opened.{IsFirstOf, IsNewOf, IsNewStack, IsNewVolume};
+ghost use Rattle.startup.specs.Started.{IsFirstOf, IsVolumeOf};
+ghost use Rattle.saddlemug.specs.Opened.{IsNewStack, IsNewVolume};
 ghost use Rattle.saddlemug.specs.Statuses.{start_status};
 
 use crate::status::refusal_status;
-use compose::{Settings, Stack, StartFault};
+use compose::{Stack, StartFault};
 use disk::SparseDisk;
 use miniport::MemAdapter;
 use ntstatus::NtStatus;
-use settings::{Config, ConfigFault, document, new_adapter};
+use settings::{Config, ConfigFault};
+use startup::{open, settings_of, start};
 use std::alloc::Global;
 use volume::{OpenFault, Volume};
 
@@ -37,7 +39,7 @@ pub fn new_volume(
 ///
 /// # Errors
 ///
-/// As [`config_of`] and [`start_status`] say; [`NtStatus::InsufficientResources`].
+/// As [`config_of`] and [`start_status`] say.
 pub fn new_stack(alloc: Global, text: &[u8]) -> Result<Stack<MemAdapter<SparseDisk>>, NtStatus>
     ensures stack { IfOk result (IsNewStack text.now) }
     ensures fault { IfErr result (λ status. status ≢ Success) }
@@ -56,10 +58,7 @@ fn config_of(alloc: Global, text: &[u8]) -> Result<Config, NtStatus>
     ensures in_range { IfOk result AreInRange }
     ensures fault { IfErr result (λ status. status ≢ Success) }
 {
-    let Ok(text) = std::str::from_utf8(text) else {
-        return Err(NtStatus::InvalidParameter);
-    };
-    match document::config(alloc, text) {
+    match settings_of(alloc, text) {
         Ok(config) => Ok(config),
         Err(ConfigFault::NoMemory) => Err(NtStatus::InsufficientResources),
         Err(_) => Err(NtStatus::InvalidParameter),
@@ -70,24 +69,17 @@ fn config_of(alloc: Global, text: &[u8]) -> Result<Config, NtStatus>
 ///
 /// # Errors
 ///
-/// As [`start_status`] and [`Volume::open`] say; [`NtStatus::InsufficientResources`].
+/// As [`start_status`] and [`Volume::open`] say.
 fn volume_of(
     alloc: Global,
     config: Config,
     partition: u8,
 ) -> Result<Volume<MemAdapter<SparseDisk>>, NtStatus>
     requires { AreInRange config }
-    ensures volume { IfOk result (IsNewOf config partition) }
+    ensures volume { IfOk result (IsVolumeOf config partition) }
     ensures fault { IfErr result (λ status. status ≢ Success) }
 {
-    let settings = Settings {
-        window: config.window,
-        open_requests: config.open_requests,
-    };
-    let Ok(adapter) = new_adapter(alloc, config) else {
-        return Err(NtStatus::InsufficientResources);
-    };
-    match Volume::start(alloc, adapter, settings, partition) {
+    match open(alloc, config, partition) {
         Ok(volume) => Ok(volume),
         Err(OpenFault::Start(fault)) => Err(start_status(fault)),
         Err(OpenFault::Refused(reason)) => Err(refusal_status(reason)),
@@ -98,20 +90,13 @@ fn volume_of(
 ///
 /// # Errors
 ///
-/// As [`start_status`] says; [`NtStatus::InsufficientResources`].
+/// As [`start_status`] says.
 fn stack_of(alloc: Global, config: Config) -> Result<Stack<MemAdapter<SparseDisk>>, NtStatus>
     requires { AreInRange config }
     ensures stack { IfOk result (IsFirstOf config) }
     ensures fault { IfErr result (λ status. status ≢ Success) }
 {
-    let settings = Settings {
-        window: config.window,
-        open_requests: config.open_requests,
-    };
-    let Ok(adapter) = new_adapter(alloc, config) else {
-        return Err(NtStatus::InsufficientResources);
-    };
-    match Stack::start(alloc, adapter, settings) {
+    match start(alloc, config) {
         Ok(stack) => Ok(stack),
         Err(fault) => Err(start_status(fault)),
     }

@@ -3,4 +3,4 @@ use Rattle.saddlemug.proofs.Failing.{start_fails}
 use Rattle.saddlemug.proofs.opening.stack_of.Goals as goal
 
 pub returns-in-Err-clause-fault : goal.returns-in-Err-clause-fault
-returns-in-Err-clause-fault c = λ e. start_fails _ _ _ c.in-Err.fault c.in-Err.ensures.fault.1 (sym c.start_status.ensures ∙ e)
+returns-in-Err-clause-fault c = λ e. start_fails c.args.config c.in-Err.fault c.in-Err.ensures.fault (sym c.start_status.ensures ∙ e)
