@@ -2,11 +2,12 @@
 use Rattle.std.proofs.Common.{◌≡◌, ℕ, List, Option, subst, sym, ◌∙◌}
 use Rattle.io_manager.specs.Shown.{ManagerView}
 use Rattle.settings.specs.declared.Config.{Config}
-use Rattle.stackrun.specs.Started.{IsStartOf}
+use Rattle.startup.specs.Reading.{AreRead, IsAllOf}
+use Rattle.startup.specs.Started.{IsStartOf}
 use Rattle.script.specs.declared.Line.{Line}
 use Rattle.script.specs.Script.{AreEvents, lines_of}
 use Rattle.script.specs.Trace.{IsTrace, Prints}
-use Rattle.stackrun.specs.Trace.{AreRead, IsAllOf, IsPrintOf}
+use Rattle.stackrun.specs.Trace.{IsPrintOf}
 
 -- the lines of a script that was read, played by the stack of settings that were read
 pub printed : (config script : Option (List ℕ)) (settings : Config) (text bytes items : List ℕ) (lines shown : List Line) (start last : ManagerView) (a b : Option (List ℕ))

@@ -1,2 +1,1 @@
 mod Emitted
-mod Starting

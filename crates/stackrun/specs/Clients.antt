@@ -3,8 +3,8 @@ use Rattle.std.specs.Prelude.{◌≡◌, ℕ, ◌*◌, ◌==◌, ◌&&◌, ◌++
 use Rattle.std.specs.Fmt.{decimal}
 use Rattle.std.specs.Io.KnownBytes.{Appends}
 use Rattle.rounds.specs.declared.Tally.{Tally}
-use Rattle.stackrun.specs.declared.ending.Verdict.{Verdict}
-use Rattle.stackrun.specs.declared.ending.Verdict.TheVariants.{Passed, Failed}
+use Rattle.startup.specs.declared.ending.Verdict.{Verdict}
+use Rattle.startup.specs.declared.ending.Verdict.TheVariants.{Passed, Failed}
 
 -- the line of a tally, with its end
 abbrev pub tally_line : ℕ → ℕ → Tally → List ℕ

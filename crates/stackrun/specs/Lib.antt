@@ -2,5 +2,4 @@ pub mod Clients
 pub mod CommandLine
 pub mod Faults
 pub mod Input
-pub mod Started
 pub mod Trace

@@ -5,15 +5,14 @@ ghost use Rattle.std.specs.Io.KnownBytes.{Appends};
 ghost use Rattle.book.specs.Sizes.{AreSizes, sizes_of};
 ghost use Rattle.settings.specs.InRange.{AreInRange};
 ghost use Rattle.stackrun.specs.Clients.{PrintsTally, tally_line, verdict_on};
-ghost use Rattle.stackrun.specs.Started.{rules_of};
+ghost use Rattle.startup.specs.Started.{rules_of};
 
-use crate::ending::Verdict;
 use crate::faults::Fault;
-use crate::startup::start;
-use crate::trace::settings;
 use book::Sizes;
 use rounds::{Plan, RoundsFault, Tally, run};
+use script::ScriptFault;
 use settings::{Config, ConfigFault};
+use startup::{Verdict, fault_of, read_settings, start};
 use std::alloc::Global;
 use std::io;
 use std::io::{Read, Write};
@@ -45,7 +44,7 @@ pub fn clients<C: Read + Drop, O: Write, R: Threads + Wait + Sync>(
     requires { (1 ≤ threads) × (threads ≤ 32) }
     ensures printed { IfOk result (PrintsTally threads rounds (O.contents out.old) (O.contents out.new)) }
 {
-    let config = settings(alloc, config)?;
+    let config = read_settings(alloc, config)?;
     let has_room = has_room(&config, threads);
     let sizes = sizes_for(&config);
     let slots = config.open_requests as usize;
@@ -57,17 +56,22 @@ pub fn clients<C: Read + Drop, O: Write, R: Threads + Wait + Sync>(
     };
     let stack = start(alloc, config)?;
     if !has_room {
-        return Err(Fault::Settings(ConfigFault::OutOfRange));
+        return Err(out_of_range());
     }
     let tally = match run(rt, alloc, stack, sizes, slots, plan) {
         Ok(tally) => tally,
         Err(RoundsFault::NoMemory) => return Err(Fault::NoMemory),
-        Err(RoundsFault::NoPartition) => return Err(Fault::Settings(ConfigFault::OutOfRange)),
+        Err(RoundsFault::NoPartition) => return Err(out_of_range()),
     };
     match write_tally(out, threads, rounds, &tally) {
         Ok(()) => Ok(verdict(threads, rounds, &tally)),
-        Err(error) => Err(Fault::of_output(&error)),
+        Err(error) => Err(fault_of(&error, Fault::Script(ScriptFault::OutputFailed))),
     }
+}
+
+/// The fault of settings that have no room for the clients.
+fn out_of_range() -> Fault {
+    Fault::Startup(startup::Fault::Settings(ConfigFault::OutOfRange))
 }
 
 /// Whether each client has a sector of partition 0 and may have a request open.

@@ -1,69 +1,33 @@
 //! Why the program ends early.
 
-ghost use Rattle.std.specs.Prelude.{◌≡◌, ◌≢◌};
-ghost use Rattle.std.specs.IoError.{error_kind};
-ghost use Rattle.std.specs.declared.io.ErrorKind.TheVariants.{OutOfMemory};
-ghost use Rattle.stackrun.specs.Faults.{mbr_text, status_of};
-ghost use Rattle.script.specs.declared.ScriptFault.TheVariants.{OutputFailed};
-ghost use Rattle.stackrun.specs.declared.faults.Fault.TheVariants.{NoMemory, Settings, Start, Script};
+ghost use Rattle.std.specs.Prelude.{◌≡◌};
+ghost use Rattle.stackrun.specs.Faults.{is_usage};
+ghost use Rattle.startup.specs.declared.faults.Fault.TheVariants.{Start};
+ghost use Rattle.stackrun.specs.declared.faults.Fault.TheVariants.{NoMemory, Script, Startup};
 
-use compose::{MbrFault, StartFault};
+use compose::StartFault;
 use script::ScriptFault;
-use settings::ConfigFault;
+use startup::Ending;
 use std::alloc::{AllocError, AllocFailed};
 use std::error::Error;
-use std::io::ErrorKind;
-use std::{fmt, io};
+use std::fmt;
 
 #[derive(Debug, Clone, Copy, PartialEq, Eq)]
 pub enum Fault {
     /// The words of the command line ask for nothing that there is, or for help.
     Usage,
-    ConfigUnreadable,
+    /// There is no stack of the settings.
+    Startup(startup::Fault),
     ScriptUnreadable,
-    Settings(ConfigFault),
-    /// No stack of the settings could be started.
-    Start(StartFault),
     Script(ScriptFault),
     NoMemory,
 }
 
-impl Fault {
-    /// The status that the program ends with: 2 where nothing was run, else 1.
-    pub fn exit_status(&self) -> u8
-        ensures { result ≡ status_of self.now }
-    {
-        match self {
-            Fault::Usage => 2,
-            _ => 1,
-        }
-    }
+impl Ending for Fault {
+    ghost usage = { is_usage };
 
-    /// What a failed read means, for an input that can't be read as `unreadable` says.
-    pub fn of_read(error: &io::Error, unreadable: Fault) -> Fault
-        ensures memory { error_kind error.now ≡ OutOfMemory → result ≡ NoMemory }
-        ensures unreadable { error_kind error.now ≢ OutOfMemory → result ≡ unreadable }
-    {
-        match error.kind() {
-            ErrorKind::OutOfMemory => Fault::NoMemory,
-            _ => unreadable,
-        }
-    }
-
-    /// What a failed write means.
-    pub fn of_output(error: &io::Error) -> Fault
-        ensures memory { error_kind error.now ≡ OutOfMemory → result ≡ NoMemory }
-        ensures failed { error_kind error.now ≢ OutOfMemory → result ≡ Script OutputFailed }
-    {
-        Fault::of_read(error, Fault::Script(ScriptFault::OutputFailed))
-    }
-
-    /// What it means that the words of the command line can't be had.
-    pub fn of_words(error: &io::Error) -> Fault
-        ensures memory { error_kind error.now ≡ OutOfMemory → result ≡ NoMemory }
-        ensures usage { error_kind error.now ≢ OutOfMemory → result ≡ Fault.Usage }
-    {
-        Fault::of_read(error, Fault::Usage)
+    fn is_usage(&self) -> bool {
+        matches!(self, Fault::Usage)
     }
 }
 
@@ -79,32 +43,11 @@ impl fmt::Display for Fault {
             Fault::Usage => f.write_str(
                 "usage: stackrun trace CONFIG SCRIPT | stackrun clients CONFIG THREADS CALLS",
             ),
-            Fault::ConfigUnreadable => f.write_str("stackrun: cannot read CONFIG"),
+            Fault::Startup(fault) => write!(f, "stackrun: {fault}"),
             Fault::ScriptUnreadable => f.write_str("stackrun: cannot read SCRIPT"),
-            Fault::Settings(fault) => write!(f, "stackrun: {fault}"),
-            Fault::Start(StartFault::Settings) => f.write_str("stackrun: config: out of range"),
-            Fault::Start(StartFault::Device(status)) => {
-                write!(f, "stackrun: start: {}", status.name())
-            }
-            Fault::Start(StartFault::Mbr(fault)) => write!(f, "stackrun: mbr: {}", text_of(*fault)),
-            Fault::Start(StartFault::NoMemory) => f.write_str("stackrun: no memory"),
             Fault::Script(fault) => write!(f, "stackrun: {fault}"),
             Fault::NoMemory => f.write_str("stackrun: no memory"),
         }
-    }
-}
-
-/// What is wrong with a partition table, in print.
-fn text_of(fault: MbrFault) -> &'static str
-    ensures { result.now ≡ mbr_text fault }
-{
-    match fault {
-        MbrFault::ShortSector => "short sector",
-        MbrFault::NoSignature => "no signature",
-        MbrFault::EmptyEntry => "empty entry",
-        MbrFault::CoversTable => "covers table",
-        MbrFault::PastEnd => "past end",
-        MbrFault::Overlap => "overlap",
     }
 }
 
@@ -126,19 +69,19 @@ impl<T: Drop> From<AllocFailed<T>> for Fault {
     }
 }
 
-impl From<ConfigFault> for Fault {
-    ghost from_gives = { λ why fault. fault ≡ Settings why };
+impl From<startup::Fault> for Fault {
+    ghost from_gives = { λ why fault. fault ≡ Startup why };
 
-    fn from(fault: ConfigFault) -> Fault {
-        Fault::Settings(fault)
+    fn from(fault: startup::Fault) -> Fault {
+        Fault::Startup(fault)
     }
 }
 
 impl From<StartFault> for Fault {
-    ghost from_gives = { λ why fault. fault ≡ Start why };
+    ghost from_gives = { λ why fault. fault ≡ Startup (Start why) };
 
     fn from(fault: StartFault) -> Fault {
-        Fault::Start(fault)
+        Fault::Startup(startup::Fault::Start(fault))
     }
 }
 

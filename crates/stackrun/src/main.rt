@@ -2,27 +2,26 @@
 //!
 //! It promises, by the contract of [`trace::trace`] (`text`), that a run that succeeds has printed just the text of its
 //! script's run over the stack that its settings start; by [`words::command`], that the two paths are those that the
-//! parser of the command line found under their names; by [`ending::ended`] and [`ending::say`], the exit status and the
-//! line of each fault. Settings and scripts themselves are of the crates `settings` and `script`. Which of several
-//! inputs is blamed first is tested and not proved, and no contract says what a file holds.
+//! parser of the command line found under their names; by [`Fault`]'s text and [`Ending`](startup::Ending), the line and the
+//! exit status of each fault, as [`startup::say`] and [`startup::ended`] give them. Settings, their stack and scripts
+//! themselves are of the crates `settings`, `startup` and `script`. Which of several inputs is blamed first is tested and
+//! not proved, and no contract says what a file holds.
 #![tactic(auto)]
 
 mod clients;
-mod ending;
 mod faults;
 mod input;
-mod startup;
 #[cfg(test)]
 mod tests;
 mod trace;
 mod words;
 
 use crate::clients::clients;
-use crate::ending::{Verdict, ended};
 use crate::faults::Fault;
 use crate::trace::trace;
 use crate::words::asked::Command;
 use crate::words::command;
+use startup::{Verdict, ended, fault_of};
 use std::env;
 use std::io::BufWriter;
 use std::process::ExitCode;
@@ -37,7 +36,7 @@ fn run<H: Threads + Wait + Sync>(rt: &HostRuntime, host: &H) -> Result<Verdict, 
     let alloc = rt.alloc();
     let words = match env::args(rt) {
         Ok(words) => words.collect::<Vec<String>>(alloc)?,
-        Err(error) => return Err(Fault::of_words(&error)),
+        Err(error) => return Err(fault_of(&error, Fault::Usage)),
     };
     match command(alloc, words.as_slice())? {
         Command::Trace { config, script } => {

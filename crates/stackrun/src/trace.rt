@@ -2,14 +2,12 @@
 
 ghost use Rattle.std.specs.Prelude.{IfOk, OnOk};
 ghost use Rattle.script.specs.Trace.{Prints};
-ghost use Rattle.settings.specs.InRange.{AreInRange};
-ghost use Rattle.stackrun.specs.Trace.{AreRead, IsAllOf, IsPrintOf};
+ghost use Rattle.startup.specs.Reading.{IsAllOf};
+ghost use Rattle.stackrun.specs.Trace.{IsPrintOf};
 
 use crate::faults::Fault;
-use crate::startup::start;
 use script::{ScriptFault, lines, play};
-use settings::document::config;
-use settings::{Config, ConfigFault};
+use startup::{contents, fault_of, read_settings, start};
 use std::alloc::Global;
 use std::io::{Read, Write};
 
@@ -28,8 +26,8 @@ pub fn trace<C: Read + Drop, S: Read + Drop, O: Write>(
 ) -> Result<(), Fault>
     ensures text { OnOk result (Prints (O.contents out.old) (O.contents out.new) (IsPrintOf (C.remaining config) (S.remaining script))) }
 {
-    let config = settings(alloc, config)?;
-    let script = contents(alloc, script, Fault::ScriptUnreadable)?;
+    let config = read_settings(alloc, config)?;
+    let script = bytes_of(alloc, script)?;
     let Ok(text) = std::str::from_utf8(script.as_slice()) else {
         return Err(Fault::Script(ScriptFault::BadLine { line: 1 }));
     };
@@ -39,29 +37,12 @@ pub fn trace<C: Read + Drop, S: Read + Drop, O: Write>(
     Ok(())
 }
 
-/// The settings that an input gives.
-pub fn settings<R: Read + Drop>(alloc: Global, input: R) -> Result<Config, Fault>
-    ensures in_range { IfOk result AreInRange }
-    ensures read { IfOk result (AreRead (R.remaining input)) }
+/// All bytes of a script.
+fn bytes_of<R: Read + Drop>(alloc: Global, script: R) -> Result<Vec<u8>, Fault>
+    ensures { IfOk result (λ bytes. IsAllOf (R.remaining script) bytes.items) }
 {
-    let bytes = contents(alloc, input, Fault::ConfigUnreadable)?;
-    let Ok(text) = std::str::from_utf8(bytes.as_slice()) else {
-        return Err(Fault::Settings(ConfigFault::NotToml));
-    };
-    Ok(config(alloc, text)?)
-}
-
-/// All bytes of an input.
-fn contents<R: Read + Drop>(
-    alloc: Global,
-    mut input: R,
-    unreadable: Fault,
-) -> Result<Vec<u8>, Fault>
-    ensures { IfOk result (λ bytes. IsAllOf (R.remaining input) bytes.items) }
-{
-    let mut bytes = Vec::new(alloc);
-    match input.read_to_end(&mut bytes) {
-        Ok(_) => Ok(bytes),
-        Err(error) => Err(Fault::of_read(&error, unreadable)),
+    match contents(alloc, script) {
+        Ok(bytes) => Ok(bytes),
+        Err(error) => Err(fault_of(&error, Fault::ScriptUnreadable)),
     }
 }

@@ -1,6 +1,5 @@
 //! Which fault is told, in which words, and with which exit status.
 
-use crate::ending::say;
 use crate::faults::Fault;
 use crate::input::Input;
 use crate::tests::given::{Narrow, Stuck, Torn, run};
@@ -8,6 +7,8 @@ use compose::{MbrFault, StartFault};
 use ntstatus::NtStatus;
 use script::ScriptFault;
 use settings::ConfigFault;
+use startup::Fault::{ConfigUnreadable, Settings, Start};
+use startup::{Verdict, ended, say};
 use std::io;
 use std::io::ErrorKind;
 use std::test::Fail;
@@ -19,50 +20,54 @@ static FAULTS: [(Fault, &str, u8); 16] = [
         "usage: stackrun trace CONFIG SCRIPT | stackrun clients CONFIG THREADS CALLS\n",
         2,
     ),
-    (Fault::ConfigUnreadable, "stackrun: cannot read CONFIG\n", 1),
+    (
+        Fault::Startup(ConfigUnreadable),
+        "stackrun: cannot read CONFIG\n",
+        1,
+    ),
     (Fault::ScriptUnreadable, "stackrun: cannot read SCRIPT\n", 1),
     (
-        Fault::Settings(ConfigFault::NotToml),
+        Fault::Startup(Settings(ConfigFault::NotToml)),
         "stackrun: config: not TOML\n",
         1,
     ),
     (
-        Fault::Settings(ConfigFault::UnknownKey),
+        Fault::Startup(Settings(ConfigFault::UnknownKey)),
         "stackrun: config: unknown key\n",
         1,
     ),
     (
-        Fault::Settings(ConfigFault::MissingKey),
+        Fault::Startup(Settings(ConfigFault::MissingKey)),
         "stackrun: config: missing key\n",
         1,
     ),
     (
-        Fault::Settings(ConfigFault::OutOfRange),
+        Fault::Startup(Settings(ConfigFault::OutOfRange)),
         "stackrun: config: out of range\n",
         1,
     ),
     (
-        Fault::Settings(ConfigFault::TooManyPartitions),
+        Fault::Startup(Settings(ConfigFault::TooManyPartitions)),
         "stackrun: config: too many partitions\n",
         1,
     ),
     (
-        Fault::Start(StartFault::Device(NtStatus::DeviceDataError)),
+        Fault::Startup(Start(StartFault::Device(NtStatus::DeviceDataError))),
         "stackrun: start: DEVICE_DATA_ERROR\n",
         1,
     ),
     (
-        Fault::Start(StartFault::Mbr(MbrFault::EmptyEntry)),
+        Fault::Startup(Start(StartFault::Mbr(MbrFault::EmptyEntry))),
         "stackrun: mbr: empty entry\n",
         1,
     ),
     (
-        Fault::Start(StartFault::Mbr(MbrFault::CoversTable)),
+        Fault::Startup(Start(StartFault::Mbr(MbrFault::CoversTable))),
         "stackrun: mbr: covers table\n",
         1,
     ),
     (
-        Fault::Start(StartFault::Mbr(MbrFault::PastEnd)),
+        Fault::Startup(Start(StartFault::Mbr(MbrFault::PastEnd))),
         "stackrun: mbr: past end\n",
         1,
     ),
@@ -90,7 +95,8 @@ fn says_each_fault(rt: HostRuntime) -> Result<(), Fail> {
         let mut faults = Vec::new(rt.alloc());
         say(&mut faults, &fault)?;
         assert_eq!(rt; faults.as_slice(), line.as_bytes());
-        assert_eq!(rt; fault.exit_status(), status, "at {line:?}");
+        let outcome: Result<Verdict, Fault> = Err(fault);
+        assert_eq!(rt; ended(outcome, &mut faults), status, "at {line:?}");
     }
     Ok(())
 }

@@ -1,7 +1,7 @@
 //! Readers and writers that fail, and runs of a trace over readers and writers.
 
-use crate::ending::{Verdict, ended};
 use crate::trace::trace;
+use startup::{Verdict, ended};
 use std::alloc::Global;
 use std::io;
 use std::io::{ErrorKind, Read, Write};

@@ -1,7 +1,7 @@
 //! Clients in threads of their own, and what comes of them.
 
 use crate::clients::clients;
-use crate::ending::ended;
+use startup::ended;
 use std::test::Fail;
 
 /// A disk of 4,096 sectors of 512 bytes with two tags.
