@@ -4,6 +4,8 @@
 #include <errno.h>
 #include <stdio.h>
 #include <stdlib.h>
+#include <sys/syscall.h>
+#include <unistd.h>
 
 static unsigned long asked, refuse_at;
 
@@ -21,6 +23,12 @@ __attribute__((destructor)) static void end(void) {
         fprintf(file, "%lu\n", count);
         fclose(file);
     }
+}
+
+/* The program ends by this call, past all destructors. */
+void _exit(int status) {
+    end();
+    for (;;) syscall(SYS_exit_group, status);
 }
 
 static int is_refused(void) {

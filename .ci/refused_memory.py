@@ -75,6 +75,8 @@ class Traces:
 
     def sweep(self, name, lines):
         wanted, asked = self.parts(lines)
+        if asked == 0:
+            raise Wrong('%s: no request for memory was counted' % name)
         for at in range(1, asked + 1):
             status, out, err, _ = self.run(lines, at)
             where = '%s, request %d for memory' % (name, at)
@@ -112,6 +114,8 @@ def sweep_tests(program, shim, folder):
             if status and 'AllocError' not in out + err:
                 raise Wrong('%s, request %d for memory: status %d, %s' % (name, at, status, (out + err)[-300:]))
         total += asked
+    if total == 0:
+        raise Wrong('%s: no request for memory was counted' % program)
     return total
 
 

@@ -154,7 +154,46 @@ fn run_threads<
     )
 }
 
-// A host of two clients. The answer to the second stands before that to the first.
+// The threads, with places for the pieces of each lane.
+fn run_lanes<A: Adapter + Send, N: Naming + Send + Sync, R: Threads + Wait + Sync, C: Clock + Sync>(
+    rt: &R,
+    alloc: Global,
+    host: &Host<A, N>,
+    keeper: Keeper<N>,
+    first: Client<N>,
+    second: Client<N>,
+    turnstile: &HoldsFirst<C>,
+) -> Result<(Answered, Answered), AllocError> {
+    match Completions::new(alloc, 1, 2) {
+        Ok((completions, passes)) => run_threads(
+            rt,
+            alloc,
+            host,
+            &completions,
+            passes,
+            keeper,
+            first,
+            second,
+            turnstile,
+        ),
+        Err(_) => Err(AllocError),
+    }
+}
+
+// Both were answered, and the answer to the second stands before that to the first.
+fn compare(
+    rt: &impl Abort,
+    read: Result<(Answered, Answered), AllocError>,
+    in_time: bool,
+) -> Result<(), AllocError> {
+    let (held, free) = read?;
+    assert!(rt; in_time, "the turns have run out");
+    assert!(rt; held.answer.status.is_success() && free.answer.status.is_success());
+    assert!(rt; held.places.call < free.places.call && free.places.answer < held.places.answer);
+    Ok(())
+}
+
+// A host of two clients, of which the first is held.
 fn hold_first<
     A: Adapter + Send,
     N: Naming + Send + Sync,
@@ -169,29 +208,14 @@ fn hold_first<
     let (Some(second), Some(first)) = (clients.pop(), clients.pop()) else {
         panic!(rt; "not two clients")
     };
-    let Ok((completions, passes)) = Completions::new(alloc, 1, 2) else {
-        return Err(AllocError);
-    };
     let turnstile = HoldsFirst {
         clock,
         hold: Mutex::new(Hold::Free),
         given_up: Mutex::new(false),
     };
-    let (held, free) = run_threads(
-        rt,
-        alloc,
-        &host,
-        &completions,
-        passes,
-        keeper,
-        first,
-        second,
-        &turnstile,
-    )?;
-    assert!(rt; !turnstile.has_given_up(rt), "the turns have run out");
-    assert!(rt; held.answer.status.is_success() && free.answer.status.is_success());
-    assert!(rt; held.places.call < free.places.call && free.places.answer < held.places.answer);
-    Ok(())
+    let read = run_lanes(rt, alloc, &host, keeper, first, second, &turnstile);
+    let in_time = !turnstile.has_given_up(rt);
+    compare(rt, read, in_time)
 }
 
 // Sector 0: an entry of type 7, of the sectors 2,048 to 3,071; the others are unused.
