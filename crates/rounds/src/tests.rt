@@ -193,6 +193,16 @@ fn compare(
     Ok(())
 }
 
+fn two_of<N: Naming>(rt: &impl Abort, clients: Vec<Client<N>>) -> (Client<N>, Client<N>) {
+    let mut clients = clients;
+    let second = clients.pop();
+    let first = clients.pop();
+    match (first, second) {
+        (Some(first), Some(second)) => (first, second),
+        _ => panic!(rt; "not two clients"),
+    }
+}
+
 // A host of two clients, of which the first is held.
 fn hold_first<
     A: Adapter + Send,
@@ -202,12 +212,10 @@ fn hold_first<
 >(rt: &R, alloc: Global, opened: Opened<A>, clock: &C) -> Result<(), AllocError>
     requires named { opened ≡ record { rules = N.rules; opening = N.opening; partitions = N.partitions; handles = N.handles; marks = N.marks; slots = N.slots; table = N.table; name = N.name; parts = N.parts; gate = N.gate } }
 {
-    let Ok((host, keeper, mut clients)) = Host::<A, N>::new(alloc, opened) else {
+    let Ok((host, keeper, clients)) = Host::<A, N>::new(alloc, opened) else {
         return Err(AllocError);
     };
-    let (Some(second), Some(first)) = (clients.pop(), clients.pop()) else {
-        panic!(rt; "not two clients")
-    };
+    let (first, second) = two_of(rt, clients);
     let turnstile = HoldsFirst {
         clock,
         hold: Mutex::new(Hold::Free),
