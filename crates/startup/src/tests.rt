@@ -16,21 +16,26 @@ use volume::OpenFault;
 const SETTINGS: &str =
     "sector_size = 512\nsectors = 4\nmax_transfer = 1\ndepth = 1\nwindow = 1\n[[partition]]\nfirst = 2\ncount = 2\n";
 
+/// Whether a stack is opened over the disk of a text's settings.
+fn starts(alloc: Global, text: &str) -> bool {
+    match read_settings(alloc, text.as_bytes()) {
+        Ok(config) => start(alloc, config).is_ok(),
+        Err(_) => false,
+    }
+}
+
+/// The sectors of the volume of partition 0 of a text's settings, and their bytes.
+fn sizes_of(alloc: Global, text: &str) -> Option<(u64, u64)> {
+    let config = settings_of(alloc, text.as_bytes()).ok()?;
+    let volume = open(alloc, config, 0).ok()?;
+    let sizes = volume.sizes();
+    Some((sizes.sectors, sizes.sector_size))
+}
+
 #[test]
 fn opens_a_stack_and_a_volume(rt: HostRuntime) -> Result<(), Fail> {
-    let alloc = rt.alloc();
-    let Ok(config) = read_settings(alloc, SETTINGS.as_bytes()) else {
-        panic!(rt; "no settings");
-    };
-    assert!(rt; start(alloc, config).is_ok());
-    let Ok(config) = settings_of(alloc, SETTINGS.as_bytes()) else {
-        panic!(rt; "no settings");
-    };
-    let Ok(volume) = open(alloc, config, 0) else {
-        panic!(rt; "no volume");
-    };
-    let sizes = volume.sizes();
-    assert_eq!(rt; (sizes.sectors, sizes.sector_size), (2, 512));
+    assert!(rt; starts(rt.alloc(), SETTINGS));
+    assert!(rt; sizes_of(rt.alloc(), SETTINGS) == Some((2, 512)));
     Ok(())
 }
 
