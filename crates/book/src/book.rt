@@ -1,4 +1,4 @@
-ghost use Rattle.std.specs.Prelude.{◌≡◌, ◌<◌, ◌≤◌, ◌+◌, ◌∷◌, ℕ, List, [], max, slice_get, All, Contains, IfOk, IfSome, MatchOption, OnOk, Some, None, false, true, length};
+ghost use Rattle.std.specs.Prelude.{◌≡◌, ◌<◌, ◌≤◌, ◌+◌, ◌∷◌, ℕ, List, [], max, slice_get, All, Contains, IfOk, IfSome, MatchOption, OnOk, Some, None, false, true, length, replicate};
 ghost use Rattle.cancel_marks.specs.Marks.{standing, starting};
 ghost use Rattle.chronicle.specs.Claims.{AllStand};
 ghost use Rattle.machine.specs.Step.{Run};
@@ -68,6 +68,28 @@ impl<A: Adapter, N: Naming> Model for Book<A, N> {
 
 // A removal and its end may always come.
 const REMOVAL_LABELS: usize = 2;
+
+// Pages with room for a removal, and slots, all empty.
+fn make_rows<N: Naming>(
+    alloc: Global,
+    whole: Whole<Entry, N>,
+    seat: Seat,
+    clients: usize,
+    slots: usize,
+) -> Result<(Pages<N>, Slots<N>), AllocError>
+    requires clients { clients ≡ length N.partitions }
+    requires whole { whole ≡ [] }
+    requires slots { slots ≡ N.slots }
+    requires seat { seat ≡ standing N.marks 0 (starting (max slots 1)) }
+    ensures pages { IfOk result (λ r. (r.0.entries ≡ []) × (r.0.owners ≡ []) × (2 ≤ r.0.room)) }
+    ensures numbers { IfOk result (λ r. r.1.numbers ≡ replicate slots None) }
+    ensures owner { IfOk result (λ r. r.1.owner ≡ starting (max slots 1)) }
+{
+    let mut pages = Pages::new(alloc, whole, clients)?;
+    pages.reserve(REMOVAL_LABELS)?;
+    let slots = Slots::new(alloc, seat, slots)?;
+    Ok((pages, slots))
+}
 
 // The laws on the numbers of a run, for who calls it.
 fn laws_of_numbers()
@@ -280,9 +302,7 @@ impl<A: Adapter, N: Naming> Book<A, N> {
         requires sizes { (sizes ≡ sizes_of N.rules) × AreSizes sizes }
         ensures { IfOk result (λ b. (b.stack ≡ stack) × (b.entries ≡ []) × (b.owners ≡ [])) }
     {
-        let mut pages = Pages::new(alloc, whole, clients)?;
-        pages.reserve(REMOVAL_LABELS)?;
-        let slots = Slots::new(alloc, seat, slots)?;
+        let (pages, slots) = make_rows(alloc, whole, seat, clients, slots)?;
         Ok(Book {
             stack,
             pages,

@@ -1,6 +1,6 @@
 ghost use Rattle.std.specs.Prelude.{◌≡◌, ◌≤◌, ◌+◌, Some, All, IfOk, IfErr, length, max};
 ghost use Rattle.cancel_marks.specs.Marks.{IsOther, standing, starting};
-ghost use Rattle.book.specs.Opening.{IsNew};
+ghost use Rattle.book.specs.Opening.{AreOpened, IsNew};
 ghost use Rattle.book.specs.Sizes.{AreSizes, sizes_of};
 ghost use Rattle.host.specs.Opening.{IsClientPass, IsGear, IsHostFault, client_limit};
 ghost use Rattle.host.specs.declared.opened.HostFault.TheVariants.{NoMemory};
@@ -118,10 +118,11 @@ fn make_gate(alloc: Global, clients: usize) -> Result<(Gate, Vec<Pass>), HostFau
     }
 }
 
-/// What the threads of a host will share, a seat and a pass for each client, and a list of their partitions.
+/// What the threads of a host will share, a handle, a seat and a pass for each client, and a list of their partitions.
 #[derive(Drop)]
 struct Gear {
     partitions: Vec<u8>,
+    handles: Vec<Handle>,
     marks: Marks,
     owner: Seat,
     seats: Vec<Seat>,
@@ -129,10 +130,17 @@ struct Gear {
     passes: Vec<Pass>,
 }
 
-// All of it, for clients on these partitions.
-fn make_gear(alloc: Global, slots: usize, partitions: &[u8]) -> Result<Gear, HostFault>
+// All of it, for clients on these partitions, with their handles open on the stack.
+fn make_gear<A: Adapter>(
+    alloc: Global,
+    stack: &mut Stack<A>,
+    slots: usize,
+    partitions: &[u8],
+) -> Result<Gear, HostFault>
+    requires { IsNew stack.old }
     ensures few { IfOk result (λ _. length partitions.now ≤ client_limit) }
     ensures gear { IfOk result (λ gear. IsGear partitions.now slots gear) }
+    ensures opened { IfOk result (λ gear. AreOpened partitions.now gear.handles.items stack.old stack.new) }
     ensures fault { IfErr result (IsHostFault partitions.now) }
 {
     if partitions.len() > CLIENTS {
@@ -142,8 +150,14 @@ fn make_gear(alloc: Global, slots: usize, partitions: &[u8]) -> Result<Gear, Hos
     let (gate, passes) = make_gate(alloc, partitions.len())?;
     let mut kept = Vec::new(alloc);
     kept.extend_from_slice(partitions)?;
+    let handles = match open_handles(alloc, stack, partitions) {
+        Ok(handles) => handles,
+        Err(OpenFault::Refused(_)) => return Err(HostFault::NoPartition),
+        Err(OpenFault::NoMemory) => return Err(HostFault::NoMemory),
+    };
     Ok(Gear {
         partitions: kept,
+        handles,
         marks,
         owner,
         seats,
@@ -174,17 +188,12 @@ impl<A: Adapter> Opened<A> {
         ensures stack { IfOk result (λ o. (o.rules ≡ stack.rules) × (o.opening ≡ stack.state)) }
         ensures fault { IfErr result (IsHostFault partitions.now) }
     {
-        let gear = make_gear(alloc, slots, partitions)?;
         let mut stack = stack;
-        let handles = match open_handles(alloc, &mut stack, partitions) {
-            Ok(handles) => handles,
-            Err(OpenFault::Refused(_)) => return Err(HostFault::NoPartition),
-            Err(OpenFault::NoMemory) => return Err(HostFault::NoMemory),
-        };
+        let gear = make_gear(alloc, &mut stack, slots, partitions)?;
         let history = chronicle::Opened::new(alloc)?;
         Ok(Opened {
             stack,
-            handles,
+            handles: gear.handles,
             partitions: gear.partitions,
             sizes,
             slots,

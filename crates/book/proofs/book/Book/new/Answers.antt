@@ -4,10 +4,9 @@ use Rattle.book.proofs.book.Book.new.Goals as goal
 
 pub invariant_of-result : goal.invariant_of-result
 invariant_of-result g c =
-    let kept = c.reserve.ensures.kept in
-    let slots = c.in_ok-slots.ensures in
+    let made = c.in_ok-pages.ensures in
     record {
-      sound = sound_first _ _ _ _ _ _ _ c.requires.named c.requires.first (search rules) (search rules) (search rules) _ c.requires.count.1 slots.numbers slots.owner;
+      sound = sound_first _ _ _ _ _ _ _ c.requires.named c.requires.first made.pages.0 made.pages.1 made.pages.2 _ c.requires.count.1 made.numbers made.owner;
       tally = search rules;
       clients = c.requires.handles;
       same_sizes = c.requires.sizes.0;
