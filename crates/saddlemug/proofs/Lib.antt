@@ -1,3 +1,4 @@
 mod Failing
+mod Filling
 mod Texts
 pub mod Values

@@ -1,11 +1,12 @@
 //! Room for what C holds.
 
-ghost use Rattle.std.specs.Prelude.{◌≡◌, Option, Some, None, IsSome};
+ghost use Rattle.std.specs.Prelude.{◌≡◌, Option, Some, None, IsSome, MatchBool, nat_eq};
 ghost use Rattle.std.specs.Coded.{coded_option};
 ghost use Rattle.saddlemug.specs.declared.held.Held.{Held};
 
 use crate::held::Held;
 use crate::loose::Loose;
+use ntstatus::NtStatus;
 use std::alloc::Global;
 use std::marker::Model;
 
@@ -63,6 +64,21 @@ impl Slot {
         ensures { self.new.held ≡ Some held.value }
     {
         *self = Slot::of(Loose::of(held));
+    }
+
+    /// Puts something into an empty slot, in memory of its own. Answers 0, or the status where memory was refused; the slot
+    /// is then still empty.
+    pub fn fill(&mut self, alloc: Global, held: Held) -> u32
+        requires { self.old.held ≡ None }
+        ensures { MatchBool (nat_eq result 0) (self.new.held ≡ Some held) (self.new.held ≡ None) }
+    {
+        match Box::new(alloc, held) {
+            Ok(held) => {
+                self.put(held);
+                0
+            }
+            Err(_) => NtStatus::InsufficientResources.value(),
+        }
     }
 
     /// Takes out what is there.

@@ -21,13 +21,7 @@ pub extern "C" fn saddlemug_stack_open(alloc: Global, slot: &mut Slot, settings:
     ensures { MatchBool (nat_eq result 0) (HoldsStack (IsNewStack settings.now) slot.new.held) (slot.new.held ≡ None) }
 {
     match new_stack(alloc, settings) {
-        Ok(stack) => match Box::new(alloc, Held::Stack(stack)) {
-            Ok(held) => {
-                slot.put(held);
-                0
-            }
-            Err(_) => NtStatus::InsufficientResources.value(),
-        },
+        Ok(stack) => slot.fill(alloc, Held::Stack(stack)),
         Err(status) => status.value(),
     }
 }

@@ -36,13 +36,7 @@ pub extern "C" fn saddlemug_open(
     ensures { MatchBool (nat_eq result 0) (HoldsVolume (IsNewVolume settings.now partition) slot.new.held) (slot.new.held ≡ None) }
 {
     match new_volume(alloc, settings, partition) {
-        Ok(volume) => match Box::new(alloc, Held::Volume(volume)) {
-            Ok(held) => {
-                slot.put(held);
-                0
-            }
-            Err(_) => NtStatus::InsufficientResources.value(),
-        },
+        Ok(volume) => slot.fill(alloc, Held::Volume(volume)),
         Err(status) => status.value(),
     }
 }
