@@ -17,7 +17,7 @@ use Rattle.srb.specs.Fate.{Acted}
 use Rattle.machine.specs.Settled.{Settled, IsHeld, WaitsIfCancelled, Waits, IsAllSent, IsHeldBack, HasMore, IsAtWork, IsFull, IsWithin, started_count}
 use Rattle.machine.specs.Marks.{IsCounted, AreCounted}
 use Rattle.machine.specs.Step.{Run, as_label}
-use Rattle.device.specs.View.{DeviceView, Packet, OnTag, packet_number, piece_on_tag, label_places, IsOrderly}
+use Rattle.device.specs.View.{DeviceView, Packet, OnTag, packet_number, piece_on_tag, label_places, IsOrderly, IsTopmost}
 use Rattle.device.specs.Served.{Moves, IsUnfinished, IsFreshOn, IsActOrFault, ActsOrFaults, ActsNot, TakesLabel, IsAt}
 use Rattle.machine.proofs.Same.{Run-same, none_there}
 use Rattle.machine.proofs.Numbers.{AreDistinct-Run, AreDistinct-same}
@@ -28,7 +28,7 @@ use Rattle.class_disk.specs.declared.requests.DiskRoom.{DiskRoom}
 use Rattle.class_disk.specs.Joint.{Part, Below, Here, Known, known_of, Master, Joint, parts_marks, pieces_below, pieces_above, shown, above}
 use Rattle.class_disk.specs.Kept.{IsSound, Keeps, AreParts, IsMadeUp, HasSome, IsOver}
 use Rattle.class_disk.specs.Shown.{class_rules, IsPort, master_of, shown_state}
-use Rattle.class_disk.specs.Driver.{knowns, view_of, rooms_in, rooms_kept, most_over, AreKept, AreBelow, IsCoupled, IsInHand, AsksUnder, IsAskedBy, IsAsked, AreAsked, IsSpottedBy, IsSpotted, AreSpotted, IsTopmost}
+use Rattle.class_disk.specs.Driver.{knowns, view_of, rooms_in, rooms_kept, most_over, AreKept, AreBelow, IsCoupled, IsInHand, AsksUnder, IsAskedBy, IsAsked, AreAsked, IsSpottedBy, IsSpotted, AreSpotted}
 use Rattle.class_disk.proofs.CoupledRun.{Ran, run_coupled, Contains-map}
 use Rattle.class_disk.proofs.Showing.{shown_is}
 use Rattle.class_disk.proofs.Orderly.{on_tags, orderly_above, All-from_map}

@@ -16,7 +16,7 @@ use Rattle.machine.specs.Step.{Step}
 use Rattle.machine.proofs.Same.{IsSame-refl, IsSame-sym, IsSame-trans, Step-same}
 use Rattle.machine.proofs.Permuting.{IsPermutation-uncons}
 use Rattle.machine.proofs.Numbers.{AreDistinct-Step, AreDistinct-same}
-use Rattle.device.specs.View.{DeviceView, IsOrderly}
+use Rattle.device.specs.View.{DeviceView, IsOrderly, IsTopmost}
 use Rattle.device.specs.Served.{IsBeside}
 use Rattle.class_disk.specs.declared.parts.Progress.{Progress}
 use Rattle.class_disk.specs.declared.parts.Progress.TheVariants.{Ready, Below as SentBelow, Ended as HasEnded}
@@ -26,7 +26,7 @@ use Rattle.class_disk.specs.Kept.{AreParts, IsMadeUp, IsCancelledAs, AgreesOnCan
 use Rattle.class_disk.specs.Shown.{class_rules}
 use Rattle.class_disk.specs.Books.{Opened, Books, opened, all_open, put_at, ended_in, restarts_left}
 use Rattle.class_disk.specs.Turns.{cancelled_one}
-use Rattle.class_disk.specs.Driver.{note, known, knowns, view_of, packet_above, rooms_in, rooms_kept, most_over, IsAsked, IsAskedBy, AreAsked, AreSpotted, IsTopmost, IsOpen, AreKept, AreBelow, IsInHand, HaveCauses}
+use Rattle.class_disk.specs.Driver.{note, known, knowns, view_of, packet_above, rooms_in, rooms_kept, most_over, IsAsked, IsAskedBy, AreAsked, AreSpotted, IsOpen, AreKept, AreBelow, IsInHand, HaveCauses}
 use Rattle.class_disk.specs.Midway.{IsTaking, IsMidway, CancelsAll, packet_of_part, WithdrawsAll}
 use Rattle.class_disk.proofs.Focus as focus
 use Rattle.class_disk.proofs.CoupledSteps.{Cancels-above}

@@ -9,14 +9,14 @@ use Rattle.machine.specs.Marks.{AreCounted, IsCounted}
 use Rattle.machine.specs.Holding.{held_back}
 use Rattle.machine.proofs.Same.{IsSame-refl, IsSame-sym, IsSame-trans}
 use Rattle.machine.proofs.Numbers.{AreDistinct-same}
-use Rattle.device.specs.View.{DeviceView, IsOrderly}
+use Rattle.device.specs.View.{DeviceView, IsOrderly, IsTopmost}
 use Rattle.device.specs.Served.{DrainsAll}
 use Rattle.class_disk.specs.declared.requests.DiskRoom.{DiskRoom}
 use Rattle.class_disk.specs.Joint.{Joint, above, below}
 use Rattle.class_disk.specs.Kept.{IsSound, Keeps, NeverSent, EndedAre, IsOver, noted_busy}
 use Rattle.class_disk.specs.Shown.{class_rules}
 use Rattle.class_disk.specs.Books.{Books, all_open}
-use Rattle.class_disk.specs.Driver.{knowns, most_over, view_of, packet_above, IsTopmost, AreAsked, AreSpotted, AreBelow, IsInHand, HaveCauses, note}
+use Rattle.class_disk.specs.Driver.{knowns, most_over, view_of, packet_above, AreAsked, AreSpotted, AreBelow, IsInHand, HaveCauses, note}
 use Rattle.class_disk.specs.Midway.{IsTaking, IsMidway, WithdrawsAll}
 use Rattle.class_disk.proofs.CoupledRun.{sound_same}
 use Rattle.class_disk.proofs.Acting.{asked_still, spotted_still, shows}

@@ -10,7 +10,7 @@ use Rattle.machine.specs.State.{State}
 use Rattle.irp.specs.declared.Climb.{Climb}
 use Rattle.irp.specs.declared.Payload.{Payload}
 use Rattle.srb.specs.declared.DeviceLabel.{DeviceLabel}
-use Rattle.device.specs.View.{DeviceView, IsOrderly}
+use Rattle.device.specs.View.{DeviceView, IsOrderly, IsTopmost}
 use Rattle.device.specs.Served.{HandsUp}
 use Rattle.class_disk.specs.declared.parts.Part.{Part}
 use Rattle.class_disk.specs.declared.parts.Ended.{Ended}
@@ -22,7 +22,7 @@ use Rattle.class_disk.specs.Shown.{class_rules}
 use Rattle.class_disk.specs.Parts.{EndsBack, HasReason, unfinished_by}
 use Rattle.class_disk.specs.Books.{Opened, Books, all_open, ended_in, slot_in, part_in}
 use Rattle.class_disk.specs.Turns.{ended_part, ended_at, ended_books}
-use Rattle.class_disk.specs.Driver.{busy_left, note, note_by, known, knowns, rooms_in, rooms_kept, most_over, IsCause, IsAsked, IsSpotted, IsTopmost, IsOpen, AreKept, AreBelow}
+use Rattle.class_disk.specs.Driver.{busy_left, note, note_by, known, knowns, rooms_in, rooms_kept, most_over, IsCause, IsAsked, IsSpotted, IsOpen, AreKept, AreBelow}
 use Rattle.class_disk.specs.Midway.{IsTaking, IsMidway, TakesOne}
 use Rattle.class_disk.proofs.Retaking.{known_at}
 use Rattle.class_disk.proofs.Finishing.{notes_returned}

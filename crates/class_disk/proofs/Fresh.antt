@@ -13,7 +13,7 @@ use Rattle.machine.proofs.OnePiece.{AreOnePiece-opening}
 use Rattle.machine.proofs.Placed.{ArePlaced-opening}
 use Rattle.machine.proofs.Same.{IsSame-refl}
 use Rattle.machine.specs.Numbers.{HasPlaces}
-use Rattle.device.specs.View.{DeviceView, Packet, IsOrderly, WaitsForTag}
+use Rattle.device.specs.View.{DeviceView, Packet, IsOrderly, WaitsForTag, IsTopmost}
 use Rattle.device.specs.Served.{IsUnfinished}
 use Rattle.class_disk.specs.declared.Sizes.{Sizes}
 use Rattle.class_disk.specs.Joint.{Known, Master}
@@ -22,7 +22,7 @@ use Rattle.class_disk.specs.Shown.{class_rules, IsPort, joint_of}
 use Rattle.class_disk.specs.Books.{Books, Opened}
 use Rattle.class_disk.specs.Turns.{empty_books}
 use Rattle.class_disk.specs.Blocks.{AreSizes}
-use Rattle.class_disk.specs.Driver.{TakesParts, IsInHand, IsRoom, IsOpen, HaveCauses, AreAsked, AreSpotted, IsTopmost}
+use Rattle.class_disk.specs.Driver.{TakesParts, IsInHand, IsRoom, IsOpen, HaveCauses, AreAsked, AreSpotted}
 use Rattle.class_disk.specs.Opening.{IsFreshPort}
 
 -- a fresh port, written out

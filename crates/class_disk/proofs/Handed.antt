@@ -13,7 +13,7 @@ use Rattle.irp.specs.declared.Done.{Done}
 use Rattle.irp.specs.Climb.{Climbs}
 use Rattle.machine.specs.Answering.{information}
 use Rattle.srb.specs.declared.DeviceLabel.{DeviceLabel}
-use Rattle.device.specs.View.{DeviceView}
+use Rattle.device.specs.View.{DeviceView, IsTopmost}
 use Rattle.device.specs.Served.{HandsUp}
 use Rattle.class_disk.specs.declared.parts.Part.{Part}
 use Rattle.class_disk.specs.declared.parts.Progress.{Progress}
@@ -23,7 +23,7 @@ use Rattle.class_disk.specs.Joint.{Sent, Known, note_of, known_of, Master, Joint
 use Rattle.class_disk.specs.Shown.{class_rules}
 use Rattle.class_disk.specs.Parts.{unfinished_of, unfinished_by}
 use Rattle.class_disk.specs.Books.{Opened, Books, opened, all_open, ended_in, open_at, slot_in, part_in}
-use Rattle.class_disk.specs.Driver.{note_by, note, known, knowns, IsTopmost, IsOpen, AreNumberedFrom, IsNumberedBy}
+use Rattle.class_disk.specs.Driver.{note_by, note, known, knowns, IsOpen, AreNumberedFrom, IsNumberedBy}
 use Rattle.class_disk.specs.Midway.{IsMidway}
 use Rattle.class_disk.proofs.CoupledRun.{Contains-map}
 use Rattle.class_disk.proofs.CoupledSteps.{master_with}

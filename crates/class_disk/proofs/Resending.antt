@@ -20,7 +20,7 @@ use Rattle.irp.specs.declared.StackLocation.{StackLocation}
 use Rattle.irp.specs.Climb.{above as locations_above}
 use Rattle.srb.specs.declared.DeviceLabel.{DeviceLabel}
 use Rattle.srb.specs.declared.DeviceLabel.TheVariants.{Start, Act, Fault, Return}
-use Rattle.device.specs.View.{DeviceView, Packet, Carries, IsOrderly, packet_of, packet_number}
+use Rattle.device.specs.View.{DeviceView, Packet, Carries, IsOrderly, packet_of, packet_number, IsTopmost}
 use Rattle.device.specs.Served.{HandsUp, Submits, IsAt}
 use Rattle.class_disk.specs.declared.Sizes.{Sizes}
 use Rattle.class_disk.specs.declared.parts.Part.{Part}
@@ -34,7 +34,7 @@ use Rattle.class_disk.specs.Blocks.{AreSizes}
 use Rattle.class_disk.specs.Parts.{GoesAgain, rooms_of, room_by, restarts_of, unfinished_by}
 use Rattle.class_disk.specs.Books.{Opened, Books, opened, all_open, ended_in, restarts_left, slot_in, part_in, number_below, first_number, open_at, put_at}
 use Rattle.class_disk.specs.Turns.{next_number, spotted_books}
-use Rattle.class_disk.specs.Driver.{note, note_by, known, knowns, rooms_in, rooms_kept, most_over, IsAsked, IsAskedBy, IsSpotted, IsSpottedBy, IsTopmost, IsOpen, AreKept, AreBelow}
+use Rattle.class_disk.specs.Driver.{note, note_by, known, knowns, rooms_in, rooms_kept, most_over, IsAsked, IsAskedBy, IsSpotted, IsSpottedBy, IsOpen, AreKept, AreBelow}
 use Rattle.class_disk.specs.Midway.{IsTaking, IsMidway, TakesOne, CanSendAgain, SendsDownAgain}
 use Rattle.class_disk.proofs.Restarting.{noted_back}
 use Rattle.class_disk.proofs.NotedBusy.{noted_few}

@@ -17,7 +17,7 @@ use Rattle.machine.specs.Calling.{Opens, new_request}
 use Rattle.machine.specs.Numbers.{IsGiven, request_number}
 use Rattle.machine.specs.Step.{Run, as_label}
 use Rattle.machine.proofs.Permuting.{IsPermutation-uncons}
-use Rattle.device.specs.View.{DeviceView, Packet, IsOrderly, packet_of, packet_number, payload_bytes, sent_bytes}
+use Rattle.device.specs.View.{DeviceView, Packet, IsOrderly, packet_of, packet_number, payload_bytes, sent_bytes, IsTopmost}
 use Rattle.device.specs.Served.{Submits, IsAt}
 use Rattle.class_disk.specs.declared.parts.Part.{Part}
 use Rattle.class_disk.specs.declared.parts.Progress.{Progress}
@@ -25,7 +25,7 @@ use Rattle.class_disk.specs.declared.parts.Progress.TheVariants.{Ready, Below, E
 use Rattle.class_disk.specs.declared.requests.DiskRoom.{DiskRoom}
 use Rattle.class_disk.specs.Blocks.{part_count_of, part_request_of, data_length}
 use Rattle.class_disk.specs.Books.{Opened, Books, opened, all_open, ended_in, restarts_left, slot_in, part_in, open_at, put_at}
-use Rattle.class_disk.specs.Driver.{note, note_by, known, knowns, rooms_in, rooms_kept, most_over, packet_above, request_of_part, IsReadyPart, IsAsked, IsAskedBy, IsSpotted, IsSpottedBy, AreNumberedFrom, IsTopmost, IsBuffered, IsWritten}
+use Rattle.class_disk.specs.Driver.{note, note_by, known, knowns, rooms_in, rooms_kept, most_over, packet_above, request_of_part, IsReadyPart, IsAsked, IsAskedBy, IsSpotted, IsSpottedBy, AreNumberedFrom, IsBuffered, IsWritten}
 use Rattle.class_disk.specs.Joint.{IsPartOf, Note, Sent, Kept, Known, below_rules}
 use Rattle.class_disk.specs.Kept.{IsNothing, IsOver, HasSome}
 use Rattle.class_disk.specs.Midway.{IsTaking, GoesOn, IsOpening, OpeningSoFar, SendsDown}

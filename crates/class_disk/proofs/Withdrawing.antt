@@ -14,7 +14,7 @@ use Rattle.machine.specs.Step.{Run, as_label}
 use Rattle.irp.specs.declared.Climb.{Climb}
 use Rattle.irp.specs.declared.Payload.{Payload}
 use Rattle.srb.specs.declared.DeviceLabel.{DeviceLabel}
-use Rattle.device.specs.View.{DeviceView, Packet, IsOrderly}
+use Rattle.device.specs.View.{DeviceView, Packet, IsOrderly, IsTopmost}
 use Rattle.device.specs.Served.{HandsUp, IsAt}
 use Rattle.class_disk.specs.declared.parts.Part.{Part}
 use Rattle.class_disk.specs.declared.parts.Ended.{Ended}
@@ -27,7 +27,7 @@ use Rattle.class_disk.specs.Kept.{NeverSent, IsIfEnded, EndedAre, IsOver, IsOver
 use Rattle.class_disk.specs.Shown.{class_rules}
 use Rattle.class_disk.specs.Books.{Opened, Books, opened, all_open, slot_in, part_in}
 use Rattle.class_disk.specs.Turns.{ended_part, ended_at, ended_books}
-use Rattle.class_disk.specs.Driver.{places_of, note, note_by, known, knowns, rooms_in, rooms_kept, most_over, IsAsked, IsAskedBy, AreAsked, IsSpotted, IsSpottedBy, AreSpotted, IsTopmost, IsOpen, IsNumberedBy, AreNumberedFrom, AreBelow, IsCause}
+use Rattle.class_disk.specs.Driver.{places_of, note, note_by, known, knowns, rooms_in, rooms_kept, most_over, IsAsked, IsAskedBy, AreAsked, IsSpotted, IsSpottedBy, AreSpotted, IsOpen, IsNumberedBy, AreNumberedFrom, AreBelow, IsCause}
 use Rattle.class_disk.specs.Midway.{IsTaking, IsMidway, WithdrawsOne}
 use Rattle.class_disk.proofs.Retaking.{known_at, FoundBy, found_by, IsTimely, all_timely}
 use Rattle.class_disk.proofs.Keeping.{there}

@@ -8,7 +8,7 @@ use Rattle.machine.specs.Rules.{Rules, place_count, as_client}
 use Rattle.machine.specs.State.{Mark, Untouched, Done, Failed, Back, OpenRequest, IsSame}
 use Rattle.machine.specs.Marks.{AreCounted}
 use Rattle.machine.specs.Settled.{Settled}
-use Rattle.device.specs.View.{DeviceView, Packet, Carries, packet_of, payload_bytes, sent_bytes, transfer_length, IsOrderly, IsBounded}
+use Rattle.device.specs.View.{DeviceView, IsTopmost, Packet, Carries, packet_of, payload_bytes, sent_bytes, transfer_length, IsOrderly, IsBounded}
 use Rattle.device.specs.Served.{sectors_moved, IsUnfinished, IsAt}
 use Rattle.class_disk.specs.declared.parts.Part.{Part}
 use Rattle.class_disk.specs.declared.parts.Progress.{Progress}
@@ -53,10 +53,6 @@ IsCause cancelled removing busy (IsBad status) = status ≢ Success
 IsCause cancelled removing busy (Busy told) =
     (IsTrue cancelled × (told ≡ Cancelled)) ⊎ (IsTrue removing × (told ≡ NoSuchDevice)) ⊎ ((17 ≤ busy) × (told ≡ DeviceBusy))
 IsCause cancelled removing busy (Withdrawn told) = (IsTrue cancelled × (told ≡ Cancelled)) ⊎ (IsTrue removing × (told ≡ NoSuchDevice))
-
--- the packet has no location above
-abbrev pub IsTopmost : Packet → Type 0
-IsTopmost packet = packet.above ≡ []
 
 module _ {R : Type 0} where
   -- as many places as a part has

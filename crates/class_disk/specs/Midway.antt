@@ -10,7 +10,7 @@ use Rattle.machine.specs.State.{OpenRequest, State, IsSame}
 use Rattle.machine.specs.Marks.{AreCounted}
 use Rattle.machine.specs.Sending.{IsStart}
 use Rattle.machine.specs.Step.{Run, as_label}
-use Rattle.device.specs.View.{DeviceView, Carries, IsBounded, packet_of}
+use Rattle.device.specs.View.{DeviceView, Carries, IsBounded, packet_of, IsTopmost}
 use Rattle.device.specs.Served.{Submits, StaysOpen, HandsUpNone, CancelsAt}
 use Rattle.class_disk.specs.declared.parts.Part.{Part}
 use Rattle.class_disk.specs.declared.parts.Place.{Place}
@@ -25,7 +25,7 @@ use Rattle.class_disk.specs.Blocks.{IsCuttable, part_count_of, part_request_of, 
 use Rattle.class_disk.specs.Parts.{HasBuffers, IsDown, below_by, restarts_of}
 use Rattle.class_disk.specs.Books.{Opened, Books, slot_limit, part_limit, first_number, opened, ended_in, all_open, restarts_left, open_at}
 use Rattle.class_disk.specs.Turns.{IsReadyAt, CanNumber, next_number, SendsPart, SendsPartAgain, spotted_books}
-use Rattle.class_disk.specs.Driver.{known, knowns, rooms_in, rooms_kept, packet_above, most_over, room_slot, IsReadyPart, IsRoom, IsOpen, IsOpenCut, IsBuffered, IsWritten, HaveCauses, AreNumbered, WentInTurn, AreAsked, AreSpotted, IsTopmost, TakesParts, AreKept, AreBelow}
+use Rattle.class_disk.specs.Driver.{known, knowns, rooms_in, rooms_kept, packet_above, most_over, room_slot, IsReadyPart, IsRoom, IsOpen, IsOpenCut, IsBuffered, IsWritten, HaveCauses, AreNumbered, WentInTurn, AreAsked, AreSpotted, TakesParts, AreKept, AreBelow}
 
 -- from the first state above on, by these labels: both machines now, and what the class driver knows
 pub record IsTaking (rules : Rules) (first : State) (labels : List DeviceLabel) (s : State) (ks : List Known) : Type 0 where

@@ -4,8 +4,6 @@ ghost use Rattle.std.specs.Prelude.{◌≡◌, ◌==◌, ◌<◌, ◌≤◌, ◌
 ghost use Rattle.ntstatus.specs.declared.NtStatus.TheVariants.{Success, DeviceBusy};
 ghost use Rattle.irp.specs.declared.Payload.TheVariants.{Buffer};
 ghost use Rattle.machine.specs.declared.Kind.TheVariants.{Read};
-ghost use Rattle.machine.specs.Rules.{Rules, as_client};
-ghost use Rattle.machine.specs.Answering.{information as information_of};
 ghost use Rattle.class_disk.specs.declared.parts.Part.{Part};
 ghost use Rattle.class_disk.specs.declared.parts.Place.{Place};
 ghost use Rattle.class_disk.specs.declared.parts.Progress.TheVariants.{Ready, Below as SentBelow};
@@ -16,7 +14,7 @@ ghost use Rattle.class_disk.specs.Turns.{with_part, sent_part, new_opened, IsRea
 use crate::Sizes;
 use crate::blocks::{byte_count, packet_for, srb_for};
 use crate::parts::{Ended, Outcome, Part, Place};
-use device::{Kind, Request};
+use device::{Kind, Request, information};
 use irp::{Climb, Irp, Payload, complete};
 use ntstatus::NtStatus;
 use sector::Bytes;
@@ -83,18 +81,6 @@ fn carried_up<R: Drop>(payload: Payload, joins: bool, parts: &[Part<R>]) -> Payl
     match (payload, joins) {
         (Payload::Buffer(bytes), true) => Payload::Buffer(joined(bytes, parts)),
         (payload, _) => payload,
-    }
-}
-
-/// The bytes that a request has moved: all where it succeeds (WDK: IO_STATUS_BLOCK, Information).
-fn information(sizes: &Sizes, request: &Request, status: NtStatus) -> u64
-    requires { request.now.extent.count * sizes.now.sector_size < 2 ^ 64 }
-    ensures { (rules : Rules) → rules.sector_size ≡ sizes.now.sector_size → result ≡ information_of (as_client rules request.now []) status }
-{
-    match (status, request.kind) {
-        (NtStatus::Success, Kind::Read | Kind::Write) => request.extent.count
-            * sizes.sector_size as u64,
-        _ => 0,
     }
 }
 
@@ -222,7 +208,7 @@ impl<R: Drop> Transfer<R> {
         ensures { Completes sizes.now slot (opened_of self) result.0 result.1 }
     {
         let status = self.status();
-        let information = information(sizes, &self.request, status);
+        let information = information(sizes.sector_size, &self.request, status);
         let Transfer {
             mut irp,
             request,

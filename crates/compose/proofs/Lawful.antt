@@ -20,7 +20,7 @@ use Rattle.machine_laws.specs.WriteLaws.{StepsKeepArrays, StepsKeepSectors}
 use Rattle.machine_laws.specs.EndLaws.{AnsweredWriteNoMore}
 use Rattle.io_manager.specs.declared.Reply.{Reply}
 use Rattle.io_manager.specs.Shown.{ManagerView}
-use Rattle.io_manager.specs.Inside.{KeepsOutside}
+use Rattle.device.specs.View.{KeepsOutside}
 use Rattle.io_manager.specs.Right.{Told, IsRightBy, IsRight as IsRightCall}
 use Rattle.compose.specs.declared.Event.{Event}
 use Rattle.compose.specs.declared.Event.TheVariants.{Open, Close, Read as ReadEvent, Write as WriteEvent, Flush as FlushEvent, CancelIoEx, Mark, QueryRemove, CancelRemove, Remove, SurpriseRemove, Act, Finish, Reset}

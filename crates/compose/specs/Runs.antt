@@ -21,7 +21,7 @@ use Rattle.machine_laws.specs.Reached.{IsReached}
 use Rattle.machine_laws.specs.Sectors.{sector_at, WritesPartition, WritesSector}
 use Rattle.machine_laws.specs.WriteLaws.{IsWriteAt}
 use Rattle.io_manager.specs.Shown.{ManagerView}
-use Rattle.io_manager.specs.Inside.{KeepsOutside}
+use Rattle.device.specs.View.{KeepsOutside}
 use Rattle.io_manager.specs.Right.{FitsTogether}
 use Rattle.compose.specs.declared.Event.{Event}
 use Rattle.compose.specs.declared.Shown.{Shown}

@@ -1,5 +1,7 @@
 -- What a layer shows of itself.
-use Rattle.std.specs.Prelude.{◌≡◌, ◌<◌, ◌≤◌, ◌⊎◌, ℕ, ◌+◌, ◌-◌, ◌*◌, Bool, true, false, List, [], Option, Some, None, map, length, count_by, IsNone, IsTrue, IsFalse, All, IsPermutation, if◌then◌else◌}
+use Rattle.std.specs.Prelude.{◌≡◌, ◌<◌, ◌≤◌, ◌⊎◌, ℕ, ◌+◌, ◌-◌, ◌*◌, Bool, true, false, List, [], Option, Some, None, map, length, count_by, IsNone, IsTrue, IsFalse, All, Any, IsPermutation, slice_get, if◌then◌else◌}
+use Rattle.sector.specs.declared.Extent.{Extent}
+use Rattle.sector.specs.Extents.{IsIn}
 use Rattle.cdb.specs.declared.Cdb.{Cdb}
 use Rattle.cdb.specs.Meaning.{Means}
 use Rattle.srb.specs.declared.Srb.{Srb}
@@ -44,6 +46,10 @@ packet_number packet = packet.number
 abbrev pub packet_of : Irp → ℕ → Packet
 packet_of irp spot = record { number = irp.number; spot = spot; above = locations_above irp; cancel_routine = cancel_routine_of irp }
 
+-- no driver above asks for this packet
+abbrev pub IsTopmost : Packet → Type 0
+IsTopmost packet = packet.above ≡ []
+
 -- what a layer shows: its machine, its packets and the adapter below
 pub record DeviceView : Type 0 where
   pub rules : Rules
@@ -55,6 +61,11 @@ pub record DeviceView : Type 0 where
   pub most : ℕ
   -- the adapter below, with the labels that it recorded and that nobody took yet
   pub adapter : AdapterView
+
+-- the sectors of no partition stay as they are
+abbrev pub KeepsOutside : List Extent → AdapterView → AdapterView → Type 0
+KeepsOutside partitions old new =
+    (sector : ℕ) → (Any (IsIn sector) partitions → ⊥) → slice_get new.sectors sector ≡ slice_get old.sectors sector
 
 -- A REQUEST AND ITS PACKET
 

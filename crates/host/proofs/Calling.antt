@@ -19,7 +19,7 @@ use Rattle.compose.specs.declared.Event.{Event}
 use Rattle.compose.specs.declared.Event.TheVariants.{Read as ReadEvent, Write as WriteEvent, Flush as FlushEvent}
 use Rattle.io_manager.specs.declared.Reply.{Reply}
 use Rattle.io_manager.specs.declared.Reply.TheVariants.{Handle as HandleReply, Ok as OkReply, Request as Requested, Answered, Refused, Ignored}
-use Rattle.io_manager.specs.Calls.{are_used_up, bytes_called, call_on, partition_at, partition_of, status_of_refusal, without_bytes}
+use Rattle.io_manager.specs.Calls.{are_used_up, bytes_called, call_on, partition_at, partition_of, status_of_refusal, without_bytes, IsWant}
 use Rattle.io_manager.specs.Right.{IsRight, CallReplies, IsAdmitted, IsAnsweredAtOnce as AnswersAtOnce, IsSlotOf, IsTurnedAway, Told, TransferReplies, as_answer, end_labels, labels_of}
 use Rattle.io_manager.specs.Shown.{ManagerView}
 use Rattle.book.specs.declared.Entry.{Entry}
@@ -31,7 +31,7 @@ use Rattle.book.specs.Opening.{IsOpenOn}
 use Rattle.book.specs.Book.{BookView, AreLooked, HasCounted as Counts, IsServed, IsWanting, bytes_of, pages_of}
 use Rattle.host.specs.declared.call.Call.{Call}
 use Rattle.host.specs.declared.call.Call.TheVariants.{Read, Write, Flush}
-use Rattle.host.specs.Calls.{FindsCall, HasCounted, IsAnsweredAtOnce, IsOpened, IsTold, LeavesNoLabel, Stands, asked, buffer_of, event_of, request_of}
+use Rattle.host.specs.Calls.{FindsCall, HasCounted, IsAnsweredAtOnce, IsOpened, IsTold, Stands, asked, buffer_of, event_of, request_of}
 use Rattle.host.proofs.Quiet.{NoCalls, Still, quiet, rest_calls_none, still_all}
 
 -- PLACES
@@ -236,7 +236,7 @@ module _ (slots : ℕ) (old mid new : BookView) (before after : ShareView) (q : 
   no_labels : stepped.labels ≡ [] → (new.entries ≡ mid.entries) × (new.owners ≡ mid.owners)
   no_labels none = (carried.entries ∙ ap (λ ls. (noted_all before.client (pages_of mid) ls).entries) none, carried.owners ∙ ap (λ ls. (noted_all before.client (pages_of mid) ls).owners) none)
 
-  turned_away : (reason : Refusal) (stepped' : ManagerView) (told : Told) → IsTurnedAway mid.stack q reason stepped' told → (labels_of told ≡ []) × LeavesNoLabel reason
+  turned_away : (reason : Refusal) (stepped' : ManagerView) (told : Told) → IsTurnedAway mid.stack q reason stepped' told → (labels_of told ≡ []) × IsWant reason
   turned_away DeviceBusy stepped' told t = (ap labels_of t.1.nothing, tt)
   turned_away InsufficientResources stepped' told t = (ap labels_of t.2.nothing, tt)
   turned_away InvalidHandle stepped' told t = absurd t

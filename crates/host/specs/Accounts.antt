@@ -4,7 +4,7 @@ use Rattle.machine.specs.declared.ClientRequest.{ClientRequest}
 use Rattle.machine.specs.declared.Label.TheVariants.{Call as CallLabel, Answer as AnswerLabel}
 use Rattle.io_manager.specs.declared.OpenHandle.{OpenHandle}
 use Rattle.io_manager.specs.declared.Refusal.{Refusal as Why}
-use Rattle.io_manager.specs.Calls.{status_of_refusal, without_bytes}
+use Rattle.io_manager.specs.Calls.{status_of_refusal, without_bytes, IsWant}
 use Rattle.io_manager.specs.Right.{as_answer}
 use Rattle.book.specs.Opening.{IsOpenOn}
 use Rattle.book.specs.Shares.{ShareView}
@@ -15,7 +15,7 @@ use Rattle.host.specs.declared.call.Reason.{Reason}
 use Rattle.host.specs.declared.call.Reason.TheVariants.{Refused, TooManyTickets}
 use Rattle.host.specs.declared.call.Refusal.{Refusal}
 use Rattle.host.specs.Receipts.{Receipt, ReceiptsView, AreBelow, AreCalls, AreAnswers, AreRising, receipt}
-use Rattle.host.specs.Calls.{LeavesNoLabel, buffer_of, request_of}
+use Rattle.host.specs.Calls.{buffer_of, request_of}
 use Rattle.host.specs.Tickets.{TicketView}
 
 pub record AccountView : Type 0 where
@@ -55,7 +55,7 @@ pub record AreAnsweredAt (partition : ℕ) (call : Call) (reason : Why) (places 
 
 -- a call that the book turned down: with two labels, or with none
 abbrev pub HasLabels : ℕ → AccountView → Call → Reason → Option Places → AccountView → Type 0
-HasLabels partition old call (Refused reason) None new = LeavesNoLabel reason × (new.called.list ≡ old.called.list) × (new.answered.list ≡ old.answered.list)
+HasLabels partition old call (Refused reason) None new = IsWant reason × (new.called.list ≡ old.called.list) × (new.answered.list ≡ old.answered.list)
 HasLabels partition old call (Refused reason) (Some places) new = AreAnsweredAt partition call reason places old.share.client old.called.list old.answered.list new.called.list new.answered.list
 HasLabels partition old call TooManyTickets places new = ⊥
 

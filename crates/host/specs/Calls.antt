@@ -7,11 +7,9 @@ use Rattle.machine.specs.declared.Label.{Label}
 use Rattle.machine.specs.declared.Label.TheVariants.{Call as CallLabel, Answer as AnswerLabel}
 use Rattle.machine_laws.specs.NumberLaws.{AnswersOnce, AnswersWereCalled, CallsOnce}
 use Rattle.io_manager.specs.declared.Handle.{Handle}
-use Rattle.io_manager.specs.declared.Refusal.{Refusal}
-use Rattle.io_manager.specs.declared.Refusal.TheVariants.{DeviceBusy, InsufficientResources}
 use Rattle.io_manager.specs.declared.Reply.{Reply}
 use Rattle.io_manager.specs.declared.Reply.TheVariants.{Request as Requested, Answered, Refused}
-use Rattle.io_manager.specs.Calls.{bytes_called, status_of_refusal, without_bytes}
+use Rattle.io_manager.specs.Calls.{IsWant, bytes_called, status_of_refusal, without_bytes}
 use Rattle.io_manager.specs.Right.{as_answer}
 use Rattle.compose.specs.declared.Event.{Event}
 use Rattle.compose.specs.declared.Event.TheVariants.{Read as ReadEvent, Write as WriteEvent, Flush as FlushEvent}
@@ -80,19 +78,13 @@ pub record IsAnsweredAtOnce (old new : ShareView) (q : ClientRequest) (entries :
   pub called : Stands entries place (CallLabel number (without_bytes q)) old.client
   pub answered : Stands entries (place + 1) answer old.client
 
--- a call that left no label: there was no number or no memory for it
-abbrev pub LeavesNoLabel : Refusal → Type 0
-LeavesNoLabel DeviceBusy = Unit {0}
-LeavesNoLabel InsufficientResources = Unit {0}
-LeavesNoLabel _ = ⊥
-
 -- what the trace tells of a call, by its reply and the place of its label
 abbrev pub IsTold : ℕ → ShareView → ShareView → ClientRequest → List ℕ → List Entry → Reply → Option ℕ → Type 0
 IsTold slots old new q buffer entries (Requested id) (Some place) = IsOpened slots old new q entries id.slot id.number place
 IsTold slots old new q buffer entries (Answered answer) (Some place) = IsAnsweredAtOnce old new q entries answer.number (as_answer answer) place
 IsTold slots old new q buffer entries (Refused reason bytes) (Some place) =
     (bytes ≡ buffer) × ((number : ℕ) × IsAnsweredAtOnce old new q entries number (AnswerLabel number (status_of_refusal reason) 0 []) place)
-IsTold slots old new q buffer entries (Refused reason bytes) None = (bytes ≡ buffer) × LeavesNoLabel reason × HasCounted old 0 new
+IsTold slots old new q buffer entries (Refused reason bytes) None = (bytes ≡ buffer) × IsWant reason × HasCounted old 0 new
 IsTold slots old new q buffer entries _ _ = ⊥
 
 -- WHAT IS TOLD OF AN ANSWER

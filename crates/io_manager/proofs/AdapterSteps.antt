@@ -8,7 +8,7 @@ use Rattle.srb.specs.declared.DeviceLabel.TheVariants.{Return}
 use Rattle.machine.specs.Rules.{Rules}
 use Rattle.machine.specs.Sending.{IsStart}
 use Rattle.machine.specs.Settled.{Settled}
-use Rattle.device.specs.View.{DeviceView}
+use Rattle.device.specs.View.{DeviceView, KeepsOutside}
 use Rattle.adapter.specs.View.{AdapterView, MovesByAll}
 use Rattle.device.specs.Served.{Resets, fault_of, Moves, ActsOrFaults, ActsNot, Finishes, FinishesNot}
 use Rattle.machine.proofs.Same.{IsSame-refl}
@@ -18,7 +18,7 @@ use Rattle.io_manager.specs.declared.Limits.{Limits}
 use Rattle.io_manager.specs.declared.Reply.TheVariants.{Ok as OkReply, Ignored}
 use Rattle.io_manager.specs.declared.tables.Tables.{Tables}
 use Rattle.io_manager.specs.Shown.{ManagerView}
-use Rattle.io_manager.specs.Inside.{KeepsOutside, AllWriteInside}
+use Rattle.io_manager.specs.Inside.{AllWriteInside}
 use Rattle.io_manager.specs.Right.{Told, SameHandles, AdapterMoves, tells_nothing, IsRight, IsRightReset, IsRightBy, ActReplies, FinishReplies}
 use Rattle.io_manager.specs.Sound.{view_of, AsksInside, IsSound, TakesLabels, Collects, ManagerKept}
 use Rattle.io_manager.proofs.AdapterJoins.{labels_moved, reset_joined}

@@ -15,7 +15,7 @@ use Rattle.machine.specs.Numbers.{request_number, IsGiven, AreDistinct}
 use Rattle.machine.proofs.Places.{taken_in}
 use Rattle.pnp.specs.declared.State.{State as PnpState}
 use Rattle.pnp.specs.declared.State.TheVariants.{Started, RemovePending, Removing, Removed}
-use Rattle.device.specs.View.{DeviceView, Packet, sent_bytes}
+use Rattle.device.specs.View.{DeviceView, Packet, sent_bytes, IsTopmost}
 use Rattle.machine.proofs.Same.{IsSame-sym}
 use Rattle.io_manager.specs.declared.Answer.{Answer}
 use Rattle.io_manager.specs.declared.Handle.{Handle}
@@ -26,7 +26,7 @@ use Rattle.io_manager.specs.declared.tables.Tables.{Tables}
 use Rattle.io_manager.specs.Calls.{number_limit}
 use Rattle.io_manager.specs.Ordering.{HasOtherNumber}
 use Rattle.io_manager.specs.Chains.{IsOpenIn}
-use Rattle.io_manager.specs.Sound.{rules_of, shown_state, is_gone, view_of, IsHeldAt, AreHeld, IsTopmost, IsSpotted, WasGiven, AreApart, IsInState, IsSound}
+use Rattle.io_manager.specs.Sound.{rules_of, shown_state, is_gone, view_of, IsHeldAt, AreHeld, IsSpotted, WasGiven, AreApart, IsInState, IsSound}
 use Rattle.io_manager.specs.Admitting.{request_of, HasCopies, Admits, SendsDown, IsAdmissible}
 use Rattle.io_manager.proofs.Chained.{AreChained-more}
 use Rattle.io_manager.proofs.Numbered.{AreNumbered-more}

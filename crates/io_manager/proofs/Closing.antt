@@ -18,12 +18,12 @@ use Rattle.machine.specs.declared.Request.{Request}
 use Rattle.machine.specs.State.{Mark, OpenRequest as OpenBelow}
 use Rattle.machine.specs.Answering.{answer_bytes, is_done}
 use Rattle.machine.specs.Numbers.{AreDistinct, IsGiven, request_number}
-use Rattle.device.specs.View.{DeviceView, payload_bytes}
+use Rattle.device.specs.View.{DeviceView, payload_bytes, IsTopmost}
 use Rattle.device.specs.Served.{HandsUp}
 use Rattle.io_manager.specs.declared.tables.OpenRequest.{OpenRequest}
 use Rattle.io_manager.specs.declared.tables.Tables.{Tables}
 use Rattle.io_manager.specs.Chains.{TakesOut, IsWaiting, AreChained, AreNumbered}
-use Rattle.io_manager.specs.Sound.{IsHeldAt, AreHeld, IsTopmost}
+use Rattle.io_manager.specs.Sound.{IsHeldAt, AreHeld}
 use Rattle.io_manager.specs.Collecting.{IsAt, AreFilled, Closes, brought}
 use Rattle.io_manager.proofs.Chained.{IsKept, AreChained-same, AreChained-less}
 use Rattle.io_manager.proofs.Numbered.{AreNumbered-less}

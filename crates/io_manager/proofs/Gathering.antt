@@ -17,7 +17,7 @@ use Rattle.machine.specs.Rules.{Rules}
 use Rattle.machine.specs.State.{OpenRequest as OpenBelow, State}
 use Rattle.machine.specs.Answering.{AnswersWith, information}
 use Rattle.machine.specs.Numbers.{AreDistinct, HavePlaces, request_number}
-use Rattle.device.specs.View.{DeviceView, IsOrderly, payload_bytes}
+use Rattle.device.specs.View.{DeviceView, IsOrderly, payload_bytes, IsTopmost}
 use Rattle.machine.specs.Sending.{IsStart}
 use Rattle.device.specs.Served.{HandsUp}
 use Rattle.machine.specs.Settled.{Settled}
@@ -32,7 +32,7 @@ use Rattle.io_manager.specs.Shown.{Holder}
 use Rattle.io_manager.specs.Ordering.{inserted, HasOtherNumber}
 use Rattle.io_manager.specs.Right.{as_answer, unless_answered, end_labels}
 use Rattle.io_manager.specs.Chains.{AreChained, AreCounted}
-use Rattle.io_manager.specs.Sound.{HasPlaces, WasGiven, AreApart, AreHeld, IsTopmost, IsSpotted, IsInState, EndsIf, IsSound, IsSoundWith, SamePlaces, Collects, holder_of}
+use Rattle.io_manager.specs.Sound.{HasPlaces, WasGiven, AreApart, AreHeld, IsSpotted, IsInState, EndsIf, IsSound, IsSoundWith, SamePlaces, Collects, holder_of}
 use Rattle.io_manager.specs.Collecting.{Closes, EndsRemoval, TakesEnded, Gathers, brought, answer_for, unlabelled}
 use Rattle.io_manager.proofs.AdapterJoins.{labels_moved}
 use Rattle.io_manager.proofs.Askings.{KeepsAsked, KeepsAsked-same, KeepsAsked-trans, asks_same, as_many, run_keeps, AreHeld-along}

@@ -16,7 +16,7 @@ use Rattle.machine.specs.Numbers.{AreDistinct, request_number}
 use Rattle.machine.specs.Step.{Run}
 use Rattle.machine.proofs.Permuting.{distinct_first}
 use Rattle.machine.proofs.Same.{IsSame-refl, IsSame-sym, Run-append}
-use Rattle.device.specs.View.{DeviceView, Packet, IsOrderly, packet_number}
+use Rattle.device.specs.View.{DeviceView, Packet, IsOrderly, packet_number, IsTopmost}
 use Rattle.device.specs.Served.{IsAt, IsBeside, CancelsAt, NoneToCancel}
 use Rattle.io_manager.specs.declared.Answer.{Answer}
 use Rattle.io_manager.specs.declared.Limits.{Limits}
@@ -27,7 +27,7 @@ use Rattle.io_manager.specs.Cancelling.{as_marked, IsLowestToMark, MarksAt, Canc
 use Rattle.io_manager.specs.Chains.{of_handle}
 use Rattle.io_manager.specs.Ordering.{HasOtherNumber}
 use Rattle.io_manager.specs.Right.{as_cancel, AreRising, IsAbove}
-use Rattle.io_manager.specs.Sound.{holder_of, holders_of, IsHeldAt, AreHeld, IsTopmost, IsSpotted, AreApart, IsSound}
+use Rattle.io_manager.specs.Sound.{holder_of, holders_of, IsHeldAt, AreHeld, IsSpotted, AreApart, IsSound}
 use Rattle.io_manager.specs.declared.chains.Chains.{Chains}
 use Rattle.io_manager.specs.Chains.{IsNumbered, AreNumbered}
 use Rattle.io_manager.proofs.Linked.{AreLinked-still}

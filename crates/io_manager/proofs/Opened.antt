@@ -12,7 +12,7 @@ use Rattle.adapter.specs.View.{TagInUse}
 use Rattle.pnp.specs.declared.State.{State as PnpState}
 use Rattle.pnp.specs.declared.State.TheVariants.{Started, Removing}
 use Rattle.machine.specs.Settled.{Settled, IsHeld, WaitsIfCancelled, Waits, IsAllSent, IsHeldBack, HasMore, IsAtWork, IsWithin}
-use Rattle.device.specs.View.{DeviceView, IsOrderly, piece_on_tag, use_on_tag}
+use Rattle.device.specs.View.{DeviceView, IsOrderly, piece_on_tag, use_on_tag, IsTopmost}
 use Rattle.machine.proofs.Same.{IsSame-refl}
 use Rattle.machine_laws.specs.Reached.{AreWhole, IsReached}
 use Rattle.io_manager.specs.declared.Limits.{Limits}
@@ -21,7 +21,7 @@ use Rattle.io_manager.specs.declared.Answer.{Answer}
 use Rattle.io_manager.specs.declared.tables.OpenRequest.{OpenRequest}
 use Rattle.io_manager.specs.Right.{AreRising, answer_number}
 use Rattle.io_manager.specs.Inside.{WritesInside}
-use Rattle.io_manager.specs.Sound.{rules_of, shown_state, is_gone, holders_of, view_of, FitsBelow, HasNumbers, IsHeldAt, AreHeld, HasPlaces, IsTopmost, IsSpotted, WasGiven, IsInState, IsSound, ManagerKept}
+use Rattle.io_manager.specs.Sound.{rules_of, shown_state, is_gone, holders_of, view_of, FitsBelow, HasNumbers, IsHeldAt, AreHeld, HasPlaces, IsSpotted, WasGiven, IsInState, IsSound, ManagerKept}
 use Rattle.io_manager.specs.Opening.{IsUnasked, AreFor, AreEmpty, IsFirstView}
 use Rattle.io_manager.specs.Chains.{IsNumbered}
 use Rattle.io_manager.proofs.Linked.{AreLinked-empty}

@@ -28,7 +28,8 @@ use Rattle.machine.specs.Solo.{past}
 use Rattle.machine.proofs.Placed.{get_or-splice_below, get_or-splice_above}
 use Rattle.machine_laws.proofs.Serving.{IsSized}
 use Rattle.machine_laws.proofs.Sound.{IsSound, IsSound-Step}
-use Rattle.io_manager.specs.Inside.{KeepsOutside, LieIn, WritesInside, AllWriteInside}
+use Rattle.device.specs.View.{KeepsOutside}
+use Rattle.io_manager.specs.Inside.{LieIn, WritesInside, AllWriteInside}
 use Rattle.io_manager.proofs.Askings.{all_asked, device_keeps}
 
 -- A LIST OF PARTITIONS

@@ -19,7 +19,7 @@ use Rattle.machine.specs.Sending.{IsStart}
 use Rattle.machine.specs.Holding.{beyond, held_back, as_timely}
 use Rattle.machine.specs.Step.{FreeStep, Run, as_label}
 use Rattle.machine.proofs.Same.{IsSame-refl}
-use Rattle.device.specs.View.{DeviceView}
+use Rattle.device.specs.View.{DeviceView, IsTopmost}
 use Rattle.device.specs.Served.{IsBeside, PausesAll, ResumesAll, DrainsAll}
 use Rattle.pnp.specs.declared.State.{State as PnpState}
 use Rattle.pnp.specs.declared.State.TheVariants.{Started, RemovePending, Removing, Removed}
@@ -32,7 +32,7 @@ use Rattle.io_manager.specs.declared.Reply.TheVariants.{Ok as OkReply, Refused}
 use Rattle.io_manager.specs.declared.tables.Tables.{Tables}
 use Rattle.io_manager.specs.Shown.{ManagerView}
 use Rattle.io_manager.specs.Right.{Told, SameHandles, tells_nothing, TellsOne, pnp_state, IsInvalid, IsRecalled, PnpReplies, RecallReplies, IsRight}
-use Rattle.io_manager.specs.Sound.{rules_of, shown_state, is_gone, view_of, IsTopmost, IsSpotted, IsInState, IsSound, HasNoneToStart, Collects, ManagerKept}
+use Rattle.io_manager.specs.Sound.{rules_of, shown_state, is_gone, view_of, IsSpotted, IsInState, IsSound, HasNoneToStart, Collects, ManagerKept}
 use Rattle.io_manager.proofs.AdapterJoins.{labels_moved}
 use Rattle.io_manager.proofs.Askings.{AsksSame, asked, AreHeld-along}
 use Rattle.io_manager.proofs.Fitted.{FitsBelow-same}

@@ -12,7 +12,7 @@ use Rattle.machine.specs.declared.Label.{Label}
 use Rattle.machine.specs.Rules.{Rules}
 use Rattle.machine.specs.State.{OpenRequest, State}
 use Rattle.machine.specs.Step.{Run, as_label}
-use Rattle.device.specs.View.{DeviceView}
+use Rattle.device.specs.View.{DeviceView, KeepsOutside, IsTopmost}
 use Rattle.device.specs.Served.{Moves}
 use Rattle.machine.proofs.Same.{IsSame-refl, Run-append}
 use Rattle.machine_laws.specs.Reached.{IsReached}
@@ -22,9 +22,9 @@ use Rattle.pnp.specs.declared.State.TheVariants.{Removed}
 use Rattle.io_manager.specs.declared.Limits.{Limits}
 use Rattle.io_manager.specs.declared.tables.OpenRequest.{OpenRequest as OpenEntry}
 use Rattle.io_manager.specs.declared.tables.Tables.{Tables}
-use Rattle.io_manager.specs.Inside.{KeepsOutside, AllWriteInside}
+use Rattle.io_manager.specs.Inside.{AllWriteInside}
 use Rattle.io_manager.specs.Right.{as_answer, labels_of, end_labels, Told, AdapterMoves, IsRightBy, unless_answered}
-use Rattle.io_manager.specs.Sound.{rules_of, shown_state, is_gone, holder_of, holders_of, view_of, IsHeldAt, AreHeld, IsTopmost, IsSpotted, IsInState, EndsIf, IsSound, AsksInside, Collects}
+use Rattle.io_manager.specs.Sound.{rules_of, shown_state, is_gone, holder_of, holders_of, view_of, IsHeldAt, AreHeld, IsSpotted, IsInState, EndsIf, IsSound, AsksInside, Collects}
 use Rattle.io_manager.proofs.Over.{labels_over, answers_over}
 use Rattle.io_manager.proofs.Ordering.{Run-split}
 use Rattle.io_manager.proofs.Outside.{HasPartition, stays_inside}

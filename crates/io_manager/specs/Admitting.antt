@@ -18,7 +18,7 @@ use Rattle.machine.specs.Rules.{Rules, sectors_of}
 use Rattle.machine.specs.State.{State}
 use Rattle.machine.specs.Calling.{refusal}
 use Rattle.machine.specs.Sending.{partition_number}
-use Rattle.device.specs.View.{DeviceView, Packet, payload_bytes, major_of}
+use Rattle.device.specs.View.{DeviceView, Packet, payload_bytes, major_of, IsTopmost}
 use Rattle.device.specs.Served.{Submits}
 use Rattle.pnp.specs.declared.State.{State as PnpState}
 use Rattle.pnp.specs.declared.State.TheVariants.{Started, RemovePending, Removing, Removed}
@@ -33,7 +33,6 @@ use Rattle.io_manager.specs.declared.admission.Copies.{Copies}
 use Rattle.io_manager.specs.Calls.{status_of_refusal, bytes_called, are_used_up, handle_limit}
 use Rattle.io_manager.specs.Chains.{PutsLast, remainder_of}
 use Rattle.io_manager.specs.Shown.{ManagerView}
-use Rattle.io_manager.specs.Sound.{IsTopmost}
 
 -- the status of a call that ends where it begins
 abbrev pub status_at_once : AtOnce → NtStatus

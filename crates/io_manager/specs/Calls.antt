@@ -24,6 +24,12 @@ are_used_up next = nat_le number_limit next
 abbrev pub handle_limit : ℕ
 handle_limit = 64
 
+-- want of a number, or of memory
+abbrev pub IsWant : Refusal → Type 0
+IsWant DeviceBusy = Unit {0}
+IsWant InsufficientResources = Unit {0}
+IsWant _ = ⊥
+
 -- the status that stands for a refusal
 abbrev pub status_of_refusal : Refusal → NtStatus
 status_of_refusal InvalidHandle = HandleStatus

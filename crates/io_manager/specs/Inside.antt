@@ -5,11 +5,6 @@ use Rattle.sector.specs.Extents.{IsIn}
 use Rattle.cdb.specs.Meaning.{AsksToWrite}
 use Rattle.adapter.specs.View.{AdapterView, TagInUse}
 
--- the sectors of no partition stay as they are
-abbrev pub KeepsOutside : List Extent → AdapterView → AdapterView → Type 0
-KeepsOutside partitions old new =
-    (sector : ℕ) → (Any (IsIn sector) partitions → ⊥) → slice_get new.sectors sector ≡ slice_get old.sectors sector
-
 -- so many sectors from this one on lie in the extent
 pub record LieIn (lba count : ℕ) (extent : Extent) : Type 0 where
   pub from : extent.first ≤ lba

@@ -18,7 +18,7 @@ use Rattle.machine.specs.Calling.{refusal}
 use Rattle.machine.specs.Sending.{HasOtherTag, IsStart}
 use Rattle.machine.specs.Step.{Run, as_label}
 use Rattle.machine.specs.Numbers.{request_number}
-use Rattle.device.specs.View.{IsRead}
+use Rattle.device.specs.View.{IsRead, KeepsOutside}
 use Rattle.device.specs.Served.{IsFreshOn, IsActOrFault, is_fresh_piece, fault_of, piece_tag}
 use Rattle.pnp.specs.declared.State.{State as PnpState}
 use Rattle.pnp.specs.declared.State.TheVariants.{Started, RemovePending, Removing, Removed}
@@ -32,7 +32,6 @@ use Rattle.io_manager.specs.declared.Reply.{Reply}
 use Rattle.io_manager.specs.declared.Reply.TheVariants.{Handle as HandleReply, Ok as OkReply, Request as Requested, Answered, Refused, Ignored}
 use Rattle.io_manager.specs.Shown.{ManagerView, Holder}
 use Rattle.io_manager.specs.Calls.{handle_limit, are_used_up, status_of_refusal, partition_of, without_bytes, open_refusal}
-use Rattle.io_manager.specs.Inside.{KeepsOutside}
 
 -- the label of an answer
 abbrev pub as_answer : Answer → Label

@@ -10,7 +10,7 @@ use Rattle.machine.specs.Numbers.{request_number}
 use Rattle.machine.specs.Settled.{Settled, IsAtWork, IsFull, started_count}
 use Rattle.machine.specs.Step.{Run, as_label}
 use Rattle.machine.specs.Sending.{IsStart, is_started}
-use Rattle.device.specs.View.{DeviceView, Packet}
+use Rattle.device.specs.View.{DeviceView, IsTopmost, Packet}
 use Rattle.machine_laws.specs.Reached.{IsReached}
 use Rattle.pnp.specs.declared.State.{State as PnpState}
 use Rattle.pnp.specs.declared.State.TheVariants.{Started, RemovePending, Removing, Removed}
@@ -102,10 +102,6 @@ pub record HasPlaces (limits : Limits) (tables : Tables) : Type 0 where
   pub untaken : deque_len tables.untaken + slab_len tables.requests ≤ deque_capacity tables.untaken
   pub handles : tables.handles.capacity ≡ handle_limit
   pub requests : tables.requests.capacity ≡ limits.open_requests
-
--- no driver above asks for this packet
-abbrev pub IsTopmost : Packet → Type 0
-IsTopmost packet = packet.above ≡ []
 
 -- a packet below has a number that was given, and the spot that the entry of its number keeps
 pub record IsSpotted (next : ℕ) (requests : Slab OpenRequest) (packet : Packet) : Type 0 where

@@ -4,14 +4,13 @@ ghost use Rattle.std.specs.Prelude.{◌≡◌, ◌<◌, false, option_map, IfOk}
 ghost use Rattle.machine.specs.Rules.{Rules, is_transfer, is_in_bounds};
 ghost use Rattle.machine.specs.State.{State};
 ghost use Rattle.machine.specs.Calling.{refusal};
-ghost use Rattle.device.specs.View.{major_of};
 ghost use Rattle.irp.specs.declared.Payload.TheVariants.{Buffer};
 ghost use Rattle.io_manager.specs.Calls.{status_of_refusal};
 ghost use Rattle.io_manager.specs.Admitting.{status_at_once, AreBoundsOf, request_of, HasCopies, first_location, IsOnTop};
 
 use crate::Refusal;
-use device::{ClientRequest, Kind, Request};
-use irp::{Control, Driver, Irp, LocationFlags, MajorFunction, Payload, StackLocation};
+use device::{ClientRequest, Kind, Request, major_for};
+use irp::{Control, Driver, Irp, LocationFlags, Payload, StackLocation};
 use ntstatus::NtStatus;
 use sector::{Bytes, Extent};
 use std::alloc::{AllocError, Global};
@@ -163,17 +162,6 @@ pub(crate) fn copies_for(alloc: Global, kind: Kind, buffer: &Bytes) -> Result<Co
     })
 }
 
-/// The major function of a request's location (WDK: IRP_MJ_READ, IRP_MJ_WRITE, IRP_MJ_FLUSH_BUFFERS).
-fn major_for(kind: Kind) -> MajorFunction
-    ensures { result ≡ major_of false kind }
-{
-    match kind {
-        Kind::Read => MajorFunction::Read,
-        Kind::Write => MajorFunction::Write,
-        Kind::Flush => MajorFunction::FlushBuffers,
-    }
-}
-
 /// The first location of a request, which asks for no completion routine.
 fn location_of(request: &Request) -> StackLocation
     ensures { result ≡ first_location request.now }
@@ -185,7 +173,7 @@ fn location_of(request: &Request) -> StackLocation
     };
     StackLocation {
         driver: Driver::Partition,
-        major: major_for(request.kind),
+        major: major_for(false, request.kind),
         minor: None,
         control: Control(0),
         flags,

@@ -5,8 +5,8 @@ ghost use Rattle.device.specs.View.{Carries, AsksFor, IsBounded, major_of, whole
 ghost use Rattle.layer_bench.specs.Client.{IsOneSector, IsServed, Keeps, port_rules, rules_for, unlabelled};
 
 use cdb::{Cdb, encode};
-use device::{Device, Kind, Request};
-use irp::{Climb, Control, Driver, Irp, LocationFlags, MajorFunction, Payload, StackLocation};
+use device::{Device, Kind, Request, major_for};
+use irp::{Climb, Control, Driver, Irp, LocationFlags, Payload, StackLocation};
 use ntstatus::NtStatus;
 use sector::{Bytes, Extent};
 use srb::{CommandBlock, Srb, SrbFlags, SrbFunction};
@@ -187,19 +187,5 @@ fn own_location(takes_srb: bool, request: &Request) -> StackLocation
         flags: LocationFlags(if request.through { 0x04 } else { 0 }),
         volume: request.volume,
         extent: request.extent,
-    }
-}
-
-/// The major function of a request's location.
-fn major_for(takes_srb: bool, kind: Kind) -> MajorFunction
-    ensures { result ≡ major_of takes_srb kind }
-{
-    if takes_srb {
-        return MajorFunction::InternalDeviceControl;
-    }
-    match kind {
-        Kind::Read => MajorFunction::Read,
-        Kind::Write => MajorFunction::Write,
-        Kind::Flush => MajorFunction::FlushBuffers,
     }
 }

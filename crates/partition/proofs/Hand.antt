@@ -5,13 +5,12 @@ use Rattle.std.proofs.lemmas.List.Elements.{All-cons, All-head, All-tail}
 use Rattle.sector.specs.declared.Extent.{Extent}
 use Rattle.machine.specs.declared.Request.{Request}
 use Rattle.machine.specs.Sending.{array_at}
-use Rattle.device.specs.View.{DeviceView, IsOrderly}
+use Rattle.device.specs.View.{DeviceView, IsOrderly, KeepsOutside}
 use Rattle.device.specs.Served.{ActsOrFaults, ActsNot}
 use Rattle.partition.specs.declared.PartitionRoom.{PartitionRoom}
 use Rattle.partition.specs.OnDisk.{rules_over}
 use Rattle.partition.specs.Kept.{IsInHand, IsOnDisk, IsRoom, room_below}
 use Rattle.partition.specs.Shown.{view_of}
-use Rattle.partition.specs.Outside.{KeepsOutside}
 use Rattle.partition.proofs.Steps.{Keeps}
 use Rattle.partition.proofs.Settled.{IsOrderly-over, disk_is}
 use Rattle.partition.proofs.Moving.{GoesOn, ActsOver, acts_over}

@@ -4,5 +4,4 @@ pub mod Shown
 pub mod Kept
 pub mod Opening
 pub mod Order
-pub mod Outside
 pub mod Client

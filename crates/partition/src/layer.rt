@@ -2,14 +2,13 @@
 ghost use Rattle.std.specs.Prelude.{◌≡◌, ◌<◌, ◌≤◌, ◌+◌, ◌-◌, ◌^◌, ℕ, Bool, List, Some, min, MatchBool};
 ghost use Rattle.arrayvec.specs.ArrayVec.{array_vec_len};
 ghost use Rattle.machine.specs.Rules.{home};
-ghost use Rattle.device.specs.View.{label_places};
+ghost use Rattle.device.specs.View.{label_places, KeepsOutside};
 ghost use Rattle.device.specs.Served.{ActsOrFaults, ActsNot};
 ghost use Rattle.partition.specs.declared.PartitionRoom.{PartitionRoom};
 ghost use Rattle.partition.specs.OnDisk.{rules_over, on_disk};
 ghost use Rattle.partition.specs.Shown.{view_of};
 ghost use Rattle.partition.specs.Kept.{IsInHand};
 ghost use Rattle.partition.specs.Order.{any_order_lem};
-ghost use Rattle.partition.specs.Outside.{KeepsOutside};
 
 use crate::locations::{noted, pass_on};
 use crate::{PartitionRoom, Partitions};

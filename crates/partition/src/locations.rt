@@ -4,24 +4,12 @@ ghost use Rattle.arrayvec.specs.ArrayVec.{array_vec_len};
 ghost use Rattle.irp.specs.declared.StackLocation.{StackLocation};
 ghost use Rattle.irp.specs.Packet.{HasOwn, KeepsAllButLocations};
 ghost use Rattle.irp.specs.Climb.{above};
-ghost use Rattle.device.specs.View.{major_of as major_of_kind};
 ghost use Rattle.partition.specs.Noted.{noting, passed_on, kind_in, noted_in};
 
 use bitflags::Flags;
-use device::{Kind, Request};
+use device::{Kind, Request, major_for};
 use irp::{Control, Driver, Irp, LocationFlags, MajorFunction, StackLocation};
 use sector::Extent;
-
-/// The function that asks for a request of this kind.
-fn function_of(kind: Kind) -> MajorFunction
-    ensures { result ≡ major_of_kind false kind }
-{
-    match kind {
-        Kind::Read => MajorFunction::Read,
-        Kind::Write => MajorFunction::Write,
-        Kind::Flush => MajorFunction::FlushBuffers,
-    }
-}
 
 /// The kind of request that a function asks for.
 fn kind_of(function: MajorFunction) -> Kind
@@ -59,7 +47,7 @@ pub fn pass_on(irp: &mut Irp, kind: Kind, extent: Extent)
     let own = own_location(irp);
     irp.locations.pop();
     irp.next_location(StackLocation {
-        major: function_of(kind),
+        major: major_for(false, kind),
         ..own
     });
     irp.set_completion(true, true, false);

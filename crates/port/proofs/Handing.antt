@@ -273,7 +273,7 @@ hand_left b b' v d h rooms k = subst (λ x. IsInHand x v (d.request ∷ rooms)) 
 
 -- the status and the information are as they were computed
 pub hands_up : (b b' : Books) (v : AdapterView) (rooms : List Request) (d : Ended) (status : NtStatus) (bytes_moved : ℕ) (climb : Climb) → IsInHand b v rooms → TakesDone b d b'
-    → status ≡ status_left d.outcome → bytes_moved ≡ information (as_client (rules_of b'.sizes) d.request []) status
+    → status ≡ status_left d.outcome → ((rules : Rules) → rules.sector_size ≡ b'.sizes.sector_size → bytes_moved ≡ information (as_client rules d.request []) status)
     → Climbs (entry d.irp d.request d.spot).above d.irp.number d.irp.cancelled status bytes_moved d.irp.payload climb → BringsRoutine (entry d.irp d.request d.spot).cancel_routine climb → HandsUp true (view_of b v) d.request climb (view_of b' v)
 unfolding answers_left
 hands_up b b' v rooms d status bytes_moved climb k h status_is moved_is climbs brings =
@@ -300,7 +300,7 @@ hands_up b b' v rooms d status bytes_moved climb k h status_is moved_is climbs b
           ap (λ (bytes : List ℕ). length bytes) (sym (x.brings is succeeds)) ∙ long ∙ whole;
       empty = (All-head (HasEndedBy rules b.removing) d h.rest (subst (All (HasEndedBy rules b.removing)) h.is_front k.kept.ended)).empty;
       climbs = subst (λ (st : NtStatus). Climbs (entry d.irp d.request d.spot).above d.irp.number d.irp.cancelled st (information (as_client rules d.request []) st) d.irp.payload climb) status_is
-          (subst (λ (n : ℕ). Climbs (entry d.irp d.request d.spot).above d.irp.number d.irp.cancelled status n d.irp.payload climb) (subst (λ (y : Books). bytes_moved ≡ information (as_client (rules_of y.sizes) d.request []) status) h.after moved_is) climbs);
+          (subst (λ (n : ℕ). Climbs (entry d.irp d.request d.spot).above d.irp.number d.irp.cancelled status n d.irp.payload climb) (subst (λ (y : Books). bytes_moved ≡ information (as_client (rules_of y.sizes) d.request []) status) h.after (moved_is (rules_of b'.sizes) refl)) climbs);
       brings_routine = brings;
       only_starts = All-nil IsStart;
       moves = record { same_rules = refl; same_packets = IsPermutation-refl _; same_submitted = refl; same_most = refl; run = IsSame-refl _; adapter = reserves_none v };

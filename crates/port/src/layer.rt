@@ -4,10 +4,8 @@ ghost use Rattle.adapter.specs.View.{IsInOrder, IsReserved, ReservesMore};
 ghost use Rattle.machine.specs.declared.Kind.TheVariants.{Write};
 ghost use Rattle.machine.specs.declared.Request.{Request};
 ghost use Rattle.port.specs.Books.{books_of, visits_of};
-ghost use Rattle.machine.specs.Rules.{as_client};
-ghost use Rattle.machine.specs.Answering.{information as information_of};
 ghost use Rattle.port.specs.Cancelling.{CancelsQueued, CancelsAt, CancelsNotAt, CancelsNoStarted};
-ghost use Rattle.port.specs.Shown.{view_of, rules_of};
+ghost use Rattle.port.specs.Shown.{view_of};
 ghost use Rattle.port.specs.Turns.{WithdrawsNotAt};
 ghost use Rattle.linked.specs.Queue.{VisitsAtMost};
 ghost use Rattle.port.specs.Kept.{IsInHand, PortKept};
@@ -16,10 +14,9 @@ ghost use Rattle.port.specs.Order.{asked_for, rooms_same, any_order_lem};
 
 use crate::queues::{Ended, Sizes};
 use crate::{Port, PortRoom};
-use device::{Device, Kind, Request};
+use device::{Device, Kind, Request, information};
 use irp::{Climb, Irp, complete};
 use miniport::Adapter;
-use ntstatus::NtStatus;
 use srb::DeviceLabel;
 use std::alloc::AllocError;
 
@@ -105,18 +102,6 @@ impl<A: Adapter> Port<A> {
             }
         }
         false
-    }
-}
-
-/// The bytes that a request has moved: all where it succeeds (WDK: IO_STATUS_BLOCK, Information).
-fn information(request: &Request, sizes: &Sizes, status: NtStatus) -> u64
-    requires { request.now.extent.count * sizes.now.sector_size < 2 ^ 64 }
-    ensures { result ≡ information_of (as_client (rules_of sizes.now) request.now []) status }
-{
-    match (status, request.kind) {
-        (NtStatus::Success, Kind::Read | Kind::Write) => request.extent.count
-            * sizes.sector_size as u64,
-        _ => 0,
     }
 }
 
@@ -230,7 +215,7 @@ impl<A: Adapter> Device for Port<A> {
             return None;
         };
         let status = outcome.status();
-        let information = information(&request, &self.queues.sizes, status);
+        let information = information(self.queues.sizes.sector_size, &request, status);
         Some((complete(irp, status, information), PortRoom { request }))
     }
 

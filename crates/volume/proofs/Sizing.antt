@@ -13,11 +13,11 @@ use Rattle.io_manager.specs.declared.OpenHandle.{OpenHandle}
 use Rattle.io_manager.specs.declared.Refusal.{Refusal}
 use Rattle.io_manager.specs.declared.Refusal.TheVariants.{InvalidHandle, InvalidParameter, DeletePending, DeviceBusy, InsufficientResources, InvalidDeviceRequest, NotFound}
 use Rattle.io_manager.specs.Shown.{ManagerView}
-use Rattle.io_manager.specs.Calls.{call_on, partition_of}
+use Rattle.io_manager.specs.Calls.{call_on, partition_of, IsWant}
 use Rattle.volume.specs.Shown.{extent_at, parted_at}
 use Rattle.volume.specs.Ready.{IsReady}
 use Rattle.volume.specs.Working.{Ends, HasReason, Leaves, Turns}
-use Rattle.volume.specs.Opening.{IsLookedAt, IsOn, IsWant, Reaches}
+use Rattle.volume.specs.Opening.{IsLookedAt, IsOn, Reaches}
 use Rattle.volume.proofs.Disk.{sectors_of-extent}
 use Rattle.volume.proofs.Ending.{Fits, fits}
 use Rattle.volume.proofs.Content.{all_true, at_most_true, some_bytes, zero_true}

@@ -17,12 +17,6 @@ use Rattle.volume.specs.declared.OpenFault.TheVariants.{Start, Refused as Refuse
 use Rattle.volume.specs.Shown.{Content, content_of, extent_at, parted_at}
 use Rattle.volume.specs.Ready.{IsReady}
 
--- no number is left, or memory was refused
-abbrev pub IsWant : Refusal → Type 0
-IsWant DeviceBusy = Unit {0}
-IsWant InsufficientResources = Unit {0}
-IsWant _ = ⊥
-
 -- why a volume could not be opened: there is no such partition; no handle or no number is left; or memory was refused
 abbrev pub IsOpenRefusal : ManagerView → ℕ → Refusal → Type 0
 IsOpenRefusal v p InvalidParameter = length v.rules.partitions ≤ p

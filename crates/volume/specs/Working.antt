@@ -21,7 +21,7 @@ use Rattle.io_manager.specs.declared.Refusal.{Refusal}
 use Rattle.io_manager.specs.declared.Refusal.TheVariants.{InvalidParameter, DeviceBusy, InsufficientResources}
 use Rattle.io_manager.specs.Shown.{ManagerView}
 use Rattle.io_manager.specs.Calls.{call_on, number_limit}
-use Rattle.io_manager.specs.Inside.{KeepsOutside}
+use Rattle.device.specs.View.{KeepsOutside}
 use Rattle.io_manager.specs.Right.{FitsTogether, SameHandles, as_answer}
 use Rattle.compose.specs.declared.Event.{Event}
 use Rattle.compose.specs.declared.Event.TheVariants.{Read as ReadEvent, Write as WriteEvent, Flush as FlushEvent}

@@ -5,7 +5,8 @@ ghost use Rattle.io_manager.specs.declared.Refusal.TheVariants.{InvalidParameter
 ghost use Rattle.compose.specs.declared.Event.TheVariants.{Read as ReadEvent};
 ghost use Rattle.volume.specs.Shown.{content_of, extent_at};
 ghost use Rattle.volume.specs.Ready.{IsReady};
-ghost use Rattle.volume.specs.Opening.{AreSizes, IsLookedAt, IsOn, IsOpenFault, IsOpenRefusal, IsWant, Reaches, ShowsDisk};
+ghost use Rattle.io_manager.specs.Calls.{IsWant};
+ghost use Rattle.volume.specs.Opening.{AreSizes, IsLookedAt, IsOn, IsOpenFault, IsOpenRefusal, Reaches, ShowsDisk};
 ghost use Rattle.probe.specs.Exchange.{IsIdle};
 
 use crate::carrying::{carry_out, take_labels};

@@ -4,9 +4,9 @@ use Rattle.machine.specs.declared.Kind.TheVariants.{Read}
 use Rattle.machine.specs.declared.ClientRequest.{ClientRequest}
 use Rattle.io_manager.specs.declared.Refusal.{Refusal}
 use Rattle.io_manager.specs.declared.Refusal.TheVariants.{InvalidParameter}
-use Rattle.io_manager.specs.Calls.{call_on}
+use Rattle.io_manager.specs.Calls.{call_on, IsWant}
 use Rattle.compose.specs.declared.Event.{Event}
-use Rattle.volume.specs.Opening.{IsOn, IsWant, Reaches}
+use Rattle.volume.specs.Opening.{IsOn, Reaches}
 use Rattle.volume.specs.Working.{Asks, Ends, Turns}
 use Rattle.volume.proofs.Sizing.{if_err_more, if_ok_more, is_want, known, looked_at, looked_by, reaches, reaches_not}
 use Rattle.volume.proofs.opening.reaches.Goals as goal
