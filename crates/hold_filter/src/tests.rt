@@ -306,6 +306,16 @@ fn take_done<D: Device>(device: &mut D, client: &Client) -> Option<Done>
     }
 }
 
+/// Whether no packet comes up.
+fn is_none_done<D: Device>(device: &mut D, client: &Client) -> bool
+    requires rooms { D.rooms_out device.old [] }
+    requires holding { IsHolding (D.view device.old) client.now.window client.now.next client.now.paused client.now.removed }
+    ensures rooms { D.rooms_out device.new [] }
+    ensures holding { IsHolding (D.view device.new) client.now.window client.now.next client.now.paused client.now.removed }
+{
+    take_done(device, client).is_none()
+}
+
 /// Whether a packet came up as a read of one sector with 512 zeros.
 fn is_read(done: Done, number: u128) -> bool {
     let Done {
@@ -325,6 +335,72 @@ fn is_read(done: Done, number: u128) -> bool {
     }
 }
 
+/// One step, and whether it answered what it must.
+fn carry_out<D: Device>(
+    rt: &impl Abort,
+    alloc: Global,
+    filter: &mut Filter<D>,
+    client: &mut Client,
+    step: &Step,
+) -> Result<bool, Fail>
+    requires takes { D.TAKES_SRB ≡ true }
+    requires locations { D.STACK_SIZE ≡ 1 }
+    requires rooms { ⟦<Filter<D> as Device>⟧.rooms_out filter.old [] }
+    requires holding { IsHolding (⟦<Filter<D> as Device>⟧.view filter.old) client.old.window client.old.next client.old.paused client.old.removed }
+    ensures rooms { OnOk result (⟦<Filter<D> as Device>⟧.rooms_out filter.new []) }
+    ensures holding { OnOk result (IsHolding (⟦<Filter<D> as Device>⟧.view filter.new) client.new.window client.new.next client.new.paused client.new.removed) }
+{
+    match step {
+        Step::Submit(kind, first, count) => {
+            submit(rt, alloc, filter, client, *kind, *first, *count)?;
+            Ok(true)
+        }
+        Step::Act(tag, want) => Ok(act(rt, filter, client, *tag) == *want),
+        Step::Finish(tag, want) => Ok(finish(rt, filter, client, *tag) == *want),
+        Step::Reset => {
+            reset(rt, filter, client);
+            Ok(true)
+        }
+        Step::Cancel(number) => {
+            cancel(filter, client, *number);
+            Ok(true)
+        }
+        Step::CancelAt(spot, number) => {
+            cancel_at(filter, client, *spot, *number);
+            Ok(true)
+        }
+        Step::CancelHeld(spot, number, want) => {
+            Ok(cancel_held(filter, client, *spot, *number) == *want)
+        }
+        Step::Pause => {
+            pause(rt, filter, client);
+            Ok(true)
+        }
+        Step::Resume => {
+            resume(rt, filter, client);
+            Ok(true)
+        }
+        Step::Drain => {
+            drain(filter, client);
+            Ok(true)
+        }
+        Step::Tells(want) => {
+            tells(rt, filter, client, want);
+            Ok(true)
+        }
+        Step::Done(number, status) => {
+            let done = take_done(filter, client);
+            Ok(done.is_some_and(|done| done.number == *number && done.status == *status))
+        }
+        Step::Read(number) => {
+            let done = take_done(filter, client);
+            Ok(done.is_some_and(|done| is_read(done, *number)))
+        }
+        Step::NoneDone => Ok(is_none_done(filter, client)),
+        Step::Holds(count) => Ok(filter.held() == *count),
+    }
+}
+
 /// One step, and what it must answer.
 fn try_step<D: Device>(
     rt: &impl Abort,
@@ -340,42 +416,8 @@ fn try_step<D: Device>(
     ensures rooms { OnOk result (⟦<Filter<D> as Device>⟧.rooms_out filter.new []) }
     ensures holding { OnOk result (IsHolding (⟦<Filter<D> as Device>⟧.view filter.new) client.new.window client.new.next client.new.paused client.new.removed) }
 {
-    match step {
-        Step::Submit(kind, first, count) => {
-            submit(rt, alloc, filter, client, *kind, *first, *count)?
-        }
-        Step::Act(tag, want) => assert_eq!(rt; act(rt, filter, client, *tag), *want, "{step:?}"),
-        Step::Finish(tag, want) => {
-            assert_eq!(rt; finish(rt, filter, client, *tag), *want, "{step:?}")
-        }
-        Step::Reset => reset(rt, filter, client),
-        Step::Cancel(number) => cancel(filter, client, *number),
-        Step::CancelAt(spot, number) => cancel_at(filter, client, *spot, *number),
-        Step::CancelHeld(spot, number, want) => {
-            assert_eq!(rt;
-                cancel_held(filter, client, *spot, *number),
-                *want,
-                "{step:?}"
-            )
-        }
-        Step::Pause => pause(rt, filter, client),
-        Step::Resume => resume(rt, filter, client),
-        Step::Drain => drain(filter, client),
-        Step::Tells(want) => tells(rt, filter, client, want),
-        Step::Done(number, status) => {
-            let done = take_done(filter, client);
-            assert!(rt;
-                done.is_some_and(|done| done.number == *number && done.status == *status),
-                "{step:?}"
-            )
-        }
-        Step::Read(number) => {
-            let done = take_done(filter, client);
-            assert!(rt; done.is_some_and(|done| is_read(done, *number)), "{step:?}")
-        }
-        Step::NoneDone => assert!(rt; take_done(filter, client).is_none(), "{step:?}"),
-        Step::Holds(count) => assert_eq!(rt; filter.held(), *count, "{step:?}"),
-    }
+    let as_wanted = carry_out(rt, alloc, filter, client, step)?;
+    assert!(rt; as_wanted, "{step:?}");
     Ok(())
 }
 
@@ -685,19 +727,28 @@ fn serve_others<D: Device>(
     Ok(())
 }
 
-// Of 63 that are held three are cancelled, each in another way: they end at once, and the others go on in their order.
-#[test]
-fn of_sixty_four_the_others_go_in_order(rt: HostRuntime) -> Result<(), Fail> {
-    let mut filter = filter(rt.alloc(), 1)?;
-    let mut client = new_client(1);
-    submit_many(&rt, rt.alloc(), &mut filter, &mut client, 20)?;
-    let fortieth = submit_many(&rt, rt.alloc(), &mut filter, &mut client, 20)?;
-    let last = submit_many(&rt, rt.alloc(), &mut filter, &mut client, 24)?;
+/// 64 flushes, three of them cancelled while they are held, and all ends of the others.
+fn cancel_three_of_sixty_four<D: Device>(
+    rt: &impl Abort,
+    alloc: Global,
+    filter: &mut Filter<D>,
+    client: &mut Client,
+) -> Result<(), Fail>
+    requires takes { D.TAKES_SRB ≡ true }
+    requires locations { D.STACK_SIZE ≡ 1 }
+    requires rooms { ⟦<Filter<D> as Device>⟧.rooms_out filter.old [] }
+    requires holding { IsHolding (⟦<Filter<D> as Device>⟧.view filter.old) client.old.window client.old.next client.old.paused client.old.removed }
+    ensures rooms { OnOk result (⟦<Filter<D> as Device>⟧.rooms_out filter.new []) }
+    ensures holding { OnOk result (IsHolding (⟦<Filter<D> as Device>⟧.view filter.new) client.new.window client.new.next client.new.paused client.new.removed) }
+{
+    submit_many(rt, alloc, filter, client, 20)?;
+    let fortieth = submit_many(rt, alloc, filter, client, 20)?;
+    let last = submit_many(rt, alloc, filter, client, 24)?;
     try_all(
-        &rt,
-        rt.alloc(),
-        &mut filter,
-        &mut client,
+        rt,
+        alloc,
+        filter,
+        client,
         &[
             Step::Holds(63),
             Step::CancelHeld(fortieth, 40, true),
@@ -712,14 +763,21 @@ fn of_sixty_four_the_others_go_in_order(rt: HostRuntime) -> Result<(), Fail> {
             Step::NoneDone,
         ],
     )?;
-    serve_others(&rt, rt.alloc(), &mut filter, &mut client)?;
+    serve_others(rt, alloc, filter, client)?;
     try_all(
-        &rt,
-        rt.alloc(),
-        &mut filter,
-        &mut client,
+        rt,
+        alloc,
+        filter,
+        client,
         &[Step::NoneDone, Step::Tells(&[]), Step::Holds(0)],
     )
+}
+
+// Of 63 that are held three are cancelled, each in another way: they end at once, and the others go on in their order.
+#[test]
+fn of_sixty_four_the_others_go_in_order(rt: HostRuntime) -> Result<(), Fail> {
+    let mut filter = filter(rt.alloc(), 1)?;
+    cancel_three_of_sixty_four(&rt, rt.alloc(), &mut filter, &mut new_client(1))
 }
 
 /// Four requests, of which want of memory may turn some away.
