@@ -1,4 +1,5 @@
 -- Why no stack could be started, where its probe found nothing.
+use Rattle.std.proofs.Common.{inl}
 use Rattle.adapter.specs.View.{AdapterView}
 use Rattle.probe.specs.declared.ProbeFault.{ProbeFault}
 use Rattle.probe.specs.declared.ProbeFault.TheVariants.{Device, Mbr, NoMemory}
@@ -9,4 +10,4 @@ use Rattle.compose.specs.Opening.{AreInRange, IsStartFault, start_fault_of}
 pub start_fault : (disk after : AdapterView) (settings : Settings) → AreInRange settings → (why : ProbeFault) → IsProbeFault disk why after → IsStartFault disk settings (start_fault_of why) after
 start_fault disk after settings in_range (Device status) h = (in_range, h)
 start_fault disk after settings in_range (Mbr fault) h = (in_range, h)
-start_fault disk after settings in_range NoMemory h = (in_range, tt)
+start_fault disk after settings in_range NoMemory h = (in_range, inl h)

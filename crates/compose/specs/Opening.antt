@@ -1,12 +1,12 @@
 -- A stack before its first event, and why one could not be started.
-use Rattle.std.specs.Prelude.{◌≡◌, ◌≤◌, false, List, [], Some, Err, map, length}
+use Rattle.std.specs.Prelude.{◌≡◌, ◌⊎◌, ◌≤◌, false, List, [], Some, Err, map, length}
 use Rattle.sector.specs.declared.Extent.{Extent}
 use Rattle.adapter.specs.View.{AdapterView}
 use Rattle.machine.specs.Map.{sectors_in}
 use Rattle.machine.specs.Rules.{Rules}
 use Rattle.machine.specs.State.{opening}
 use Rattle.probe.specs.Exchange.{IsSameDisk}
-use Rattle.probe.specs.Probing.{told_partitions, asked_by_probe, IsReadBy, HasPartitions, FailsOne}
+use Rattle.probe.specs.Probing.{told_partitions, asked_by_probe, IsReadBy, HasPartitions, FailsOne, LacksMemory}
 use Rattle.probe.specs.declared.ProbeFault.{ProbeFault}
 use Rattle.probe.specs.declared.ProbeFault.TheVariants.{Device as DeviceProbed, Mbr as TableProbed, NoMemory as ProbedNoMemory}
 use Rattle.io_manager.specs.Shown.{ManagerView}
@@ -57,9 +57,9 @@ start_fault_of (DeviceProbed status) = DeviceFault status
 start_fault_of (TableProbed fault) = TableFault fault
 start_fault_of ProbedNoMemory = NoMemory
 
--- why a disk could not be read: memory was refused, a command failed, or all were good and the table is wrong
+-- why a disk could not be read: memory was refused in the probe or after it, a command failed, or all were good and the table is wrong
 abbrev pub IsDiskFault : AdapterView → StartFault → AdapterView → Type 0
-IsDiskFault disk NoMemory after = Unit {0}
+IsDiskFault disk NoMemory after = LacksMemory disk after ⊎ IsReadBy disk after
 IsDiskFault disk (DeviceFault status) after = FailsOne disk status after
 IsDiskFault disk (TableFault fault) after = IsReadBy disk after × (told_partitions disk ≡ Err fault)
 IsDiskFault disk SettingsFault after = ⊥

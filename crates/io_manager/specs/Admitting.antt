@@ -1,5 +1,5 @@
 -- A call at the manager's door: what it is answered at once, and the request and the packet of one that is admitted.
-use Rattle.std.specs.Prelude.{◌≡◌, ◌<◌, ◌≤◌, ℕ, true, false, Bool, ◌+◌, ◌/◌, nat_le, List, [], ◌∷◌, ◌++◌, Option, Some, None, length, slice_index, slice_set, if◌then◌else◌}
+use Rattle.std.specs.Prelude.{◌≡◌, ◌≢◌, ◌<◌, ◌≤◌, ℕ, true, false, Bool, ◌+◌, ◌/◌, nat_le, List, [], ◌∷◌, ◌++◌, Option, Some, None, length, slice_index, slice_set, if◌then◌else◌}
 use Rattle.std.specs.VecDeque.{deque_len, deque_capacity}
 use Rattle.slab.specs.Slab.{get, slab_len, Updates}
 use Rattle.ntstatus.specs.declared.NtStatus.{NtStatus}
@@ -68,6 +68,7 @@ request_of sector_size q = record {
 pub record HasCopies (kind : Kind) (buffer : List ℕ) (copies : Copies) : Type 0 where
   pub call_bytes : copies.call_bytes ≡ bytes_called kind buffer
   pub label_bytes : kind ≡ Read → length copies.label_bytes ≡ length buffer
+  pub none_else : kind ≢ Read → copies.label_bytes ≡ []
 
 -- the first location of a request: of its kind and its extent, with SL_WRITE_THROUGH or no flags, and no routine
 abbrev pub first_location : Request → StackLocation

@@ -1,4 +1,4 @@
-use Rattle.std.proofs.Common.{◌≡◌, Err, refl, rules}
+use Rattle.std.proofs.Common.{◌≡◌, Err, inr, refl, rules}
 use Rattle.compose.specs.declared.StartFault.TheVariants.{NoMemory}
 use Rattle.compose.proofs.FirstView.{fresh_partitions, unasked, first_view}
 use Rattle.compose.proofs.start.manager_over.Goals as goal
@@ -23,4 +23,9 @@ returns-clause-view g c =
 pub returns-in_err-manager-clause-fault : goal.returns-in_err-manager-clause-fault
 returns-in_err-manager-clause-fault g c =
     let given : c.from_residual-in_err-manager.result ≡ Err NoMemory = search rules in
-    rw given (c.prepare.new.adapter, record { same = c.prepare.ensures.same; why = (c.in_ok-probed.ensures.in_range, tt) })
+    rw given (c.prepare.new.adapter, record { same = c.prepare.ensures.same; why = (c.in_ok-probed.ensures.in_range, inr c.in_ok-probed.ensures.read) })
+
+pub returns-in_err-port-clause-fault : goal.returns-in_err-port-clause-fault
+returns-in_err-port-clause-fault g c =
+    let given : c.from_residual-in_err-port.result ≡ Err NoMemory = search rules in
+    rw given (c.prepare.new.adapter, record { same = c.prepare.ensures.same; why = (c.in_ok-probed.ensures.in_range, inr c.in_ok-probed.ensures.read) })
