@@ -1,4 +1,4 @@
-"""Refuses each request for memory in turn: of the program on three scripts, and of the built tests of compose.
+"""Refuses each request for memory in turn: of the program on three scripts, and of the built tests of stack_tests.
 
 The program either says that there is no memory, behind a beginning of what it would have printed; or a read, a write or a
 flush is refused, and all else is as if the script had not had that line; or it does as well without. So no number and no
@@ -132,7 +132,7 @@ def main():
         except (Wrong, subprocess.TimeoutExpired) as wrong:
             print('FAILED: memory refused: %s' % wrong, file=sys.stderr)
             return 1
-    print('each of %d requests for memory of the program and %d of compose\'s tests was refused in turn' % (of_traces, of_tests))
+    print('each of %d requests for memory of the program and %d of the tests of stack_tests was refused in turn' % (of_traces, of_tests))
     return 0
 
 

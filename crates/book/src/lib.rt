@@ -44,6 +44,3 @@ pub struct Entry {
     pub label: Label,
     pub row: Option<usize>,
 }
-
-#[cfg(test)]
-mod tests;

@@ -124,6 +124,3 @@ pub enum StartFault {
     #[error("no memory")]
     NoMemory,
 }
-
-#[cfg(test)]
-mod tests;

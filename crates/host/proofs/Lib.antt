@@ -11,4 +11,3 @@ pub mod Issuing
 pub mod Opening
 pub mod Making
 pub mod Noticing
-pub mod Pairs

@@ -34,8 +34,6 @@ mod opened;
 mod receipts;
 mod removal;
 mod shared;
-#[cfg(test)]
-mod tests;
 mod ticket;
 
 pub use call::{Answered, Call, Places, Reason, Refusal};

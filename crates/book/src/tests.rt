@@ -1,6 +1,0 @@
-//! A book in one thread.
-
-mod desk;
-mod disks;
-mod rows;
-mod told;

@@ -1,5 +1,0 @@
-use Rattle.std.proofs.Common.{length}
-use Rattle.compose.proofs.tests.steps.show.Given as goal
-
-abbrev pub decreases-loop-label : goal.decreases-loop-label
-decreases-loop-label g l = length l.stack.labels

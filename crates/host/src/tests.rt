@@ -1,7 +1,0 @@
-//! A host in one thread.
-
-mod desk;
-mod disks;
-mod rows;
-mod told;
-mod user;

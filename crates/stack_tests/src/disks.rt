@@ -1,0 +1,159 @@
+//! Disks of 4,096 sectors of 512 bytes, and stacks over them.
+
+ghost use Rattle.std.specs.Prelude.{◌≡◌, ◌≤◌, ◌^◌, IfOk, Some};
+ghost use Rattle.probe.specs.Exchange.{IsIdle};
+ghost use Rattle.book.specs.Opening.{IsNew};
+ghost use Rattle.book.specs.Sizes.{AreSizes, sizes_of};
+
+use book::Sizes;
+use compose::{Settings, Stack, StartFault};
+use disk::{BadSector, Medium, NoMemory, VecDisk};
+use miniport::{Adapter, MemAdapter};
+use sector::Extent;
+use std::alloc::{AllocError, Global};
+use std::process::Abort;
+
+/// An entry of a table: its type, its first sector and the number of its sectors.
+pub(crate) type Entry = (u8, u32, u32);
+
+pub(crate) const UNUSED: Entry = (0, 0, 0);
+
+/// The sectors 2,048 to 3,071.
+pub(crate) const MIDDLE: Entry = (7, 2048, 1024);
+
+pub(crate) const SIGNATURE: [u8; 2] = [0x55, 0xAA];
+
+/// Sector 0 with these entries in its table.
+#[derive(Debug, Clone, Copy)]
+pub(crate) struct Table {
+    pub signature: [u8; 2],
+    pub entries: [Entry; 4],
+}
+
+impl Table {
+    /// Entries have sixteen bytes each from byte 446 on; their type is byte 4, the first sector and the count are the bytes
+    /// from 8 and 12 on, the lowest first.
+    fn sector(&self) -> [u8; 512] {
+        let mut bytes = [0; 512];
+        for n in 0..4 {
+            let (kind, first, count) = self.entries[n];
+            let entry = 446 + 16 * n;
+            bytes[entry + 4] = kind;
+            bytes[entry + 8..entry + 12].copy_from_slice(&first.to_le_bytes());
+            bytes[entry + 12..entry + 16].copy_from_slice(&count.to_le_bytes());
+        }
+        bytes[510..].copy_from_slice(&self.signature);
+        bytes
+    }
+}
+
+/// A table of one partition.
+pub(crate) const ONE: Table = Table {
+    signature: SIGNATURE,
+    entries: [MIDDLE, UNUSED, UNUSED, UNUSED],
+};
+
+/// A table of two, of which the second has the sectors 3,072 to 4,095.
+pub(crate) const TWO: Table = Table {
+    signature: SIGNATURE,
+    entries: [MIDDLE, (7, 3072, 1024), UNUSED, UNUSED],
+};
+
+fn no_memory(_refused: NoMemory) -> AllocError {
+    AllocError
+}
+
+/// A disk with this table, in which the sectors of the list are bad.
+pub(crate) fn disk(alloc: Global, table: &Table, bad: &[u64]) -> Result<VecDisk, AllocError> {
+    let bad = Vec::from_slice(alloc, bad)?;
+    VecDisk::starting_with(alloc, 512, 4096, &table.sector(), bad).map_err(no_memory)
+}
+
+/// An adapter of two tags that moves so many sectors at most.
+pub(crate) fn adapter<M: Medium>(
+    rt: &impl Abort,
+    alloc: Global,
+    medium: M,
+    max_transfer: u32,
+) -> Result<MemAdapter<M>, AllocError>
+    requires some { 1 ≤ max_transfer }
+    requires short { max_transfer ≤ 2 ^ 16 }
+    ensures idle { IfOk result (λ a. IsIdle a.shown) }
+    ensures unasked { IfOk result (λ a. a.shown.accepted ≡ 0) }
+{
+    let sectors = medium.sectors();
+    assert!(rt; 1 <= sectors && sectors <= 1 << 40);
+    assert!(rt; medium.sector_size() == 512 && medium.failures() == 0);
+    MemAdapter::new(alloc, medium, max_transfer, 2, false).map_err(no_memory)
+}
+
+/// A medium that refuses to reserve, so many times.
+#[derive(Drop)]
+pub(crate) struct Reluctant<M: Medium> {
+    pub medium: M,
+    pub refusals: u32,
+}
+
+impl<M: Medium> Medium for Reluctant<M> {
+    ghost view = { λ m. M.view m.medium };
+
+    fn sector_size(&self) -> u32 {
+        self.medium.sector_size()
+    }
+
+    fn sectors(&self) -> u64 {
+        self.medium.sectors()
+    }
+
+    fn failures(&self) -> u128 {
+        self.medium.failures()
+    }
+
+    fn reserve(&mut self, extent: Extent) -> Result<(), NoMemory> {
+        if self.refusals > 0 {
+            self.refusals -= 1;
+            return Err(NoMemory);
+        }
+        self.medium.reserve(extent)
+    }
+
+    fn read(&mut self, extent: Extent, buffer: &mut [u8]) -> Result<(), BadSector> {
+        self.medium.read(extent, buffer)
+    }
+
+    fn write(&mut self, extent: Extent, bytes: &[u8]) -> Result<(), BadSector> {
+        self.medium.write(extent, bytes)
+    }
+
+    ghost whole = { λ m. M.whole m.medium };
+}
+
+/// A stack that was started, and its sizes; two requests at work and so many open, 1 to 64.
+pub(crate) fn start<A: Adapter>(
+    rt: &impl Abort,
+    alloc: Global,
+    adapter: A,
+    open_requests: u32,
+) -> Result<(Stack<A>, Sizes), AllocError>
+    requires idle { IsIdle (A.view adapter) }
+    requires unasked { (A.view adapter).accepted ≡ 0 }
+    ensures new { IfOk result (λ r. IsNew r.0) }
+    ensures sizes { IfOk result (λ r. (r.1 ≡ sizes_of r.0.rules) × AreSizes r.1) }
+    ensures slots { IfOk result (λ r. r.0.rules.open_requests ≡ Some open_requests) }
+{
+    let sizes = Sizes {
+        sector_size: adapter.sector_size(),
+        longest: 65_536,
+        max_transfer: adapter.max_transfer(),
+        busy_limit: 17,
+    };
+    let settings = Settings {
+        window: 2,
+        open_requests,
+    };
+    match Stack::start(alloc, adapter, settings) {
+        Ok(stack) => Ok((stack, sizes)),
+        Err(StartFault::NoMemory) => Err(AllocError),
+        Err(fault) => panic!(rt; "{fault:?}"),
+    }
+}

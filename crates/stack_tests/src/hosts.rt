@@ -1,0 +1,6 @@
+//! A host in one thread.
+
+mod desk;
+mod rows;
+mod told;
+mod user;

@@ -1,0 +1,207 @@
+//! A host of two clients, and what is asked of it.
+
+ghost use Rattle.std.specs.Prelude.{◌≡◌, ◌∷◌, [], ◌+◌, IfOk, length};
+ghost use Rattle.host.specs.Clients.{AreNumbered};
+
+use crate::hosts::told;
+use crate::hosts::user::{Deed, User};
+use crate::traced;
+use adapter::Adapter;
+use compose::{Refusal as Why, Reply};
+use host::{Client, Closed, Host, Keeper, Naming, Opened};
+use lanes::{Desk, Step};
+use std::alloc::{AllocError, Global};
+use std::process::Abort;
+use std::sync::Wait;
+
+/// What is asked of a host itself.
+#[derive(Debug, Clone, Copy)]
+pub(crate) enum Drive {
+    Act(u8),
+    Finish(u8),
+    Reset,
+    QueryRemove,
+    CancelRemove,
+    Remove,
+    SurpriseRemove,
+}
+
+/// One row of a test, with its outcome.
+#[derive(Debug, Clone, Copy)]
+pub(crate) enum Row<'a> {
+    By(usize, Deed, &'a str),
+    Host(Drive, &'a str),
+    /// What a tag's lane has to do, and does.
+    Lane(u8, Step),
+}
+
+/// What is wanted of a client: the places of its calls, of the answers that it was told of, and of its row.
+#[derive(Debug, Clone, Copy)]
+pub(crate) struct Part<'a> {
+    pub calls: &'a [usize],
+    pub answers: &'a [usize],
+    pub row: &'a [usize],
+}
+
+/// What is wanted of a test.
+#[derive(Debug, Clone, Copy)]
+pub(crate) struct Run<'a> {
+    pub rows: &'a [Row<'a>],
+    pub trace: &'a str,
+    pub first: Part<'a>,
+    pub second: Part<'a>,
+}
+
+// A step that is no client's.
+fn step<A: Adapter, N: Naming, R: Wait>(
+    rt: &R,
+    host: &Host<A, N>,
+    keeper: &mut Keeper<N>,
+    drive: Drive,
+) -> Reply {
+    match drive {
+        Drive::Act(tag) => host.act(rt, tag),
+        Drive::Finish(tag) => host.finish(rt, tag),
+        Drive::Reset => host.reset(rt),
+        Drive::QueryRemove => host.query_remove(rt, keeper),
+        Drive::CancelRemove => host.cancel_remove(rt, keeper),
+        Drive::Remove => host.remove(rt, keeper),
+        Drive::SurpriseRemove => host.surprise_remove(rt, keeper),
+    }
+}
+
+// One that has just this reply.
+fn go<A: Adapter, N: Naming, R: Wait + Abort>(
+    rt: &R,
+    alloc: Global,
+    host: &Host<A, N>,
+    keeper: &mut Keeper<N>,
+    drive: Drive,
+    want: &str,
+) -> Result<(), AllocError> {
+    let reply = step(rt, host, keeper, drive);
+    if let Reply::Refused {
+        refusal: Why::InsufficientResources,
+        ..
+    } = &reply
+    {
+        return Err(AllocError);
+    }
+    assert_eq!(rt; told::reply(alloc, &reply)?.as_str(), want, "{drive:?}");
+    Ok(())
+}
+
+// A lane's step.
+fn serve<D: Desk, R: Wait + Abort>(rt: &R, desk: &D, tag: u8, want: Step) {
+    let step = desk.next(rt, tag);
+    assert_eq!(rt; step, want);
+    if step == Step::Ready {
+        desk.act(rt, tag);
+        desk.finish(rt, tag);
+    }
+    assert!(rt; desk.ended(rt) == (step == Step::Ended));
+}
+
+// The rows of a test one by one.
+fn play<A: Adapter, N: Naming, R: Wait + Abort>(
+    rt: &R,
+    alloc: Global,
+    host: &Host<A, N>,
+    keeper: &mut Keeper<N>,
+    first: &mut User<N>,
+    second: &mut User<N>,
+    rows: &[Row],
+) -> Result<(), AllocError>
+    ensures first { first.new.client ≡ first.old.client }
+    ensures second { second.new.client ≡ second.old.client }
+{
+    for row in rows {
+        match *row {
+            Row::By(0, deed, want) => first.go(rt, alloc, host, deed, want)?,
+            Row::By(_, deed, want) => second.go(rt, alloc, host, deed, want)?,
+            Row::Host(drive, want) => go(rt, alloc, host, keeper, drive, want)?,
+            Row::Lane(tag, want) => serve(rt, host, tag, want),
+        }
+    }
+    Ok(())
+}
+
+// Two clients, the first of them first.
+fn two_of<N: Naming>(rt: &impl Abort, clients: Vec<Client<N>>) -> (Client<N>, Client<N>)
+    requires two { AreNumbered 2 clients.items }
+    ensures first { result.0.client ≡ 0 }
+    ensures second { result.1.client ≡ 1 }
+{
+    let mut clients = clients;
+    let second = clients.pop();
+    let first = clients.pop();
+    match (first, second) {
+        (Some(first), Some(second)) => (first, second),
+        _ => panic!(rt; "not two clients"),
+    }
+}
+
+// Two clients play the rows, and come back.
+fn play_by_two<A: Adapter, N: Naming, R: Wait + Abort>(
+    rt: &R,
+    alloc: Global,
+    host: &Host<A, N>,
+    keeper: &mut Keeper<N>,
+    clients: Vec<Client<N>>,
+    run: &Run,
+) -> Result<Vec<Client<N>>, AllocError>
+    requires two { AreNumbered 2 clients.items }
+    ensures two { IfOk result (λ back. AreNumbered 2 back.items) }
+{
+    let (first, second) = two_of(rt, clients);
+    let mut first = User::new(first);
+    let mut second = User::new(second);
+    play(rt, alloc, host, keeper, &mut first, &mut second, run.rows)?;
+    first.compare(rt, 0, run.first.calls, run.first.answers);
+    second.compare(rt, 1, run.second.calls, run.second.answers);
+    let mut back = Vec::new(alloc);
+    back.push(first.into_client())?;
+    back.push(second.into_client())?;
+    Ok(back)
+}
+
+// Plays the rows on a host of two clients, and closes it.
+fn play_and_close<A: Adapter, N: Naming, R: Wait + Abort>(
+    rt: &R,
+    alloc: Global,
+    opened: Opened<A>,
+    run: &Run,
+) -> Result<Closed, AllocError>
+    requires named { opened ≡ record { rules = N.rules; opening = N.opening; partitions = N.partitions; handles = N.handles; marks = N.marks; slots = N.slots; table = N.table; name = N.name; parts = N.parts; gate = N.gate } }
+    requires partitions { length N.partitions ≡ 2 }
+    requires parts { N.parts ≡ length N.partitions + 1 }
+{
+    let Ok((host, keeper, clients)) = Host::<A, N>::new(alloc, opened) else {
+        return Err(AllocError);
+    };
+    let mut keeper = keeper;
+    let back = play_by_two(rt, alloc, &host, &mut keeper, clients, run)?;
+    Ok(host.close(keeper, back))
+}
+
+/// A host of two clients carries the rows out.
+pub(crate) fn carry_out<A: Adapter, N: Naming, R: Wait + Abort>(
+    rt: &R,
+    alloc: Global,
+    opened: Opened<A>,
+    run: &Run,
+) -> Result<(), AllocError>
+    requires named { opened ≡ record { rules = N.rules; opening = N.opening; partitions = N.partitions; handles = N.handles; marks = N.marks; slots = N.slots; table = N.table; name = N.name; parts = N.parts; gate = N.gate } }
+    requires partitions { length N.partitions ≡ 2 }
+    requires parts { N.parts ≡ length N.partitions + 1 }
+{
+    let Closed { trace, rows } = play_and_close::<A, N, R>(rt, alloc, opened, run)?;
+    assert_eq!(rt; traced::trace(alloc, trace.as_slice())?.as_str(), run.trace);
+    let mut rows = rows;
+    let (Some(second), Some(first), None) = (rows.pop(), rows.pop(), rows.pop()) else {
+        panic!(rt; "not two rows")
+    };
+    assert!(rt; first.into_places().as_slice() == run.first.row);
+    assert!(rt; second.into_places().as_slice() == run.second.row);
+    Ok(())
+}

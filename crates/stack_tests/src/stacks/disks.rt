@@ -1,0 +1,39 @@
+//! Stacks of four open requests.
+
+ghost use Rattle.std.specs.Prelude.{◌≡◌, [], IfOk};
+ghost use Rattle.probe.specs.Exchange.{IsIdle};
+
+use crate::disks::{Table, adapter, disk, start};
+use compose::Stack;
+use disk::VecDisk;
+use miniport::{Adapter, MemAdapter};
+use std::alloc::{AllocError, Global};
+use std::process::Abort;
+
+/// A stack over an adapter that it can be started over.
+pub(crate) fn stack_on<A: Adapter>(
+    rt: &impl Abort,
+    alloc: Global,
+    adapter: A,
+) -> Result<Stack<A>, AllocError>
+    requires idle { IsIdle (A.view adapter) }
+    requires unasked { (A.view adapter).accepted ≡ 0 }
+    ensures { IfOk result (λ stack. stack.labels ≡ []) }
+{
+    let (stack, _) = start(rt, alloc, adapter, 4)?;
+    Ok(stack)
+}
+
+/// A disk's adapter, which moves two sectors at most.
+pub(crate) fn disk_adapter(
+    rt: &impl Abort,
+    alloc: Global,
+    table: &Table,
+    bad: &[u64],
+) -> Result<MemAdapter<VecDisk>, AllocError>
+    ensures idle { IfOk result (λ a. IsIdle a.shown) }
+    ensures unasked { IfOk result (λ a. a.shown.accepted ≡ 0) }
+{
+    let medium = disk(alloc, table, bad)?;
+    adapter(rt, alloc, medium, 2)
+}

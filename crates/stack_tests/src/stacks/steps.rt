@@ -1,0 +1,221 @@
+//! Steps as a table writes them, and what a stack shows for them.
+
+ghost use Rattle.std.specs.Prelude.{◌≡◌, [], OnOk};
+
+use crate::stacks::told::{tell_answer, told};
+use compose::{Event, Handle, Id, Refusal, Reply, RunStopped, Shown, Stack};
+use miniport::Adapter;
+use sector::Bytes;
+use std::alloc::{AllocError, Global};
+use std::process::Abort;
+
+/// What happens to a stack.
+#[derive(Debug, Clone, Copy)]
+pub(crate) enum Step {
+    Open(u8),
+    Close(Handle),
+    /// A read into zeros.
+    Read(Handle, u64, usize),
+    /// A write of equal bytes.
+    Write(Handle, u64, usize, u8),
+    /// The same, write-through.
+    Through(Handle, u64, usize, u8),
+    Flush(Handle),
+    Cancel(Handle, Option<Id>),
+    Mark(u64),
+    QueryRemove,
+    CancelRemove,
+    Remove,
+    SurpriseRemove,
+    Act(u8),
+    Finish(u8),
+    Reset,
+}
+
+/// The first handle that a stack gives.
+pub(crate) const FIRST: Handle = Handle { slot: 0, number: 1 };
+
+/// The second, where the first is open.
+pub(crate) const SECOND: Handle = Handle { slot: 1, number: 2 };
+
+/// A read on the first handle.
+pub(crate) fn read(offset: u64, length: usize) -> Step {
+    Step::Read(FIRST, offset, length)
+}
+
+/// A write on the first handle.
+pub(crate) fn write(offset: u64, length: usize, byte: u8) -> Step {
+    Step::Write(FIRST, offset, length, byte)
+}
+
+/// A step, and what it must show.
+pub(crate) type Row<'a> = (Step, &'a str);
+
+fn bytes(alloc: Global, byte: u8, length: usize) -> Result<Bytes, AllocError> {
+    Ok(Bytes::new(vec![in alloc; byte; length]?))
+}
+
+fn event_of(alloc: Global, step: Step) -> Result<Event, AllocError> {
+    Ok(match step {
+        Step::Open(partition) => Event::Open { partition },
+        Step::Close(handle) => Event::Close { handle },
+        Step::Read(handle, offset, length) => Event::Read {
+            handle,
+            offset,
+            buffer: bytes(alloc, 0, length)?,
+        },
+        Step::Write(handle, offset, length, byte) => Event::Write {
+            handle,
+            offset,
+            bytes: bytes(alloc, byte, length)?,
+            through: false,
+        },
+        Step::Through(handle, offset, length, byte) => Event::Write {
+            handle,
+            offset,
+            bytes: bytes(alloc, byte, length)?,
+            through: true,
+        },
+        Step::Flush(handle) => Event::Flush { handle },
+        Step::Cancel(handle, target) => Event::CancelIoEx { handle, target },
+        Step::Mark(number) => Event::Mark { number },
+        Step::QueryRemove => Event::QueryRemove,
+        Step::CancelRemove => Event::CancelRemove,
+        Step::Remove => Event::Remove,
+        Step::SurpriseRemove => Event::SurpriseRemove,
+        Step::Act(tag) => Event::Act { tag },
+        Step::Finish(tag) => Event::Finish { tag },
+        Step::Reset => Event::Reset,
+    })
+}
+
+fn events_of(alloc: Global, rows: &[Row]) -> Result<Vec<Event>, AllocError> {
+    let mut events = Vec::new(alloc);
+    for (step, _) in rows {
+        events.push(event_of(alloc, *step)?)?;
+    }
+    Ok(events)
+}
+
+/// Each shows just what is wanted, up to one that was refused for want of memory: it has told nothing.
+fn compare(
+    rt: &impl Abort,
+    alloc: Global,
+    shown: &[Shown],
+    rows: &[Row],
+) -> Result<(), AllocError> {
+    assert_eq!(rt; shown.len(), rows.len());
+    for (shown, (step, want)) in shown.iter().zip(rows.iter()) {
+        if is_refused_for_memory(&shown.reply) {
+            assert!(rt; shown.labels.is_empty(), "{step:?}");
+            return Err(AllocError);
+        }
+        assert_eq!(rt; told(alloc, shown)?.as_str(), *want, "{step:?}");
+    }
+    Ok(())
+}
+
+/// Carries the steps out in one run; each shows just what is wanted, also where the run stops for want of memory.
+pub(crate) fn run<A: Adapter>(
+    rt: &impl Abort,
+    alloc: Global,
+    stack: &mut Stack<A>,
+    rows: &[Row],
+) -> Result<(), AllocError>
+    requires { stack.old.labels ≡ [] }
+    ensures { stack.new.labels ≡ [] }
+{
+    let events = events_of(alloc, rows)?;
+    let shown = match stack.run(alloc, events) {
+        Ok(shown) => shown,
+        Err(RunStopped { shown, done }) => {
+            assert!(rt; done < rows.len());
+            compare(rt, alloc, &shown, &rows[..done])?;
+            return Err(AllocError);
+        }
+    };
+    compare(rt, alloc, &shown, rows)
+}
+
+/// Carries one event out, and takes its labels one by one.
+fn show<A: Adapter>(alloc: Global, stack: &mut Stack<A>, event: Event) -> Result<Shown, AllocError>
+    requires { stack.old.labels ≡ [] }
+    ensures { OnOk result (stack.new.labels ≡ []) }
+{
+    let reply = stack.step(alloc, event);
+    let mut labels = Vec::new(alloc);
+    while let Some(label) = stack.take_label() {
+        labels.push(label)?;
+    }
+    Ok(Shown { reply, labels })
+}
+
+/// Whether memory for a call was refused.
+fn is_refused_for_memory(reply: &Reply) -> bool {
+    matches!(
+        reply,
+        Reply::Refused {
+            refusal: Refusal::InsufficientResources,
+            ..
+        }
+    )
+}
+
+/// Carries a step out, which shows just what is wanted. Where it was refused for want of memory it has told nothing, and is
+/// carried out again, unless that is wanted.
+fn go_one<A: Adapter>(
+    rt: &impl Abort,
+    alloc: Global,
+    stack: &mut Stack<A>,
+    step: Step,
+    want: &str,
+) -> Result<(), AllocError>
+    requires { stack.old.labels ≡ [] }
+    ensures { OnOk result (stack.new.labels ≡ []) }
+{
+    let mut shown = show(alloc, stack, event_of(alloc, step)?)?;
+    if is_refused_for_memory(&shown.reply) && want != REFUSED {
+        assert!(rt; shown.labels.is_empty(), "{step:?}");
+        shown = show(alloc, stack, event_of(alloc, step)?)?;
+    }
+    assert_eq!(rt; told(alloc, &shown)?.as_str(), want, "{step:?}");
+    Ok(())
+}
+
+/// What a write of one sector shows where memory for it was refused.
+pub(crate) const REFUSED: &str = "refused InsufficientResources a5*512";
+
+/// Carries the steps out one by one; each shows just what is wanted.
+pub(crate) fn go<A: Adapter>(
+    rt: &impl Abort,
+    alloc: Global,
+    stack: &mut Stack<A>,
+    rows: &[Row],
+) -> Result<(), AllocError>
+    requires { stack.old.labels ≡ [] }
+    ensures { OnOk result (stack.new.labels ≡ []) }
+{
+    for (step, want) in rows {
+        go_one(rt, alloc, stack, *step, want)?;
+    }
+    Ok(())
+}
+
+/// Takes the waiting answers, which are just these, in this order.
+pub(crate) fn answers<A: Adapter>(
+    rt: &impl Abort,
+    alloc: Global,
+    stack: &mut Stack<A>,
+    wanted: &[&str],
+) -> Result<(), AllocError> {
+    for want in wanted {
+        let Some(answer) = stack.take_answer() else {
+            panic!(rt; "no answer waits")
+        };
+        let mut text = String::new(alloc);
+        tell_answer(&mut text, &answer)?;
+        assert_eq!(rt; text.as_str(), *want);
+    }
+    assert!(rt; stack.take_answer().is_none());
+    Ok(())
+}

@@ -1,0 +1,44 @@
+//! A trace as text.
+
+use book::Entry;
+use machine::Label;
+use srb::DeviceLabel;
+use std::alloc::{AllocError, Global};
+
+/// As `call 1 of 0 / start 1 / act 1 / return 1 / answer 1 SUCCESS of 0`: of a call and an answer the row as well.
+pub(crate) fn trace(alloc: Global, entries: &[Entry]) -> Result<String, AllocError> {
+    let mut text = String::new(alloc);
+    for entry in entries {
+        if !text.is_empty() {
+            write!(text, " / ")?;
+        }
+        tell(&mut text, &entry.label)?;
+        if let Some(row) = entry.row {
+            write!(text, " of {row}")?;
+        }
+    }
+    Ok(text)
+}
+
+fn tell(text: &mut String, label: &Label) -> Result<(), AllocError> {
+    match label {
+        Label::Call { number, .. } => write!(text, "call {number}"),
+        Label::Device(label) => tell_device(text, label),
+        Label::Answer { number, status, .. } => write!(text, "answer {number} {status}"),
+        Label::Cancel { number } => write!(text, "cancel {number}"),
+        Label::Pause => write!(text, "pause"),
+        Label::Resume => write!(text, "resume"),
+        Label::Remove => write!(text, "remove"),
+        Label::Surprise => write!(text, "surprise"),
+        Label::Removed => write!(text, "removed"),
+    }
+}
+
+fn tell_device(text: &mut String, label: &DeviceLabel) -> Result<(), AllocError> {
+    match label {
+        DeviceLabel::Start { piece, .. } => write!(text, "start {piece}"),
+        DeviceLabel::Act { piece, .. } => write!(text, "act {piece}"),
+        DeviceLabel::Fault { piece } => write!(text, "fault {piece}"),
+        DeviceLabel::Return { piece, .. } => write!(text, "return {piece}"),
+    }
+}
