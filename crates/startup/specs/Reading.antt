@@ -1,6 +1,10 @@
 -- What an input gives.
-use Rattle.std.specs.Prelude.{◌≡◌, ℕ, List, Option, IfSome}
+use Rattle.std.specs.Prelude.{◌≡◌, ◌⊎◌, ℕ, List, Option, Some, IfSome, if◌then◌else◌}
+use Rattle.std.specs.Str.{is_utf8}
 use Rattle.settings.specs.declared.Config.{Config}
+use Rattle.settings.specs.declared.ConfigFault.{ConfigFault}
+use Rattle.settings.specs.declared.ConfigFault.TheVariants.{NotToml, NoMemory as WantOfMemory}
+use Rattle.settings.specs.Faults.{text_fault}
 use Rattle.settings.specs.Settings.{AreSettingsOf}
 use Rattle.startup.specs.declared.faults.Fault.{Fault}
 use Rattle.startup.specs.declared.faults.Fault.TheVariants.{ConfigUnreadable, Settings, Start, NoMemory}
@@ -14,6 +18,17 @@ pub record AreRead (input : Option (List ℕ)) (settings : Config) : Type 0 wher
   pub text : List ℕ
   pub all : IsAllOf input text
   pub of_text : AreSettingsOf text settings
+
+-- the first fault of a text of settings, which is UTF-8
+abbrev pub settings_fault : List ℕ → Option ConfigFault
+settings_fault text = if is_utf8 text then text_fault text else Some NotToml
+
+-- a fault of settings is that of all the text that an input has, or want of memory
+abbrev pub HasFault : Option (List ℕ) → Fault → Type 0
+HasFault input ConfigUnreadable = Unit {0}
+HasFault input (Settings fault) = (text : List ℕ) × IsAllOf input text × ((settings_fault text ≡ Some fault) ⊎ (fault ≡ WantOfMemory))
+HasFault input (Start fault) = Unit {0}
+HasFault input NoMemory = Unit {0}
 
 -- why there are no settings
 abbrev pub IsUnread : Fault → Type 0

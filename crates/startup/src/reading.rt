@@ -1,9 +1,10 @@
 //! How settings are read.
 
 ghost use Rattle.std.specs.Prelude.{IfErr, IfOk};
+ghost use Rattle.settings.specs.Faults.{IsRefusedFor};
 ghost use Rattle.settings.specs.InRange.{AreInRange};
 ghost use Rattle.settings.specs.Settings.{AreSettingsOf};
-ghost use Rattle.startup.specs.Reading.{AreRead, IsAllOf, IsUnread};
+ghost use Rattle.startup.specs.Reading.{AreRead, HasFault, IsAllOf, IsUnread, settings_fault};
 
 use crate::Fault;
 use crate::ending::fault_of;
@@ -22,6 +23,7 @@ pub fn read_settings<R: Read + Drop>(alloc: Global, input: R) -> Result<Config, 
     ensures in_range { IfOk result AreInRange }
     ensures read { IfOk result (AreRead (R.remaining input)) }
     ensures fault { IfErr result IsUnread }
+    ensures told { IfErr result (HasFault (R.remaining input)) }
 {
     match contents(alloc, input) {
         Ok(text) => Ok(settings_of(alloc, text.as_slice())?),
@@ -37,6 +39,7 @@ pub fn read_settings<R: Read + Drop>(alloc: Global, input: R) -> Result<Config, 
 pub fn settings_of(alloc: Global, text: &[u8]) -> Result<Config, ConfigFault>
     ensures in_range { IfOk result AreInRange }
     ensures settings { IfOk result (AreSettingsOf text.now) }
+    ensures fault { IsRefusedFor (settings_fault text.now) result }
 {
     match std::str::from_utf8(text) {
         Ok(text) => document::config(alloc, text),
