@@ -1,7 +1,11 @@
 -- Handles opened one after another.
-use Rattle.std.proofs.Common.{◌≡◌, ◌≢◌, ℕ, zero, suc, false, ◌+◌, ◌<◌, ◌≤◌, List, [], ◌∷◌, ◌++◌, length, Option, Some, None, option_map, slice_index_or, refl, sym, ap, ◌∙◌, subst, arith, length-append}
-use Rattle.std.specs.Prelude.{slice_get, Contains}
+use Rattle.std.proofs.Common.{◌≡◌, ◌≢◌, ℕ, zero, suc, Bool, false, true, cond, ap₂, ◌+◌, ◌<◌, ◌≤◌, List, [], ◌∷◌, ◌++◌, length, Option, Some, None, option_map, slice_index_or, refl, sym, ap, ◌∙◌, subst, arith, length-append}
+use Rattle.std.specs.Prelude.{slice_get, Contains, count_by, is_some, nat_le}
 use Rattle.std.proofs.lemmas.List.Sorted.{Contains-permutation}
+use Rattle.std.proofs.lemmas.List.Sums.{sum_by-cons}
+use Rattle.std.proofs.lemmas.Bool.{leb-false, leb-true}
+use Rattle.std.proofs.lemmas.Bool.Decides.{nat_tests}
+use Rattle.ntstatus.proofs.First.{none_first}
 use Rattle.std.proofs.lemmas.Option.{slice_get_within}
 use mathlib.Core.Logic.{dite}
 use native.Mathlib.Decide.{ℕ_discrete}
@@ -12,12 +16,17 @@ use Rattle.machine_laws.specs.NumberLaws.{awaited}
 use Rattle.io_manager.specs.declared.Answer.{Answer}
 use Rattle.io_manager.specs.declared.Handle.{Handle}
 use Rattle.io_manager.specs.declared.OpenHandle.{OpenHandle}
+use Rattle.ntstatus.specs.First.{when, first_some}
+use Rattle.ntstatus.specs.declared.NtStatus.TheVariants.{InvalidParameter as ParameterStatus, DeletePending as PendingStatus, DeviceBusy as BusyStatus}
 use Rattle.io_manager.specs.declared.Refusal.{Refusal}
+use Rattle.io_manager.specs.declared.Refusal.TheVariants.{InvalidHandle, InvalidParameter, DeletePending, DeviceBusy, InsufficientResources, InvalidDeviceRequest, NotFound}
 use Rattle.io_manager.specs.declared.Reply.TheVariants.{Handle as HandleReply, Refused}
-use Rattle.io_manager.specs.Calls.{status_of_refusal, open_refusal}
-use Rattle.io_manager.specs.Right.{Told, labels_of, unless_answered, IsUnmoved, IsRight, IsRightBy, OpenReplies}
+use Rattle.io_manager.specs.Calls.{are_used_up, handle_limit, number_limit, status_of_refusal, open_refusal}
+use Rattle.io_manager.specs.Right.{Told, Updates, labels_of, unless_answered, IsUnmoved, IsRight, IsRightBy, OpenReplies}
 use Rattle.io_manager.specs.Shown.{ManagerView, Holder}
-use Rattle.book.specs.Opening.{IsNew, IsFirst, IsOpenOn, AreOpened, KeepsAll, OpensOne}
+use Rattle.book.specs.declared.opening.OpenFault.{OpenFault}
+use Rattle.book.specs.declared.opening.OpenFault.TheVariants.{Refused as RefusedOpen, NoMemory}
+use Rattle.book.specs.Opening.{IsNew, IsFirst, IsOpenFault, IsOpenOn, IsSame, AreOpened, KeepsAll, OpensOne, RefusesOne}
 use Rattle.book.proofs.Noting.{get_front, get_last, some_is}
 
 -- ONE HANDLE
@@ -38,11 +47,20 @@ keeps_all old new told unmoved by = record {
       subst (λ (t : Told). Contains (t.answers ++ old.answers) answer) unmoved.nothing (Contains-permutation new.answers (told.answers ++ old.answers) answer by.untaken is);
 }
 
+-- what is given a handle has fewer of them than may be
+few_open : (old : ManagerView) (partition : ℕ) → open_refusal old partition ≡ None → count_by is_some old.handles < handle_limit
+few_open old partition none =
+    let numbers = none_first (are_used_up old.next_handle) BusyStatus _ none in
+    let going = none_first old.state.removing PendingStatus _ numbers.1 in
+    let there = none_first (nat_le (length old.rules.partitions) partition) ParameterStatus _ going.1 in
+    leb-false handle_limit (count_by is_some old.handles) (none_first (nat_le handle_limit (count_by is_some old.handles)) BusyStatus _ there.1).0
+
 pub opens_one : (old : ManagerView) (partition : ℕ) (handle : Handle) (new : ManagerView) → IsRight (OpenReplies old partition (HandleReply handle) new) old new → OpensOne old partition handle new
 opens_one old partition handle new right =
     let given = right.replies.1 in
     record {
       keeps = keeps_all old new right.told right.replies.0 right.by;
+      few = few_open old partition given.not_refused;
       number = given.next_number;
       counted = given.counted;
       was_free = given.was_free;
@@ -50,15 +68,8 @@ opens_one old partition handle new right =
     }
 
 pub refuses_one : (old : ManagerView) (partition : ℕ) (reason : Refusal) (bytes : List ℕ) (new : ManagerView) → IsRight (OpenReplies old partition (Refused reason bytes) new) old new
-    → open_refusal new partition ≡ Some (status_of_refusal reason)
-refuses_one old partition reason bytes new right =
-    let r = right.replies.1 in
-    let rules : new.rules ≡ old.rules = right.by.same_rules in
-    let state : new.state ≡ old.state = r.unmoved.same_state in
-    let handles : new.handles ≡ old.handles = r.same_handles.handles in
-    let next : new.next_handle ≡ old.next_handle = r.same_handles.next_handle in
-    let same : open_refusal new partition ≡ open_refusal old partition = cc (rules, state, handles, next) in
-    same ∙ right.replies.0
+    → RefusesOne old partition (RefusedOpen reason) new
+refuses_one old partition reason bytes new right = (right.replies.0, (right.by.same_rules, right.replies.1.unmoved.same_state))
 
 -- ALL OF THEM
 
@@ -88,6 +99,43 @@ first_keeps old new first keeps = record {
   few_left = subst (λ (s : State). labels_left new.rules s ≤ 2) (sym keeps.same_state) (subst (λ (r : Rules). labels_left r old.state ≤ 2) (sym keeps.same_rules) first.few_left);
 }
 
+-- the same in the tails of two lists
+next : {X : Type 0} (old new : List (Option X)) (slot : ℕ) (x : X) → ((other : ℕ) → suc other ≢ suc slot → slice_index_or new other None ≡ slice_index_or old other None)
+    → slice_index_or new slot None ≡ Some x → Updates old new slot (Some x)
+next old new slot x others there = record { there = there; others = λ other apart. others other (λ e. apart (cc (e))) }
+
+count_cons : {X : Type 0} (x : Option X) (xs : List (Option X)) → count_by is_some (x ∷ xs) ≡ cond (is_some x) 1 0 + count_by is_some xs
+count_cons x xs = sum_by-cons (λ o. cond (is_some o) 1 0) x xs
+
+same_count : {X : Type 0} (old new : List (Option X)) → ((k : ℕ) → slice_index_or new k None ≡ slice_index_or old k None) → count_by is_some new ≡ count_by is_some old
+same_count [] [] same = refl
+same_count [] (x ∷ new) same =
+    count_cons x new ∙ ap₂ (λ z n. cond (is_some z) 1 0 + n) (same 0) (same_count [] new (λ k. same (suc k)))
+same_count (x ∷ old) [] same =
+    let whole : count_by is_some (x ∷ old) ≡ count_by is_some old = count_cons x old ∙ ap (λ z. cond (is_some z) 1 0 + count_by is_some old) (sym (same 0)) ∙ omega arith in
+    same_count old [] (λ k. same (suc k)) ∙ sym whole
+same_count (x ∷ old) (y ∷ new) same =
+    count_cons y new ∙ ap₂ (λ z n. cond (is_some z) 1 0 + n) (same 0) (same_count old new (λ k. same (suc k))) ∙ sym (count_cons x old)
+
+-- a slot that was free is taken: one more is
+one_more : {X : Type 0} (old new : List (Option X)) (slot : ℕ) (x : X) → slice_index_or old slot None ≡ None → Updates old new slot (Some x)
+    → count_by is_some new ≡ count_by is_some old + 1
+one_more old [] slot x free u = absurd (let e : None ≡ Some x = u.there in cc (e))
+one_more [] (y ∷ new) zero x free u =
+    count_cons y new ∙ ap₂ (λ z n. cond (is_some z) 1 0 + n) u.there (same_count [] new (λ k. u.others (suc k) (λ e. absurd (cc (e)))))
+one_more [] (y ∷ new) (suc slot) x free u =
+    count_cons y new ∙ ap₂ (λ z n. cond (is_some z) 1 0 + n) (u.others 0 (λ e. absurd (cc (e)))) (one_more [] new slot x refl (next [] new slot x (λ k. u.others (suc k)) u.there))
+one_more (o ∷ old) (y ∷ new) zero x free u =
+    let first : count_by is_some (y ∷ new) ≡ 1 + count_by is_some old =
+    count_cons y new ∙ ap₂ (λ z n. cond (is_some z) 1 0 + n) u.there (same_count old new (λ k. u.others (suc k) (λ e. absurd (cc (e))))) in
+    let was : count_by is_some (o ∷ old) ≡ count_by is_some old = count_cons o old ∙ ap (λ z. cond (is_some z) 1 0 + count_by is_some old) free ∙ omega arith in
+    omega arith
+one_more (o ∷ old) (y ∷ new) (suc slot) x free u =
+    let first : count_by is_some (y ∷ new) ≡ cond (is_some o) 1 0 + (count_by is_some old + 1) =
+    count_cons y new ∙ ap₂ (λ z n. cond (is_some z) 1 0 + n) (u.others 0 (λ e. absurd (cc (e)))) (one_more old new slot x free (next old new slot x (λ k. u.others (suc k)) u.there)) in
+    let was : count_by is_some (o ∷ old) ≡ cond (is_some o) 1 0 + count_by is_some old = count_cons o old in
+    omega arith
+
 -- so many handles were opened
 pub record WereOpened (partitions : List ℕ) (count : ℕ) (handles : List Handle) (old now : ManagerView) : Type 0 where
   pub same_rules : now.rules ≡ old.rules
@@ -95,6 +143,8 @@ pub record WereOpened (partitions : List ℕ) (count : ℕ) (handles : List Hand
   pub first : IsFirst now
   pub counted : length handles ≡ count
   pub next : now.next_handle ≡ count + 1
+  pub are_open : count_by is_some now.handles ≡ count
+  pub few : count ≤ handle_limit
   pub number : (c : ℕ) (handle : Handle) → slice_get handles c ≡ Some handle → handle.number ≡ c + 1
   pub opened : (c : ℕ) (handle : Handle) (partition : ℕ) → slice_get handles c ≡ Some handle → slice_get partitions c ≡ Some partition → IsOpenOn now.handles handle partition
   pub others : (slot : ℕ) (handle : OpenHandle) → slice_index_or now.handles slot None ≡ Some handle → (c : ℕ) × (handle.number ≡ c + 1) × (c < count)
@@ -106,6 +156,8 @@ none_opened partitions old new = record {
   first = first_of_new old new;
   counted = refl;
   next = new.first_handle;
+  are_open = ap (count_by is_some) new.no_handles;
+  few = omega arith;
   number = λ c handle is. absurd (cc (is));
   opened = λ c handle partition is at. absurd (cc (is));
   others = λ slot handle is. absurd (none (sym (ap (λ hs. slice_index_or hs slot None) new.no_handles) ∙ is));
@@ -132,6 +184,8 @@ opened_next partitions count handles old mid partition handle new were at one = 
   first = first_keeps mid new were.first one.keeps;
   counted = length-append handles (handle ∷ []) ∙ ap (λ n. n + 1) were.counted;
   next = one.counted ∙ ap (λ n. n + 1) were.next;
+  are_open = one_more mid.handles new.handles handle.slot (record { number = handle.number; partition = partition }) one.was_free one.opens ∙ ap (λ n. n + 1) were.are_open;
+  few = let few = one.few in let open' = were.are_open in omega arith;
   number = λ c other is. dite
       (ℕ_discrete c (length handles))
       (λ (here : c ≡ length handles). ap (λ (h : Handle). h.number) (sym (last_is handles handle other c is here)) ∙ one.number ∙ were.next ∙ ap (λ n. n + 1) (sym were.counted ∙ sym here))
@@ -179,3 +233,51 @@ all_opened partitions handles old new were = record {
   };
   given = record { count = were.counted; number = were.number; opened = were.opened };
 }
+
+not_used_up : (next : ℕ) → next < number_limit → are_used_up next ≡ false
+not_used_up next low = grind (arith, nat_tests)
+
+-- a partition that is refused after so many handles were opened
+pub refused_next : (partitions : List ℕ) (count : ℕ) (handles : List Handle) (old mid : ManagerView) (partition : ℕ) (fault : OpenFault) (new : ManagerView) → IsNew old
+    → WereOpened partitions count handles old mid → slice_get partitions count ≡ Some partition → RefusesOne mid partition fault new
+    → IsOpenFault old.rules partitions fault × IsSame old new
+refused_next partitions count handles old mid partition NoMemory new is_new were at refuses = absurd refuses
+refused_next partitions count handles old mid partition (RefusedOpen reason) new is_new were at refuses =
+    (by _ _ _ _ refl refl refl refl reason refuses.0, (refuses.1.0 ∙ were.same_rules, refuses.1.1 ∙ were.same_state))
+  where
+    numbered : are_used_up mid.next_handle ≡ false
+    numbered = let next_is = were.next in let few = were.few in let low : mid.next_handle < number_limit = omega arith in not_used_up mid.next_handle low
+
+    going : mid.state.removing ≡ false
+    going = ap (λ (s : State). s.removing) (were.same_state ∙ is_new.state)
+
+    is_there : nat_le (length mid.rules.partitions) partition ≡ true → length old.rules.partitions ≤ partition
+    is_there past = subst (λ (r : Rules). length r.partitions ≤ partition) were.same_rules (leb-true (length mid.rules.partitions) partition past)
+
+    too_many : nat_le handle_limit (count_by is_some mid.handles) ≡ true → handle_limit < length partitions
+    too_many many =
+        let within = slice_get_within partitions count partition at in
+        let open_are = were.are_open in
+        let full = leb-true handle_limit (count_by is_some mid.handles) many in
+        omega arith
+
+    by : (a b c d : Bool) → are_used_up mid.next_handle ≡ a → mid.state.removing ≡ b → nat_le (length mid.rules.partitions) partition ≡ c → nat_le handle_limit (count_by is_some mid.handles) ≡ d
+        → (reason : Refusal) → first_some (when a BusyStatus ∷ when b PendingStatus ∷ when c ParameterStatus ∷ when d BusyStatus ∷ []) ≡ Some (status_of_refusal reason)
+        → IsOpenFault old.rules partitions (RefusedOpen reason)
+    by true b c d used removing past many reason e = absurd (cc (used, numbered))
+    by false true c d used removing past many reason e = absurd (cc (removing, going))
+    by false false true d used removing past many InvalidParameter e = (count, partition, at, is_there past)
+    by false false true d used removing past many InvalidHandle e = absurd (cc (e))
+    by false false true d used removing past many DeletePending e = absurd (cc (e))
+    by false false true d used removing past many DeviceBusy e = absurd (cc (e))
+    by false false true d used removing past many InsufficientResources e = absurd (cc (e))
+    by false false true d used removing past many InvalidDeviceRequest e = absurd (cc (e))
+    by false false true d used removing past many NotFound e = absurd (cc (e))
+    by false false false true used removing past many DeviceBusy e = too_many many
+    by false false false true used removing past many InvalidHandle e = absurd (cc (e))
+    by false false false true used removing past many DeletePending e = absurd (cc (e))
+    by false false false true used removing past many InvalidParameter e = absurd (cc (e))
+    by false false false true used removing past many InsufficientResources e = absurd (cc (e))
+    by false false false true used removing past many InvalidDeviceRequest e = absurd (cc (e))
+    by false false false true used removing past many NotFound e = absurd (cc (e))
+    by false false false false used removing past many reason e = absurd (cc (e))

@@ -1,12 +1,14 @@
 -- Handles opened for the clients of a book, on a stack of which nothing was asked yet.
-use Rattle.std.specs.Prelude.{◌≡◌, Contains, ◌<◌, ◌≤◌, ℕ, ◌+◌, List, [], Option, Some, None, length, slice_get, slice_index_or}
+use Rattle.std.specs.Prelude.{◌≡◌, Contains, ◌<◌, ◌≤◌, ℕ, ◌+◌, List, [], Option, Some, None, count_by, is_some, length, slice_get, slice_index_or}
+use Rattle.machine.specs.Rules.{Rules}
 use Rattle.machine.specs.State.{opening}
 use Rattle.machine_laws.specs.LabelsLeft.{labels_left}
 use Rattle.machine_laws.specs.NumberLaws.{awaited}
 use Rattle.io_manager.specs.declared.Answer.{Answer}
 use Rattle.io_manager.specs.declared.Handle.{Handle}
 use Rattle.io_manager.specs.declared.OpenHandle.{OpenHandle}
-use Rattle.io_manager.specs.Calls.{status_of_refusal, open_refusal}
+use Rattle.io_manager.specs.declared.Refusal.TheVariants.{InvalidParameter, DeviceBusy}
+use Rattle.io_manager.specs.Calls.{handle_limit, status_of_refusal, open_refusal}
 use Rattle.io_manager.specs.Right.{Updates}
 use Rattle.io_manager.specs.Shown.{ManagerView}
 use Rattle.book.specs.declared.opening.OpenFault.{OpenFault}
@@ -61,10 +63,16 @@ pub record AreOpened (partitions : List ℕ) (handles : List Handle) (old new : 
   pub clients : AreClientsOf partitions new.handles
   pub given : AreHandlesOf partitions handles new
 
--- why not all could be opened: memory was refused, or the stack refuses one of these partitions
-abbrev pub IsOpenFault : List ℕ → OpenFault → ManagerView → Type 0
-IsOpenFault partitions NoMemory new = Unit {0}
-IsOpenFault partitions (Refused reason) new = (c : ℕ) × (partition : ℕ) × (slice_get partitions c ≡ Some partition) × (open_refusal new partition ≡ Some (status_of_refusal reason))
+-- a partition is named that there is not
+abbrev pub NamesNone : Rules → List ℕ → Type 0
+NamesNone rules partitions = (c : ℕ) × (partition : ℕ) × (slice_get partitions c ≡ Some partition) × (length rules.partitions ≤ partition)
+
+-- why not all could be opened: one of these partitions is not there; they are more than handles may be open; or memory was refused
+abbrev pub IsOpenFault : Rules → List ℕ → OpenFault → Type 0
+IsOpenFault rules partitions (Refused InvalidParameter) = NamesNone rules partitions
+IsOpenFault rules partitions (Refused DeviceBusy) = handle_limit < length partitions
+IsOpenFault rules partitions (Refused _) = ⊥
+IsOpenFault rules partitions NoMemory = Unit {0}
 
 -- ONE HANDLE
 
@@ -79,12 +87,17 @@ pub record KeepsAll (old new : ManagerView) : Type 0 where
 -- a handle more, under the next number and in a slot that was free
 pub record OpensOne (old : ManagerView) (partition : ℕ) (handle : Handle) (new : ManagerView) : Type 0 where
   pub keeps : KeepsAll old new
+  pub few : count_by is_some old.handles < handle_limit
   pub number : handle.number ≡ old.next_handle
   pub counted : new.next_handle ≡ old.next_handle + 1
   pub was_free : slice_index_or old.handles handle.slot None ≡ None
   pub opens : Updates old.handles new.handles handle.slot (Some (record { number = handle.number; partition = partition }))
 
+-- neither the rules nor the state changed
+abbrev pub IsSame : ManagerView → ManagerView → Type 0
+IsSame old new = (new.rules ≡ old.rules) × (new.state ≡ old.state)
+
 -- none, and why
-abbrev pub RefusesOne : ℕ → OpenFault → ManagerView → Type 0
-RefusesOne partition NoMemory new = ⊥
-RefusesOne partition (Refused reason) new = open_refusal new partition ≡ Some (status_of_refusal reason)
+abbrev pub RefusesOne : ManagerView → ℕ → OpenFault → ManagerView → Type 0
+RefusesOne old partition NoMemory new = ⊥
+RefusesOne old partition (Refused reason) new = (open_refusal old partition ≡ Some (status_of_refusal reason)) × IsSame old new

@@ -1,7 +1,7 @@
 //! Handles for the clients of a book.
 
 ghost use Rattle.std.specs.Prelude.{◌≡◌, [], IfOk, IfErr, MatchResult};
-ghost use Rattle.book.specs.Opening.{AreOpened, IsNew, IsOpenFault, OpensOne, RefusesOne};
+ghost use Rattle.book.specs.Opening.{AreOpened, IsNew, IsOpenFault, IsSame, OpensOne, RefusesOne};
 
 use adapter::Adapter;
 use compose::{Event, Handle, Refusal, Reply, Stack};
@@ -34,7 +34,8 @@ impl From<AllocError> for OpenFault {
 ///
 /// # Errors
 ///
-/// [`OpenFault::Refused`] where the stack refuses one of them; [`OpenFault::NoMemory`]. Some handles may then be open.
+/// [`OpenFault::Refused`] with `InvalidParameter` where one of them is not there, and with `DeviceBusy` where they are more
+/// than 64; [`OpenFault::NoMemory`]. Some handles may then be open.
 pub fn open_handles<A: Adapter>(
     alloc: Global,
     stack: &mut Stack<A>,
@@ -42,7 +43,8 @@ pub fn open_handles<A: Adapter>(
 ) -> Result<Vec<Handle>, OpenFault>
     requires { IsNew stack.old }
     ensures opened { IfOk result (λ handles. AreOpened partitions.now handles.items stack.old stack.new) }
-    ensures fault { IfErr result (λ fault. IsOpenFault partitions.now fault stack.new) }
+    ensures fault { IfErr result (IsOpenFault stack.old.rules partitions.now) }
+    ensures same { IsSame stack.old stack.new }
 {
     let mut handles = Vec::new(alloc);
     for c in 0..partitions.len() {
@@ -60,7 +62,7 @@ fn open_one<A: Adapter>(
     partition: u8,
 ) -> Result<Handle, OpenFault>
     requires taken { stack.old.labels ≡ [] }
-    ensures { MatchResult result (λ handle. OpensOne stack.old partition handle stack.new) (λ fault. RefusesOne partition fault stack.new) }
+    ensures { MatchResult result (λ handle. OpensOne stack.old partition handle stack.new) (λ fault. RefusesOne stack.old partition fault stack.new) }
 {
     match stack.step(alloc, Event::Open { partition }) {
         Reply::Handle(handle) => Ok(handle),

@@ -75,4 +75,3 @@ pub mod AllSent
 pub mod OthersStay
 pub mod SubmitDone
 pub mod OpeningBegins
-pub mod Trying

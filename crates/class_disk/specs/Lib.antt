@@ -9,4 +9,3 @@ pub mod Driver
 pub mod Opening
 pub mod Midway
 pub mod Order
-pub mod Client

@@ -20,8 +20,6 @@ mod numbers;
 mod parts;
 mod requests;
 mod table;
-#[cfg(test)]
-mod tests;
 mod transfers;
 
 use device::Device;

@@ -18,4 +18,3 @@ pub mod Withdrawing
 pub mod Cancelling
 pub mod Turning
 pub mod Opening
-pub mod Trying

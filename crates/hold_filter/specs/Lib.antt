@@ -8,4 +8,3 @@ pub mod Order
 pub mod Handing
 pub mod Cancelling
 pub mod Opening
-pub mod Client

@@ -18,8 +18,6 @@ ghost use Rattle.hold_filter.specs.Opening.{IsFreshBelow, opening_over, held_cou
 mod layer;
 mod packets;
 mod table;
-#[cfg(test)]
-mod tests;
 mod turns;
 
 use device::Device;

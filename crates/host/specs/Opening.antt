@@ -5,14 +5,12 @@ use Rattle.machine.specs.Rules.{Rules}
 use Rattle.machine.specs.State.{State, opening}
 use Rattle.io_manager.specs.declared.Handle.{Handle}
 use Rattle.io_manager.specs.declared.OpenHandle.{OpenHandle}
-use Rattle.io_manager.specs.Calls.{open_refusal}
 use Rattle.io_manager.specs.Shown.{ManagerView}
-use Rattle.ntstatus.specs.declared.NtStatus.{NtStatus}
 use Rattle.remove_lock.specs.Gate.{Standing as PassStanding, standing as pass_of, fresh as fresh_pass}
 use Rattle.cancel_marks.specs.Marks.{Standing as SeatStanding, standing as seat_of, starting, IsOther}
 use Rattle.book.specs.declared.sizes.Sizes.{Sizes}
 use Rattle.book.specs.Sizes.{AreSizes, sizes_of}
-use Rattle.book.specs.Opening.{AreClientsOf, IsFirst, IsOpenOn}
+use Rattle.book.specs.Opening.{AreClientsOf, IsFirst, IsOpenOn, NamesNone}
 use Rattle.host.specs.declared.opened.Gear.{Gear}
 use Rattle.host.specs.declared.opened.HostFault.{HostFault}
 use Rattle.host.specs.declared.opened.HostFault.TheVariants.{TooManyClients, NoPartition, NoMemory}
@@ -82,10 +80,8 @@ pub record IsReady (partitions : List ℕ) (stack : ManagerView) (handles : List
   pub count_passes : length passes ≡ length partitions + 1
   pub are_passes : All (IsClientPass gate) passes
 
--- why there is no host: too many clients; or a partition on which the stack, with some of the handles open, opens no handle; or memory was refused
-abbrev pub IsHostFault : List ℕ → HostFault → Type 0
-IsHostFault partitions TooManyClients = client_limit < length partitions
-IsHostFault partitions NoPartition =
-    (stack : ManagerView) × (c : ℕ) × (partition : ℕ) × (status : NtStatus)
-    × (slice_get partitions c ≡ Some partition) × (open_refusal stack partition ≡ Some status)
-IsHostFault partitions NoMemory = Unit {0}
+-- why there is no host: too many clients; or one of their partitions is not there; or memory was refused
+abbrev pub IsHostFault : Rules → List ℕ → HostFault → Type 0
+IsHostFault rules partitions TooManyClients = client_limit < length partitions
+IsHostFault rules partitions NoPartition = NamesNone rules partitions
+IsHostFault rules partitions NoMemory = Unit {0}

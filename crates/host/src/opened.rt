@@ -27,7 +27,7 @@ pub enum HostFault {
     /// More than 64 clients.
     #[error("more than 64 clients")]
     TooManyClients,
-    /// The stack opens no handle on the partition of one of them.
+    /// The stack doesn't have the partition of one of them.
     #[error("no such partition")]
     NoPartition,
     /// Memory was refused.
@@ -141,7 +141,7 @@ fn make_gear<A: Adapter>(
     ensures few { IfOk result (λ _. length partitions.now ≤ client_limit) }
     ensures gear { IfOk result (λ gear. IsGear partitions.now slots gear) }
     ensures opened { IfOk result (λ gear. AreOpened partitions.now gear.handles.items stack.old stack.new) }
-    ensures fault { IfErr result (IsHostFault partitions.now) }
+    ensures fault { IfErr result (IsHostFault stack.old.rules partitions.now) }
 {
     if partitions.len() > CLIENTS {
         return Err(HostFault::TooManyClients);
@@ -172,8 +172,8 @@ impl<A: Adapter> Opened<A> {
     ///
     /// # Errors
     ///
-    /// [`HostFault::TooManyClients`] for more than 64 partitions; [`HostFault::NoPartition`] where the stack opens no handle
-    /// on one of them; [`HostFault::NoMemory`].
+    /// [`HostFault::TooManyClients`] for more than 64 partitions; [`HostFault::NoPartition`] where the stack doesn't have
+    /// one of them; [`HostFault::NoMemory`].
     pub fn new(
         alloc: Global,
         stack: Stack<A>,
@@ -186,7 +186,7 @@ impl<A: Adapter> Opened<A> {
         requires slots { stack.rules.open_requests ≡ Some slots }
         ensures partitions { IfOk result (λ o. (o.partitions ≡ partitions.now) × (o.parts ≡ length partitions.now + 1)) }
         ensures stack { IfOk result (λ o. (o.rules ≡ stack.rules) × (o.opening ≡ stack.state)) }
-        ensures fault { IfErr result (IsHostFault partitions.now) }
+        ensures fault { IfErr result (IsHostFault stack.rules partitions.now) }
     {
         let mut stack = stack;
         let gear = make_gear(alloc, &mut stack, slots, partitions)?;

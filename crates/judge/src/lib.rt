@@ -27,8 +27,6 @@ mod sectors;
 mod settling;
 mod starts;
 mod steps;
-#[cfg(test)]
-mod tests;
 
 pub use judging::{Verdict, judge};
 pub use machine_state::{Machine, Sectors};

@@ -24,8 +24,6 @@ mod replies;
 mod requests;
 mod session;
 mod streams;
-#[cfg(test)]
-mod tests;
 
 pub use arrays::{Array, ArrayFault, Sizes};
 pub use laws::{one_spelling, written_inside};

@@ -9,7 +9,7 @@ use Rattle.startup.specs.Reading.{AreRead}
 use Rattle.nbd_disk.specs.Serving.{IsConfigFault, IsServed, IsStartFault, fault_of_end, new_array}
 
 module _ (config : Option (List ℕ)) (p : ℕ) (input out : Option (List ℕ)) where
-  pub without_settings : (fault : Fault) → IsConfigFault fault → IsServed config p input out (Some fault) input out
+  pub without_settings : (fault : Fault) → IsConfigFault config fault → IsServed config p input out (Some fault) input out
   without_settings fault why = inl (record { fault = fault; told_is = refl; early = inl why; unread = refl; unwritten = refl })
 
   module _ (settings : Config) (are_read : AreRead config settings) where

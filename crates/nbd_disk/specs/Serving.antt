@@ -5,7 +5,7 @@ use Rattle.io_manager.specs.declared.Refusal.TheVariants.{InvalidParameter}
 use Rattle.settings.specs.declared.Config.{Config}
 use Rattle.settings.specs.Medium.{extents_of, zeros}
 use Rattle.startup.specs.declared.faults.Fault.TheVariants.{Start}
-use Rattle.startup.specs.Reading.{AreRead, IsUnread}
+use Rattle.startup.specs.Reading.{AreRead, HasFault, IsUnread}
 use Rattle.startup.specs.Started.{IsStartFault as IsStackFault}
 use Rattle.volume.specs.declared.OpenFault.{OpenFault}
 use Rattle.volume.specs.declared.OpenFault.TheVariants.{Start as NotStarted, Refused}
@@ -45,14 +45,14 @@ IsStartFault c p NoPartition = length (extents_of c) ≤ p
 IsStartFault c p NoMemory = Unit {0}
 IsStartFault c p _ = ⊥
 
--- why there are no settings
-abbrev pub IsConfigFault : Fault → Type 0
-IsConfigFault (Startup fault) = IsUnread fault
-IsConfigFault _ = ⊥
+-- why an input gives no settings
+abbrev pub IsConfigFault : Option (List ℕ) → Fault → Type 0
+IsConfigFault config (Startup fault) = IsUnread fault × HasFault config fault
+IsConfigFault config _ = ⊥
 
 -- why no session began
 abbrev pub IsEarly : Option (List ℕ) → ℕ → Fault → Type 0
-IsEarly config p fault = IsConfigFault fault ⊎ ((settings : Config) × AreRead config settings × IsStartFault settings p fault)
+IsEarly config p fault = IsConfigFault config fault ⊎ ((settings : Config) × AreRead config settings × IsStartFault settings p fault)
 
 -- no session began: nothing was read or written
 pub record HasNone (config : Option (List ℕ)) (p : ℕ) (input out : Option (List ℕ)) (told : Option Fault) (rest after : Option (List ℕ)) : Type 0 where

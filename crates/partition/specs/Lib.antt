@@ -4,4 +4,3 @@ pub mod Shown
 pub mod Kept
 pub mod Opening
 pub mod Order
-pub mod Client

@@ -16,8 +16,6 @@ ghost use Rattle.partition.specs.Opening.{IsFreshDisk, opening_view};
 
 mod layer;
 mod locations;
-#[cfg(test)]
-mod tests;
 
 use arrayvec::ArrayVec;
 use device::{Device, Request};

@@ -16,6 +16,5 @@ pub mod Searching
 pub mod Draining
 pub mod Marking
 pub mod Fresh
-pub mod Trying
 pub mod Queued
 pub mod Spots

@@ -6,4 +6,3 @@ pub mod Order
 pub mod Opening
 pub mod Releases
 pub mod Cancelling
-pub mod Client

@@ -16,8 +16,6 @@ ghost use Rattle.port.specs.Opening.{IsFresh, opening_view};
 
 mod layer;
 mod queues;
-#[cfg(test)]
-mod tests;
 mod turns;
 
 use device::{Device, Request};

@@ -1,7 +1,8 @@
 //! Clients of one stack, each in a thread of its own, which write, read and compare for so many rounds, over lanes and a
 //! completion worker.
 //!
-//! It promises to the crate above, by the contract of [`run`] (`most`), that no more calls have succeeded than were made.
+//! It promises to the crate above, by the contract of [`run`] (`most`, `fault`), that no more calls have succeeded than were
+//! made, and that a partition is missed only where the stack has none.
 //! That what a client reads is what it wrote is compared at run time: a [`Tally`] counts what differed. It promises nothing
 //! of progress.
 #![tactic(auto)]
@@ -11,9 +12,10 @@ mod client;
 mod tests;
 mod threads;
 
-ghost use Rattle.std.specs.Prelude.{◌≡◌, ◌≤◌, ◌*◌, IfOk, Some};
+ghost use Rattle.std.specs.Prelude.{◌≡◌, ◌≤◌, ◌*◌, IfErr, IfOk, Some};
 ghost use Rattle.book.specs.Opening.{IsNew};
 ghost use Rattle.book.specs.Sizes.{AreSizes, sizes_of};
+ghost use Rattle.rounds.specs.Faults.{IsRoundsFault};
 
 use crate::threads::serve;
 use adapter::Adapter;
@@ -79,14 +81,16 @@ pub fn run<A: Adapter + Send, R: Threads + Wait + Sync>(
     requires slots { stack.rules.open_requests ≡ Some slots }
     requires plan { (1 ≤ plan.clients) × (plan.clients ≤ 32) × (1 ≤ plan.depth) × (plan.depth ≤ 32) }
     ensures most { IfOk result (λ t. t.answered ≤ 2 * (plan.clients * plan.rounds)) }
+    ensures fault { IfErr result (IsRoundsFault stack.rules) }
 {
-    let mut partitions = Vec::new(alloc);
-    if partitions.resize(usize::from(plan.clients), 0).is_err() {
+    let Ok(partitions) = Vec::from_elem(alloc, 0, usize::from(plan.clients)) else {
         return Err(RoundsFault::NoMemory);
-    }
+    };
     match Opened::new(alloc, stack, sizes, slots, partitions.as_slice()) {
         Ok(opened) => serve::<A, Brand, R>(rt, alloc, opened, plan),
         Err(HostFault::NoMemory) => Err(RoundsFault::NoMemory),
-        Err(_) => Err(RoundsFault::NoPartition),
+        Err(HostFault::NoPartition) => Err(RoundsFault::NoPartition),
+        // They are 32 at most.
+        Err(HostFault::TooManyClients) => unreachable!(),
     }
 }

@@ -1,8 +1,9 @@
 //! The threads: lanes, a completion worker, and clients.
 
-ghost use Rattle.std.specs.Prelude.{◌≡◌, ◌≤◌, ◌<◌, ◌+◌, ◌*◌, ℕ, suc, IfOk, IfSome, get_or, length};
+ghost use Rattle.std.specs.Prelude.{◌≡◌, ◌≤◌, ◌<◌, ◌+◌, ◌*◌, ℕ, suc, IfErr, IfOk, IfSome, get_or, length};
 ghost use Rattle.lanes.specs.Queue.{fresh_lane, issued, lanes_of, standing};
 ghost use Rattle.host.specs.Clients.{AreNumbered};
+ghost use Rattle.rounds.specs.declared.RoundsFault.TheVariants.{NoMemory};
 
 use crate::client::{Served, serve_client};
 use crate::{Plan, RoundsFault, Tally};
@@ -255,6 +256,7 @@ pub(crate) fn serve<A: Adapter + Send, N: Naming + Send + Sync, R: Threads + Wai
     requires clients { length N.partitions ≡ plan.clients }
     requires plan { (plan.clients ≤ 32) × (1 ≤ plan.depth) × (plan.depth ≤ 32) }
     ensures most { IfOk result (λ t. t.answered ≤ 2 * (plan.clients * plan.rounds)) }
+    ensures fault { IfErr result (λ fault. fault ≡ NoMemory) }
 {
     let Ok((host, keeper, clients)) = Host::<A, N>::new(alloc, opened) else {
         return Err(RoundsFault::NoMemory);

@@ -13,8 +13,6 @@ mod orders;
 mod player;
 mod printing;
 mod runs;
-#[cfg(test)]
-mod tests;
 
 pub use numbers::Given;
 pub use orders::lines;

@@ -1,1 +1,2 @@
+mod Blaming
 mod Emitted

@@ -1,10 +1,13 @@
 //! Clients over the stack of some settings, in threads of their own, and what comes of them in print.
 
-ghost use Rattle.std.specs.Prelude.{◌≡◌, ◌≤◌, ◌++◌, ◌∷◌, [], OnOk, IfOk};
+ghost use Rattle.std.specs.Prelude.{◌≡◌, ◌≤◌, ◌++◌, ◌∷◌, ◌↔◌, [], OnOk, IfErr, IfOk, IsTrue};
 ghost use Rattle.std.specs.Io.KnownBytes.{Appends};
 ghost use Rattle.book.specs.Sizes.{AreSizes, sizes_of};
 ghost use Rattle.settings.specs.InRange.{AreInRange};
-ghost use Rattle.stackrun.specs.Clients.{PrintsTally, tally_line, verdict_on};
+ghost use Rattle.stackrun.specs.Clients.{HasRoom, IsClientsFault, IsOutputFault, PrintsTally, tally_line, verdict_on};
+ghost use Rattle.settings.specs.declared.ConfigFault.TheVariants.{OutOfRange};
+ghost use Rattle.stackrun.specs.declared.faults.Fault.TheVariants.{Startup};
+ghost use Rattle.startup.specs.declared.faults.Fault.TheVariants.{Settings};
 ghost use Rattle.startup.specs.Started.{rules_of};
 
 use crate::faults::Fault;
@@ -43,6 +46,7 @@ pub fn clients<C: Read + Drop, O: Write, R: Threads + Wait + Sync>(
 ) -> Result<Verdict, Fault>
     requires { (1 ≤ threads) × (threads ≤ 32) }
     ensures printed { IfOk result (PrintsTally threads rounds (O.contents out.old) (O.contents out.new)) }
+    ensures fault { IfErr result (IsClientsFault (C.remaining config) threads) }
 {
     let config = read_settings(alloc, config)?;
     let has_room = has_room(&config, threads);
@@ -65,17 +69,28 @@ pub fn clients<C: Read + Drop, O: Write, R: Threads + Wait + Sync>(
     };
     match write_tally(out, threads, rounds, &tally) {
         Ok(()) => Ok(verdict(threads, rounds, &tally)),
-        Err(error) => Err(fault_of(&error, Fault::Script(ScriptFault::OutputFailed))),
+        Err(error) => Err(output_fault(&error)),
     }
 }
 
 /// The fault of settings that have no room for the clients.
-fn out_of_range() -> Fault {
+fn out_of_range() -> Fault
+    ensures { result ≡ Startup (Settings OutOfRange) }
+{
     Fault::Startup(startup::Fault::Settings(ConfigFault::OutOfRange))
 }
 
+/// The fault of a line that could not be written.
+fn output_fault(error: &io::Error) -> Fault
+    ensures { IsOutputFault result }
+{
+    fault_of(error, Fault::Script(ScriptFault::OutputFailed))
+}
+
 /// Whether each client has a sector of partition 0 and may have a request open.
-fn has_room(config: &Config, threads: u16) -> bool {
+fn has_room(config: &Config, threads: u16) -> bool
+    ensures { IsTrue result ↔ HasRoom config.now threads }
+{
     match config.partitions.first() {
         Some(partition) => {
             u32::from(threads) <= partition.count && u32::from(threads) <= config.open_requests

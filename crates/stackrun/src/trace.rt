@@ -1,9 +1,9 @@
 //! A script run through the stack of its settings, and its trace in print.
 
-ghost use Rattle.std.specs.Prelude.{IfOk, OnOk};
+ghost use Rattle.std.specs.Prelude.{IfErr, IfOk, OnOk};
 ghost use Rattle.script.specs.Trace.{Prints};
 ghost use Rattle.startup.specs.Reading.{IsAllOf};
-ghost use Rattle.stackrun.specs.Trace.{IsPrintOf};
+ghost use Rattle.stackrun.specs.Trace.{IsPrintOf, IsTraceFault, IsUnreadScript};
 
 use crate::faults::Fault;
 use script::{ScriptFault, lines, play};
@@ -25,6 +25,7 @@ pub fn trace<C: Read + Drop, S: Read + Drop, O: Write>(
     out: &mut O,
 ) -> Result<(), Fault>
     ensures text { OnOk result (Prints (O.contents out.old) (O.contents out.new) (IsPrintOf (C.remaining config) (S.remaining script))) }
+    ensures fault { IfErr result (IsTraceFault (C.remaining config) (S.remaining script)) }
 {
     let config = read_settings(alloc, config)?;
     let script = bytes_of(alloc, script)?;
@@ -39,7 +40,8 @@ pub fn trace<C: Read + Drop, S: Read + Drop, O: Write>(
 
 /// All bytes of a script.
 fn bytes_of<R: Read + Drop>(alloc: Global, script: R) -> Result<Vec<u8>, Fault>
-    ensures { IfOk result (λ bytes. IsAllOf (R.remaining script) bytes.items) }
+    ensures all { IfOk result (λ bytes. IsAllOf (R.remaining script) bytes.items) }
+    ensures fault { IfErr result IsUnreadScript }
 {
     match contents(alloc, script) {
         Ok(bytes) => Ok(bytes),

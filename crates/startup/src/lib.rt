@@ -12,8 +12,6 @@ mod ending;
 mod faults;
 mod reading;
 mod starting;
-#[cfg(test)]
-mod tests;
 
 pub use ending::{Ending, Verdict, ended, fault_of, say};
 pub use faults::Fault;

@@ -54,6 +54,3 @@ pub enum OpenFault {
     #[error("the partition was refused: {0:?}")]
     Refused(Refusal),
 }
-
-#[cfg(test)]
-mod tests;

@@ -1,0 +1,4 @@
+pub mod Ready
+pub mod Holding
+pub mod Served
+pub mod Askable

@@ -1,0 +1,14 @@
+//! Tests of the libraries beside the stack and over it, by their public calls: the judge, sessions of NBD, volumes, what
+//! settings start, and scripts. Each compares what a call answers with values worked by hand.
+#![tactic(auto)]
+
+#[cfg(test)]
+mod scripts;
+#[cfg(test)]
+mod sessions;
+#[cfg(test)]
+mod starts;
+#[cfg(test)]
+mod verdicts;
+#[cfg(test)]
+mod volumes;

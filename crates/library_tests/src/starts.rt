@@ -1,0 +1,148 @@
+//! What no contract says: what is opened with ample memory, what failed reads and writes give, and who says nothing.
+
+use compose::{Refusal, StartFault};
+use mbr::MbrFault;
+use settings::ConfigFault;
+use startup::{
+    Ending, Fault, Verdict, contents, ended, open, read_settings, say, settings_of, start,
+};
+use std::alloc::Global;
+use std::io::{ErrorKind, Read, Write};
+use std::test::Fail;
+use std::{fmt, io};
+use volume::OpenFault;
+
+/// A disk of four sectors, of which the last two are the partition.
+const SETTINGS: &str =
+    "sector_size = 512\nsectors = 4\nmax_transfer = 1\ndepth = 1\nwindow = 1\n[[partition]]\nfirst = 2\ncount = 2\n";
+
+/// Whether a stack is opened over the disk of a text's settings.
+fn starts(alloc: Global, text: &str) -> bool {
+    match read_settings(alloc, text.as_bytes()) {
+        Ok(config) => start(alloc, config).is_ok(),
+        Err(_) => false,
+    }
+}
+
+/// The sectors of the volume of partition 0 of a text's settings, and their bytes.
+fn sizes_of(alloc: Global, text: &str) -> Option<(u64, u64)> {
+    let config = settings_of(alloc, text.as_bytes()).ok()?;
+    let volume = open(alloc, config, 0).ok()?;
+    let sizes = volume.sizes();
+    Some((sizes.sectors, sizes.sector_size))
+}
+
+#[test]
+fn opens_a_stack_and_a_volume(rt: HostRuntime) -> Result<(), Fail> {
+    assert!(rt; starts(rt.alloc(), SETTINGS));
+    assert!(rt; sizes_of(rt.alloc(), SETTINGS) == Some((2, 512)));
+    Ok(())
+}
+
+/// Why no volume of partition 1 is opened, of the disk of a text's settings.
+fn refusal(alloc: Global, text: &str) -> Option<OpenFault> {
+    match settings_of(alloc, text.as_bytes()) {
+        Ok(config) => open(alloc, config, 1).err(),
+        Err(_) => None,
+    }
+}
+
+#[test]
+fn says_why_there_is_no_volume(rt: HostRuntime) -> Result<(), Fail> {
+    let alloc = rt.alloc();
+    let none = refusal(alloc, SETTINGS);
+    assert!(rt; none == Some(OpenFault::Refused(Refusal::InvalidParameter)));
+    let twice = format!(in alloc; "{SETTINGS}[[partition]]\nfirst = 3\ncount = 1\n")?;
+    let overlap = refusal(alloc, twice.as_str());
+    assert!(rt; overlap == Some(OpenFault::Start(StartFault::Mbr(MbrFault::Overlap))));
+    Ok(())
+}
+
+/// A reader that gives some bytes, and then fails; and a writer that fails.
+#[derive(Drop)]
+struct Torn<'a> {
+    bytes: &'a [u8],
+    kind: ErrorKind,
+}
+
+impl Read for Torn<'_> {
+    fn read(&mut self, buf: &mut [u8]) -> io::Result<usize> {
+        match self.bytes.read(buf)? {
+            0 => Err(io::Error::from(self.kind)),
+            count => Ok(count),
+        }
+    }
+}
+
+impl Write for Torn<'_> {
+    fn write(&mut self, _buf: &[u8]) -> io::Result<usize> {
+        Err(io::Error::from(self.kind))
+    }
+
+    fn flush(&mut self) -> io::Result<()> {
+        Err(io::Error::from(self.kind))
+    }
+}
+
+/// Why settings that are cut off by this failure can't be read.
+fn unread(alloc: Global, kind: ErrorKind) -> Option<Fault> {
+    let bytes = SETTINGS.as_bytes();
+    read_settings(alloc, Torn { bytes, kind }).err()
+}
+
+#[test]
+fn says_what_cannot_be_read(rt: HostRuntime) {
+    let alloc = rt.alloc();
+    assert!(rt; unread(alloc, ErrorKind::NotFound) == Some(Fault::ConfigUnreadable));
+    assert!(rt; unread(alloc, ErrorKind::OutOfMemory) == Some(Fault::NoMemory));
+    let not_utf8 = read_settings(alloc, b"sectors = \"\xFF\"".as_slice()).err();
+    assert!(rt; not_utf8 == Some(Fault::Settings(ConfigFault::NotToml)));
+    let Ok(bytes) = contents(alloc, SETTINGS.as_bytes()) else {
+        panic!(rt; "no contents");
+    };
+    assert_eq!(rt; bytes.as_slice(), SETTINGS.as_bytes());
+}
+
+/// A program's fault, and whether it is of the command line.
+#[derive(Debug, Clone, Copy, PartialEq, Eq)]
+struct Stop(bool);
+
+impl Ending for Stop {
+    ghost usage = { λ stop. stop.0 };
+
+    fn is_usage(&self) -> bool {
+        self.0
+    }
+}
+
+impl fmt::Display for Stop {
+    fn fmt<W: fmt::Write>(&self, f: &mut fmt::Formatter<W>) -> fmt::Result {
+        f.write_str("stopped")
+    }
+}
+
+/// How a run ended, what is said of it, and its exit status.
+static ENDINGS: [(Result<Verdict, Stop>, &str, u8); 4] = [
+    (Ok(Verdict::Passed), "", 0),
+    (Ok(Verdict::Failed), "", 1),
+    (Err(Stop(true)), "stopped\n", 2),
+    (Err(Stop(false)), "stopped\n", 1),
+];
+
+#[test]
+fn says_how_a_run_ended(rt: HostRuntime) {
+    let alloc = rt.alloc();
+    for (outcome, line, status) in ENDINGS {
+        let mut faults = Vec::new(alloc);
+        assert_eq!(rt; ended(outcome, &mut faults), status);
+        assert_eq!(rt; faults.as_slice(), line.as_bytes());
+        let kind = ErrorKind::BrokenPipe;
+        let bytes = b"".as_slice();
+        assert_eq!(rt; ended(outcome, &mut Torn { bytes, kind }), status);
+    }
+    let mut torn = Torn {
+        bytes: b"".as_slice(),
+        kind: ErrorKind::BrokenPipe,
+    };
+    assert!(rt; say(&mut torn, &Fault::NoMemory).is_err());
+}

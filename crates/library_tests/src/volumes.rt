@@ -1,0 +1,230 @@
+//! Volumes over disks in memory of 4,096 sectors of 512 bytes, in pieces of two sectors, on two tags.
+
+ghost use Rattle.std.specs.Prelude.{◌≡◌, IfOk, IsTrue};
+ghost use Rattle.probe.specs.Exchange.{IsIdle};
+
+use adapter::Adapter;
+use compose::{Refusal, Settings, StartFault};
+use disk::{Medium, NoMemory, VecDisk};
+use miniport::MemAdapter;
+use ntstatus::NtStatus;
+use sector::Bytes;
+use std::alloc::{AllocError, Global};
+use std::process::Abort;
+use std::test::Fail;
+use volume::{Fault, OpenFault, Volume};
+
+/// Sector 0 with one partition, of the sectors 2,048 to 3,071. An entry has its type in byte 4, its first sector in the
+/// bytes from 8 on and their number in those from 12 on, the lowest first.
+fn table() -> [u8; 512] {
+    let mut bytes = [0; 512];
+    let first: u32 = 2048;
+    let count: u32 = 1024;
+    bytes[450] = 7;
+    bytes[454..458].copy_from_slice(&first.to_le_bytes());
+    bytes[458..462].copy_from_slice(&count.to_le_bytes());
+    bytes[510..].copy_from_slice(&[0x55, 0xAA]);
+    bytes
+}
+
+fn no_memory(_refused: NoMemory) -> AllocError {
+    AllocError
+}
+
+/// An adapter over such a disk, in which these sectors are bad.
+fn disk_adapter(
+    rt: &impl Abort,
+    alloc: Global,
+    bad: &[u64],
+) -> Result<MemAdapter<VecDisk>, AllocError>
+    ensures idle { IfOk result (λ a. IsIdle a.shown) }
+    ensures unasked { IfOk result (λ a. a.shown.accepted ≡ 0) }
+    ensures faithful { IfOk result (λ a. IsTrue a.shown.faithful) }
+{
+    let bad = Vec::from_slice(alloc, bad)?;
+    let medium = VecDisk::starting_with(alloc, 512, 4096, &table(), bad).map_err(no_memory)?;
+    let sectors = medium.sectors();
+    assert!(rt; 1 <= sectors && sectors <= 1 << 40);
+    assert!(rt; medium.sector_size() == 512 && medium.failures() == 0);
+    MemAdapter::new(alloc, medium, 2, 2, false).map_err(no_memory)
+}
+
+/// A volume of its partition.
+fn volume_on<A: Adapter>(
+    rt: &impl Abort,
+    alloc: Global,
+    adapter: A,
+) -> Result<Volume<A>, AllocError>
+    requires idle { IsIdle (A.view adapter) }
+    requires unasked { (A.view adapter).accepted ≡ 0 }
+    requires faithful { IsTrue (A.view adapter).faithful }
+{
+    let settings = Settings {
+        window: 1,
+        open_requests: 1,
+    };
+    match Volume::start(alloc, adapter, settings, 0) {
+        Ok(volume) => Ok(volume),
+        Err(OpenFault::Start(StartFault::NoMemory)) => Err(AllocError),
+        Err(OpenFault::Refused(Refusal::InsufficientResources)) => Err(AllocError),
+        Err(fault) => panic!(rt; "{fault:?}"),
+    }
+}
+
+/// So many equal bytes.
+fn filled(alloc: Global, byte: u8, length: usize) -> Result<Bytes, AllocError> {
+    Ok(Bytes::new(vec![in alloc; byte; length]?))
+}
+
+/// A call on a volume.
+#[derive(Debug, Clone, Copy)]
+enum Call {
+    /// From a byte on, so many bytes.
+    Read(u64, usize),
+    /// Equal bytes, and whether past volatile caches.
+    Write(u64, usize, u8, bool),
+    Flush,
+}
+
+/// What it must give.
+#[derive(Debug, Clone, Copy, PartialEq, Eq)]
+enum Given {
+    Done,
+    /// Equal bytes.
+    Bytes(u8, usize),
+    /// Equal bytes, and then others.
+    Two(u8, usize, u8, usize),
+    Fault(Fault),
+}
+
+/// Whether there are first so many of one byte, and then so many of the other.
+fn are(bytes: &[u8], first: u8, count: usize, second: u8, more: usize) -> bool {
+    bytes.len() == count.saturating_add(more)
+        && bytes.iter().take(count).all(|b| *b == first)
+        && bytes.iter().skip(count).all(|b| *b == second)
+}
+
+/// Whether a read gave that.
+fn read_gives(read: Result<Bytes, Fault>, given: Given) -> Result<bool, AllocError> {
+    match read {
+        Ok(bytes) => {
+            let bytes = bytes.into_vec();
+            match given {
+                Given::Bytes(byte, count) => Ok(are(bytes.as_slice(), byte, count, byte, 0)),
+                Given::Two(first, count, second, more) => {
+                    Ok(are(bytes.as_slice(), first, count, second, more))
+                }
+                _ => Ok(false),
+            }
+        }
+        Err(Fault::Refused(Refusal::InsufficientResources)) => Err(AllocError),
+        Err(fault) => Ok(given == Given::Fault(fault)),
+    }
+}
+
+/// Whether a write or a flush gave that.
+fn gives(done: Result<(), Fault>, given: Given) -> Result<bool, AllocError> {
+    match done {
+        Ok(()) => Ok(given == Given::Done),
+        Err(Fault::Refused(Refusal::InsufficientResources)) => Err(AllocError),
+        Err(fault) => Ok(given == Given::Fault(fault)),
+    }
+}
+
+/// Makes a call.
+fn make<A: Adapter>(
+    alloc: Global,
+    volume: &mut Volume<A>,
+    asked: Call,
+    given: Given,
+) -> Result<bool, AllocError> {
+    match asked {
+        Call::Read(offset, length) => {
+            let buffer = filled(alloc, 0, length)?;
+            read_gives(volume.read(alloc, offset, buffer), given)
+        }
+        Call::Write(offset, length, byte, through) => {
+            let bytes = filled(alloc, byte, length)?;
+            gives(volume.write(alloc, offset, bytes, through), given)
+        }
+        Call::Flush => gives(volume.flush(alloc), given),
+    }
+}
+
+/// Makes calls one after the other.
+fn run<A: Adapter>(
+    rt: &impl Abort,
+    alloc: Global,
+    adapter: A,
+    rows: &[(Call, Given)],
+) -> Result<(), AllocError>
+    requires idle { IsIdle (A.view adapter) }
+    requires unasked { (A.view adapter).accepted ≡ 0 }
+    requires faithful { IsTrue (A.view adapter).faithful }
+{
+    let mut volume = volume_on(rt, alloc, adapter)?;
+    let sizes = volume.sizes();
+    assert!(rt; sizes.sector_size == 512 && sizes.sectors == 1024);
+    for row in rows {
+        let (asked, given) = *row;
+        let right = make(alloc, &mut volume, asked, given)?;
+        assert!(rt; right, "{asked:?}");
+    }
+    drop(volume.close(alloc));
+    Ok(())
+}
+
+const OUT_OF_BOUNDS: Given = Given::Fault(Fault::Refused(Refusal::InvalidParameter));
+
+const ROWS: [(Call, Given); 17] = [
+    (Call::Read(0, 512), Given::Bytes(0, 512)),
+    (Call::Write(512, 512, 0xA5, false), Given::Done),
+    (Call::Read(0, 1024), Given::Two(0, 512, 0xA5, 512)),
+    (Call::Flush, Given::Done),
+    (Call::Write(0, 512, 0x11, true), Given::Done),
+    (Call::Read(0, 1024), Given::Two(0x11, 512, 0xA5, 512)),
+    // Nine sectors go in five pieces.
+    (Call::Write(4096, 4608, 0x22, false), Given::Done),
+    (Call::Read(3584, 5120), Given::Two(0, 512, 0x22, 4608)),
+    (Call::Read(4096, 5120), Given::Two(0x22, 4608, 0, 512)),
+    // The last sector.
+    (Call::Write(523_776, 512, 0x33, false), Given::Done),
+    (Call::Read(523_776, 512), Given::Bytes(0x33, 512)),
+    // Past the end, and no whole sectors.
+    (Call::Write(523_776, 1024, 0x44, false), OUT_OF_BOUNDS),
+    (Call::Read(524_288, 512), OUT_OF_BOUNDS),
+    (Call::Read(100, 512), OUT_OF_BOUNDS),
+    (Call::Write(0, 100, 0x44, false), OUT_OF_BOUNDS),
+    // No bytes.
+    (Call::Read(524_288, 0), Given::Bytes(0, 0)),
+    (Call::Read(523_776, 512), Given::Bytes(0x33, 512)),
+];
+
+#[test]
+fn reads_writes_and_flushes(rt: HostRuntime) -> Result<(), Fail> {
+    let alloc = rt.alloc();
+    let adapter = disk_adapter(&rt, alloc, &[])?;
+    run(&rt, alloc, adapter, &ROWS)?;
+    Ok(())
+}
+
+const UNREAD: Given = Given::Fault(Fault::Failed(NtStatus::DeviceDataError));
+
+/// Sector 4 of the partition is bad.
+const BAD: [(Call, Given); 6] = [
+    (Call::Write(1024, 2048, 0x55, false), UNREAD),
+    (Call::Read(2048, 512), UNREAD),
+    // The piece with the bad sector wrote nothing, the other did.
+    (Call::Read(1024, 1024), Given::Bytes(0x55, 1024)),
+    (Call::Read(2560, 512), Given::Bytes(0, 512)),
+    (Call::Flush, Given::Done),
+    (Call::Read(0, 512), Given::Bytes(0, 512)),
+];
+
+#[test]
+fn tells_a_bad_sector(rt: HostRuntime) -> Result<(), Fail> {
+    let alloc = rt.alloc();
+    let adapter = disk_adapter(&rt, alloc, &[2052])?;
+    run(&rt, alloc, adapter, &BAD)?;
+    Ok(())
+}
