@@ -21,8 +21,6 @@ ghost use Rattle.chronicle.specs.History.{bearer, keeper};
 ghost use Rattle.chronicle.specs.Laws.{ClaimsStand, ClaimsStayStanding, OneKeeps};
 
 mod rule;
-#[cfg(test)]
-mod tests;
 
 use atomic_table::Shared;
 pub use rule::Naming;

@@ -96,5 +96,3 @@ pub trait Medium: Drop {
     ghost whole: { (medium : Self) → HasWholeSectors (view medium) };
 }
 
-#[cfg(test)]
-mod tests;

@@ -133,5 +133,3 @@ pub enum Climb {
     Finished(Done),
 }
 
-#[cfg(test)]
-mod tests;

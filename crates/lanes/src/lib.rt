@@ -19,8 +19,6 @@ ghost use Rattle.lanes.specs.Laws.{InOrder, TakenIsPut};
 ghost use Rattle.lanes.specs.Queue.{HasPut, HasTaken, IsLane, IsWorker, QueueView, Standing, StoodAt, fresh_worker, issued, item_of, lanes_of, with_put, with_taken};
 
 mod rule;
-#[cfg(test)]
-mod tests;
 
 use rule::{Another, Item, Place, Put, Queue, Take};
 use std::alloc::{AllocError, Global};

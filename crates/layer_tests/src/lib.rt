@@ -9,4 +9,6 @@ mod pieces;
 #[cfg(test)]
 mod queues;
 #[cfg(test)]
+mod sizes;
+#[cfg(test)]
 mod windows;

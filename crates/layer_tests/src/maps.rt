@@ -7,10 +7,12 @@ ghost use Rattle.device.specs.View.{AsksFor, IsBounded, whole_command};
 ghost use Rattle.layer_tests.specs.Ready.{IsReady};
 ghost use Rattle.layer_tests.specs.Askable.{IsAskable, rules_on};
 
+use crate::sizes::sizes;
 use arrayvec::ArrayVec;
 use cdb::{Cdb, encode};
 use device::{Device, Kind, Request};
 use disk::VecDisk;
+use expect::same;
 use irp::{
     Climb, Control, Done, Driver, Irp, LocationFlags, MajorFunction, Payload, StackLocation,
 };
@@ -258,15 +260,27 @@ fn is_done(done: &Done, number: u128, status: NtStatus, byte: u8) -> bool {
     }
 }
 
-/// One step, and what it must answer.
-fn try_step<D: Device>(
+/// Whether no packet is done.
+fn is_none_done<D: Device>(device: &mut D, partitions: &[Extent], client: &mut Client) -> bool
+    requires takes { D.TAKES_SRB ≡ true }
+    requires locations { D.STACK_SIZE ≤ 4 }
+    requires rooms { D.rooms_out device.old [] }
+    requires ready { IsReady (D.view device.old) (rules_on partitions.now) client.old.next false }
+    ensures rooms { D.rooms_out device.new [] }
+    ensures ready { IsReady (D.view device.new) (rules_on partitions.now) client.new.next false }
+{
+    take_up(device, partitions, client).is_none()
+}
+
+/// One step, and whether it answered what it must.
+fn carry_out<D: Device>(
     rt: &impl Abort,
     alloc: Global,
     device: &mut D,
     partitions: &[Extent],
     client: &mut Client,
     step: &Step,
-) -> Result<(), Fail>
+) -> Result<bool, Fail>
     requires takes { D.TAKES_SRB ≡ true }
     requires locations { D.STACK_SIZE ≤ 4 }
     requires rooms { D.rooms_out device.old [] }
@@ -285,33 +299,45 @@ fn try_step<D: Device>(
                 },
                 through: false,
             };
-            submit(rt, alloc, device, partitions, client, &request)?
+            submit(rt, alloc, device, partitions, client, &request)?;
+            Ok(true)
         }
-        Step::Act(tag, want) => {
-            assert_eq!(rt;
-                act(rt, device, partitions, client, *tag),
-                *want,
-                "{step:?}"
-            )
+        Step::Act(tag, want) => Ok(act(rt, device, partitions, client, *tag) == *want),
+        Step::Finish(tag, want) => Ok(finish(rt, device, partitions, client, *tag) == *want),
+        Step::Reset => {
+            reset(rt, device, partitions, client);
+            Ok(true)
         }
-        Step::Finish(tag, want) => {
-            assert_eq!(rt;
-                finish(rt, device, partitions, client, *tag),
-                *want,
-                "{step:?}"
-            )
+        Step::Tells(want) => {
+            tells(rt, device, partitions, client, want);
+            Ok(true)
         }
-        Step::Reset => reset(rt, device, partitions, client),
-        Step::Tells(want) => tells(rt, device, partitions, client, want),
         Step::Done(number, status, byte) => {
             let done = take_up(device, partitions, client).and_then(finished);
-            assert!(rt;
-                done.is_some_and(|done| is_done(&done, *number, *status, *byte)),
-                "{step:?}"
-            )
+            Ok(done.is_some_and(|done| is_done(&done, *number, *status, *byte)))
         }
-        Step::NoneDone => { assert!(rt; take_up(device, partitions, client).is_none(), "{step:?}") }
+        Step::NoneDone => Ok(is_none_done(device, partitions, client)),
     }
+}
+
+/// One step, and what it must answer.
+fn try_step<D: Device>(
+    rt: &impl Abort,
+    alloc: Global,
+    device: &mut D,
+    partitions: &[Extent],
+    client: &mut Client,
+    step: &Step,
+) -> Result<(), Fail>
+    requires takes { D.TAKES_SRB ≡ true }
+    requires locations { D.STACK_SIZE ≤ 4 }
+    requires rooms { D.rooms_out device.old [] }
+    requires ready { IsReady (D.view device.old) (rules_on partitions.now) client.old.next false }
+    ensures rooms { OnOk result (D.rooms_out device.new []) }
+    ensures ready { OnOk result (IsReady (D.view device.new) (rules_on partitions.now) client.new.next false) }
+{
+    let as_wanted = carry_out(rt, alloc, device, partitions, client, step)?;
+    assert!(rt; as_wanted, "{step:?}");
     Ok(())
 }
 
@@ -460,13 +486,14 @@ const LAST: [Extent; 1] = [Extent {
 #[test]
 fn tells_its_sizes(rt: HostRuntime) -> Result<(), Fail> {
     let apart = stack(rt.alloc(), &APART)?;
-    assert_eq!(rt; apart.volumes(), 2);
-    let sectors = (apart.sectors(0), apart.sectors(1), apart.sectors(2));
-    assert_eq!(rt; sectors, (1024, 1024, 0));
-    assert_eq!(rt; apart.longest(), 64);
-    assert_eq!(rt; apart.most(), 1 << 96);
+    same(&rt, &sizes(&apart), &(2, [1024, 1024, 0], 64, 1 << 96));
+    Ok(())
+}
+
+#[test]
+fn has_no_volume_without_partitions(rt: HostRuntime) -> Result<(), Fail> {
     let none = stack(rt.alloc(), &[])?;
-    assert_eq!(rt; (none.volumes(), none.sectors(0)), (0, 0));
+    same(&rt, &sizes(&none), &(0, [0; 3], 64, 1 << 96));
     Ok(())
 }
 
@@ -553,7 +580,7 @@ fn counts_in_table_order(rt: HostRuntime) -> Result<(), Fail> {
 #[test]
 fn reaches_the_last_sector(rt: HostRuntime) -> Result<(), Fail> {
     let mut stack = stack(rt.alloc(), &LAST)?;
-    assert_eq!(rt; (stack.volumes(), stack.sectors(0)), (1, 1));
+    same(&rt, &sizes(&stack), &(1, [1, 0, 0], 64, 1 << 96));
     try_all(
         &rt,
         rt.alloc(),
@@ -604,12 +631,12 @@ fn passes_on_cancellation_and_removal(rt: HostRuntime) -> Result<(), Fail> {
         ],
     )?;
     let by_spot = end_by(&mut stack, Ending::CancelAt(client.spot, 6));
-    assert_eq!(rt; by_spot, Some((6, NtStatus::Cancelled)));
+    same(&rt, &by_spot, &Some((6, NtStatus::Cancelled)));
     let by_number = end_by(&mut stack, Ending::Cancel(4));
-    assert_eq!(rt; by_number, Some((4, NtStatus::Cancelled)));
-    assert_eq!(rt; end_by(&mut stack, Ending::Cancel(4)), None);
+    same(&rt, &by_number, &Some((4, NtStatus::Cancelled)));
+    same(&rt, &end_by(&mut stack, Ending::Cancel(4)), &None);
     let by_removal = end_by(&mut stack, Ending::Drain);
-    assert_eq!(rt; by_removal, Some((5, NtStatus::NoSuchDevice)));
+    same(&rt, &by_removal, &Some((5, NtStatus::NoSuchDevice)));
     Ok(())
 }
 

@@ -4,9 +4,11 @@ ghost use Rattle.std.specs.Prelude.{◌≡◌, ◌≤◌, ◌<◌, ◌+◌, ◌^
 ghost use Rattle.device.specs.View.{IsBounded, major_of, transfer_length};
 ghost use Rattle.layer_tests.specs.Served.{IsServed, eight_sectors};
 
+use crate::sizes::sizes;
 use class_disk::Disk;
 use device::{Device, Kind, Request};
 use disk::VecDisk;
+use expect::same;
 use irp::{
     Climb, Control, Done, Driver, Irp, LocationFlags, MajorFunction, Payload, StackLocation,
 };
@@ -473,11 +475,7 @@ fn join_pieces<D: Device>(
     ensures rooms { OnOk result (D.rooms_out device.new []) }
     ensures served { OnOk result (IsServed (D.view device.new) client.new.next client.new.removed) }
 {
-    assert_eq!(rt;
-        (device.volumes(), device.sectors(0), device.sectors(1)),
-        (1, 8, 0)
-    );
-    assert_eq!(rt; (device.longest(), device.most()), (65_536, 1 << 63));
+    same(rt, &sizes(device), &(1, [8, 0, 0], 65_536, 1 << 63));
     try_all(
         rt,
         alloc,

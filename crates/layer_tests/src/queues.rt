@@ -4,9 +4,11 @@ ghost use Rattle.std.specs.Prelude.{◌≡◌, ◌≤◌, ◌<◌, ◌+◌, ◌^
 ghost use Rattle.device.specs.View.{AsksFor, IsBounded, whole_command};
 ghost use Rattle.layer_tests.specs.Ready.{IsReady, four_sectors};
 
+use crate::sizes::sizes;
 use cdb::{Cdb, encode};
 use device::{Device, Kind, Request};
 use disk::VecDisk;
+use expect::{same, same_at};
 use irp::{
     Climb, Control, Done, Driver, Irp, LocationFlags, MajorFunction, Payload, StackLocation,
 };
@@ -256,6 +258,52 @@ fn cancel_at<D: Device>(device: &mut D, spot: usize, number: u128) -> Option<Don
     }
 }
 
+/// One step, and whether it answered what it must.
+fn carry_out<D: Device>(
+    rt: &impl Abort,
+    alloc: Global,
+    device: &mut D,
+    client: &mut Client,
+    step: &Step,
+) -> Result<bool, Fail>
+    requires takes { D.TAKES_SRB ≡ true }
+    requires locations { D.STACK_SIZE ≡ 1 }
+    requires rooms { D.rooms_out device.old [] }
+    requires ready { IsReady (D.view device.old) four_sectors client.old.next client.old.removed }
+    ensures rooms { OnOk result (D.rooms_out device.new []) }
+    ensures ready { OnOk result (IsReady (D.view device.new) four_sectors client.new.next client.new.removed) }
+{
+    match step {
+        Step::Submit(kind, first, count) => {
+            submit(rt, alloc, device, client, *kind, *first, *count)?;
+            Ok(true)
+        }
+        Step::Act(tag, want) => Ok(act(rt, device, client, *tag) == *want),
+        Step::Finish(tag, want) => Ok(finish(rt, device, client, *tag) == *want),
+        Step::Reset => {
+            reset(rt, device, client);
+            Ok(true)
+        }
+        Step::Cancel(number) => {
+            cancel(device, client, *number);
+            Ok(true)
+        }
+        Step::Drain => {
+            drain(device, client);
+            Ok(true)
+        }
+        Step::Tells(want) => {
+            tells(rt, device, client, want);
+            Ok(true)
+        }
+        Step::Done(number, status) => {
+            let done = take_done(device, client);
+            Ok(done.is_some_and(|done| done.number == *number && done.status == *status))
+        }
+        Step::NoneDone => Ok(take_done(device, client).is_none()),
+    }
+}
+
 /// One step, and what it must answer.
 fn try_step<D: Device>(
     rt: &impl Abort,
@@ -271,27 +319,8 @@ fn try_step<D: Device>(
     ensures rooms { OnOk result (D.rooms_out device.new []) }
     ensures ready { OnOk result (IsReady (D.view device.new) four_sectors client.new.next client.new.removed) }
 {
-    match step {
-        Step::Submit(kind, first, count) => {
-            submit(rt, alloc, device, client, *kind, *first, *count)?
-        }
-        Step::Act(tag, want) => assert_eq!(rt; act(rt, device, client, *tag), *want, "{step:?}"),
-        Step::Finish(tag, want) => {
-            assert_eq!(rt; finish(rt, device, client, *tag), *want, "{step:?}")
-        }
-        Step::Reset => reset(rt, device, client),
-        Step::Cancel(number) => cancel(device, client, *number),
-        Step::Drain => drain(device, client),
-        Step::Tells(want) => tells(rt, device, client, want),
-        Step::Done(number, status) => {
-            let done = take_done(device, client);
-            assert!(rt;
-                done.is_some_and(|done| done.number == *number && done.status == *status),
-                "{step:?}"
-            )
-        }
-        Step::NoneDone => assert!(rt; take_done(device, client).is_none(), "{step:?}"),
-    }
+    let as_wanted = carry_out(rt, alloc, device, client, step)?;
+    assert!(rt; as_wanted, "{step:?}");
     Ok(())
 }
 
@@ -361,10 +390,7 @@ fn port(alloc: Global) -> Result<Port<MemAdapter<VecDisk>>, AllocError>
 #[test]
 fn tells_its_sizes(rt: HostRuntime) -> Result<(), Fail> {
     let port = port(rt.alloc())?;
-    assert_eq!(rt; port.volumes(), 1);
-    assert_eq!(rt; (port.sectors(0), port.sectors(1)), (4, 0));
-    assert_eq!(rt; port.longest(), 2);
-    assert_eq!(rt; port.most(), 1 << 96);
+    same(&rt, &sizes(&port), &(1, [4, 0, 0], 2, 1 << 96));
     Ok(())
 }
 
@@ -470,13 +496,14 @@ fn cancels_at_a_spot_used_again(rt: HostRuntime) -> Result<(), Fail> {
             Step::NoneDone,
         ],
     )?;
-    assert_eq!(rt; client.spot, spot);
+    same(&rt, &client.spot, &spot);
     for (number, want) in &[(3, None), (4, Some((4, NtStatus::Cancelled))), (4, None)] {
         let done = cancel_at(&mut port, spot, *number);
-        assert_eq!(rt;
-            done.map(|done| (done.number, done.status)),
-            *want,
-            "{number}"
+        same_at(
+            &rt,
+            &done.map(|done| (done.number, done.status)),
+            want,
+            &number,
         );
     }
     Ok(())

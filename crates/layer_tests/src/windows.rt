@@ -7,9 +7,11 @@ ghost use Rattle.linked.specs.Queue.{VisitsAtMost};
 ghost use Rattle.hold_filter.specs.Books.{visits_of};
 ghost use Rattle.layer_tests.specs.Holding.{IsHolding};
 
+use crate::sizes::sizes;
 use cdb::{Cdb, encode};
 use device::{Device, Hold, Kind, Request};
 use disk::VecDisk;
+use expect::same;
 use hold_filter::Filter;
 use irp::{
     Climb, Control, Done, Driver, Irp, LocationFlags, MajorFunction, Payload, StackLocation,
@@ -478,11 +480,8 @@ fn filter(alloc: Global, window: usize) -> Result<Filter<Port<MemAdapter<VecDisk
 #[test]
 fn tells_its_sizes(rt: HostRuntime) -> Result<(), Fail> {
     let filter = filter(rt.alloc(), 1)?;
-    assert_eq!(rt; filter.volumes(), 1);
-    assert_eq!(rt; (filter.sectors(0), filter.sectors(1)), (4, 0));
-    assert_eq!(rt; filter.longest(), 2);
-    assert_eq!(rt; filter.most(), 1 << 96);
-    assert_eq!(rt; filter.held(), 0);
+    same(&rt, &sizes(&filter), &(1, [4, 0, 0], 2, 1 << 96));
+    same(&rt, &filter.held(), &0);
     Ok(())
 }
 

@@ -1,7 +1,9 @@
-//! Tests of the libraries beside the stack and over it, by their public calls: the judge, sessions of NBD, volumes, what
-//! settings start, and scripts. Each compares what a call answers with values worked by hand.
+//! Tests of the libraries beside the stack and over it, by their public calls: the judge, sessions of NBD, volumes,
+//! settings, what they start, and scripts. Each compares what a call answers with values worked by hand.
 #![tactic(auto)]
 
+#[cfg(test)]
+mod documents;
 #[cfg(test)]
 mod scripts;
 #[cfg(test)]

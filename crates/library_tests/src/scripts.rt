@@ -5,6 +5,7 @@ ghost use Rattle.script.specs.Events.{AreNamed};
 
 use arrayvec::ArrayVec;
 use compose::{Answer, Event, Handle, Id, Refusal, Reply};
+use expect::{same, same_at};
 use machine::{ClientRequest, Kind, Label};
 use ntstatus::NtStatus;
 use script::{Given, Line, Order, ScriptFault, event, lines, write_label, write_reply};
@@ -76,11 +77,7 @@ fn refuses_bad_lines(rt: HostRuntime) {
     let alloc = rt.alloc();
     for (script, line) in SCRIPTS {
         let refused = lines(alloc, script).err();
-        assert_eq!(rt;
-            refused,
-            Some(ScriptFault::BadLine { line }),
-            "at {script:?}"
-        );
+        same_at(&rt, &refused, &Some(ScriptFault::BadLine { line }), &script);
     }
 }
 
@@ -158,7 +155,7 @@ static ORDERS: [(&str, &str, Order); 16] = [
 fn reads_each_line(rt: HostRuntime) -> Result<(), Fail> {
     for (line, text, order) in ORDERS {
         let read = lines(rt.alloc(), line)?;
-        assert_eq!(rt; read.as_slice(), [Line { text, order }].as_slice());
+        same(&rt, &read.as_slice(), &[Line { text, order }].as_slice());
     }
     Ok(())
 }
@@ -185,7 +182,7 @@ fn reads_lines(rt: HostRuntime) -> Result<(), Fail> {
             order: Order::Reset,
         },
     ];
-    assert_eq!(rt; read.as_slice(), wanted.as_slice());
+    same(&rt, &read.as_slice(), &wanted.as_slice());
     Ok(())
 }
 
@@ -202,10 +199,14 @@ fn given(alloc: Global) -> Result<Given, Fail>
 #[test]
 fn names_what_was_given(rt: HostRuntime) -> Result<(), Fail> {
     let given = given(rt.alloc())?;
-    assert_eq!(rt; given.handle(5), Handle { slot: 2, number: 5 });
-    assert_eq!(rt; given.handle(9), Handle { slot: 0, number: 9 });
-    assert_eq!(rt; given.request(9), Id { slot: 3, number: 9 });
-    assert_eq!(rt; given.target(Some(5)), Some(Id { slot: 0, number: 5 }));
+    same(&rt, &given.handle(5), &Handle { slot: 2, number: 5 });
+    same(&rt, &given.handle(9), &Handle { slot: 0, number: 9 });
+    same(&rt, &given.request(9), &Id { slot: 3, number: 9 });
+    same(
+        &rt,
+        &given.target(Some(5)),
+        &Some(Id { slot: 0, number: 5 }),
+    );
     Ok(())
 }
 
@@ -222,7 +223,7 @@ fn makes_events(rt: HostRuntime) -> Result<(), Fail> {
         Ok(Event::CancelIoEx { handle, target }) => Some((handle.slot, *target)),
         _ => None,
     };
-    assert_eq!(rt; cancelled, Some((2, Some(Id { slot: 3, number: 9 }))));
+    same(&rt, &cancelled, &Some((2, Some(Id { slot: 3, number: 9 }))));
     let write = Order::Write {
         handle: 5,
         offset: 1,
@@ -235,7 +236,7 @@ fn makes_events(rt: HostRuntime) -> Result<(), Fail> {
         Ok(Event::Write { bytes, through, .. }) => (bytes.as_slice(), *through),
         _ => ([].as_slice(), false),
     };
-    assert_eq!(rt; bytes, [7, 7, 7].as_slice());
+    same(&rt, &bytes, &[7, 7, 7].as_slice());
     assert!(rt; goes_through);
     let ignored = event(alloc, Order::Act { tag: 32 }, &given);
     assert!(rt; matches!(ignored, Err(Reply::Ignored)));
@@ -361,7 +362,7 @@ fn prints_labels(rt: HostRuntime) -> Result<(), Fail> {
     for (label, wanted) in cases {
         let mut out = Vec::new(alloc);
         write_label(&mut out, &label)?;
-        assert_eq!(rt; out.as_slice(), wanted.as_bytes());
+        same(&rt, &out.as_slice(), &wanted.as_bytes());
     }
     Ok(())
 }
@@ -385,7 +386,7 @@ fn prints_replies(rt: HostRuntime) -> Result<(), Fail> {
             bytes: none(alloc),
         };
         write_reply(&mut out, &reply)?;
-        assert_eq!(rt; out.as_slice(), wanted.as_bytes());
+        same(&rt, &out.as_slice(), &wanted.as_bytes());
     }
     let mut out = Vec::new(alloc);
     let number = u64::MAX;
@@ -401,6 +402,6 @@ fn prints_replies(rt: HostRuntime) -> Result<(), Fail> {
     write_reply(&mut out, &Reply::Answered(empty))?;
     write_reply(&mut out, &Reply::Ignored)?;
     let wanted = b"handle 18446744073709551615\nrequest 9\nok\nanswered\nignored\n";
-    assert_eq!(rt; out.as_slice(), wanted.as_slice());
+    same(&rt, &out.as_slice(), &wanted.as_slice());
     Ok(())
 }

@@ -1,5 +1,6 @@
 //! Recorded sessions: the bytes of a client, and those of the server, by hand.
 
+use expect::{same, same_at};
 use nbd::{Array, ArrayFault, End, MemArray, Sizes, serve};
 use std::alloc::{AllocError, Global};
 use std::process::Abort;
@@ -565,10 +566,10 @@ fn run_one(
     };
     let mut out = Vec::new(alloc);
     let end = serve(alloc, &mut array, &mut client.as_slice(), &mut out);
-    assert_eq!(rt; end, session.end, "{name}");
-    assert_eq!(rt; out.as_slice(), wanted.as_slice(), "{name}");
+    same_at(rt, &end, &session.end, &name);
+    same_at(rt, &out.as_slice(), &wanted.as_slice(), &name);
     let left = blocks(alloc, &session.blocks)?;
-    assert_eq!(rt; array.bytes.as_slice(), left.as_slice(), "{name}");
+    same_at(rt, &array.bytes.as_slice(), &left.as_slice(), &name);
     Ok(())
 }
 
@@ -689,10 +690,10 @@ fn fails_by(
     };
     let mut out = Vec::new(alloc);
     let end = serve(alloc, &mut array, &mut client.as_slice(), &mut out);
-    assert_eq!(rt; end, End::Input);
-    assert_eq!(rt; out.as_slice(), wanted.as_slice(), "{fault:?}");
-    assert_eq!(rt; array.through, 2);
-    assert_eq!(rt; array.flushes, 1);
+    same(rt, &end, &End::Input);
+    same_at(rt, &out.as_slice(), &wanted.as_slice(), &fault);
+    same(rt, &array.through, &2);
+    same(rt, &array.flushes, &1);
     Ok(())
 }
 

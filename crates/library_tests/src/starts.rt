@@ -1,6 +1,7 @@
 //! What no contract says: what is opened with ample memory, what failed reads and writes give, and who says nothing.
 
 use compose::{Refusal, StartFault};
+use expect::same;
 use mbr::MbrFault;
 use settings::ConfigFault;
 use startup::{
@@ -100,7 +101,7 @@ fn says_what_cannot_be_read(rt: HostRuntime) {
     let Ok(bytes) = contents(alloc, SETTINGS.as_bytes()) else {
         panic!(rt; "no contents");
     };
-    assert_eq!(rt; bytes.as_slice(), SETTINGS.as_bytes());
+    same(&rt, &bytes.as_slice(), &SETTINGS.as_bytes());
 }
 
 /// A program's fault, and whether it is of the command line.
@@ -134,11 +135,11 @@ fn says_how_a_run_ended(rt: HostRuntime) {
     let alloc = rt.alloc();
     for (outcome, line, status) in ENDINGS {
         let mut faults = Vec::new(alloc);
-        assert_eq!(rt; ended(outcome, &mut faults), status);
-        assert_eq!(rt; faults.as_slice(), line.as_bytes());
+        same(&rt, &ended(outcome, &mut faults), &status);
+        same(&rt, &faults.as_slice(), &line.as_bytes());
         let kind = ErrorKind::BrokenPipe;
         let bytes = b"".as_slice();
-        assert_eq!(rt; ended(outcome, &mut Torn { bytes, kind }), status);
+        same(&rt, &ended(outcome, &mut Torn { bytes, kind }), &status);
     }
     let mut torn = Torn {
         bytes: b"".as_slice(),

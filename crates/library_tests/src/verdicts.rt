@@ -1,6 +1,7 @@
 //! Runs written by hand, and traces that are none.
 
 use cdb::{Cdb, encode};
+use expect::same;
 use judge::{MachineRules, Sectors, Verdict, judge};
 use machine::{ClientRequest, Kind, Label};
 use ntstatus::{NtStatus, Sense};
@@ -216,7 +217,7 @@ fn a_sector_is_written_and_read_back(rt: HostRuntime) -> Result<(), Fail> {
         Told::Good(2),
         Told::Answer(2, NtStatus::Success, 2, 2, 0xA5),
     ];
-    assert_eq!(rt; seen(rt.alloc(), &rows)?, Expected::Run(1, true));
+    same(&rt, &seen(rt.alloc(), &rows)?, &Expected::Run(1, true));
     Ok(())
 }
 
@@ -228,14 +229,18 @@ fn parts_and_other_bytes(rt: HostRuntime) -> Result<(), Fail> {
         Told::StartRead(1, 0, 2),
         Told::Act(1, 0),
     ];
-    assert_eq!(rt; seen(rt.alloc(), &rows[..1])?, Expected::Run(1, false));
-    assert_eq!(rt; seen(rt.alloc(), &rows)?, Expected::Run(1, true));
+    same(
+        &rt,
+        &seen(rt.alloc(), &rows[..1])?,
+        &Expected::Run(1, false),
+    );
+    same(&rt, &seen(rt.alloc(), &rows)?, &Expected::Run(1, true));
     let rows = [
         Told::Read(1, 0, 2),
         Told::StartRead(1, 0, 2),
         Told::Act(1, 1),
     ];
-    assert_eq!(rt; seen(rt.alloc(), &rows)?, Expected::Stops(2));
+    same(&rt, &seen(rt.alloc(), &rows)?, &Expected::Stops(2));
     Ok(())
 }
 
@@ -280,12 +285,20 @@ const CANCELLED: [Told; 3] = [
 /// The labels that other tests have not; a refused call is owed its answer before anything else.
 #[test]
 fn each_other_label(rt: HostRuntime) -> Result<(), Fail> {
-    assert_eq!(rt; seen(rt.alloc(), &FLUSH)?, Expected::Run(1, true));
-    assert_eq!(rt; seen(rt.alloc(), &HELD)?, Expected::Run(1, true));
-    assert_eq!(rt; seen(rt.alloc(), &REFUSED)?, Expected::Stops(3));
-    assert_eq!(rt; seen(rt.alloc(), &REFUSED[..2])?, Expected::Run(1, true));
-    assert_eq!(rt; seen(rt.alloc(), &PULLED_OUT)?, Expected::Run(1, true));
-    assert_eq!(rt; seen(rt.alloc(), &CANCELLED)?, Expected::Run(1, true));
+    same(&rt, &seen(rt.alloc(), &FLUSH)?, &Expected::Run(1, true));
+    same(&rt, &seen(rt.alloc(), &HELD)?, &Expected::Run(1, true));
+    same(&rt, &seen(rt.alloc(), &REFUSED)?, &Expected::Stops(3));
+    same(
+        &rt,
+        &seen(rt.alloc(), &REFUSED[..2])?,
+        &Expected::Run(1, true),
+    );
+    same(
+        &rt,
+        &seen(rt.alloc(), &PULLED_OUT)?,
+        &Expected::Run(1, true),
+    );
+    same(&rt, &seen(rt.alloc(), &CANCELLED)?, &Expected::Run(1, true));
     Ok(())
 }
 
@@ -302,8 +315,12 @@ fn two_requests_may_make_a_start(rt: HostRuntime) -> Result<(), Fail> {
         Told::Good(2),
         Told::Answer(2, NtStatus::Success, 2, 2, 0),
     ];
-    assert_eq!(rt; seen(rt.alloc(), &rows[..5])?, Expected::Run(2, false));
-    assert_eq!(rt; seen(rt.alloc(), &rows)?, Expected::Run(1, false));
+    same(
+        &rt,
+        &seen(rt.alloc(), &rows[..5])?,
+        &Expected::Run(2, false),
+    );
+    same(&rt, &seen(rt.alloc(), &rows)?, &Expected::Run(1, false));
     Ok(())
 }
 
@@ -318,7 +335,7 @@ fn answers_at_first_failure(rt: HostRuntime) -> Result<(), Fail> {
         Told::Bad(1),
         Told::Answer(1, NtStatus::DeviceDataError, 0, 0, 0),
     ];
-    assert_eq!(rt; seen(rt.alloc(), &rows)?, Expected::Stops(5));
+    same(&rt, &seen(rt.alloc(), &rows)?, &Expected::Stops(5));
     Ok(())
 }
 
@@ -331,7 +348,7 @@ fn cancel_answers_at_adapter(rt: HostRuntime) -> Result<(), Fail> {
         Told::Cancel(1),
         Told::Answer(1, NtStatus::Cancelled, 0, 0, 0),
     ];
-    assert_eq!(rt; seen(rt.alloc(), &rows)?, Expected::Stops(3));
+    same(&rt, &seen(rt.alloc(), &rows)?, &Expected::Stops(3));
     Ok(())
 }
 
@@ -345,7 +362,7 @@ fn removed_with_piece_out(rt: HostRuntime) -> Result<(), Fail> {
         Told::Remove,
         Told::Removed,
     ];
-    assert_eq!(rt; seen(rt.alloc(), &rows)?, Expected::Stops(4));
+    same(&rt, &seen(rt.alloc(), &rows)?, &Expected::Stops(4));
     Ok(())
 }
 
@@ -359,6 +376,6 @@ fn bad_piece_started_again(rt: HostRuntime) -> Result<(), Fail> {
         Told::Bad(1),
         Told::StartWrite(2, 0, 2),
     ];
-    assert_eq!(rt; seen(rt.alloc(), &rows)?, Expected::Stops(4));
+    same(&rt, &seen(rt.alloc(), &rows)?, &Expected::Stops(4));
     Ok(())
 }

@@ -14,8 +14,6 @@ mod memory;
 mod on_tag;
 mod once;
 mod table;
-#[cfg(test)]
-mod tests;
 
 pub use adapter::Adapter;
 pub use memory::MemAdapter;

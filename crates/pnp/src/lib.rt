@@ -105,5 +105,3 @@ pub fn removal_is_for_good()
     ensures queried { RemovesOnceQueried }
 {}
 
-#[cfg(test)]
-mod tests;

@@ -46,5 +46,3 @@ pub enum ProbeFault {
     NoMemory,
 }
 
-#[cfg(test)]
-mod tests;

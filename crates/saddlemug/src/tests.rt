@@ -11,6 +11,7 @@ use crate::volume_calls::{
     saddlemug_close, saddlemug_flush, saddlemug_open, saddlemug_read, saddlemug_sizes,
     saddlemug_write,
 };
+use expect::same;
 
 /// A partition of the sectors 1 to 8, of which the last is bad, in transfers of two.
 const SETTINGS: &[u8] =
@@ -36,10 +37,14 @@ fn writes_and_reads(rt: HostRuntime) {
     let bad = saddlemug_read(alloc, &mut slot, 2048, &mut buffer);
     saddlemug_close(alloc, &mut slot);
     assert!(rt; sizes.sector_size == 512 && sizes.sectors == 8);
-    assert_eq!(rt; [wrote, flushed, was_read], [0, 0, 0]);
-    assert_eq!(rt; first, [0, 0xA5, 0xA5, 0]);
-    assert_eq!(rt; [past, odd, bad], [0xC000_000D, 0xC000_000D, 0xC000_009C]);
-    assert_eq!(rt; buffer[512], 0xA5);
+    same(&rt, &[wrote, flushed, was_read], &[0, 0, 0]);
+    same(&rt, &first, &[0, 0xA5, 0xA5, 0]);
+    same(
+        &rt,
+        &[past, odd, bad],
+        &[0xC000_000D, 0xC000_000D, 0xC000_009C],
+    );
+    same(&rt, &buffer[512], &0xA5);
 }
 
 #[test]
@@ -49,7 +54,7 @@ fn refuses_what_it_cannot_open(rt: HostRuntime) {
     for (text, partition) in rows {
         let mut slot = Slot::empty(alloc);
         let status = saddlemug_open(alloc, &mut slot, text, partition);
-        assert_eq!(rt; status, 0xC000_000D);
+        same(&rt, &status, &0xC000_000D);
     }
 }
 
@@ -99,9 +104,10 @@ fn steps_a_stack(rt: HostRuntime) {
     let answered = saddlemug_stack_take_answer(alloc, &mut slot, &mut answer, &mut bytes);
     let unknown = saddlemug_stack_step(alloc, &mut slot, &event(14, id), &[], &mut reply);
     saddlemug_stack_close(alloc, &mut slot);
-    assert_eq!(rt;
-        [opened, wrote, acted, finished, unknown],
-        [0, 0, 0, 0, 0xC000_000D]
+    same(
+        &rt,
+        &[opened, wrote, acted, finished, unknown],
+        &[0, 0, 0, 0, 0xC000_000D],
     );
     assert!(rt; handle.kind == 0 && handle.id.number == 1);
     assert!(rt; request.kind == 2 && request.id.number == 1);

@@ -11,8 +11,6 @@
 pub mod document;
 mod medium;
 mod table;
-#[cfg(test)]
-mod tests;
 
 pub use medium::new_adapter;
 use std::error::Error;

@@ -8,6 +8,7 @@ mod traces;
 use crate::faults::Fault;
 use crate::words::asked::Command;
 use crate::words::command;
+use expect::same;
 use std::test::Fail;
 
 #[test]
@@ -18,14 +19,14 @@ fn reads_a_command_line(rt: HostRuntime) -> Result<(), Fail> {
         config: "a/config.toml",
         script: "script",
     };
-    assert_eq!(rt; command(alloc, trace.as_slice())?, wanted);
+    same(&rt, &command(alloc, trace.as_slice())?, &wanted);
     let clients = ["stackrun", "clients", "a/config.toml", "32", "0010000"];
     let wanted = Command::Clients {
         config: "a/config.toml",
         threads: 32,
         rounds: 10_000,
     };
-    assert_eq!(rt; command(alloc, clients.as_slice())?, wanted);
+    same(&rt, &command(alloc, clients.as_slice())?, &wanted);
     Ok(())
 }
 

@@ -3,6 +3,7 @@
 use crate::faults::Fault;
 use crate::words::asked::Asked;
 use crate::words::command;
+use expect::same;
 use std::test::Fail;
 
 #[test]
@@ -13,13 +14,13 @@ fn reads_a_command_line(rt: HostRuntime) -> Result<(), Fail> {
         config: "a/config.toml",
         partition: 0,
     };
-    assert_eq!(rt; command(alloc, short.as_slice())?, wanted);
+    same(&rt, &command(alloc, short.as_slice())?, &wanted);
     let long = ["nbd_disk", "config.toml", "3"];
     let wanted = Asked {
         config: "config.toml",
         partition: 3,
     };
-    assert_eq!(rt; command(alloc, long.as_slice())?, wanted);
+    same(&rt, &command(alloc, long.as_slice())?, &wanted);
     Ok(())
 }
 

@@ -3,6 +3,7 @@
 use crate::faults::Fault;
 use crate::serving::serve_disk;
 use compose::{MbrFault, StartFault};
+use expect::{same, same_at};
 use ntstatus::NtStatus;
 use settings::ConfigFault;
 use startup::Fault::{ConfigUnreadable, Settings, Start};
@@ -46,9 +47,9 @@ fn says_each_fault(rt: HostRuntime) -> Result<(), Fail> {
     for (fault, line, status) in FAULTS {
         let mut faults = Vec::new(rt.alloc());
         say(&mut faults, &fault)?;
-        assert_eq!(rt; faults.as_slice(), line.as_bytes());
+        same(&rt, &faults.as_slice(), &line.as_bytes());
         let outcome: Result<Verdict, Fault> = Err(fault);
-        assert_eq!(rt; ended(outcome, &mut faults), status, "at {line:?}");
+        same_at(&rt, &ended(outcome, &mut faults), &status, &line);
     }
     Ok(())
 }
@@ -87,9 +88,9 @@ fn blames_the_first_fault(rt: HostRuntime) -> Result<(), Fail> {
         let mut faults = Vec::new(alloc);
         let outcome = serve_disk(alloc, config.as_bytes(), partition, &mut input, &mut out);
         let status = ended(outcome.map(|()| Verdict::Passed), &mut faults);
-        assert_eq!(rt; faults.as_slice(), wanted.as_bytes(), "at {more:?}");
-        assert_eq!(rt; status, 1);
-        assert_eq!(rt; out.len(), 0);
+        same_at(&rt, &faults.as_slice(), &wanted.as_bytes(), &more);
+        same(&rt, &status, &1);
+        same(&rt, &out.len(), &0);
     }
     Ok(())
 }

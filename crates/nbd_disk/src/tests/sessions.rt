@@ -1,6 +1,7 @@
 //! Sessions with a disk of four sectors, two of which are a partition: the bytes of a client, and those of the server, by hand.
 
 use crate::serving::serve_disk;
+use expect::same_at;
 use startup::{Verdict, ended};
 use std::alloc::{AllocError, Global};
 use std::process::Abort;
@@ -343,9 +344,9 @@ fn run(
     let settings = session.settings.as_bytes();
     let outcome = serve_disk(alloc, settings, 1, &mut client.as_slice(), &mut out);
     let status = ended(outcome.map(|()| Verdict::Passed), &mut faults);
-    assert_eq!(rt; faults.as_slice(), session.fault.as_bytes(), "{name}");
-    assert_eq!(rt; status, session.status, "{name}");
-    assert_eq!(rt; out.as_slice(), wanted.as_slice(), "{name}");
+    same_at(rt, &faults.as_slice(), &session.fault.as_bytes(), &name);
+    same_at(rt, &status, &session.status, &name);
+    same_at(rt, &out.as_slice(), &wanted.as_slice(), &name);
     Ok(())
 }
 

@@ -14,6 +14,7 @@ use book::{Book, Entry, Naming, Share};
 use cancel_marks::{Marking, Marks, Seat};
 use chronicle::{History, Opened};
 use compose::{Event, Refusal, Reply};
+use expect::{same, same_at};
 use sector::Bytes;
 use std::alloc::{AllocError, Global};
 use std::process::Abort;
@@ -128,7 +129,7 @@ fn go<A: Adapter, N: Naming>(
             return Err(AllocError);
         }
     }
-    assert_eq!(rt; told::reply(alloc, &reply)?.as_str(), want, "{order:?}");
+    same_at(rt, &told::reply(alloc, &reply)?.as_str(), &want, &order);
     Ok(())
 }
 
@@ -246,7 +247,11 @@ fn compare<A: Adapter, N: Naming>(
     requires { N.partitions ≡ 0 ∷ 0 ∷ [] }
 {
     let (trace, mut rows) = book.into_rows();
-    assert_eq!(rt; traced::trace(alloc, trace.as_slice())?.as_str(), run.trace);
+    same(
+        rt,
+        &traced::trace(alloc, trace.as_slice())?.as_str(),
+        &run.trace,
+    );
     let (Some(second), Some(first), None) = (rows.pop(), rows.pop(), rows.pop()) else {
         panic!(rt; "not two rows")
     };

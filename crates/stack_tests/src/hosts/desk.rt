@@ -8,6 +8,7 @@ use crate::hosts::user::{Deed, User};
 use crate::traced;
 use adapter::Adapter;
 use compose::{Refusal as Why, Reply};
+use expect::{same, same_at};
 use host::{Client, Closed, Host, Keeper, Naming, Opened};
 use lanes::{Desk, Step};
 use std::alloc::{AllocError, Global};
@@ -87,14 +88,14 @@ fn go<A: Adapter, N: Naming, R: Wait + Abort>(
     {
         return Err(AllocError);
     }
-    assert_eq!(rt; told::reply(alloc, &reply)?.as_str(), want, "{drive:?}");
+    same_at(rt, &told::reply(alloc, &reply)?.as_str(), &want, &drive);
     Ok(())
 }
 
 // A lane's step.
 fn serve<D: Desk, R: Wait + Abort>(rt: &R, desk: &D, tag: u8, want: Step) {
     let step = desk.next(rt, tag);
-    assert_eq!(rt; step, want);
+    same(rt, &step, &want);
     if step == Step::Ready {
         desk.act(rt, tag);
         desk.finish(rt, tag);
@@ -196,7 +197,11 @@ pub(crate) fn carry_out<A: Adapter, N: Naming, R: Wait + Abort>(
     requires parts { N.parts ≡ length N.partitions + 1 }
 {
     let Closed { trace, rows } = play_and_close::<A, N, R>(rt, alloc, opened, run)?;
-    assert_eq!(rt; traced::trace(alloc, trace.as_slice())?.as_str(), run.trace);
+    same(
+        rt,
+        &traced::trace(alloc, trace.as_slice())?.as_str(),
+        &run.trace,
+    );
     let mut rows = rows;
     let (Some(second), Some(first), None) = (rows.pop(), rows.pop(), rows.pop()) else {
         panic!(rt; "not two rows")

@@ -6,6 +6,7 @@ ghost use Rattle.probe.specs.Exchange.{IsIdle};
 use crate::disks::{TWO, adapter, disk, start};
 use crate::hosts::desk::{Drive, Part, Row, Run, carry_out};
 use crate::hosts::user::Deed;
+use expect::same;
 use host::{HostFault, Opened};
 use lanes::Step;
 use miniport::Adapter;
@@ -186,7 +187,7 @@ fn compare_fault<A: Adapter>(
         Ok(_) => panic!(rt; "opened"),
         Err(HostFault::NoMemory) => Err(AllocError),
         Err(fault) => {
-            assert_eq!(rt; fault, want);
+            same(rt, &fault, &want);
             Ok(())
         }
     }

@@ -5,6 +5,7 @@ ghost use Rattle.std.specs.Prelude.{◌≡◌};
 use crate::hosts::told;
 use adapter::Adapter;
 use compose::Refusal as Why;
+use expect::same_at;
 use host::{Call, Client, Host, Naming, Reason, Ticket};
 use sector::Bytes;
 use std::alloc::{AllocError, Global};
@@ -180,7 +181,7 @@ impl<N: Naming> User<N> {
         ensures { self.new.client ≡ self.old.client }
     {
         let text = self.act_on(rt, alloc, host, deed)?;
-        assert_eq!(rt; text.as_str(), want, "{deed:?}");
+        same_at(rt, &text.as_str(), &want, &deed);
         Ok(())
     }
 

@@ -7,6 +7,7 @@ use crate::disks::{MIDDLE, SIGNATURE, Table, UNUSED};
 use crate::stacks::disks::{disk_adapter, stack_on};
 use crate::stacks::steps::{FIRST, Step, go};
 use compose::{MbrFault, Settings, Stack, StartFault};
+use expect::same_at;
 use miniport::Adapter;
 use ntstatus::NtStatus;
 use std::alloc::{AllocError, Global};
@@ -67,7 +68,7 @@ fn start_all(rt: &impl Abort, alloc: Global, rows: &[Row]) -> Result<(), AllocEr
             open_requests: *open_requests,
         };
         let found = fault(alloc, adapter, settings)?;
-        assert_eq!(rt; found, *want, "{settings:?}");
+        same_at(rt, &found, want, &settings);
     }
     Ok(())
 }

@@ -4,6 +4,7 @@ ghost use Rattle.std.specs.Prelude.{◌≡◌, [], OnOk};
 
 use crate::stacks::told::{tell_answer, told};
 use compose::{Event, Handle, Id, Refusal, Reply, RunStopped, Shown, Stack};
+use expect::{same, same_at};
 use miniport::Adapter;
 use sector::Bytes;
 use std::alloc::{AllocError, Global};
@@ -104,13 +105,13 @@ fn compare(
     shown: &[Shown],
     rows: &[Row],
 ) -> Result<(), AllocError> {
-    assert_eq!(rt; shown.len(), rows.len());
+    same(rt, &shown.len(), &rows.len());
     for (shown, (step, want)) in shown.iter().zip(rows.iter()) {
         if is_refused_for_memory(&shown.reply) {
             assert!(rt; shown.labels.is_empty(), "{step:?}");
             return Err(AllocError);
         }
-        assert_eq!(rt; told(alloc, shown)?.as_str(), *want, "{step:?}");
+        same_at(rt, &told(alloc, shown)?.as_str(), want, &step);
     }
     Ok(())
 }
@@ -178,7 +179,7 @@ fn go_one<A: Adapter>(
         assert!(rt; shown.labels.is_empty(), "{step:?}");
         shown = show(alloc, stack, event_of(alloc, step)?)?;
     }
-    assert_eq!(rt; told(alloc, &shown)?.as_str(), want, "{step:?}");
+    same_at(rt, &told(alloc, &shown)?.as_str(), &want, &step);
     Ok(())
 }
 
@@ -214,7 +215,7 @@ pub(crate) fn answers<A: Adapter>(
         };
         let mut text = String::new(alloc);
         tell_answer(&mut text, &answer)?;
-        assert_eq!(rt; text.as_str(), *want);
+        same(rt, &text.as_str(), want);
     }
     assert!(rt; stack.take_answer().is_none());
     Ok(())

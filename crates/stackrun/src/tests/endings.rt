@@ -4,6 +4,7 @@ use crate::faults::Fault;
 use crate::input::Input;
 use crate::tests::given::{Narrow, Stuck, Torn, run};
 use compose::{MbrFault, StartFault};
+use expect::{same, same_at};
 use ntstatus::NtStatus;
 use script::ScriptFault;
 use settings::ConfigFault;
@@ -94,9 +95,9 @@ fn says_each_fault(rt: HostRuntime) -> Result<(), Fail> {
     for (fault, line, status) in FAULTS {
         let mut faults = Vec::new(rt.alloc());
         say(&mut faults, &fault)?;
-        assert_eq!(rt; faults.as_slice(), line.as_bytes());
+        same(&rt, &faults.as_slice(), &line.as_bytes());
         let outcome: Result<Verdict, Fault> = Err(fault);
-        assert_eq!(rt; ended(outcome, &mut faults), status, "at {line:?}");
+        same_at(&rt, &ended(outcome, &mut faults), &status, &line);
     }
     Ok(())
 }
@@ -140,9 +141,9 @@ fn blames_the_first_fault(rt: HostRuntime) -> Result<(), Fail> {
         let wanted = format!(in alloc; "stackrun: {fault}\n")?;
         let mut out = Vec::new(alloc);
         let got = run(alloc, config.as_bytes(), script, &mut out);
-        assert_eq!(rt; got.faults.as_slice(), wanted.as_bytes(), "at {more:?}");
-        assert_eq!(rt; got.status, 1);
-        assert_eq!(rt; out.len(), 0);
+        same_at(&rt, &got.faults.as_slice(), &wanted.as_bytes(), &more);
+        same(&rt, &got.status, &1);
+        same(&rt, &out.len(), &0);
     }
     Ok(())
 }
@@ -157,11 +158,12 @@ fn refuses_settings_that_are_not_utf8(rt: HostRuntime) {
         b"".as_slice(),
         &mut out,
     );
-    assert_eq!(rt;
-        got.faults.as_slice(),
-        b"stackrun: config: not TOML\n".as_slice()
+    same(
+        &rt,
+        &got.faults.as_slice(),
+        &b"stackrun: config: not TOML\n".as_slice(),
     );
-    assert_eq!(rt; got.status, 1);
+    same(&rt, &got.status, &1);
 }
 
 /// Kinds of a failed read, and what is told of it where the settings are read, and where the script is.
@@ -192,14 +194,14 @@ fn says_what_cannot_be_read(rt: HostRuntime) -> Result<(), Fail> {
         let bytes = b"sectors = 1\n".as_slice();
         let script = b"open\n".as_slice();
         let got = run(alloc, Torn { bytes, kind }, script, &mut out);
-        assert_eq!(rt; got.faults.as_slice(), of_config.as_bytes());
-        assert_eq!(rt; got.status, 1);
+        same(&rt, &got.faults.as_slice(), &of_config.as_bytes());
+        same(&rt, &got.status, &1);
         let bytes = b"open 0\nopen\n".as_slice();
         let got = run(alloc, config.as_bytes(), Torn { bytes, kind }, &mut out);
-        assert_eq!(rt; got.faults.as_slice(), of_script.as_bytes());
-        assert_eq!(rt; got.status, 1);
+        same(&rt, &got.faults.as_slice(), &of_script.as_bytes());
+        same(&rt, &got.status, &1);
     }
-    assert_eq!(rt; out.len(), 0);
+    same(&rt, &out.len(), &0);
     Ok(())
 }
 
@@ -215,18 +217,18 @@ fn says_what_was_not_opened(rt: HostRuntime) -> Result<(), Fail> {
     let mut out = Vec::new(alloc);
     for (kind, of_config, of_script) in READS {
         let got = run(alloc, refused(kind), refused(kind), &mut out);
-        assert_eq!(rt; got.faults.as_slice(), of_config.as_bytes());
-        assert_eq!(rt; got.status, 1);
+        same(&rt, &got.faults.as_slice(), &of_config.as_bytes());
+        same(&rt, &got.status, &1);
         let opened = Input::of(Ok(config.as_bytes()));
         let got = run(alloc, opened, refused(kind), &mut out);
-        assert_eq!(rt; got.faults.as_slice(), of_script.as_bytes());
+        same(&rt, &got.faults.as_slice(), &of_script.as_bytes());
         // Bad settings are told before a script that can't be read.
         let got = run(alloc, b"sectors = 1\n".as_slice(), refused(kind), &mut out);
         let wanted = b"stackrun: config: missing key\n";
-        assert_eq!(rt; got.faults.as_slice(), wanted.as_slice());
-        assert_eq!(rt; got.status, 1);
+        same(&rt, &got.faults.as_slice(), &wanted.as_slice());
+        same(&rt, &got.status, &1);
     }
-    assert_eq!(rt; out.len(), 0);
+    same(&rt, &out.len(), &0);
     Ok(())
 }
 
@@ -262,9 +264,9 @@ fn says_that_output_failed(rt: HostRuntime) -> Result<(), Fail> {
                 true => (1, fault),
                 false => (0, ""),
             };
-            assert_eq!(rt; got.status, status, "at {room}");
-            assert_eq!(rt; got.faults.as_slice(), line.as_bytes(), "at {room}");
-            assert_eq!(rt; taken.len(), room);
+            same_at(&rt, &got.status, &status, &room);
+            same_at(&rt, &got.faults.as_slice(), &line.as_bytes(), &room);
+            same(&rt, &taken.len(), &room);
             assert!(rt; whole.starts_with(taken.as_slice()), "at {room}");
         }
     }
@@ -281,8 +283,8 @@ fn says_that_output_stays_behind(rt: HostRuntime) {
             kind,
         };
         let got = run(alloc, SMALL.as_bytes(), SMALL_SCRIPT.as_bytes(), &mut out);
-        assert_eq!(rt; got.status, 1);
-        assert_eq!(rt; got.faults.as_slice(), fault.as_bytes());
-        assert_eq!(rt; taken.as_slice(), SMALL_TRACE.as_bytes());
+        same(&rt, &got.status, &1);
+        same(&rt, &got.faults.as_slice(), &fault.as_bytes());
+        same(&rt, &taken.as_slice(), &SMALL_TRACE.as_bytes());
     }
 }

@@ -1,6 +1,7 @@
 //! Clients in threads of their own, and what comes of them.
 
 use crate::clients::clients;
+use expect::same_at;
 use startup::ended;
 use std::test::Fail;
 
@@ -70,9 +71,9 @@ fn runs_clients(rt: HostRuntime) -> Result<(), Fail> {
         let mut out = Vec::new(alloc);
         let mut faults = Vec::new(alloc);
         let outcome = clients(&rt, alloc, config.as_bytes(), threads, rounds, &mut out);
-        assert_eq!(rt; ended(outcome, &mut faults), status, "at {more:?}");
-        assert_eq!(rt; out.as_slice(), printed.as_bytes(), "at {more:?}");
-        assert_eq!(rt; faults.as_slice(), said.as_bytes(), "at {more:?}");
+        same_at(&rt, &ended(outcome, &mut faults), &status, &more);
+        same_at(&rt, &out.as_slice(), &printed.as_bytes(), &more);
+        same_at(&rt, &faults.as_slice(), &said.as_bytes(), &more);
     }
     Ok(())
 }

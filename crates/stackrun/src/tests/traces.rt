@@ -1,6 +1,7 @@
 //! Traces in print.
 
 use crate::tests::given::run;
+use expect::{same, same_at};
 use std::test::Fail;
 
 /// A disk of 4,096 sectors of 512 bytes with one partition, one tag and one request at a time.
@@ -97,9 +98,9 @@ fn prints_what_comes_of_each_event(rt: HostRuntime) -> Result<(), Fail> {
         let config = format!(in alloc; "{settings}{more}{PARTITION}")?;
         let mut out = Vec::new(alloc);
         let got = run(alloc, config.as_bytes(), script.as_bytes(), &mut out);
-        assert_eq!(rt; out.as_slice(), wanted.as_bytes(), "at {script:?}");
-        assert_eq!(rt; got.faults.len(), 0);
-        assert_eq!(rt; got.status, 0);
+        same_at(&rt, &out.as_slice(), &wanted.as_bytes(), &script);
+        same(&rt, &got.faults.len(), &0);
+        same(&rt, &got.status, &0);
     }
     Ok(())
 }

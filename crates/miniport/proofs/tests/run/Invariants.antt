@@ -1,8 +1,0 @@
-use Rattle.std.proofs.Common.{◌≡◌, ◌≤◌, length}
-use Rattle.miniport.proofs.tests.run.Given as goal
-
-abbrev pub invariant-loop-step : goal.invariant-loop-step
-invariant-loop-step g l = record {
-  few : (g.A.Adapter.view l.adapter).accepted ≤ l.step-index;
-  labels : length (g.A.Adapter.view l.adapter).labels ≡ 0;
-}

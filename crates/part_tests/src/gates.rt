@@ -1,0 +1,133 @@
+ghost use Rattle.std.specs.Prelude.{◌≡◌, IfOk};
+ghost use Rattle.remove_lock.specs.Gate.{fresh, standing};
+
+use expect::same;
+use remove_lock::{AcquireFault, Gate, GateFault, Pass};
+use std::alloc::Global;
+use std::test::Fail;
+use std::thread::join;
+
+fn two(alloc: Global, first: u32, second: u32) -> Result<(Gate, Pass, Pass), GateFault>
+    ensures { IfOk result (λ t. (t.1 ≡ standing t.0 (fresh first)) × (t.2 ≡ standing t.0 (fresh second))) }
+{
+    let (gate, mut passes) = Gate::new(alloc, &[first, second])?;
+    let b = passes.pop().ok_or(GateFault::NoMemory)?;
+    let a = passes.pop().ok_or(GateFault::NoMemory)?;
+    Ok((gate, a, b))
+}
+
+// Two passes in turn, of one hold each. It is passed no handle: no call of a gate waits. The answer is what went wrong.
+fn in_turn(gate: &Gate, a: &mut Pass, b: &mut Pass) -> Result<(), &'static str>
+    requires { (a.old.gate ≡ gate.now) × (b.old.gate ≡ gate.now) }
+{
+    if gate.acquire(a).is_err() {
+        return Err("no hold at an open gate");
+    }
+    if gate.acquire(a) != Err(AcquireFault::TooManyHolds) {
+        return Err("a hold past the quota");
+    }
+    gate.close_gate(b);
+    if gate.drained(b) {
+        return Err("drained with a hold");
+    }
+    if gate.acquire(b) != Err(AcquireFault::DeletePending) {
+        return Err("a hold at a closed gate");
+    }
+    if gate.acquire(a) != Err(AcquireFault::TooManyHolds) {
+        return Err("the quota is looked at first");
+    }
+    gate.release(a);
+    if !gate.drained(b) {
+        return Err("not drained without a hold");
+    }
+    Ok(())
+}
+
+#[test]
+fn drains_once_the_hold_is_released(rt: HostRuntime) -> Result<(), Fail> {
+    let Ok((gate, mut a, mut b)) = two(rt.alloc(), 1, 1) else {
+        panic!(rt; "no memory")
+    };
+    same(&rt, &in_turn(&gate, &mut a, &mut b), &Ok(()));
+    Ok(())
+}
+
+// The one test that passes with each allocation failing in turn.
+#[test]
+fn is_a_gate_or_no_memory(rt: HostRuntime) -> Result<(), Fail> {
+    match two(rt.alloc(), 1, 1) {
+        Ok((gate, mut a, mut b)) => same(&rt, &in_turn(&gate, &mut a, &mut b), &Ok(())),
+        Err(fault) => same(&rt, &fault, &GateFault::NoMemory),
+    }
+    Ok(())
+}
+
+#[test]
+fn never_drains_past_a_dropped_hold(rt: HostRuntime) -> Result<(), Fail> {
+    let Ok((gate, mut a, mut b)) = two(rt.alloc(), 1, 0) else {
+        panic!(rt; "no memory")
+    };
+    assert!(rt; gate.acquire(&mut a).is_ok());
+    drop(a);
+    gate.close_gate(&mut b);
+    assert!(rt; !gate.drained(&mut b));
+    let Err(fault) = gate.acquire(&mut b) else {
+        panic!(rt; "a hold past the quota")
+    };
+    assert!(rt; fault == AcquireFault::TooManyHolds);
+    let text = format!(in rt.alloc(); "{fault}")?;
+    same(
+        &rt,
+        &text.as_str(),
+        &"the pass has as many holds as its quota",
+    );
+    Ok(())
+}
+
+#[test]
+fn takes_quotas_up_to_the_limit(rt: HostRuntime) -> Result<(), Fail> {
+    assert!(rt; two(rt.alloc(), 4_294_967_295, 1).is_ok());
+    let Err(fault) = Gate::new(rt.alloc(), &[4_294_967_295, 2]) else {
+        panic!(rt; "too large")
+    };
+    assert!(rt; fault == GateFault::QuotasTooLarge);
+    let text = format!(in rt.alloc(); "{fault}")?;
+    same(
+        &rt,
+        &text.as_str(),
+        &"the quotas add up to more than 2^32 holds",
+    );
+    let Ok((_, passes)) = Gate::new(rt.alloc(), &[]) else {
+        panic!(rt; "no memory")
+    };
+    assert!(rt; passes.is_empty());
+    Ok(())
+}
+
+// Takes and releases a hold many times. The answer is the pass and the number of holds taken.
+fn churn(gate: &Gate, mut pass: Pass) -> (Pass, u32)
+    requires { (pass.gate ≡ gate.now) × (pass.view.holds ≡ 0) }
+    ensures { (result.0.gate ≡ gate.now) × (result.0.view.holds ≡ 0) }
+{
+    let mut taken = 0;
+    for _ in 0..10_000u32 {
+        if gate.acquire(&mut pass).is_ok() {
+            gate.release(&mut pass);
+            taken += 1;
+        }
+    }
+    (pass, taken)
+}
+
+#[test]
+fn drains_after_two_threads(rt: HostRuntime) -> Result<(), Fail> {
+    let Ok((gate, a, b)) = two(rt.alloc(), 1, 1) else {
+        panic!(rt; "no memory")
+    };
+    let shared = &gate;
+    let ((mut a, first), (_b, second)) = join(&rt, || churn(shared, a), || churn(shared, b));
+    assert!(rt; first == 10_000 && second == 10_000);
+    gate.close_gate(&mut a);
+    assert!(rt; gate.drained(&mut a));
+    Ok(())
+}

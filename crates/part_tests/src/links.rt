@@ -1,0 +1,85 @@
+use linked::{Linked, Numbered};
+use std::alloc::AllocError;
+
+/// An item that is its number.
+#[derive(Drop)]
+struct Item {
+    number: u128,
+}
+
+impl Numbered for Item {
+    ghost number_of = { λ item. item.number };
+
+    fn number(&self) -> u128 {
+        self.number
+    }
+}
+
+/// The spot and the number of the item that leaves first.
+fn next(queue: &mut Linked<Item>) -> Option<(usize, u128)> {
+    let (spot, item) = queue.pop_front()?;
+    Some((spot, item.number))
+}
+
+#[test]
+fn the_middle_leaves_and_the_others_keep_their_order(rt: HostRuntime) -> Result<(), AllocError> {
+    let mut queue = Linked::new(rt.alloc());
+    queue.reserve(3)?;
+    let first = queue.push_back_reserved(Item { number: 1 });
+    let middle = queue.push_back_reserved(Item { number: 2 });
+    let last = queue.push_back_reserved(Item { number: 3 });
+    assert!(rt; queue.find(2) == Some(middle));
+    assert!(rt;
+        queue
+            .remove_number(middle, 2)
+            .is_some_and(|item| item.number == 2)
+    );
+    assert!(rt; queue.find(2) == None);
+    assert!(rt; queue.len() == 2);
+    assert!(rt; next(&mut queue) == Some((first, 1)));
+    assert!(rt; next(&mut queue) == Some((last, 3)));
+    assert!(rt; next(&mut queue) == None);
+    assert!(rt; queue.len() == 0);
+    Ok(())
+}
+
+#[test]
+fn an_old_number_finds_nothing_at_a_spot_used_again(rt: HostRuntime) -> Result<(), AllocError> {
+    let mut queue = Linked::new(rt.alloc());
+    queue.reserve(1)?;
+    let spot = queue.push_back_reserved(Item { number: 1 });
+    assert!(rt; queue.remove_number(spot, 1).is_some());
+    queue.reserve(1)?;
+    assert!(rt; queue.push_back_reserved(Item { number: 2 }) == spot);
+    assert!(rt; queue.remove_number(spot, 1).is_none());
+    assert!(rt; queue.remove_number(spot, 2).is_some());
+    assert!(rt; queue.remove_number(spot, 2).is_none());
+    Ok(())
+}
+
+#[test]
+fn of_sixty_four_the_others_leave_in_order(rt: HostRuntime) -> Result<(), AllocError> {
+    let mut queue = Linked::new(rt.alloc());
+    for number in 1..65_u8 {
+        queue.reserve(1)?;
+        let number = u128::from(number);
+        queue.push_back_reserved(Item { number });
+    }
+    for number in [2, 64, 33] {
+        let Some(spot) = queue.find(number) else {
+            return Err(AllocError);
+        };
+        assert!(rt; queue.remove_number(spot, number).is_some(), "{number}");
+    }
+    assert!(rt; queue.len() == 61);
+    for (first, beyond) in [(1, 2), (3, 33), (34, 64)] {
+        for number in first..beyond {
+            assert!(rt;
+                next(&mut queue).is_some_and(|left| left.1 == number),
+                "{number}"
+            );
+        }
+    }
+    assert!(rt; next(&mut queue) == None);
+    Ok(())
+}

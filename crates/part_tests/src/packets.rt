@@ -1,0 +1,212 @@
+//! Climbs through four drivers, a packet on its way down, and the numbers of the WDK.
+
+ghost use Rattle.std.specs.Prelude.{◌≡◌, ◌<◌, ◌+◌};
+ghost use Rattle.arrayvec.specs.ArrayVec.{array_vec_len};
+
+use bitflags::Flags;
+use expect::{same, same_at};
+use irp::{
+    CancelRoutine, Climb, Control, Done, Driver, IoStatus, Irp, LocationFlags, MajorFunction,
+    MinorFunction, Payload, StackLocation, complete, resume,
+};
+use ntstatus::NtStatus;
+use sector::{Bytes, Extent};
+use srb::Srb;
+use std::process::Abort;
+use std::test::Fail;
+
+/// With which outcomes a routine is asked for: success, error, cancel.
+type Asked = (bool, bool, bool);
+
+const NEVER: Asked = (false, false, false);
+
+const ON_ERROR: Asked = (false, true, false);
+
+const ON_CANCEL: Asked = (false, false, true);
+
+const ON_BOTH: Asked = (true, true, false);
+
+fn location(driver: Driver) -> StackLocation {
+    StackLocation {
+        driver,
+        major: MajorFunction::Read,
+        minor: None,
+        control: Control(0),
+        flags: LocationFlags(0),
+        volume: 1,
+        extent: Extent {
+            first: 16,
+            count: 1,
+        },
+    }
+}
+
+/// The packet goes to this driver, which asks for a routine.
+fn pass_to(irp: &mut Irp, driver: Driver, asked: Asked)
+    requires { array_vec_len irp.old.locations < 4 }
+    ensures { array_vec_len irp.new.locations ≡ array_vec_len irp.old.locations + 1 }
+{
+    irp.next_location(location(driver));
+    irp.set_completion(asked.0, asked.1, asked.2);
+}
+
+/// A packet that has come down to the port, past three drivers that ask so.
+fn packet_at_port(payload: Payload, partition: Asked, filter: Asked, class: Asked) -> Irp {
+    let mut irp = Irp::new(7, payload);
+    pass_to(&mut irp, Driver::Partition, partition);
+    pass_to(&mut irp, Driver::Filter, filter);
+    pass_to(&mut irp, Driver::Class, class);
+    irp.next_location(location(Driver::Port));
+    irp
+}
+
+/// The driver whose routine is called, and its packet.
+fn routine_of(rt: &impl Abort, climb: Climb) -> (Driver, Irp) {
+    match climb {
+        Climb::Routine { driver, irp } => (driver, irp),
+        Climb::Finished(_done) => panic!(rt; "no routine is called"),
+    }
+}
+
+/// The packet that no routine is called for.
+fn done_of(rt: &impl Abort, climb: Climb) -> Done {
+    match climb {
+        Climb::Routine { driver, irp: _irp } => panic!(rt; "the routine of {driver:?} is called"),
+        Climb::Finished(done) => done,
+    }
+}
+
+/// The bytes of a client's packet.
+fn bytes_of(rt: &impl Abort, payload: Payload) -> Bytes {
+    match payload {
+        Payload::Buffer(bytes) => bytes,
+        other => panic!(rt; "the payload is another: {other:?}"),
+    }
+}
+
+#[test]
+fn packets_climb_to_the_routines_that_ask(rt: HostRuntime) -> Result<(), Fail> {
+    use Driver::{Class, Filter, Partition};
+    let all: [Driver; 3] = [Class, Filter, Partition];
+    // Partition, filter and class; whether the packet is cancelled; its status; whose routines are called.
+    let rows = [
+        (
+            ON_BOTH,
+            ON_BOTH,
+            ON_ERROR,
+            false,
+            NtStatus::Success,
+            &all[1..],
+        ),
+        (
+            ON_BOTH,
+            ON_BOTH,
+            ON_ERROR,
+            false,
+            NtStatus::IoDeviceError,
+            &all[..],
+        ),
+        (NEVER, NEVER, ON_CANCEL, true, NtStatus::Success, &all[..1]),
+        (NEVER, NEVER, ON_CANCEL, false, NtStatus::Success, &all[..0]),
+    ];
+    for (partition, filter, class, cancelled, status, called) in rows {
+        let payload = Payload::Buffer(Bytes::new([0xA5, 0x5A].to_vec(rt.alloc())?));
+        let mut irp = packet_at_port(payload, partition, filter, class);
+        if cancelled {
+            irp.mark_cancelled();
+        }
+        let mut climb = complete(irp, status, 512);
+        for driver in called {
+            let (reached, irp) = routine_of(&rt, climb);
+            same_at(&rt, &reached, driver, &status);
+            climb = resume(irp);
+        }
+        let done = done_of(&rt, climb);
+        same(&rt, &done.number, &7);
+        same(&rt, &done.status, &status);
+        same(&rt, &done.information, &512);
+        let bytes = bytes_of(&rt, done.payload);
+        same(&rt, &bytes.as_slice(), &[0xA5, 0x5A].as_slice());
+    }
+    Ok(())
+}
+
+#[test]
+fn a_packet_that_was_kept_completes_later(rt: HostRuntime) {
+    let payload = Payload::Buffer(Bytes::new(Vec::new(rt.alloc())));
+    let irp = packet_at_port(payload, ON_ERROR, NEVER, ON_BOTH);
+    let (reached, kept) = routine_of(&rt, complete(irp, NtStatus::Success, 512));
+    same(&rt, &reached, &Driver::Class);
+    same_at(
+        &rt,
+        &kept.locations.len(),
+        &3,
+        &"the class driver's own location is the last",
+    );
+    let (reached, _kept) = routine_of(&rt, complete(kept, NtStatus::DeviceBusy, 0));
+    same(&rt, &reached, &Driver::Partition);
+}
+
+#[test]
+fn a_packet_goes_down(rt: HostRuntime) {
+    let mut irp = Irp::new(7, Payload::Buffer(Bytes::new(Vec::new(rt.alloc()))));
+    pass_to(&mut irp, Driver::Partition, ON_BOTH);
+    irp.copy_to_next(Driver::Filter);
+    irp.set_completion(true, true, true);
+    irp.skip(Driver::Class);
+    let mut partition = location(Driver::Partition);
+    partition.control = Control(0xC0);
+    let expected = [partition, location(Driver::Class)];
+    same(&rt, &irp.locations.as_slice(), &expected.as_slice());
+    let (reached, mut irp) = routine_of(&rt, complete(irp, NtStatus::Success, 0));
+    same_at(
+        &rt,
+        &reached,
+        &Driver::Partition,
+        &"the filter has no routine",
+    );
+    let routine = CancelRoutine {
+        driver: Driver::Partition,
+    };
+    irp.set_cancel_routine(routine);
+    same(&rt, &irp.take_cancel_routine(), &Some(routine));
+    same(&rt, &irp.take_cancel_routine(), &None);
+}
+
+#[test]
+fn functions_and_flags_have_their_numbers(rt: HostRuntime) {
+    use MajorFunction::*;
+    use MinorFunction::*;
+    let majors = [
+        (Create, 0x00),
+        (Close, 0x02),
+        (Read, 0x03),
+        (Write, 0x04),
+        (FlushBuffers, 0x09),
+        (InternalDeviceControl, 0x0F),
+        (Cleanup, 0x12),
+        (Pnp, 0x1B),
+    ];
+    for (major, code) in majors {
+        same_at(&rt, &major.code(), &code, &major);
+    }
+    let minors = [
+        (QueryRemove, 0x01),
+        (Remove, 0x02),
+        (CancelRemove, 0x03),
+        (SurpriseRemoval, 0x17),
+    ];
+    for (minor, code) in minors {
+        same_at(&rt, &minor.code(), &code, &minor);
+    }
+    let control = [
+        (Control::PENDING_RETURNED, 0x01),
+        (Control::INVOKE_ON_CANCEL, 0x20),
+        (Control::INVOKE_ON_SUCCESS, 0x40),
+        (Control::INVOKE_ON_ERROR, 0x80),
+    ];
+    for (flag, bit) in control {
+        same_at(&rt, &flag.bits(), &bit, &flag);
+    }
+    same(&rt, &LocationFlags::WRITE_THROUGH.bits(), &0x04);
+}

@@ -1,0 +1,277 @@
+//! Tables by hand.
+
+ghost use Rattle.std.specs.Prelude.{◌↔◌, IsTrue};
+ghost use Rattle.mbr.specs.Table.{FitsEntry};
+
+use arrayvec::ArrayVec;
+use expect::same;
+use mbr::{MbrFault, parse, render};
+use sector::Extent;
+use std::process::Abort;
+use std::test::Fail;
+
+const fn extent(first: u64, count: u64) -> Extent {
+    Extent { first, count }
+}
+
+/// The largest number of an entry.
+const FAR: u64 = 0xFFFF_FFFF;
+
+/// What a sector says on a disk of so many sectors: these partitions, or this fault.
+fn expect(
+    rt: &impl Abort,
+    sector: &[u8],
+    sectors: u64,
+    partitions: &[Extent],
+    fault: Option<MbrFault>,
+) {
+    match parse(sector, sectors) {
+        Ok(found) => {
+            same(rt, &fault, &None);
+            same(rt, &found.as_slice(), &partitions);
+        }
+        Err(found) => same(rt, &fault, &Some(found)),
+    }
+}
+
+/// Sector 0 with one entry, of type 7, 2048 x 1024.
+fn one_entry() -> [u8; 512] {
+    let mut sector = [0; 512];
+    sector[450] = 7;
+    sector[455] = 8;
+    sector[459] = 4;
+    sector[510] = 0x55;
+    sector[511] = 0xAA;
+    sector
+}
+
+/// What one changed byte does.
+#[derive(Debug, Clone, Copy, PartialEq, Eq)]
+enum Change {
+    /// Nothing.
+    Nothing,
+    /// There is no partition.
+    Unused,
+    /// The first sector is so much, and so much for each one of the byte's value.
+    First(u64, u64),
+    /// The number of sectors, likewise.
+    Count(u64, u64),
+    Fault(MbrFault),
+}
+
+use Change::{Count, Fault, First, Nothing, Unused};
+
+/// For a byte and values from one to another what a change of the byte to such a value does. All other changes do
+/// nothing.
+static CHANGES: [(usize, u8, u8, Change); 20] = [
+    (450, 0, 0, Unused),
+    (454, 0, 255, First(2048, 1)),
+    (455, 0, 0, Fault(MbrFault::CoversTable)),
+    (455, 1, 12, First(0, 256)),
+    (455, 13, 255, Fault(MbrFault::PastEnd)),
+    (456, 1, 255, Fault(MbrFault::PastEnd)),
+    (457, 1, 255, Fault(MbrFault::PastEnd)),
+    (458, 0, 255, Count(1024, 1)),
+    (459, 0, 0, Fault(MbrFault::EmptyEntry)),
+    (459, 1, 8, Count(0, 256)),
+    (459, 9, 255, Fault(MbrFault::PastEnd)),
+    (460, 1, 255, Fault(MbrFault::PastEnd)),
+    (461, 1, 255, Fault(MbrFault::PastEnd)),
+    (466, 1, 255, Fault(MbrFault::EmptyEntry)),
+    (482, 1, 255, Fault(MbrFault::EmptyEntry)),
+    (498, 1, 255, Fault(MbrFault::EmptyEntry)),
+    (510, 0, 0x54, Fault(MbrFault::NoSignature)),
+    (510, 0x56, 255, Fault(MbrFault::NoSignature)),
+    (511, 0, 0xA9, Fault(MbrFault::NoSignature)),
+    (511, 0xAB, 255, Fault(MbrFault::NoSignature)),
+];
+
+/// What a change of this byte to this value does.
+fn change_of(byte: usize, value: u8) -> Change {
+    for (at, low, high, change) in &CHANGES {
+        if *at == byte && *low <= value && value <= *high {
+            return *change;
+        }
+    }
+    Nothing
+}
+
+// Each byte replaced by each value.
+#[test]
+fn tells_what_one_byte_changes(rt: HostRuntime) {
+    for byte in 0..512 {
+        for value in 0..=u8::MAX {
+            let mut sector = one_entry();
+            sector[byte] = value;
+            let step = value as u64;
+            match change_of(byte, value) {
+                Nothing => expect(&rt, &sector, 4096, &[extent(2048, 1024)], None),
+                Unused => expect(&rt, &sector, 4096, &[], None),
+                First(least, by) => {
+                    let first = least.saturating_add(by.saturating_mul(step));
+                    expect(&rt, &sector, 4096, &[extent(first, 1024)], None);
+                }
+                Count(least, by) => {
+                    let count = least.saturating_add(by.saturating_mul(step));
+                    expect(&rt, &sector, 4096, &[extent(2048, count)], None);
+                }
+                Fault(fault) => expect(&rt, &sector, 4096, &[], Some(fault)),
+            }
+        }
+    }
+}
+
+// Fewer bytes than a table has, no signature whatever the entries, and bytes behind the table.
+#[test]
+fn looks_at_512_bytes(rt: HostRuntime) {
+    let sector = one_entry();
+    for length in [0, 1, 446, 462, 510, 511] {
+        is_short(&rt, &sector, length);
+    }
+    for bytes in [[0; 512], [0xFF; 512], [0x55; 512], [0xAA; 512]] {
+        expect(&rt, &bytes, 4096, &[], Some(MbrFault::NoSignature));
+    }
+    let mut long = [0xFF; 4096];
+    long[..512].copy_from_slice(&sector);
+    expect(&rt, &long, 4096, &[extent(2048, 1024)], None);
+}
+
+/// The first bytes of a sector, so many, are too few.
+fn is_short(rt: &impl Abort, sector: &[u8], length: usize) {
+    assert!(rt; length <= sector.len());
+    expect(
+        rt,
+        &sector[..length],
+        4096,
+        &[],
+        Some(MbrFault::ShortSector),
+    );
+}
+
+/// Whether the numbers of an entry have four bytes each.
+fn fits(entry: &(u8, Extent)) -> bool
+    ensures { IsTrue result ↔ FitsEntry entry.now }
+{
+    entry.1.first <= FAR && entry.1.count <= FAR
+}
+
+/// A table of entries that fit in one.
+fn table(rt: &impl Abort, entries: &[(u8, Extent)]) -> ArrayVec<u8, 512> {
+    assert!(rt; entries.len() <= 4);
+    assert!(rt; entries.iter().all(|entry| fits(entry)));
+    render(entries)
+}
+
+/// What a table of these entries says on a disk of so many sectors: these partitions, or this fault.
+fn says(
+    rt: &impl Abort,
+    entries: &[(u8, Extent)],
+    sectors: u64,
+    partitions: &[Extent],
+    fault: Option<MbrFault>,
+) {
+    expect(
+        rt,
+        table(rt, entries).as_slice(),
+        sectors,
+        partitions,
+        fault,
+    );
+}
+
+#[test]
+fn takes_the_used_entries_in_table_order(rt: HostRuntime) {
+    says(&rt, &[], 4096, &[], None);
+    let (low, high) = (extent(2048, 1024), extent(3072, 1024));
+    says(&rt, &[(7, high), (7, low)], 4096, &[high, low], None);
+    says(
+        &rt,
+        &[(7, low), (0, extent(0, 0)), (7, high)],
+        4096,
+        &[low, high],
+        None,
+    );
+    says(
+        &rt,
+        &[(0, low), (0, low), (5, low), (0, low)],
+        4096,
+        &[low],
+        None,
+    );
+    let four = [extent(1, 1), extent(2, 1), extent(3, 1), extent(4, 4092)];
+    let entries = [(5, four[0]), (0x0F, four[1]), (0xEE, four[2]), (1, four[3])];
+    says(&rt, &entries, 4096, &four, None);
+    says(&rt, &[(7, extent(4095, 1))], 4096, &[extent(4095, 1)], None);
+    let far = extent(FAR, FAR);
+    says(&rt, &[(0xFF, far)], 2 * FAR, &[far], None);
+}
+
+#[test]
+fn tells_the_first_fault(rt: HostRuntime) {
+    let (low, high) = (extent(2048, 1024), extent(3072, 1024));
+    let (empty, covering, long) = (extent(5000, 0), extent(0, 5000), extent(4095, 2));
+    let rows: [(&[(u8, Extent)], MbrFault); 14] = [
+        (&[(7, empty)], MbrFault::EmptyEntry),
+        (&[(7, extent(0, 0))], MbrFault::EmptyEntry),
+        (&[(7, extent(FAR, 0))], MbrFault::EmptyEntry),
+        (&[(7, covering)], MbrFault::CoversTable),
+        (&[(7, extent(0, 1))], MbrFault::CoversTable),
+        (&[(7, long)], MbrFault::PastEnd),
+        (&[(7, extent(4096, 1))], MbrFault::PastEnd),
+        (&[(7, extent(FAR, FAR))], MbrFault::PastEnd),
+        (
+            &[(7, low), (7, high), (0, low), (7, low)],
+            MbrFault::Overlap,
+        ),
+        (&[(7, low), (7, extent(3071, 1))], MbrFault::Overlap),
+        (
+            &[(7, extent(1, 4095)), (0, empty), (7, high)],
+            MbrFault::Overlap,
+        ),
+        (&[(7, long), (7, covering), (7, empty)], MbrFault::PastEnd),
+        (
+            &[(7, low), (7, low), (0, empty), (7, covering)],
+            MbrFault::CoversTable,
+        ),
+        (&[(7, empty), (7, low), (7, low)], MbrFault::EmptyEntry),
+    ];
+    for (entries, fault) in rows {
+        says(&rt, entries, 4096, &[], Some(fault));
+    }
+}
+
+#[test]
+fn writes_a_table(rt: HostRuntime) {
+    same(
+        &rt,
+        &table(&rt, &[(7, extent(2048, 1024))]).as_slice(),
+        &one_entry().as_slice(),
+    );
+    let sector = table(
+        &rt,
+        &[(0, extent(1, 2)), (0xEE, extent(0xFFFF_FFFF, 0x8070_6050))],
+    );
+    let mut bytes = [0; 512];
+    bytes[446..478].copy_from_slice(&[
+        0, 0, 0, 0, 0, 0, 0, 0, 1, 0, 0, 0, 2, 0, 0, 0, // unused
+        0, 0, 0, 0, 0xEE, 0, 0, 0, 0xFF, 0xFF, 0xFF, 0xFF, 0x50, 0x60, 0x70, 0x80,
+    ]);
+    bytes[510..].copy_from_slice(&[0x55, 0xAA]);
+    same(&rt, &sector.as_slice(), &bytes.as_slice());
+}
+
+#[test]
+fn faults_are_told(rt: HostRuntime) -> Result<(), Fail> {
+    for (fault, want) in [
+        (MbrFault::ShortSector, "short sector"),
+        (MbrFault::NoSignature, "no signature"),
+        (MbrFault::EmptyEntry, "empty entry"),
+        (MbrFault::CoversTable, "covers table"),
+        (MbrFault::PastEnd, "past end"),
+        (MbrFault::Overlap, "overlap"),
+    ] {
+        let text = format!(in rt.alloc(); "{fault}")?;
+        same(&rt, &text.as_str(), &want);
+    }
+    Ok(())
+}
