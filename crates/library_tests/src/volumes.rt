@@ -151,6 +151,23 @@ fn make<A: Adapter>(
     }
 }
 
+/// Makes the calls of all rows.
+fn make_all<A: Adapter>(
+    rt: &impl Abort,
+    alloc: Global,
+    volume: &mut Volume<A>,
+    rows: &[(Call, Given)],
+) -> Result<(), AllocError> {
+    let sizes = volume.sizes();
+    assert!(rt; sizes.sector_size == 512 && sizes.sectors == 1024);
+    for row in rows {
+        let (asked, given) = *row;
+        let right = make(alloc, volume, asked, given)?;
+        assert!(rt; right, "{asked:?}");
+    }
+    Ok(())
+}
+
 /// Makes calls one after the other.
 fn run<A: Adapter>(
     rt: &impl Abort,
@@ -163,13 +180,7 @@ fn run<A: Adapter>(
     requires faithful { IsTrue (A.view adapter).faithful }
 {
     let mut volume = volume_on(rt, alloc, adapter)?;
-    let sizes = volume.sizes();
-    assert!(rt; sizes.sector_size == 512 && sizes.sectors == 1024);
-    for row in rows {
-        let (asked, given) = *row;
-        let right = make(alloc, &mut volume, asked, given)?;
-        assert!(rt; right, "{asked:?}");
-    }
+    make_all(rt, alloc, &mut volume, rows)?;
     drop(volume.close(alloc));
     Ok(())
 }
