@@ -95,4 +95,3 @@ pub trait Medium: Drop {
 
     ghost whole: { (medium : Self) → HasWholeSectors (view medium) };
 }
-

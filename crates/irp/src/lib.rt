@@ -132,4 +132,3 @@ pub enum Climb {
     /// Out of the stack.
     Finished(Done),
 }
-

@@ -61,4 +61,3 @@ const SIGNATURE: usize = 510;
 
 /// The signature.
 const SIGNED: [u8; 2] = [0x55, 0xAA];
-

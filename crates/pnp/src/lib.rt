@@ -104,4 +104,3 @@ pub fn removal_is_for_good()
     ensures last { RemovedIsLast }
     ensures queried { RemovesOnceQueried }
 {}
-

@@ -45,4 +45,3 @@ pub enum ProbeFault {
     #[error("no memory")]
     NoMemory,
 }
-

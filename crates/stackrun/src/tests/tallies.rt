@@ -71,9 +71,9 @@ fn runs_clients(rt: HostRuntime) -> Result<(), Fail> {
         let mut out = Vec::new(alloc);
         let mut faults = Vec::new(alloc);
         let outcome = clients(&rt, alloc, config.as_bytes(), threads, rounds, &mut out);
-        same_at(&rt, &ended(outcome, &mut faults), &status, &more);
-        same_at(&rt, &out.as_slice(), &printed.as_bytes(), &more);
-        same_at(&rt, &faults.as_slice(), &said.as_bytes(), &more);
+        same_at(&rt, &ended(outcome, &mut faults), &status, &config);
+        same_at(&rt, &out.as_slice(), &printed.as_bytes(), &config);
+        same_at(&rt, &faults.as_slice(), &said.as_bytes(), &config);
     }
     Ok(())
 }
