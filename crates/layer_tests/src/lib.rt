@@ -3,7 +3,11 @@
 #![tactic(auto)]
 
 #[cfg(test)]
+mod expect;
+#[cfg(test)]
 mod maps;
+#[cfg(test)]
+mod packets;
 #[cfg(test)]
 mod pieces;
 #[cfg(test)]

@@ -1,21 +1,19 @@
 //! Partitions of a port over an adapter in memory, each call by the contract of a layer.
 
-ghost use Rattle.std.specs.Prelude.{◌≡◌, ◌≤◌, ◌<◌, ◌+◌, ◌^◌, ◌∷◌, [], true, false, length, IfOk, OnOk, Some, if◌then◌else◌};
-ghost use Rattle.machine.specs.Rules.{home};
+ghost use Rattle.std.specs.Prelude.{◌≡◌, ◌≤◌, [], true, false, length, IfOk, OnOk};
 ghost use Rattle.machine.specs.Map.{IsMap};
-ghost use Rattle.device.specs.View.{AsksFor, IsBounded, whole_command};
+ghost use Rattle.device.specs.View.{AsksFor, whole_command};
 ghost use Rattle.layer_tests.specs.Ready.{IsReady};
 ghost use Rattle.layer_tests.specs.Askable.{IsAskable, rules_on};
 
+use crate::expect::same;
+use crate::packets::{finished, own_location};
 use crate::sizes::sizes;
 use arrayvec::ArrayVec;
 use cdb::{Cdb, encode};
 use device::{Device, Kind, Request};
 use disk::VecDisk;
-use expect::same;
-use irp::{
-    Climb, Control, Done, Driver, Irp, LocationFlags, MajorFunction, Payload, StackLocation,
-};
+use irp::{Climb, Done, Driver, Irp, Payload};
 use miniport::MemAdapter;
 use ntstatus::NtStatus;
 use partition::Partitions;
@@ -94,24 +92,6 @@ fn srb_for(alloc: Global, partitions: &[Extent], request: &Request) -> Result<Sr
     })
 }
 
-/// The layer's own location, which asks for the request.
-fn own_location(request: &Request) -> StackLocation
-    ensures major { result.major ≡ MajorFunction.InternalDeviceControl }
-    ensures flags { result.flags.0 ≡ (if request.now.through then 0x04 else 0) }
-    ensures volume { result.volume ≡ request.now.volume }
-    ensures extent { result.extent ≡ request.now.extent }
-{
-    StackLocation {
-        driver: Driver::Partition,
-        major: MajorFunction::InternalDeviceControl,
-        minor: None,
-        control: Control(0),
-        flags: LocationFlags(if request.through { 0x04 } else { 0 }),
-        volume: request.volume,
-        extent: request.extent,
-    }
-}
-
 /// A request lies in its partition, and begins where a block of ten bytes can say it.
 fn assert_askable(rt: &impl Abort, partitions: &[Extent], request: &Request)
     ensures { IsAskable partitions.now request.now }
@@ -143,7 +123,7 @@ fn submit<D: Device>(
     assert_askable(rt, partitions, request);
     let srb = srb_for(alloc, partitions, request)?;
     let mut irp = Irp::new(client.next as u128, Payload::Srb(srb));
-    irp.next_location(own_location(request));
+    irp.next_location(own_location(Driver::Partition, true, request));
     let room = device.reserve(request)?;
     client.spot = device.submit(irp, room);
     client.next += 1;
@@ -239,14 +219,6 @@ fn take_up<D: Device>(device: &mut D, partitions: &[Extent], client: &Client) ->
     let (climb, room) = device.take_done()?;
     device.free(room);
     Some(climb)
-}
-
-/// The packet, where it is finished.
-fn finished(climb: Climb) -> Option<Done> {
-    match climb {
-        Climb::Finished(done) => Some(done),
-        Climb::Routine { driver: _, irp: _ } => None,
-    }
 }
 
 /// Whether the packet has this number and status, and data full of this byte.

@@ -1,22 +1,20 @@
 //! Runs of a class driver over a port and an adapter in memory, each call by the contract of a layer.
 
-ghost use Rattle.std.specs.Prelude.{◌≡◌, ◌≤◌, ◌<◌, ◌+◌, ◌^◌, ◌∷◌, [], true, false, length, IfOk, OnOk, if◌then◌else◌};
-ghost use Rattle.device.specs.View.{IsBounded, major_of, transfer_length};
+ghost use Rattle.std.specs.Prelude.{◌≡◌, ◌≤◌, [], false, length, IfOk, OnOk};
+ghost use Rattle.device.specs.View.{IsBounded, transfer_length};
 ghost use Rattle.layer_tests.specs.Served.{IsServed, eight_sectors};
 
+use crate::expect::same;
+use crate::packets::{Told, finished, own_location, told};
 use crate::sizes::sizes;
 use class_disk::Disk;
 use device::{Device, Kind, Request};
 use disk::VecDisk;
-use expect::same;
-use irp::{
-    Climb, Control, Done, Driver, Irp, LocationFlags, MajorFunction, Payload, StackLocation,
-};
+use irp::{Climb, Done, Driver, Irp, Payload};
 use miniport::MemAdapter;
 use ntstatus::NtStatus;
 use port::Port;
 use sector::{Bytes, Extent};
-use srb::{Class, DeviceLabel};
 use std::alloc::{AllocError, Global};
 use std::process::Abort;
 use std::test::Fail;
@@ -30,9 +28,6 @@ struct Client {
     spot: usize,
     removed: bool,
 }
-
-/// A label: its piece, a letter, and the tag of a start.
-type Told = (u128, char, u8);
 
 /// What is done to a class driver, and what it must answer. Where labels stand, just these are recorded.
 #[derive(Debug, Drop)]
@@ -81,28 +76,6 @@ fn buffer_for(alloc: Global, request: &Request, byte: u8) -> Result<Vec<u8>, All
     Ok(bytes)
 }
 
-/// The class driver's own location, which asks for the request.
-fn own_location(request: &Request) -> StackLocation
-    ensures major { result.major ≡ major_of false request.now.kind }
-    ensures flags { result.flags.0 ≡ (if request.now.through then 0x04 else 0) }
-    ensures volume { result.volume ≡ request.now.volume }
-    ensures extent { result.extent ≡ request.now.extent }
-{
-    StackLocation {
-        driver: Driver::Class,
-        major: match request.kind {
-            Kind::Read => MajorFunction::Read,
-            Kind::Write => MajorFunction::Write,
-            Kind::Flush => MajorFunction::FlushBuffers,
-        },
-        minor: None,
-        control: Control(0),
-        flags: LocationFlags(if request.through { 0x04 } else { 0 }),
-        volume: request.volume,
-        extent: request.extent,
-    }
-}
-
 /// A request goes down under the client's next number; where memory for it was refused, none goes.
 fn submit<D: Device>(
     rt: &impl Abort,
@@ -123,7 +96,7 @@ fn submit<D: Device>(
     assert_bounded(rt, request);
     let buffer = buffer_for(alloc, request, byte)?;
     let mut irp = Irp::new(client.next as u128, Payload::Buffer(Bytes::new(buffer)));
-    irp.next_location(own_location(request));
+    irp.next_location(own_location(Driver::Class, false, request));
     let room = device.reserve(request)?;
     client.spot = device.submit(irp, room);
     client.next += 1;
@@ -146,24 +119,6 @@ fn reserve<D: Device>(
     let room = device.reserve(request)?;
     device.free(room);
     Ok(())
-}
-
-/// What a label says.
-fn told(label: DeviceLabel) -> Told {
-    match label {
-        DeviceLabel::Start {
-            piece,
-            tag,
-            block: _,
-        } => (piece, 'S', tag),
-        DeviceLabel::Act { piece, bytes: _ } => (piece, 'A', 0),
-        DeviceLabel::Fault { piece } => (piece, 'F', 0),
-        DeviceLabel::Return { piece, class } => match class {
-            Class::Good => (piece, 'G', 0),
-            Class::Busy => (piece, 'B', 0),
-            Class::Bad(_) => (piece, 'R', 0),
-        },
-    }
 }
 
 /// Takes as many labels as are wanted, and no more are there.
@@ -251,14 +206,6 @@ fn take_up<D: Device>(device: &mut D, client: &Client) -> Option<Climb>
     let (climb, room) = device.take_done()?;
     device.free(room);
     Some(climb)
-}
-
-/// The packet, where it is finished.
-fn finished(climb: Climb) -> Option<Done> {
-    match climb {
-        Climb::Finished(done) => Some(done),
-        Climb::Routine { driver: _, irp: _ } => None,
-    }
 }
 
 /// Whether the packet has this number and status, and moved sectors full of these bytes.

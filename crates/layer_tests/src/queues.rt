@@ -1,22 +1,18 @@
 //! Runs of a port over an adapter in memory, each call by the contract of a layer.
 
-ghost use Rattle.std.specs.Prelude.{◌≡◌, ◌≤◌, ◌<◌, ◌+◌, ◌^◌, ◌∷◌, [], true, false, length, IfOk, OnOk, if◌then◌else◌};
-ghost use Rattle.device.specs.View.{AsksFor, IsBounded, whole_command};
+ghost use Rattle.std.specs.Prelude.{◌≡◌, [], true, false, length, IfOk, OnOk};
 ghost use Rattle.layer_tests.specs.Ready.{IsReady, four_sectors};
 
+use crate::expect::{same, same_at};
+use crate::packets::{own_location, srb_for, told};
 use crate::sizes::sizes;
-use cdb::{Cdb, encode};
 use device::{Device, Kind, Request};
 use disk::VecDisk;
-use expect::{same, same_at};
-use irp::{
-    Climb, Control, Done, Driver, Irp, LocationFlags, MajorFunction, Payload, StackLocation,
-};
+use irp::{Climb, Done, Driver, Irp, Payload};
 use miniport::MemAdapter;
 use ntstatus::NtStatus;
 use port::Port;
-use sector::{Bytes, Extent};
-use srb::{Class, CommandBlock, DeviceLabel, Srb, SrbFlags, SrbFunction};
+use sector::Extent;
 use std::alloc::{AllocError, Global};
 use std::process::Abort;
 use std::test::Fail;
@@ -51,63 +47,6 @@ enum Step<'a> {
     NoneDone,
 }
 
-/// The command that asks for a request.
-fn command(request: &Request) -> Cdb
-    requires bounded { IsBounded four_sectors request.now }
-    requires inside { request.now.extent.first + request.now.extent.count ≤ 4 }
-    ensures { result ≡ whole_command four_sectors request.now }
-{
-    let lba = request.extent.first as u32;
-    let count = request.extent.count as u16;
-    let fua = request.through;
-    match request.kind {
-        Kind::Read => Cdb::Read10 { lba, count, fua },
-        Kind::Write => Cdb::Write10 { lba, count, fua },
-        Kind::Flush => Cdb::Sync10 { lba: 0, blocks: 0 },
-    }
-}
-
-/// An SRB that asks for a request.
-fn srb_for(alloc: Global, request: &Request) -> Result<Srb, AllocError>
-    requires bounded { IsBounded four_sectors request.now }
-    requires inside { request.now.extent.first + request.now.extent.count ≤ 4 }
-    ensures { IfOk result (AsksFor four_sectors request.now) }
-{
-    let (flags, length) = match request.kind {
-        Kind::Read => (64, request.extent.count as usize * 512),
-        Kind::Write => (128, request.extent.count as usize * 512),
-        Kind::Flush => (0, 0),
-    };
-    let data = vec![in alloc; 0xA5; length]?;
-    let for_label = vec![in alloc; 0; length]?;
-    Ok(Srb {
-        function: SrbFunction::ExecuteScsi,
-        flags: SrbFlags(flags),
-        block: CommandBlock::new(encode(&command(request))),
-        data: Bytes::new(data),
-        for_label: Bytes::new(for_label),
-        sense: None,
-    })
-}
-
-/// The port's own location, which asks for the request.
-fn own_location(request: &Request) -> StackLocation
-    ensures major { result.major ≡ MajorFunction.InternalDeviceControl }
-    ensures flags { result.flags.0 ≡ (if request.now.through then 0x04 else 0) }
-    ensures volume { result.volume ≡ request.now.volume }
-    ensures extent { result.extent ≡ request.now.extent }
-{
-    StackLocation {
-        driver: Driver::Port,
-        major: MajorFunction::InternalDeviceControl,
-        minor: None,
-        control: Control(0),
-        flags: LocationFlags(if request.through { 0x04 } else { 0 }),
-        volume: request.volume,
-        extent: request.extent,
-    }
-}
-
 /// A request goes down under the client's next number; where memory for it was refused, none goes.
 fn submit<D: Device>(
     rt: &impl Abort,
@@ -136,29 +75,11 @@ fn submit<D: Device>(
     };
     let srb = srb_for(alloc, &request)?;
     let mut irp = Irp::new(client.next as u128, Payload::Srb(srb));
-    irp.next_location(own_location(&request));
+    irp.next_location(own_location(Driver::Port, true, &request));
     let room = device.reserve(&request)?;
     client.spot = device.submit(irp, room);
     client.next += 1;
     Ok(())
-}
-
-/// What a label says: its piece, a letter, and the tag of a start.
-fn told(label: DeviceLabel) -> (u128, char, u8) {
-    match label {
-        DeviceLabel::Start {
-            piece,
-            tag,
-            block: _,
-        } => (piece, 'S', tag),
-        DeviceLabel::Act { piece, bytes: _ } => (piece, 'A', 0),
-        DeviceLabel::Fault { piece } => (piece, 'F', 0),
-        DeviceLabel::Return { piece, class } => match class {
-            Class::Good => (piece, 'G', 0),
-            Class::Busy => (piece, 'B', 0),
-            Class::Bad(_) => (piece, 'R', 0),
-        },
-    }
 }
 
 /// Takes as many labels as are wanted, and no more are there.

@@ -1,7 +1,7 @@
 //! Settings that are read, that are refused, each for its first fault, and the disks and adapters that they give.
 
+use crate::expect::{same, same_at};
 use adapter::Adapter;
-use expect::{same, same_at};
 use mbr::MbrFault;
 use probe::{ProbeFault, probe};
 use sector::Extent;

@@ -5,6 +5,8 @@
 #[cfg(test)]
 mod documents;
 #[cfg(test)]
+mod expect;
+#[cfg(test)]
 mod scripts;
 #[cfg(test)]
 mod sessions;

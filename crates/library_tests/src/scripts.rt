@@ -3,9 +3,9 @@
 ghost use Rattle.std.specs.Prelude.{IfOk};
 ghost use Rattle.script.specs.Events.{AreNamed};
 
+use crate::expect::{same, same_at};
 use arrayvec::ArrayVec;
 use compose::{Answer, Event, Handle, Id, Refusal, Reply};
-use expect::{same, same_at};
 use machine::{ClientRequest, Kind, Label};
 use ntstatus::NtStatus;
 use script::{Given, Line, Order, ScriptFault, event, lines, write_label, write_reply};

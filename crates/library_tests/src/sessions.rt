@@ -1,6 +1,6 @@
 //! Recorded sessions: the bytes of a client, and those of the server, by hand.
 
-use expect::{same, same_at};
+use crate::expect::{same, same_at};
 use nbd::{Array, ArrayFault, End, MemArray, Sizes, serve};
 use std::alloc::{AllocError, Global};
 use std::process::Abort;

@@ -1,7 +1,7 @@
 //! What no contract says: what is opened with ample memory, what failed reads and writes give, and who says nothing.
 
+use crate::expect::same;
 use compose::{Refusal, StartFault};
-use expect::same;
 use mbr::MbrFault;
 use settings::ConfigFault;
 use startup::{

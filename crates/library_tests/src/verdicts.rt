@@ -1,7 +1,7 @@
 //! Runs written by hand, and traces that are none.
 
+use crate::expect::same;
 use cdb::{Cdb, encode};
-use expect::same;
 use judge::{MachineRules, Sectors, Verdict, judge};
 use machine::{ClientRequest, Kind, Label};
 use ntstatus::{NtStatus, Sense};

@@ -2,4 +2,5 @@
 
 mod command_lines;
 mod endings;
+mod expect;
 mod sessions;

@@ -3,9 +3,9 @@
 ghost use Rattle.std.specs.Prelude.{◌≡◌, ◌≤◌, ◌<◌, ◌^◌, ◌+◌, ◌-◌, ◌⊎◌, length, IfOk, IfSome, OnOk};
 ghost use Rattle.miniport.specs.Memory.{MemView};
 
+use crate::expect::{same, same_at};
 use arrayvec::ArrayVec;
 use disk::{Medium, NoMemory, VecDisk};
-use expect::{same, same_at};
 use miniport::{Adapter, MemAdapter, OnceAdapter};
 use ntstatus::Sense;
 use sector::{Bytes, Extent};

@@ -1,8 +1,8 @@
 //! The numbers of `srb.h` and of the SCSI standards, and completions as an adapter gives them.
 
+use crate::expect::{same, same_at};
 use arrayvec::ArrayVec;
 use bitflags::Flags;
-use expect::{same, same_at};
 use ntstatus::{NtStatus, Sense};
 use sector::Bytes;
 use srb::{

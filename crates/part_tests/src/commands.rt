@@ -1,7 +1,7 @@
 //! Blocks and sense data written out by hand from the tables of SBC and SPC.
 
+use crate::expect::same;
 use cdb::{Cdb, CdbFault, decode, decode_sense, encode, encode_sense};
-use expect::same;
 use ntstatus::Sense;
 
 #[test]

@@ -1,8 +1,8 @@
 ghost use Rattle.std.specs.Prelude.{◌≡◌, ◌*◌, ◌<◌, ◌^◌, length, OnOk};
 ghost use Rattle.disk.specs.Medium.{IsWithin, IsReserved};
 
+use crate::expect::{same, same_at};
 use disk::{BadSector, Medium, NoMemory, SparseDisk, VecDisk};
-use expect::{same, same_at};
 use sector::Extent;
 use std::alloc::Global;
 use std::process::Abort;

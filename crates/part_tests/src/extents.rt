@@ -1,6 +1,6 @@
 ghost use Rattle.std.specs.Prelude.{◌≡◌};
 
-use expect::{same, same_at};
+use crate::expect::{same, same_at};
 use sector::{Bytes, Extent, InvalidParameter, bytes_to_sectors};
 use std::test::Fail;
 

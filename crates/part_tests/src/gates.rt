@@ -1,7 +1,7 @@
 ghost use Rattle.std.specs.Prelude.{◌≡◌, IfOk};
 ghost use Rattle.remove_lock.specs.Gate.{fresh, standing};
 
-use expect::same;
+use crate::expect::same;
 use remove_lock::{AcquireFault, Gate, GateFault, Pass};
 use std::alloc::Global;
 use std::test::Fail;

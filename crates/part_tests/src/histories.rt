@@ -1,8 +1,8 @@
 ghost use Rattle.std.specs.Prelude.{◌≡◌, ◌∷◌, [], IfOk, Some, slice_get};
 ghost use Rattle.chronicle.specs.Claims.{AllStand};
 
+use crate::expect::same;
 use chronicle::{Claims, History, Naming, Opened, Whole};
-use expect::same;
 use std::alloc::{AllocError, Global};
 use std::marker::{Brand, Model};
 use std::sync::{Mutex, Wait};

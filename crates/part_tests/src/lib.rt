@@ -11,6 +11,8 @@ mod commands;
 #[cfg(test)]
 mod disks;
 #[cfg(test)]
+mod expect;
+#[cfg(test)]
 mod extents;
 #[cfg(test)]
 mod gates;

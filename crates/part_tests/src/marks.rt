@@ -1,8 +1,8 @@
 ghost use Rattle.std.specs.Prelude.{◌≡◌, IfOk};
 ghost use Rattle.cancel_marks.specs.Marks.{fresh, standing, starting};
 
+use crate::expect::same;
 use cancel_marks::{Marking, Marks, NoMemory, Seat};
-use expect::same;
 use std::alloc::Global;
 use std::test::Fail;
 use std::thread::join;

@@ -3,8 +3,8 @@
 ghost use Rattle.std.specs.Prelude.{◌≡◌, ◌<◌, ◌+◌};
 ghost use Rattle.arrayvec.specs.ArrayVec.{array_vec_len};
 
+use crate::expect::{same, same_at};
 use bitflags::Flags;
-use expect::{same, same_at};
 use irp::{
     CancelRoutine, Climb, Control, Done, Driver, IoStatus, Irp, LocationFlags, MajorFunction,
     MinorFunction, Payload, StackLocation, complete, resume,

@@ -3,8 +3,8 @@
 ghost use Rattle.std.specs.Prelude.{◌≡◌, IfOk};
 ghost use Rattle.probe.specs.Exchange.{IsIdle};
 
+use crate::expect::same;
 use disk::{Medium, NoMemory, SparseDisk, VecDisk};
-use expect::same;
 use mbr::MbrFault;
 use miniport::{Adapter, MemAdapter, OnceAdapter};
 use ntstatus::NtStatus;

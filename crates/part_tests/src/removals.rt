@@ -1,6 +1,6 @@
 //! The whole table, by hand.
 
-use expect::{same, same_at};
+use crate::expect::{same, same_at};
 use ntstatus::NtStatus;
 use pnp::{InvalidDeviceRequest, State};
 use std::test::Fail;

@@ -1,6 +1,6 @@
 //! Extents cut by hand.
 
-use expect::{same, same_at};
+use crate::expect::{same, same_at};
 use sector::Extent;
 use split::{Plan, plan};
 

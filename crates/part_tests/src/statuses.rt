@@ -1,6 +1,6 @@
 //! Numbers and names as `ntstatus.h` has them, and completions as a disk gives them.
 
-use expect::{same, same_at};
+use crate::expect::{same, same_at};
 use ntstatus::{NtStatus, Sense};
 use std::test::Fail;
 

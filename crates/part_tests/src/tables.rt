@@ -3,8 +3,8 @@
 ghost use Rattle.std.specs.Prelude.{◌↔◌, IsTrue};
 ghost use Rattle.mbr.specs.Table.{FitsEntry};
 
+use crate::expect::same;
 use arrayvec::ArrayVec;
-use expect::same;
 use mbr::{MbrFault, parse, render};
 use sector::Extent;
 use std::process::Abort;

@@ -1,7 +1,7 @@
 ghost use Rattle.std.specs.Prelude.{◌≡◌, ◌+◌, ◌<◌, ◌≤◌, IfOk};
 ghost use Rattle.lanes.specs.Queue.{IsLane, fresh_lane, fresh_worker, standing};
 
-use expect::same;
+use crate::expect::same;
 use lanes::{Completions, Desk, NoMemory, Pass, Step, Turnstile, serve_completions, serve_lane};
 use std::alloc::Global;
 use std::sync::{Mutex, Wait};

@@ -11,11 +11,17 @@ use crate::volume_calls::{
     saddlemug_close, saddlemug_flush, saddlemug_open, saddlemug_read, saddlemug_sizes,
     saddlemug_write,
 };
-use expect::same;
+use std::fmt::Debug;
+use std::process::Abort;
 
 /// A partition of the sectors 1 to 8, of which the last is bad, in transfers of two.
 const SETTINGS: &[u8] =
     b"sector_size = 512\nsectors = 9\nmax_transfer = 2\ndepth = 1\nwindow = 1\nbad_sectors = [8]\n[[partition]]\nfirst = 1\ncount = 8\n";
+
+/// Ends the test, and names both, where what was got is not what was wanted.
+fn same<T: PartialEq + Debug>(rt: &impl Abort, got: &T, wanted: &T) {
+    assert_eq!(rt; got, wanted);
+}
 
 #[test]
 fn writes_and_reads(rt: HostRuntime) {

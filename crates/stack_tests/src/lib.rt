@@ -7,6 +7,8 @@ mod books;
 #[cfg(test)]
 mod disks;
 #[cfg(test)]
+mod expect;
+#[cfg(test)]
 mod hosts;
 #[cfg(test)]
 mod stacks;

@@ -1,14 +1,15 @@
 //! What no contract says: the order of faults, what a failed read or write gives, and traces as they are printed.
 
 mod endings;
+mod expect;
 mod given;
 mod tallies;
 mod traces;
 
 use crate::faults::Fault;
+use crate::tests::expect::same;
 use crate::words::asked::Command;
 use crate::words::command;
-use expect::same;
 use std::test::Fail;
 
 #[test]

@@ -1,9 +1,9 @@
 //! Command lines.
 
 use crate::faults::Fault;
+use crate::tests::expect::same;
 use crate::words::asked::Asked;
 use crate::words::command;
-use expect::same;
 use std::test::Fail;
 
 #[test]

@@ -2,8 +2,8 @@
 
 use crate::faults::Fault;
 use crate::serving::serve_disk;
+use crate::tests::expect::{same, same_at};
 use compose::{MbrFault, StartFault};
-use expect::{same, same_at};
 use ntstatus::NtStatus;
 use settings::ConfigFault;
 use startup::Fault::{ConfigUnreadable, Settings, Start};

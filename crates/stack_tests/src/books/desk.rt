@@ -8,13 +8,13 @@ ghost use Rattle.book.specs.Sound.{IsNamed};
 
 use crate::books::opened::Opened as Ready;
 use crate::books::told;
+use crate::expect::{same, same_at};
 use crate::traced;
 use adapter::Adapter;
 use book::{Book, Entry, Naming, Share};
 use cancel_marks::{Marking, Marks, Seat};
 use chronicle::{History, Opened};
 use compose::{Event, Refusal, Reply};
-use expect::{same, same_at};
 use sector::Bytes;
 use std::alloc::{AllocError, Global};
 use std::process::Abort;

@@ -3,12 +3,12 @@
 ghost use Rattle.std.specs.Prelude.{◌≡◌, ◌∷◌, [], ◌+◌, IfOk, length};
 ghost use Rattle.host.specs.Clients.{AreNumbered};
 
+use crate::expect::{same, same_at};
 use crate::hosts::told;
 use crate::hosts::user::{Deed, User};
 use crate::traced;
 use adapter::Adapter;
 use compose::{Refusal as Why, Reply};
-use expect::{same, same_at};
 use host::{Client, Closed, Host, Keeper, Naming, Opened};
 use lanes::{Desk, Step};
 use std::alloc::{AllocError, Global};

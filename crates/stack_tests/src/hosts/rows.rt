@@ -4,9 +4,9 @@ ghost use Rattle.std.specs.Prelude.{◌≡◌};
 ghost use Rattle.probe.specs.Exchange.{IsIdle};
 
 use crate::disks::{TWO, adapter, disk, start};
+use crate::expect::same;
 use crate::hosts::desk::{Drive, Part, Row, Run, carry_out};
 use crate::hosts::user::Deed;
-use expect::same;
 use host::{HostFault, Opened};
 use lanes::Step;
 use miniport::Adapter;

@@ -2,10 +2,10 @@
 
 ghost use Rattle.std.specs.Prelude.{◌≡◌};
 
+use crate::expect::same_at;
 use crate::hosts::told;
 use adapter::Adapter;
 use compose::Refusal as Why;
-use expect::same_at;
 use host::{Call, Client, Host, Naming, Reason, Ticket};
 use sector::Bytes;
 use std::alloc::{AllocError, Global};

@@ -4,10 +4,10 @@ ghost use Rattle.std.specs.Prelude.{◌≡◌};
 ghost use Rattle.probe.specs.Exchange.{IsIdle};
 
 use crate::disks::{MIDDLE, SIGNATURE, Table, UNUSED};
+use crate::expect::same_at;
 use crate::stacks::disks::{disk_adapter, stack_on};
 use crate::stacks::steps::{FIRST, Step, go};
 use compose::{MbrFault, Settings, Stack, StartFault};
-use expect::same_at;
 use miniport::Adapter;
 use ntstatus::NtStatus;
 use std::alloc::{AllocError, Global};

@@ -2,9 +2,9 @@
 
 ghost use Rattle.std.specs.Prelude.{◌≡◌, [], OnOk};
 
+use crate::expect::{same, same_at};
 use crate::stacks::told::{tell_answer, told};
 use compose::{Event, Handle, Id, Refusal, Reply, RunStopped, Shown, Stack};
-use expect::{same, same_at};
 use miniport::Adapter;
 use sector::Bytes;
 use std::alloc::{AllocError, Global};

@@ -2,9 +2,9 @@
 
 use crate::faults::Fault;
 use crate::input::Input;
+use crate::tests::expect::{same, same_at};
 use crate::tests::given::{Narrow, Stuck, Torn, run};
 use compose::{MbrFault, StartFault};
-use expect::{same, same_at};
 use ntstatus::NtStatus;
 use script::ScriptFault;
 use settings::ConfigFault;

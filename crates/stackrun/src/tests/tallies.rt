@@ -1,7 +1,7 @@
 //! Clients in threads of their own, and what comes of them.
 
 use crate::clients::clients;
-use expect::same_at;
+use crate::tests::expect::same_at;
 use startup::ended;
 use std::test::Fail;
 

@@ -1,7 +1,7 @@
 //! Traces in print.
 
+use crate::tests::expect::{same, same_at};
 use crate::tests::given::run;
-use expect::{same, same_at};
 use std::test::Fail;
 
 /// A disk of 4,096 sectors of 512 bytes with one partition, one tag and one request at a time.
