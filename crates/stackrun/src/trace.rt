@@ -1,12 +1,14 @@
 //! A script run through the stack of its settings, and its trace in print.
 
-ghost use Rattle.std.specs.Prelude.{IfErr, IfOk, OnOk};
+ghost use Rattle.std.specs.Prelude.{ℕ, IfErr, IfOk, List, OnOk, Option};
 ghost use Rattle.script.specs.Trace.{Prints};
+ghost use Rattle.settings.specs.InRange.{AreInRange};
 ghost use Rattle.startup.specs.Reading.{IsAllOf};
-ghost use Rattle.stackrun.specs.Trace.{IsPrintOf, IsTraceFault, IsUnreadScript};
+ghost use Rattle.stackrun.specs.Trace.{AreGiven, IsPrintOf, IsTraceFault, IsUnreadScript};
 
 use crate::faults::Fault;
-use script::{ScriptFault, lines, play};
+use script::{Line, ScriptFault, lines, play};
+use settings::Config;
 use startup::{contents, fault_of, read_settings, start};
 use std::alloc::Global;
 use std::io::{Read, Write};
@@ -33,9 +35,29 @@ pub fn trace<C: Read + Drop, S: Read + Drop, O: Write>(
         return Err(Fault::Script(ScriptFault::BadLine { line: 1 }));
     };
     let lines = lines(alloc, text)?;
+    play_lines(alloc, config, lines.as_slice(), out)
+}
+
+/// Plays the lines of a script through a stack of some settings, whichever inputs gave both.
+///
+/// # Errors
+///
+/// No stack of the settings could be started; `out` failed, after a beginning of the text; memory was refused.
+fn play_lines<O: Write>(
+    alloc: Global,
+    config: Config,
+    lines: &[Line<'_>],
+    out: &mut O,
+) -> Result<(), Fault>
+    requires { AreInRange config }
+    ensures text { (settings script : Option (List ℕ)) → AreGiven settings script config lines.now → OnOk result (Prints (O.contents out.old) (O.contents out.new) (IsPrintOf settings script)) }
+    ensures fault { (settings script : Option (List ℕ)) → AreGiven settings script config lines.now → IfErr result (IsTraceFault settings script) }
+{
     let mut stack = start(alloc, config)?;
-    play(alloc, &mut stack, lines.as_slice(), out)?;
-    Ok(())
+    match play(alloc, &mut stack, lines, out) {
+        Ok(()) => Ok(()),
+        Err(fault) => Err(Fault::Script(fault)),
+    }
 }
 
 /// All bytes of a script.
