@@ -37,13 +37,25 @@ use std::marker::Model;
 use std::sync::ledger;
 
 /// A stack that many threads share under a lock, the trace of all its labels, and the marks on its open requests.
-#[derive(Drop)]
 pub struct Book<A: Adapter, N: Naming> {
     stack: Stack<A>,
     pages: Pages<N>,
     slots: Slots<N>,
     tally: ledger::Book<N>,
     sizes: Sizes,
+}
+
+// By hand, so that no crate above proves it again, as it would a derived one.
+impl<A: Adapter, N: Naming> Drop for Book<A, N> {
+    fn drop(self) {
+        let Book {
+            stack: _,
+            pages: _,
+            slots: _,
+            tally: _,
+            sizes: _,
+        } = self;
+    }
 }
 
 impl<A: Adapter, N: Naming> Model for Book<A, N> {
@@ -375,7 +387,13 @@ impl<A: Adapter, N: Naming> Book<A, N> {
         ensures rows { AreRowsOf (length N.partitions) self result.0.items result.1.items }
         ensures run { Run N.rules N.opening (labels_of result.0.items) self.stack.state }
     {
-        let Book { pages, .. } = self;
+        let Book {
+            stack: _,
+            pages,
+            slots: _,
+            tally: _,
+            sizes: _,
+        } = self;
         pages.into_rows()
     }
 

@@ -23,9 +23,15 @@ use std::marker::Model;
 
 /// The device stack of one disk, with its handles and requests: partitions over a hold filter, the class driver of the
 /// disk, and a port.
-#[derive(Drop)]
 pub struct Stack<A: Adapter> {
     manager: IoManager<Partitions<Filter<Disk<Port<A>>>>>,
+}
+
+// By hand, so that no crate above proves it again, as it would a derived one.
+impl<A: Adapter> Drop for Stack<A> {
+    fn drop(self) {
+        let Stack { manager: _ } = self;
+    }
 }
 
 impl<A: Adapter> Model for Stack<A> {

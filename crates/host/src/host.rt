@@ -100,6 +100,33 @@ fn make_clients<N: Naming>(
     Ok(clients)
 }
 
+// A client for each handle, and the pass that is left for the keeper.
+fn hand_out<N: Naming>(
+    alloc: Global,
+    history: &History<Entry, N>,
+    whole: &mut Whole<Entry, N>,
+    all: &mut Part<N>,
+    handles: Vec<Handle>,
+    seats: Vec<Seat>,
+    passes: Vec<Pass>,
+) -> Result<(Vec<Client<N>>, Pass), AllocError>
+    requires handles { AreHandlesFor N.partitions N.handles handles.items }
+    requires seats { (length seats.items ≡ length N.partitions) × All (IsOther N.marks) seats.items }
+    requires passes { (length passes.items ≡ length N.partitions + 1) × All (IsClientPass N.gate) passes.items }
+    requires parts { (all.old.parts ≡ length N.partitions + 1) × (all.old.amount ≡ 0) }
+    ensures whole { whole.new ≡ whole.old }
+    ensures rest { IfOk result (λ _. (all.new.parts ≡ 1) × (all.new.amount ≡ 0)) }
+    ensures pass { IfOk result (λ r. IsClientPass N.gate r.1) }
+    ensures clients { IfOk result (λ r. AreNumbered (length N.partitions) r.0.items) }
+{
+    let mut passes = passes;
+    let clients = make_clients(alloc, history, whole, all, handles, seats, &mut passes)?;
+    let Some(pass) = passes.pop() else {
+        unreachable!()
+    };
+    Ok((clients, pass))
+}
+
 impl<A: Adapter, N: Naming> Host<A, N> {
     /// A host of a stack, with its keeper and its clients, client c over the partition that was given as number c.
     ///
@@ -131,19 +158,9 @@ impl<A: Adapter, N: Naming> Host<A, N> {
         let count = partitions.len();
         let (history, mut whole) = history.named::<N>();
         let (tally, mut all) = ledger.open::<N>();
-        let mut passes = passes;
-        let clients = make_clients(
-            alloc,
-            &history,
-            &mut whole,
-            &mut all,
-            handles,
-            seats,
-            &mut passes,
+        let (clients, pass) = hand_out(
+            alloc, &history, &mut whole, &mut all, handles, seats, passes,
         )?;
-        let Some(pass) = passes.pop() else {
-            unreachable!()
-        };
         let told = whole.no_claims(&history);
         let book = Book::new(alloc, stack, whole, owner, tally, count, slots, sizes)?;
         let host = Host {

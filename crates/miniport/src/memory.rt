@@ -18,12 +18,23 @@ use std::marker::Model;
 
 /// An adapter over a medium. A command fails exactly where a sector of its extent is bad, the SRB doesn't fit it, the disk
 /// is write-protected or its block asks for nothing that the disk has.
-#[derive(Drop)]
 pub struct MemAdapter<M: Medium> {
     medium: M,
     table: TagTable,
     max_transfer: u32,
     write_protected: bool,
+}
+
+// By hand, so that no crate above proves it again, as it would a derived one.
+impl<M: Medium> Drop for MemAdapter<M> {
+    fn drop(self) {
+        let MemAdapter {
+            medium: _,
+            table: _,
+            max_transfer: _,
+            write_protected: _,
+        } = self;
+    }
 }
 
 impl<M: Medium> Model for MemAdapter<M> {

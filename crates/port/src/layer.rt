@@ -14,9 +14,9 @@ ghost use Rattle.port.specs.Order.{asked_for, rooms_same, any_order_lem};
 
 use crate::queues::{Ended, Sizes};
 use crate::{Port, PortRoom};
+use adapter::Adapter;
 use device::{Device, Kind, Request, information};
 use irp::{Climb, Irp, complete};
-use miniport::Adapter;
 use srb::DeviceLabel;
 use std::alloc::AllocError;
 

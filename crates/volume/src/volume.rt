@@ -15,12 +15,23 @@ use std::alloc::Global;
 use std::marker::Model;
 
 /// One partition of a stack, open for one user.
-#[derive(Drop)]
 pub struct Volume<A: Adapter> {
     pub(crate) stack: Stack<A>,
     pub(crate) handle: Handle,
     pub(crate) partition: u8,
     pub(crate) sizes: Sizes,
+}
+
+// By hand, so that no crate above proves it again, as it would a derived one.
+impl<A: Adapter> Drop for Volume<A> {
+    fn drop(self) {
+        let Volume {
+            stack: _,
+            handle: _,
+            partition: _,
+            sizes: _,
+        } = self;
+    }
 }
 
 impl<A: Adapter> Model for Volume<A> {
@@ -132,8 +143,12 @@ impl<A: Adapter> Volume<A> {
         ensures ready { IsReady result }
         ensures same { content_of result self.partition ≡ self.content }
     {
-        let handle = self.handle;
-        let mut stack = self.stack;
+        let Volume {
+            mut stack,
+            handle,
+            partition: _,
+            sizes: _,
+        } = self;
         let _ = stack.step(alloc, Event::Close { handle });
         take_labels(&mut stack);
         stack

@@ -154,15 +154,15 @@ fn play_by_two<A: Adapter, N: Naming, R: Wait + Abort>(
     requires two { AreNumbered 2 clients.items }
     ensures two { IfOk result (λ back. AreNumbered 2 back.items) }
 {
+    let mut back = Vec::with_capacity(alloc, 2)?;
     let (first, second) = two_of(rt, clients);
     let mut first = User::new(first);
     let mut second = User::new(second);
     play(rt, alloc, host, keeper, &mut first, &mut second, run.rows)?;
     first.compare(rt, 0, run.first.calls, run.first.answers);
     second.compare(rt, 1, run.second.calls, run.second.answers);
-    let mut back = Vec::new(alloc);
-    back.push(first.into_client())?;
-    back.push(second.into_client())?;
+    back.push_reserved(first.into_client());
+    back.push_reserved(second.into_client());
     Ok(back)
 }
 

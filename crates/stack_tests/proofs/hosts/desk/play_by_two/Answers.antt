@@ -7,5 +7,5 @@ pub returns : goal.returns
 returns g c =
     let first : c.into_client.result.client ≡ 0 = let is = c.two_of-first.ensures.first in search rules in
     let second : c.into_client-2.result.client ≡ 1 = let is = c.two_of-first.ensures.second in search rules in
-    let items : c.push-2.new.self.items ≡ c.into_client.result ∷ c.into_client-2.result ∷ [] = search rules in
+    let items : c.push_reserved-2.new.self.items ≡ c.into_client.result ∷ c.into_client-2.result ∷ [] = search rules in
     record { two = subst (AreNumbered 2) (sym items) (two_are c.into_client.result c.into_client-2.result first second) }
