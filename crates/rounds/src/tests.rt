@@ -1,6 +1,6 @@
 //! Two clients at once: the second is answered while the lane of the first is held.
 
-ghost use Rattle.std.specs.Prelude.{◌≡◌, ◌+◌, IfOk, Some, length};
+ghost use Rattle.std.specs.Prelude.{◌≡◌, ◌<◌, ◌+◌, IfOk, Some, length};
 ghost use Rattle.lanes.specs.Queue.{issued};
 ghost use Rattle.probe.specs.Exchange.{IsIdle};
 ghost use Rattle.book.specs.Opening.{IsNew};
@@ -11,7 +11,7 @@ use adapter::Adapter;
 use book::Sizes;
 use compose::{Settings, Stack, StartFault};
 use disk::{Medium, NoMemory, VecDisk};
-use host::{Answered, Call, Client, Host, HostFault, Keeper, Naming, Opened};
+use host::{Answered, Call, Client, Host, HostFault, Keeper, Naming, Opened, Ticket};
 use lanes::{Completions, Pass, Turnstile};
 use miniport::MemAdapter;
 use sector::Bytes;
@@ -73,6 +73,35 @@ impl<'a, C: Clock> Turnstile for HoldsFirst<'a, C> {
     }
 }
 
+// A client reads sector 0.
+fn read_first<A: Adapter, N: Naming, R: Wait>(
+    rt: &R,
+    alloc: Global,
+    host: &Host<A, N>,
+    client: &mut Client<N>,
+) -> Result<Ticket<N>, AllocError>
+    ensures ticket { IfOk result (λ t. t.client ≡ client.new.client) }
+    ensures held { IfOk result (λ _. 0 < client.new.pass.holds) }
+{
+    let buffer = bytes(alloc)?;
+    let call = Call::Read { offset: 0, buffer };
+    match client.issue(rt, host, call) {
+        Ok(ticket) => Ok(ticket),
+        Err(_) => Err(AllocError),
+    }
+}
+
+// A client reads sector 0, and waits for the answer.
+fn read_and_wait<A: Adapter, N: Naming, R: Wait>(
+    rt: &R,
+    alloc: Global,
+    host: &Host<A, N>,
+    client: &mut Client<N>,
+) -> Result<Answered, AllocError> {
+    let ticket = read_first(rt, alloc, host, client)?;
+    Ok(client.wait(rt, host, ticket))
+}
+
 // Both clients read a sector. Once the lane of the first is held, the second calls and waits for its answer. Then the first is
 // let go, and waits for its own.
 fn read_both<A: Adapter, N: Naming, R: Wait, C: Clock>(
@@ -84,32 +113,18 @@ fn read_both<A: Adapter, N: Naming, R: Wait, C: Clock>(
     turnstile: &HoldsFirst<C>,
 ) -> Result<(Answered, Answered), AllocError> {
     let (mut first, mut second) = (first, second);
-    let buffers = (bytes(alloc)?, bytes(alloc)?);
-    let offset = 0;
-    let Ok(held) = first.issue(
-        rt,
-        host,
-        Call::Read {
-            offset,
-            buffer: buffers.0,
-        },
-    ) else {
-        return Err(AllocError);
-    };
+    let held = read_first(rt, alloc, host, &mut first)?;
     turnstile.wait_for(rt, Hold::Held);
-    let answered = match second.issue(
-        rt,
-        host,
-        Call::Read {
-            offset,
-            buffer: buffers.1,
-        },
-    ) {
-        Ok(ticket) => Ok(second.wait(rt, host, ticket)),
-        Err(_) => Err(AllocError),
-    };
+    let answered = read_and_wait(rt, alloc, host, &mut second);
     turnstile.put(rt, Hold::LetGo);
     let late = first.wait(rt, host, held);
+    with_answered(late, answered)
+}
+
+fn with_answered(
+    late: Answered,
+    answered: Result<Answered, AllocError>,
+) -> Result<(Answered, Answered), AllocError> {
     Ok((late, answered?))
 }
 
