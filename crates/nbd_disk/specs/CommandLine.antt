@@ -2,6 +2,7 @@
 use Rattle.std.specs.Prelude.{◌≡◌, ◌<◌, ℕ, Bool, true, false, List, MatchOption, Some, codes}
 use Rattle.std.specs.Str.Parse.{IsNumeral, digits_value}
 use Rattle.clap.specs.Words.{App, Row, Rule, Text, first_of, matches_of, new_app, new_rule, with_rule}
+use Rattle.clap.specs.Takes.{takes}
 use Rattle.clap.specs.declared.builder.ArgAction.TheVariants.{Set}
 use Rattle.nbd_disk.specs.declared.words.asked.Asked.{Asked}
 
@@ -27,3 +28,7 @@ pub record IsFoundIn (rows : List Row) (asked : Asked) : Type 0 where
 -- what these words ask for
 abbrev pub IsAsked : List Text → Asked → Type 0
 IsAsked words = IsFoundIn (matches_of program words)
+
+-- the grammar takes these words for no path and partition
+abbrev pub AsksForNothing : List Text → Type 0
+AsksForNothing words = takes program words ≡ true → (asked : Asked) → ¬ (IsAsked words asked)

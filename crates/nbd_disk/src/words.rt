@@ -2,12 +2,13 @@
 
 pub mod asked;
 
-ghost use Rattle.std.specs.Prelude.{◌≡◌, ◌≢◌, ◌⊎◌, IfErr, IfOk, false, map};
+ghost use Rattle.std.specs.Prelude.{◌≡◌, ◌≢◌, ◌⊎◌, ℕ, IfErr, IfOk, false, map};
 ghost use Rattle.clap.specs.Words.{app_of, found_of, rule_of};
 ghost use Rattle.clap.specs.Walk.{rows_of};
 ghost use Rattle.clap.specs.declared.error.ErrorKind.TheVariants.{OutOfMemory};
+ghost use Rattle.nbd_disk.specs.declared.words.asked.Asked.{Asked};
 ghost use Rattle.nbd_disk.specs.declared.faults.Fault.TheVariants.{NoMemory, Usage};
-ghost use Rattle.nbd_disk.specs.CommandLine.{IsAsked, IsFoundIn, SpellsPartition, argument_rule, program};
+ghost use Rattle.nbd_disk.specs.CommandLine.{AsksForNothing, IsAsked, IsFoundIn, SpellsPartition, argument_rule, program};
 
 use crate::faults::Fault;
 use crate::words::asked::Asked;
@@ -20,10 +21,10 @@ use std::convert::AsStr;
 ///
 /// # Errors
 ///
-/// [`Fault::NoMemory`] where memory was refused, else [`Fault::Usage`].
+/// [`Fault::NoMemory`] where memory was refused, else [`Fault::Usage`] where the words ask for nothing.
 pub fn command<'a, S: AsStr>(alloc: Global, words: &'a [S]) -> Result<Asked<'a>, Fault>
     ensures asked { IfOk result (IsAsked (map S.text words.now)) }
-    ensures fault { IfErr result (λ fault. (fault ≡ NoMemory) ⊎ (fault ≡ Usage)) }
+    ensures fault { IfErr result (λ fault. (fault ≡ NoMemory) ⊎ ((fault ≡ Usage) × AsksForNothing (map S.text words.now))) }
 {
     let Ok(grammar) = grammar(alloc) else {
         return Err(Fault::NoMemory);
@@ -55,6 +56,7 @@ fn argument<'a>(alloc: Global, name: &'a str, required: bool) -> Arg<'a>
 fn asked_by<'a>(matches: &ArgMatches<'a>) -> Result<Asked<'a>, Fault>
     ensures found { IfOk result (IsFoundIn (rows_of (found_of matches.now))) }
     ensures fault { IfErr result (λ fault. fault ≡ Usage) }
+    ensures none { IfErr result (λ _. (asked : Asked) → ¬ (IsFoundIn (rows_of (found_of matches.now)) asked)) }
 {
     let Some(config) = matches.get_str("CONFIG") else {
         return Err(Fault::Usage);
@@ -75,6 +77,7 @@ fn asked_by<'a>(matches: &ArgMatches<'a>) -> Result<Asked<'a>, Fault>
 fn number(word: &str) -> Result<u8, Fault>
     ensures spelled { IfOk result (SpellsPartition word.now) }
     ensures fault { IfErr result (λ fault. fault ≡ Usage) }
+    ensures none { IfErr result (λ _. (n : ℕ) → ¬ (SpellsPartition word.now n)) }
 {
     // A plus sign would be taken by `parse`.
     if word.starts_with('+') {
