@@ -2,6 +2,7 @@
 use Rattle.std.specs.Prelude.{◌≡◌, ◌≤◌, ℕ, true, List, Option, Some, IsSomeAnd, codes}
 use Rattle.std.specs.Str.Parse.{IsNumeral, digits_value}
 use Rattle.clap.specs.Words.{App, Row, Rule, Text, first_of, new_app, new_rule, subcommand_of, with_rule, with_subcommand}
+use Rattle.clap.specs.Takes.{takes}
 use Rattle.clap.specs.declared.builder.ArgAction.TheVariants.{Set}
 use Rattle.stackrun.specs.declared.words.asked.Command.{Command}
 use Rattle.stackrun.specs.declared.words.asked.Command.TheVariants.{Trace, Clients}
@@ -50,3 +51,7 @@ IsFoundIn found command = (rows : List Row) × (found ≡ Some (name_of command,
 -- what these words ask for
 abbrev pub IsAsked : List Text → Command → Type 0
 IsAsked words = IsFoundIn (subcommand_of program words)
+
+-- the grammar takes these words for no command
+abbrev pub AsksForNothing : List Text → Type 0
+AsksForNothing words = takes program words ≡ true → (command : Command) → ¬ (IsAsked words command)

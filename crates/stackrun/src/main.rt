@@ -3,7 +3,8 @@
 //! It promises, by the contract of [`trace::trace`], that a run that succeeds has printed just the text of its script's run
 //! over the stack that its settings start (`text`), and that settings, or a line of the script, are blamed only where that
 //! fault is there, settings first (`fault`); by that of [`clients::clients`], that a tally was printed, or why none was (`printed`, `fault`); by
-//! [`words::command`], that the two paths are those that the parser of the command line found under their names; by
+//! [`words::command`], that the two paths are those that the parser of the command line found under their names, and that
+//! only words which ask for nothing are refused; by
 //! [`Fault`]'s text and [`Ending`](startup::Ending), the line and the exit status of each fault, as [`startup::say`] and
 //! [`startup::ended`] give them. Settings, their stack and scripts themselves are of the crates `settings`, `startup` and
 //! `script`. No contract says what a file holds.

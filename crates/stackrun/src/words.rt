@@ -2,12 +2,13 @@
 
 pub mod asked;
 
-ghost use Rattle.std.specs.Prelude.{◌≡◌, ◌≢◌, ◌⊎◌, IfErr, IfOk, IsSomeAnd, codes, false, map, option_map};
+ghost use Rattle.std.specs.Prelude.{◌≡◌, ◌≢◌, ◌⊎◌, ℕ, IfErr, IfOk, IsSomeAnd, codes, false, map, option_map};
 ghost use Rattle.clap.specs.Words.{app_of, found_of, rule_of, subcommand_rows_of};
 ghost use Rattle.clap.specs.Walk.{rows_of};
 ghost use Rattle.clap.specs.declared.error.ErrorKind.TheVariants.{OutOfMemory};
 ghost use Rattle.stackrun.specs.declared.faults.Fault.TheVariants.{NoMemory, Usage};
-ghost use Rattle.stackrun.specs.CommandLine.{HasWords, IsAsked, IsCount, IsFoundIn, name_of, program, word_rule};
+ghost use Rattle.stackrun.specs.declared.words.asked.Command.{Command};
+ghost use Rattle.stackrun.specs.CommandLine.{AsksForNothing, HasWords, IsAsked, IsCount, IsFoundIn, name_of, program, word_rule};
 
 use crate::faults::Fault;
 use crate::words::asked::Command;
@@ -26,10 +27,10 @@ const MOST_ROUNDS: u16 = 10_000;
 ///
 /// # Errors
 ///
-/// [`Fault::NoMemory`] where memory was refused, else [`Fault::Usage`].
+/// [`Fault::NoMemory`] where memory was refused, else [`Fault::Usage`] where the words ask for nothing.
 pub fn command<'a, S: AsStr>(alloc: Global, words: &'a [S]) -> Result<Command<'a>, Fault>
     ensures asked { IfOk result (IsAsked (map S.text words.now)) }
-    ensures fault { IfErr result (λ fault. (fault ≡ NoMemory) ⊎ (fault ≡ Usage)) }
+    ensures fault { IfErr result (λ fault. (fault ≡ NoMemory) ⊎ ((fault ≡ Usage) × AsksForNothing (map S.text words.now))) }
 {
     let Ok(grammar) = grammar(alloc) else {
         return Err(Fault::NoMemory);
@@ -66,6 +67,7 @@ fn word<'a>(alloc: Global, name: &'a str) -> Arg<'a>
 fn found_in<'a>(matches: &ArgMatches<'a>) -> Result<Command<'a>, Fault>
     ensures found { IfOk result (IsFoundIn (subcommand_rows_of matches.now)) }
     ensures fault { IfErr result (λ fault. fault ≡ Usage) }
+    ensures none { IfErr result (λ _. (command : Command) → ¬ (IsFoundIn (subcommand_rows_of matches.now) command)) }
 {
     if let Some(words) = matches.subcommand_matches("trace") {
         return trace_of(words);
@@ -79,6 +81,7 @@ fn found_in<'a>(matches: &ArgMatches<'a>) -> Result<Command<'a>, Fault>
 fn trace_of<'a>(words: &ArgMatches<'a>) -> Result<Command<'a>, Fault>
     ensures words { IfOk result (λ command. (name_of command ≡ codes "trace") × HasWords (rows_of (found_of words.now)) command) }
     ensures fault { IfErr result (λ fault. fault ≡ Usage) }
+    ensures none { IfErr result (λ _. (command : Command) → name_of command ≡ codes "trace" → ¬ (HasWords (rows_of (found_of words.now)) command)) }
 {
     let Some(config) = words.get_str("CONFIG") else {
         return Err(Fault::Usage);
@@ -92,6 +95,7 @@ fn trace_of<'a>(words: &ArgMatches<'a>) -> Result<Command<'a>, Fault>
 fn clients_of<'a>(words: &ArgMatches<'a>) -> Result<Command<'a>, Fault>
     ensures words { IfOk result (λ command. (name_of command ≡ codes "clients") × HasWords (rows_of (found_of words.now)) command) }
     ensures fault { IfErr result (λ fault. fault ≡ Usage) }
+    ensures none { IfErr result (λ _. (command : Command) → name_of command ≡ codes "clients" → ¬ (HasWords (rows_of (found_of words.now)) command)) }
 {
     let Some(config) = words.get_str("CONFIG") else {
         return Err(Fault::Usage);
@@ -109,6 +113,7 @@ fn clients_of<'a>(words: &ArgMatches<'a>) -> Result<Command<'a>, Fault>
 fn count_of(word: Option<&str>, most: u16) -> Result<u16, Fault>
     ensures count { IfOk result (λ n. IsSomeAnd (option_map (λ w. w.now) word.entry) (λ text. IsCount most text n)) }
     ensures fault { IfErr result (λ fault. fault ≡ Usage) }
+    ensures none { IfErr result (λ _. (n : ℕ) → ¬ (IsSomeAnd (option_map (λ w. w.now) word.entry) (λ text. IsCount most text n))) }
 {
     let Some(word) = word else {
         return Err(Fault::Usage);

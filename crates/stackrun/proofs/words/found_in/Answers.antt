@@ -1,4 +1,4 @@
-use Rattle.std.proofs.Common.{List, Option, Some, None, Result, IfOk, option_map, ◌≡◌, ◌∙◌, ap, ap₂, sym, refl}
+use Rattle.std.proofs.Common.{List, Option, Some, None, Result, IfErr, IfOk, Ok, Err, option_map, ◌≡◌, ◌∙◌, ap, ap₂, subst, sym, refl}
 use Rattle.std.proofs.lemmas.Result.{IfOk-weaker}
 use Rattle.clap.specs.Words.{Row, Text, found_of, subcommand_rows_of}
 use Rattle.clap.specs.Walk.{rows_of}
@@ -34,3 +34,23 @@ returns-in-Some-subcommand_matches-clause-found c =
     let rows = rows_of (found_of c.in-Some-subcommand_matches.words.now) in
     of_found (subcommand_rows_of c.args.matches.now) _ rows c.clients_of.result
     (whole _ _ _ _ rows (c.in-Some-subcommand_matches.ensures.found.0 refl) c.in-Some-subcommand_matches.ensures.rows) c.clients_of.ensures.words
+
+-- no command of the subcommand that was found
+not_of_found : (found : Option (Text × List Row)) (name : Text) (rows : List Row) (result : Result Command Fault) → found ≡ Some (name, rows)
+    → IfErr result (λ _. (command : Command) → name_of command ≡ name → ¬ (HasWords rows command)) → IfErr result (λ _. (command : Command) → ¬ (IsFoundIn found command))
+not_of_found found name rows (Ok command) is none = tt
+not_of_found found name rows (Err fault) is none = λ command there.
+    let both : ◌≡◌ {A = Option (Text × List Row)} (Some (name_of command, there.0)) (Some (name, rows)) = sym there.1 ∙ is in
+    let pair : ◌≡◌ {A = Text × List Row} (name_of command, there.0) (name, rows) = cc in
+    none command (ap (λ (p : Text × List Row). p.0) pair) (subst (λ r. HasWords r command) (ap (λ (p : Text × List Row). p.1) pair) there.2)
+
+pub returns-in-Some-clause-none : goal.returns-in-Some-clause-none
+returns-in-Some-clause-none c =
+    let rows = rows_of (found_of c.in-Some.words.now) in
+    not_of_found (subcommand_rows_of c.args.matches.now) _ rows c.trace_of.result (whole _ _ _ _ rows (c.in-Some.ensures.found.0 refl) c.in-Some.ensures.rows) c.trace_of.ensures.none
+
+pub returns-in-Some-subcommand_matches-clause-none : goal.returns-in-Some-subcommand_matches-clause-none
+returns-in-Some-subcommand_matches-clause-none c =
+    let rows = rows_of (found_of c.in-Some-subcommand_matches.words.now) in
+    not_of_found (subcommand_rows_of c.args.matches.now) _ rows c.clients_of.result
+    (whole _ _ _ _ rows (c.in-Some-subcommand_matches.ensures.found.0 refl) c.in-Some-subcommand_matches.ensures.rows) c.clients_of.ensures.none
