@@ -11,3 +11,4 @@ pub mod Issuing
 pub mod Opening
 pub mod Making
 pub mod Noticing
+pub mod Replying

@@ -4,5 +4,6 @@ pub mod Tickets
 pub mod Accounts
 pub mod Clients
 pub mod Opening
+pub mod Replies
 pub mod Keepers
 pub mod Closing

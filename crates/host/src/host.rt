@@ -5,6 +5,8 @@ ghost use Rattle.book.specs.Book.{IsStepped, call_handle};
 ghost use Rattle.book.specs.Serving.{is_handle_event};
 ghost use Rattle.host.specs.Clients.{AreNumbered};
 ghost use Rattle.host.specs.Opening.{AreHandlesFor, IsClientPass};
+ghost use Rattle.host.specs.Replies.{IsReplyTo};
+ghost use Rattle.compose.specs.declared.Event.TheVariants.{Act, Finish, Reset};
 
 use crate::account::Account;
 use crate::client::Client;
@@ -187,24 +189,31 @@ impl<A: Adapter, N: Naming> Host<A, N> {
     }
 
     /// The adapter carries out the command of the piece on a tag, or fails it; `Ignored` where there is none.
-    pub fn act<R: Wait>(&self, rt: &R, tag: u8) -> Reply {
+    pub fn act<R: Wait>(&self, rt: &R, tag: u8) -> Reply
+        ensures reply { IsReplyTo (Act tag) result }
+    {
         self.step(rt, Event::Act { tag })
     }
 
     /// The adapter hands the piece on a tag back; `Ignored` where there is none.
-    pub fn finish<R: Wait>(&self, rt: &R, tag: u8) -> Reply {
+    pub fn finish<R: Wait>(&self, rt: &R, tag: u8) -> Reply
+        ensures reply { IsReplyTo (Finish tag) result }
+    {
         self.step(rt, Event::Finish { tag })
     }
 
     /// The adapter is reset.
-    pub fn reset<R: Wait>(&self, rt: &R) -> Reply {
+    pub fn reset<R: Wait>(&self, rt: &R) -> Reply
+        ensures reply { IsReplyTo Reset result }
+    {
         self.step(rt, Event::Reset)
     }
 
     // The part of a step that has the book.
     pub(crate) fn step_in(&self, book: &mut Book<A, N>, event: Event) -> Reply
         requires { (is_handle_event event ≡ false) × (call_handle event ≡ None) }
-        ensures { IsStepped N.slots None (inl tt) book.old event result book.new }
+        ensures stepped { IsStepped N.slots None (inl tt) book.old event result book.new }
+        ensures reply { IsReplyTo event result }
     {
         book.step(
             self.alloc,
@@ -218,6 +227,7 @@ impl<A: Adapter, N: Naming> Host<A, N> {
     // A step that is no client's, of which those who wait are told.
     pub(crate) fn step<R: Wait>(&self, rt: &R, event: Event) -> Reply
         requires { (is_handle_event event ≡ false) × (call_handle event ≡ None) }
+        ensures reply { IsReplyTo event result }
     {
         let reply = self.step_in(&mut self.book.lock(rt), event);
         self.told.notify_all();

@@ -8,6 +8,8 @@ ghost use Rattle.book.specs.Book.{IsStepped, call_handle};
 ghost use Rattle.book.specs.Serving.{is_handle_event};
 ghost use Rattle.host.specs.Keepers.{HasNoted, HasNotedIfOk, IsNoticed};
 ghost use Rattle.host.specs.Receipts.{AreBelow};
+ghost use Rattle.host.specs.Replies.{IsReplyTo};
+ghost use Rattle.compose.specs.declared.Event.TheVariants.{CancelRemove, QueryRemove, Remove, SurpriseRemove};
 
 use crate::account::laws_of_numbers;
 use crate::host::{Host, Keeper};
@@ -61,6 +63,7 @@ impl<A: Adapter, N: Naming> Host<A, N> {
         ensures above { AreBelow result.1 told.old }
         ensures from { result.1 ≡ length book.old.entries }
         ensures stepped { IsStepped N.slots None (inl tt) book.old event result.0 book.new }
+        ensures reply { IsReplyTo event result.0 }
     {
         book.check(&self.history, told);
         let from = book.len();
@@ -70,7 +73,8 @@ impl<A: Adapter, N: Naming> Host<A, N> {
 
     // The part of a query that has the book.
     fn query_in(&self, book: &mut Book<A, N>, told: &mut Claims<Entry, N>) -> Reply
-        ensures { HasNotedIfOk PauseLabel result told.old told.new }
+        ensures told { HasNotedIfOk PauseLabel result told.old told.new }
+        ensures reply { IsReplyTo QueryRemove result }
     {
         laws_of_numbers();
         let (reply, from) = self.begin(book, told, Event::QueryRemove);
@@ -113,6 +117,7 @@ impl<A: Adapter, N: Naming> Host<A, N> {
     // A removal of either kind.
     fn take_out<R: Wait>(&self, rt: &R, keeper: &mut Keeper<N>, event: Event) -> Reply
         requires { (is_handle_event event ≡ false) × (call_handle event ≡ None) }
+        ensures reply { IsReplyTo event result }
         ensures drained { result ≡ OkReply → keeper.new.pass.saw_drained ≡ true }
         ensures told { HasNotedIfOk RemovedLabel result keeper.old.told keeper.new.told }
     {
@@ -127,6 +132,7 @@ impl<A: Adapter, N: Naming> Host<A, N> {
     /// Asks whether the device may go; where it may, requests are held from now on, and the keeper has a receipt of the
     /// pause (WDK: IRP_MN_QUERY_REMOVE_DEVICE).
     pub fn query_remove<R: Wait>(&self, rt: &R, keeper: &mut Keeper<N>) -> Reply
+        ensures reply { IsReplyTo QueryRemove result }
         ensures pass { keeper.new.pass ≡ keeper.old.pass }
         ensures told { HasNotedIfOk PauseLabel result keeper.old.told keeper.new.told }
     {
@@ -137,6 +143,7 @@ impl<A: Adapter, N: Naming> Host<A, N> {
 
     /// Takes the query back, and held requests go on (WDK: IRP_MN_CANCEL_REMOVE_DEVICE).
     pub fn cancel_remove<R: Wait>(&self, rt: &R, _keeper: &mut Keeper<N>) -> Reply
+        ensures reply { IsReplyTo CancelRemove result }
         ensures same { _keeper.new ≡ _keeper.old }
     {
         self.step(rt, Event::CancelRemove)
@@ -145,6 +152,7 @@ impl<A: Adapter, N: Naming> Host<A, N> {
     /// Removes the device after a query (WDK: IRP_MN_REMOVE_DEVICE). Where it is accepted the gate is closed, and the call
     /// returns once every ticket was waited for and the removal has ended, of which the keeper has a receipt then.
     pub fn remove<R: Wait>(&self, rt: &R, keeper: &mut Keeper<N>) -> Reply
+        ensures reply { IsReplyTo Remove result }
         ensures drained { result ≡ OkReply → keeper.new.pass.saw_drained ≡ true }
         ensures told { HasNotedIfOk RemovedLabel result keeper.old.told keeper.new.told }
     {
@@ -153,6 +161,7 @@ impl<A: Adapter, N: Naming> Host<A, N> {
 
     /// The device was pulled out (WDK: IRP_MN_SURPRISE_REMOVAL), and else as [`Host::remove`].
     pub fn surprise_remove<R: Wait>(&self, rt: &R, keeper: &mut Keeper<N>) -> Reply
+        ensures reply { IsReplyTo SurpriseRemove result }
         ensures drained { result ≡ OkReply → keeper.new.pass.saw_drained ≡ true }
         ensures told { HasNotedIfOk RemovedLabel result keeper.old.told keeper.new.told }
     {

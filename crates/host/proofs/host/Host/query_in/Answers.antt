@@ -14,8 +14,8 @@ unreachable-requires g c =
     pause_stands c.laws_of_numbers.ensures.count g.N.Naming-2.slots c.args.book.now stepped.mid new c.begin-reply.result.0 stepped.looks stepped.serves c.in-Ok.is
     (subst (λ (n : ℕ). HasNone Pause n new.entries) c.begin-reply.ensures.from c.in_default-claim_notice.ensures.none)
 
-pub returns-in-Some : goal.returns-in-Some
-returns-in-Some g c =
+pub returns-in-Some-clause-told : goal.returns-in-Some-clause-told
+returns-in-Some-clause-told g c =
     let same : c.join.new.self ≡ c.args.told.now ++ c.in-Some.claim = c.join.ensures ∙ ap (λ (cs : List Receipt). cs ++ c.in-Some.claim) c.begin-reply.ensures.same in
     record {
       accepted = λ ok. noted_one PauseLabel c.begin-reply.result.1 c.args.told.now c.in-Some.claim c.join.new.self c.begin-reply.ensures.above c.in-Some.ensures.noticed same;
