@@ -21,7 +21,7 @@ use Rattle.io_manager.specs.declared.Reply.{Reply}
 use Rattle.io_manager.specs.declared.Answer.{Answer as Waiting}
 use Rattle.io_manager.specs.declared.OpenHandle.{OpenHandle}
 use Rattle.io_manager.specs.declared.Reply.TheVariants.{Handle, Ok, Request, Answered, Refused, Ignored}
-use Rattle.io_manager.specs.Right.{IsSlotOf, as_answer, TakesAnswerOf}
+use Rattle.io_manager.specs.Right.{as_answer, TakesAnswerOf}
 use Rattle.io_manager.specs.declared.Refusal.TheVariants.{InsufficientResources}
 use Rattle.compose.specs.declared.Event.{Event}
 use Rattle.compose.specs.declared.Event.TheVariants.{Open, Close, Read, Write, Flush, CancelIoEx, Mark, QueryRemove, CancelRemove, Remove as RemoveEvent, SurpriseRemove, Act, Finish, Reset}
@@ -34,7 +34,7 @@ use Rattle.book.specs.Entries.{labels_of, entry, row_of}
 use Rattle.book.specs.Pages.{owners_after}
 use Rattle.book.specs.Book.{BookView, pages_of, IsCarried, IsServed, may_want}
 use Rattle.book.specs.Opening.{IsFirst}
-use Rattle.book.specs.Sound.{IsNamed, IsSound, MayArm, IsGivenBelow, shown}
+use Rattle.book.specs.Sound.{IsNamed, IsSound, IsGivenBelow, shown}
 use Rattle.book.specs.Told.{AreTold, AreNoCalls, MayCall}
 use Rattle.book.proofs.Telling.{Laws, no_calls_may, told_first, told_all, room_noted, labels_noted}
 
@@ -86,20 +86,6 @@ given_below old event Ok new right = tt
 given_below old event (Answered a) new right = tt
 given_below old event (Refused r b) new right = tt
 given_below old event Ignored new right = tt
-
-pub may_arm : (rules : Rules) (opening : State) (handles : List (Option OpenHandle)) (count : ℕ) (stack : ManagerView) (pages : PagesView) (slots : SlotsView) (event : Event) (reply : Reply) (stepped : ManagerView)
-    → IsSound rules opening handles count stack pages slots → Serves stack event reply stepped → MayArm count slots.owner reply
-may_arm rules opening handles count stack pages slots event (Request id) stepped sound right =
-    let o = right.opens in (
-      subst (λ (most : Option ℕ). IsSlotOf most id.slot) (ap (λ (r : Rules). r.open_requests) sound.same_rules ∙ sound.as_many) o.slot,
-      subst (λ (n : ℕ). (slot_at slots.owner id.slot).last < n) (sym o.number) (sound.below id.slot),
-      o.small,
-    )
-may_arm rules opening handles count stack pages slots event (Handle h) stepped sound right = tt
-may_arm rules opening handles count stack pages slots event Ok stepped sound right = tt
-may_arm rules opening handles count stack pages slots event (Answered a) stepped sound right = tt
-may_arm rules opening handles count stack pages slots event (Refused r b) stepped sound right = tt
-may_arm rules opening handles count stack pages slots event Ignored stepped sound right = tt
 
 -- A STEP
 

@@ -1,10 +1,8 @@
 -- Handles opened one after another.
-use Rattle.std.proofs.Common.{◌≡◌, ◌≢◌, ℕ, zero, suc, Bool, false, true, cond, ap₂, ◌+◌, ◌<◌, ◌≤◌, List, [], ◌∷◌, ◌++◌, length, Option, Some, None, option_map, slice_index_or, refl, sym, ap, ◌∙◌, subst, arith, length-append}
+use Rattle.std.proofs.Common.{◌≡◌, ◌≢◌, ℕ, zero, suc, cond, ap₂, ◌+◌, ◌<◌, ◌≤◌, List, [], ◌∷◌, ◌++◌, length, Option, Some, None, option_map, slice_index_or, refl, sym, ap, ◌∙◌, subst, arith, length-append}
 use Rattle.std.specs.Prelude.{slice_get, Contains, count_by, is_some, nat_le}
-use Rattle.std.proofs.lemmas.List.Sorted.{Contains-permutation}
 use Rattle.std.proofs.lemmas.List.Sums.{sum_by-cons}
-use Rattle.std.proofs.lemmas.Bool.{leb-false, leb-true}
-use Rattle.std.proofs.lemmas.Bool.Decides.{nat_tests}
+use Rattle.std.proofs.lemmas.Bool.{leb-false}
 use Rattle.ntstatus.proofs.First.{none_first}
 use Rattle.std.proofs.lemmas.Option.{slice_get_within}
 use mathlib.Core.Logic.{dite}
@@ -16,17 +14,11 @@ use Rattle.machine_laws.specs.NumberLaws.{awaited}
 use Rattle.io_manager.specs.declared.Answer.{Answer}
 use Rattle.io_manager.specs.declared.Handle.{Handle}
 use Rattle.io_manager.specs.declared.OpenHandle.{OpenHandle}
-use Rattle.ntstatus.specs.First.{when, first_some}
 use Rattle.ntstatus.specs.declared.NtStatus.TheVariants.{InvalidParameter as ParameterStatus, DeletePending as PendingStatus, DeviceBusy as BusyStatus}
-use Rattle.io_manager.specs.declared.Refusal.{Refusal}
-use Rattle.io_manager.specs.declared.Refusal.TheVariants.{InvalidHandle, InvalidParameter, DeletePending, DeviceBusy, InsufficientResources, InvalidDeviceRequest, NotFound}
-use Rattle.io_manager.specs.declared.Reply.TheVariants.{Handle as HandleReply, Refused}
-use Rattle.io_manager.specs.Calls.{are_used_up, handle_limit, number_limit, status_of_refusal, open_refusal}
-use Rattle.io_manager.specs.Right.{Told, Updates, labels_of, unless_answered, IsUnmoved, IsRight, IsRightBy, OpenReplies}
+use Rattle.io_manager.specs.Calls.{are_used_up, handle_limit, open_refusal}
+use Rattle.io_manager.specs.Right.{Updates, unless_answered}
 use Rattle.io_manager.specs.Shown.{ManagerView, Holder}
-use Rattle.book.specs.declared.opening.OpenFault.{OpenFault}
-use Rattle.book.specs.declared.opening.OpenFault.TheVariants.{Refused as RefusedOpen, NoMemory}
-use Rattle.book.specs.Opening.{IsNew, IsFirst, IsOpenFault, IsOpenOn, IsSame, AreOpened, KeepsAll, OpensOne, RefusesOne}
+use Rattle.book.specs.Opening.{IsNew, IsFirst, IsOpenOn, AreOpened, KeepsAll, OpensOne}
 use Rattle.book.proofs.Noting.{get_front, get_last, some_is}
 
 -- ONE HANDLE
@@ -34,18 +26,6 @@ use Rattle.book.proofs.Noting.{get_front, get_last, some_is}
 same_number : (holder : Option Holder) → option_map (λ h. h.number) (unless_answered [] holder) ≡ option_map (λ h. h.number) holder
 same_number None = refl
 same_number (Some h) = refl
-
-keeps_all : (old new : ManagerView) (told : Told) → IsUnmoved old new told → IsRightBy false told old new → KeepsAll old new
-keeps_all old new told unmoved by = record {
-  same_rules = by.same_rules;
-  same_state = unmoved.same_state;
-  no_labels = by.in_order ∙ ap labels_of unmoved.nothing;
-  same_open = λ k.
-      ap (option_map (λ h. h.number)) (by.holders k ∙ ap (λ (t : Told). unless_answered t.answers (slice_index_or t.admitted k None)) unmoved.nothing)
-      ∙ same_number (slice_index_or old.holders k None);
-  same_answers = λ answer is.
-      subst (λ (t : Told). Contains (t.answers ++ old.answers) answer) unmoved.nothing (Contains-permutation new.answers (told.answers ++ old.answers) answer by.untaken is);
-}
 
 -- what is given a handle has fewer of them than may be
 few_open : (old : ManagerView) (partition : ℕ) → open_refusal old partition ≡ None → count_by is_some old.handles < handle_limit
@@ -55,29 +35,10 @@ few_open old partition none =
     let there = none_first (nat_le (length old.rules.partitions) partition) ParameterStatus _ going.1 in
     leb-false handle_limit (count_by is_some old.handles) (none_first (nat_le handle_limit (count_by is_some old.handles)) BusyStatus _ there.1).0
 
-pub opens_one : (old : ManagerView) (partition : ℕ) (handle : Handle) (new : ManagerView) → IsRight (OpenReplies old partition (HandleReply handle) new) old new → OpensOne old partition handle new
-opens_one old partition handle new right =
-    let given = right.replies.1 in
-    record {
-      keeps = keeps_all old new right.told right.replies.0 right.by;
-      few = few_open old partition given.not_refused;
-      number = given.next_number;
-      counted = given.counted;
-      was_free = given.was_free;
-      opens = given.opens;
-    }
-
-pub refuses_one : (old : ManagerView) (partition : ℕ) (reason : Refusal) (bytes : List ℕ) (new : ManagerView) → IsRight (OpenReplies old partition (Refused reason bytes) new) old new
-    → RefusesOne old partition (RefusedOpen reason) new
-refuses_one old partition reason bytes new right = (right.replies.0, (right.by.same_rules, right.replies.1.unmoved.same_state))
-
 -- ALL OF THEM
 
 no_member : (answer : Answer) → Contains [] answer → ⊥
 no_member answer is = absurd (let low = is.1 in omega arith)
-
-none_at_all : (k : ℕ) → slice_index_or {A = Option Holder} [] k None ≡ None
-none_at_all k = refl
 
 pub first_of_new : (v : ManagerView) → IsNew v → IsFirst v
 first_of_new v new = record {
@@ -233,51 +194,3 @@ all_opened partitions handles old new were = record {
   };
   given = record { count = were.counted; number = were.number; opened = were.opened };
 }
-
-not_used_up : (next : ℕ) → next < number_limit → are_used_up next ≡ false
-not_used_up next low = grind (arith, nat_tests)
-
--- a partition that is refused after so many handles were opened
-pub refused_next : (partitions : List ℕ) (count : ℕ) (handles : List Handle) (old mid : ManagerView) (partition : ℕ) (fault : OpenFault) (new : ManagerView) → IsNew old
-    → WereOpened partitions count handles old mid → slice_get partitions count ≡ Some partition → RefusesOne mid partition fault new
-    → IsOpenFault old.rules partitions fault × IsSame old new
-refused_next partitions count handles old mid partition NoMemory new is_new were at refuses = absurd refuses
-refused_next partitions count handles old mid partition (RefusedOpen reason) new is_new were at refuses =
-    (by _ _ _ _ refl refl refl refl reason refuses.0, (refuses.1.0 ∙ were.same_rules, refuses.1.1 ∙ were.same_state))
-  where
-    numbered : are_used_up mid.next_handle ≡ false
-    numbered = let next_is = were.next in let few = were.few in let low : mid.next_handle < number_limit = omega arith in not_used_up mid.next_handle low
-
-    going : mid.state.removing ≡ false
-    going = ap (λ (s : State). s.removing) (were.same_state ∙ is_new.state)
-
-    is_there : nat_le (length mid.rules.partitions) partition ≡ true → length old.rules.partitions ≤ partition
-    is_there past = subst (λ (r : Rules). length r.partitions ≤ partition) were.same_rules (leb-true (length mid.rules.partitions) partition past)
-
-    too_many : nat_le handle_limit (count_by is_some mid.handles) ≡ true → handle_limit < length partitions
-    too_many many =
-        let within = slice_get_within partitions count partition at in
-        let open_are = were.are_open in
-        let full = leb-true handle_limit (count_by is_some mid.handles) many in
-        omega arith
-
-    by : (a b c d : Bool) → are_used_up mid.next_handle ≡ a → mid.state.removing ≡ b → nat_le (length mid.rules.partitions) partition ≡ c → nat_le handle_limit (count_by is_some mid.handles) ≡ d
-        → (reason : Refusal) → first_some (when a BusyStatus ∷ when b PendingStatus ∷ when c ParameterStatus ∷ when d BusyStatus ∷ []) ≡ Some (status_of_refusal reason)
-        → IsOpenFault old.rules partitions (RefusedOpen reason)
-    by true b c d used removing past many reason e = absurd (cc (used, numbered))
-    by false true c d used removing past many reason e = absurd (cc (removing, going))
-    by false false true d used removing past many InvalidParameter e = (count, partition, at, is_there past)
-    by false false true d used removing past many InvalidHandle e = absurd (cc (e))
-    by false false true d used removing past many DeletePending e = absurd (cc (e))
-    by false false true d used removing past many DeviceBusy e = absurd (cc (e))
-    by false false true d used removing past many InsufficientResources e = absurd (cc (e))
-    by false false true d used removing past many InvalidDeviceRequest e = absurd (cc (e))
-    by false false true d used removing past many NotFound e = absurd (cc (e))
-    by false false false true used removing past many DeviceBusy e = too_many many
-    by false false false true used removing past many InvalidHandle e = absurd (cc (e))
-    by false false false true used removing past many DeletePending e = absurd (cc (e))
-    by false false false true used removing past many InvalidParameter e = absurd (cc (e))
-    by false false false true used removing past many InsufficientResources e = absurd (cc (e))
-    by false false false true used removing past many InvalidDeviceRequest e = absurd (cc (e))
-    by false false false true used removing past many NotFound e = absurd (cc (e))
-    by false false false false used removing past many reason e = absurd (cc (e))

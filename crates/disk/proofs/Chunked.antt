@@ -1,5 +1,5 @@
 -- Sectors in chunks: what stands in a chunk, and what becomes of it.
-use Rattle.std.proofs.Common.{◌≡◌, ℕ, zero, suc, ◌+◌, ◌-◌, ◌*◌, ◌/◌, ◌%◌, ◌≤◌, ◌⊎◌, inl, inr, List, ◌∷◌, ◌++◌, length, map, take, drop, replicate, Option, Some, None, IsSome, Result, Ok, Err, OnOk, OnErr, MatchOption, unwrap_or, arith, refl, sym, ap, ◌∙◌, subst, mul-le-mul_right, zero-add, add-zero, suc-add}
+use Rattle.std.proofs.Common.{◌≡◌, ℕ, zero, suc, ◌+◌, ◌-◌, ◌*◌, ◌/◌, ◌%◌, ◌≤◌, ◌⊎◌, inl, inr, List, ◌∷◌, ◌++◌, length, map, take, drop, replicate, Option, Some, None, IsSome, Result, Ok, Err, OnOk, OnErr, MatchOption, unwrap_or, arith, refl, sym, ap, ◌∙◌, mul-le-mul_right, zero-add, add-zero, suc-add}
 use Rattle.std.proofs.lemmas.Bool.{cases_lt, cases_eq}
 use Rattle.std.proofs.lemmas.List.{length-replicate, length-drop, length-take-le, take-append-le, drop-append-le, drop-drop, take-replicate, drop-replicate}
 use Rattle.std.proofs.lemmas.List.Folds.{concat-append}
@@ -38,22 +38,6 @@ whole_with_zeros size sectors number old new whole puts other bytes there = elim
   | inr apart ↦ whole other bytes (sym (puts.others other apart) ∙ there)
 ]
 
-pub same_with_zeros : (size sectors number : ℕ) (old new : ByNumber) → PutsZeros (chunk_length size sectors number) number old new
-    → (other : ℕ) → chunk_bytes size sectors new other ≡ chunk_bytes size sectors old other
-same_with_zeros size sectors number old new puts other = elim (cases_eq other number) [
-  | inl same ↦
-      subst (λ k. chunk_bytes size sectors new k ≡ chunk_bytes size sectors old k) (sym same)
-      (ap (λ found. unwrap_or found (replicate (chunk_length size sectors number) 0)) puts.here)
-  | inr apart ↦ ap (λ found. unwrap_or found (replicate (chunk_length size sectors other) 0)) (puts.others other apart)
-]
-
-pub there_with_zeros : (count number : ℕ) (old new : ByNumber) → PutsZeros count number old new
-    → (other : ℕ) → IsSome (held old other) → IsSome (held new other)
-there_with_zeros count number old new puts other there = elim (cases_eq other number) [
-  | inl same ↦ subst (λ k. IsSome (held new k)) (sym same) (subst IsSome (sym puts.here) refl)
-  | inr apart ↦ subst IsSome (sym (puts.others other apart)) there
-]
-
 -- what holds either way holds
 pub on_each : {A E : Type 0} (result : Result A E) (P Q R : Type 0) → OnOk result P → OnErr result Q → (P → R) → (Q → R) → R
 on_each (Ok x) P Q R p q f g = f p
@@ -69,11 +53,6 @@ held-empty chunks none number = ap (λ entries. option_map (λ bytes. bytes.item
 
 pub whole_unchanged : (size sectors : ℕ) (old new : ByNumber) → AreWhole size sectors old → new.entries ≡ old.entries → AreWhole size sectors new
 whole_unchanged size sectors old new whole same number bytes there = whole number bytes (sym (held-unchanged old new same number) ∙ there)
-
-pub same_unchanged : (size sectors : ℕ) (old new : ByNumber) → new.entries ≡ old.entries → (number : ℕ)
-    → chunk_bytes size sectors new number ≡ chunk_bytes size sectors old number
-same_unchanged size sectors old new same number =
-    ap (λ found. unwrap_or found (replicate (chunk_length size sectors number) 0)) (held-unchanged old new same number)
 
 -- A CHUNK IS READ
 

@@ -41,17 +41,6 @@ account_called handles partitions old new called answered claim from place numbe
       handle = still_open handles partitions old new counted.client counted.handle kept.handle;
     }
 
--- no call came
-pub account_same : (handles : List (Option OpenHandle)) (partitions : List ℕ) (old new : ShareView) (called answered : List Receipt)
-    → AccountKept handles partitions old called answered → HasCounted old 0 new → AccountKept handles partitions new called answered
-account_same handles partitions old new called answered kept counted = record {
-  counted = (let c = kept.counted in let m = counted.more in omega arith);
-  calls = subst (λ k. AreCalls k called) (sym counted.client) kept.calls;
-  rising = kept.rising;
-  answers = subst (λ k. AreAnswers k answered) (sym counted.client) kept.answers;
-  handle = still_open handles partitions old new counted.client counted.handle kept.handle;
-}
-
 -- an answer more
 pub account_answered : (handles : List (Option OpenHandle)) (partitions : List ℕ) (share : ShareView) (called answered claim : List Receipt) (place : ℕ) (label : Label)
     → AccountKept handles partitions share called answered → claim ≡ receipt place label share.client → Answers label → AccountKept handles partitions share called (answered ++ claim)

@@ -4,16 +4,12 @@ use Rattle.std.specs.Prelude.{All, max, slice_index_or}
 use Rattle.std.proofs.lemmas.List.Elements.{All-nil, All-cons}
 use Rattle.std.proofs.lemmas.Option.{slice_get-get_or, slice_get_within}
 use Rattle.atomic_table.specs.Seated.{TableId}
-use Rattle.machine.specs.Rules.{Rules}
 use Rattle.io_manager.specs.declared.Handle.{Handle}
-use Rattle.io_manager.specs.declared.Refusal.{Refusal}
-use Rattle.io_manager.specs.declared.Refusal.TheVariants.{InvalidHandle, InvalidParameter, DeletePending, DeviceBusy, InsufficientResources, InvalidDeviceRequest, NotFound}
 use Rattle.io_manager.specs.Shown.{ManagerView}
 use Rattle.remove_lock.specs.Gate.{Standing, issued, standing, fresh}
 use Rattle.cancel_marks.specs.Marks.{Standing as SeatStanding, standing as seat_of, starting, IsOther}
 use Rattle.book.specs.declared.sizes.Sizes.{Sizes}
-use Rattle.book.specs.declared.opening.OpenFault.TheVariants.{Refused}
-use Rattle.book.specs.Opening.{AreOpened, IsNew, IsOpenFault, NamesNone}
+use Rattle.book.specs.Opening.{AreOpened, IsNew}
 use Rattle.book.specs.Sizes.{AreSizes, sizes_of}
 use Rattle.host.specs.Opening.{IsClientPass, IsOpening, IsReady, client_limit}
 use Rattle.host.specs.Clients.{ticket_limit}
@@ -56,13 +52,3 @@ is_ready partitions old stack handles sizes slots parts marks owner seats gate p
   count_passes = count_passes;
   are_passes = are_passes;
 }
-
--- where clients are few enough for their handles, one that is refused is on a partition that is not there
-pub named_none : (rules : Rules) (partitions : List ℕ) (reason : Refusal) → length partitions ≤ client_limit → IsOpenFault rules partitions (Refused reason) → NamesNone rules partitions
-named_none rules partitions InvalidParameter few why = why
-named_none rules partitions DeviceBusy few why = absurd (omega (arith, few, why))
-named_none rules partitions InvalidHandle few why = absurd why
-named_none rules partitions DeletePending few why = absurd why
-named_none rules partitions InsufficientResources few why = absurd why
-named_none rules partitions InvalidDeviceRequest few why = absurd why
-named_none rules partitions NotFound few why = absurd why

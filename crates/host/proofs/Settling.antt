@@ -12,7 +12,7 @@ use Rattle.machine_laws.specs.EndLaws.{IsEmpty, RemovedAreEmpty}
 use Rattle.machine_laws.specs.Reached.{RunsSplit}
 use Rattle.book.specs.declared.Entry.{Entry}
 use Rattle.book.specs.Entries.{labels_of}
-use Rattle.host.specs.Closing.{LeaveNothing, SettledAtRemoved}
+use Rattle.host.specs.Closing.{SettledAtRemoved}
 use Rattle.host.specs.Opening.{IsOpening}
 use Rattle.host.proofs.Answering.{some_same}
 

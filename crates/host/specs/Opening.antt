@@ -1,5 +1,5 @@
 -- What a host is opened with.
-use Rattle.std.specs.Prelude.{◌≡◌, ◌<◌, ◌≤◌, ℕ, ◌+◌, List, [], map, Option, Some, All, length, max, slice_get, slice_index_or}
+use Rattle.std.specs.Prelude.{◌≡◌, ◌<◌, ◌≤◌, ℕ, ◌+◌, List, Option, Some, All, length, max, slice_get, slice_index_or}
 use Rattle.atomic_table.specs.Seated.{TableId}
 use Rattle.machine.specs.Rules.{Rules}
 use Rattle.machine.specs.State.{State, opening}

@@ -1,20 +1,17 @@
 -- Calls that end where they begin are right steps: those that are refused, those of no bytes, and those past the last number.
-use Rattle.std.proofs.Common.{◌≡◌, ◌<◌, ◌≤◌, inl, inr, ℕ, ◌+◌, Bool, true, false, List, [], ◌∷◌, ◌++◌, Option, Some, None, refl, sym, ◌∙◌, ap, subst, arith, length}
-use Rattle.std.specs.Prelude.{◌==◌, if◌then◌else◌, IsNone}
+use Rattle.std.proofs.Common.{◌≡◌, ◌<◌, ◌≤◌, inl, inr, ℕ, ◌+◌, Bool, true, false, List, [], ◌∷◌, ◌++◌, Some, refl, sym, ◌∙◌, ap, subst, arith}
+use Rattle.std.specs.Prelude.{IsNone}
 use Rattle.std.proofs.lemmas.List.Elements.{All-weaker}
-use Rattle.slab.specs.Slab.{Slab, get}
 use Rattle.ntstatus.specs.declared.NtStatus.{NtStatus}
 use Rattle.adapter.proofs.Joining.{reserves_none}
 use Rattle.machine.specs.declared.Kind.{Kind}
 use Rattle.machine.specs.declared.ClientRequest.{ClientRequest}
 use Rattle.machine.specs.declared.Label.{Label}
 use Rattle.machine.specs.declared.Label.TheVariants.{Call, Answer as AnswerLabel}
-use Rattle.machine.specs.Rules.{Rules}
 use Rattle.machine.specs.Calling.{refusal}
 use Rattle.machine.specs.Step.{Run}
 use Rattle.device.specs.View.{DeviceView}
 use Rattle.io_manager.specs.declared.Handle.{Handle}
-use Rattle.io_manager.specs.declared.OpenHandle.{OpenHandle}
 use Rattle.io_manager.specs.declared.Refusal.TheVariants.{DeviceBusy}
 use Rattle.io_manager.specs.declared.Reply.{Reply}
 use Rattle.io_manager.specs.declared.Reply.TheVariants.{Refused}
@@ -23,26 +20,14 @@ use Rattle.io_manager.specs.declared.admission.AtOnce.TheVariants.{Empty, Refuse
 use Rattle.io_manager.specs.declared.Limits.{Limits}
 use Rattle.io_manager.specs.declared.tables.Tables.{Tables}
 use Rattle.io_manager.specs.Shown.{ManagerView}
-use Rattle.io_manager.specs.Calls.{number_limit, are_used_up, partition_at, partition_of, call_on, without_bytes}
+use Rattle.io_manager.specs.Calls.{number_limit, are_used_up, call_on, without_bytes}
 use Rattle.io_manager.specs.Right.{tells_nothing, TransferReplies, CallReplies, IsRight}
-use Rattle.io_manager.specs.Sound.{shown_state, is_gone, view_of, IsOnMap, IsSpotted, WasGiven, IsSound, ManagerKept}
-use Rattle.io_manager.specs.Admitting.{status_at_once, IsKnown, IsPlain, AnswersAtOnce, reply_at_once, IsAdmissible}
+use Rattle.io_manager.specs.Sound.{shown_state, is_gone, view_of, IsSpotted, WasGiven, IsSound, ManagerKept}
+use Rattle.io_manager.specs.Admitting.{status_at_once, AnswersAtOnce, reply_at_once}
 use Rattle.io_manager.proofs.Refusing.{Run-refused}
 use Rattle.io_manager.proofs.Handing.{numbers_last}
 use Rattle.io_manager.proofs.Stepping.{ManagerKept-still}
 use Rattle.io_manager.proofs.Quiet.{right_alone, tells_own, IsRightBy-unmoved}
-
--- the partition of an open handle is there
-pub known_handle : (rules : Rules) (handles : Slab OpenHandle) (handle : Handle) → IsOnMap rules handles → IsKnown (length rules.partitions) (partition_of handles.slots handle)
-known_handle rules handles handle on_map = at_slot (get handles handle.slot) handle.number (on_map handle.slot)
-  where
-    at_slot : (slot : Option OpenHandle) (number : ℕ) → ((open' : OpenHandle) → slot ≡ Some open' → open'.partition < length rules.partitions) → IsKnown (length rules.partitions) (partition_at slot number)
-    at_slot None number h = tt
-    at_slot (Some open') number h = tested (open'.number == number)
-      where
-        tested : (b : Bool) → IsKnown (length rules.partitions) (if b then Some open'.partition else None)
-        tested true = h open' refl
-        tested false = tt
 
 at_once_sound : (limits : Limits) (below : DeviceView) (tables : Tables) (q : ClientRequest) (status : NtStatus) (tables1 : Tables) → IsSound limits below tables → are_used_up tables.next_request ≡ false
     → AnswersAtOnce tables q status tables1 → IsSound limits below tables1
@@ -136,17 +121,6 @@ module _ (limits : Limits) (below : DeviceView) (tables : Tables) (old : Manager
     (shown : view_of limits below tables ≡ old) (taken : old.labels ≡ []) where
   untaken : (tables.labels.items ≡ []) × (below.adapter.labels ≡ [])
   untaken = (ap (λ (v : ManagerView). v.labels) shown ∙ taken, kept.none_recorded)
-
-  pub admissible_shown : (q : ClientRequest) → IsPlain q → q.partition ≡ partition_of tables.handles.slots handle → are_used_up tables.next_request ≡ false
-      → refusal old.rules old.state q ≡ None → IsAdmissible old q
-  admissible_shown q plain partition last not_refused =
-      subst (λ (v : ManagerView). refusal v.rules v.state q ≡ None → IsAdmissible v q) shown
-      (λ not_refused. record {
-        plain = plain;
-        known = subst (IsKnown (length below.rules.partitions)) (sym partition) (known_handle below.rules tables.handles handle kept.sound.on_map);
-        numbers_last = last;
-        not_refused = not_refused;
-      }) not_refused
 
   pub used_up_shown : (reply : Reply) → are_used_up tables.next_request ≡ true → reply ≡ Refused DeviceBusy buffer → IsRight (CallReplies old handle (call_on old handle kind offset buffer through) buffer reply old) old old
   used_up_shown reply used_up is_reply =

@@ -6,7 +6,7 @@ use Rattle.std.specs.VecDeque.{deque_len, deque_capacity}
 use Rattle.std.proofs.Math.Seq.{map-set_same}
 use Rattle.std.proofs.lemmas.Bool.{cases_eq}
 use Rattle.std.proofs.lemmas.List.{map-append, append-nil}
-use Rattle.std.proofs.lemmas.List.Sums.{sum_by-cons, count_by-le-length}
+use Rattle.std.proofs.lemmas.List.Sums.{sum_by-cons}
 use Rattle.std.proofs.lemmas.List.Sorted.{sum_by-IsPermutation, IsPermutation-refl, IsPermutation-sym, IsPermutation-trans, IsPermutation-map, IsPermutation-remove, All-permutation, Contains-permutation, length_permutation}
 use Rattle.std.proofs.lemmas.List.Elements.{All-nil, All-head, All-tail, All-cons, All-append, All-weaker, All-contains, Contains-append_left, Contains-append_right}
 use Rattle.slab.specs.Slab.{Slab, get, slab_len, Updates as SlabUpdates}
@@ -306,14 +306,6 @@ one_fewer s number s' c =
     (count_same s'.requests (as_cancelled c.request ∷ c.others) c.after.requests)
     (count_same s.requests (c.request ∷ c.others) c.is_open ∙ count_first c.request c.others ∙ ap (λ b. cond (not b) 1 0 + count_by is_unmarked c.others) c.not_yet)
     (count_first (as_cancelled c.request) c.others)
-
-pub few_unmarked : (limits : Limits) (below : DeviceView) (tables : Tables) → IsSound limits below tables → count_by is_unmarked below.state.requests ≤ 64
-few_unmarked limits below tables h =
-    let most : count_by is_unmarked below.state.requests ≤ length below.state.requests = count_by-le-length is_unmarked below.state.requests in
-    let counted : slab_len tables.requests ≡ length below.state.requests = h.held.counted in
-    let few : slab_len tables.requests ≤ limits.open_requests = h.few in
-    let short : limits.open_requests ≤ 64 = h.fits.some_open.1 in
-    omega arith
 
 -- THE HOLDERS STAY
 

@@ -1,7 +1,6 @@
 -- What no step does: write a sector outside all partitions.
-use Rattle.std.specs.Prelude.{◌≡◌, ◌≤◌, ℕ, ◌+◌, Bool, List, slice_get, All, Any}
+use Rattle.std.specs.Prelude.{◌≤◌, ℕ, ◌+◌, Bool, List, All, Any}
 use Rattle.sector.specs.declared.Extent.{Extent}
-use Rattle.sector.specs.Extents.{IsIn}
 use Rattle.cdb.specs.Meaning.{AsksToWrite}
 use Rattle.adapter.specs.View.{AdapterView, TagInUse}
 

@@ -1,5 +1,5 @@
 -- Where a climb ends that begins below known locations: for the drivers that see a packet come back.
-use Rattle.std.proofs.Common.{◌≡◌, ◌-◌, ◌++◌, ◌⊎◌, ℕ, Bool, true, false, List, [], ◌∷◌, length, take, get_or, Some, refl, sym, ◌∙◌, ap, inl, inr, append_assoc, length-append, subst, arith, ◌&&◌, ◌||◌, not}
+use Rattle.std.proofs.Common.{◌≡◌, ◌-◌, ◌++◌, ◌⊎◌, ℕ, Bool, true, false, List, [], ◌∷◌, length, take, get_or, Some, refl, sym, ◌∙◌, ap, inl, inr, append_assoc, subst, arith, ◌&&◌, ◌||◌, not}
 use Rattle.std.specs.Prelude.{All}
 use Rattle.std.proofs.lemmas.List.{same_from_push, append-nil}
 use Rattle.std.proofs.lemmas.List.Elements.{All-pop}
@@ -63,11 +63,6 @@ climbs_as start irp higher status information climb kept same h =
     (subst (λ (ls : List StackLocation). Climbs ls irp.number irp.cancelled status information irp.payload climb) same h) in
     subst (λ (p : Payload). Climbs higher start.number start.cancelled status information p climb) kept.payload
     (subst (λ (b : Bool). Climbs higher start.number b status information irp.payload climb) kept.cancelled at_number)
-
--- with no location above, the packet is finished
-pub finished_at_top : (number : ℕ) (cancelled : Bool) (status : NtStatus) (information : ℕ) (payload : Payload) (climb : Climb) → Climbs [] number cancelled status information payload climb → IsFinished [] number cancelled status information payload climb
-finished_at_top number cancelled status information payload (Finished done) h = record { done = done; climb_is = refl; finishes = h }
-finished_at_top number cancelled status information payload (Routine driver irp) h = absurd (omega (arith, simp length-append at (ap length h.are_above)))
 
 -- where the nearest location asks, the packet comes back to its driver
 pub comes_back : (higher : List StackLocation) (own : StackLocation) (number : ℕ) (cancelled : Bool) (status : NtStatus) (information : ℕ) (payload : Payload) (climb : Climb) → asks (succeeds status) cancelled own ≡ true → Climbs (higher ++ own ∷ []) number cancelled status information payload climb → ComesBack higher own number cancelled status information payload climb

@@ -1,18 +1,18 @@
 -- What a piece out says of its owner, and a place that is out of its piece.
 use Rattle.std.proofs.Common.{◌≡◌, ◌<◌, ◌≤◌, inl, inr, ℕ, suc, ◌==◌, ◌+◌, Bool, true, false, cond, List, [], ◌∷◌, refl, sym, ◌∙◌, ap, arith, length, eqb-true}
-use Rattle.std.specs.Prelude.{IsPermutation, Any, Contains, IsTrue, IsFalse, count_by}
+use Rattle.std.specs.Prelude.{IsPermutation, Any, Contains, IsTrue, count_by}
 use Rattle.std.specs.List.{remove}
 use Rattle.std.proofs.lemmas.Bool.{and_parts, cases_Bool}
 use Rattle.std.proofs.lemmas.List.{get_or_default}
-use Rattle.std.proofs.lemmas.List.Folds.{Any-from_list_any, list_any_at}
+use Rattle.std.proofs.lemmas.List.Folds.{Any-from_list_any}
 use Rattle.std.proofs.lemmas.List.Sums.{sum_by-cons}
-use Rattle.std.proofs.lemmas.List.Sorted.{IsPermutation-sym, IsPermutation-remove, Contains-permutation}
+use Rattle.std.proofs.lemmas.List.Sorted.{IsPermutation-remove}
 use Rattle.std.proofs.lemmas.List.Elements.{All-contains}
 use Rattle.machine.specs.State.{Untouched, Out, OpenRequest, Piece, State}
 use Rattle.machine.specs.Settled.{is_out, has_out}
 use Rattle.machine.specs.Pieces.{covers, IsCovered, IsOwner, IsPlaced, ArePlaced}
 use Rattle.machine.specs.Cutting.{mark_at}
-use Rattle.machine.proofs.Placed.{IsCovered-permutation, is_out_there, is_inside, covers_inside, first_alone}
+use Rattle.machine.proofs.Placed.{is_out_there, is_inside}
 
 -- the piece is of this request, whose places there are out
 pub record Owns (o : OpenRequest) (p : Piece) : Type 0 where
@@ -63,14 +63,6 @@ module _ (s : State) (k : ArePlaced s) where
       by_owner : Any (IsOwner p) s.requests → (o : OpenRequest) × Contains s.requests o × Owns o p
       by_owner (j, o, low, is, owner) = (o, (j, low, is), owns o p (j, low, is) there owner)
 
-  -- so its owner has a place out
-  pub owner_has_out : (o : OpenRequest) (p : Piece) → Contains s.requests o → Contains s.pieces p → o.number ≡ p.owner → IsTrue (has_out o)
-  owner_has_out o p is_open there owner =
-      let own : Owns o p = owns o p is_open there owner in
-      let some : 0 < p.places.count = own.some in
-      let inside : p.places.first + p.places.count ≤ length o.marks = own.inside in
-      list_any_at is_out o.marks p.places.first Untouched (omega arith) (ap is_out (own.out p.places.first (omega arith) (omega arith)))
-
   -- a place that is out has its piece
   pub piece_at : (o : OpenRequest) (i : ℕ) → Contains s.requests o → is_out (mark_at o i) ≡ true → (p : Piece) × Contains s.pieces p × (covers o.number i p ≡ true)
   piece_at o i is_open out =
@@ -85,30 +77,3 @@ module _ (s : State) (k : ArePlaced s) where
           let there : is_out (mark_at o i) ≡ true = ap is_out (get_or_default o.marks i Untouched m low ∙ is) ∙ is_so in
           let at : (p : Piece) × Contains s.pieces p × (covers o.number i p ≡ true) = piece_at o i is_open there in
           (at.0, at.1, covers_owner o.number i at.0 at.2)
-
-  -- with no piece out no place is out
-  pub none_has_out : s.pieces ≡ [] → (o : OpenRequest) → Contains s.requests o → IsFalse (has_out o)
-  none_has_out none o is_open = elim (cases_Bool (has_out o)) [
-    | inl out ↦ absurd (not_there (piece_of o is_open out).1)
-    | inr not_out ↦ not_out
-  ]
-    where
-      not_there : {p : Piece} → Contains s.pieces p → ⊥
-      not_there (j, low, is) = let n : length s.pieces ≡ 0 = ap length none in absurd (omega arith)
-
-  -- two pieces of one request have no place in common
-  pub two_apart : (p q : Piece) (rest : List Piece) (i : ℕ) → IsPermutation s.pieces (p ∷ q ∷ rest) → p.owner ≡ q.owner
-      → p.places.first ≤ i → i < p.places.first + p.places.count → q.places.first ≤ i → i < q.places.first + q.places.count → ⊥
-  two_apart p q rest i perm same p_low p_high q_low q_high = apart (owner_of p (Contains-permutation _ _ p (IsPermutation-sym _ _ perm) (0, omega arith, refl)))
-    where
-      apart : (o : OpenRequest) × Contains s.requests o × Owns o p → ⊥
-      apart (o, is_open, own) =
-          let covered : IsCovered (p ∷ q ∷ rest) o = IsCovered-permutation s.pieces (p ∷ q ∷ rest) o perm (All-contains (IsCovered s.pieces) s.requests o k.places is_open) in
-          let zero_more : count_by (covers o.number i) (q ∷ rest) ≡ 0 = (first_alone p (q ∷ rest) o i covered own.number p_low p_high).1 in
-          let one_more : covers o.number i q ≡ true = covers_inside o.number i q (sym (own.number ∙ same)) q_low q_high in
-          let sum : cond (covers o.number i q) 1 0 + count_by (covers o.number i) rest ≡ 0 = sym (count_first o.number i q rest) ∙ zero_more in
-          not_both (covers o.number i q) (count_by (covers o.number i) rest) one_more sum
-        where
-          not_both : (b : Bool) (m : ℕ) → b ≡ true → cond b 1 0 + m ≡ 0 → ⊥
-          not_both true m e h = absurd (omega arith)
-          not_both false m e h = cc (e)

@@ -1,7 +1,7 @@
 -- Bytes written in pieces, one behind the other.
-use Rattle.std.proofs.Common.{◌≡◌, ◌≤◌, ◌<◌, inl, inr, ℕ, ◌+◌, ◌-◌, ◌%◌, min, List, [], ◌++◌, length, take, drop, replicate, length-append, length-take, length-drop, append_assoc, refl, sym, subst, add-zero, ◌∙◌, ap, arith}
+use Rattle.std.proofs.Common.{◌≡◌, ◌≤◌, ◌<◌, inl, inr, ℕ, ◌+◌, ◌-◌, ◌%◌, min, List, ◌++◌, length, take, drop, replicate, length-append, length-take, length-drop, append_assoc, refl, sym, subst, ◌∙◌, ap, arith}
 use Rattle.std.proofs.Math.Seq.{take-append-add, take-append_seam, drop-append-add}
-use Rattle.std.proofs.lemmas.List.{take-append-drop, take-take, drop-drop, length-take-le, length-replicate, replicate-append-replicate}
+use Rattle.std.proofs.lemmas.List.{take-take, drop-drop, length-take-le, length-replicate, replicate-append-replicate}
 use Rattle.nbd.specs.Content.{Content, AreInBounds, IsBlockSize, IsSameOutside, splice, written}
 use Rattle.nbd.specs.declared.requests.ReplyError.{ReplyError}
 use Rattle.nbd.specs.Replies.{failure}
@@ -50,13 +50,6 @@ two_parts xs o ys zs fits =
     ∙ ap (λ (l : List ℕ). T ++ l) (sym (append_assoc ys zs _))
     ∙ ap (λ (m : ℕ). T ++ ((ys ++ zs) ++ drop (o + m) xs)) (sym c)
 
--- no bytes change nothing
-no_part : (xs : List ℕ) (o : ℕ) → splice xs o [] ≡ xs
-no_part xs o = ap (λ (m : ℕ). take o xs ++ drop m xs) (add-zero o) ∙ take-append-drop o xs
-
-pub begun : (c : Content) (o : ℕ) → c ≡ written c o (replicate 0 0)
-begun c o = sym (ap (λ (l : List ℕ). record c { bytes = l }) (no_part c.bytes o))
-
 -- zeros so far, and more
 pub continued : (c mid new : Content) (o a b : ℕ) → o ≤ length c.bytes → mid ≡ written c o (replicate a 0) → new ≡ written mid (o + a) (replicate b 0)
     → new ≡ written c o (replicate (a + b) 0)
@@ -91,10 +84,6 @@ broken_off c mid new o a b n fits within e h =
           ∙ ap (λ (m : ℕ). drop m (splice c.bytes o (replicate a 0))) k
           ∙ behind_of c.bytes o n (replicate a 0) (omega arith) (omega (arith, la));
     }
-
--- what a call that failed, and changed nothing, leaves
-pub same_outside : (c : Content) (o n : ℕ) → IsSameOutside c o n c
-same_outside c o n = record { block = refl; long = refl; before = refl; behind = refl }
 
 abbrev Pieces : ℕ → ℕ → ℕ → ℕ → ℕ → Type 0
 Pieces o a b n block = o % block ≡ 0 → n % block ≡ 0 → a % block ≡ 0 → ((o + a) % block ≡ 0) × (b % block ≡ 0) × ((a + b) % block ≡ 0)

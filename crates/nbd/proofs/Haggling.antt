@@ -10,7 +10,7 @@ use Rattle.nbd.specs.Content.{Content}
 use Rattle.nbd.specs.Options.{Asked, IsAsked, IsOptionHeader, TakesOption, TakesOptionHeader, greeting, next_of, option_bytes, replies_to, wish_in, wish_of}
 use Rattle.nbd.specs.Session.{Begins, Ends, IsTold, said}
 use Rattle.nbd.specs.Handshake.{IsLastEarly, AsksOnce, EndsHaggling, Greets, Haggles, IsLastOption, IsSession, Leads, TakesLastOption, answers_to, EndsGreeting}
-use Rattle.nbd.proofs.Streaming.{takes_nothing, takes_more, tells_nothing, tells_more}
+use Rattle.nbd.proofs.Streaming.{takes_more, tells_more}
 use Rattle.nbd.proofs.Serving.{begins_after, begins_nothing, begins_with, said_append, told_after, told_nothing}
 
 pub asked : (input mid rest : Option (List ℕ)) (code count : ℕ) (wish : Wish) (bytes : List ℕ) → TakesOptionHeader input mid code count → Consumes mid rest bytes
@@ -40,9 +40,6 @@ leads_more (x ∷ y ∷ xs) a next h is e = (h.0, h.1, leads_more (y ∷ xs) a n
 
 one_more : {X : Type 0} (f : X → List ℕ) (xs : List X) (x : X) → said f (xs ++ (x ∷ [])) ≡ said f xs ++ f x
 one_more f xs x = said_append f xs (x ∷ []) ∙ ap (λ (l : List ℕ). said f xs ++ l) (append-nil (f x))
-
-pub haggles_none : (block size : ℕ) (no_zeroes : Bool) (input out : Option (List ℕ)) → Haggles block size no_zeroes input out input out Options
-haggles_none block size no_zeroes input out = record { options = []; leads = refl; taken = takes_nothing input; told = tells_nothing out }
 
 pub haggles_more : (block size : ℕ) (no_zeroes : Bool) (i x j y k z : Option (List ℕ)) (next : Next) → Haggles block size no_zeroes i x j y Options
     → AsksOnce block size no_zeroes j y k z next → Haggles block size no_zeroes i x k z next
@@ -100,9 +97,6 @@ greeting_cut i x z end e told = record {
 }
 
 -- WHOLE SESSIONS
-
-pub ends_early : (old : Content) (i x z : Option (List ℕ)) (end : End) → EndsGreeting i x end z → IsSession old i x end old z
-ends_early old i x z end h = inl (record { same = refl; ended = h })
 
 -- of an array's own sizes
 pub at_sizes : (P : ℕ → ℕ → Type 0) (old : Content) (block size : ℕ) → block ≡ old.block → size ≡ length old.bytes → P block size → P old.block (length old.bytes)

@@ -11,7 +11,7 @@ use Rattle.nbd.specs.Requests.{command_in, payload_count, payload_of}
 use Rattle.nbd.specs.Replies.{Outcome, failure, reply_bytes}
 use Rattle.nbd.specs.Carrying.{Carries, IsCarried, IsServed}
 use Rattle.nbd.specs.Session.{Begins, Ends, Exchange, IsExchange, IsExchanged, IsLast, IsTold, Run, Served, TakesLast, TakesRequest, asked_by, said, told_by}
-use Rattle.nbd.proofs.Streaming.{takes_nothing, takes_more, tells_nothing, tells_more}
+use Rattle.nbd.proofs.Streaming.{takes_more, tells_nothing, tells_more}
 
 -- a command that a request asks for, once it was carried out
 pub served : (r : Request) (old new : Content) (input rest : Option (List ℕ)) (o : Outcome) (command : Command) (found : Result Command ReplyError) (block size : ℕ)
@@ -105,9 +105,6 @@ ends_untold old new input mid rest out after r o end e t s =
       told = subst (λ (y : End). IsTold y out after (said told_by (x.0 ∷ []))) (sym e) tt;
       is_last = subst (λ (y : End). IsLast y []) (sym e) refl;
     }
-
-pub served_none : (c : Content) (input out : Option (List ℕ)) → Served c input out c input out
-served_none c input out = record { exchanges = []; run = refl; taken = takes_nothing input; told = tells_nothing out }
 
 pub served_more : (a b c : Content) (i j k x y z : Option (List ℕ)) → Served a i x b j y → IsExchanged b j y c k z → Served a i x c k z
 served_more a b c i j k x y z s e = record {

@@ -13,9 +13,6 @@ takes_more (Some xs) None z a b h k = absurd h
 takes_more (Some xs) (Some ys) None a b h k = absurd k
 takes_more (Some xs) (Some ys) (Some zs) a b h k = h ∙ ap (λ r. a ++ r) k ∙ sym (append_assoc a b zs)
 
-pub skips_nothing : (x : Option (List ℕ)) → Skips 0 x x
-skips_nothing x = record { bytes = []; long = refl; taken = takes_nothing x }
-
 pub skips_more : (x y z : Option (List ℕ)) (m n k : ℕ) → m + n ≡ k → Skips m x y → Skips n y z → Skips k x z
 skips_more x y z m n k e s t = record {
   bytes = s.bytes ++ t.bytes;

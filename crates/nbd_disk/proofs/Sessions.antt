@@ -6,12 +6,9 @@ use Rattle.nbd.specs.Handshake.{IsSession}
 use Rattle.nbd.specs.declared.End.{End}
 use Rattle.nbd_disk.specs.declared.faults.Fault.{Fault}
 use Rattle.startup.specs.Reading.{AreRead}
-use Rattle.nbd_disk.specs.Serving.{IsConfigFault, IsServed, IsStartFault, fault_of_end, new_array}
+use Rattle.nbd_disk.specs.Serving.{IsServed, IsStartFault, fault_of_end, new_array}
 
 module _ (config : Option (List ℕ)) (p : ℕ) (input out : Option (List ℕ)) where
-  pub without_settings : (fault : Fault) → IsConfigFault config fault → IsServed config p input out (Some fault) input out
-  without_settings fault why = inl (record { fault = fault; told_is = refl; early = inl why; unread = refl; unwritten = refl })
-
   module _ (settings : Config) (are_read : AreRead config settings) where
     pub without_disk : (fault : Fault) → IsStartFault settings p fault → IsServed config p input out (Some fault) input out
     without_disk fault why = inl (record { fault = fault; told_is = refl; early = inr (settings, are_read, why); unread = refl; unwritten = refl })

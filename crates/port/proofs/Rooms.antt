@@ -1,5 +1,5 @@
 -- Places made, and given back.
-use Rattle.std.proofs.Common.{◌≡◌, ℕ, ◌+◌, ◌-◌, List, ◌∷◌, refl, sym, subst, arith, length}
+use Rattle.std.proofs.Common.{◌≡◌, ℕ, ◌+◌, ◌-◌, List, ◌∷◌, sym, subst, arith, length}
 use Rattle.std.specs.Prelude.{All}
 use Rattle.std.proofs.lemmas.List.Elements.{All-cons, All-tail, All-weaker}
 use Rattle.std.specs.Prelude.{Result, Ok, Err, OnErr}
@@ -9,9 +9,8 @@ use Rattle.machine.specs.declared.Kind.TheVariants.{Write}
 use Rattle.machine.specs.declared.Request.{Request}
 use Rattle.machine.specs.Rules.{Rules}
 use Rattle.device.specs.View.{IsBounded}
-use Rattle.device.specs.Served.{Reserves}
 use Rattle.port.specs.Books.{Books}
-use Rattle.port.specs.Shown.{rules_of, view_of, of_packets}
+use Rattle.port.specs.Shown.{rules_of, of_packets}
 use Rattle.port.specs.Kept.{asked, PortKept, IsInHand, IsRoom, IsWaiting}
 use Rattle.port.proofs.Starting.{room_moves, waiting_moves}
 use Rattle.port.proofs.Orderly.{in_hand}
@@ -86,18 +85,6 @@ hand_freed b b' v r rooms e k =
 
 pub hand_same : (b b' : Books) (v : AdapterView) (rooms : List Request) → b' ≡ b → IsInHand b v rooms → IsInHand b' v rooms
 hand_same b b' v rooms e k = subst (λ x. IsInHand x v rooms) (sym e) k
-
--- what a reservation shows
-pub seen_reserved : (b b' : Books) (v v' : AdapterView) (places : ℕ) → ReservesMore v v' → b' ≡ record b { places = places } → Reserves (view_of b v) (view_of b' v')
-seen_reserved b b' v v' places h e =
-    subst (λ x. Reserves (view_of b v) (view_of x v')) (sym e) (subst (λ x. Reserves (view_of b v) (view_of (with_places b places) x)) (sym h.after) (record {
-      same = refl;
-      adapter = record {
-        reserved = h.reserved;
-        after = refl;
-        lasts = λ extent r. subst (λ x. IsReserved x extent) h.after (h.lasts extent r);
-      };
-    }))
 
 pub on_err : {T E P : Type 0} (r : Result T E) → P → OnErr r P
 on_err (Ok x) p = tt

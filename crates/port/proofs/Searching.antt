@@ -10,7 +10,7 @@ use Rattle.port.specs.declared.queues.Held.{Held}
 use Rattle.port.specs.declared.queues.Ended.{Ended}
 use Rattle.port.specs.declared.queues.Outcome.TheVariants.{Withdrawn}
 use Rattle.port.specs.Books.{Books, entry_of, ended_entry}
-use Rattle.port.specs.Turns.{gone, drained, cancelled, can_cancel_held, can_cancel_ended, Withdraws, WithdrawsNot, CancelsEnded, CancelsNoEnded}
+use Rattle.port.specs.Turns.{gone, drained, cancelled, can_cancel_held, can_cancel_ended, Withdraws, CancelsEnded, CancelsNoEnded}
 
 pub drained_by : (b x : Books) (before after : List Held) → b.waiting ≡ before ++ x.waiting → x.done ≡ b.done ++ map gone before → x ≡ record b { waiting = x.waiting; done = x.done }
     → length x.waiting ≡ 0 → length after ≡ 0 → record x { waiting = after; removing = true } ≡ drained b
@@ -60,9 +60,6 @@ withdraws b b' number index held withdrawn waiting' done' found is left entry ca
       after = after ∙ ap (λ (hs : List Held). record b { waiting = hs; done = done' }) left ∙ ap (λ (ds : List Ended). record b { waiting = remove b.waiting index; done = ds }) more;
     }
 
-pub withdraws_not : (b : Books) (number : ℕ) → None ≡ position (can_cancel_held number) b.waiting → WithdrawsNot b number b
-withdraws_not b number h = record { none = none_found (can_cancel_held number) b.waiting (sym h); same = refl }
-
 pub cancels_ended : (b b' : Books) (number index : ℕ) (ended marked : Ended) (done' done'' : List Ended) → Some index ≡ position (can_cancel_ended number) b.done → ended ≡ get_or b.done index ended
     → done' ≡ remove b.done index → ended_entry marked ≡ cancelled (ended_entry ended) → marked.irp.payload ≡ ended.irp.payload → marked.outcome ≡ ended.outcome → done'' ≡ done' ++ marked ∷ []
     → b' ≡ record b { done = done'' } → CancelsEnded b number b'
@@ -83,6 +80,3 @@ cancels_ended b b' number index ended marked done' done'' found is left entry ca
 
 pub cancels_no_ended : (b : Books) (number : ℕ) → None ≡ position (can_cancel_ended number) b.done → CancelsNoEnded b number b
 cancels_no_ended b number h = record { none = none_found (can_cancel_ended number) b.done (sym h); same = refl }
-
-pub found_inside : (waiting : List Held) (number index : ℕ) (d : Held) → Some index ≡ position (can_cancel_held number) waiting → index < length waiting
-found_inside waiting number index d found = (position-Some (can_cancel_held number) waiting index d (sym found)).0

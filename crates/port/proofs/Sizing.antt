@@ -1,12 +1,12 @@
 -- A request of the port in numbers: its places, its command, and that it is not refused.
-use Rattle.std.proofs.Common.{◌≡◌, ◌<◌, ◌≤◌, ◌⊎◌, inl, inr, ℕ, zero, suc, ◌+◌, ◌*◌, ◌/◌, ◌%◌, ◌^◌, ◌==◌, ◌&&◌, Bool, true, false, nat_le, List, [], Some, None, refl, subst, ◌∙◌, arith, length}
+use Rattle.std.proofs.Common.{◌≡◌, ◌<◌, ◌≤◌, ◌⊎◌, inl, inr, ℕ, zero, suc, ◌+◌, ◌*◌, ◌/◌, ◌%◌, ◌^◌, ◌==◌, ◌&&◌, Bool, true, false, nat_le, List, [], None, refl, subst, ◌∙◌, arith, length}
 use Rattle.std.proofs.lemmas.List.{nil_from_length}
 use Rattle.std.proofs.lemmas.Bool.Decides.{nat_tests}
 use Rattle.std.proofs.lemmas.Nat.{div-mul-add, mod-mul-add, mul-le}
 use Rattle.machine.specs.declared.Kind.{Kind}
 use Rattle.machine.specs.declared.Kind.TheVariants.{Read, Write, Flush}
 use Rattle.machine.specs.declared.Request.{Request}
-use Rattle.machine.specs.Rules.{Rules, is_transfer, as_client, place_count, sectors_of, is_in_bounds}
+use Rattle.machine.specs.Rules.{Rules, is_transfer, as_client, place_count, is_in_bounds}
 use Rattle.machine.specs.State.{State}
 use Rattle.machine.specs.Calling.{refusal, bytes_carried}
 use Rattle.machine.specs.Sending.{command_for, write_command}
@@ -139,9 +139,3 @@ pub carries_empty : (rules : Rules) (r : Request) (payload : Payload) → Carrie
 carries_empty rules r (Packed srb) c = asks_empty rules r srb c
 carries_empty rules r (Buffer bytes) c = absurd c
 carries_empty rules r AtAdapter c = absurd c
-
--- it lies in the disk
-pub inside_disk : (sizes : Sizes) (r : Request) → IsBounded (rules_of sizes) r → r.extent.first + r.extent.count ≤ sizes.sectors
-inside_disk sizes r b =
-    let v = volume_zero sizes r b in
-    subst (λ (n : ℕ). r.extent.first + r.extent.count ≤ sectors_of (rules_of sizes) (Some n)) v b.inside

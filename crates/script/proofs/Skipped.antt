@@ -1,17 +1,14 @@
 -- Equal bytes at the front, and the rest behind them.
-use Rattle.std.proofs.Common.{◌≡◌, ◌≢◌, ℕ, ◌+◌, ◌-◌, ◌<◌, List, [], ◌++◌, All, length, take, drop, get_or, arith, refl, ap, subst, sym, ◌∙◌}
+use Rattle.std.proofs.Common.{◌≡◌, ◌≢◌, ℕ, ◌+◌, ◌-◌, ◌<◌, List, ◌++◌, All, length, take, drop, get_or, arith, ap, subst, sym, ◌∙◌}
 use Rattle.std.proofs.Math.Seq.{take-append-add}
 use Rattle.std.proofs.lemmas.List.{append_assoc, get_or-append-add, length-append, take-append-drop}
-use Rattle.std.proofs.lemmas.List.Elements.{All-append, All-nil}
+use Rattle.std.proofs.lemmas.List.Elements.{All-append}
 
 -- the bytes before the rest are all this one
 pub record IsSkipped (byte : ℕ) (bytes rest : List ℕ) : Type 0 where
   pub front : List ℕ
   pub split : bytes ≡ front ++ rest
   pub equal : All (λ b. b ≡ byte) front
-
-pub none_skipped : (byte : ℕ) (bytes : List ℕ) → IsSkipped byte bytes bytes
-none_skipped byte bytes = record { front = []; split = refl; equal = All-nil (λ b. b ≡ byte) }
 
 -- a block more
 pub block_skipped : (byte n : ℕ) (bytes rest block behind : List ℕ) → IsSkipped byte bytes rest → block ≡ take n rest → behind ≡ drop n rest

@@ -35,9 +35,6 @@ number_found bs r found h e short is =
 pub no_number : (bs : List ℕ) (n : ℕ) → (slice_index bs 0 == 43) ≡ true → ¬ (IsNumber bs n)
 no_number bs n e is = let none = plus_is_none 10 bs (omega arith) is.digits in cc
 
-pub no_byte : (bs : List ℕ) (n : ℕ) → (slice_index bs 0 == 43) ≡ true → ¬ (IsByte bs n)
-no_byte bs n e is = let none = plus_is_none 16 bs (omega arith) is.digits in cc
-
 two_digits : (bs : List ℕ) → length bs ≡ 2 → AllDigits 16 bs → digits_value 16 bs < 2 ^ 8
 two_digits [] two h = absurd (omega arith)
 two_digits (x ∷ []) two h = absurd (omega arith)

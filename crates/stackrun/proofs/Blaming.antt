@@ -27,12 +27,6 @@ use Rattle.stackrun.specs.Trace.{AreGiven, IsTraceFault, IsUnreadScript}
 -- A SCRIPT
 
 module _ (config script : Option (List ℕ)) where
-  pub by_settings : (fault : StartupFault) → IsUnread fault → HasFault config fault → IsTraceFault config script (Startup fault)
-  by_settings ConfigUnreadable unread has = tt
-  by_settings (Settings why) unread has = has
-  by_settings (Start why) unread has = absurd unread
-  by_settings StartupMemory unread has = tt
-
   module _ (settings : Config) (are_read : AreRead config settings) where
     pub by_reading : (fault : Fault) → IsUnreadScript fault → IsTraceFault config script fault
     by_reading fault (inl is) = subst (IsTraceFault config script) (sym is) (settings, are_read)
@@ -58,17 +52,6 @@ module _ (config script : Option (List ℕ)) where
 -- CLIENTS
 
 module _ (config : Option (List ℕ)) (threads : ℕ) where
-  pub no_settings : (fault : StartupFault) → IsUnread fault → HasFault config fault → IsClientsFault config threads (Startup fault)
-  no_settings ConfigUnreadable unread has = tt
-  no_settings (Settings NotToml) unread has = has
-  no_settings (Settings UnknownKey) unread has = has
-  no_settings (Settings MissingKey) unread has = has
-  no_settings (Settings OutOfRange) unread has = inl has
-  no_settings (Settings TooManyPartitions) unread has = has
-  no_settings (Settings SettingsMemory) unread has = has
-  no_settings (Start why) unread has = absurd unread
-  no_settings StartupMemory unread has = tt
-
   module _ (settings : Config) (are_read : AreRead config settings) where
     out_of_range : (fault : Fault) → fault ≡ Startup (Settings OutOfRange) → (HasRoom settings threads → ⊥) → IsClientsFault config threads fault
     out_of_range fault is none = subst (IsClientsFault config threads) (sym is) (inr (settings, are_read, none))

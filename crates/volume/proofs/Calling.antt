@@ -28,7 +28,7 @@ use Rattle.io_manager.specs.declared.Id.{Id}
 use Rattle.io_manager.specs.declared.Refusal.{Refusal}
 use Rattle.io_manager.specs.declared.Refusal.TheVariants.{InvalidHandle, InvalidParameter, DeletePending, DeviceBusy, InsufficientResources, InvalidDeviceRequest, NotFound}
 use Rattle.io_manager.specs.declared.Reply.{Reply}
-use Rattle.io_manager.specs.declared.Reply.TheVariants.{Handle as HandleReply, Ok as Done, Request as Requested, Answered, Refused, Ignored}
+use Rattle.io_manager.specs.declared.Reply.TheVariants.{Handle as HandleReply, Request as Requested, Answered, Refused}
 use Rattle.io_manager.specs.Shown.{ManagerView}
 use Rattle.io_manager.specs.Calls.{number_limit, status_of_refusal, without_bytes}
 use Rattle.io_manager.specs.Right.{Told, IsRight as IsRightCall, IsRightBy, SameHandles, FitsTogether, CallReplies, IsAdmitted, IsAnsweredAtOnce, IsTurnedAway, tells_nothing, as_answer, end_labels}
@@ -81,11 +81,6 @@ called old SurpriseRemove q reply new e h = absurd e
 called old (Act tag) q reply new e h = absurd e
 called old (Finish tag) q reply new e h = absurd e
 called old Reset q reply new e h = absurd e
-
--- such a call has one of three replies
-pub not_other : (old : ManagerView) (q : ClientRequest) (reply : Reply) (new : ManagerView) → IsCalled old q reply new → (reply ≡ Done) ⊎ (reply ≡ Ignored) → ⊥
-not_other old q reply new h (inl e) = let r : IsCalled old q Done new = subst (λ (x : Reply). IsCalled old q x new) e h in r.right.replies.replies
-not_other old q reply new h (inr e) = let r : IsCalled old q Ignored new = subst (λ (x : Reply). IsCalled old q x new) e h in r.right.replies.replies
 
 pub no_handle : (old : ManagerView) (q : ClientRequest) (given : Handle) (new : ManagerView) → IsCalled old q (HandleReply given) new → ⊥
 no_handle old q given new h = h.right.replies.replies

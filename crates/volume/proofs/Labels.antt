@@ -1,7 +1,7 @@
 -- Labels that are taken one by one.
 use Rattle.std.proofs.Common.{◌≡◌, ◌≤◌, ℕ, List, [], ◌∷◌, ◌++◌, Some, None, refl, sym, ◌∙◌, ap, subst, arith, append_assoc}
 use Rattle.std.specs.Prelude.{All}
-use Rattle.std.proofs.lemmas.List.Elements.{All-nil, All-push, All-weaker}
+use Rattle.std.proofs.lemmas.List.Elements.{All-push, All-weaker}
 use Rattle.srb.specs.declared.DeviceLabel.TheVariants.{Start, Act, Fault, Return}
 use Rattle.machine.specs.declared.Label.{Label}
 use Rattle.machine.specs.declared.Label.TheVariants.{Call, Device, Answer, Cancel, Pause, Resume, Remove, Surprise, Removed}
@@ -16,9 +16,6 @@ pub record AreTaken (old now : ManagerView) (tags : ℕ) : Type 0 where
   pub others : now ≡ record old { labels = now.labels }
   pub below : All (StartsBelow tags) taken
   pub few : tags ≤ 256
-
-pub none_taken : (v : ManagerView) → AreTaken v v 0
-none_taken v = record { taken = []; split = refl; others = refl; below = All-nil (StartsBelow 0); few = omega arith }
 
 pub starts_below_more : (low high : ℕ) → low ≤ high → (label : Label) → StartsBelow low label → StartsBelow high label
 starts_below_more low high le (Device (Start piece tag block)) h = omega arith

@@ -1,7 +1,6 @@
 -- How the sizes of a partition are found.
-use Rattle.std.proofs.Common.{◌≡◌, ◌≢◌, ◌<◌, ◌≤◌, ◌⊎◌, ◌↔◌, inl, inr, ℕ, ◌+◌, ◌*◌, ◌/◌, ◌%◌, Bool, true, false, List, [], Option, refl, sym, ◌∙◌, ap, subst, arith, length}
+use Rattle.std.proofs.Common.{◌≡◌, ◌≢◌, ◌<◌, ◌≤◌, ◌↔◌, inl, inr, ℕ, ◌+◌, ◌*◌, ◌/◌, ◌%◌, Bool, true, false, [], refl, sym, ◌∙◌, ap, subst, arith, length}
 use Rattle.std.specs.Prelude.{IsTrue, IsFalse, nat_le, ◌==◌, is_none, Result, Ok, Err, IfOk, IfErr}
-use Rattle.std.proofs.lemmas.Bool.{cases_lt}
 use Rattle.std.proofs.Math.Nat.{mod-add-div', mul-mod_left, mul-div_cancel}
 use Rattle.machine.specs.declared.Kind.TheVariants.{Read, Write}
 use Rattle.machine.specs.declared.ClientRequest.{ClientRequest}
@@ -9,11 +8,10 @@ use Rattle.machine.specs.Map.{IsPartition}
 use Rattle.machine.specs.Rules.{Rules, is_in_bounds, sectors_of}
 use Rattle.io_manager.specs.declared.Answer.{Answer as AnswerOf}
 use Rattle.io_manager.specs.declared.Handle.{Handle}
-use Rattle.io_manager.specs.declared.OpenHandle.{OpenHandle}
 use Rattle.io_manager.specs.declared.Refusal.{Refusal}
 use Rattle.io_manager.specs.declared.Refusal.TheVariants.{InvalidHandle, InvalidParameter, DeletePending, DeviceBusy, InsufficientResources, InvalidDeviceRequest, NotFound}
 use Rattle.io_manager.specs.Shown.{ManagerView}
-use Rattle.io_manager.specs.Calls.{call_on, partition_of, IsWant}
+use Rattle.io_manager.specs.Calls.{call_on, IsWant}
 use Rattle.volume.specs.Shown.{extent_at, parted_at}
 use Rattle.volume.specs.Ready.{IsReady}
 use Rattle.volume.specs.Working.{Ends, HasReason, Leaves, Turns}
@@ -30,23 +28,6 @@ looked_at old new leaves same = record {
   content = λ p.
       ap (λ (r : Rules). parted_at r.sector_size new.adapter.sectors (extent_at r.partitions p)) leaves.same_rules
       ∙ ap (λ xs. parted_at old.rules.sector_size xs (extent_at old.rules.partitions p)) same;
-}
-
-pub looked_at_none : (v : ManagerView) → IsReady v → IsLookedAt v v
-looked_at_none v ready = record { ready = ready; same_rules = refl; handles = refl; content = λ p. refl }
-
-pub looked_at_more : (old mid new : ManagerView) → IsLookedAt old mid → IsLookedAt mid new → IsLookedAt old new
-looked_at_more old mid new a b = record {
-  ready = b.ready;
-  same_rules = b.same_rules ∙ a.same_rules;
-  handles = b.handles ∙ a.handles;
-  content = λ p. b.content p ∙ a.content p;
-}
-
-pub still_on : (old new : ManagerView) (handle : Handle) (p : ℕ) → IsLookedAt old new → IsOn old handle p → IsOn new handle p
-still_on old new handle p h on = record {
-  is_open = ap (λ (handles : List (Option OpenHandle)). partition_of handles handle) h.handles ∙ on.is_open;
-  known = subst (λ (r : Rules). p < length r.partitions) (sym h.same_rules) on.known;
 }
 
 read_no_write : Read ≢ Write
@@ -136,29 +117,6 @@ at_first v ready handle p on =
 -- a sector's first byte
 quotient : (k size : ℕ) → 0 < size → (k * size % size ≡ 0) × (k * size / size ≡ k)
 quotient k size some = (mul-mod_left k size, mul-div_cancel k some)
-
-pub product_fits : (size k : ℕ) → (size ≡ 512) ⊎ (size ≡ 4096) → k ≤ 1099511627777 → k * size < 18446744073709551616
-product_fits size k (inl e) h = let m : k * size ≡ k * 512 = ap (λ s. k * s) e in omega arith
-product_fits size k (inr e) h = let m : k * size ≡ k * 4096 = ap (λ s. k * s) e in omega arith
-
-pub narrowed : (v : ManagerView) → IsReady v → (p low high middle size : ℕ) → size ≡ v.rules.sector_size → IsBetween v p low high → (reaches : Bool) → IsTrue reaches ↔ Reaches v.rules p (middle * size)
-    → (IsTrue reaches → IsBetween v p middle high) × (IsFalse reaches → IsBetween v p low middle)
-narrowed v ready p low high middle size e h reaches says =
-    let some : 0 < v.rules.sector_size = some_bytes v.rules.sector_size ready.usable.sector_size in
-    let qs : (middle * v.rules.sector_size % v.rules.sector_size ≡ 0) × (middle * v.rules.sector_size / v.rules.sector_size ≡ middle) = quotient middle v.rules.sector_size some in
-    let begins : middle * size % v.rules.sector_size ≡ 0 = ap (λ s. middle * s % v.rules.sector_size) e ∙ qs.0 in
-    let count : middle * size / v.rules.sector_size ≡ middle = ap (λ s. middle * s / v.rules.sector_size) e ∙ qs.1 in (
-      λ there. record { from = subst (λ k. k ≤ (extent_at v.rules.partitions p).count) count (says.0 there).inside; below = h.below },
-      λ gone. record { from = h.from; below = above count begins gone },
-    )
-  where
-    above : middle * size / v.rules.sector_size ≡ middle → middle * size % v.rules.sector_size ≡ 0 → reaches ≡ false → (extent_at v.rules.partitions p).count < middle
-    above count begins gone = elim (cases_lt (extent_at v.rules.partitions p).count middle) [
-      | inl low' ↦ low'
-      | inr high' ↦
-          let r : Reaches v.rules p (middle * size) = record { begins = begins; inside = subst (λ k. k ≤ (extent_at v.rules.partitions p).count) (sym count) high' } in
-          let k : true ≡ false = sym (says.1 r) ∙ gone in cc
-    ]
 
 -- ANSWERS
 

@@ -1,4 +1,3 @@
-use Rattle.std.proofs.Common.{◌≡◌}
 use Rattle.host.proofs.Replying.{stepped_reply}
 use Rattle.host.proofs.host.Host.step_in.Goals as goal
 

@@ -1,4 +1,4 @@
-use Rattle.std.proofs.Common.{◌≡◌, ◌≢◌, ◌<◌, false, refl, subst, length}
+use Rattle.std.proofs.Common.{◌≡◌, ◌≢◌, false, refl, subst, length}
 use Rattle.std.specs.Prelude.{IfErr, MatchResult, is_none}
 use Rattle.machine.specs.declared.Kind.TheVariants.{Read, Write}
 use Rattle.machine.specs.declared.ClientRequest.{ClientRequest}
