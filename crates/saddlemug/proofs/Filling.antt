@@ -1,11 +1,21 @@
 -- A slot that was filled, or not.
-use Rattle.std.proofs.Common.{◌≡◌, Bool, true, false, Option, Some, None, MatchBool, sym, subst}
+use Rattle.std.proofs.Common.{◌≡◌, ◌⊎◌, inl, inr, ℕ, Bool, true, false, Option, Some, None, MatchBool, sym, subst}
+use Rattle.ntstatus.specs.Codes.{value_of}
+use Rattle.ntstatus.specs.declared.NtStatus.{NtStatus}
+use Rattle.ntstatus.specs.declared.NtStatus.TheVariants.{InsufficientResources}
 use Rattle.io_manager.specs.Shown.{ManagerView}
 use Rattle.saddlemug.specs.declared.held.Held.{Held}
 use Rattle.saddlemug.specs.declared.held.Held.TheVariants.{Stack}
 use Rattle.saddlemug.specs.Holding.{HoldsStack}
+use Rattle.saddlemug.specs.Statuses.{IsNumberOfStatus}
 
 pub holds_stack : (P : ManagerView → Type 0) (filled : Bool) (held : Option Held) (v : ManagerView)
     → P v → MatchBool filled (held ≡ Some (Stack v)) (held ≡ None) → MatchBool filled (HoldsStack P held) (held ≡ None)
 holds_stack P true held v new is = subst (HoldsStack P) (sym is) new
 holds_stack P false held v new is = is
+
+-- its status, where want of memory may be told
+pub filled_status : (IsWhy : NtStatus → Type 0) (number : ℕ) → IsWhy InsufficientResources → (number ≡ 0) ⊎ (number ≡ value_of InsufficientResources)
+    → (number ≡ 0) ⊎ IsNumberOfStatus IsWhy number
+filled_status IsWhy number want (inl e) = inl e
+filled_status IsWhy number want (inr e) = inr (record { status = InsufficientResources; why = want; is_number = e })

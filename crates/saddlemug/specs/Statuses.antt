@@ -1,4 +1,6 @@
 -- The statuses that say why a call did not succeed.
+use Rattle.std.specs.Prelude.{◌≡◌, ℕ}
+use Rattle.ntstatus.specs.Codes.{value_of}
 use Rattle.ntstatus.specs.declared.NtStatus.{NtStatus}
 use Rattle.ntstatus.specs.declared.NtStatus.TheVariants as status
 use Rattle.io_manager.specs.declared.Refusal.{Refusal}
@@ -7,6 +9,8 @@ use Rattle.compose.specs.declared.StartFault.{StartFault}
 use Rattle.compose.specs.declared.StartFault.TheVariants.{Device, Settings, Mbr, NoMemory}
 use Rattle.volume.specs.declared.Fault.{Fault}
 use Rattle.volume.specs.declared.Fault.TheVariants.{Refused, Failed}
+use Rattle.volume.specs.declared.OpenFault.{OpenFault}
+use Rattle.volume.specs.declared.OpenFault.TheVariants.{Start, Refused as RefusedOpen}
 
 -- the status of a refusal, which has its name
 abbrev pub refusal_status : Refusal → NtStatus
@@ -29,3 +33,14 @@ start_status (Device s) = s
 start_status NoMemory = status.InsufficientResources
 start_status Settings = status.InvalidParameter
 start_status (Mbr fault) = status.InvalidParameter
+
+-- the status of a volume that could not be opened
+abbrev pub open_status : OpenFault → NtStatus
+open_status (Start fault) = start_status fault
+open_status (RefusedOpen reason) = refusal_status reason
+
+-- the number of a status of this kind
+pub record IsNumberOfStatus (IsWhy : NtStatus → Type 0) (number : ℕ) : Type 0 where
+  pub status : NtStatus
+  pub why : IsWhy status
+  pub is_number : number ≡ value_of status

@@ -1,6 +1,8 @@
 -- What a stack did, as C is told it.
-use Rattle.std.specs.Prelude.{◌≡◌, ℕ, Bool, true, false, List, [], Option, Some, None, MatchOption}
+use Rattle.std.specs.Prelude.{◌≡◌, ◌⊎◌, ℕ, Bool, true, false, List, [], Option, Some, None, MatchOption}
 use Rattle.std.specs.Option.{option_map}
+use Rattle.ntstatus.specs.declared.NtStatus.{NtStatus}
+use Rattle.ntstatus.specs.declared.NtStatus.TheVariants.{InsufficientResources, InvalidParameter}
 use Rattle.machine.specs.declared.Label.{Label}
 use Rattle.io_manager.specs.declared.Answer.{Answer}
 use Rattle.io_manager.specs.declared.Reply.{Reply}
@@ -26,9 +28,17 @@ pub record Steps (old : ManagerView) (e : StackEvent) (bytes : List ℕ) (told :
   pub right : IsRight (quiet old) event reply new
   pub is_told : told ≡ shown_reply reply
 
--- an event that there is not, or for whose bytes memory was refused
+-- nothing was carried out
 abbrev pub IsNotStepped : ManagerView → ManagerView → Type 0
 IsNotStepped old new = new ≡ old
+
+-- a read or a write, for whose bytes memory is taken
+abbrev pub HasBytes : StackEvent → Type 0
+HasBytes e = (e.kind ≡ 2) ⊎ (e.kind ≡ 3)
+
+-- why: there is no such event, or memory for its bytes was refused
+abbrev pub IsStepStatus : StackEvent → List ℕ → NtStatus → Type 0
+IsStepStatus e bytes status = ((status ≡ InvalidParameter) × (asked_event e bytes ≡ None)) ⊎ ((status ≡ InsufficientResources) × HasBytes e)
 
 -- what was told, if anything was
 abbrev pub told_if : {A : Type 0} → Bool → A → Option A

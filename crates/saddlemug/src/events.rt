@@ -2,6 +2,7 @@
 
 ghost use Rattle.std.specs.Prelude.{◌≡◌, ◌≢◌, Some, IfErr, IfOk};
 ghost use Rattle.ntstatus.specs.declared.NtStatus.TheVariants.{Success};
+ghost use Rattle.saddlemug.specs.Stepping.{IsStepStatus};
 ghost use Rattle.saddlemug.specs.Stacks.{asked_event, replied, shown_reply};
 
 use crate::bytes::{copied, zeros};
@@ -62,6 +63,7 @@ pub struct StackReply {
 pub fn event_of(alloc: Global, event: &StackEvent, bytes: &[u8]) -> Result<Event, NtStatus>
     ensures event { IfOk result (λ e. asked_event event.now bytes.now ≡ Some e) }
     ensures fault { IfErr result (λ status. status ≢ Success) }
+    ensures why { IfErr result (IsStepStatus event.now bytes.now) }
 {
     let handle = handle_of(event.handle);
     let offset = event.offset;

@@ -5,7 +5,7 @@ ghost use Rattle.volume.specs.Calls.{AreInBounds, IsFault, IsSameDisk, Reads, Wr
 ghost use Rattle.saddlemug.specs.Calls.{IsReadFault, IsWriteFault};
 ghost use Rattle.ntstatus.specs.declared.NtStatus.TheVariants.{Success};
 ghost use Rattle.saddlemug.specs.Holding.{IsAnyStack, IsAnyVolume, IsStack, IsVolume};
-ghost use Rattle.saddlemug.specs.Stepping.{IsNotStepped, Steps, TellsAnswer, TellsLabel, quiet};
+ghost use Rattle.saddlemug.specs.Stepping.{IsNotStepped, IsStepStatus, Steps, TellsAnswer, TellsLabel, quiet};
 
 use crate::bytes::{copied, zeros};
 use crate::events::{StackEvent, StackReply, event_of, told_reply};
@@ -113,6 +113,7 @@ impl Held {
         ensures held { IsAnyStack self.new }
         ensures steps { IsStack (λ old. IsStack (λ new. MatchResult result (λ told. Steps old event.now bytes.now told new) (λ _. IsNotStepped old new)) self.new) self.old }
         ensures fault { IfErr result (λ status. status ≢ Success) }
+        ensures why { IfErr result (IsStepStatus event.now bytes.now) }
     {
         match self {
             Held::Stack(stack) => step_as_told(stack, alloc, event, bytes),
@@ -208,6 +209,7 @@ fn step_as_told<A: Adapter>(
 ) -> Result<StackReply, NtStatus>
     ensures steps { MatchResult result (λ told. Steps stack.old event.now bytes.now told stack.new) (λ _. IsNotStepped stack.old stack.new) }
     ensures fault { IfErr result (λ status. status ≢ Success) }
+    ensures why { IfErr result (IsStepStatus event.now bytes.now) }
 {
     match event_of(alloc, event, bytes) {
         Ok(event) => {

@@ -5,7 +5,7 @@ ghost use Rattle.ntstatus.specs.declared.NtStatus.TheVariants.{Success};
 ghost use Rattle.settings.specs.InRange.{AreInRange};
 ghost use Rattle.settings.specs.Settings.{AreSettingsOf};
 ghost use Rattle.startup.specs.Started.{IsFirstOf, IsVolumeOf};
-ghost use Rattle.saddlemug.specs.Opened.{IsNewStack, IsNewVolume};
+ghost use Rattle.saddlemug.specs.Opened.{IsConfigStatus, IsNewStack, IsNewVolume, IsOpenStatus, IsStackStatus, IsStartStatus, IsVolumeStatus};
 ghost use Rattle.saddlemug.specs.Statuses.{start_status};
 
 use crate::status::refusal_status;
@@ -30,6 +30,7 @@ pub fn new_volume(
 ) -> Result<Volume<MemAdapter<SparseDisk>>, NtStatus>
     ensures volume { IfOk result (IsNewVolume text.now partition) }
     ensures fault { IfErr result (λ status. status ≢ Success) }
+    ensures why { IfErr result (IsVolumeStatus text.now partition) }
 {
     let config = config_of(alloc, text)?;
     volume_of(alloc, config, partition)
@@ -43,6 +44,7 @@ pub fn new_volume(
 pub fn new_stack(alloc: Global, text: &[u8]) -> Result<Stack<MemAdapter<SparseDisk>>, NtStatus>
     ensures stack { IfOk result (IsNewStack text.now) }
     ensures fault { IfErr result (λ status. status ≢ Success) }
+    ensures why { IfErr result (IsStackStatus text.now) }
 {
     let config = config_of(alloc, text)?;
     stack_of(alloc, config)
@@ -57,6 +59,7 @@ fn config_of(alloc: Global, text: &[u8]) -> Result<Config, NtStatus>
     ensures settings { IfOk result (AreSettingsOf text.now) }
     ensures in_range { IfOk result AreInRange }
     ensures fault { IfErr result (λ status. status ≢ Success) }
+    ensures why { IfErr result (IsConfigStatus text.now) }
 {
     match settings_of(alloc, text) {
         Ok(config) => Ok(config),
@@ -78,6 +81,7 @@ fn volume_of(
     requires { AreInRange config }
     ensures volume { IfOk result (IsVolumeOf config partition) }
     ensures fault { IfErr result (λ status. status ≢ Success) }
+    ensures why { IfErr result (IsOpenStatus config partition) }
 {
     match open(alloc, config, partition) {
         Ok(volume) => Ok(volume),
@@ -95,6 +99,7 @@ fn stack_of(alloc: Global, config: Config) -> Result<Stack<MemAdapter<SparseDisk
     requires { AreInRange config }
     ensures stack { IfOk result (IsFirstOf config) }
     ensures fault { IfErr result (λ status. status ≢ Success) }
+    ensures why { IfErr result (IsStartStatus config) }
 {
     match start(alloc, config) {
         Ok(stack) => Ok(stack),

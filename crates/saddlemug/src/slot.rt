@@ -1,7 +1,9 @@
 //! Room for what C holds.
 
-ghost use Rattle.std.specs.Prelude.{◌≡◌, Option, Some, None, IsSome, MatchBool, nat_eq};
+ghost use Rattle.std.specs.Prelude.{◌≡◌, ◌⊎◌, Option, Some, None, IsSome, MatchBool, nat_eq};
 ghost use Rattle.std.specs.Coded.{coded_option};
+ghost use Rattle.ntstatus.specs.Codes.{value_of};
+ghost use Rattle.ntstatus.specs.declared.NtStatus.TheVariants.{InsufficientResources};
 ghost use Rattle.saddlemug.specs.declared.held.Held.{Held};
 
 use crate::held::Held;
@@ -70,7 +72,8 @@ impl Slot {
     /// is then still empty.
     pub fn fill(&mut self, alloc: Global, held: Held) -> u32
         requires { self.old.held ≡ None }
-        ensures { MatchBool (nat_eq result 0) (self.new.held ≡ Some held) (self.new.held ≡ None) }
+        ensures held { MatchBool (nat_eq result 0) (self.new.held ≡ Some held) (self.new.held ≡ None) }
+        ensures status { (result ≡ 0) ⊎ (result ≡ value_of InsufficientResources) }
     {
         match Box::new(alloc, held) {
             Ok(held) => {

@@ -1,9 +1,10 @@
 //! What C calls on a whole stack.
 
-ghost use Rattle.std.specs.Prelude.{◌≡◌, None, Some, MatchBool, nat_eq};
+ghost use Rattle.std.specs.Prelude.{◌≡◌, ◌⊎◌, None, Some, MatchBool, nat_eq};
 ghost use Rattle.saddlemug.specs.Holding.{HoldsAnyStack, HoldsStack};
-ghost use Rattle.saddlemug.specs.Opened.{IsNewStack};
-ghost use Rattle.saddlemug.specs.Stepping.{IsNotStepped, Steps, TellsAnswer, TellsLabel, told_if};
+ghost use Rattle.saddlemug.specs.Opened.{IsNewStack, IsStackStatus};
+ghost use Rattle.saddlemug.specs.Statuses.{IsNumberOfStatus};
+ghost use Rattle.saddlemug.specs.Stepping.{IsNotStepped, IsStepStatus, Steps, TellsAnswer, TellsLabel, told_if};
 
 use crate::events::{StackEvent, StackReply};
 use crate::held::Held;
@@ -18,7 +19,8 @@ use std::alloc::Global;
 #[unsafe(no_mangle)]
 pub extern "C" fn saddlemug_stack_open(alloc: Global, slot: &mut Slot, settings: &[u8]) -> u32
     requires { slot.old.held ≡ None }
-    ensures { MatchBool (nat_eq result 0) (HoldsStack (IsNewStack settings.now) slot.new.held) (slot.new.held ≡ None) }
+    ensures held { MatchBool (nat_eq result 0) (HoldsStack (IsNewStack settings.now) slot.new.held) (slot.new.held ≡ None) }
+    ensures status { (result ≡ 0) ⊎ IsNumberOfStatus (IsStackStatus settings.now) result }
 {
     match new_stack(alloc, settings) {
         Ok(stack) => slot.fill(alloc, Held::Stack(stack)),
@@ -39,6 +41,7 @@ pub extern "C" fn saddlemug_stack_step(
     requires { HoldsAnyStack slot.old.held }
     ensures held { HoldsAnyStack slot.new.held }
     ensures steps { HoldsStack (λ old. HoldsStack (λ new. MatchBool (nat_eq result 0) (Steps old event.now bytes.now reply.new new) (IsNotStepped old new)) slot.new.held) slot.old.held }
+    ensures status { (result ≡ 0) ⊎ IsNumberOfStatus (IsStepStatus event.now bytes.now) result }
 {
     let mut held = slot.take(alloc);
     let outcome = held.step(alloc, event, bytes);

@@ -4,7 +4,8 @@ ghost use Rattle.std.specs.Prelude.{◌≡◌, ◌⊎◌, ◌*◌, ⊤, None, Ma
 ghost use Rattle.volume.specs.Calls.{AreInBounds, IsFault, IsSameDisk, Reads, Writes};
 ghost use Rattle.saddlemug.specs.Calls.{IsNumberOf, IsReadFault, IsWriteFault};
 ghost use Rattle.saddlemug.specs.Holding.{HoldsAnyVolume, HoldsVolume};
-ghost use Rattle.saddlemug.specs.Opened.{IsNewVolume};
+ghost use Rattle.saddlemug.specs.Opened.{IsNewVolume, IsVolumeStatus};
+ghost use Rattle.saddlemug.specs.Statuses.{IsNumberOfStatus};
 
 use crate::held::Held;
 use crate::opening::new_volume;
@@ -33,7 +34,8 @@ pub extern "C" fn saddlemug_open(
     partition: u8,
 ) -> u32
     requires { slot.old.held ≡ None }
-    ensures { MatchBool (nat_eq result 0) (HoldsVolume (IsNewVolume settings.now partition) slot.new.held) (slot.new.held ≡ None) }
+    ensures held { MatchBool (nat_eq result 0) (HoldsVolume (IsNewVolume settings.now partition) slot.new.held) (slot.new.held ≡ None) }
+    ensures status { (result ≡ 0) ⊎ IsNumberOfStatus (IsVolumeStatus settings.now partition) result }
 {
     match new_volume(alloc, settings, partition) {
         Ok(volume) => slot.fill(alloc, Held::Volume(volume)),
