@@ -20,8 +20,8 @@ const PACKETS: u128 = 1 << 17;
 /// Requests that may be submitted in all, at most: packets below then have numbers.
 const MOST: u128 = 1 << 63;
 
-impl<D: Device> Device for Disk<D> {
-    type Room = DiskRoom<D::Room>;
+impl<R: Drop, D: Device<Room = R>> Device for Disk<D, R> {
+    type Room = DiskRoom<R>;
 
     const TAKES_SRB: bool = false;
 
@@ -55,7 +55,7 @@ impl<D: Device> Device for Disk<D> {
         (self.device.most() / PACKETS).min(MOST)
     }
 
-    fn reserve(&mut self, request: &Request) -> Result<DiskRoom<D::Room>, AllocError> {
+    fn reserve(&mut self, request: &Request) -> Result<DiskRoom<R>, AllocError> {
         let parts = self.reserve_parts(request)?;
         let Ok(slot) = self.table.add_slot() else {
             self.free_parts(parts);
@@ -68,7 +68,7 @@ impl<D: Device> Device for Disk<D> {
         })
     }
 
-    fn submit(&mut self, irp: Irp, room: DiskRoom<D::Room>) -> usize {
+    fn submit(&mut self, irp: Irp, room: DiskRoom<R>) -> usize {
         let DiskRoom {
             request,
             slot,
@@ -80,7 +80,7 @@ impl<D: Device> Device for Disk<D> {
         slot
     }
 
-    fn free(&mut self, room: DiskRoom<D::Room>) {
+    fn free(&mut self, room: DiskRoom<R>) {
         let DiskRoom {
             request: _,
             slot,
@@ -126,7 +126,7 @@ impl<D: Device> Device for Disk<D> {
         self.take_withdrawn();
     }
 
-    fn take_done(&mut self) -> Option<(Climb, DiskRoom<D::Room>)> {
+    fn take_done(&mut self) -> Option<(Climb, DiskRoom<R>)> {
         let (slot, transfer) = self.table.take_ended()?;
         Some(transfer.complete(&self.table.sizes, slot))
     }

@@ -38,15 +38,15 @@ pub struct Sizes {
     pub disk_sectors: u64,
 }
 
-/// The class driver over a port.
-pub struct Disk<D: Device> {
+/// The class driver over a port, whose rooms are `R`.
+pub struct Disk<D, R: Drop> {
     alloc: Global,
     device: D,
-    table: Table<D::Room>,
+    table: Table<R>,
 }
 
 // By hand, so that no crate above proves it again, as it would a derived one.
-impl<D: Device> Drop for Disk<D> {
+impl<D: Drop, R: Drop> Drop for Disk<D, R> {
     fn drop(self) {
         let Disk {
             alloc: _,
@@ -56,14 +56,14 @@ impl<D: Device> Drop for Disk<D> {
     }
 }
 
-impl<D: Device> Disk<D> {
+impl<R: Drop, D: Device<Room = R>> Disk<D, R> {
     /// The class driver over a port to which nothing was submitted yet, with sectors of so many bytes. It takes no memory.
-    pub fn new(alloc: Global, device: D, sector_size: u32) -> Disk<D>
+    pub fn new(alloc: Global, device: D, sector_size: u32) -> Disk<D, R>
         requires device { IsFreshPort (D.rooms_out device) (D.view device) }
         requires takes { TakesParts D.TAKES_SRB D.STACK_SIZE }
         requires size { (D.view device).rules.sector_size ≡ sector_size }
-        ensures rooms { ⟦<Disk<D> as Device>⟧.rooms_out result [] }
-        ensures opening { ⟦<Disk<D> as Device>⟧.view result ≡ opening_over (D.view device) }
+        ensures rooms { ⟦<Disk<D, R> as Device>⟧.rooms_out result [] }
+        ensures opening { ⟦<Disk<D, R> as Device>⟧.view result ≡ opening_over (D.view device) }
     {
         let sizes = Sizes {
             sector_size,

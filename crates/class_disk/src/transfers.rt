@@ -55,18 +55,18 @@ fn data_buffer(alloc: Global, kind: Kind, length: usize) -> Result<Vec<u8>, Allo
     }
 }
 
-impl<D: Device> Disk<D> {
+impl<R: Drop, D: Device<Room = R>> Disk<D, R> {
     /// Places for one part.
-    fn reserve_part(&mut self, request: &Request) -> Result<Part<D::Room>, AllocError>
-        requires in_order { (rooms : List D.Room) × D.rooms_out self.old.device rooms }
+    fn reserve_part(&mut self, request: &Request) -> Result<Part<R>, AllocError>
+        requires in_order { (rooms : List R) × D.rooms_out self.old.device rooms }
         requires bounded { IsBounded (D.view self.old.device).rules request.now }
         requires small { request.now.extent.count * self.old.table.sizes.sector_size < 2 ^ 64 }
         ensures table { self.new.table ≡ self.old.table }
         ensures reserves { Reserves (D.view self.old.device) (D.view self.new.device) }
         ensures unless_write { request.now.kind ≢ Write → D.view self.new.device ≡ D.view self.old.device }
         ensures part { IfOk result (λ part. IsNewPart D.request_of D.ready self.old.table.sizes.sector_size request.now part) }
-        ensures rooms { IfOk result (λ part. (rooms : List D.Room) → D.rooms_out self.old.device rooms → D.rooms_out self.new.device (rooms_of (part ∷ []) ++ rooms)) }
-        ensures refused { OnErr result ((rooms : List D.Room) → D.rooms_out self.old.device rooms → D.rooms_out self.new.device rooms) }
+        ensures rooms { IfOk result (λ part. (rooms : List R) → D.rooms_out self.old.device rooms → D.rooms_out self.new.device (rooms_of (part ∷ []) ++ rooms)) }
+        ensures refused { OnErr result ((rooms : List R) → D.rooms_out self.old.device rooms → D.rooms_out self.new.device rooms) }
     {
         let length = byte_count(&self.table.sizes, request);
         let data = data_buffer(self.alloc, request.kind, length)?;
@@ -85,11 +85,11 @@ impl<D: Device> Disk<D> {
     }
 
     /// Gives the rooms of parts back.
-    pub(crate) fn free_parts(&mut self, mut parts: Vec<Part<D::Room>>)
-        requires in_order { (rooms : List D.Room) × D.rooms_out self.old.device (rooms_of parts.items ++ rooms) }
+    pub(crate) fn free_parts(&mut self, mut parts: Vec<Part<R>>)
+        requires in_order { (rooms : List R) × D.rooms_out self.old.device (rooms_of parts.items ++ rooms) }
         requires here { All IsHere parts.items }
         ensures table { self.new.table ≡ self.old.table }
-        ensures rooms { (rooms : List D.Room) → D.rooms_out self.old.device (rooms_of parts.items ++ rooms) → D.rooms_out self.new.device rooms }
+        ensures rooms { (rooms : List R) → D.rooms_out self.old.device (rooms_of parts.items ++ rooms) → D.rooms_out self.new.device rooms }
         ensures same { D.view self.new.device ≡ D.view self.old.device }
     {
         while let Some(part) = parts.pop() {
@@ -101,9 +101,9 @@ impl<D: Device> Disk<D> {
     fn add_parts(
         &mut self,
         request: &Request,
-        parts: &mut Vec<Part<D::Room>>,
+        parts: &mut Vec<Part<R>>,
     ) -> Result<(), AllocError>
-        requires in_order { (rooms : List D.Room) × D.rooms_out self.old.device rooms }
+        requires in_order { (rooms : List R) × D.rooms_out self.old.device rooms }
         requires cuts { CanCut self.old.table.sizes (D.view self.old.device).rules request.now }
         requires none { parts.old.items ≡ [] }
         requires places { part_count_of self.old.table.sizes.max_transfer request.now ≤ vec_capacity parts.old }
@@ -112,7 +112,7 @@ impl<D: Device> Disk<D> {
         ensures unless_write { request.now.kind ≢ Write → D.view self.new.device ≡ D.view self.old.device }
         ensures count { OnOk result (length parts.new.items ≡ part_count_of self.old.table.sizes.max_transfer request.now) }
         ensures parts { AreNewParts D.request_of D.ready self.old.table.sizes request.now (length parts.new.items) parts.new.items }
-        ensures rooms { (rooms : List D.Room) → D.rooms_out self.old.device rooms → D.rooms_out self.new.device (rooms_of parts.new.items ++ rooms) }
+        ensures rooms { (rooms : List R) → D.rooms_out self.old.device rooms → D.rooms_out self.new.device (rooms_of parts.new.items ++ rooms) }
     {
         for k in 0..part_count(&self.table.sizes, request) {
             let below = part_request(&self.table.sizes, request, k);
@@ -126,15 +126,15 @@ impl<D: Device> Disk<D> {
     pub(crate) fn reserve_parts(
         &mut self,
         request: &Request,
-    ) -> Result<Vec<Part<D::Room>>, AllocError>
-        requires in_order { (rooms : List D.Room) × D.rooms_out self.old.device rooms }
+    ) -> Result<Vec<Part<R>>, AllocError>
+        requires in_order { (rooms : List R) × D.rooms_out self.old.device rooms }
         requires cuts { CanCut self.old.table.sizes (D.view self.old.device).rules request.now }
         ensures table { self.new.table ≡ self.old.table }
         ensures reserves { Reserves (D.view self.old.device) (D.view self.new.device) }
         ensures unless_write { request.now.kind ≢ Write → D.view self.new.device ≡ D.view self.old.device }
         ensures parts { IfOk result (λ parts. AreNewParts D.request_of D.ready self.old.table.sizes request.now (part_count_of self.old.table.sizes.max_transfer request.now) parts.items) }
-        ensures rooms { IfOk result (λ parts. (rooms : List D.Room) → D.rooms_out self.old.device rooms → D.rooms_out self.new.device (rooms_of parts.items ++ rooms)) }
-        ensures refused { OnErr result ((rooms : List D.Room) → D.rooms_out self.old.device rooms → D.rooms_out self.new.device rooms) }
+        ensures rooms { IfOk result (λ parts. (rooms : List R) → D.rooms_out self.old.device rooms → D.rooms_out self.new.device (rooms_of parts.items ++ rooms)) }
+        ensures refused { OnErr result ((rooms : List R) → D.rooms_out self.old.device rooms → D.rooms_out self.new.device rooms) }
     {
         let count = part_count(&self.table.sizes, request) as usize;
         let mut parts = Vec::with_capacity(self.alloc, count)?;
@@ -150,11 +150,11 @@ impl<D: Device> Disk<D> {
 
     /// Sends a part for the first time.
     fn send_part(&mut self, id: PartId)
-        requires in_order { (rooms : List D.Room) × (o : Opened D.Room) × (part : Part D.Room) × (place : Place D.Room)
+        requires in_order { (rooms : List R) × (o : Opened R) × (part : Part R) × (place : Place R)
             × CanSendPart D.request_of D.ready (D.rooms_out self.old.device) D.TAKES_SRB D.STACK_SIZE (D.view self.old.device) (books_of self.old.table) id.slot id.part rooms o part place }
-        ensures sends { (o : Opened D.Room) (part : Part D.Room) (place : Place D.Room) → open_at id.slot (books_of self.old.table).opens ≡ Some o → slice_get o.parts id.part ≡ Some part → part.progress ≡ Ready place
+        ensures sends { (o : Opened R) (part : Part R) (place : Place R) → open_at id.slot (books_of self.old.table).opens ≡ Some o → slice_get o.parts id.part ≡ Some part → part.progress ≡ Ready place
             → SendsDown (D.view self.old.device) (books_of self.old.table) id.slot id.part o part place (D.view self.new.device) (books_of self.new.table) }
-        ensures rooms { (o : Opened D.Room) (part : Part D.Room) (place : Place D.Room) (rooms : List D.Room) → open_at id.slot (books_of self.old.table).opens ≡ Some o → slice_get o.parts id.part ≡ Some part → part.progress ≡ Ready place
+        ensures rooms { (o : Opened R) (part : Part R) (place : Place R) (rooms : List R) → open_at id.slot (books_of self.old.table).opens ≡ Some o → slice_get o.parts id.part ≡ Some part → part.progress ≡ Ready place
             → D.rooms_out self.old.device (place.room ∷ rooms) → D.rooms_out self.new.device rooms }
     {
         let Sending { irp, room } = self.table.send(id);
@@ -164,8 +164,8 @@ impl<D: Device> Disk<D> {
 
     /// Sends all parts of the request in a slot, in rising order.
     pub(crate) fn send_parts(&mut self, slot: usize)
-        requires { (rooms : List (DiskRoom D.Room)) × IsOpening D.request_of D.ready (D.rooms_out self.old.device) D.TAKES_SRB D.STACK_SIZE (D.view self.old.device) (books_of self.old.table) slot 0 rooms }
-        ensures { (first : State) (labels : List DeviceLabel) (rooms : List (DiskRoom D.Room)) → OpeningSoFar (D.view self.old.device) (books_of self.old.table) first labels
+        requires { (rooms : List (DiskRoom R)) × IsOpening D.request_of D.ready (D.rooms_out self.old.device) D.TAKES_SRB D.STACK_SIZE (D.view self.old.device) (books_of self.old.table) slot 0 rooms }
+        ensures { (first : State) (labels : List DeviceLabel) (rooms : List (DiskRoom R)) → OpeningSoFar (D.view self.old.device) (books_of self.old.table) first labels
             → IsOpening D.request_of D.ready (D.rooms_out self.old.device) D.TAKES_SRB D.STACK_SIZE (D.view self.old.device) (books_of self.old.table) slot 0 rooms
             → SendsAll (D.rooms_out self.new.device) D.TAKES_SRB D.STACK_SIZE first labels (D.view self.old.device) (books_of self.old.table) slot (D.view self.new.device) (books_of self.new.table) rooms }
     {
@@ -176,7 +176,7 @@ impl<D: Device> Disk<D> {
 
     /// Asks the layer below, which has nothing to give: then it is settled.
     pub(crate) fn settle(&mut self)
-        requires { (first : State) × (labels : List DeviceLabel) × (rooms : List (DiskRoom D.Room)) × IsMidway (D.rooms_out self.old.device) D.TAKES_SRB D.STACK_SIZE IsNothing first labels (D.view self.old.device) (books_of self.old.table) rooms }
+        requires { (first : State) × (labels : List DeviceLabel) × (rooms : List (DiskRoom R)) × IsMidway (D.rooms_out self.old.device) D.TAKES_SRB D.STACK_SIZE IsNothing first labels (D.view self.old.device) (books_of self.old.table) rooms }
         ensures { FindsNone (D.rooms_out self.old.device) (D.rooms_out self.new.device) (D.view self.old.device) (books_of self.old.table) (D.view self.new.device) (books_of self.new.table) }
     {
         if let Some(_ended) = self.device.take_done() {
@@ -185,12 +185,12 @@ impl<D: Device> Disk<D> {
     }
 
     /// Sends a part again, with the SRB that came back busy.
-    fn send_again(&mut self, id: PartId, payload: Payload, room: D::Room)
-        requires in_order { (rooms : List D.Room) × (o : Opened D.Room) × (part : Part D.Room)
+    fn send_again(&mut self, id: PartId, payload: Payload, room: R)
+        requires in_order { (rooms : List R) × (o : Opened R) × (part : Part R)
             × CanSendAgain D.request_of D.ready (D.rooms_out self.old.device) D.TAKES_SRB D.STACK_SIZE (D.view self.old.device) (books_of self.old.table) id.slot id.part payload room rooms o part }
-        ensures sends { (o : Opened D.Room) (part : Part D.Room) → open_at id.slot (books_of self.old.table).opens ≡ Some o → slice_get o.parts id.part ≡ Some part
+        ensures sends { (o : Opened R) (part : Part R) → open_at id.slot (books_of self.old.table).opens ≡ Some o → slice_get o.parts id.part ≡ Some part
             → SendsDownAgain (D.view self.old.device) (books_of self.old.table) id.slot id.part payload o part (D.view self.new.device) (books_of self.new.table) }
-        ensures rooms { (rooms : List D.Room) → D.rooms_out self.old.device (room ∷ rooms) → D.rooms_out self.new.device rooms }
+        ensures rooms { (rooms : List R) → D.rooms_out self.old.device (room ∷ rooms) → D.rooms_out self.new.device rooms }
     {
         let irp = self.table.send_again(id, payload);
         let spot = self.device.submit(irp, room);
@@ -199,7 +199,7 @@ impl<D: Device> Disk<D> {
 
     /// Takes a packet whose piece came back, where there is one: its part is sent again, or has ended.
     fn take_one_returned(&mut self) -> bool
-        requires { (first : State) × (labels : List DeviceLabel) × (rooms : List (DiskRoom D.Room)) × IsMidway (D.rooms_out self.old.device) D.TAKES_SRB D.STACK_SIZE WasSent first labels (D.view self.old.device) (books_of self.old.table) rooms }
+        requires { (first : State) × (labels : List DeviceLabel) × (rooms : List (DiskRoom R)) × IsMidway (D.rooms_out self.old.device) D.TAKES_SRB D.STACK_SIZE WasSent first labels (D.view self.old.device) (books_of self.old.table) rooms }
         ensures { MatchBool result
             (TakesOne (D.rooms_out self.old.device) (D.rooms_out self.new.device) D.TAKES_SRB D.STACK_SIZE WasSent (D.view self.old.device) (books_of self.old.table) (D.view self.new.device) (books_of self.new.table))
             (FindsNone (D.rooms_out self.old.device) (D.rooms_out self.new.device) (D.view self.old.device) (books_of self.old.table) (D.view self.new.device) (books_of self.new.table)) }
@@ -230,7 +230,7 @@ impl<D: Device> Disk<D> {
 
     /// Takes a packet that ended unsent, where there is one: its part has ended.
     fn take_one_withdrawn(&mut self) -> bool
-        requires { (first : State) × (labels : List DeviceLabel) × (rooms : List (DiskRoom D.Room)) × IsMidway (D.rooms_out self.old.device) D.TAKES_SRB D.STACK_SIZE NeverSent first labels (D.view self.old.device) (books_of self.old.table) rooms }
+        requires { (first : State) × (labels : List DeviceLabel) × (rooms : List (DiskRoom R)) × IsMidway (D.rooms_out self.old.device) D.TAKES_SRB D.STACK_SIZE NeverSent first labels (D.view self.old.device) (books_of self.old.table) rooms }
         ensures { MatchBool result
             (WithdrawsOne (D.rooms_out self.old.device) (D.rooms_out self.new.device) D.TAKES_SRB D.STACK_SIZE (D.view self.old.device) (books_of self.old.table) (D.view self.new.device) (books_of self.new.table))
             (FindsNone (D.rooms_out self.old.device) (D.rooms_out self.new.device) (D.view self.old.device) (books_of self.old.table) (D.view self.new.device) (books_of self.new.table)) }
@@ -258,7 +258,7 @@ impl<D: Device> Disk<D> {
 
     /// Takes all packets whose pieces came back.
     pub(crate) fn take_returned(&mut self)
-        requires { (first : State) × (labels : List DeviceLabel) × (rooms : List (DiskRoom D.Room)) × IsMidway (D.rooms_out self.old.device) D.TAKES_SRB D.STACK_SIZE WasSent first labels (D.view self.old.device) (books_of self.old.table) rooms }
+        requires { (first : State) × (labels : List DeviceLabel) × (rooms : List (DiskRoom R)) × IsMidway (D.rooms_out self.old.device) D.TAKES_SRB D.STACK_SIZE WasSent first labels (D.view self.old.device) (books_of self.old.table) rooms }
         ensures { TakesAll (D.rooms_out self.old.device) (D.rooms_out self.new.device) D.TAKES_SRB D.STACK_SIZE WasSent (D.view self.old.device) (books_of self.old.table) (D.view self.new.device) (books_of self.new.table) }
     {
         while self.take_one_returned() {}
@@ -266,7 +266,7 @@ impl<D: Device> Disk<D> {
 
     /// Takes all packets that ended unsent.
     pub(crate) fn take_withdrawn(&mut self)
-        requires { (first : State) × (labels : List DeviceLabel) × (rooms : List (DiskRoom D.Room)) × IsMidway (D.rooms_out self.old.device) D.TAKES_SRB D.STACK_SIZE NeverSent first labels (D.view self.old.device) (books_of self.old.table) rooms }
+        requires { (first : State) × (labels : List DeviceLabel) × (rooms : List (DiskRoom R)) × IsMidway (D.rooms_out self.old.device) D.TAKES_SRB D.STACK_SIZE NeverSent first labels (D.view self.old.device) (books_of self.old.table) rooms }
         ensures { WithdrawsAll (D.rooms_out self.old.device) (D.rooms_out self.new.device) D.TAKES_SRB D.STACK_SIZE (D.view self.old.device) (books_of self.old.table) (D.view self.new.device) (books_of self.new.table) }
     {
         while self.take_one_withdrawn() {}
@@ -274,11 +274,11 @@ impl<D: Device> Disk<D> {
 
     /// Cancels the packet of a part, where it is below.
     fn cancel_part(&mut self, id: PartId)
-        requires in_order { (rooms : List D.Room) × D.rooms_out self.old.device rooms }
-        requires part { (part : Part D.Room) × IsPartAt (books_of self.old.table) id.slot id.part part }
+        requires in_order { (rooms : List R) × D.rooms_out self.old.device rooms }
+        requires part { (part : Part R) × IsPartAt (books_of self.old.table) id.slot id.part part }
         ensures table { self.new.table ≡ self.old.table }
-        ensures rooms { (rooms : List D.Room) → D.rooms_out self.old.device rooms → D.rooms_out self.new.device rooms }
-        ensures cancels { (part : Part D.Room) → IsPartAt (books_of self.old.table) id.slot id.part part → CancelsBelow (D.view self.old.device) (below_by part.progress) (D.view self.new.device) }
+        ensures rooms { (rooms : List R) → D.rooms_out self.old.device rooms → D.rooms_out self.new.device rooms }
+        ensures cancels { (part : Part R) → IsPartAt (books_of self.old.table) id.slot id.part part → CancelsBelow (D.view self.old.device) (below_by part.progress) (D.view self.new.device) }
     {
         if let Some((number, spot)) = self.table.packet_below(id) {
             self.device.cancel_at(spot, number);
@@ -287,11 +287,11 @@ impl<D: Device> Disk<D> {
 
     /// Cancels the parts below of the request in a slot.
     pub(crate) fn cancel_parts(&mut self, slot: usize)
-        requires in_order { (rooms : List D.Room) × D.rooms_out self.old.device rooms }
-        requires is_open { (o : Opened D.Room) × (open_at slot (books_of self.old.table).opens ≡ Some o) }
+        requires in_order { (rooms : List R) × D.rooms_out self.old.device rooms }
+        requires is_open { (o : Opened R) × (open_at slot (books_of self.old.table).opens ≡ Some o) }
         ensures table { self.new.table ≡ self.old.table }
-        ensures rooms { (rooms : List D.Room) → D.rooms_out self.old.device rooms → D.rooms_out self.new.device rooms }
-        ensures cancels { (o : Opened D.Room) → open_at slot (books_of self.old.table).opens ≡ Some o → CancelsAll (D.view self.old.device) (map packet_of_part o.parts) (D.view self.new.device) }
+        ensures rooms { (rooms : List R) → D.rooms_out self.old.device rooms → D.rooms_out self.new.device rooms }
+        ensures cancels { (o : Opened R) → open_at slot (books_of self.old.table).opens ≡ Some o → CancelsAll (D.view self.old.device) (map packet_of_part o.parts) (D.view self.new.device) }
     {
         for part in 0..self.table.part_count(slot) {
             self.cancel_part(PartId { slot, part });

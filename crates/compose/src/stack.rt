@@ -9,22 +9,17 @@ ghost use Rattle.compose.specs.Right.{IsRight};
 ghost use Rattle.compose.specs.Opening.{IsFirstView, IsSpent};
 ghost use Rattle.compose.specs.Runs.{CarriesAll, IsLawful, StopsAfter};
 
-use crate::start::manager_over;
+use crate::start::{Manager, manager_over};
 use crate::{Answer, Event, Reply, RunStopped, Settings, Shown, StartFault, events};
-use class_disk::Disk;
 use device::Label;
-use hold_filter::Filter;
-use io_manager::IoManager;
 use miniport::Adapter;
-use partition::Partitions;
-use port::Port;
 use std::alloc::Global;
 use std::marker::Model;
 
 /// The device stack of one disk, with its handles and requests: partitions over a hold filter, the class driver of the
 /// disk, and a port.
 pub struct Stack<A: Adapter> {
-    manager: IoManager<Partitions<Filter<Disk<Port<A>>>>>,
+    manager: Manager<A>,
 }
 
 // By hand, so that no crate above proves it again, as it would a derived one.

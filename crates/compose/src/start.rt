@@ -7,12 +7,12 @@ ghost use Rattle.probe.specs.Probing.{IsProbed, IsReadBy, asked_by_probe};
 ghost use Rattle.compose.specs.Opening.{AreInRange, IsFirstView, IsSpent, IsStartFault};
 
 use crate::{Settings, StartFault};
-use class_disk::Disk;
+use class_disk::{Disk, DiskRoom};
 use hold_filter::Filter;
 use io_manager::{IoManager, Limits};
 use miniport::Adapter;
 use partition::Partitions;
-use port::Port;
+use port::{Port, PortRoom};
 use probe::{ProbeFault, Probed, probe};
 use std::alloc::{AllocError, Global};
 
@@ -77,6 +77,10 @@ fn prepare<A: Adapter>(
     Ok(probed)
 }
 
+/// The manager of the partitions over a hold filter, the class driver and a port.
+pub(crate) type Manager<A> =
+    IoManager<Partitions<Filter<Disk<Port<A>, PortRoom>, DiskRoom<PortRoom>>>>;
+
 /// The I/O manager of a stack over an adapter, as [`crate::Stack::start`].
 ///
 /// # Errors
@@ -86,7 +90,7 @@ pub(crate) fn manager_over<A: Adapter>(
     alloc: Global,
     mut adapter: A,
     settings: Settings,
-) -> Result<IoManager<Partitions<Filter<Disk<Port<A>>>>>, StartFault>
+) -> Result<Manager<A>, StartFault>
     requires idle { IsIdle (A.view adapter) }
     requires unasked { (A.view adapter).accepted ≡ 0 }
     ensures view { IfOk result (IsFirstView (A.view adapter) settings) }

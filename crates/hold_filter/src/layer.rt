@@ -32,12 +32,12 @@ fn hand_up<R>(held: Held<R>, status: NtStatus) -> (Climb, FilterRoom<R>)
     (complete(irp, status, 0), FilterRoom { below: room })
 }
 
-impl<D: Device> Filter<D> {
+impl<R: Drop, D: Device<Room = R>> Filter<D, R> {
     /// Cancels the packet of this number that is held and has this spot; false where none does. At most three entries of the
     /// queue are visited.
     pub fn cancel_held(&mut self, spot: usize, number: u128) -> bool
-        requires in_order { (rooms : List D.Room) × IsInHand D.request_of D.ready D.STACK_SIZE D.TAKES_SRB (D.rooms_out self.old.device) (D.view self.old.device) (books_of self.old.table) rooms }
-        ensures rooms { (rooms : List D.Room) → IsInHand D.request_of D.ready D.STACK_SIZE D.TAKES_SRB (D.rooms_out self.old.device) (D.view self.old.device) (books_of self.old.table) rooms → IsInHand D.request_of D.ready D.STACK_SIZE D.TAKES_SRB (D.rooms_out self.new.device) (D.view self.new.device) (books_of self.new.table) rooms }
+        requires in_order { (rooms : List R) × IsInHand D.request_of D.ready D.STACK_SIZE D.TAKES_SRB (D.rooms_out self.old.device) (D.view self.old.device) (books_of self.old.table) rooms }
+        ensures rooms { (rooms : List R) → IsInHand D.request_of D.ready D.STACK_SIZE D.TAKES_SRB (D.rooms_out self.old.device) (D.view self.old.device) (books_of self.old.table) rooms → IsInHand D.request_of D.ready D.STACK_SIZE D.TAKES_SRB (D.rooms_out self.new.device) (D.view self.new.device) (books_of self.new.table) rooms }
         ensures device { D.view self.new.device ≡ D.view self.old.device }
         ensures cancels { MatchBool result (CancelsHeld D.request_of (D.view self.old.device) (books_of self.old.table) spot number (books_of self.new.table)) (CancelsNone (books_of self.old.table) spot number (books_of self.new.table)) }
         ensures visits { VisitsAtMost 3 (visits_of self.old.table) (visits_of self.new.table) }
@@ -50,8 +50,8 @@ impl<D: Device> Filter<D> {
 
     /// Sends the packet that was held longest below, where it may go.
     fn release_one(&mut self) -> bool
-        requires { (rooms : List D.Room) × FilterKept D.request_of D.ready D.STACK_SIZE D.TAKES_SRB (D.rooms_out self.old.device) (D.view self.old.device) (books_of self.old.table) rooms }
-        ensures rooms { (rooms : List D.Room) → FilterKept D.request_of D.ready D.STACK_SIZE D.TAKES_SRB (D.rooms_out self.old.device) (D.view self.old.device) (books_of self.old.table) rooms → FilterKept D.request_of D.ready D.STACK_SIZE D.TAKES_SRB (D.rooms_out self.new.device) (D.view self.new.device) (books_of self.new.table) rooms }
+        requires { (rooms : List R) × FilterKept D.request_of D.ready D.STACK_SIZE D.TAKES_SRB (D.rooms_out self.old.device) (D.view self.old.device) (books_of self.old.table) rooms }
+        ensures rooms { (rooms : List R) → FilterKept D.request_of D.ready D.STACK_SIZE D.TAKES_SRB (D.rooms_out self.old.device) (D.view self.old.device) (books_of self.old.table) rooms → FilterKept D.request_of D.ready D.STACK_SIZE D.TAKES_SRB (D.rooms_out self.new.device) (D.view self.new.device) (books_of self.new.table) rooms }
         ensures releases { Releases (view_of D.request_of (D.view self.old.device) (books_of self.old.table)) (view_of D.request_of (D.view self.new.device) (books_of self.new.table)) }
         ensures spares { Spares (D.view self.old.device) (books_of self.old.table) (D.view self.new.device) (books_of self.new.table) }
         ensures goes { MatchBool result (LetsOneGo (books_of self.old.table) (books_of self.new.table)) (NoneMayGo (D.view self.new.device) (books_of self.new.table)) }
@@ -84,8 +84,8 @@ impl<D: Device> Filter<D> {
 
     /// Sends packets that are held below, first in, first out, as long as one may go.
     fn release(&mut self)
-        requires { (rooms : List D.Room) × FilterKept D.request_of D.ready D.STACK_SIZE D.TAKES_SRB (D.rooms_out self.old.device) (D.view self.old.device) (books_of self.old.table) rooms }
-        ensures rooms { (rooms : List D.Room) → FilterKept D.request_of D.ready D.STACK_SIZE D.TAKES_SRB (D.rooms_out self.old.device) (D.view self.old.device) (books_of self.old.table) rooms → IsInHand D.request_of D.ready D.STACK_SIZE D.TAKES_SRB (D.rooms_out self.new.device) (D.view self.new.device) (books_of self.new.table) rooms }
+        requires { (rooms : List R) × FilterKept D.request_of D.ready D.STACK_SIZE D.TAKES_SRB (D.rooms_out self.old.device) (D.view self.old.device) (books_of self.old.table) rooms }
+        ensures rooms { (rooms : List R) → FilterKept D.request_of D.ready D.STACK_SIZE D.TAKES_SRB (D.rooms_out self.old.device) (D.view self.old.device) (books_of self.old.table) rooms → IsInHand D.request_of D.ready D.STACK_SIZE D.TAKES_SRB (D.rooms_out self.new.device) (D.view self.new.device) (books_of self.new.table) rooms }
         ensures releases { Releases (view_of D.request_of (D.view self.old.device) (books_of self.old.table)) (view_of D.request_of (D.view self.new.device) (books_of self.new.table)) }
         ensures spares { Spares (D.view self.old.device) (books_of self.old.table) (D.view self.new.device) (books_of self.new.table) }
     {
@@ -93,8 +93,8 @@ impl<D: Device> Filter<D> {
     }
 }
 
-impl<D: Device> Device for Filter<D> {
-    type Room = FilterRoom<D::Room>;
+impl<R: Drop, D: Device<Room = R>> Device for Filter<D, R> {
+    type Room = FilterRoom<R>;
 
     const TAKES_SRB: bool = D::TAKES_SRB;
 
@@ -132,7 +132,7 @@ impl<D: Device> Device for Filter<D> {
         self.device.most()
     }
 
-    fn reserve(&mut self, request: &Request) -> Result<FilterRoom<D::Room>, AllocError> {
+    fn reserve(&mut self, request: &Request) -> Result<FilterRoom<R>, AllocError> {
         let below = self.device.reserve(request)?;
         let Ok(()) = self.table.add_place() else {
             self.device.free(below);
@@ -141,14 +141,14 @@ impl<D: Device> Device for Filter<D> {
         Ok(FilterRoom { below })
     }
 
-    fn submit(&mut self, irp: Irp, room: FilterRoom<D::Room>) -> usize {
+    fn submit(&mut self, irp: Irp, room: FilterRoom<R>) -> usize {
         let FilterRoom { below } = room;
         let spot = self.table.take_in(irp, below);
         self.release();
         spot
     }
 
-    fn free(&mut self, room: FilterRoom<D::Room>) {
+    fn free(&mut self, room: FilterRoom<R>) {
         let FilterRoom { below } = room;
         self.device.free(below);
         self.table.remove_place();
@@ -188,7 +188,7 @@ impl<D: Device> Device for Filter<D> {
         self.device.drain();
     }
 
-    fn take_done(&mut self) -> Option<(Climb, FilterRoom<D::Room>)> {
+    fn take_done(&mut self) -> Option<(Climb, FilterRoom<R>)> {
         if let Some((held, status)) = self.table.take_ended() {
             return Some(hand_up(held, status));
         }
@@ -207,7 +207,7 @@ impl<D: Device> Device for Filter<D> {
     ghost in_order = { λ filter rooms out. out.orderly };
 }
 
-impl<D: Device> Hold for Filter<D> {
+impl<R: Drop, D: Device<Room = R>> Hold for Filter<D, R> {
     fn pause(&mut self) {
         self.table.pause();
     }

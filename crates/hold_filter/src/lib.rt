@@ -30,14 +30,14 @@ pub struct FilterRoom<R> {
     below: R,
 }
 
-/// The filter over a device.
-pub struct Filter<D: Device> {
+/// The filter over a device, whose rooms are `R`.
+pub struct Filter<D, R> {
     device: D,
-    table: Table<D::Room>,
+    table: Table<R>,
 }
 
 // By hand, so that no crate above proves it again, as it would a derived one.
-impl<D: Device> Drop for Filter<D> {
+impl<D: Drop, R: Drop> Drop for Filter<D, R> {
     fn drop(self) {
         let Filter {
             device: _,
@@ -46,15 +46,15 @@ impl<D: Device> Drop for Filter<D> {
     }
 }
 
-impl<D: Device> Filter<D> {
+impl<R: Drop, D: Device<Room = R>> Filter<D, R> {
     /// The filter over a device to which nothing was submitted yet, with at most `window` requests below, one at least. It
     /// takes no memory.
-    pub fn new(alloc: Global, device: D, window: usize) -> Filter<D>
+    pub fn new(alloc: Global, device: D, window: usize) -> Filter<D, R>
         requires locations { 0 < D.STACK_SIZE }
         requires device { IsFreshBelow (D.rooms_out device) (D.view device) }
         requires some { 0 < window }
-        ensures rooms { ⟦<Filter<D> as Device>⟧.rooms_out result [] }
-        ensures opening { ⟦<Filter<D> as Device>⟧.view result ≡ opening_over window (D.view device) }
+        ensures rooms { ⟦<Filter<D, R> as Device>⟧.rooms_out result [] }
+        ensures opening { ⟦<Filter<D, R> as Device>⟧.view result ≡ opening_over window (D.view device) }
     {
         let table = Table::new(alloc, window);
         Filter { device, table }

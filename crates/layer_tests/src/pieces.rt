@@ -13,7 +13,7 @@ use disk::VecDisk;
 use irp::{Climb, Done, Driver, Irp, Payload};
 use miniport::MemAdapter;
 use ntstatus::NtStatus;
-use port::Port;
+use port::{Port, PortRoom};
 use sector::{Bytes, Extent};
 use std::alloc::{AllocError, Global};
 use std::process::Abort;
@@ -392,9 +392,9 @@ fn new_client() -> Client
 }
 
 /// A class driver over eight sectors of 512 bytes, sector 5 bad, with pieces of two sectors and two tags.
-fn disk(alloc: Global) -> Result<Disk<Port<MemAdapter<VecDisk>>>, AllocError>
-    ensures rooms { IfOk result (λ disk. ⟦<Disk<Port<MemAdapter<VecDisk>>> as Device>⟧.rooms_out disk []) }
-    ensures served { IfOk result (λ disk. IsServed (⟦<Disk<Port<MemAdapter<VecDisk>>> as Device>⟧.view disk) 1 false) }
+fn disk(alloc: Global) -> Result<Disk<Port<MemAdapter<VecDisk>>, PortRoom>, AllocError>
+    ensures rooms { IfOk result (λ disk. ⟦<Disk<Port<MemAdapter<VecDisk>>, PortRoom> as Device>⟧.rooms_out disk []) }
+    ensures served { IfOk result (λ disk. IsServed (⟦<Disk<Port<MemAdapter<VecDisk>>, PortRoom> as Device>⟧.view disk) 1 false) }
 {
     let bad = vec![in alloc; 5]?;
     let Ok(medium) = VecDisk::new(alloc, 512, 8, bad) else {

@@ -14,7 +14,7 @@ use hold_filter::Filter;
 use irp::{Climb, Done, Driver, Irp, Payload};
 use miniport::MemAdapter;
 use ntstatus::NtStatus;
-use port::Port;
+use port::{Port, PortRoom};
 use sector::Extent;
 use std::alloc::{AllocError, Global};
 use std::process::Abort;
@@ -164,11 +164,11 @@ fn cancel_at<D: Device>(device: &mut D, client: &Client, spot: usize, number: u6
 }
 
 /// Cancels what is held at a spot, with at most three visits of the queue; true where it was held.
-fn cancel_held<D: Device>(filter: &mut Filter<D>, client: &Client, spot: usize, number: u64) -> bool
-    requires rooms { ⟦<Filter<D> as Device>⟧.rooms_out filter.old [] }
-    requires holding { IsHolding (⟦<Filter<D> as Device>⟧.view filter.old) client.now.window client.now.next client.now.paused client.now.removed }
-    ensures rooms { ⟦<Filter<D> as Device>⟧.rooms_out filter.new [] }
-    ensures holding { IsHolding (⟦<Filter<D> as Device>⟧.view filter.new) client.now.window client.now.next client.now.paused client.now.removed }
+fn cancel_held<D: Device>(filter: &mut Filter<D, D::Room>, client: &Client, spot: usize, number: u64) -> bool
+    requires rooms { ⟦<Filter<D, D::Room> as Device>⟧.rooms_out filter.old [] }
+    requires holding { IsHolding (⟦<Filter<D, D::Room> as Device>⟧.view filter.old) client.now.window client.now.next client.now.paused client.now.removed }
+    ensures rooms { ⟦<Filter<D, D::Room> as Device>⟧.rooms_out filter.new [] }
+    ensures holding { IsHolding (⟦<Filter<D, D::Room> as Device>⟧.view filter.new) client.now.window client.now.next client.now.paused client.now.removed }
     ensures visits { VisitsAtMost 3 (visits_of filter.old.table) (visits_of filter.new.table) }
 {
     filter.cancel_held(spot, number as u128)
@@ -185,11 +185,11 @@ fn drain<D: Device>(device: &mut D, client: &mut Client)
     client.removed = true;
 }
 
-fn pause<D: Device>(rt: &impl Abort, filter: &mut Filter<D>, client: &mut Client)
-    requires rooms { ⟦<Filter<D> as Device>⟧.rooms_out filter.old [] }
-    requires holding { IsHolding (⟦<Filter<D> as Device>⟧.view filter.old) client.old.window client.old.next client.old.paused client.old.removed }
-    ensures rooms { ⟦<Filter<D> as Device>⟧.rooms_out filter.new [] }
-    ensures holding { IsHolding (⟦<Filter<D> as Device>⟧.view filter.new) client.new.window client.new.next client.new.paused client.new.removed }
+fn pause<D: Device>(rt: &impl Abort, filter: &mut Filter<D, D::Room>, client: &mut Client)
+    requires rooms { ⟦<Filter<D, D::Room> as Device>⟧.rooms_out filter.old [] }
+    requires holding { IsHolding (⟦<Filter<D, D::Room> as Device>⟧.view filter.old) client.old.window client.old.next client.old.paused client.old.removed }
+    ensures rooms { ⟦<Filter<D, D::Room> as Device>⟧.rooms_out filter.new [] }
+    ensures holding { IsHolding (⟦<Filter<D, D::Room> as Device>⟧.view filter.new) client.new.window client.new.next client.new.paused client.new.removed }
 {
     assert!(rt; !client.paused && !client.removed);
     filter.pause();
@@ -197,11 +197,11 @@ fn pause<D: Device>(rt: &impl Abort, filter: &mut Filter<D>, client: &mut Client
 }
 
 /// Ends a pause; nothing that has ended waits then.
-fn resume<D: Device>(rt: &impl Abort, filter: &mut Filter<D>, client: &mut Client)
-    requires rooms { ⟦<Filter<D> as Device>⟧.rooms_out filter.old [] }
-    requires holding { IsHolding (⟦<Filter<D> as Device>⟧.view filter.old) client.old.window client.old.next client.old.paused client.old.removed }
-    ensures rooms { ⟦<Filter<D> as Device>⟧.rooms_out filter.new [] }
-    ensures holding { IsHolding (⟦<Filter<D> as Device>⟧.view filter.new) client.new.window client.new.next client.new.paused client.new.removed }
+fn resume<D: Device>(rt: &impl Abort, filter: &mut Filter<D, D::Room>, client: &mut Client)
+    requires rooms { ⟦<Filter<D, D::Room> as Device>⟧.rooms_out filter.old [] }
+    requires holding { IsHolding (⟦<Filter<D, D::Room> as Device>⟧.view filter.old) client.old.window client.old.next client.old.paused client.old.removed }
+    ensures rooms { ⟦<Filter<D, D::Room> as Device>⟧.rooms_out filter.new [] }
+    ensures holding { IsHolding (⟦<Filter<D, D::Room> as Device>⟧.view filter.new) client.new.window client.new.next client.new.paused client.new.removed }
 {
     assert!(rt; client.paused);
     let None = filter.take_done() else {
@@ -261,16 +261,16 @@ fn is_read(done: Done, number: u128) -> bool {
 fn carry_out<D: Device>(
     rt: &impl Abort,
     alloc: Global,
-    filter: &mut Filter<D>,
+    filter: &mut Filter<D, D::Room>,
     client: &mut Client,
     step: &Step,
 ) -> Result<bool, Fail>
     requires takes { D.TAKES_SRB ≡ true }
     requires locations { D.STACK_SIZE ≡ 1 }
-    requires rooms { ⟦<Filter<D> as Device>⟧.rooms_out filter.old [] }
-    requires holding { IsHolding (⟦<Filter<D> as Device>⟧.view filter.old) client.old.window client.old.next client.old.paused client.old.removed }
-    ensures rooms { OnOk result (⟦<Filter<D> as Device>⟧.rooms_out filter.new []) }
-    ensures holding { OnOk result (IsHolding (⟦<Filter<D> as Device>⟧.view filter.new) client.new.window client.new.next client.new.paused client.new.removed) }
+    requires rooms { ⟦<Filter<D, D::Room> as Device>⟧.rooms_out filter.old [] }
+    requires holding { IsHolding (⟦<Filter<D, D::Room> as Device>⟧.view filter.old) client.old.window client.old.next client.old.paused client.old.removed }
+    ensures rooms { OnOk result (⟦<Filter<D, D::Room> as Device>⟧.rooms_out filter.new []) }
+    ensures holding { OnOk result (IsHolding (⟦<Filter<D, D::Room> as Device>⟧.view filter.new) client.new.window client.new.next client.new.paused client.new.removed) }
 {
     match step {
         Step::Submit(kind, first, count) => {
@@ -327,16 +327,16 @@ fn carry_out<D: Device>(
 fn try_step<D: Device>(
     rt: &impl Abort,
     alloc: Global,
-    filter: &mut Filter<D>,
+    filter: &mut Filter<D, D::Room>,
     client: &mut Client,
     step: &Step,
 ) -> Result<(), Fail>
     requires takes { D.TAKES_SRB ≡ true }
     requires locations { D.STACK_SIZE ≡ 1 }
-    requires rooms { ⟦<Filter<D> as Device>⟧.rooms_out filter.old [] }
-    requires holding { IsHolding (⟦<Filter<D> as Device>⟧.view filter.old) client.old.window client.old.next client.old.paused client.old.removed }
-    ensures rooms { OnOk result (⟦<Filter<D> as Device>⟧.rooms_out filter.new []) }
-    ensures holding { OnOk result (IsHolding (⟦<Filter<D> as Device>⟧.view filter.new) client.new.window client.new.next client.new.paused client.new.removed) }
+    requires rooms { ⟦<Filter<D, D::Room> as Device>⟧.rooms_out filter.old [] }
+    requires holding { IsHolding (⟦<Filter<D, D::Room> as Device>⟧.view filter.old) client.old.window client.old.next client.old.paused client.old.removed }
+    ensures rooms { OnOk result (⟦<Filter<D, D::Room> as Device>⟧.rooms_out filter.new []) }
+    ensures holding { OnOk result (IsHolding (⟦<Filter<D, D::Room> as Device>⟧.view filter.new) client.new.window client.new.next client.new.paused client.new.removed) }
 {
     let as_wanted = carry_out(rt, alloc, filter, client, step)?;
     assert!(rt; as_wanted, "{step:?}");
@@ -347,16 +347,16 @@ fn try_step<D: Device>(
 fn try_all<D: Device>(
     rt: &impl Abort,
     alloc: Global,
-    filter: &mut Filter<D>,
+    filter: &mut Filter<D, D::Room>,
     client: &mut Client,
     steps: &[Step],
 ) -> Result<(), Fail>
     requires takes { D.TAKES_SRB ≡ true }
     requires locations { D.STACK_SIZE ≡ 1 }
-    requires rooms { ⟦<Filter<D> as Device>⟧.rooms_out filter.old [] }
-    requires holding { IsHolding (⟦<Filter<D> as Device>⟧.view filter.old) client.old.window client.old.next client.old.paused client.old.removed }
-    ensures rooms { OnOk result (⟦<Filter<D> as Device>⟧.rooms_out filter.new []) }
-    ensures holding { OnOk result (IsHolding (⟦<Filter<D> as Device>⟧.view filter.new) client.new.window client.new.next client.new.paused client.new.removed) }
+    requires rooms { ⟦<Filter<D, D::Room> as Device>⟧.rooms_out filter.old [] }
+    requires holding { IsHolding (⟦<Filter<D, D::Room> as Device>⟧.view filter.old) client.old.window client.old.next client.old.paused client.old.removed }
+    ensures rooms { OnOk result (⟦<Filter<D, D::Room> as Device>⟧.rooms_out filter.new []) }
+    ensures holding { OnOk result (IsHolding (⟦<Filter<D, D::Room> as Device>⟧.view filter.new) client.new.window client.new.next client.new.paused client.new.removed) }
 {
     for step in steps {
         try_step(rt, alloc, filter, client, step)?;
@@ -381,10 +381,10 @@ fn new_client(window: usize) -> Client
 }
 
 /// A filter over a port of four sectors, the last one bad, with two tags.
-fn filter(alloc: Global, window: usize) -> Result<Filter<Port<MemAdapter<VecDisk>>>, AllocError>
+fn filter(alloc: Global, window: usize) -> Result<Filter<Port<MemAdapter<VecDisk>>, PortRoom>, AllocError>
     requires { 0 < window }
-    ensures rooms { IfOk result (λ filter. ⟦<Filter<Port<MemAdapter<VecDisk>>> as Device>⟧.rooms_out filter []) }
-    ensures holding { IfOk result (λ filter. IsHolding (⟦<Filter<Port<MemAdapter<VecDisk>>> as Device>⟧.view filter) window 1 false false) }
+    ensures rooms { IfOk result (λ filter. ⟦<Filter<Port<MemAdapter<VecDisk>>, PortRoom> as Device>⟧.rooms_out filter []) }
+    ensures holding { IfOk result (λ filter. IsHolding (⟦<Filter<Port<MemAdapter<VecDisk>>, PortRoom> as Device>⟧.view filter) window 1 false false) }
 {
     let bad = vec![in alloc; 3]?;
     let Ok(disk) = VecDisk::new(alloc, 512, 4, bad) else {
@@ -572,16 +572,16 @@ fn removes_what_is_held(rt: HostRuntime) -> Result<(), Fail> {
 fn submit_many<D: Device>(
     rt: &impl Abort,
     alloc: Global,
-    filter: &mut Filter<D>,
+    filter: &mut Filter<D, D::Room>,
     client: &mut Client,
     count: u8,
 ) -> Result<usize, Fail>
     requires takes { D.TAKES_SRB ≡ true }
     requires locations { D.STACK_SIZE ≡ 1 }
-    requires rooms { ⟦<Filter<D> as Device>⟧.rooms_out filter.old [] }
-    requires holding { IsHolding (⟦<Filter<D> as Device>⟧.view filter.old) client.old.window client.old.next client.old.paused client.old.removed }
-    ensures rooms { OnOk result (⟦<Filter<D> as Device>⟧.rooms_out filter.new []) }
-    ensures holding { OnOk result (IsHolding (⟦<Filter<D> as Device>⟧.view filter.new) client.new.window client.new.next client.new.paused client.new.removed) }
+    requires rooms { ⟦<Filter<D, D::Room> as Device>⟧.rooms_out filter.old [] }
+    requires holding { IsHolding (⟦<Filter<D, D::Room> as Device>⟧.view filter.old) client.old.window client.old.next client.old.paused client.old.removed }
+    ensures rooms { OnOk result (⟦<Filter<D, D::Room> as Device>⟧.rooms_out filter.new []) }
+    ensures holding { OnOk result (IsHolding (⟦<Filter<D, D::Room> as Device>⟧.view filter.new) client.new.window client.new.next client.new.paused client.new.removed) }
 {
     for _ in 0..count {
         submit(rt, alloc, filter, client, Kind::Flush, 0, 0)?;
@@ -593,17 +593,17 @@ fn submit_many<D: Device>(
 fn serve<D: Device>(
     rt: &impl Abort,
     alloc: Global,
-    filter: &mut Filter<D>,
+    filter: &mut Filter<D, D::Room>,
     client: &mut Client,
     piece: u128,
     number: u128,
 ) -> Result<(), Fail>
     requires takes { D.TAKES_SRB ≡ true }
     requires locations { D.STACK_SIZE ≡ 1 }
-    requires rooms { ⟦<Filter<D> as Device>⟧.rooms_out filter.old [] }
-    requires holding { IsHolding (⟦<Filter<D> as Device>⟧.view filter.old) client.old.window client.old.next client.old.paused client.old.removed }
-    ensures rooms { OnOk result (⟦<Filter<D> as Device>⟧.rooms_out filter.new []) }
-    ensures holding { OnOk result (IsHolding (⟦<Filter<D> as Device>⟧.view filter.new) client.new.window client.new.next client.new.paused client.new.removed) }
+    requires rooms { ⟦<Filter<D, D::Room> as Device>⟧.rooms_out filter.old [] }
+    requires holding { IsHolding (⟦<Filter<D, D::Room> as Device>⟧.view filter.old) client.old.window client.old.next client.old.paused client.old.removed }
+    ensures rooms { OnOk result (⟦<Filter<D, D::Room> as Device>⟧.rooms_out filter.new []) }
+    ensures holding { OnOk result (IsHolding (⟦<Filter<D, D::Room> as Device>⟧.view filter.new) client.new.window client.new.next client.new.paused client.new.removed) }
 {
     try_all(
         rt,
@@ -625,15 +625,15 @@ fn serve<D: Device>(
 fn serve_others<D: Device>(
     rt: &impl Abort,
     alloc: Global,
-    filter: &mut Filter<D>,
+    filter: &mut Filter<D, D::Room>,
     client: &mut Client,
 ) -> Result<(), Fail>
     requires takes { D.TAKES_SRB ≡ true }
     requires locations { D.STACK_SIZE ≡ 1 }
-    requires rooms { ⟦<Filter<D> as Device>⟧.rooms_out filter.old [] }
-    requires holding { IsHolding (⟦<Filter<D> as Device>⟧.view filter.old) client.old.window client.old.next client.old.paused client.old.removed }
-    ensures rooms { OnOk result (⟦<Filter<D> as Device>⟧.rooms_out filter.new []) }
-    ensures holding { OnOk result (IsHolding (⟦<Filter<D> as Device>⟧.view filter.new) client.new.window client.new.next client.new.paused client.new.removed) }
+    requires rooms { ⟦<Filter<D, D::Room> as Device>⟧.rooms_out filter.old [] }
+    requires holding { IsHolding (⟦<Filter<D, D::Room> as Device>⟧.view filter.old) client.old.window client.old.next client.old.paused client.old.removed }
+    ensures rooms { OnOk result (⟦<Filter<D, D::Room> as Device>⟧.rooms_out filter.new []) }
+    ensures holding { OnOk result (IsHolding (⟦<Filter<D, D::Room> as Device>⟧.view filter.new) client.new.window client.new.next client.new.paused client.new.removed) }
 {
     let mut piece: u128 = 0;
     for number in 1..64_u8 {
@@ -650,15 +650,15 @@ fn serve_others<D: Device>(
 fn cancel_three_of_sixty_four<D: Device>(
     rt: &impl Abort,
     alloc: Global,
-    filter: &mut Filter<D>,
+    filter: &mut Filter<D, D::Room>,
     client: &mut Client,
 ) -> Result<(), Fail>
     requires takes { D.TAKES_SRB ≡ true }
     requires locations { D.STACK_SIZE ≡ 1 }
-    requires rooms { ⟦<Filter<D> as Device>⟧.rooms_out filter.old [] }
-    requires holding { IsHolding (⟦<Filter<D> as Device>⟧.view filter.old) client.old.window client.old.next client.old.paused client.old.removed }
-    ensures rooms { OnOk result (⟦<Filter<D> as Device>⟧.rooms_out filter.new []) }
-    ensures holding { OnOk result (IsHolding (⟦<Filter<D> as Device>⟧.view filter.new) client.new.window client.new.next client.new.paused client.new.removed) }
+    requires rooms { ⟦<Filter<D, D::Room> as Device>⟧.rooms_out filter.old [] }
+    requires holding { IsHolding (⟦<Filter<D, D::Room> as Device>⟧.view filter.old) client.old.window client.old.next client.old.paused client.old.removed }
+    ensures rooms { OnOk result (⟦<Filter<D, D::Room> as Device>⟧.rooms_out filter.new []) }
+    ensures holding { OnOk result (IsHolding (⟦<Filter<D, D::Room> as Device>⟧.view filter.new) client.new.window client.new.next client.new.paused client.new.removed) }
 {
     submit_many(rt, alloc, filter, client, 20)?;
     let fortieth = submit_many(rt, alloc, filter, client, 20)?;
@@ -703,15 +703,15 @@ fn of_sixty_four_the_others_go_in_order(rt: HostRuntime) -> Result<(), Fail> {
 fn submit_four<D: Device>(
     rt: &impl Abort,
     alloc: Global,
-    filter: &mut Filter<D>,
+    filter: &mut Filter<D, D::Room>,
     client: &mut Client,
 )
     requires takes { D.TAKES_SRB ≡ true }
     requires locations { D.STACK_SIZE ≡ 1 }
-    requires rooms { ⟦<Filter<D> as Device>⟧.rooms_out filter.old [] }
-    requires holding { IsHolding (⟦<Filter<D> as Device>⟧.view filter.old) client.old.window client.old.next client.old.paused client.old.removed }
-    ensures rooms { ⟦<Filter<D> as Device>⟧.rooms_out filter.new [] }
-    ensures holding { IsHolding (⟦<Filter<D> as Device>⟧.view filter.new) client.new.window client.new.next client.new.paused client.new.removed }
+    requires rooms { ⟦<Filter<D, D::Room> as Device>⟧.rooms_out filter.old [] }
+    requires holding { IsHolding (⟦<Filter<D, D::Room> as Device>⟧.view filter.old) client.old.window client.old.next client.old.paused client.old.removed }
+    ensures rooms { ⟦<Filter<D, D::Room> as Device>⟧.rooms_out filter.new [] }
+    ensures holding { IsHolding (⟦<Filter<D, D::Room> as Device>⟧.view filter.new) client.new.window client.new.next client.new.paused client.new.removed }
 {
     for _ in 0..4 {
         let _ = submit(rt, alloc, filter, client, Kind::Write, 0, 2);
@@ -722,15 +722,15 @@ fn submit_four<D: Device>(
 fn end_fourth<D: Device>(
     rt: &impl Abort,
     alloc: Global,
-    filter: &mut Filter<D>,
+    filter: &mut Filter<D, D::Room>,
     client: &mut Client,
 ) -> Result<(), Fail>
     requires takes { D.TAKES_SRB ≡ true }
     requires locations { D.STACK_SIZE ≡ 1 }
-    requires rooms { ⟦<Filter<D> as Device>⟧.rooms_out filter.old [] }
-    requires holding { IsHolding (⟦<Filter<D> as Device>⟧.view filter.old) client.old.window client.old.next client.old.paused client.old.removed }
-    ensures rooms { OnOk result (⟦<Filter<D> as Device>⟧.rooms_out filter.new []) }
-    ensures holding { OnOk result (IsHolding (⟦<Filter<D> as Device>⟧.view filter.new) client.new.window client.new.next client.new.paused client.new.removed) }
+    requires rooms { ⟦<Filter<D, D::Room> as Device>⟧.rooms_out filter.old [] }
+    requires holding { IsHolding (⟦<Filter<D, D::Room> as Device>⟧.view filter.old) client.old.window client.old.next client.old.paused client.old.removed }
+    ensures rooms { OnOk result (⟦<Filter<D, D::Room> as Device>⟧.rooms_out filter.new []) }
+    ensures holding { OnOk result (IsHolding (⟦<Filter<D, D::Room> as Device>⟧.view filter.new) client.new.window client.new.next client.new.paused client.new.removed) }
 {
     if client.next < 5 {
         return Ok(());

@@ -29,14 +29,14 @@ pub struct PartitionRoom<R: Drop> {
 }
 
 /// The partitions of a disk.
-pub struct Partitions<D: Device> {
+pub struct Partitions<D: Drop> {
     device: D,
     /// In table order.
     table: ArrayVec<Extent, 4>,
 }
 
 // By hand, so that no crate above proves it again, as it would a derived one.
-impl<D: Device> Drop for Partitions<D> {
+impl<D: Drop> Drop for Partitions<D> {
     fn drop(self) {
         let Partitions {
             device: _,

@@ -5,7 +5,7 @@ use Rattle.std.proofs.lemmas.Str.{IsUtf8-from_is_utf8}
 use Rattle.machine.specs.Rules.{Rules}
 use Rattle.settings.specs.declared.Config.{Config}
 use Rattle.settings.specs.declared.Partition.{Partition}
-use Rattle.settings.specs.declared.ConfigFault.TheVariants.{NotToml, UnknownKey, MissingKey, OutOfRange, TooManyPartitions, NoMemory as SettingsMemory}
+use Rattle.settings.specs.declared.ConfigFault.TheVariants.{OutOfRange}
 use Rattle.settings.specs.Medium.{extent_of}
 use Rattle.script.specs.declared.Line.{Line}
 use Rattle.script.specs.declared.ScriptFault.{ScriptFault}
@@ -16,9 +16,8 @@ use Rattle.rounds.specs.declared.RoundsFault.{RoundsFault}
 use Rattle.rounds.specs.declared.RoundsFault.TheVariants.{NoPartition}
 use Rattle.rounds.specs.Faults.{IsRoundsFault}
 use Rattle.startup.specs.Started.{rules_of}
-use Rattle.startup.specs.declared.faults.Fault.{Fault as StartupFault}
-use Rattle.startup.specs.declared.faults.Fault.TheVariants.{ConfigUnreadable, Settings, Start, NoMemory as StartupMemory}
-use Rattle.startup.specs.Reading.{AreRead, HasFault, IsAllOf, IsUnread}
+use Rattle.startup.specs.declared.faults.Fault.TheVariants.{Settings}
+use Rattle.startup.specs.Reading.{AreRead, IsAllOf}
 use Rattle.stackrun.specs.declared.faults.Fault.{Fault}
 use Rattle.stackrun.specs.declared.faults.Fault.TheVariants.{Startup, Script}
 use Rattle.stackrun.specs.Clients.{HasRoom, IsClientsFault, IsOutputFault}

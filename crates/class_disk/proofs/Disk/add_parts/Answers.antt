@@ -19,7 +19,7 @@ loop-k-init g c = record {
       (none_made g.D.Device.request_of g.D.Device.ready c.args.self.now.table.sizes c.args.request.now);
   places = subst (λ n. n ≤ vec_capacity c.args.parts.now) (sym c.part_count-k-end.ensures) c.requires.places;
   rooms = λ rooms h.
-      subst (λ (parts : List (Part g.row.D-Room.Denot)). g.D.Device.rooms_out c.args.self.now.device (rooms_of parts ++ rooms))
+      subst (λ (parts : List (Part g.row.R.Denot)). g.D.Device.rooms_out c.args.self.now.device (rooms_of parts ++ rooms))
       (sym c.requires.none) h;
 }
 

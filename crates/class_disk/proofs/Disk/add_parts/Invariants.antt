@@ -16,6 +16,6 @@ invariant-loop-k g l = record {
   count : l.k-end ≡ part_count_of l.initial.self.table.sizes.max_transfer l.request;
   parts : AreNewParts g.D.Device.request_of g.D.Device.ready l.initial.self.table.sizes l.request l.k l.parts.items;
   places : l.k-end ≤ vec_capacity l.parts;
-  rooms : (rooms : List g.row.D-Room.Denot) → g.D.Device.rooms_out l.initial.self.device rooms
+  rooms : (rooms : List g.row.R.Denot) → g.D.Device.rooms_out l.initial.self.device rooms
       → g.D.Device.rooms_out l.self.device (rooms_of l.parts.items ++ rooms);
 }

@@ -6,7 +6,7 @@ use Rattle.class_disk.proofs.Disk.free_parts.Given as goal
 -- the rooms of the parts that are left are still out
 abbrev pub invariant-loop-part : goal.invariant-loop-part
 invariant-loop-part g l = record {
-  rooms : (rooms : List g.row.D-Room.Denot) → g.D.Device.rooms_out l.initial.self.device (rooms_of l.initial.parts.items ++ rooms)
+  rooms : (rooms : List g.row.R.Denot) → g.D.Device.rooms_out l.initial.self.device (rooms_of l.initial.parts.items ++ rooms)
       → g.D.Device.rooms_out l.self.device (rooms_of l.parts.items ++ rooms);
   here : All IsHere l.parts.items;
   table : l.self.table ≡ l.initial.self.table;

@@ -7,7 +7,7 @@ use Rattle.hold_filter.proofs.Filter.release.Given as goal
 
 abbrev pub invariant-loop : goal.invariant-loop
 invariant-loop g l = record {
-  kept : (rooms : List g.row.D-Room.Denot) → FilterKept g.D.Device.request_of g.D.Device.ready g.D.Device.STACK_SIZE g.D.Device.TAKES_SRB (g.D.Device.rooms_out l.initial.self.device) (g.D.Device.view l.initial.self.device) (books_of l.initial.self.table) rooms
+  kept : (rooms : List g.row.R.Denot) → FilterKept g.D.Device.request_of g.D.Device.ready g.D.Device.STACK_SIZE g.D.Device.TAKES_SRB (g.D.Device.rooms_out l.initial.self.device) (g.D.Device.view l.initial.self.device) (books_of l.initial.self.table) rooms
       → FilterKept g.D.Device.request_of g.D.Device.ready g.D.Device.STACK_SIZE g.D.Device.TAKES_SRB (g.D.Device.rooms_out l.self.device) (g.D.Device.view l.self.device) (books_of l.self.table) rooms;
   spares : Spares (g.D.Device.view l.initial.self.device) (books_of l.initial.self.table) (g.D.Device.view l.self.device) (books_of l.self.table);
   releases : Releases (view_of g.D.Device.request_of (g.D.Device.view l.initial.self.device) (books_of l.initial.self.table)) (view_of g.D.Device.request_of (g.D.Device.view l.self.device) (books_of l.self.table));
