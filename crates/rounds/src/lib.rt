@@ -1,5 +1,5 @@
 //! Clients of one stack, each in a thread of its own, which write, read and compare for so many rounds, over lanes and a
-//! completion worker.
+//! completion worker. Who has clients of his own starts the lanes by [`start_lanes`], and ends them by [`remove`].
 //!
 //! It promises to the crate above, by the contract of [`run`] (`most`, `fault`), that no more calls have succeeded than were
 //! made, and that a partition is missed only where the stack has none.
@@ -8,8 +8,6 @@
 #![tactic(auto)]
 
 mod client;
-#[cfg(test)]
-mod tests;
 mod threads;
 
 ghost use Rattle.std.specs.Prelude.{◌≡◌, ◌≤◌, ◌*◌, IfErr, IfOk, Some};
@@ -18,6 +16,7 @@ ghost use Rattle.book.specs.Sizes.{AreSizes, sizes_of};
 ghost use Rattle.rounds.specs.Faults.{IsRoundsFault};
 
 use crate::threads::serve;
+pub use crate::threads::{remove, start_lanes};
 use adapter::Adapter;
 use book::Sizes;
 use compose::Stack;

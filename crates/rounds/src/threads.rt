@@ -44,9 +44,9 @@ fn last_lane(passes: &mut Vec<Pass>, completions: &Completions, tag: u8) -> Opti
     passes.pop()
 }
 
-/// Starts a lane for each tag, which passes the turnstile with each piece, and the completion worker. Not all of them may be
-/// there.
-pub(crate) fn start_lanes<
+/// Starts a lane for each tag, which passes the turnstile with each piece, and the completion worker. Each goes on until it
+/// sees that the device is removed. Where it answers false a thread could not be started: not all of them are there.
+pub fn start_lanes<
     's,
     E,
     A: Adapter + Send,
@@ -151,8 +151,8 @@ fn join_clients<N: Naming, R: Threads>(
     Ok((tally, clients))
 }
 
-/// Removes the device, by surprise where the query is refused for want of memory. Whether it was removed in order.
-pub(crate) fn remove<A: Adapter, N: Naming, R: Wait>(
+/// Removes the device, by surprise where the query is refused. Whether it was removed in order.
+pub fn remove<A: Adapter, N: Naming, R: Wait>(
     rt: &R,
     host: &Host<A, N>,
     keeper: &mut Keeper<N>,

@@ -127,8 +127,8 @@ fn play<A: Adapter, N: Naming, R: Wait + Abort>(
     Ok(())
 }
 
-// Two clients, the first of them first.
-fn two_of<N: Naming>(rt: &impl Abort, clients: Vec<Client<N>>) -> (Client<N>, Client<N>)
+/// Two clients, the first of them first.
+pub(crate) fn two_of<N: Naming>(rt: &impl Abort, clients: Vec<Client<N>>) -> (Client<N>, Client<N>)
     requires two { AreNumbered 2 clients.items }
     ensures first { result.0.client ≡ 0 }
     ensures second { result.1.client ≡ 1 }

@@ -1,4 +1,4 @@
-use Rattle.std.proofs.Common.{◌≡◌, ◌∙◌, ap, ◌<◌, ◌+◌, ℕ, arith, rules, below_more, get_or, length}
+use Rattle.std.proofs.Common.{◌≡◌, ◌∙◌, ap, ◌+◌, arith, rules, below_more, get_or, length}
 use Rattle.rounds.proofs.threads.start_clients.Goals as goal
 
 -- the client whose thread is started is the next one

@@ -1,19 +1,15 @@
 //! Two clients at once: the second is answered while the lane of the first is held.
 
-ghost use Rattle.std.specs.Prelude.{◌≡◌, ◌<◌, ◌+◌, IfOk, Some, length};
+ghost use Rattle.std.specs.Prelude.{◌≡◌, ◌<◌, ◌+◌, IfOk, length};
 ghost use Rattle.lanes.specs.Queue.{issued};
 ghost use Rattle.probe.specs.Exchange.{IsIdle};
-ghost use Rattle.book.specs.Opening.{IsNew};
-ghost use Rattle.book.specs.Sizes.{AreSizes, sizes_of};
 
-use crate::threads::{remove, start_lanes};
+use crate::disks::{ONE, adapter, disk, start};
+use crate::hosts::desk::two_of;
 use adapter::Adapter;
-use book::Sizes;
-use compose::{Settings, Stack, StartFault};
-use disk::{Medium, NoMemory, VecDisk};
 use host::{Answered, Call, Client, Host, HostFault, Keeper, Naming, Opened, Ticket};
 use lanes::{Completions, Pass, Turnstile};
-use miniport::MemAdapter;
+use rounds::{remove, start_lanes};
 use sector::Bytes;
 use std::alloc::{AllocError, Global};
 use std::marker::Brand;
@@ -208,16 +204,6 @@ fn compare(
     Ok(())
 }
 
-fn two_of<N: Naming>(rt: &impl Abort, clients: Vec<Client<N>>) -> (Client<N>, Client<N>) {
-    let mut clients = clients;
-    let second = clients.pop();
-    let first = clients.pop();
-    match (first, second) {
-        (Some(first), Some(second)) => (first, second),
-        _ => panic!(rt; "not two clients"),
-    }
-}
-
 // A host of two clients, of which the first is held.
 fn hold_first<
     A: Adapter + Send,
@@ -226,6 +212,7 @@ fn hold_first<
     C: Clock + Sync,
 >(rt: &R, alloc: Global, opened: Opened<A>, clock: &C) -> Result<(), AllocError>
     requires named { opened ≡ record { rules = N.rules; opening = N.opening; partitions = N.partitions; handles = N.handles; marks = N.marks; slots = N.slots; table = N.table; name = N.name; parts = N.parts; gate = N.gate } }
+    requires partitions { length N.partitions ≡ 2 }
 {
     let Ok((host, keeper, clients)) = Host::<A, N>::new(alloc, opened) else {
         return Err(AllocError);
@@ -241,64 +228,6 @@ fn hold_first<
     compare(rt, read, in_time)
 }
 
-// Sector 0: an entry of type 7, of the sectors 2,048 to 3,071; the others are unused.
-fn table() -> [u8; 512] {
-    let mut bytes = [0; 512];
-    bytes[450] = 7;
-    bytes[455] = 0x08;
-    bytes[459] = 0x04;
-    bytes[510] = 0x55;
-    bytes[511] = 0xAA;
-    bytes
-}
-
-fn no_memory(_refused: NoMemory) -> AllocError {
-    AllocError
-}
-
-// Two tags, over a disk of 4,096 sectors of 512 bytes.
-fn adapter(rt: &impl Abort, alloc: Global) -> Result<MemAdapter<VecDisk>, AllocError>
-    ensures idle { IfOk result (λ a. IsIdle a.shown) }
-    ensures unasked { IfOk result (λ a. a.shown.accepted ≡ 0) }
-{
-    let medium = VecDisk::starting_with(alloc, 512, 4096, &table(), Vec::new(alloc)).map_err(
-        no_memory,
-    )?;
-    let sectors = medium.sectors();
-    assert!(rt; 1 <= sectors && sectors <= 1 << 40);
-    assert!(rt; medium.sector_size() == 512 && medium.failures() == 0);
-    MemAdapter::new(alloc, medium, 64, 2, false).map_err(no_memory)
-}
-
-// A stack that was started, and its sizes; two requests at work and two open.
-fn start<A: Adapter>(
-    rt: &impl Abort,
-    alloc: Global,
-    adapter: A,
-) -> Result<(Stack<A>, Sizes), AllocError>
-    requires idle { IsIdle (A.view adapter) }
-    requires unasked { (A.view adapter).accepted ≡ 0 }
-    ensures new { IfOk result (λ r. IsNew r.0) }
-    ensures sizes { IfOk result (λ r. (r.1 ≡ sizes_of r.0.rules) × AreSizes r.1) }
-    ensures slots { IfOk result (λ r. r.0.rules.open_requests ≡ Some 2) }
-{
-    let sizes = Sizes {
-        sector_size: adapter.sector_size(),
-        longest: 65_536,
-        max_transfer: adapter.max_transfer(),
-        busy_limit: 17,
-    };
-    let settings = Settings {
-        window: 2,
-        open_requests: 2,
-    };
-    match Stack::start(alloc, adapter, settings) {
-        Ok(stack) => Ok((stack, sizes)),
-        Err(StartFault::NoMemory) => Err(AllocError),
-        Err(fault) => panic!(rt; "{fault:?}"),
-    }
-}
-
 fn hold_first_over<A: Adapter + Send, R: Threads + Wait + Sync + Abort, C: Clock + Sync>(
     rt: &R,
     alloc: Global,
@@ -308,7 +237,7 @@ fn hold_first_over<A: Adapter + Send, R: Threads + Wait + Sync + Abort, C: Clock
     requires idle { IsIdle (A.view adapter) }
     requires unasked { (A.view adapter).accepted ≡ 0 }
 {
-    let (stack, sizes) = start(rt, alloc, adapter)?;
+    let (stack, sizes) = start(rt, alloc, adapter, 2)?;
     match Opened::new(alloc, stack, sizes, 2, &[0, 0]) {
         Ok(opened) => hold_first::<A, Brand, R, C>(rt, alloc, opened, clock),
         Err(HostFault::NoMemory) => Err(AllocError),
@@ -318,7 +247,8 @@ fn hold_first_over<A: Adapter + Send, R: Threads + Wait + Sync + Abort, C: Clock
 
 #[test]
 fn second_is_answered_while_first_is_held(rt: HostRuntime) -> Result<(), Fail> {
-    let adapter = adapter(&rt, rt.alloc())?;
-    hold_first_over(&rt, rt.alloc(), adapter, &rt)?;
+    let alloc = rt.alloc();
+    let adapter = adapter(&rt, alloc, disk(alloc, &ONE, &[])?, 64)?;
+    hold_first_over(&rt, alloc, adapter, &rt)?;
     Ok(())
 }
