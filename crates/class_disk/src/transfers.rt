@@ -98,11 +98,7 @@ impl<R: Drop, D: Device<Room = R>> Disk<D, R> {
     }
 
     /// Adds places for the parts of a request behind those that are there.
-    fn add_parts(
-        &mut self,
-        request: &Request,
-        parts: &mut Vec<Part<R>>,
-    ) -> Result<(), AllocError>
+    fn add_parts(&mut self, request: &Request, parts: &mut Vec<Part<R>>) -> Result<(), AllocError>
         requires in_order { (rooms : List R) × D.rooms_out self.old.device rooms }
         requires cuts { CanCut self.old.table.sizes (D.view self.old.device).rules request.now }
         requires none { parts.old.items ≡ [] }
@@ -123,10 +119,7 @@ impl<R: Drop, D: Device<Room = R>> Disk<D, R> {
     }
 
     /// Places for all parts of a request.
-    pub(crate) fn reserve_parts(
-        &mut self,
-        request: &Request,
-    ) -> Result<Vec<Part<R>>, AllocError>
+    pub(crate) fn reserve_parts(&mut self, request: &Request) -> Result<Vec<Part<R>>, AllocError>
         requires in_order { (rooms : List R) × D.rooms_out self.old.device rooms }
         requires cuts { CanCut self.old.table.sizes (D.view self.old.device).rules request.now }
         ensures table { self.new.table ≡ self.old.table }

@@ -78,8 +78,9 @@ fn prepare<A: Adapter>(
 }
 
 /// The manager of the partitions over a hold filter, the class driver and a port.
-pub(crate) type Manager<A> =
-    IoManager<Partitions<Filter<Disk<Port<A>, PortRoom>, DiskRoom<PortRoom>>>>;
+pub(crate) type Manager<A> = IoManager<
+    Partitions<Filter<Disk<Port<A>, PortRoom>, DiskRoom<PortRoom>>>,
+>;
 
 /// The I/O manager of a stack over an adapter, as [`crate::Stack::start`].
 ///

@@ -164,7 +164,12 @@ fn cancel_at<D: Device>(device: &mut D, client: &Client, spot: usize, number: u6
 }
 
 /// Cancels what is held at a spot, with at most three visits of the queue; true where it was held.
-fn cancel_held<D: Device>(filter: &mut Filter<D, D::Room>, client: &Client, spot: usize, number: u64) -> bool
+fn cancel_held<D: Device>(
+    filter: &mut Filter<D, D::Room>,
+    client: &Client,
+    spot: usize,
+    number: u64,
+) -> bool
     requires rooms { ⟦<Filter<D, D::Room> as Device>⟧.rooms_out filter.old [] }
     requires holding { IsHolding (⟦<Filter<D, D::Room> as Device>⟧.view filter.old) client.now.window client.now.next client.now.paused client.now.removed }
     ensures rooms { ⟦<Filter<D, D::Room> as Device>⟧.rooms_out filter.new [] }
@@ -381,7 +386,10 @@ fn new_client(window: usize) -> Client
 }
 
 /// A filter over a port of four sectors, the last one bad, with two tags.
-fn filter(alloc: Global, window: usize) -> Result<Filter<Port<MemAdapter<VecDisk>>, PortRoom>, AllocError>
+fn filter(
+    alloc: Global,
+    window: usize,
+) -> Result<Filter<Port<MemAdapter<VecDisk>>, PortRoom>, AllocError>
     requires { 0 < window }
     ensures rooms { IfOk result (λ filter. ⟦<Filter<Port<MemAdapter<VecDisk>>, PortRoom> as Device>⟧.rooms_out filter []) }
     ensures holding { IfOk result (λ filter. IsHolding (⟦<Filter<Port<MemAdapter<VecDisk>>, PortRoom> as Device>⟧.view filter) window 1 false false) }
