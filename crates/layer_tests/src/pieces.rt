@@ -559,33 +559,40 @@ fn end_fourth<D: Device>(
     try_all(rt, alloc, device, client, &fourth)
 }
 
-// One of four requests may find no memory: those that were taken end under their numbers.
-#[test]
-fn takes_requests_or_no_memory(rt: HostRuntime) -> Result<(), Fail> {
-    let Ok(mut disk) = disk(rt.alloc()) else {
-        return Ok(());
-    };
-    let mut client = new_client();
-    submit_four(&rt, rt.alloc(), &mut disk, &mut client);
+/// Four requests, of which one may find no memory: those that were taken end under their numbers.
+fn take_and_end<D: Device>(
+    rt: &impl Abort,
+    alloc: Global,
+    device: &mut D,
+    client: &mut Client,
+) -> Result<(), Fail>
+    requires takes { D.TAKES_SRB ≡ false }
+    requires locations { D.STACK_SIZE ≤ 4 }
+    requires rooms { D.rooms_out device.old [] }
+    requires served { IsServed (D.view device.old) client.old.next client.old.removed }
+    ensures rooms { OnOk result (D.rooms_out device.new []) }
+    ensures served { OnOk result (IsServed (D.view device.new) client.new.next client.new.removed) }
+{
+    submit_four(rt, alloc, device, client);
     assert!(rt; client.next >= 4);
-    tells(&rt, &mut disk, &client, &[(1, 'S', 0), (2, 'S', 1)]);
+    tells(rt, device, client, &[(1, 'S', 0), (2, 'S', 1)]);
     try_all(
-        &rt,
-        rt.alloc(),
-        &mut disk,
-        &mut client,
+        rt,
+        alloc,
+        device,
+        client,
         &[
             Step::Drain,
             Step::Done(2, NtStatus::NoSuchDevice, &[]),
             Step::Done(3, NtStatus::NoSuchDevice, &[]),
         ],
     )?;
-    end_fourth(&rt, rt.alloc(), &mut disk, &mut client)?;
+    end_fourth(rt, alloc, device, client)?;
     try_all(
-        &rt,
-        rt.alloc(),
-        &mut disk,
-        &mut client,
+        rt,
+        alloc,
+        device,
+        client,
         &[
             Step::Finish(0, &[(1, 'B', 0)]),
             Step::NoneDone,
@@ -594,4 +601,12 @@ fn takes_requests_or_no_memory(rt: HostRuntime) -> Result<(), Fail> {
             Step::NoneDone,
         ],
     )
+}
+
+#[test]
+fn takes_requests_or_no_memory(rt: HostRuntime) -> Result<(), Fail> {
+    let Ok(mut disk) = disk(rt.alloc()) else {
+        return Ok(());
+    };
+    take_and_end(&rt, rt.alloc(), &mut disk, &mut new_client())
 }

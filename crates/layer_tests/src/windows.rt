@@ -262,6 +262,62 @@ fn is_read(done: Done, number: u128) -> bool {
     }
 }
 
+/// One step of any device, and whether it answered what it must.
+fn of_device<D: Device>(
+    rt: &impl Abort,
+    alloc: Global,
+    device: &mut D,
+    client: &mut Client,
+    step: &Step,
+) -> Result<bool, Fail>
+    requires takes { D.TAKES_SRB ≡ true }
+    requires locations { D.STACK_SIZE ≡ 2 }
+    requires rooms { D.rooms_out device.old [] }
+    requires holding { IsHolding (D.view device.old) client.old.window client.old.next client.old.paused client.old.removed }
+    ensures rooms { OnOk result (D.rooms_out device.new []) }
+    ensures holding { OnOk result (IsHolding (D.view device.new) client.new.window client.new.next client.new.paused client.new.removed) }
+{
+    match step {
+        Step::Submit(kind, first, count) => {
+            submit(rt, alloc, device, client, *kind, *first, *count)?;
+            Ok(true)
+        }
+        Step::Act(tag, want) => Ok(act(rt, device, client, *tag) == *want),
+        Step::Finish(tag, want) => Ok(finish(rt, device, client, *tag) == *want),
+        Step::Reset => {
+            reset(rt, device, client);
+            Ok(true)
+        }
+        Step::Cancel(number) => {
+            cancel(device, client, *number);
+            Ok(true)
+        }
+        Step::CancelAt(spot, number) => {
+            cancel_at(device, client, *spot, *number);
+            Ok(true)
+        }
+        Step::Drain => {
+            drain(device, client);
+            Ok(true)
+        }
+        Step::Tells(want) => {
+            tells(rt, device, client, want);
+            Ok(true)
+        }
+        Step::Done(number, status) => {
+            let done = take_done(device, client);
+            Ok(done.is_some_and(|done| done.number == *number && done.status == *status))
+        }
+        Step::Read(number) => {
+            let done = take_done(device, client);
+            Ok(done.is_some_and(|done| is_read(done, *number)))
+        }
+        Step::NoneDone => Ok(is_none_done(device, client)),
+        // A filter's own.
+        Step::CancelHeld(..) | Step::Pause | Step::Resume | Step::Holds(_) => Ok(false),
+    }
+}
+
 /// One step, and whether it answered what it must.
 fn carry_out<D: Device>(
     rt: &impl Abort,
@@ -278,24 +334,6 @@ fn carry_out<D: Device>(
     ensures holding { OnOk result (IsHolding (⟦<Filter<D, D::Room> as Device>⟧.view filter.new) client.new.window client.new.next client.new.paused client.new.removed) }
 {
     match step {
-        Step::Submit(kind, first, count) => {
-            submit(rt, alloc, filter, client, *kind, *first, *count)?;
-            Ok(true)
-        }
-        Step::Act(tag, want) => Ok(act(rt, filter, client, *tag) == *want),
-        Step::Finish(tag, want) => Ok(finish(rt, filter, client, *tag) == *want),
-        Step::Reset => {
-            reset(rt, filter, client);
-            Ok(true)
-        }
-        Step::Cancel(number) => {
-            cancel(filter, client, *number);
-            Ok(true)
-        }
-        Step::CancelAt(spot, number) => {
-            cancel_at(filter, client, *spot, *number);
-            Ok(true)
-        }
         Step::CancelHeld(spot, number, want) => {
             Ok(cancel_held(filter, client, *spot, *number) == *want)
         }
@@ -307,24 +345,8 @@ fn carry_out<D: Device>(
             resume(rt, filter, client);
             Ok(true)
         }
-        Step::Drain => {
-            drain(filter, client);
-            Ok(true)
-        }
-        Step::Tells(want) => {
-            tells(rt, filter, client, want);
-            Ok(true)
-        }
-        Step::Done(number, status) => {
-            let done = take_done(filter, client);
-            Ok(done.is_some_and(|done| done.number == *number && done.status == *status))
-        }
-        Step::Read(number) => {
-            let done = take_done(filter, client);
-            Ok(done.is_some_and(|done| is_read(done, *number)))
-        }
-        Step::NoneDone => Ok(is_none_done(filter, client)),
         Step::Holds(count) => Ok(filter.held() == *count),
+        step => of_device(rt, alloc, filter, client, step),
     }
 }
 
