@@ -8,7 +8,7 @@ use class_disk::Disk;
 use device::Device;
 use disk::VecDisk;
 use miniport::MemAdapter;
-use port::Port;
+use port::{Port, PortRoom};
 use std::alloc::{AllocError, Global};
 
 /// An adapter of eight sectors of 512 bytes, with two tags.
@@ -36,9 +36,9 @@ pub fn port(alloc: Global) -> Result<Port<MemAdapter<VecDisk>>, AllocError>
 }
 
 /// The class driver over such a port.
-pub fn disk(alloc: Global) -> Result<Disk<Port<MemAdapter<VecDisk>>>, AllocError>
-    ensures rooms { IfOk result (λ disk. ⟦<Disk<Port<MemAdapter<VecDisk>>> as Device>⟧.rooms_out disk []) }
-    ensures served { IfOk result (λ disk. IsServed false (⟦<Disk<Port<MemAdapter<VecDisk>>> as Device>⟧.view disk) 1) }
+pub fn disk(alloc: Global) -> Result<Disk<Port<MemAdapter<VecDisk>>, PortRoom>, AllocError>
+    ensures rooms { IfOk result (λ disk. ⟦<Disk<Port<MemAdapter<VecDisk>>, PortRoom> as Device>⟧.rooms_out disk []) }
+    ensures served { IfOk result (λ disk. IsServed false (⟦<Disk<Port<MemAdapter<VecDisk>>, PortRoom> as Device>⟧.view disk) 1) }
 {
     let adapter = adapter(alloc)?;
     let port = Port::new(alloc, adapter)?;

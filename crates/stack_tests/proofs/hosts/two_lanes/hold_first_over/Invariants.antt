@@ -1,4 +1,4 @@
-use Rattle.stack_tests.proofs.hosts.lanes.hold_first_over.Given as goal
+use Rattle.stack_tests.proofs.hosts.two_lanes.hold_first_over.Given as goal
 
 abbrev pub ghosts-hold_first-N-Ledger : goal.ghosts-hold_first-N-Ledger
 ghosts-hold_first-N-Ledger g a = record { name = a.opened.name; parts = a.opened.parts }
