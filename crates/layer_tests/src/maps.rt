@@ -455,6 +455,15 @@ const LAST: [Extent; 1] = [Extent {
     count: 1,
 }];
 
+/// These steps on such a stack.
+fn run(rt: &impl Abort, alloc: Global, partitions: &[Extent], steps: &[Step]) -> Result<(), Fail>
+    requires few { length partitions.now ≤ 4 }
+    requires map { IsMap 4096 partitions.now }
+{
+    let mut stack = stack(alloc, partitions)?;
+    try_all(rt, alloc, &mut stack, partitions, &mut new_client(), steps)
+}
+
 #[test]
 fn tells_its_sizes(rt: HostRuntime) -> Result<(), Fail> {
     let apart = stack(rt.alloc(), &APART)?;
@@ -472,13 +481,10 @@ fn has_no_volume_without_partitions(rt: HostRuntime) -> Result<(), Fail> {
 // What is written to the end of one partition does not reach the next one, which begins right behind it.
 #[test]
 fn ends_where_the_next_begins(rt: HostRuntime) -> Result<(), Fail> {
-    let mut stack = stack(rt.alloc(), &APART)?;
-    try_all(
+    run(
         &rt,
         rt.alloc(),
-        &mut stack,
         &APART,
-        &mut new_client(),
         &[
             Step::Submit(0, Kind::Write, 1022, 2),
             Step::Submit(1, Kind::Read, 0, 1),
@@ -513,13 +519,10 @@ fn ends_where_the_next_begins(rt: HostRuntime) -> Result<(), Fail> {
 // Partitions are numbered as in the table, and a bad sector is one of its own partition alone.
 #[test]
 fn counts_in_table_order(rt: HostRuntime) -> Result<(), Fail> {
-    let mut stack = stack(rt.alloc(), &TURNED)?;
-    try_all(
+    run(
         &rt,
         rt.alloc(),
-        &mut stack,
         &TURNED,
-        &mut new_client(),
         &[
             Step::Submit(0, Kind::Read, 28, 1),
             Step::Submit(1, Kind::Read, 28, 1),

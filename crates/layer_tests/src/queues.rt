@@ -308,6 +308,12 @@ fn port(alloc: Global) -> Result<Port<MemAdapter<VecDisk>>, AllocError>
     Ok(port)
 }
 
+/// These steps on such a port.
+fn run(rt: &impl Abort, alloc: Global, steps: &[Step]) -> Result<(), Fail> {
+    let mut port = port(alloc)?;
+    try_all(rt, alloc, &mut port, &mut new_client(), steps)
+}
+
 #[test]
 fn tells_its_sizes(rt: HostRuntime) -> Result<(), Fail> {
     let port = port(rt.alloc())?;
@@ -318,12 +324,9 @@ fn tells_its_sizes(rt: HostRuntime) -> Result<(), Fail> {
 // Three packets on two tags: the third starts where the second came back.
 #[test]
 fn starts_first_in_first_out(rt: HostRuntime) -> Result<(), Fail> {
-    let mut port = port(rt.alloc())?;
-    try_all(
+    run(
         &rt,
         rt.alloc(),
-        &mut port,
-        &mut new_client(),
         &[
             Step::Submit(Kind::Write, 1, 2),
             Step::Submit(Kind::Read, 3, 1),
@@ -353,12 +356,9 @@ fn starts_first_in_first_out(rt: HostRuntime) -> Result<(), Fail> {
 // One packet is cancelled while it waits, one at the adapter, one after it ended; another is gone with the device.
 #[test]
 fn cancels_and_removes(rt: HostRuntime) -> Result<(), Fail> {
-    let mut port = port(rt.alloc())?;
-    try_all(
+    run(
         &rt,
         rt.alloc(),
-        &mut port,
-        &mut new_client(),
         &[
             Step::Submit(Kind::Read, 0, 1),
             Step::Submit(Kind::Read, 0, 1),
@@ -433,12 +433,9 @@ fn cancels_at_a_spot_used_again(rt: HostRuntime) -> Result<(), Fail> {
 // A reset with one piece that acted and one that did nothing: both come back as bad.
 #[test]
 fn resets_what_is_out(rt: HostRuntime) -> Result<(), Fail> {
-    let mut port = port(rt.alloc())?;
-    try_all(
+    run(
         &rt,
         rt.alloc(),
-        &mut port,
-        &mut new_client(),
         &[
             Step::Submit(Kind::Write, 0, 1),
             Step::Submit(Kind::Read, 1, 1),

@@ -427,6 +427,14 @@ fn filter(
     Ok(Filter::new(alloc, port, window))
 }
 
+/// These steps on such a filter.
+fn run(rt: &impl Abort, alloc: Global, window: usize, steps: &[Step]) -> Result<(), Fail>
+    requires { 0 < window }
+{
+    let mut filter = filter(alloc, window)?;
+    try_all(rt, alloc, &mut filter, &mut new_client(window), steps)
+}
+
 #[test]
 fn tells_its_sizes(rt: HostRuntime) -> Result<(), Fail> {
     let filter = filter(rt.alloc(), 1)?;
@@ -438,12 +446,10 @@ fn tells_its_sizes(rt: HostRuntime) -> Result<(), Fail> {
 // Two go below, though three wait: the third goes as soon as one of them has ended, the fourth behind it.
 #[test]
 fn lets_two_below_first_in_first_out(rt: HostRuntime) -> Result<(), Fail> {
-    let mut filter = filter(rt.alloc(), 2)?;
-    try_all(
+    run(
         &rt,
         rt.alloc(),
-        &mut filter,
-        &mut new_client(2),
+        2,
         &[
             Step::Submit(Kind::Write, 1, 2),
             Step::Submit(Kind::Read, 3, 1),
@@ -486,12 +492,10 @@ fn lets_two_below_first_in_first_out(rt: HostRuntime) -> Result<(), Fail> {
 // Both tags are free, and one more goes below: the window is one.
 #[test]
 fn holds_by_its_window(rt: HostRuntime) -> Result<(), Fail> {
-    let mut filter = filter(rt.alloc(), 1)?;
-    try_all(
+    run(
         &rt,
         rt.alloc(),
-        &mut filter,
-        &mut new_client(1),
+        1,
         &[
             Step::Submit(Kind::Read, 0, 1),
             Step::Submit(Kind::Read, 1, 1),
@@ -504,12 +508,10 @@ fn holds_by_its_window(rt: HostRuntime) -> Result<(), Fail> {
 // During a pause what is below goes on, and what is held or comes stays held.
 #[test]
 fn releases_none_in_a_pause(rt: HostRuntime) -> Result<(), Fail> {
-    let mut filter = filter(rt.alloc(), 1)?;
-    try_all(
+    run(
         &rt,
         rt.alloc(),
-        &mut filter,
-        &mut new_client(1),
+        1,
         &[
             Step::Submit(Kind::Read, 0, 1),
             Step::Submit(Kind::Read, 1, 1),
@@ -537,12 +539,10 @@ fn releases_none_in_a_pause(rt: HostRuntime) -> Result<(), Fail> {
 // The third read is held, and ends once when it is cancelled twice; the first is below, and ends as it would.
 #[test]
 fn cancels_what_is_held(rt: HostRuntime) -> Result<(), Fail> {
-    let mut filter = filter(rt.alloc(), 2)?;
-    try_all(
+    run(
         &rt,
         rt.alloc(),
-        &mut filter,
-        &mut new_client(2),
+        2,
         &[
             Step::Submit(Kind::Read, 0, 1),
             Step::Submit(Kind::Read, 1, 1),
@@ -569,12 +569,10 @@ fn cancels_what_is_held(rt: HostRuntime) -> Result<(), Fail> {
 // What is held at a removal ends as DELETE_PENDING, in its order, and what is below as the device says.
 #[test]
 fn removes_what_is_held(rt: HostRuntime) -> Result<(), Fail> {
-    let mut filter = filter(rt.alloc(), 1)?;
-    try_all(
+    run(
         &rt,
         rt.alloc(),
-        &mut filter,
-        &mut new_client(1),
+        1,
         &[
             Step::Submit(Kind::Read, 0, 1),
             Step::Submit(Kind::Read, 1, 1),
