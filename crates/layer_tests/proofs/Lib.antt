@@ -1,3 +1,2 @@
-pub mod Ready
-pub mod Holding
-pub mod Served
+pub mod Known
+pub mod Opened

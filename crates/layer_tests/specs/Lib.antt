@@ -1,4 +1,2 @@
-pub mod Ready
-pub mod Holding
-pub mod Served
-pub mod Askable
+pub mod Known
+pub mod Fresh

@@ -3,7 +3,9 @@
 #![tactic(auto)]
 
 #[cfg(test)]
-mod expect;
+mod held;
+#[cfg(test)]
+mod layers;
 #[cfg(test)]
 mod maps;
 #[cfg(test)]
@@ -13,6 +15,8 @@ mod pieces;
 #[cfg(test)]
 mod queues;
 #[cfg(test)]
-mod sizes;
+mod session;
+#[cfg(test)]
+mod steps;
 #[cfg(test)]
 mod windows;

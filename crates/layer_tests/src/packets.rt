@@ -1,23 +1,42 @@
-//! What a client sends to a layer, and what it sees of it.
+//! What a client sends to a layer.
 
-ghost use Rattle.std.specs.Prelude.{◌≡◌, ◌≤◌, ◌+◌, IfOk, if◌then◌else◌};
-ghost use Rattle.device.specs.View.{AsksFor, IsBounded, major_of, whole_command};
-ghost use Rattle.layer_tests.specs.Ready.{four_sectors};
+ghost use Rattle.std.specs.Prelude.{◌≡◌, ◌≤◌, ◌*◌, length, IfOk, if◌then◌else◌};
+ghost use Rattle.machine.specs.Rules.{is_transfer};
+ghost use Rattle.device.specs.View.{AsksFor, Carries, major_of, transfer_length, whole_command};
+ghost use Rattle.layer_tests.specs.Known.{Brings, IsAskable, rules_on};
 
 use cdb::{Cdb, encode};
 use device::{Kind, Request, major_for};
-use irp::{Climb, Control, Done, Driver, LocationFlags, StackLocation};
-use sector::Bytes;
-use srb::{Class, CommandBlock, DeviceLabel, Srb, SrbFlags, SrbFunction};
+use irp::{Control, Driver, Irp, LocationFlags, Payload, StackLocation};
+use sector::{Bytes, Extent};
+use srb::{CommandBlock, Srb, SrbFlags, SrbFunction};
 use std::alloc::{AllocError, Global};
+use std::process::Abort;
 
-/// The command that asks for a request of a disk of four sectors.
-fn command(request: &Request) -> Cdb
-    requires bounded { IsBounded four_sectors request.now }
-    requires inside { request.now.extent.first + request.now.extent.count ≤ 4 }
-    ensures { result ≡ whole_command four_sectors request.now }
+/// A request lies in its partition, is no longer than the layer takes, and a block of ten bytes can ask for it.
+pub(crate) fn assert_askable(
+    rt: &impl Abort,
+    partitions: &[Extent],
+    longest: u64,
+    request: &Request,
+)
+    ensures { IsAskable partitions.now longest request.now }
 {
-    let lba = request.extent.first as u32;
+    assert!(rt; usize::from(request.volume) < partitions.len());
+    let partition = partitions[usize::from(request.volume)];
+    let count = request.extent.count;
+    assert!(rt; partition.first <= 4096 && partition.count <= 4096);
+    assert!(rt; request.extent.is_within(partition.count) && count <= longest && count <= 64);
+    assert!(rt; (count == 0) == (request.kind == Kind::Flush));
+}
+
+/// The command that asks for a request.
+fn command(partitions: &[Extent], longest: u64, request: &Request) -> Cdb
+    requires { IsAskable partitions.now longest request.now }
+    ensures { result ≡ whole_command (rules_on partitions.now longest) request.now }
+{
+    let partition = partitions[usize::from(request.volume)];
+    let lba = (partition.first + request.extent.first) as u32;
     let count = request.extent.count as u16;
     let fua = request.through;
     match request.kind {
@@ -27,31 +46,68 @@ fn command(request: &Request) -> Cdb
     }
 }
 
-/// An SRB that asks for a request of a disk of four sectors.
-pub(crate) fn srb_for(alloc: Global, request: &Request) -> Result<Srb, AllocError>
-    requires bounded { IsBounded four_sectors request.now }
-    requires inside { request.now.extent.first + request.now.extent.count ≤ 4 }
-    ensures { IfOk result (AsksFor four_sectors request.now) }
+/// A buffer of a request's length, full of one byte.
+fn buffer_for(alloc: Global, request: &Request, byte: u8) -> Result<Vec<u8>, AllocError>
+    requires { request.now.extent.count ≤ 64 }
+    ensures { IfOk result (λ bytes. length bytes.items ≡ (if is_transfer request.now.kind then request.now.extent.count * 512 else 0)) }
 {
-    let (flags, length) = match request.kind {
-        Kind::Read => (64, request.extent.count as usize * 512),
-        Kind::Write => (128, request.extent.count as usize * 512),
-        Kind::Flush => (0, 0),
+    let length = match request.kind {
+        Kind::Read | Kind::Write => request.extent.count as usize * 512,
+        Kind::Flush => 0,
     };
-    let data = vec![in alloc; 0xA5; length]?;
-    let for_label = vec![in alloc; 0; length]?;
+    let bytes = vec![in alloc; byte; length]?;
+    Ok(bytes)
+}
+
+/// An SRB that asks for a request, with these bytes as its data.
+fn srb_for(
+    alloc: Global,
+    partitions: &[Extent],
+    longest: u64,
+    request: &Request,
+    bytes: Vec<u8>,
+) -> Result<Srb, AllocError>
+    requires askable { IsAskable partitions.now longest request.now }
+    requires data { length bytes.items ≡ transfer_length (rules_on partitions.now longest) request.now }
+    ensures { IfOk result (AsksFor (rules_on partitions.now longest) request.now) }
+{
+    let for_label = buffer_for(alloc, request, 0)?;
     Ok(Srb {
         function: SrbFunction::ExecuteScsi,
-        flags: SrbFlags(flags),
-        block: CommandBlock::new(encode(&command(request))),
-        data: Bytes::new(data),
+        flags: SrbFlags(match request.kind {
+            Kind::Read => 64,
+            Kind::Write => 128,
+            Kind::Flush => 0,
+        }),
+        block: CommandBlock::new(encode(&command(partitions, longest, request))),
+        data: Bytes::new(bytes),
         for_label: Bytes::new(for_label),
         sense: None,
     })
 }
 
+/// What a packet brings for a request, full of one byte: an SRB where the layer takes one, else a buffer.
+fn payload_for(
+    alloc: Global,
+    takes_srb: bool,
+    partitions: &[Extent],
+    longest: u64,
+    request: &Request,
+    byte: u8,
+) -> Result<Payload, AllocError>
+    requires { IsAskable partitions.now longest request.now }
+    ensures { IfOk result (Carries takes_srb (rules_on partitions.now longest) request.now) }
+{
+    let bytes = buffer_for(alloc, request, byte)?;
+    if takes_srb {
+        Ok(Payload::Srb(srb_for(alloc, partitions, longest, request, bytes)?))
+    } else {
+        Ok(Payload::Buffer(Bytes::new(bytes)))
+    }
+}
+
 /// A driver's own location, which asks for the request, by an SRB or by itself.
-pub(crate) fn own_location(driver: Driver, takes_srb: bool, request: &Request) -> StackLocation
+fn own_location(driver: Driver, takes_srb: bool, request: &Request) -> StackLocation
     ensures major { result.major ≡ major_of takes_srb request.now.kind }
     ensures flags { result.flags.0 ≡ (if request.now.through then 0x04 else 0) }
     ensures volume { result.volume ≡ request.now.volume }
@@ -68,30 +124,28 @@ pub(crate) fn own_location(driver: Driver, takes_srb: bool, request: &Request) -
     }
 }
 
-/// A label: its piece, a letter, and the tag of a start.
-pub(crate) type Told = (u128, char, u8);
-
-pub(crate) fn told(label: DeviceLabel) -> Told {
-    match label {
-        DeviceLabel::Start {
-            piece,
-            tag,
-            block: _,
-        } => (piece, 'S', tag),
-        DeviceLabel::Act { piece, bytes: _ } => (piece, 'A', 0),
-        DeviceLabel::Fault { piece } => (piece, 'F', 0),
-        DeviceLabel::Return { piece, class } => match class {
-            Class::Good => (piece, 'G', 0),
-            Class::Busy => (piece, 'B', 0),
-            Class::Bad(_) => (piece, 'R', 0),
-        },
-    }
+/// Whose location a packet has, and whether it brings an SRB.
+#[derive(Debug, Clone, Copy)]
+pub(crate) struct Form {
+    pub driver: Driver,
+    pub takes_srb: bool,
 }
 
-/// The packet that has come up past every routine.
-pub(crate) fn finished(climb: Climb) -> Option<Done> {
-    match climb {
-        Climb::Finished(done) => Some(done),
-        Climb::Routine { driver: _, irp: _ } => None,
-    }
+/// A packet of this number, full of one byte.
+pub(crate) fn packet_for(
+    alloc: Global,
+    form: Form,
+    number: u64,
+    partitions: &[Extent],
+    longest: u64,
+    request: &Request,
+    byte: u8,
+) -> Result<Irp, AllocError>
+    requires { IsAskable partitions.now longest request.now }
+    ensures { IfOk result (Brings form.takes_srb partitions.now longest number request.now) }
+{
+    let payload = payload_for(alloc, form.takes_srb, partitions, longest, request, byte)?;
+    let mut irp = Irp::new(number as u128, payload);
+    irp.next_location(own_location(form.driver, form.takes_srb, request));
+    Ok(irp)
 }

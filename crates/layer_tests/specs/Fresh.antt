@@ -1,0 +1,11 @@
+-- A port of which nothing was asked yet.
+use Rattle.std.specs.Prelude.{◌≡◌, ℕ, true}
+use Rattle.adapter.specs.View.{AdapterView}
+use Rattle.device.specs.View.{DeviceView}
+use Rattle.port.specs.Opening.{sizes_of, opening_view}
+
+-- over an adapter of so many sectors of 512 bytes, with two tags and transfers of so many sectors
+pub record IsFreshOver (v : DeviceView) (sectors transfer : ℕ) : Type 0 where
+  pub over : AdapterView
+  pub opening : v ≡ opening_view over
+  pub sizes : sizes_of over ≡ record { sector_size = 512; sectors = sectors; max_transfer = transfer; depth = 2; faithful = true }

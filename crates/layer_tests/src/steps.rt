@@ -1,0 +1,165 @@
+//! What is done to a layer and what it must answer, a row each.
+
+use device::{Kind, Request};
+use irp::{Climb, Done, Payload};
+use ntstatus::NtStatus;
+use sector::Extent;
+use srb::{Class, DeviceLabel};
+
+/// A label that the adapter recorded, by the number of its piece.
+#[derive(Drop)]
+pub(crate) enum Told<'a> {
+    /// A start on this tag.
+    Starts(u128, u8),
+    /// A start with this command block.
+    Sends(u128, &'a [u8]),
+    Acts(u128),
+    Faults(u128),
+    /// A return with success.
+    Good(u128),
+    Busy(u128),
+    Bad(u128),
+}
+
+/// What is done, and what must follow. Where labels stand, just these are recorded.
+#[derive(Drop)]
+pub(crate) enum Step<'a> {
+    /// The volumes, the sectors of the first three numbers, the longest request in sectors, and how many requests there may
+    /// be.
+    Sizes(u8, [u64; 3], u64, u128),
+    /// A request goes down: its volume, its kind, its first sector and how many, and the byte that its data are full of.
+    Submit(u8, Kind, u64, u64, u8),
+    /// Four such requests, of which want of memory may turn one away.
+    SubmitFour(u8, Kind, u64, u64, u8),
+    /// Room is made for such a request, and given back.
+    Reserve(u8, Kind, u64, u64),
+    /// The piece of a tag is carried out; without a label there is none that did nothing yet.
+    Act(u8, &'a [Told<'a>]),
+    /// The piece of a tag comes back; without a label there is none.
+    Finish(u8, &'a [Told<'a>]),
+    Reset(&'a [Told<'a>]),
+    Tells(&'a [Told<'a>]),
+    Cancel(u64),
+    /// By the spot that was answered for the packet of the first number, the packet of the second.
+    CancelAt(u64, u64),
+    /// The packet of the first number and that of the second were answered the same spot.
+    HaveOneSpot(u64, u64),
+    Drain,
+    /// A packet comes up: its number and its status.
+    Done(u128, NtStatus),
+    /// The fourth packet comes up with this status, if it was given.
+    FourthDone(NtStatus),
+    /// A packet comes up that moved as many sectors, each full of its byte.
+    Moved(u128, NtStatus, &'a [u8]),
+    /// A packet comes up, and all its data are this byte.
+    Filled(u128, NtStatus, u8),
+    /// No packet comes up.
+    NoneDone,
+    /// The piece on tag 0 comes back busy so often, the first of them with number 1, and is sent again each time.
+    SendsAgain(u8),
+    /// Flushes, so many, go down.
+    SubmitFlushes(u8),
+    /// One behind the other flushes are started, act and come up: the number of the first piece, the number of the first
+    /// packet, and how many.
+    Serve(u8, u8, u8),
+    /// So many packets are held.
+    Holds(usize),
+    Pause,
+    Resume,
+    /// As `CancelAt`, if the packet is held.
+    CancelHeld(u64, u64, bool),
+}
+
+/// A request of these sectors.
+pub(crate) fn request_of(volume: u8, kind: Kind, first: u64, count: u64) -> Request {
+    Request {
+        volume,
+        kind,
+        extent: Extent { first, count },
+        through: false,
+    }
+}
+
+/// Whether a label is there, and is the one that is wanted.
+pub(crate) fn is_told(label: Option<DeviceLabel>, want: &Told) -> bool {
+    let Some(label) = label else {
+        return false;
+    };
+    match label {
+        DeviceLabel::Start { piece, tag, block } => match want {
+            Told::Starts(number, on) => piece == *number && tag == *on,
+            Told::Sends(number, bytes) => piece == *number && block.as_slice() == *bytes,
+            _ => false,
+        },
+        DeviceLabel::Act { piece, bytes: _ } => matches!(want, Told::Acts(n) if *n == piece),
+        DeviceLabel::Fault { piece } => matches!(want, Told::Faults(n) if *n == piece),
+        DeviceLabel::Return { piece, class } => is_back(piece, class, want),
+    }
+}
+
+fn is_back(piece: u128, class: Class, want: &Told) -> bool {
+    match class {
+        Class::Good => matches!(want, Told::Good(n) if *n == piece),
+        Class::Busy => matches!(want, Told::Busy(n) if *n == piece),
+        Class::Bad(_) => matches!(want, Told::Bad(n) if *n == piece),
+    }
+}
+
+/// Whether a packet that came up past every routine is as a step wants it.
+pub(crate) fn is_up(climb: Climb, takes_srb: bool, step: &Step) -> bool {
+    match climb {
+        Climb::Finished(done) => is_done(&done, takes_srb, step),
+        Climb::Routine { driver: _, irp: _ } => false,
+    }
+}
+
+fn is_done(done: &Done, takes_srb: bool, step: &Step) -> bool {
+    match step {
+        Step::Done(number, status) => done.number == *number && done.status == *status,
+        Step::FourthDone(status) => done.number == 4 && done.status == *status,
+        Step::Moved(number, status, sectors) => {
+            done.number == *number
+                && done.status == *status
+                && done.information % 512 == 0
+                && done.information / 512 == sectors.len() as u64
+                && are_sectors(bytes_of(&done.payload, takes_srb), *status, sectors)
+        }
+        Step::Filled(number, status, byte) => {
+            done.number == *number
+                && done.status == *status
+                && bytes_of(&done.payload, takes_srb).is_some_and(|bytes| is_full(bytes, *byte))
+        }
+        _ => false,
+    }
+}
+
+/// The data of a packet that has an SRB, or a buffer where the layer takes none.
+fn bytes_of(payload: &Payload, takes_srb: bool) -> Option<&[u8]> {
+    match payload {
+        Payload::Srb(srb) => takes_srb.then_some(srb.data.as_slice()),
+        Payload::Buffer(bytes) => (!takes_srb).then_some(bytes.as_slice()),
+        Payload::Sent => None,
+    }
+}
+
+/// Whether all bytes are this one.
+fn is_full(bytes: &[u8], byte: u8) -> bool {
+    bytes.iter().all(|b| *b == byte)
+}
+
+/// Whether the data begin with sectors full of these bytes, and are no longer if all went well.
+fn are_sectors(bytes: Option<&[u8]>, status: NtStatus, sectors: &[u8]) -> bool {
+    let Some(bytes) = bytes else {
+        return false;
+    };
+    let whole = bytes.len() / 512;
+    if whole < sectors.len() || status == NtStatus::Success && whole > sectors.len() {
+        return false;
+    }
+    for (sector, byte) in bytes.chunks(512).zip(sectors) {
+        if !is_full(sector, *byte) {
+            return false;
+        }
+    }
+    true
+}
