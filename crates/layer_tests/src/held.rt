@@ -28,7 +28,28 @@ fn cancel_held<R: Drop, D: Device<Room = R>>(
     filter.cancel_held(spot, number as u128)
 }
 
-impl<'a, D: Hold> Session<'a, D> {
+/// A layer that tells how many packets it holds, and finds one by its spot.
+pub(crate) trait Held: Hold {
+    fn count_held(&self) -> usize;
+
+    /// Cancels what is held at a spot; true where it was held.
+    fn cancel_at_spot(&mut self, spot: usize, number: u64) -> bool
+        requires rooms { Self.rooms_out self.old [] }
+        ensures rooms { Self.rooms_out self.new [] }
+        ensures keeps { Keeps (Self.view self.old) (Self.view self.new) };
+}
+
+impl<R: Drop, D: Device<Room = R>> Held for Filter<D, R> {
+    fn count_held(&self) -> usize {
+        self.held()
+    }
+
+    fn cancel_at_spot(&mut self, spot: usize, number: u64) -> bool {
+        cancel_held(self, spot, number)
+    }
+}
+
+impl<'a, D: Held> Session<'a, D> {
     fn pause(&mut self) -> bool {
         if self.paused || self.removed {
             return false;
@@ -50,16 +71,10 @@ impl<'a, D: Hold> Session<'a, D> {
         self.paused = false;
         true
     }
-}
 
-impl<'a, R: Drop, D: Device<Room = R>> Session<'a, Filter<D, R>> {
     fn cancel_held(&mut self, of: u64, number: u64) -> bool {
         let spot = self.spots[(of % 65) as usize];
-        cancel_held(&mut self.device, spot, number)
-    }
-
-    fn held(&self) -> usize {
-        self.device.held()
+        self.device.cancel_at_spot(spot, number)
     }
 
     /// One step, and whether it answered what it must.
@@ -71,7 +86,7 @@ impl<'a, R: Drop, D: Device<Room = R>> Session<'a, Filter<D, R>> {
     ) -> Result<bool, AllocError> {
         match step {
             Step::CancelHeld(of, number, want) => Ok(self.cancel_held(*of, *number) == *want),
-            Step::Holds(count) => Ok(self.held() == *count),
+            Step::Holds(count) => Ok(self.device.count_held() == *count),
             Step::Pause => Ok(self.pause()),
             Step::Resume => Ok(self.resume(rt)),
             step => self.carry_out(rt, alloc, step),
@@ -80,16 +95,16 @@ impl<'a, R: Drop, D: Device<Room = R>> Session<'a, Filter<D, R>> {
 }
 
 /// All steps in turn, on a filter of which nothing was asked yet.
-pub(crate) fn try_all_held<R: Drop, D: Device<Room = R>>(
+pub(crate) fn try_all_held<D: Held>(
     rt: &impl Abort,
     alloc: Global,
-    filter: Filter<D, R>,
+    filter: D,
     partitions: &[Extent],
     steps: &[Step],
 ) -> Result<(), AllocError>
-    requires locations { ⟦<Filter<D, R> as Device>⟧.STACK_SIZE ≤ 4 }
-    requires rooms { ⟦<Filter<D, R> as Device>⟧.rooms_out filter [] }
-    requires known { IsKnown (⟦<Filter<D, R> as Device>⟧.view filter) partitions.now 1 false false }
+    requires locations { D.STACK_SIZE ≤ 4 }
+    requires rooms { D.rooms_out filter [] }
+    requires known { IsKnown (D.view filter) partitions.now 1 false false }
 {
     let mut session = Session::new(filter, Driver::Filter, partitions);
     for (n, step) in steps.iter().enumerate() {

@@ -1,14 +1,16 @@
 //! Partitions of a port over an adapter in memory, each call by the contract of a layer.
 
-ghost use Rattle.std.specs.Prelude.{◌≤◌, length};
+ghost use Rattle.std.specs.Prelude.{◌≡◌, ◌≤◌, [], ◌∷◌, false, length};
 ghost use Rattle.machine.specs.Map.{IsMap};
+ghost use Rattle.partition.specs.Opening.{IsFreshDisk};
+ghost use Rattle.layer_tests.specs.Known.{IsKnown};
 
 use crate::layers::port;
 use crate::session::try_all;
 use crate::steps::Step;
 use crate::steps::Told::{Acts, Bad, Busy, Faults, Good, Sends};
 use arrayvec::ArrayVec;
-use device::Kind;
+use device::{Device, Kind};
 use irp::Driver;
 use ntstatus::NtStatus;
 use partition::Partitions;
@@ -16,6 +18,28 @@ use sector::Extent;
 use std::alloc::{AllocError, Global};
 use std::process::Abort;
 use std::test::Fail;
+
+/// These steps on these partitions of a disk of which nothing was asked yet.
+fn run_over<D: Device>(
+    rt: &impl Abort,
+    alloc: Global,
+    disk: D,
+    partitions: &[Extent],
+    steps: &[Step],
+) -> Result<(), AllocError>
+    requires few { length partitions.now ≤ 4 }
+    requires locations { D.STACK_SIZE ≡ 1 }
+    requires rooms { D.rooms_out disk [] }
+    requires fresh { IsFreshDisk partitions.now (D.view disk) }
+    requires known { IsKnown (D.view disk) (record { first = 0; count = 4096 } ∷ []) 1 false false }
+{
+    let mut table = ArrayVec::new();
+    let Ok(()) = table.try_extend_from_slice(partitions) else {
+        unreachable!()
+    };
+    let stack = Partitions::new(disk, table);
+    try_all(rt, alloc, stack, Driver::Partition, partitions, steps)
+}
 
 /// These steps on these partitions of a disk of 4,096 sectors, the sectors 2120 and 3100 of it bad.
 fn run(
@@ -28,12 +52,7 @@ fn run(
     requires map { IsMap 4096 partitions.now }
 {
     let port = port(alloc, 4096, &[2120, 3100], 64)?;
-    let mut table = ArrayVec::new();
-    let Ok(()) = table.try_extend_from_slice(partitions) else {
-        unreachable!()
-    };
-    let stack = Partitions::new(port, table);
-    try_all(rt, alloc, stack, Driver::Partition, partitions, steps)
+    run_over(rt, alloc, port, partitions, steps)
 }
 
 /// Two partitions, one right behind the other.

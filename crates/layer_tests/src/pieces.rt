@@ -1,11 +1,15 @@
 //! Runs of a class driver over a port and an adapter in memory, each call by the contract of a layer.
 
+ghost use Rattle.std.specs.Prelude.{◌≡◌, ◌^◌, [], ◌∷◌, true, false};
+ghost use Rattle.class_disk.specs.Opening.{IsFreshPort};
+ghost use Rattle.layer_tests.specs.Known.{IsKnown};
+
 use crate::layers::port;
 use crate::session::try_all;
 use crate::steps::Step;
 use crate::steps::Told::{Acts, Bad, Busy, Faults, Good, Starts};
 use class_disk::Disk;
-use device::Kind;
+use device::{Device, Kind};
 use irp::Driver;
 use ntstatus::NtStatus;
 use sector::Extent;
@@ -13,12 +17,28 @@ use std::alloc::{AllocError, Global};
 use std::process::Abort;
 use std::test::Fail;
 
-/// These steps on a class driver over eight sectors of 512 bytes, sector 5 bad, with pieces of two sectors and two tags.
-fn run(rt: &impl Abort, alloc: Global, steps: &[Step]) -> Result<(), AllocError> {
-    let port = port(alloc, 8, &[5], 2)?;
+/// These steps on a class driver over a port of eight sectors of which nothing was asked yet.
+fn run_over<R: Drop, D: Device<Room = R>>(
+    rt: &impl Abort,
+    alloc: Global,
+    port: D,
+    steps: &[Step],
+) -> Result<(), AllocError>
+    requires takes { D.TAKES_SRB ≡ true }
+    requires locations { D.STACK_SIZE ≡ 1 }
+    requires fresh { IsFreshPort (D.rooms_out port) (D.view port) }
+    requires many { (D.view port).most ≡ 2 ^ 96 }
+    requires known { IsKnown (D.view port) (record { first = 0; count = 8 } ∷ []) 1 false false }
+{
     let disk = Disk::new(alloc, port, 512);
     let whole = [Extent { first: 0, count: 8 }];
     try_all(rt, alloc, disk, Driver::Class, &whole, steps)
+}
+
+/// These steps on a class driver over eight sectors of 512 bytes, sector 5 bad, with pieces of two sectors and two tags.
+fn run(rt: &impl Abort, alloc: Global, steps: &[Step]) -> Result<(), AllocError> {
+    let port = port(alloc, 8, &[5], 2)?;
+    run_over(rt, alloc, port, steps)
 }
 
 // The sizes. A read joins its pieces by their places, though the second comes back first. A bad piece in the middle, and one

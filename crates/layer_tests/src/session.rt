@@ -233,6 +233,21 @@ impl<'a, D: Device> Session<'a, D> {
         Ok(true)
     }
 
+    /// A step that ends packets, or looks at what there is, and whether it answered what it must.
+    fn ends(&mut self, step: &Step) -> bool {
+        match step {
+            Step::Cancel(number) => self.cancel(*number),
+            Step::CancelAt(of, number) => self.cancel_at(*of, *number),
+            Step::HaveOneSpot(of, other) => self.have_one_spot(*of, *other),
+            Step::Drain => self.drain(),
+            Step::FourthDone(_) => self.next < 5 || self.comes_up(step),
+            Step::Sizes(volumes, sectors, longest, most) => {
+                self.has_sizes(*volumes, sectors, *longest, *most)
+            }
+            step => self.comes_up(step),
+        }
+    }
+
     /// One step that takes no memory, and whether it answered what it must. A filter's own does not.
     fn follows(&mut self, step: &Step) -> bool {
         match step {
@@ -240,17 +255,9 @@ impl<'a, D: Device> Session<'a, D> {
             Step::Finish(tag, want) => self.finish(*tag, !want.is_empty()) && self.tells(want),
             Step::Reset(want) => self.reset() && self.tells(want),
             Step::Tells(want) => self.tells(want),
-            Step::Cancel(number) => self.cancel(*number),
-            Step::CancelAt(of, number) => self.cancel_at(*of, *number),
-            Step::HaveOneSpot(of, other) => self.have_one_spot(*of, *other),
-            Step::Drain => self.drain(),
             Step::SendsAgain(count) => self.sends_again(*count),
             Step::Serve(piece, first, count) => self.serves(*piece, *first, *count),
-            Step::FourthDone(_) => self.next < 5 || self.comes_up(step),
-            Step::Sizes(volumes, sectors, longest, most) => {
-                self.has_sizes(*volumes, sectors, *longest, *most)
-            }
-            step => self.comes_up(step),
+            step => self.ends(step),
         }
     }
 

@@ -153,13 +153,17 @@ fn are_sectors(bytes: Option<&[u8]>, status: NtStatus, sectors: &[u8]) -> bool {
         return false;
     };
     let whole = bytes.len() / 512;
-    if whole < sectors.len() || status == NtStatus::Success && whole > sectors.len() {
+    let is_more = bytes.len() % 512 != 0 || whole > sectors.len();
+    if whole < sectors.len() || status == NtStatus::Success && is_more {
         return false;
     }
-    for (sector, byte) in bytes.chunks(512).zip(sectors) {
+    let mut rest = bytes;
+    for byte in sectors {
+        let (sector, behind) = rest.split_at(512.min(rest.len()));
         if !is_full(sector, *byte) {
             return false;
         }
+        rest = behind;
     }
     true
 }

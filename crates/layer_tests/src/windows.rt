@@ -1,12 +1,14 @@
 //! Runs of a filter over a port and an adapter in memory, each call by the contract of a layer.
 
-ghost use Rattle.std.specs.Prelude.{◌<◌};
+ghost use Rattle.std.specs.Prelude.{◌≡◌, ◌<◌, [], ◌∷◌, false};
+ghost use Rattle.hold_filter.specs.Opening.{IsFreshBelow};
+ghost use Rattle.layer_tests.specs.Known.{IsKnown};
 
 use crate::held::try_all_held;
 use crate::layers::port;
 use crate::steps::Step;
 use crate::steps::Told::{Acts, Bad, Busy, Faults, Good, Starts};
-use device::Kind;
+use device::{Device, Kind};
 use hold_filter::Filter;
 use ntstatus::NtStatus;
 use sector::Extent;
@@ -14,14 +16,30 @@ use std::alloc::{AllocError, Global};
 use std::process::Abort;
 use std::test::Fail;
 
+/// These steps on a filter over a device of four sectors of which nothing was asked yet.
+fn run_over<R: Drop, D: Device<Room = R>>(
+    rt: &impl Abort,
+    alloc: Global,
+    device: D,
+    window: usize,
+    steps: &[Step],
+) -> Result<(), AllocError>
+    requires some { 0 < window }
+    requires locations { D.STACK_SIZE ≡ 1 }
+    requires fresh { IsFreshBelow (D.rooms_out device) (D.view device) }
+    requires known { IsKnown (D.view device) (record { first = 0; count = 4 } ∷ []) 1 false false }
+{
+    let filter = Filter::new(alloc, device, window);
+    let whole = [Extent { first: 0, count: 4 }];
+    try_all_held(rt, alloc, filter, &whole, steps)
+}
+
 /// These steps on a filter with this window over a port of four sectors, the last one bad, with two tags.
 fn run(rt: &impl Abort, alloc: Global, window: usize, steps: &[Step]) -> Result<(), AllocError>
     requires { 0 < window }
 {
     let port = port(alloc, 4, &[3], 2)?;
-    let filter = Filter::new(alloc, port, window);
-    let whole = [Extent { first: 0, count: 4 }];
-    try_all_held(rt, alloc, filter, &whole, steps)
+    run_over(rt, alloc, port, window, steps)
 }
 
 #[test]
