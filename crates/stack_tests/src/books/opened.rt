@@ -2,7 +2,7 @@
 
 ghost use Rattle.std.specs.Prelude.{◌≡◌, ◌∷◌, [], IfOk, Some};
 ghost use Rattle.probe.specs.Exchange.{IsIdle};
-ghost use Rattle.book.specs.Opening.{AreClientsOf, AreHandlesOf, IsFirst};
+ghost use Rattle.book.specs.Opening.{AreClientsOf, AreHandlesOf, AreOpened, IsFirst, IsNew};
 ghost use Rattle.book.specs.Sizes.{AreSizes, sizes_of};
 
 use crate::disks::start;
@@ -20,6 +20,22 @@ pub(crate) struct Opened<A: Adapter> {
     pub sizes: Sizes,
 }
 
+// Two handles on partition 0, which the stack has.
+fn handles_on<A: Adapter>(
+    rt: &impl Abort,
+    alloc: Global,
+    stack: &mut Stack<A>,
+) -> Result<Vec<Handle>, AllocError>
+    requires new { IsNew stack.old }
+    ensures { IfOk result (λ handles. AreOpened (0 ∷ 0 ∷ []) handles.items stack.old stack.new) }
+{
+    match open_handles(alloc, stack, &[0, 0]) {
+        Ok(handles) => Ok(handles),
+        Err(OpenFault::NoMemory) => Err(AllocError),
+        Err(fault) => panic!(rt; "{fault:?}"),
+    }
+}
+
 /// Over an adapter that a stack can be started over.
 pub(crate) fn open_two<A: Adapter>(
     rt: &impl Abort,
@@ -35,13 +51,10 @@ pub(crate) fn open_two<A: Adapter>(
     ensures slots { IfOk result (λ o. o.stack.rules.open_requests ≡ Some 64) }
 {
     let (mut stack, sizes) = start(rt, alloc, adapter, 64)?;
-    match open_handles(alloc, &mut stack, &[0, 0]) {
-        Ok(handles) => Ok(Opened {
-            stack,
-            handles,
-            sizes,
-        }),
-        Err(OpenFault::NoMemory) => Err(AllocError),
-        Err(fault) => panic!(rt; "{fault:?}"),
-    }
+    let handles = handles_on(rt, alloc, &mut stack)?;
+    Ok(Opened {
+        stack,
+        handles,
+        sizes,
+    })
 }

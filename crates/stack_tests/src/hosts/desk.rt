@@ -1,6 +1,6 @@
 //! A host of two clients, and what is asked of it.
 
-ghost use Rattle.std.specs.Prelude.{◌≡◌, ◌∷◌, [], ◌+◌, IfOk, length};
+ghost use Rattle.std.specs.Prelude.{◌≡◌, ◌≤◌, ◌∷◌, [], ◌+◌, IfOk, length, vec_capacity};
 ghost use Rattle.host.specs.Clients.{AreNumbered};
 
 use crate::expect::{same, same_at};
@@ -142,6 +142,41 @@ pub(crate) fn two_of<N: Naming>(rt: &impl Abort, clients: Vec<Client<N>>) -> (Cl
     }
 }
 
+// The rows of a test; then both were told what is wanted.
+fn play_and_compare<A: Adapter, N: Naming, R: Wait + Abort>(
+    rt: &R,
+    alloc: Global,
+    host: &Host<A, N>,
+    keeper: &mut Keeper<N>,
+    first: &mut User<N>,
+    second: &mut User<N>,
+    run: &Run,
+) -> Result<(), AllocError>
+    ensures first { first.new.client ≡ first.old.client }
+    ensures second { second.new.client ≡ second.old.client }
+{
+    play(rt, alloc, host, keeper, first, second, run.rows)?;
+    first.compare(rt, 0, run.first.calls, run.first.answers);
+    second.compare(rt, 1, run.second.calls, run.second.answers);
+    Ok(())
+}
+
+// The clients of both, at places that were made for them.
+fn given_back<N: Naming>(
+    mut back: Vec<Client<N>>,
+    first: User<N>,
+    second: User<N>,
+) -> Vec<Client<N>>
+    requires places { (back.items ≡ []) × (2 ≤ vec_capacity back) }
+    requires first { first.client ≡ 0 }
+    requires second { second.client ≡ 1 }
+    ensures { AreNumbered 2 result.items }
+{
+    back.push_reserved(first.into_client());
+    back.push_reserved(second.into_client());
+    back
+}
+
 // Two clients play the rows, and come back.
 fn play_by_two<A: Adapter, N: Naming, R: Wait + Abort>(
     rt: &R,
@@ -154,15 +189,12 @@ fn play_by_two<A: Adapter, N: Naming, R: Wait + Abort>(
     requires two { AreNumbered 2 clients.items }
     ensures two { IfOk result (λ back. AreNumbered 2 back.items) }
 {
-    let mut back = Vec::with_capacity(alloc, 2)?;
+    let back = Vec::with_capacity(alloc, 2)?;
     let (first, second) = two_of(rt, clients);
-    let mut first = User::new(first);
-    let mut second = User::new(second);
-    play(rt, alloc, host, keeper, &mut first, &mut second, run.rows)?;
-    first.compare(rt, 0, run.first.calls, run.first.answers);
-    second.compare(rt, 1, run.second.calls, run.second.answers);
-    back.push_reserved(first.into_client());
-    back.push_reserved(second.into_client());
+    let (mut first, mut second) = (User::new(first), User::new(second));
+    let played = play_and_compare(rt, alloc, host, keeper, &mut first, &mut second, run);
+    let back = given_back(back, first, second);
+    played?;
     Ok(back)
 }
 

@@ -5,8 +5,8 @@ ghost use Rattle.probe.specs.Exchange.{IsIdle};
 
 use crate::disks::{MIDDLE, SIGNATURE, Table, UNUSED};
 use crate::expect::same_at;
-use crate::stacks::disks::{disk_adapter, stack_on};
-use crate::stacks::steps::{FIRST, Step, go};
+use crate::stacks::disks::disk_adapter;
+use crate::stacks::steps::{FIRST, Row, Step, go_on};
 use compose::{MbrFault, Settings, Stack, StartFault};
 use miniport::Adapter;
 use ntstatus::NtStatus;
@@ -41,7 +41,7 @@ const FOUR: Table = Table {
 };
 
 /// A disk by its table and its bad sector, settings by their two limits, and what stops a start.
-type Row<'a> = (&'a Table, u64, u32, u32, Option<StartFault>);
+type Start<'a> = (&'a Table, u64, u32, u32, Option<StartFault>);
 
 /// What stops a start, if anything.
 fn fault<A: Adapter>(
@@ -60,7 +60,7 @@ fn fault<A: Adapter>(
 }
 
 /// Starts a stack over each; it is stopped as it should be.
-fn start_all(rt: &impl Abort, alloc: Global, rows: &[Row]) -> Result<(), AllocError> {
+fn start_all(rt: &impl Abort, alloc: Global, rows: &[Start]) -> Result<(), AllocError> {
     for (table, bad, window, open_requests, want) in rows {
         let adapter = disk_adapter(rt, alloc, table, &[*bad])?;
         let settings = Settings {
@@ -102,34 +102,22 @@ fn starts_or_says_why(rt: HostRuntime) -> Result<(), Fail> {
 }
 
 /// On the last of four partitions.
-fn serve_the_last<A: Adapter>(rt: &impl Abort, alloc: Global, adapter: A) -> Result<(), AllocError>
-    requires idle { IsIdle (A.view adapter) }
-    requires unasked { (A.view adapter).accepted ≡ 0 }
-{
-    let mut stack = stack_on(rt, alloc, adapter)?;
-    go(
-        rt,
-        alloc,
-        &mut stack,
-        &[
-            (Step::Open(4), "refused InvalidParameter none"),
-            (Step::Open(3), "handle 1"),
-            (
-                Step::Read(FIRST, 1_047_552, 512),
-                "refused InvalidParameter 00*512 / call 1 read 1047552 512 of 3 / answer 1 INVALID_PARAMETER 0 none",
-            ),
-            (
-                Step::Read(FIRST, 1_047_040, 512),
-                "request 2 / call 2 read 1047040 512 of 3 / start 1 tag 0 2800000007ff00000100",
-            ),
-        ],
-    )
-}
+const ON_THE_LAST: &[Row] = &[
+    (Step::Open(4), "refused InvalidParameter none"),
+    (Step::Open(3), "handle 1"),
+    (
+        Step::Read(FIRST, 1_047_552, 512),
+        "refused InvalidParameter 00*512 / call 1 read 1047552 512 of 3 / answer 1 INVALID_PARAMETER 0 none",
+    ),
+    (
+        Step::Read(FIRST, 1_047_040, 512),
+        "request 2 / call 2 read 1047040 512 of 3 / start 1 tag 0 2800000007ff00000100",
+    ),
+];
 
 #[test]
 fn serves_four_partitions(rt: HostRuntime) -> Result<(), Fail> {
-    let alloc = rt.alloc();
-    let adapter = disk_adapter(&rt, alloc, &FOUR, &[])?;
-    serve_the_last(&rt, alloc, adapter)?;
+    let adapter = disk_adapter(&rt, rt.alloc(), &FOUR, &[])?;
+    go_on(&rt, rt.alloc(), adapter, &[ON_THE_LAST], None)?;
     Ok(())
 }

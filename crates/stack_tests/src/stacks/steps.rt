@@ -1,8 +1,10 @@
 //! Steps as a table writes them, and what a stack shows for them.
 
 ghost use Rattle.std.specs.Prelude.{◌≡◌, [], OnOk};
+ghost use Rattle.probe.specs.Exchange.{IsIdle};
 
 use crate::expect::{same, same_at};
+use crate::stacks::disks::stack_on;
 use crate::stacks::told::{tell_answer, told};
 use compose::{Event, Handle, Id, Refusal, Reply, RunStopped, Shown, Stack};
 use miniport::Adapter;
@@ -38,16 +40,6 @@ pub(crate) const FIRST: Handle = Handle { slot: 0, number: 1 };
 
 /// The second, where the first is open.
 pub(crate) const SECOND: Handle = Handle { slot: 1, number: 2 };
-
-/// A read on the first handle.
-pub(crate) fn read(offset: u64, length: usize) -> Step {
-    Step::Read(FIRST, offset, length)
-}
-
-/// A write on the first handle.
-pub(crate) fn write(offset: u64, length: usize, byte: u8) -> Step {
-    Step::Write(FIRST, offset, length, byte)
-}
 
 /// A step, and what it must show.
 pub(crate) type Row<'a> = (Step, &'a str);
@@ -116,8 +108,8 @@ fn compare(
     Ok(())
 }
 
-/// Carries the steps out in one run; each shows just what is wanted, also where the run stops for want of memory.
-pub(crate) fn run<A: Adapter>(
+// Carries the steps out in one run; each shows just what is wanted, also where the run stops for want of memory.
+fn run<A: Adapter>(
     rt: &impl Abort,
     alloc: Global,
     stack: &mut Stack<A>,
@@ -186,8 +178,8 @@ fn go_one<A: Adapter>(
 /// What a write of one sector shows where memory for it was refused.
 pub(crate) const REFUSED: &str = "refused InsufficientResources a5*512";
 
-/// Carries the steps out one by one; each shows just what is wanted.
-pub(crate) fn go<A: Adapter>(
+// Carries the steps out one by one; each shows just what is wanted.
+fn go<A: Adapter>(
     rt: &impl Abort,
     alloc: Global,
     stack: &mut Stack<A>,
@@ -202,8 +194,8 @@ pub(crate) fn go<A: Adapter>(
     Ok(())
 }
 
-/// Takes the waiting answers, which are just these, in this order.
-pub(crate) fn answers<A: Adapter>(
+// Takes the waiting answers, which are just these, in this order.
+fn answers<A: Adapter>(
     rt: &impl Abort,
     alloc: Global,
     stack: &mut Stack<A>,
@@ -219,4 +211,67 @@ pub(crate) fn answers<A: Adapter>(
     }
     assert!(rt; stack.take_answer().is_none());
     Ok(())
+}
+
+// All rows in one run, and then the answers.
+fn run_and_answer<A: Adapter>(
+    rt: &impl Abort,
+    alloc: Global,
+    stack: &mut Stack<A>,
+    rows: &[Row],
+    told: &[&str],
+) -> Result<(), AllocError>
+    requires { stack.old.labels ≡ [] }
+{
+    run(rt, alloc, stack, rows)?;
+    answers(rt, alloc, stack, told)
+}
+
+/// Carries the rows out in one run of a new stack over an adapter; then just these answers wait.
+pub(crate) fn run_on<A: Adapter>(
+    rt: &impl Abort,
+    alloc: Global,
+    adapter: A,
+    rows: &[Row],
+    told: &[&str],
+) -> Result<(), AllocError>
+    requires idle { IsIdle (A.view adapter) }
+    requires unasked { (A.view adapter).accepted ≡ 0 }
+{
+    let mut stack = stack_on(rt, alloc, adapter)?;
+    run_and_answer(rt, alloc, &mut stack, rows, told)
+}
+
+// All rows one by one, and then the answers, where these are told.
+fn go_and_answer<A: Adapter>(
+    rt: &impl Abort,
+    alloc: Global,
+    stack: &mut Stack<A>,
+    rows: &[&[Row]],
+    told: Option<&[&str]>,
+) -> Result<(), AllocError>
+    requires { stack.old.labels ≡ [] }
+{
+    for rows in rows {
+        go(rt, alloc, stack, rows)?;
+    }
+    match told {
+        Some(told) => answers(rt, alloc, stack, told),
+        None => Ok(()),
+    }
+}
+
+/// Carries the rows out one by one on a new stack over an adapter; then just these answers wait, where they are told.
+pub(crate) fn go_on<A: Adapter>(
+    rt: &impl Abort,
+    alloc: Global,
+    adapter: A,
+    rows: &[&[Row]],
+    told: Option<&[&str]>,
+) -> Result<(), AllocError>
+    requires idle { IsIdle (A.view adapter) }
+    requires unasked { (A.view adapter).accepted ≡ 0 }
+{
+    let mut stack = stack_on(rt, alloc, adapter)?;
+    go_and_answer(rt, alloc, &mut stack, rows, told)
 }
