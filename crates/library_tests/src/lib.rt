@@ -1,11 +1,14 @@
 //! Tests of the libraries beside the stack and over it, by their public calls: the judge, sessions of NBD, volumes,
-//! settings, what they start, and scripts. Each compares what a call answers with values worked by hand.
+//! settings, what they start, scripts, and what the program `stackrun` can be asked for. Each compares what a call answers
+//! with values worked by hand.
 #![tactic(auto)]
 
 #[cfg(test)]
 mod documents;
 #[cfg(test)]
 mod expect;
+#[cfg(test)]
+mod runs;
 #[cfg(test)]
 mod scripts;
 #[cfg(test)]

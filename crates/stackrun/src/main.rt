@@ -1,28 +1,16 @@
-//! The program: runs a script of events through a stack over a disk in memory, and prints the trace.
+//! The program: runs a script of events through a stack over a disk in memory, and prints the trace, or runs clients in
+//! threads of their own over one, and prints their tally.
 //!
-//! It promises, by the contract of [`trace::trace`], that a run that succeeds has printed just the text of its script's run
-//! over the stack that its settings start (`text`), and that settings, or a line of the script, are blamed only where that
-//! fault is there, settings first (`fault`); by that of [`clients::clients`], that a tally was printed, or why none was (`printed`, `fault`); by
-//! [`words::command`], that the two paths are those that the parser of the command line found under their names, and that
-//! only words which ask for nothing are refused; by
-//! [`Fault`]'s text and [`Ending`](startup::Ending), the line and the exit status of each fault, as [`startup::say`] and
-//! [`startup::ended`] give them. Settings, their stack and scripts themselves are of the crates `settings`, `startup` and
-//! `script`. No contract says what a file holds.
+//! What its words ask for, what is printed and which line and exit status a fault has is promised by the crate `commands`
+//! ([`command`], [`trace`], [`clients`], [`Fault`]) and by `startup` ([`ended`]). Here are its arguments, files, threads
+//! and output alone, of which nothing is promised: no contract says what a file holds.
 #![tactic(auto)]
 
-mod clients;
-mod faults;
-mod input;
-#[cfg(test)]
-mod tests;
-mod trace;
-mod words;
-
-use crate::clients::clients;
-use crate::faults::Fault;
-use crate::trace::trace;
-use crate::words::asked::Command;
-use crate::words::command;
+use commands::clients::clients;
+use commands::trace::trace;
+use commands::words::asked::Command;
+use commands::words::command;
+use commands::{Fault, input};
 use startup::{Verdict, ended, fault_of};
 use std::env;
 use std::io::BufWriter;

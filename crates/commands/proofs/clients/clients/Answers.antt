@@ -1,0 +1,25 @@
+use Rattle.std.proofs.Common.{◌≡◌, Err, false, rules, true}
+use Rattle.startup.specs.declared.faults.Fault.TheVariants.{Start}
+use Rattle.commands.specs.declared.faults.Fault.TheVariants.{Startup}
+use Rattle.commands.proofs.Blaming.{no_output, no_partition, no_room}
+use Rattle.commands.proofs.clients.clients.Goals as goal
+
+pub returns-in_err-stack-clause-fault : goal.returns-in_err-stack-clause-fault
+returns-in_err-stack-clause-fault g c =
+    let told : c.from_residual-in_err-stack.result ≡ Err (Startup (Start c.in_err-stack.field-0.0)) = search rules in
+    rw told (c.in_ok-config.config, c.in_ok-config.ensures.read, c.in_err-stack.ensures.fault)
+
+pub returns-then-not-has_room-clause-fault : goal.returns-then-not-has_room-clause-fault
+returns-then-not-has_room-clause-fault g c =
+    let lacks : c.has_room-has_room.result ≡ false = search rules in
+    no_room _ _ c.in_ok-config.config c.in_ok-config.ensures.read c.has_room-has_room.result c.out_of_range.result c.has_room-has_room.ensures lacks c.out_of_range.ensures
+
+pub returns-in-Err-NoPartition-clause-fault : goal.returns-in-Err-NoPartition-clause-fault
+returns-in-Err-NoPartition-clause-fault g c =
+    no_partition _ _ c.in_ok-config.config c.in_ok-config.ensures.read c.in_ok-stack.stack.rules c.in-Err-NoPartition.field-0 c.out_of_range-in-Err-NoPartition.result
+    c.in_ok-stack.ensures.view.rules c.in-Err-NoPartition.field-0-is c.in-Err-NoPartition.ensures.fault c.out_of_range-in-Err-NoPartition.ensures
+
+pub returns-in-Err-clause-fault : goal.returns-in-Err-clause-fault
+returns-in-Err-clause-fault g c =
+    let has : c.has_room-has_room.result ≡ true = search rules in
+    no_output _ _ c.in_ok-config.config c.in_ok-config.ensures.read c.has_room-has_room.result c.output_fault.result c.has_room-has_room.ensures has c.output_fault.ensures

@@ -1,0 +1,51 @@
+-- What is printed of clients, and whether they all succeeded; and why nothing is.
+use Rattle.std.specs.Prelude.{◌≡◌, ◌≤◌, ◌⊎◌, ℕ, ◌*◌, ◌==◌, ◌&&◌, ◌++◌, ◌∷◌, [], IsSomeAnd, List, Option, codes, if◌then◌else◌, slice_get}
+use Rattle.std.specs.Fmt.{decimal}
+use Rattle.std.specs.Io.KnownBytes.{Appends}
+use Rattle.rounds.specs.declared.Tally.{Tally}
+use Rattle.settings.specs.declared.Config.{Config}
+use Rattle.settings.specs.declared.ConfigFault.TheVariants.{OutOfRange}
+use Rattle.script.specs.declared.ScriptFault.TheVariants.{OutputFailed}
+use Rattle.startup.specs.declared.faults.Fault.TheVariants.{Settings, Start}
+use Rattle.startup.specs.Reading.{AreRead, HasFault}
+use Rattle.startup.specs.Started.{IsStartFault}
+use Rattle.startup.specs.declared.ending.Verdict.{Verdict}
+use Rattle.startup.specs.declared.ending.Verdict.TheVariants.{Passed, Failed}
+use Rattle.commands.specs.declared.faults.Fault.{Fault}
+use Rattle.commands.specs.declared.faults.Fault.TheVariants.{Usage, Startup, ScriptUnreadable, Script, NoMemory}
+
+-- the line of a tally, with its end
+abbrev pub tally_line : ℕ → ℕ → Tally → List ℕ
+tally_line threads rounds t =
+    codes "threads " ++ (decimal threads ++ (codes " rounds " ++ (decimal rounds ++ (codes " answered " ++ (decimal t.answered ++ (codes " differing " ++ (decimal t.differing ++ 10 ∷ [])))))))
+
+-- each client made two calls a round: all succeeded, and no read gave other bytes than were written
+abbrev pub verdict_on : ℕ → ℕ → Tally → Verdict
+verdict_on threads rounds t = if (t.differing == 0) && (t.answered == 2 * threads * rounds) then Passed else Failed
+
+-- the line of some tally was printed, which this is the verdict on
+pub record PrintsTally (threads rounds : ℕ) (old new : Option (List ℕ)) (verdict : Verdict) : Type 0 where
+  pub tally : Tally
+  pub appends : Appends old new (tally_line threads rounds tally)
+  pub verdict_is : verdict ≡ verdict_on threads rounds tally
+
+-- each of so many clients has a sector of partition 0, and may have a request open
+pub record HasRoom (c : Config) (threads : ℕ) : Type 0 where
+  pub sectors : IsSomeAnd (slice_get c.partitions.items 0) (λ p. threads ≤ p.count)
+  pub requests : threads ≤ c.open_requests
+
+-- the output failed, or memory was refused
+abbrev pub IsOutputFault : Fault → Type 0
+IsOutputFault fault = (fault ≡ Script OutputFailed) ⊎ (fault ≡ NoMemory)
+
+-- why nothing is printed of so many clients. Settings are looked at first, then a stack is started, and then there has to be room
+abbrev pub IsClientsFault : Option (List ℕ) → ℕ → Fault → Type 0
+IsClientsFault config threads Usage = ⊥
+IsClientsFault config threads (Startup (Start fault)) = (settings : Config) × AreRead config settings × IsStartFault settings fault
+IsClientsFault config threads (Startup (Settings OutOfRange)) =
+    HasFault config (Settings OutOfRange) ⊎ ((settings : Config) × AreRead config settings × ¬ (HasRoom settings threads))
+IsClientsFault config threads (Startup fault) = HasFault config fault
+IsClientsFault config threads ScriptUnreadable = ⊥
+IsClientsFault config threads (Script OutputFailed) = (settings : Config) × AreRead config settings × HasRoom settings threads
+IsClientsFault config threads (Script _) = ⊥
+IsClientsFault config threads NoMemory = Unit {0}

@@ -1,0 +1,19 @@
+-- The line that the program says of a fault.
+use Rattle.std.specs.Prelude.{ℕ, ◌++◌, List, Bool, true, false, codes}
+use Rattle.script.specs.Faults.{text_of as script_text}
+use Rattle.startup.specs.Texts.{text_of as startup_text}
+use Rattle.commands.specs.declared.faults.Fault.{Fault}
+use Rattle.commands.specs.declared.faults.Fault.TheVariants.{Usage, Startup, ScriptUnreadable, Script, NoMemory}
+
+-- the line of a fault, without its end
+abbrev pub line_of : Fault → List ℕ
+line_of Usage = codes "usage: stackrun trace CONFIG SCRIPT | stackrun clients CONFIG THREADS CALLS"
+line_of (Startup fault) = codes "stackrun: " ++ startup_text fault
+line_of ScriptUnreadable = codes "stackrun: cannot read SCRIPT"
+line_of (Script fault) = codes "stackrun: " ++ script_text fault
+line_of NoMemory = codes "stackrun: no memory"
+
+-- nothing was run, since the words of the command line ask for nothing that there is
+abbrev pub is_usage : Fault → Bool
+is_usage Usage = true
+is_usage _ = false

@@ -1,0 +1,140 @@
+//! Clients over the stack of some settings, in threads of their own, and what comes of them in print.
+
+ghost use Rattle.std.specs.Prelude.{◌≡◌, ◌≤◌, ◌++◌, ◌∷◌, ◌↔◌, [], OnOk, IfErr, IfOk, IsTrue};
+ghost use Rattle.std.specs.Io.KnownBytes.{Appends};
+ghost use Rattle.book.specs.Sizes.{AreSizes, sizes_of};
+ghost use Rattle.settings.specs.InRange.{AreInRange};
+ghost use Rattle.commands.specs.Clients.{HasRoom, IsClientsFault, IsOutputFault, PrintsTally, tally_line, verdict_on};
+ghost use Rattle.settings.specs.declared.ConfigFault.TheVariants.{OutOfRange};
+ghost use Rattle.commands.specs.declared.faults.Fault.TheVariants.{Startup};
+ghost use Rattle.startup.specs.declared.faults.Fault.TheVariants.{Settings};
+ghost use Rattle.startup.specs.Started.{rules_of};
+
+use crate::faults::Fault;
+use book::Sizes;
+use rounds::{Plan, RoundsFault, Tally, run};
+use script::ScriptFault;
+use settings::{Config, ConfigFault};
+use startup::{Verdict, fault_of, read_settings, start};
+use std::alloc::Global;
+use std::io;
+use std::io::{Read, Write};
+use std::sync::Wait;
+use std::thread::Threads;
+
+/// Sectors of the longest request of a stack.
+const LONGEST: u32 = 65_536;
+
+/// As many busy returns end a request of a stack.
+const BUSY_LIMIT: u32 = 17;
+
+/// Runs so many clients on partition 0 of a stack over a disk in memory, each for so many rounds, and writes what came of
+/// them: how many calls succeeded, and how many reads gave other bytes than were written.
+///
+/// # Errors
+///
+/// The first of these that fits: the settings can't be read, or are refused; no stack of the settings could be started;
+/// there is no partition, or more clients than sectors of partition 0 or than requests may be open; `out` failed.
+/// [`Fault::NoMemory`] in place of any of them, where memory was refused or a thread could not be started.
+pub fn clients<C: Read + Drop, O: Write, R: Threads + Wait + Sync>(
+    rt: &R,
+    alloc: Global,
+    config: C,
+    threads: u16,
+    rounds: u16,
+    out: &mut O,
+) -> Result<Verdict, Fault>
+    requires { (1 ≤ threads) × (threads ≤ 32) }
+    ensures printed { IfOk result (PrintsTally threads rounds (O.contents out.old) (O.contents out.new)) }
+    ensures fault { IfErr result (IsClientsFault (C.remaining config) threads) }
+{
+    let config = read_settings(alloc, config)?;
+    let has_room = has_room(&config, threads);
+    let sizes = sizes_for(&config);
+    let slots = config.open_requests as usize;
+    let plan = Plan {
+        clients: threads,
+        rounds,
+        sector_size: config.sector_size,
+        depth: config.depth,
+    };
+    let stack = start(alloc, config)?;
+    if !has_room {
+        return Err(out_of_range());
+    }
+    let tally = match run(rt, alloc, stack, sizes, slots, plan) {
+        Ok(tally) => tally,
+        Err(RoundsFault::NoMemory) => return Err(Fault::NoMemory),
+        Err(RoundsFault::NoPartition) => return Err(out_of_range()),
+    };
+    match write_tally(out, threads, rounds, &tally) {
+        Ok(()) => Ok(verdict(threads, rounds, &tally)),
+        Err(error) => Err(output_fault(&error)),
+    }
+}
+
+/// The fault of settings that have no room for the clients.
+fn out_of_range() -> Fault
+    ensures { result ≡ Startup (Settings OutOfRange) }
+{
+    Fault::Startup(startup::Fault::Settings(ConfigFault::OutOfRange))
+}
+
+/// The fault of a line that could not be written.
+fn output_fault(error: &io::Error) -> Fault
+    ensures { IsOutputFault result }
+{
+    fault_of(error, Fault::Script(ScriptFault::OutputFailed))
+}
+
+/// Whether each client has a sector of partition 0 and may have a request open.
+fn has_room(config: &Config, threads: u16) -> bool
+    ensures { IsTrue result ↔ HasRoom config.now threads }
+{
+    match config.partitions.first() {
+        Some(partition) => {
+            u32::from(threads) <= partition.count && u32::from(threads) <= config.open_requests
+        }
+        None => false,
+    }
+}
+
+/// The sizes of the stack of some settings.
+fn sizes_for(config: &Config) -> Sizes
+    requires { AreInRange config.now }
+    ensures rules { result ≡ sizes_of (rules_of config.now) }
+    ensures sizes { AreSizes result }
+{
+    Sizes {
+        sector_size: config.sector_size,
+        longest: LONGEST,
+        max_transfer: config.max_transfer,
+        busy_limit: BUSY_LIMIT,
+    }
+}
+
+fn write_tally<W: Write>(out: &mut W, threads: u16, rounds: u16, tally: &Tally) -> io::Result<()>
+    ensures { OnOk result (Appends (W.contents out.old) (W.contents out.new) (tally_line threads rounds tally.now)) }
+{
+    let Tally {
+        answered,
+        differing,
+    } = *tally;
+    writeln!(
+        out,
+        "threads {threads} rounds {rounds} answered {answered} differing {differing}"
+    )?;
+    out.flush()
+}
+
+/// Whether each call succeeded, and each read gave what was written.
+fn verdict(threads: u16, rounds: u16, tally: &Tally) -> Verdict
+    ensures { result ≡ verdict_on threads rounds tally.now }
+{
+    let calls = 2 * u64::from(threads) * u64::from(rounds);
+    if tally.differing == 0 && tally.answered == calls {
+        Verdict::Passed
+    } else {
+        Verdict::Failed
+    }
+}

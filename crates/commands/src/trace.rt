@@ -1,0 +1,72 @@
+//! A script run through the stack of its settings, and its trace in print.
+
+ghost use Rattle.std.specs.Prelude.{ℕ, IfErr, IfOk, List, OnOk, Option};
+ghost use Rattle.script.specs.Trace.{Prints};
+ghost use Rattle.settings.specs.InRange.{AreInRange};
+ghost use Rattle.startup.specs.Reading.{IsAllOf};
+ghost use Rattle.commands.specs.Trace.{AreGiven, IsPrintOf, IsTraceFault, IsUnreadScript};
+
+use crate::faults::Fault;
+use script::{Line, ScriptFault, lines, play};
+use settings::Config;
+use startup::{contents, fault_of, read_settings, start};
+use std::alloc::Global;
+use std::io::{Read, Write};
+
+/// Runs a script through a stack over a disk in memory, and writes what comes of each event.
+///
+/// # Errors
+///
+/// The first of these that fits: the settings can't be read, or are refused; the script can't be read, or has a bad
+/// line; no stack of the settings could be started; `out` failed, after a beginning of the text. [`Fault::NoMemory`], or
+/// that of the step, in place of any of them, where memory was refused.
+pub fn trace<C: Read + Drop, S: Read + Drop, O: Write>(
+    alloc: Global,
+    config: C,
+    script: S,
+    out: &mut O,
+) -> Result<(), Fault>
+    ensures text { OnOk result (Prints (O.contents out.old) (O.contents out.new) (IsPrintOf (C.remaining config) (S.remaining script))) }
+    ensures fault { IfErr result (IsTraceFault (C.remaining config) (S.remaining script)) }
+{
+    let config = read_settings(alloc, config)?;
+    let script = bytes_of(alloc, script)?;
+    let Ok(text) = std::str::from_utf8(script.as_slice()) else {
+        return Err(Fault::Script(ScriptFault::BadLine { line: 1 }));
+    };
+    let lines = lines(alloc, text)?;
+    play_lines(alloc, config, lines.as_slice(), out)
+}
+
+/// Plays the lines of a script through a stack of some settings, whichever inputs gave both.
+///
+/// # Errors
+///
+/// No stack of the settings could be started; `out` failed, after a beginning of the text; memory was refused.
+fn play_lines<O: Write>(
+    alloc: Global,
+    config: Config,
+    lines: &[Line<'_>],
+    out: &mut O,
+) -> Result<(), Fault>
+    requires { AreInRange config }
+    ensures text { (settings script : Option (List ℕ)) → AreGiven settings script config lines.now → OnOk result (Prints (O.contents out.old) (O.contents out.new) (IsPrintOf settings script)) }
+    ensures fault { (settings script : Option (List ℕ)) → AreGiven settings script config lines.now → IfErr result (IsTraceFault settings script) }
+{
+    let mut stack = start(alloc, config)?;
+    match play(alloc, &mut stack, lines, out) {
+        Ok(()) => Ok(()),
+        Err(fault) => Err(Fault::Script(fault)),
+    }
+}
+
+/// All bytes of a script.
+fn bytes_of<R: Read + Drop>(alloc: Global, script: R) -> Result<Vec<u8>, Fault>
+    ensures all { IfOk result (λ bytes. IsAllOf (R.remaining script) bytes.items) }
+    ensures fault { IfErr result IsUnreadScript }
+{
+    match contents(alloc, script) {
+        Ok(bytes) => Ok(bytes),
+        Err(error) => Err(fault_of(&error, Fault::ScriptUnreadable)),
+    }
+}
