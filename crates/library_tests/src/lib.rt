@@ -1,6 +1,6 @@
 //! Tests of the libraries beside the stack and over it, by their public calls: the judge, sessions of NBD, volumes,
-//! settings, what they start, scripts, and what the program `stackrun` can be asked for. Each compares what a call answers
-//! with values worked by hand.
+//! settings, what they start, scripts, and what the programs `stackrun` and `nbd_disk` can be asked for. Each compares what
+//! a call answers with values worked by hand.
 #![tactic(auto)]
 
 #[cfg(test)]
@@ -11,6 +11,8 @@ mod expect;
 mod runs;
 #[cfg(test)]
 mod scripts;
+#[cfg(test)]
+mod served;
 #[cfg(test)]
 mod sessions;
 #[cfg(test)]

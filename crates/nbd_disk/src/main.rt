@@ -3,25 +3,15 @@
 //! A relay that starts a program for each connection makes it a server (`socat UNIX-LISTEN:disk.sock EXEC:"nbd_disk CONFIG"`).
 //!
 //! It promises, by the contract of [`serving::serve_disk`] (`served`), that what a session has read and written is a session
-//! of the NBD protocol, over the bytes of the partition of the settings' disk, which are zeros at its start; by [`words::command`],
-//! that path and partition are those that the parser of the command line found under their names, and that only words which
-//! ask for nothing are refused; by [`Fault`]'s text and
+//! of the NBD protocol, over the bytes of the partition of the settings' disk, which are zeros at its start; by
+//! [`serving::command`], that path and partition are those that the parser of the command line found under their names, and
+//! that only words which ask for nothing are refused; by [`Fault`]'s text and
 //! [`Ending`](startup::Ending), the line and the exit status of each fault, as [`startup::say`] and [`startup::ended`] give
 //! them. The bytes of standard input and output themselves are told by no contract: what is promised is promised of readers
 //! and writers that tell theirs. Each client has a disk of its own.
 #![tactic(auto)]
 
-mod faults;
-mod served;
-mod serving;
-#[cfg(test)]
-mod tests;
-mod words;
-
-use crate::faults::Fault;
-use crate::serving::serve_disk;
-use crate::words::asked::Asked;
-use crate::words::command;
+use serving::{Asked, Fault, command, serve_disk};
 use startup::{Verdict, ended, fault_of};
 use std::fs::File;
 use std::io::{BufReader, BufWriter};

@@ -3,7 +3,7 @@
 ghost use Rattle.std.specs.Prelude.{◌≡◌, IfErr, IfOk};
 ghost use Rattle.std.specs.Result.{result_err};
 ghost use Rattle.settings.specs.InRange.{AreInRange};
-ghost use Rattle.nbd_disk.specs.Serving.{IsServed, IsStartFault, fault_of_end, fault_of_open, new_array};
+ghost use Rattle.serving.specs.Serving.{IsServed, IsStartFault, fault_of_end, fault_of_open, new_array};
 
 use crate::faults::Fault;
 use crate::served::Served;

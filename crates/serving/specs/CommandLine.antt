@@ -4,7 +4,7 @@ use Rattle.std.specs.Str.Parse.{IsNumeral, digits_value}
 use Rattle.clap.specs.Words.{App, Row, Rule, Text, first_of, matches_of, new_app, new_rule, with_rule}
 use Rattle.clap.specs.Takes.{takes}
 use Rattle.clap.specs.declared.builder.ArgAction.TheVariants.{Set}
-use Rattle.nbd_disk.specs.declared.words.asked.Asked.{Asked}
+use Rattle.serving.specs.declared.words.asked.Asked.{Asked}
 
 -- an argument of one word
 abbrev pub argument_rule : Text → Bool → Rule

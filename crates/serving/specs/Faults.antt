@@ -1,8 +1,8 @@
 -- The line that the program says of a fault.
 use Rattle.std.specs.Prelude.{ℕ, ◌++◌, List, Bool, true, false, codes}
 use Rattle.startup.specs.Texts.{text_of as startup_text}
-use Rattle.nbd_disk.specs.declared.faults.Fault.{Fault}
-use Rattle.nbd_disk.specs.declared.faults.Fault.TheVariants.{Usage, Startup, NoPartition, Malformed, InputEnded, OutputFailed, NoMemory}
+use Rattle.serving.specs.declared.faults.Fault.{Fault}
+use Rattle.serving.specs.declared.faults.Fault.TheVariants.{Usage, Startup, NoPartition, Malformed, InputEnded, OutputFailed, NoMemory}
 
 -- the line of a fault, without its end
 abbrev pub line_of : Fault → List ℕ

@@ -1,9 +1,7 @@
-//! Command lines.
+//! Command lines of the program `nbd_disk`.
 
-use crate::faults::Fault;
-use crate::tests::expect::same;
-use crate::words::asked::Asked;
-use crate::words::command;
+use crate::expect::same;
+use serving::{Asked, Fault, command};
 use std::test::Fail;
 
 #[test]

@@ -6,7 +6,7 @@ use Rattle.volume.specs.declared.OpenFault.{OpenFault}
 use Rattle.volume.specs.declared.OpenFault.TheVariants.{Start as NotStarted, Refused}
 use Rattle.volume.specs.Shown.{Content, VolumeView}
 use Rattle.startup.specs.Started.{IsOpenFault, IsVolumeOf}
-use Rattle.nbd_disk.specs.Serving.{IsStartFault, array_of, fault_of_open, new_array}
+use Rattle.serving.specs.Serving.{IsStartFault, array_of, fault_of_open, new_array}
 
 pub array_is : (c : Config) (p : ℕ) (volume : VolumeView) → IsVolumeOf c p volume → array_of volume.content ≡ new_array c p
 array_is c p volume h =

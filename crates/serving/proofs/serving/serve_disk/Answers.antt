@@ -1,7 +1,7 @@
 use Rattle.std.proofs.Common.{◌≡◌, Err, rules}
 use Rattle.std.specs.Result.{result_err}
-use Rattle.nbd_disk.proofs.Sessions.{with_session, without_disk}
-use Rattle.nbd_disk.proofs.serving.serve_disk.Goals as goal
+use Rattle.serving.proofs.Sessions.{with_session, without_disk}
+use Rattle.serving.proofs.serving.serve_disk.Goals as goal
 
 pub returns-in_err-disk : goal.returns-in_err-disk
 returns-in_err-disk g c =

@@ -4,11 +4,11 @@ use Rattle.clap.specs.Walk.{rows_of}
 use Rattle.clap.specs.Takes.{takes}
 use Rattle.clap.specs.declared.parser.matches.ArgMatches.{ArgMatches}
 use Rattle.clap.proofs.OnLiterals.{clap_on_literals}
-use Rattle.nbd_disk.specs.declared.words.asked.Asked.{Asked}
-use Rattle.nbd_disk.specs.declared.faults.Fault.{Fault}
-use Rattle.nbd_disk.specs.declared.faults.Fault.TheVariants.{NoMemory, Usage}
-use Rattle.nbd_disk.specs.CommandLine.{AsksForNothing, IsAsked, IsFoundIn, program}
-use Rattle.nbd_disk.proofs.words.command.Goals as goal
+use Rattle.serving.specs.declared.words.asked.Asked.{Asked}
+use Rattle.serving.specs.declared.faults.Fault.{Fault}
+use Rattle.serving.specs.declared.faults.Fault.TheVariants.{NoMemory, Usage}
+use Rattle.serving.specs.CommandLine.{AsksForNothing, IsAsked, IsFoundIn, program}
+use Rattle.serving.proofs.words.command.Goals as goal
 
 is_simple_program : is_simple program ≡ true
 unfolding clap_on_literals

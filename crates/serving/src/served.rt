@@ -1,7 +1,7 @@
 //! A volume as the array that a server of NBD serves.
 
 ghost use Rattle.std.specs.Prelude.{◌≡◌};
-ghost use Rattle.nbd_disk.specs.Serving.{array_of};
+ghost use Rattle.serving.specs.Serving.{array_of};
 
 use adapter::Adapter;
 use compose::Refusal;
@@ -20,7 +20,7 @@ pub struct Served<A: Adapter> {
 
 impl<A: Adapter> Model for Served<A> {
     ghost use Rattle.nbd.specs.Content.{Content};
-    ghost use Rattle.nbd_disk.specs.Serving.{array_of};
+    ghost use Rattle.serving.specs.Serving.{array_of};
 
     ghost Value = { Content };
 

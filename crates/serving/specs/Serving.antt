@@ -14,8 +14,8 @@ use Rattle.nbd.specs.Content.{Content}
 use Rattle.nbd.specs.Handshake.{IsSession}
 use Rattle.nbd.specs.declared.End.{End}
 use Rattle.nbd.specs.declared.End.TheVariants.{Left, Malformed as NoProtocol, Input, Output}
-use Rattle.nbd_disk.specs.declared.faults.Fault.{Fault}
-use Rattle.nbd_disk.specs.declared.faults.Fault.TheVariants.{Startup, NoPartition, Malformed, InputEnded, OutputFailed, NoMemory}
+use Rattle.serving.specs.declared.faults.Fault.{Fault}
+use Rattle.serving.specs.declared.faults.Fault.TheVariants.{Startup, NoPartition, Malformed, InputEnded, OutputFailed, NoMemory}
 
 -- the bytes of a partition as an array, in blocks of a sector
 abbrev pub array_of : VolumeContent → Content

@@ -3,9 +3,9 @@ use Rattle.std.specs.Prelude.{MatchOption, IfErr}
 use Rattle.clap.specs.Words.{Text, found_of}
 use Rattle.clap.specs.Walk.{first_of, rows_of}
 use Rattle.clap.proofs.WalkLemmas.{first_value-rows}
-use Rattle.nbd_disk.specs.CommandLine.{SpellsPartition, IsFoundIn}
-use Rattle.nbd_disk.specs.declared.words.asked.Asked.{Asked}
-use Rattle.nbd_disk.proofs.words.asked_by.Goals as goal
+use Rattle.serving.specs.CommandLine.{SpellsPartition, IsFoundIn}
+use Rattle.serving.specs.declared.words.asked.Asked.{Asked}
+use Rattle.serving.proofs.words.asked_by.Goals as goal
 
 pub returns-in-None-clause-found : goal.returns-in-None-clause-found
 returns-in-None-clause-found c =

@@ -1,14 +1,15 @@
-//! Why the program ends early.
+//! Why the program `nbd_disk` ends early.
 
 ghost use Rattle.std.specs.Prelude.{◌≡◌};
-ghost use Rattle.nbd_disk.specs.Faults.{is_usage};
-ghost use Rattle.nbd_disk.specs.declared.faults.Fault.TheVariants.{NoMemory, Startup};
+ghost use Rattle.serving.specs.Faults.{is_usage};
+ghost use Rattle.serving.specs.declared.faults.Fault.TheVariants.{NoMemory, Startup};
 
 use startup::Ending;
 use std::alloc::AllocError;
 use std::error::Error;
 use std::fmt;
 
+/// Why the program ends early. Its text is the line that is said of it.
 #[derive(Debug, Clone, Copy, PartialEq, Eq)]
 pub enum Fault {
     /// The words of the command line ask for nothing that there is, or for help.
@@ -21,7 +22,9 @@ pub enum Fault {
     Malformed,
     /// Input ended, or failed, and the client had not left by the protocol.
     InputEnded,
+    /// Output took not all of a reply.
     OutputFailed,
+    /// Memory was refused.
     NoMemory,
 }
 
@@ -36,7 +39,7 @@ impl Ending for Fault {
 /// The line that the program says, without its end.
 impl fmt::Display for Fault {
     ghost use Rattle.std.specs.Prelude.{Some};
-    ghost use Rattle.nbd_disk.specs.Faults.{line_of};
+    ghost use Rattle.serving.specs.Faults.{line_of};
 
     ghost output = { λ fault. Some (line_of fault) };
 

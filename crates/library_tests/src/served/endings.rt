@@ -1,10 +1,9 @@
-//! Which fault is told, in which words, and with which exit status.
+//! Which fault of the program `nbd_disk` is told, in which words, and with which exit status.
 
-use crate::faults::Fault;
-use crate::serving::serve_disk;
-use crate::tests::expect::{same, same_at};
+use crate::expect::{same, same_at};
 use compose::{MbrFault, StartFault};
 use ntstatus::NtStatus;
+use serving::{Fault, serve_disk};
 use settings::ConfigFault;
 use startup::Fault::{ConfigUnreadable, Settings, Start};
 use startup::{Verdict, ended, say};

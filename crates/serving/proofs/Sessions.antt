@@ -4,9 +4,9 @@ use Rattle.settings.specs.declared.Config.{Config}
 use Rattle.nbd.specs.Content.{Content}
 use Rattle.nbd.specs.Handshake.{IsSession}
 use Rattle.nbd.specs.declared.End.{End}
-use Rattle.nbd_disk.specs.declared.faults.Fault.{Fault}
+use Rattle.serving.specs.declared.faults.Fault.{Fault}
 use Rattle.startup.specs.Reading.{AreRead}
-use Rattle.nbd_disk.specs.Serving.{IsServed, IsStartFault, fault_of_end, new_array}
+use Rattle.serving.specs.Serving.{IsServed, IsStartFault, fault_of_end, new_array}
 
 module _ (config : Option (List ℕ)) (p : ℕ) (input out : Option (List ℕ)) where
   module _ (settings : Config) (are_read : AreRead config settings) where

@@ -1,8 +1,8 @@
 use Rattle.std.proofs.Common.{◌∙◌, subst, sym}
-use Rattle.nbd_disk.specs.declared.faults.Fault.{Fault}
-use Rattle.nbd_disk.specs.Serving.{IsStartFault}
-use Rattle.nbd_disk.proofs.Opening.{array_is, fault_is}
-use Rattle.nbd_disk.proofs.serving.start.Goals as goal
+use Rattle.serving.specs.declared.faults.Fault.{Fault}
+use Rattle.serving.specs.Serving.{IsStartFault}
+use Rattle.serving.proofs.Opening.{array_is, fault_is}
+use Rattle.serving.proofs.serving.start.Goals as goal
 
 pub returns-in-Ok-clause-content : goal.returns-in-Ok-clause-content
 returns-in-Ok-clause-content c = c.new.ensures ∙ array_is c.args.config c.args.partition c.in-Ok.volume c.in-Ok.ensures.volume

@@ -6,9 +6,9 @@ ghost use Rattle.std.specs.Prelude.{◌≡◌, ◌≢◌, ◌⊎◌, ℕ, IfErr,
 ghost use Rattle.clap.specs.Words.{app_of, found_of, rule_of};
 ghost use Rattle.clap.specs.Walk.{rows_of};
 ghost use Rattle.clap.specs.declared.error.ErrorKind.TheVariants.{OutOfMemory};
-ghost use Rattle.nbd_disk.specs.declared.words.asked.Asked.{Asked};
-ghost use Rattle.nbd_disk.specs.declared.faults.Fault.TheVariants.{NoMemory, Usage};
-ghost use Rattle.nbd_disk.specs.CommandLine.{AsksForNothing, IsAsked, IsFoundIn, SpellsPartition, argument_rule, program};
+ghost use Rattle.serving.specs.declared.words.asked.Asked.{Asked};
+ghost use Rattle.serving.specs.declared.faults.Fault.TheVariants.{NoMemory, Usage};
+ghost use Rattle.serving.specs.CommandLine.{AsksForNothing, IsAsked, IsFoundIn, SpellsPartition, argument_rule, program};
 
 use crate::faults::Fault;
 use crate::words::asked::Asked;

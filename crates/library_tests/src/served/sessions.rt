@@ -1,7 +1,7 @@
 //! Sessions with a disk of four sectors, two of which are a partition: the bytes of a client, and those of the server, by hand.
 
-use crate::serving::serve_disk;
-use crate::tests::expect::same_at;
+use crate::expect::same_at;
+use serving::serve_disk;
 use startup::{Verdict, ended};
 use std::alloc::{AllocError, Global};
 use std::process::Abort;
