@@ -5,14 +5,20 @@ use Rattle.ntstatus.specs.declared.NtStatus.{NtStatus}
 use Rattle.ntstatus.specs.declared.NtStatus.TheVariants.{InsufficientResources}
 use Rattle.io_manager.specs.Shown.{ManagerView}
 use Rattle.saddlemug.specs.declared.held.Held.{Held}
-use Rattle.saddlemug.specs.declared.held.Held.TheVariants.{Stack}
-use Rattle.saddlemug.specs.Holding.{HoldsStack}
+use Rattle.volume.specs.Shown.{VolumeView}
+use Rattle.saddlemug.specs.declared.held.Held.TheVariants.{Stack, Volume}
+use Rattle.saddlemug.specs.Holding.{HoldsStack, HoldsVolume}
 use Rattle.saddlemug.specs.Statuses.{IsNumberOfStatus}
 
 pub holds_stack : (P : ManagerView → Type 0) (filled : Bool) (held : Option Held) (v : ManagerView)
     → P v → MatchBool filled (held ≡ Some (Stack v)) (held ≡ None) → MatchBool filled (HoldsStack P held) (held ≡ None)
 holds_stack P true held v new is = subst (HoldsStack P) (sym is) new
 holds_stack P false held v new is = is
+
+pub holds_volume : (P : VolumeView → Type 0) (filled : Bool) (held : Option Held) (v : VolumeView)
+    → P v → MatchBool filled (held ≡ Some (Volume v)) (held ≡ None) → MatchBool filled (HoldsVolume P held) (held ≡ None)
+holds_volume P true held v new is = subst (HoldsVolume P) (sym is) new
+holds_volume P false held v new is = is
 
 -- its status, where want of memory may be told
 pub filled_status : (IsWhy : NtStatus → Type 0) (number : ℕ) → IsWhy InsufficientResources → (number ≡ 0) ⊎ (number ≡ value_of InsufficientResources)

@@ -1,7 +1,10 @@
 use Rattle.std.proofs.Common.{refl, inl}
-use Rattle.saddlemug.specs.Opened.{IsVolumeStatus}
-use Rattle.saddlemug.proofs.Filling.{filled_status}
+use Rattle.saddlemug.specs.Opened.{IsNewVolume, IsVolumeStatus}
+use Rattle.saddlemug.proofs.Filling.{filled_status, holds_volume}
 use Rattle.saddlemug.proofs.volume_calls.saddlemug_open.Goals as goal
+
+pub returns-in-Ok-clause-held : goal.returns-in-Ok-clause-held
+returns-in-Ok-clause-held c = holds_volume (IsNewVolume c.args.settings.now c.args.partition) _ _ _ c.in-Ok.ensures.volume c.fill.ensures.held
 
 pub returns-in-Ok-clause-status : goal.returns-in-Ok-clause-status
 returns-in-Ok-clause-status c = filled_status (IsVolumeStatus c.args.settings.now c.args.partition) c.fill.result (inl (inl refl)) c.fill.ensures.status
