@@ -2,6 +2,8 @@
 
 use crate::expect::{same, same_at};
 use crate::runs::given::run;
+use std::alloc::Global;
+use std::process::Abort;
 use std::test::Fail;
 
 /// A disk of 4,096 sectors of 512 bytes with one partition, one tag and one request at a time.
@@ -91,16 +93,28 @@ const WRITE_AND_READ: &str =
 const WRITTEN_AND_READ: &str =
     "> open 0\nhandle 1\n> write 1 0 512 a5\nrequest 1\ncall 1 write 0 512\nstart 1 tag 0 2a000000080000000100\n> act 0\nok\nact 1\n> finish 0\nok\nreturn 1 good\nanswer 1 SUCCESS 512\n> read 1 0 512\nrequest 2\ncall 2 read 0 512\nstart 2 tag 0 28000000080000000100\n> act 0\nok\nact 2\n> finish 0\nok\nreturn 2 good\nanswer 2 SUCCESS 512 a5*512\n";
 
+/// Runs a script over the settings before the partition and one more, and compares what is printed.
+fn plays(
+    rt: &impl Abort,
+    alloc: Global,
+    settings: (&str, &str),
+    script: &str,
+    wanted: &str,
+) -> Result<(), Fail> {
+    let (settings, more) = settings;
+    let config = format!(in alloc; "{settings}{more}{PARTITION}")?;
+    let mut out = Vec::new(alloc);
+    let got = run(alloc, config.as_bytes(), script.as_bytes(), &mut out);
+    same_at(rt, &out.as_slice(), &wanted.as_bytes(), &script);
+    same(rt, &got.faults.len(), &0);
+    same(rt, &got.status, &0);
+    Ok(())
+}
+
 #[test]
 fn prints_what_comes_of_each_event(rt: HostRuntime) -> Result<(), Fail> {
-    let alloc = rt.alloc();
     for (settings, more, script, wanted) in ROWS {
-        let config = format!(in alloc; "{settings}{more}{PARTITION}")?;
-        let mut out = Vec::new(alloc);
-        let got = run(alloc, config.as_bytes(), script.as_bytes(), &mut out);
-        same_at(&rt, &out.as_slice(), &wanted.as_bytes(), &script);
-        same(&rt, &got.faults.len(), &0);
-        same(&rt, &got.status, &0);
+        plays(&rt, rt.alloc(), (settings, more), script, wanted)?;
     }
     Ok(())
 }
