@@ -8,6 +8,8 @@ mod documents;
 #[cfg(test)]
 mod expect;
 #[cfg(test)]
+mod parts;
+#[cfg(test)]
 mod runs;
 #[cfg(test)]
 mod scripts;

@@ -1,20 +1,11 @@
 //! Recorded sessions: the bytes of a client, and those of the server, by hand.
 
 use crate::expect::{same, same_at};
+use crate::parts::Part::{Fill, Long, Short, Word};
+use crate::parts::{GO, Part, add, fill};
 use nbd::{Array, ArrayFault, End, MemArray, Sizes, serve};
 use std::alloc::{AllocError, Global};
 use std::process::Abort;
-
-/// Numbers of a stream, highest byte first, and runs of one byte.
-#[derive(Clone, Copy)]
-enum Part {
-    Short(u16),
-    Word(u32),
-    Long(u64),
-    Fill(u8, usize),
-}
-
-use Part::{Fill, Long, Short, Word};
 
 /// A session over four blocks of 512 bytes, which are filled with 1, 2, 3 and 4.
 struct Session {
@@ -26,17 +17,7 @@ struct Session {
     blocks: [u8; 4],
 }
 
-/// What a client sends to come to its requests: NBD_OPT_GO for the export with the empty name.
-const GO: [Part; 6] = [
-    Word(3),
-    Long(0x4948_4156_454F_5054),
-    Word(7),
-    Word(6),
-    Word(0),
-    Short(0),
-];
-
-/// What it is answered: the greeting, the export, its blocks, and an end.
+/// What the client of [`GO`] is answered: the greeting, the export, its blocks, and an end.
 const GONE: [Part; 22] = [
     Long(0x4E42_444D_4147_4943),
     Long(0x4948_4156_454F_5054),
@@ -502,26 +483,6 @@ const REQUESTS: [Session; 9] = [
         blocks: [1, 2, 3, 4],
     },
 ];
-
-/// Adds the bytes of these parts.
-fn add(bytes: &mut Vec<u8>, parts: &[Part]) -> Result<(), AllocError> {
-    for part in parts {
-        match part {
-            Part::Short(n) => bytes.extend_from_slice(&n.to_be_bytes())?,
-            Part::Word(n) => bytes.extend_from_slice(&n.to_be_bytes())?,
-            Part::Long(n) => bytes.extend_from_slice(&n.to_be_bytes())?,
-            Part::Fill(byte, count) => fill(bytes, *byte, *count)?,
-        }
-    }
-    Ok(())
-}
-
-fn fill(bytes: &mut Vec<u8>, byte: u8, count: usize) -> Result<(), AllocError> {
-    for _ in 0..count {
-        bytes.push(byte)?;
-    }
-    Ok(())
-}
 
 /// The bytes of blocks that are filled with these.
 fn blocks(alloc: Global, fillings: &[u8]) -> Result<Vec<u8>, AllocError> {

@@ -1,46 +1,43 @@
 //! Command lines of the program `nbd_disk`.
 
-use crate::expect::same;
+use crate::expect::same_at;
 use serving::{Asked, Fault, command};
-use std::test::Fail;
+use std::alloc::Global;
+
+/// Command lines, the path that each asks for, and the partition.
+static ASKING: [(&[&str], &str, u8); 2] = [
+    (&["nbd_disk", "a/config.toml"], "a/config.toml", 0),
+    (&["nbd_disk", "config.toml", "3"], "config.toml", 3),
+];
+
+/// Command lines that ask for nothing.
+static REFUSED: [&[&str]; 6] = [
+    &["nbd_disk"],
+    &["nbd_disk", "config.toml", "0", "more"],
+    &["nbd_disk", "config.toml", "256"],
+    &["nbd_disk", "config.toml", "+1"],
+    &["nbd_disk", "config.toml", "first"],
+    &["nbd_disk", "--help"],
+];
+
+/// Whether a command line is answered so.
+fn is_answered(alloc: Global, words: &[&str], wanted: Result<Asked<'_>, Fault>) -> bool {
+    command(alloc, words) == wanted
+}
 
 #[test]
-fn reads_a_command_line(rt: HostRuntime) -> Result<(), Fail> {
-    let alloc = rt.alloc();
-    let short = ["nbd_disk", "a/config.toml"];
-    let wanted = Asked {
-        config: "a/config.toml",
-        partition: 0,
-    };
-    same(&rt, &command(alloc, short.as_slice())?, &wanted);
-    let long = ["nbd_disk", "config.toml", "3"];
-    let wanted = Asked {
-        config: "config.toml",
-        partition: 3,
-    };
-    same(&rt, &command(alloc, long.as_slice())?, &wanted);
-    Ok(())
+fn reads_a_command_line(rt: HostRuntime) {
+    for (words, config, partition) in ASKING {
+        let wanted = Asked { config, partition };
+        let is_read = is_answered(rt.alloc(), words, Ok(wanted));
+        same_at(&rt, &is_read, &true, &words);
+    }
 }
 
 #[test]
 fn refuses_other_command_lines(rt: HostRuntime) {
-    let alloc = rt.alloc();
-    let none: [&str; 1] = ["nbd_disk"];
-    let long = ["nbd_disk", "config.toml", "0", "more"];
-    let large = ["nbd_disk", "config.toml", "256"];
-    let plus = ["nbd_disk", "config.toml", "+1"];
-    let no_number = ["nbd_disk", "config.toml", "first"];
-    let help = ["nbd_disk", "--help"];
-    let lines = [
-        none.as_slice(),
-        long.as_slice(),
-        large.as_slice(),
-        plus.as_slice(),
-        no_number.as_slice(),
-        help.as_slice(),
-    ];
-    for words in lines {
-        let refused = command(alloc, words) == Err(Fault::Usage);
-        assert!(rt; refused, "at {words:?}");
+    for words in REFUSED {
+        let is_refused = is_answered(rt.alloc(), words, Err(Fault::Usage));
+        same_at(&rt, &is_refused, &true, &words);
     }
 }

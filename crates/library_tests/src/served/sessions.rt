@@ -1,22 +1,14 @@
-//! Sessions with a disk of four sectors, two of which are a partition: the bytes of a client, and those of the server, by hand.
+//! Sessions of the program `nbd_disk` with a disk of four sectors, two of which are a partition: the bytes of a client, and
+//! those of the server, by hand.
 
 use crate::expect::same_at;
+use crate::parts::Part::{Fill, Long, Short, Word};
+use crate::parts::{GO, Part, add};
 use serving::serve_disk;
 use startup::{Verdict, ended};
 use std::alloc::{AllocError, Global};
 use std::process::Abort;
 use std::test::Fail;
-
-/// Numbers of a stream, highest byte first, and runs of one byte.
-#[derive(Clone, Copy)]
-enum Part {
-    Short(u16),
-    Word(u32),
-    Long(u64),
-    Fill(u8, usize),
-}
-
-use Part::{Fill, Long, Short, Word};
 
 /// Sector 3 is bad.
 const DISK: &str =
@@ -25,16 +17,7 @@ const DISK: &str =
 const PROTECTED: &str =
     "sector_size = 512\nsectors = 4\nmax_transfer = 1\ndepth = 1\nwindow = 1\nwrite_protected = true\npartition = [{ first = 1, count = 1 }, { first = 2, count = 2 }]\n";
 
-/// The greeting, on partition 1: NBD_OPT_GO for the export with the empty name.
-const GO: [Part; 6] = [
-    Word(3),
-    Long(0x4948_4156_454F_5054),
-    Word(7),
-    Word(6),
-    Word(0),
-    Short(0),
-];
-
+/// What the client of [`GO`] is answered: the greeting, the export, its blocks, and an end.
 const GONE: [Part; 22] = [
     Long(0x4E42_444D_4147_4943),
     Long(0x4948_4156_454F_5054),
@@ -299,26 +282,6 @@ const REQUESTS: [Session; 4] = [
         fault: "nbd_disk: input ended\n",
     },
 ];
-
-/// Adds the bytes of these parts.
-fn add(bytes: &mut Vec<u8>, parts: &[Part]) -> Result<(), AllocError> {
-    for part in parts {
-        match part {
-            Part::Short(n) => bytes.extend_from_slice(&n.to_be_bytes())?,
-            Part::Word(n) => bytes.extend_from_slice(&n.to_be_bytes())?,
-            Part::Long(n) => bytes.extend_from_slice(&n.to_be_bytes())?,
-            Part::Fill(byte, count) => fill(bytes, *byte, *count)?,
-        }
-    }
-    Ok(())
-}
-
-fn fill(bytes: &mut Vec<u8>, byte: u8, count: usize) -> Result<(), AllocError> {
-    for _ in 0..count {
-        bytes.push(byte)?;
-    }
-    Ok(())
-}
 
 /// The bytes of some parts, and then of others.
 fn bytes_of(alloc: Global, first: &[Part], then: &[Part]) -> Result<Vec<u8>, AllocError> {
