@@ -1,2 +1,5 @@
 pub mod Joining
 pub mod Performing
+pub mod Booked
+pub mod BookedActs
+pub mod Tagged

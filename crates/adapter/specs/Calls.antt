@@ -1,5 +1,5 @@
 -- What each call of an adapter does to what the adapter shows.
-use Rattle.std.specs.Prelude.{◌≡◌, ◌≢◌, ◌⊎◌, ℕ, Bool, true, List, [], ◌∷◌, ◌++◌, map, filter, IsPermutation}
+use Rattle.std.specs.Prelude.{◌≡◌, ◌≢◌, ◌⊎◌, ℕ, Bool, true, IsTrue, IsFalse, List, [], ◌∷◌, ◌++◌, map, filter, IsPermutation}
 use Rattle.std.specs.List.Sorted.{IsStrictlyIncreasing}
 use Rattle.std.specs.List.{concat}
 use Rattle.srb.specs.declared.Srb.{Srb}
@@ -9,14 +9,26 @@ use Rattle.srb.specs.declared.DeviceLabel.TheVariants.{Fault}
 use Rattle.srb.specs.Fate.{Fate, Fresh, Acted, Faulted, is_fresh, class_of}
 use Rattle.adapter.specs.View.{TagInUse, AdapterView, IsFree, IsOn, ActsOn, FaultsOn, ReturnsOn, MovesByAll, NotesReset}
 
--- the tag's piece, which had done nothing yet, acts or faults
+-- the piece on the tag was booked to act, by an adapter whose sectors stand elsewhere
+pub record IsBooked (view : AdapterView) (tag : ℕ) : Type 0 where
+  pub use' : TagInUse
+  pub others : List TagInUse
+  pub apart : IsFalse view.faithful
+  pub is_on : IsOn view tag use' others
+  pub booked : IsTrue use'.booked
+
+-- the tag's piece, which had done nothing yet, acts or faults; what was booked acts
 pub record ActsOrFaults (old : AdapterView) (tag : ℕ) (new : AdapterView) : Type 0 where
   pub piece : ℕ
-  pub one_of : ((bytes : List ℕ) × ActsOn old tag piece bytes new) ⊎ FaultsOn old tag piece new
+  pub one_of : ((bytes : List ℕ) × ActsOn old tag piece bytes new) ⊎ (FaultsOn old tag piece new × ¬ IsBooked old tag)
 
--- no piece on the tag that can act, and nothing changes
+-- no piece on the tag that can act
+abbrev pub HasNoneFresh : AdapterView → ℕ → Type 0
+HasNoneFresh view tag = (use' : TagInUse) (others : List TagInUse) → IsOn view tag use' others → use'.fate ≢ Fresh
+
+-- and nothing changes
 pub record ActsNot (old : AdapterView) (tag : ℕ) (new : AdapterView) : Type 0 where
-  pub none_fresh : (use' : TagInUse) (others : List TagInUse) → IsOn old tag use' others → use'.fate ≢ Fresh
+  pub none_fresh : HasNoneFresh old tag
   pub same : new ≡ old
 
 -- the tag's piece comes back with its SRB, whose data are what it moved if it acted

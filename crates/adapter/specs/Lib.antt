@@ -1,3 +1,4 @@
 pub mod Calls
 pub mod Performing
 pub mod View
+pub mod Booking

@@ -25,6 +25,8 @@ pub record TagInUse : Type 0 where
   pub failures_before : ℕ
   -- met by a reset
   pub was_reset : Bool
+  -- the bytes of its act were booked: they stand in the second buffer of its SRB
+  pub booked : Bool
 
 -- what an adapter shows
 pub record AdapterView : Type 0 where
@@ -121,6 +123,7 @@ in_use_from view tag piece srb = record {
   fate = Fresh;
   failures_before = view.failures;
   was_reset = false;
+  booked = false;
 }
 
 -- the piece is on the tag, which was free
@@ -141,6 +144,10 @@ pub record StartsOn (old : AdapterView) (tag piece : ℕ) (block : List ℕ) (ne
   pub has_block : srb.block ≡ block
   pub accepts : Accepts old tag piece srb new
 
+-- where the sectors stand elsewhere, the bytes were booked; not for piece 0
+abbrev pub IsAsBooked : Bool → ℕ → TagInUse → List ℕ → Type 0
+IsAsBooked faithful piece use' bytes = IsFalse faithful → piece ≢ 0 → IsTrue use'.booked × (bytes ≡ use'.srb.for_label)
+
 -- the tag's piece, which had done nothing yet, is carried out in one step; piece 0, by which a disk is looked at before its first
 -- request, reads what every adapter shows
 pub record ActsOn (old : AdapterView) (tag piece : ℕ) (bytes : List ℕ) (new : AdapterView) : Type 0 where
@@ -157,6 +164,7 @@ pub record ActsOn (old : AdapterView) (tag piece : ℕ) (bytes : List ℕ) (new 
   pub means : Means use'.srb.block command
   pub performs : CarriesOut old.faithful (piece == 0) old.sector_size old.sectors use'.srb.data command moved sectors
   pub hands_over : bytes ≡ concat moved
+  pub as_booked : IsAsBooked old.faithful piece use' bytes
   pub in_use : IsPermutation tags (acted moved left use' ∷ others)
   pub after : new ≡ record old { sectors = sectors; tags = tags; labels = old.labels ++ Act piece bytes ∷ [] }
 

@@ -1,7 +1,7 @@
 //! What the port calls.
 
 use sector::Extent;
-use srb::{Completion, DeviceLabel, Srb};
+use srb::{Completion, DeviceLabel, Entry, Srb};
 use std::alloc::AllocError;
 
 /// A disk behind tags. Each call but `reserve` takes no memory.
@@ -11,7 +11,8 @@ use std::alloc::AllocError;
 pub trait Adapter: Drop {
     ghost use Rattle.std.specs.Prelude.{◌≡◌, ◌⊎◌, ◌<◌, ◌≤◌, ◌^◌, ◌+◌, ℕ, length, Any, OnOk, MatchBool, MatchOption};
     ghost use Rattle.adapter.specs.View.{AdapterView, HasTag, IsFree, IsInOrder, IsReserved, IsWritable, ReservesMore, Accepts};
-    ghost use Rattle.adapter.specs.Calls.{ActsOrFaults, ActsNot, Finishes, FinishesNot, Resets, LeavesFirst, HasNoLabel};
+    ghost use Rattle.adapter.specs.Calls.{ActsOrFaults, ActsNot, Finishes, FinishesNot, Resets, LeavesFirst, HasNoLabel, HasNoneFresh};
+    ghost use Rattle.adapter.specs.Booking.{IsArmed, Books, handed};
 
     ghost view: { Self → AdapterView };
 
@@ -76,6 +77,17 @@ pub trait Adapter: Drop {
     fn act(&mut self, tag: u8) -> bool
         requires { length (view self.old).labels < 64 }
         ensures acts { MatchBool result (ActsOrFaults (view self.old) tag (view self.new)) (ActsNot (view self.old) tag (view self.new)) }
+        ensures order { IsInOrder (view self.new) };
+
+    /// The piece of the tag that has neither acted nor failed, with its SRB. None where there is none.
+    fn armed(&self, tag: u8) -> Option<(u128, &Srb)>
+        ensures exact { MatchOption result (HasNoneFresh (view self.now) tag) (λ found. IsArmed (view self.now) tag found.0 found.1.now) }
+        ensures order { IsInOrder (view self.now) };
+
+    /// Books what the act of the tag's piece did, or how it failed, where the sectors stand elsewhere; its next act is that.
+    /// Nothing changes where the tag has no such piece that has neither acted nor failed, or what is to be booked isn't its.
+    fn book(&mut self, tag: u8, piece: u128, what: Result<&Entry, Completion>)
+        ensures books { Books (view self.old) tag piece (handed what.entry) (view self.new) }
         ensures order { IsInOrder (view self.new) };
 
     /// Hands the tag's piece back and frees the tag. None where the tag is free.

@@ -1,5 +1,5 @@
 -- The calls that move both machines by the same labels: act and reset, and the taking of a label.
-use Rattle.std.proofs.Common.{◌≡◌, ◌<◌, ◌≤◌, ◌⊎◌, inl, inr, ℕ, zero, suc, ◌+◌, Bool, true, false, List, [], ◌∷◌, ◌++◌, refl, sym, ◌∙◌, ap, subst, arith, map, length, cond, Option, Some, None, MatchBool, length-append}
+use Rattle.std.proofs.Common.{◌≡◌, ◌<◌, ◌≤◌, ◌⊎◌, inl, inr, ℕ, zero, suc, ◌+◌, Bool, true, false, List, [], ◌∷◌, ◌++◌, refl, sym, ◌∙◌, ap, subst, arith, map, length, cond, Option, Some, None, Result, Ok, Err, MatchBool, length-append}
 use Rattle.std.specs.Prelude.{IsPermutation, All, Any, Contains, IsTrue, IsFalse}
 use Rattle.std.proofs.lemmas.List.{length-map}
 use Rattle.std.proofs.lemmas.List.Sorted.{IsPermutation-refl, IsPermutation-sym, IsPermutation-trans, IsPermutation-map, All-permutation, Contains-permutation, length_permutation, sum_by-IsPermutation}
@@ -17,8 +17,14 @@ use Rattle.srb.specs.Fate.{Acted}
 use Rattle.machine.specs.Settled.{Settled, IsHeld, WaitsIfCancelled, Waits, IsAllSent, IsHeldBack, HasMore, IsAtWork, IsFull, IsWithin, started_count}
 use Rattle.machine.specs.Marks.{IsCounted, AreCounted}
 use Rattle.machine.specs.Step.{Run, as_label}
-use Rattle.device.specs.View.{DeviceView, Packet, OnTag, packet_number, piece_on_tag, label_places, IsOrderly, IsTopmost}
-use Rattle.device.specs.Served.{Moves, IsUnfinished, IsFreshOn, IsActOrFault, ActsOrFaults, ActsNot, TakesLabel, IsAt}
+use Rattle.device.specs.View.{DeviceView, Packet, OnTag, packet_number, piece_on_tag, use_on_tag, label_places, IsOrderly, IsTopmost}
+use Rattle.srb.specs.declared.Entry.{Entry}
+use Rattle.srb.specs.declared.Completion.{Completion}
+use Rattle.adapter.specs.View.{AdapterView, TagInUse}
+use Rattle.adapter.specs.Booking.{with_booked}
+use Rattle.adapter.proofs.Booked.{books_tags, books_sectors}
+use Rattle.sector.specs.Extents.{sectors_in}
+use Rattle.device.specs.Served.{BooksPiece, Moves, IsUnfinished, IsFreshOn, IsActOrFault, ActsOrFaults, ActsNot, TakesLabel, IsAt}
 use Rattle.machine.proofs.Same.{Run-same, none_there}
 use Rattle.machine.proofs.Numbers.{AreDistinct-Run, AreDistinct-same}
 use Rattle.class_disk.specs.Books.{Opened, Books, all_open}
@@ -328,7 +334,7 @@ module _ {R : Type 0} (out : List R → Type 0) (takes : Bool) (stack : ℕ) (v 
       let m = moves_above v books h.port h.sound h.coupled (a.label ∷ []) v' a.moves in
       let still = still_run v.rules v.state v'.state a.label a.piece.number a.told a.moves.run in
       let c = carried v.state (view_of v books).state same_tags a.piece a.fresh in (
-        record { piece = c.0; label = a.label; fresh = c.1; told = subst (λ n. IsActOrFault n a.label) (sym c.2) a.told; moves = m.moves },
+        record { piece = c.0; label = a.label; fresh = c.1; told = subst (λ n. IsActOrFault n a.label) (sym c.2) a.told; if_booked = a.if_booked; moves = m.moves },
         hand_moved out takes stack v books rooms h out' (a.label ∷ []) v' m ordered rooms_out (unfinished_still v.rules v.state v'.state still h.unfinished) (settled_still v.rules v.state v'.state still h.settled)
             (All-permutation (IsCounted v.rules) _ _ still.requests h.counted)
             (below_moved v books h.port h.sound h.coupled (a.label ∷ []) v' m
@@ -350,11 +356,13 @@ module _ {R : Type 0} (out : List R → Type 0) (takes : Bool) (stack : ℕ) (v 
 -- A LABEL TAKEN
 
 module _ {R : Type 0} (out : List R → Type 0) (takes : Bool) (stack : ℕ) (v : DeviceView) (books : Books R) (rooms : List (DiskRoom R)) (h : IsInHand out takes stack v books rooms) where
-  abbrev with_labels : List DeviceLabel → DeviceView
-  with_labels labels = record v { adapter = record v.adapter { labels = labels } }
+  abbrev with_adapter : AdapterView → DeviceView
+  with_adapter adapter = record v { adapter = adapter }
 
-  hand_fewer : (out' : List R → Type 0) (labels : List DeviceLabel) → IsOrderly (with_labels labels) → out' (rooms_in rooms ++ rooms_kept (all_open books)) → IsInHand out' takes stack (with_labels labels) books rooms
-  hand_fewer out' labels ordered rooms_out = record {
+  -- the adapter shows the same sectors, and the same pieces on the same tags
+  hand_beside : (out' : List R → Type 0) (adapter : AdapterView) → IsOrderly (with_adapter adapter) → adapter.sectors ≡ v.adapter.sectors → map use_on_tag adapter.tags ≡ map use_on_tag v.adapter.tags
+      → out' (rooms_in rooms ++ rooms_kept (all_open books)) → IsInHand out' takes stack (with_adapter adapter) books rooms
+  hand_beside out' adapter ordered same_sectors same_uses rooms_out = record {
     takes = h.takes;
     port = h.port;
     sound = h.sound;
@@ -377,7 +385,13 @@ module _ {R : Type 0} (out : List R → Type 0) (takes : Bool) (stack : ℕ) (v 
     };
     orderly = record {
       adapter = ordered.adapter;
-      read = record { same_size = ordered.read.same_size; same_sectors = ordered.read.same_sectors; same_depth = ordered.read.same_depth; arrays = h.orderly.read.arrays; pieces = h.orderly.read.pieces };
+      read = record {
+        same_size = ordered.read.same_size;
+        same_sectors = ordered.read.same_sectors;
+        same_depth = ordered.read.same_depth;
+        arrays = subst (λ sectors. (view_of v books).state.arrays ≡ map (sectors_in sectors) v.rules.partitions) (sym same_sectors) h.orderly.read.arrays;
+        pieces = subst (λ uses. IsPermutation (map piece_on_tag (view_of v books).state.pieces) uses) (sym same_uses) h.orderly.read.pieces;
+      };
       distinct = h.orderly.distinct;
       places = h.orderly.places;
       packets = h.orderly.packets;
@@ -394,5 +408,19 @@ module _ {R : Type 0} (out : List R → Type 0) (takes : Bool) (stack : ℕ) (v 
   takes_above out' v' None a ordered rooms_out = ((a.0, ap (λ (x : DeviceView). view_of x books) a.1), hand_same out takes stack v books rooms h out' v' a.1 rooms_out)
   takes_above out' v' (Some label) (labels, is, same) ordered rooms_out = (
     (labels, is, ap (λ (x : DeviceView). view_of x books) same),
-    subst (λ x. IsInHand out' takes stack x books rooms) (sym same) (hand_fewer out' labels (subst IsOrderly same ordered) rooms_out),
+    subst (λ x. IsInHand out' takes stack x books rooms) (sym same) (hand_beside out' (record v.adapter { labels = labels }) (subst IsOrderly same ordered) refl refl rooms_out),
   )
+
+  -- WHAT IS BOOKED
+
+  pub books_above : (out' : List R → Type 0) (v' : DeviceView) (tag piece : ℕ) (what : Result Entry Completion) → BooksPiece v tag piece what v' → IsOrderly v' → out' (rooms_in rooms ++ rooms_kept (all_open books))
+      → BooksPiece (view_of v books) tag piece what (view_of v' books) × IsInHand out' takes stack v' books rooms
+  books_above out' v' tag piece what b ordered rooms_out = (
+    record { adapter = b.adapter; same = ap (λ (x : DeviceView). view_of x books) b.same },
+    subst (λ x. IsInHand out' takes stack x books rooms) (sym b.same)
+        (hand_beside out' v'.adapter (subst IsOrderly b.same ordered) (books_sectors v.adapter tag piece what v'.adapter b.adapter) (books_tags use_on_tag v.adapter tag piece what v'.adapter b.adapter (use_same what)) rooms_out),
+  )
+    where
+      use_same : (what : Result Entry Completion) (u : TagInUse) → use_on_tag (with_booked what u) ≡ use_on_tag u
+      use_same (Ok entry) u = refl
+      use_same (Err completion) u = refl

@@ -3,8 +3,8 @@ use Rattle.std.proofs.Common.{◌≡◌, ◌<◌, ◌≤◌, ◌⊎◌, inl, inr
 use Rattle.std.proofs.Math.Nat.{mul-le-mul_right, mul-le-mul_left, mod-add-div', mod-lt}
 use Rattle.sector.specs.declared.Extent.{Extent}
 use Rattle.split.specs.Pieces.{piece_count, piece_of}
-use Rattle.machine.specs.declared.Kind.{Kind}
-use Rattle.machine.specs.declared.Kind.TheVariants.{Read, Write, Flush}
+use Rattle.srb.specs.declared.Kind.{Kind}
+use Rattle.srb.specs.declared.Kind.TheVariants.{Read, Write, Flush}
 use Rattle.machine.specs.declared.Request.{Request}
 use Rattle.machine.specs.Rules.{Rules, is_transfer, sectors_of}
 use Rattle.device.specs.View.{DeviceView, IsBounded, IsOrderly}

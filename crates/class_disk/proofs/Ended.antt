@@ -6,7 +6,7 @@ use Rattle.std.proofs.lemmas.Bool.{ne_eqb, eqb-true, eqb-false, cases_Bool}
 use Rattle.std.proofs.lemmas.List.Sorted.{Contains-permutation}
 use Rattle.irp.specs.declared.Climb.{Climb}
 use Rattle.irp.specs.declared.Payload.TheVariants.{Buffer}
-use Rattle.machine.specs.declared.Kind.TheVariants.{Read}
+use Rattle.srb.specs.declared.Kind.TheVariants.{Read}
 use Rattle.ntstatus.specs.declared.NtStatus.TheVariants.{Success}
 use Rattle.machine.specs.Rules.{Rules, is_transfer}
 use Rattle.device.specs.View.{DeviceView, IsOrderly, Carries}

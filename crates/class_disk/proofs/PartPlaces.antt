@@ -6,8 +6,8 @@ use Rattle.std.proofs.lemmas.List.{length-replicate}
 use Rattle.sector.specs.declared.Extent.{Extent}
 use Rattle.split.specs.Pieces.{piece_of, piece_count}
 use Rattle.irp.specs.declared.Payload.{Payload}
-use Rattle.machine.specs.declared.Kind.{Kind}
-use Rattle.machine.specs.declared.Kind.TheVariants.{Read, Write, Flush}
+use Rattle.srb.specs.declared.Kind.{Kind}
+use Rattle.srb.specs.declared.Kind.TheVariants.{Read, Write, Flush}
 use Rattle.machine.specs.declared.Request.{Request}
 use Rattle.machine.specs.Rules.{Rules, as_client}
 use Rattle.machine.specs.State.{State, Untouched}

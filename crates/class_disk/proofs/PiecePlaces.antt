@@ -9,8 +9,8 @@ use Rattle.sector.specs.declared.Extent.{Extent}
 use Rattle.split.specs.Pieces.{piece_of, piece_count}
 use Rattle.irp.specs.declared.Payload.{Payload}
 use Rattle.irp.specs.declared.Payload.TheVariants.{Buffer, Srb as Packed, Sent as AtAdapter}
-use Rattle.machine.specs.declared.Kind.{Kind}
-use Rattle.machine.specs.declared.Kind.TheVariants.{Read, Write, Flush}
+use Rattle.srb.specs.declared.Kind.{Kind}
+use Rattle.srb.specs.declared.Kind.TheVariants.{Read, Write, Flush}
 use Rattle.machine.specs.declared.Request.{Request}
 use Rattle.machine.specs.Rules.{Rules, place_count, as_client, is_transfer}
 use Rattle.device.specs.View.{Carries, IsBounded, transfer_length}

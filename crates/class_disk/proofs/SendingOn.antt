@@ -9,7 +9,7 @@ use Rattle.std.proofs.lemmas.List.Elements.{All-nil, All-cons, All-head, All-tai
 use Rattle.srb.specs.declared.DeviceLabel.{DeviceLabel}
 use Rattle.irp.specs.declared.Payload.{Payload}
 use Rattle.machine.specs.declared.ClientRequest.{ClientRequest}
-use Rattle.machine.specs.declared.Kind.TheVariants.{Write}
+use Rattle.srb.specs.declared.Kind.TheVariants.{Write}
 use Rattle.machine.specs.declared.Request.{Request}
 use Rattle.machine.specs.Rules.{Rules, place_count, as_client}
 use Rattle.machine.specs.State.{Untouched, State}

@@ -10,8 +10,8 @@ use Rattle.irp.specs.declared.MajorFunction.TheVariants.{InternalDeviceControl}
 use Rattle.irp.specs.declared.Payload.{Payload}
 use Rattle.irp.specs.declared.StackLocation.{StackLocation}
 use Rattle.irp.specs.Packet.{cancel_routine_of}
-use Rattle.machine.specs.declared.Kind.{Kind}
-use Rattle.machine.specs.declared.Kind.TheVariants.{Read, Write, Flush}
+use Rattle.srb.specs.declared.Kind.{Kind}
+use Rattle.srb.specs.declared.Kind.TheVariants.{Read, Write, Flush}
 use Rattle.machine.specs.declared.Request.{Request}
 use Rattle.machine.specs.Rules.{Rules, is_transfer}
 use Rattle.machine.specs.Sending.{read_command, write_command, flush_command}

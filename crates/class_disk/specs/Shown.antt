@@ -1,6 +1,6 @@
 -- What the class driver shows: its own machine, read off what it knows of its requests and off the machine below.
 use Rattle.std.specs.Prelude.{◌≡◌, ℕ, ◌==◌, ◌<◌, Bool, false, List, [], ◌∷◌, map, filter, length, None, if◌then◌else◌}
-use Rattle.machine.specs.declared.Kind.TheVariants.{Flush}
+use Rattle.srb.specs.declared.Kind.TheVariants.{Flush}
 use Rattle.machine.specs.Rules.{Rules}
 use Rattle.machine.specs.State.{OpenRequest, Piece, State}
 use Rattle.class_disk.specs.Joint.{Note, Sent, Kept, Part, Below, Here, Known, Master, Joint, above, below_rules}

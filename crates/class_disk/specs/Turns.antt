@@ -7,7 +7,7 @@ use Rattle.irp.specs.declared.Payload.{Payload}
 use Rattle.irp.specs.declared.Payload.TheVariants.{Buffer, Srb as Packed, Sent as AtAdapter}
 use Rattle.irp.specs.Climb.{Climbs, BringsRoutine, above as locations_above}
 use Rattle.irp.specs.Packet.{cancel_routine_of}
-use Rattle.machine.specs.declared.Kind.TheVariants.{Read, Write}
+use Rattle.srb.specs.declared.Kind.TheVariants.{Read, Write}
 use Rattle.machine.specs.declared.Request.{Request}
 use Rattle.machine.specs.Rules.{Rules, as_client}
 use Rattle.machine.specs.Answering.{information}

@@ -8,7 +8,7 @@ use crate::Disk;
 use crate::requests::DiskRoom;
 use device::{Device, Request};
 use irp::{Climb, Irp};
-use srb::DeviceLabel;
+use srb::{Completion, DeviceLabel, Entry, Srb};
 use std::alloc::AllocError;
 
 /// Sectors of the longest request.
@@ -92,6 +92,14 @@ impl<R: Drop, D: Device<Room = R>> Device for Disk<D, R> {
 
     fn act(&mut self, tag: u8) -> bool {
         self.device.act(tag)
+    }
+
+    fn armed(&self, tag: u8) -> Option<(u128, &Srb)> {
+        self.device.armed(tag)
+    }
+
+    fn book(&mut self, tag: u8, piece: u128, what: Result<&Entry, Completion>) {
+        self.device.book(tag, piece, what);
     }
 
     fn finish(&mut self, tag: u8) -> bool {

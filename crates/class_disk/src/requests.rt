@@ -3,7 +3,7 @@
 ghost use Rattle.std.specs.Prelude.{◌≡◌, ◌==◌, ◌<◌, ◌≤◌, ◌+◌, ◌-◌, ◌*◌, ◌^◌, ℕ, Bool, true, List, [], Some, IfNone, IfSome, length as list_length, slice_get, slice_range, vec_capacity};
 ghost use Rattle.ntstatus.specs.declared.NtStatus.TheVariants.{Success, DeviceBusy};
 ghost use Rattle.irp.specs.declared.Payload.TheVariants.{Buffer};
-ghost use Rattle.machine.specs.declared.Kind.TheVariants.{Read};
+ghost use Rattle.srb.specs.declared.Kind.TheVariants.{Read};
 ghost use Rattle.class_disk.specs.declared.parts.Part.{Part};
 ghost use Rattle.class_disk.specs.declared.parts.Place.{Place};
 ghost use Rattle.class_disk.specs.declared.parts.Progress.TheVariants.{Ready, Below as SentBelow};

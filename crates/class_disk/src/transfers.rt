@@ -3,8 +3,8 @@
 ghost use Rattle.std.specs.Prelude.{◌≡◌, ◌≢◌, ◌<◌, ◌≤◌, ◌+◌, ◌*◌, ◌^◌, ℕ, Bool, true, List, [], ◌∷◌, ◌++◌, All, IfOk, IfSome, OnOk, OnErr, IsFalse, MatchBool, length, map, slice_get, vec_capacity};
 ghost use Rattle.irp.specs.declared.Climb.TheVariants.{Finished};
 ghost use Rattle.irp.specs.declared.Done.{Done};
-ghost use Rattle.machine.specs.declared.Kind.{Kind};
-ghost use Rattle.machine.specs.declared.Kind.TheVariants.{Write};
+ghost use Rattle.srb.specs.declared.Kind.{Kind};
+ghost use Rattle.srb.specs.declared.Kind.TheVariants.{Write};
 ghost use Rattle.machine.specs.declared.Request.{Request};
 ghost use Rattle.machine.specs.State.{OpenRequest, State};
 ghost use Rattle.srb.specs.declared.DeviceLabel.{DeviceLabel};

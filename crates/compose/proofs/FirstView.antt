@@ -2,7 +2,8 @@
 use Rattle.std.proofs.Common.{◌≡◌, ◌<◌, ◌≤◌, ℕ, List, [], Ok, refl, sym, ◌∙◌, ap, subst, map, length, arith}
 use Rattle.sector.specs.declared.Extent.{Extent}
 use Rattle.adapter.specs.View.{AdapterView}
-use Rattle.machine.specs.Map.{IsMap, sectors_in}
+use Rattle.machine.specs.Map.{IsMap}
+use Rattle.sector.specs.Extents.{sectors_in}
 use Rattle.machine.specs.State.{opening}
 use Rattle.device.specs.View.{DeviceView}
 use Rattle.port.specs.Opening.{opening_view as port_opening}

@@ -8,7 +8,7 @@ use Rattle.ntstatus.specs.declared.NtStatus.TheVariants.{InvalidParameter as Par
 use Rattle.ntstatus.specs.First.{when, first_some}
 use Rattle.srb.specs.declared.DeviceLabel.{DeviceLabel}
 use Rattle.machine.specs.declared.ClientRequest.{ClientRequest}
-use Rattle.machine.specs.declared.Kind.TheVariants.{Read, Write, Flush}
+use Rattle.srb.specs.declared.Kind.TheVariants.{Read, Write, Flush}
 use Rattle.machine.specs.declared.Label.{Label}
 use Rattle.machine.specs.declared.Label.TheVariants.{Call, Answer as AnswerLabel, Cancel, Pause, Resume, Remove, Surprise, Removed}
 use Rattle.machine.specs.Step.{as_label}

@@ -1,6 +1,6 @@
 -- When a step is right: by what the I/O manager promises of the call that the event stands for.
 use Rattle.std.specs.Prelude.{◌≡◌, [], false}
-use Rattle.machine.specs.declared.Kind.TheVariants.{Read, Write, Flush}
+use Rattle.srb.specs.declared.Kind.TheVariants.{Read, Write, Flush}
 use Rattle.io_manager.specs.declared.Reply.{Reply}
 use Rattle.io_manager.specs.declared.Reply.TheVariants.{Ok as OkReply}
 use Rattle.io_manager.specs.Shown.{ManagerView}

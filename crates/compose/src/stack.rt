@@ -1,10 +1,13 @@
 //! The stack over an adapter: what its user calls.
 
-ghost use Rattle.std.specs.Prelude.{◌≡◌, [], IfOk, IfErr, MatchResult};
+ghost use Rattle.std.specs.Prelude.{◌≡◌, [], IfOk, IfErr, MatchOption, MatchResult};
+ghost use Rattle.adapter.specs.View.{IsInOrder};
+ghost use Rattle.adapter.specs.Calls.{HasNoneFresh};
+ghost use Rattle.adapter.specs.Booking.{IsArmed, handed};
 ghost use Rattle.machine.specs.Settled.{Settled, IsFinished};
 ghost use Rattle.machine_laws.specs.Reached.{IsReached};
 ghost use Rattle.probe.specs.Exchange.{IsIdle};
-ghost use Rattle.io_manager.specs.Right.{FitsTogether, TakesAnswer, TakesAnswerOf, TakesLabel as TakesFirst};
+ghost use Rattle.io_manager.specs.Right.{BooksPiece, FitsTogether, TakesAnswer, TakesAnswerOf, TakesLabel as TakesFirst};
 ghost use Rattle.compose.specs.Right.{IsRight};
 ghost use Rattle.compose.specs.Opening.{IsFirstView, IsSpent};
 ghost use Rattle.compose.specs.Runs.{CarriesAll, IsLawful, StopsAfter};
@@ -12,7 +15,8 @@ ghost use Rattle.compose.specs.Runs.{CarriesAll, IsLawful, StopsAfter};
 use crate::start::{Manager, manager_over};
 use crate::{Answer, Event, Reply, RunStopped, Settings, Shown, StartFault, events};
 use device::Label;
-use miniport::Adapter;
+use adapter::Adapter;
+use srb::{Completion, Entry, Srb};
 use std::alloc::Global;
 use std::marker::Model;
 
@@ -71,6 +75,22 @@ impl<A: Adapter> Stack<A> {
         events::step(&mut self.manager, alloc, event)
     }
 
+    /// The piece on a tag that could act, with its SRB.
+    pub fn armed(&self, tag: u8) -> Option<(u128, &Srb)>
+        ensures { MatchOption result (HasNoneFresh self.now.adapter tag) (λ found. IsArmed self.now.adapter tag found.0 found.1.now) }
+    {
+        self.manager.armed(tag)
+    }
+
+    /// Books what the act of a tag's piece did, or how it failed, with an adapter whose sectors stand elsewhere: the next
+    /// `Act` of the tag is that. It takes no memory, changes nothing of the machine, and does nothing where the tag has no
+    /// such piece that could act, or what is to be booked isn't its.
+    pub fn book(&mut self, tag: u8, piece: u128, what: Result<&Entry, Completion>)
+        ensures { BooksPiece self.old tag piece (handed what.entry) self.new }
+    {
+        self.manager.book(tag, piece, what);
+    }
+
     /// What is shown between two steps is settled and fits together, a removal with nothing open has ended, and a run leads
     /// to it, for who calls this.
     pub fn shows_whole(&self)
@@ -78,6 +98,7 @@ impl<A: Adapter> Stack<A> {
         ensures finished { IsFinished self.now.state }
         ensures whole { FitsTogether self.now }
         ensures reached { IsReached self.now.rules self.now.state }
+        ensures in_order { IsInOrder self.now.adapter }
     {
         self.manager.shows_whole()
     }

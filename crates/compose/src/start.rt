@@ -10,7 +10,7 @@ use crate::{Settings, StartFault};
 use class_disk::{Disk, DiskRoom};
 use hold_filter::Filter;
 use io_manager::{IoManager, Limits};
-use miniport::Adapter;
+use adapter::Adapter;
 use partition::Partitions;
 use port::{Port, PortRoom};
 use probe::{ProbeFault, Probed, probe};

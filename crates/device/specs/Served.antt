@@ -1,17 +1,21 @@
 -- What each call does to what a layer shows.
-use Rattle.std.specs.Prelude.{◌≡◌, ◌≢◌, ◌⊎◌, ℕ, zero, suc, ◌+◌, ◌*◌, Bool, List, [], ◌∷◌, Option, Some, None, map, filter, take, drop, length, IsTrue, IsFalse, All, Any, Contains, IsPermutation}
+use Rattle.std.specs.Prelude.{◌≡◌, ◌≢◌, ◌⊎◌, ℕ, zero, suc, ◌+◌, ◌*◌, Bool, List, [], ◌∷◌, Option, Some, None, Result, map, filter, take, drop, length, IsTrue, IsFalse, All, Any, Contains, IsPermutation}
 use Rattle.std.specs.List.Sorted.{IsStrictlyIncreasing}
 use Rattle.ntstatus.specs.declared.NtStatus.{NtStatus}
 use Rattle.ntstatus.specs.declared.NtStatus.TheVariants.{Success, DeviceBusy}
 use Rattle.srb.specs.declared.Class.{Class}
+use Rattle.srb.specs.declared.Completion.{Completion}
+use Rattle.srb.specs.declared.Entry.{Entry}
 use Rattle.srb.specs.declared.DeviceLabel.{DeviceLabel}
 use Rattle.srb.specs.declared.DeviceLabel.TheVariants.{Start, Act, Fault, Return}
 use Rattle.srb.specs.Fate.{Fresh, is_fresh}
 use Rattle.adapter.specs.View.{AdapterView, ReservesMore, MovesByAll, NotesReset}
+use Rattle.adapter.specs.Calls.{IsBooked}
+use Rattle.adapter.specs.Booking.{Books}
 use Rattle.irp.specs.declared.Payload.{Payload}
 use Rattle.irp.specs.declared.Climb.{Climb}
 use Rattle.irp.specs.Climb.{Climbs, BringsRoutine}
-use Rattle.machine.specs.declared.Kind.TheVariants.{Read, Flush}
+use Rattle.srb.specs.declared.Kind.TheVariants.{Read, Flush}
 use Rattle.machine.specs.declared.Request.{Request}
 use Rattle.machine.specs.Rules.{Rules, place_count, as_client}
 use Rattle.machine.specs.State.{Mark, Done, Back, OpenRequest, Piece, State}
@@ -75,18 +79,31 @@ IsActOrFault number (Fault piece) = piece ≡ number
 IsActOrFault number (Start piece tag block) = ⊥
 IsActOrFault number (Return piece class) = ⊥
 
--- the fresh piece of the tag acts or faults
+-- the label is an act
+abbrev pub IsAct : DeviceLabel → Type 0
+IsAct (Act piece bytes) = Unit {0}
+IsAct (Fault piece) = ⊥
+IsAct (Start piece tag block) = ⊥
+IsAct (Return piece class) = ⊥
+
+-- the fresh piece of the tag acts or faults; what was booked acts
 pub record ActsOrFaults (old : DeviceView) (tag : ℕ) (new : DeviceView) : Type 0 where
   pub piece : Piece
   pub label : DeviceLabel
   pub fresh : IsFreshOn old.state tag piece
   pub told : IsActOrFault piece.number label
+  pub if_booked : IsBooked old.adapter tag → IsAct label
   pub moves : Moves old (label ∷ []) new
 
 -- no fresh piece is on the tag, and nothing changes
 pub record ActsNot (old : DeviceView) (tag : ℕ) (new : DeviceView) : Type 0 where
   pub none : (piece : Piece) → IsFreshOn old.state tag piece → ⊥
   pub same : new ≡ old
+
+-- what is booked of a piece is the adapter's alone
+pub record BooksPiece (old : DeviceView) (tag piece : ℕ) (what : Result Entry Completion) (new : DeviceView) : Type 0 where
+  pub adapter : Books old.adapter tag piece what new.adapter
+  pub same : new ≡ record old { adapter = new.adapter }
 
 -- the piece of the tag comes back, and then pieces are started
 pub record Finishes (old : DeviceView) (tag : ℕ) (new : DeviceView) : Type 0 where

@@ -1,7 +1,7 @@
 -- What a layer shows of itself.
 use Rattle.std.specs.Prelude.{◌≡◌, ◌<◌, ◌≤◌, ◌⊎◌, ℕ, ◌+◌, ◌-◌, ◌*◌, Bool, true, false, List, [], Option, Some, None, map, length, count_by, IsNone, IsTrue, IsFalse, All, Any, IsPermutation, slice_get, if◌then◌else◌}
 use Rattle.sector.specs.declared.Extent.{Extent}
-use Rattle.sector.specs.Extents.{IsIn}
+use Rattle.sector.specs.Extents.{IsIn, sectors_in}
 use Rattle.cdb.specs.declared.Cdb.{Cdb}
 use Rattle.cdb.specs.Meaning.{Means}
 use Rattle.srb.specs.declared.Srb.{Srb}
@@ -17,11 +17,10 @@ use Rattle.irp.specs.Climb.{above as locations_above}
 use Rattle.irp.specs.Packet.{HasOwn, cancel_routine_of}
 use Rattle.irp.specs.declared.Payload.{Payload}
 use Rattle.irp.specs.declared.Payload.TheVariants.{Buffer, Srb as Packed, Sent as AtAdapter}
-use Rattle.machine.specs.declared.Kind.{Kind}
-use Rattle.machine.specs.declared.Kind.TheVariants.{Read, Write, Flush}
+use Rattle.srb.specs.declared.Kind.{Kind}
+use Rattle.srb.specs.declared.Kind.TheVariants.{Read, Write, Flush}
 use Rattle.machine.specs.declared.Request.{Request}
 use Rattle.machine.specs.Rules.{Rules, is_transfer, sectors_of, as_client}
-use Rattle.machine.specs.Map.{sectors_in}
 use Rattle.machine.specs.State.{OpenRequest, Piece, State}
 use Rattle.machine.specs.Sending.{command_for, is_started}
 use Rattle.machine.specs.Settled.{IsAllSent, IsFull, IsWithin, started_count}

@@ -1,14 +1,16 @@
 ghost use Rattle.std.specs.Prelude.{◌≡◌, ◌≢◌, ◌<◌, ◌≤◌, ◌+◌, ◌∷◌, ℕ, Bool, true, List, length, Some, IsTrue, IsFalse, IfOk, IfSome, OnErr, IfNone, All, MatchBool, MatchOption, IsPermutation};
-ghost use Rattle.machine.specs.declared.Kind.TheVariants.{Write};
+ghost use Rattle.srb.specs.declared.Kind.TheVariants.{Write};
 ghost use Rattle.machine.specs.declared.Request.{Request};
 ghost use Rattle.machine.specs.Rules.{sectors_of};
 ghost use Rattle.machine.specs.Settled.{WaitsIfCancelled};
 ghost use Rattle.device.specs.View.{DeviceView, IsBounded, IsOrderly, AsksInLocation, Carries, label_places, packet_of};
-ghost use Rattle.device.specs.Served.{Reserves, Submits, ActsOrFaults, ActsNot, Finishes, FinishesNot, Resets, CancelsIfOpen, CancelsAt, DrainsAll, PausesAll, ResumesAll, HandsUp, HandsUpNone, TakesLabel};
+ghost use Rattle.adapter.specs.Calls.{HasNoneFresh};
+ghost use Rattle.adapter.specs.Booking.{IsArmed, handed};
+ghost use Rattle.device.specs.Served.{Reserves, Submits, ActsOrFaults, ActsNot, BooksPiece, Finishes, FinishesNot, Resets, CancelsIfOpen, CancelsAt, DrainsAll, PausesAll, ResumesAll, HandsUp, HandsUpNone, TakesLabel};
 
 use crate::Request;
 use irp::{Climb, Irp};
-use srb::DeviceLabel;
+use srb::{Completion, DeviceLabel, Entry, Srb};
 use std::alloc::AllocError;
 
 /// A driver's device object in the stack, view from the driver above it (WDK: device stack).
@@ -111,6 +113,19 @@ pub trait Device: Drop {
         requires label_place { label_places (view self.old) + 1 ≤ 64 }
         ensures rooms { (rooms : List Self.Room) → rooms_out self.old rooms → rooms_out self.new rooms }
         ensures acts { MatchBool result (ActsOrFaults (view self.old) tag (view self.new)) (ActsNot (view self.old) tag (view self.new)) };
+
+    /// The piece of a tag that has neither acted nor failed, with its SRB. None where there is none.
+    fn armed(&self, tag: u8) -> Option<(u128, &Srb)>
+        requires { (rooms : List Self.Room) × rooms_out self.now rooms }
+        ensures { MatchOption result (HasNoneFresh (view self.now).adapter tag) (λ found. IsArmed (view self.now).adapter tag found.0 found.1.now) };
+
+    /// Books what the act of a tag's piece did, or how it failed, with an adapter whose sectors stand elsewhere; its next act
+    /// is that. Nothing changes where the tag has no such piece that has neither acted nor failed, or what is to be booked
+    /// isn't its.
+    fn book(&mut self, tag: u8, piece: u128, what: Result<&Entry, Completion>)
+        requires { (rooms : List Self.Room) × rooms_out self.old rooms }
+        ensures rooms { (rooms : List Self.Room) → rooms_out self.old rooms → rooms_out self.new rooms }
+        ensures books { BooksPiece (view self.old) tag piece (handed what.entry) (view self.new) };
 
     /// Takes the piece of a tag back; true where the tag was in use. Else nothing changes.
     fn finish(&mut self, tag: u8) -> bool

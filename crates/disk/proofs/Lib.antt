@@ -1,5 +1,5 @@
 mod Chunked
-mod Cutting
+pub mod Cutting
 pub mod Laws
 mod Looking
 mod Overwriting

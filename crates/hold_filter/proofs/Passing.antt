@@ -1,14 +1,16 @@
 -- Calls that the filter passes on.
-use Rattle.std.proofs.Common.{◌≡◌, ◌<◌, ◌≤◌, ◌⊎◌, inl, inr, ℕ, ◌+◌, Bool, true, false, List, [], ◌∷◌, ◌++◌, Option, Some, None, refl, sym, subst, ap, ◌∙◌, arith, map, length}
+use Rattle.std.proofs.Common.{◌≡◌, ◌<◌, ◌≤◌, ◌⊎◌, inl, inr, ℕ, ◌+◌, Bool, true, false, List, [], ◌∷◌, ◌++◌, Option, Some, None, Result, refl, sym, subst, ap, ◌∙◌, arith, map, length}
 use Rattle.std.specs.Prelude.{All, MatchBool}
 use Rattle.std.proofs.lemmas.List.Sorted.{IsPermutation-sym, All-permutation}
+use Rattle.srb.specs.declared.Completion.{Completion}
 use Rattle.srb.specs.declared.DeviceLabel.{DeviceLabel}
+use Rattle.srb.specs.declared.Entry.{Entry}
 use Rattle.adapter.specs.View.{AdapterView}
 use Rattle.machine.specs.declared.Label.TheVariants.{Cancel}
 use Rattle.machine.specs.declared.Request.{Request}
 use Rattle.machine.specs.Frame.{framed, with_window}
 use Rattle.device.specs.View.{DeviceView, IsOrderly}
-use Rattle.device.specs.Served.{Moves, ActsOrFaults, ActsNot, Finishes, FinishesNot, Resets, TakesLabel, Reserves, IsFreshOn, CancelsIfOpen}
+use Rattle.device.specs.Served.{BooksPiece, Moves, ActsOrFaults, ActsNot, Finishes, FinishesNot, Resets, TakesLabel, Reserves, IsFreshOn, CancelsIfOpen}
 use Rattle.machine.proofs.Permuting.{All-changed}
 use Rattle.machine.proofs.Numbers.{AreDistinct-Step}
 use Rattle.machine.proofs.Framed.{Cancels-framed}
@@ -44,6 +46,7 @@ module _ {R : Type 0} (request_of : R → Request) (ready : R → Type 0) (stack
       label = h.label;
       fresh = record { is_out = h.fresh.is_out; is_tag = h.fresh.is_tag; is_fresh = h.fresh.is_fresh };
       told = h.told;
+      if_booked = h.if_booked;
       moves = shown (h.label ∷ []) v' h.moves;
     },
   )
@@ -89,6 +92,10 @@ module _ {R : Type 0} (request_of : R → Request) (ready : R → Type 0) (stack
   pub takes : (label : Option DeviceLabel) → TakesLabel v label v' → IsPassed × TakesLabel (Shown v) label (Shown v')
   takes None h = (same (h.1 ∙ ap (λ (x : DeviceView). record v { adapter = x.adapter }) (sym h.1)), (h.0, ap Shown h.1))
   takes (Some label) h = (same (h.2 ∙ ap (λ (x : DeviceView). record v { adapter = x.adapter }) (sym h.2)), (h.0, h.1, ap Shown h.2))
+
+  -- what an act did is booked
+  pub books : (tag piece : ℕ) (what : Result Entry Completion) → BooksPiece v tag piece what v' → IsPassed × BooksPiece (Shown v) tag piece what (Shown v')
+  books tag piece what h = (same h.same, record { adapter = h.adapter; same = ap Shown h.same })
 
   -- a packet below is cancelled, or none
   pub cancels : (number : ℕ) → CancelsIfOpen v number v' → IsPassed

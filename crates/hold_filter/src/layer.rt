@@ -15,7 +15,7 @@ use crate::{Filter, FilterRoom};
 use device::{Device, Hold, Request};
 use irp::{Climb, Irp, complete};
 use ntstatus::NtStatus;
-use srb::DeviceLabel;
+use srb::{Completion, DeviceLabel, Entry, Srb};
 use std::alloc::AllocError;
 
 /// A packet that ended in the filter completes (WDK: IoCompleteRequest); nothing of it was moved.
@@ -156,6 +156,14 @@ impl<R: Drop, D: Device<Room = R>> Device for Filter<D, R> {
 
     fn act(&mut self, tag: u8) -> bool {
         self.device.act(tag)
+    }
+
+    fn armed(&self, tag: u8) -> Option<(u128, &Srb)> {
+        self.device.armed(tag)
+    }
+
+    fn book(&mut self, tag: u8, piece: u128, what: Result<&Entry, Completion>) {
+        self.device.book(tag, piece, what);
     }
 
     fn finish(&mut self, tag: u8) -> bool {

@@ -82,6 +82,7 @@ module _ (limits : Limits) (below : DeviceView) (tables : Tables) (old : Manager
           label = acts.label;
           fresh = record { is_out = acts.fresh.is_out; is_tag = acts.fresh.is_tag; is_fresh = acts.fresh.is_fresh };
           acts = acts.told;
+          if_booked = acts.if_booked;
           no_own = refl;
           device = refl;
           ends_none = record { none_answered = refl; not_ended = refl };

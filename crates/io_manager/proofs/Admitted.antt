@@ -6,7 +6,7 @@ use Rattle.std.proofs.lemmas.Bool.{cases_eq}
 use Rattle.std.proofs.lemmas.List.Elements.{All-cons, All-weaker, All-contains, All-map}
 use Rattle.slab.proofs.SlabLemmas.{Contains-cons}
 use Rattle.slab.specs.Slab.{Slab, get, slab_len, Updates as SlabUpdates}
-use Rattle.machine.specs.declared.Kind.TheVariants.{Read}
+use Rattle.srb.specs.declared.Kind.TheVariants.{Read}
 use Rattle.machine.specs.declared.ClientRequest.{ClientRequest}
 use Rattle.machine.specs.Rules.{Rules, as_client}
 use Rattle.machine.specs.State.{OpenRequest as OpenBelow, State}

@@ -9,8 +9,8 @@ use Rattle.slab.specs.Slab.{Slab, get, slab_len}
 use Rattle.adapter.specs.View.{ReservesMore, MovesByAll}
 use Rattle.adapter.proofs.Joining.{moves_joined}
 use Rattle.irp.specs.declared.Payload.{Payload}
-use Rattle.machine.specs.declared.Kind.{Kind}
-use Rattle.machine.specs.declared.Kind.TheVariants.{Read, Write, Flush}
+use Rattle.srb.specs.declared.Kind.{Kind}
+use Rattle.srb.specs.declared.Kind.TheVariants.{Read, Write, Flush}
 use Rattle.machine.specs.declared.ClientRequest.{ClientRequest}
 use Rattle.machine.specs.declared.Label.{Label}
 use Rattle.machine.specs.declared.Label.TheVariants.{Call}

@@ -12,8 +12,8 @@ use Rattle.irp.specs.declared.Climb.TheVariants.{Routine, Finished}
 use Rattle.irp.specs.declared.Done.{Done}
 use Rattle.irp.specs.declared.Driver.{Driver}
 use Rattle.irp.specs.declared.Irp.{Irp}
-use Rattle.machine.specs.declared.Kind.{Kind}
-use Rattle.machine.specs.declared.Kind.TheVariants.{Read, Write, Flush}
+use Rattle.srb.specs.declared.Kind.{Kind}
+use Rattle.srb.specs.declared.Kind.TheVariants.{Read, Write, Flush}
 use Rattle.machine.specs.declared.Request.{Request}
 use Rattle.machine.specs.State.{Mark, OpenRequest as OpenBelow}
 use Rattle.machine.specs.Answering.{answer_bytes, is_done}

@@ -5,8 +5,8 @@ use Rattle.std.proofs.lemmas.Bool.{leb-false, leb-true, not-false, and_parts}
 use Rattle.std.proofs.lemmas.Bool.Decides.{nat_tests}
 use Rattle.std.proofs.Math.Nat.{mod-add-div', zero-mul, zero-div}
 use Rattle.slab.specs.Slab.{slab_len}
-use Rattle.machine.specs.declared.Kind.{Kind}
-use Rattle.machine.specs.declared.Kind.TheVariants.{Read, Write, Flush}
+use Rattle.srb.specs.declared.Kind.{Kind}
+use Rattle.srb.specs.declared.Kind.TheVariants.{Read, Write, Flush}
 use Rattle.machine.specs.declared.ClientRequest.{ClientRequest}
 use Rattle.machine.specs.Rules.{Rules, is_transfer, is_in_bounds, sectors_of}
 use Rattle.machine.specs.State.{State}

@@ -34,3 +34,4 @@ pub mod Removing
 pub mod Marking
 pub mod Cancelled
 pub mod TakenOut
+pub mod Booking

@@ -5,7 +5,8 @@ use Rattle.std.proofs.lemmas.List.Sorted.{length_permutation}
 use Rattle.std.proofs.lemmas.List.Elements.{All-nil, All-head, All-tail}
 use Rattle.slab.specs.Slab.{Slab, slab_len}
 use Rattle.sector.specs.declared.Extent.{Extent}
-use Rattle.machine.specs.Map.{IsPartition, sectors_in}
+use Rattle.machine.specs.Map.{IsPartition}
+use Rattle.sector.specs.Extents.{sectors_in}
 use Rattle.machine.specs.Rules.{Rules}
 use Rattle.machine.specs.State.{State, Piece, opening}
 use Rattle.adapter.specs.View.{TagInUse}

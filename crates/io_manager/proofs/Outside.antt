@@ -17,8 +17,8 @@ use Rattle.srb.specs.declared.DeviceLabel.{DeviceLabel}
 use Rattle.srb.specs.declared.DeviceLabel.TheVariants.{Start, Act, Fault, Return}
 use Rattle.adapter.specs.View.{AdapterView, TagInUse, ReservesMore, NotesReset, met_by_reset, MovesOn, MovesByAll, acted, faulted, in_use_from}
 use Rattle.adapter.specs.Performing.{CarriesOut}
-use Rattle.machine.specs.declared.Kind.{Kind}
-use Rattle.machine.specs.declared.Kind.TheVariants.{Read, Write, Flush}
+use Rattle.srb.specs.declared.Kind.{Kind}
+use Rattle.srb.specs.declared.Kind.TheVariants.{Read, Write, Flush}
 use Rattle.machine.specs.declared.ClientRequest.{ClientRequest}
 use Rattle.machine.specs.Rules.{Rules, first_sector, place_count, is_transfer, sectors_of, home}
 use Rattle.machine.specs.State.{OpenRequest, State}

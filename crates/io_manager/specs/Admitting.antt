@@ -9,8 +9,8 @@ use Rattle.irp.specs.declared.Driver.TheVariants.{Partition}
 use Rattle.irp.specs.declared.Irp.{Irp}
 use Rattle.irp.specs.declared.StackLocation.{StackLocation}
 use Rattle.irp.specs.declared.Payload.{Payload}
-use Rattle.machine.specs.declared.Kind.{Kind}
-use Rattle.machine.specs.declared.Kind.TheVariants.{Read, Flush}
+use Rattle.srb.specs.declared.Kind.{Kind}
+use Rattle.srb.specs.declared.Kind.TheVariants.{Read, Flush}
 use Rattle.machine.specs.declared.Request.{Request}
 use Rattle.machine.specs.declared.ClientRequest.{ClientRequest}
 use Rattle.machine.specs.declared.Label.TheVariants.{Call, Answer as AnswerLabel}

@@ -7,8 +7,8 @@ use Rattle.ntstatus.specs.declared.NtStatus.TheVariants.{Success}
 use Rattle.srb.specs.declared.DeviceLabel.{DeviceLabel}
 use Rattle.adapter.specs.View.{MovesByAll}
 use Rattle.irp.specs.declared.Done.{Done}
-use Rattle.machine.specs.declared.Kind.{Kind}
-use Rattle.machine.specs.declared.Kind.TheVariants.{Read}
+use Rattle.srb.specs.declared.Kind.{Kind}
+use Rattle.srb.specs.declared.Kind.TheVariants.{Read}
 use Rattle.machine.specs.State.{State}
 use Rattle.machine.specs.Answering.{AnswersWith}
 use Rattle.machine.specs.Step.{Run, as_label}

@@ -1,6 +1,7 @@
 -- A manager before its first call.
 use Rattle.std.specs.Prelude.{◌≡◌, ◌≤◌, [], map, length}
-use Rattle.machine.specs.Map.{IsMap, sectors_in}
+use Rattle.machine.specs.Map.{IsMap}
+use Rattle.sector.specs.Extents.{sectors_in}
 use Rattle.machine.specs.State.{opening}
 use Rattle.device.specs.View.{DeviceView}
 use Rattle.pnp.specs.declared.State.TheVariants.{Started}

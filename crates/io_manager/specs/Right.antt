@@ -1,15 +1,19 @@
 -- When a call of the I/O manager, or a step of the adapter, is right.
-use Rattle.std.specs.Prelude.{◌≡◌, ◌≢◌, ◌<◌, ◌⊎◌, ℕ, ◌+◌, ◌==◌, Bool, true, false, List, [], ◌∷◌, ◌++◌, Option, Some, None, map, filter, slice_get, slice_index_or, remove, is_some, IsTrue, IsFalse, All, Contains, IsPermutation, if◌then◌else◌}
+use Rattle.std.specs.Prelude.{◌≡◌, ◌≢◌, ◌<◌, ◌⊎◌, ℕ, ◌+◌, ◌==◌, Bool, true, false, List, [], ◌∷◌, ◌++◌, Option, Some, None, Result, map, filter, slice_get, slice_index_or, remove, is_some, IsTrue, IsFalse, All, Contains, IsPermutation, if◌then◌else◌}
 use Rattle.std.specs.List.{list_any}
 use Rattle.std.specs.List.Sorted.{IsStrictlyIncreasing}
 use Rattle.ntstatus.specs.declared.NtStatus.{NtStatus}
 use Rattle.ntstatus.specs.declared.NtStatus.TheVariants.{Success}
 use Rattle.srb.specs.declared.Class.{Class}
+use Rattle.srb.specs.declared.Completion.{Completion}
+use Rattle.srb.specs.declared.Entry.{Entry}
 use Rattle.srb.specs.declared.DeviceLabel.{DeviceLabel}
 use Rattle.srb.specs.declared.DeviceLabel.TheVariants.{Return}
 use Rattle.adapter.specs.View.{AdapterView, MovesByAll, NotesReset, ReservesMore}
-use Rattle.machine.specs.declared.Kind.{Kind}
-use Rattle.machine.specs.declared.Kind.TheVariants.{Write}
+use Rattle.adapter.specs.Calls.{IsBooked}
+use Rattle.adapter.specs.Booking.{Books}
+use Rattle.srb.specs.declared.Kind.{Kind}
+use Rattle.srb.specs.declared.Kind.TheVariants.{Write}
 use Rattle.machine.specs.declared.ClientRequest.{ClientRequest}
 use Rattle.machine.specs.declared.Label.{Label}
 use Rattle.machine.specs.declared.Label.TheVariants.{Call, Answer as AnswerLabel, Cancel, Pause, Resume, Remove, Surprise, Removed as RemovedLabel}
@@ -19,7 +23,7 @@ use Rattle.machine.specs.Sending.{HasOtherTag, IsStart}
 use Rattle.machine.specs.Step.{Run, as_label}
 use Rattle.machine.specs.Numbers.{request_number}
 use Rattle.device.specs.View.{IsRead, KeepsOutside}
-use Rattle.device.specs.Served.{IsFreshOn, IsActOrFault, is_fresh_piece, fault_of, piece_tag}
+use Rattle.device.specs.Served.{IsFreshOn, IsAct, IsActOrFault, is_fresh_piece, fault_of, piece_tag}
 use Rattle.pnp.specs.declared.State.{State as PnpState}
 use Rattle.pnp.specs.declared.State.TheVariants.{Started, RemovePending, Removing, Removed}
 use Rattle.pnp.specs.Table.{Event, QueryRemove, CancelRemove, Remove as RemoveDevice, SurpriseRemove, next}
@@ -348,6 +352,7 @@ pub record TellsAct (old : ManagerView) (tag : ℕ) (told : Told) : Type 0 where
   pub label : DeviceLabel
   pub fresh : IsFreshOn old.state tag piece
   pub acts : IsActOrFault piece.number label
+  pub if_booked : IsBooked old.adapter tag → IsAct label
   pub no_own : told.own ≡ []
   pub device : told.device ≡ label ∷ []
   pub ends_none : EndsNone told
@@ -365,6 +370,11 @@ ActReplies old tag (HandleReply handle) new told = ⊥
 ActReplies old tag (Requested id) new told = ⊥
 ActReplies old tag (Answered answer) new told = ⊥
 ActReplies old tag (Refused reason bytes) new told = ⊥
+
+-- what is booked of a piece is the adapter's alone
+pub record BooksPiece (old : ManagerView) (tag piece : ℕ) (what : Result Entry Completion) (new : ManagerView) : Type 0 where
+  pub adapter : Books old.adapter tag piece what new.adapter
+  pub same : new ≡ record old { adapter = new.adapter }
 
 -- the tag's piece comes back, and then pieces are started
 pub record TellsFinish (old : ManagerView) (tag : ℕ) (told : Told) : Type 0 where

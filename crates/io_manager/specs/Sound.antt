@@ -3,7 +3,7 @@ use Rattle.std.specs.Prelude.{◌≡◌, ◌≢◌, ◌<◌, ◌≤◌, ℕ, ◌
 use Rattle.std.specs.VecDeque.{deque_len, deque_capacity}
 use Rattle.slab.specs.Slab.{Slab, get, slab_len}
 use Rattle.srb.specs.declared.DeviceLabel.{DeviceLabel}
-use Rattle.machine.specs.declared.Kind.TheVariants.{Read}
+use Rattle.srb.specs.declared.Kind.TheVariants.{Read}
 use Rattle.machine.specs.Rules.{Rules}
 use Rattle.machine.specs.State.{OpenRequest as OpenBelow, State}
 use Rattle.machine.specs.Numbers.{request_number}

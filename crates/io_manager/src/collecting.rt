@@ -4,7 +4,7 @@ ghost use Rattle.std.specs.Prelude.{◌≡◌, ◌<◌, ◌≤◌, ◌+◌, ◌^
 ghost use Rattle.std.specs.VecDeque.{deque_len, deque_capacity};
 ghost use Rattle.slab.specs.Slab.{slab_len};
 ghost use Rattle.ntstatus.specs.declared.NtStatus.TheVariants.{Success};
-ghost use Rattle.machine.specs.declared.Kind.TheVariants.{Read};
+ghost use Rattle.srb.specs.declared.Kind.TheVariants.{Read};
 ghost use Rattle.device.specs.View.{payload_bytes};
 ghost use Rattle.machine.specs.Step.{as_label};
 ghost use Rattle.device.specs.Served.{HandsUpNone};

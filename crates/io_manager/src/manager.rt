@@ -1,12 +1,15 @@
 //! Client calls and adapter steps over any device stack. Each leaves it as it has to be between two steps.
 
-ghost use Rattle.std.specs.Prelude.{◌≡◌, ◌<◌, [], false, Some, None};
-ghost use Rattle.machine.specs.declared.Kind.TheVariants.{Read, Write, Flush};
+ghost use Rattle.std.specs.Prelude.{◌≡◌, ◌<◌, [], false, Some, None, MatchOption};
+ghost use Rattle.adapter.specs.View.{IsInOrder};
+ghost use Rattle.adapter.specs.Calls.{HasNoneFresh};
+ghost use Rattle.adapter.specs.Booking.{IsArmed, handed};
+ghost use Rattle.srb.specs.declared.Kind.TheVariants.{Read, Write, Flush};
 ghost use Rattle.machine.specs.Settled.{Settled, IsFinished};
 ghost use Rattle.machine_laws.specs.Reached.{IsReached};
 ghost use Rattle.io_manager.specs.Calls.{call_on, without_bytes};
 ghost use Rattle.io_manager.specs.Admitting.{IsAdmissible, AreBoundsOf};
-ghost use Rattle.io_manager.specs.Right.{IsRight, IsRightReset, IsHandleOpen, CallReplies, OpenReplies, CloseReplies, CancelReplies, MarkReplies, ActReplies, FinishReplies, FitsTogether, TakesAnswer, TakesLabel as TakesFirst};
+ghost use Rattle.io_manager.specs.Right.{IsRight, IsRightReset, IsHandleOpen, CallReplies, OpenReplies, CloseReplies, CancelReplies, MarkReplies, ActReplies, BooksPiece, FinishReplies, FitsTogether, TakesAnswer, TakesLabel as TakesFirst};
 
 use crate::admission::{Bounds, refusal_of, request_below};
 use crate::parts::Parts;
@@ -14,6 +17,7 @@ use crate::tables::{NUMBER_LIMIT, refused, refused_alone};
 use crate::{Answer, Handle, Id, Refusal, Reply};
 use device::{ClientRequest, Device, Kind, Label};
 use sector::Bytes;
+use srb::{Completion, Entry, Srb};
 use std::alloc::Global;
 use std::marker::Model;
 
@@ -180,6 +184,21 @@ impl<D: Device> IoManager<D> {
         Reply::Ok
     }
 
+    /// The piece on a tag that could act, with its SRB.
+    pub fn armed(&self, tag: u8) -> Option<(u128, &Srb)>
+        ensures { MatchOption result (HasNoneFresh self.now.adapter tag) (λ found. IsArmed self.now.adapter tag found.0 found.1.now) }
+    {
+        self.parts.device.armed(tag)
+    }
+
+    /// Books what the act of a tag's piece did, or how it failed, with an adapter whose sectors stand elsewhere. It takes no
+    /// memory, and changes nothing of the machine.
+    pub fn book(&mut self, tag: u8, piece: u128, what: Result<&Entry, Completion>)
+        ensures { BooksPiece self.old tag piece (handed what.entry) self.new }
+    {
+        self.parts.device.book(tag, piece, what);
+    }
+
     /// The adapter hands the piece on a tag back. Ignored where the tag is free.
     pub fn finish(&mut self, tag: u8) -> Reply
         requires taken { self.old.labels ≡ [] }
@@ -222,6 +241,7 @@ impl<D: Device> IoManager<D> {
         ensures finished { IsFinished self.now.state }
         ensures whole { FitsTogether self.now }
         ensures reached { IsReached self.now.rules self.now.state }
+        ensures in_order { IsInOrder self.now.adapter }
     {
         // The invariant is known where a field is used.
         let _parts = &self.parts;

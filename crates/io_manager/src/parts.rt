@@ -3,7 +3,7 @@
 ghost use Rattle.std.specs.Prelude.{◌≡◌, ◌≢◌, ◌≤◌, ◌<◌, ◌+◌, ◌^◌, true, false, [], is_some, ◌∷◌, length, IfOk, OnOk, OnErr};
 ghost use Rattle.std.specs.VecDeque.{deque_len, deque_capacity};
 ghost use Rattle.slab.specs.Slab.{slab_len};
-ghost use Rattle.machine.specs.declared.Kind.TheVariants.{Write};
+ghost use Rattle.srb.specs.declared.Kind.TheVariants.{Write};
 ghost use Rattle.device.specs.View.{IsBounded};
 ghost use Rattle.device.specs.Served.{Reserves};
 ghost use Rattle.io_manager.specs.Calls.{partition_of};

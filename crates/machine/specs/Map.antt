@@ -1,5 +1,5 @@
 -- The partition map of a disk.
-use Rattle.std.specs.Prelude.{◌≤◌, ◌<◌, ◌⊎◌, ℕ, ◌+◌, List, slice_range, All, AllPairs}
+use Rattle.std.specs.Prelude.{◌≤◌, ◌<◌, ◌⊎◌, ℕ, ◌+◌, List, All, AllPairs}
 use Rattle.sector.specs.declared.Extent.{Extent}
 
 -- one ends before the other begins
@@ -16,7 +16,3 @@ pub record IsPartition (sectors : ℕ) (extent : Extent) : Type 0 where
 pub record IsMap (sectors : ℕ) (partitions : List Extent) : Type 0 where
   pub each : All (IsPartition sectors) partitions
   pub apart : AllPairs AreApart partitions
-
--- the sectors of a partition
-abbrev pub sectors_in : List (List ℕ) → Extent → List (List ℕ)
-sectors_in sectors extent = slice_range sectors extent.first (extent.first + extent.count)

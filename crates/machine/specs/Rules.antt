@@ -1,8 +1,8 @@
 -- What fixes a sector machine: its sizes, its partitions and its limits.
 use Rattle.std.specs.Prelude.{ℕ, ◌+◌, ◌/◌, ◌%◌, ◌*◌, ◌==◌, ◌&&◌, Bool, true, false, nat_le, List, Option, Some, None, slice_get, if◌then◌else◌}
 use Rattle.sector.specs.declared.Extent.{Extent}
-use Rattle.machine.specs.declared.Kind.{Kind}
-use Rattle.machine.specs.declared.Kind.TheVariants.{Read, Write, Flush}
+use Rattle.srb.specs.declared.Kind.{Kind}
+use Rattle.srb.specs.declared.Kind.TheVariants.{Read, Write, Flush}
 use Rattle.machine.specs.declared.Request.{Request}
 use Rattle.machine.specs.declared.ClientRequest.{ClientRequest}
 

@@ -15,8 +15,8 @@ use Rattle.srb.specs.declared.Class.TheVariants.{Good, Busy, Bad}
 use Rattle.srb.specs.declared.DeviceLabel.{DeviceLabel}
 use Rattle.srb.specs.declared.DeviceLabel.TheVariants.{Start, Act, Fault, Return}
 use Rattle.srb.specs.Fate.{Fate, Fresh, Acted, Faulted, class_of}
-use Rattle.machine.specs.declared.Kind.{Kind}
-use Rattle.machine.specs.declared.Kind.TheVariants.{Read, Write, Flush}
+use Rattle.srb.specs.declared.Kind.{Kind}
+use Rattle.srb.specs.declared.Kind.TheVariants.{Read, Write, Flush}
 use Rattle.machine.specs.declared.ClientRequest.{ClientRequest}
 use Rattle.machine.specs.Rules.{Rules, first_sector, home}
 use Rattle.machine.specs.Cutting.{mark_at, is_back, restarts_left}

@@ -4,7 +4,7 @@ use Rattle.std.specs.List.{concat}
 use Rattle.ntstatus.specs.declared.NtStatus.{NtStatus}
 use Rattle.ntstatus.specs.declared.NtStatus.TheVariants.{Success}
 use Rattle.sector.specs.declared.Extent.{Extent}
-use Rattle.machine.specs.declared.Kind.TheVariants.{Read, Write}
+use Rattle.srb.specs.declared.Kind.TheVariants.{Read, Write}
 use Rattle.machine.specs.declared.ClientRequest.{ClientRequest}
 use Rattle.machine.specs.declared.Label.{Label}
 use Rattle.machine.specs.Rules.{Rules, first_sector, place_count}

@@ -10,14 +10,7 @@
 use ntstatus::NtStatus;
 use sector::{Bytes, Extent};
 use srb::DeviceLabel;
-
-/// What a request asks for (WDK: IRP_MJ_READ, IRP_MJ_WRITE, IRP_MJ_FLUSH_BUFFERS).
-#[derive(Debug, Clone, Copy, PartialEq, Eq)]
-pub enum Kind {
-    Read,
-    Write,
-    Flush,
-}
+pub use srb::Kind;
 
 /// A request as a layer takes it: sectors of one of its volumes.
 #[derive(Debug, Clone, Copy, PartialEq, Eq)]

@@ -6,7 +6,8 @@ use Rattle.std.proofs.lemmas.List.{get_or-take, get_or-drop, drop-take, take-tak
 use Rattle.std.proofs.lemmas.List.Elements.{All-head, All-tail}
 use Rattle.sector.specs.declared.Extent.{Extent}
 use Rattle.sector.specs.Splice.{splice}
-use Rattle.machine.specs.Map.{AreApart, IsPartition, sectors_in}
+use Rattle.machine.specs.Map.{AreApart, IsPartition}
+use Rattle.sector.specs.Extents.{sectors_in}
 use Rattle.sector.proofs.Splicing.{length-splice, range_apart}
 use Rattle.machine.proofs.Placed.{get_or-splice_inside, get_or-splice_below, get_or-splice_above}
 

@@ -9,6 +9,8 @@ pub mod Alone
 pub mod Lifting
 pub mod DiskMap
 pub mod Lifted
+pub mod Booked
+pub mod Closing
 pub mod Marks
 pub mod Served
 pub mod SoloRead

@@ -6,25 +6,27 @@ use Rattle.std.proofs.lemmas.List.{take_at, drop_at}
 use Rattle.std.proofs.lemmas.List.Elements.{All-head, All-tail, All-take, All-drop, All-append, All-contains}
 use Rattle.std.proofs.lemmas.List.Sorted.{IsPermutation-sym, Contains-permutation}
 use Rattle.sector.specs.declared.Extent.{Extent}
-use Rattle.sector.specs.Extents.{IsSector}
+use Rattle.sector.specs.Extents.{IsSector, sectors_in}
 use Rattle.sector.specs.Splice.{splice}
 use Rattle.sector.proofs.Splicing.{length-splice}
 use Rattle.srb.specs.declared.DeviceLabel.TheVariants.{Start, Act, Fault, Return}
-use Rattle.machine.specs.declared.Kind.{Kind}
-use Rattle.machine.specs.declared.Kind.TheVariants.{Read, Write, Flush}
+use Rattle.srb.specs.declared.Kind.{Kind}
+use Rattle.srb.specs.declared.Kind.TheVariants.{Read, Write, Flush}
 use Rattle.machine.specs.declared.ClientRequest.{ClientRequest}
 use Rattle.machine.specs.declared.Label.{Label}
 use Rattle.machine.specs.declared.Label.TheVariants.{Call, Device, Answer, Cancel, Pause, Resume, Remove, Surprise, Removed}
 use Rattle.machine.specs.Rules.{Rules, as_faithful, is_transfer, first_sector, home, place_count, sectors_of}
 use Rattle.machine.specs.State.{opening, Piece, State}
-use Rattle.machine.specs.Map.{IsMap, IsPartition, sectors_in}
+use Rattle.machine.specs.Map.{IsMap, IsPartition}
 use Rattle.machine.specs.Pieces.{ArePlaced}
 use Rattle.machine.specs.Sending.{Acts, Transfers, partition_number}
 use Rattle.machine.specs.Step.{Step, Run}
 use Rattle.machine.proofs.Numbers.{AreDistinct-opening}
 use Rattle.machine.proofs.Owners.{Owns, owns}
 use Rattle.machine.proofs.Placed.{ArePlaced-opening, ArePlaced-Run, ArePlaced-Step}
-use Rattle.machine_laws.specs.Lifting.{Entry, ReplaysKind, Replays, IsEntryOf, DeviceTakes, StepTakes, AreActsOf, over_disk, RunsLift}
+use Rattle.srb.specs.declared.Entry.{Entry}
+use Rattle.machine_laws.specs.Lifting.{IsEntryOf, DeviceTakes, StepTakes, AreActsOf, over_disk, RunsLift}
+use Rattle.srb.specs.Replaying.{ReplaysKind, Replays}
 use Rattle.machine_laws.proofs.DiskMap.{parts, home_at, count_at, read_at, write_at, home_inside, length-part, slice_is_part}
 use Rattle.machine_laws.proofs.Lifting.{over, DeviceMoves, StepMoves, IsSame-over, lift_step}
 use Rattle.machine_laws.proofs.Serving.{IsSized}
@@ -59,14 +61,14 @@ module _ (rules : Rules) (size : ℕ) (is_map : IsMap size rules.partitions) whe
   -- what the journal says of an act is what the faithful machine's act does
   act_lifts : (s : State) (disk : List (List ℕ)) (q : ClientRequest) (places extent : Extent) (kind : Kind) (sectors : List (List ℕ)) (arrays' : List (List (List ℕ))) (bytes : List ℕ) (mid : List (List ℕ))
       → IsDisk rules size disk → 0 < places.count → Fits rules q places kind → length sectors ≡ places.count → Transfers rules s q places kind sectors arrays' → bytes ≡ concat sectors
-      → (is_transfer kind ≡ true → extent.first ≡ home rules (Some (partition_number q)) (first_sector rules q + places.first)) → extent.count ≡ places.count
+      → (is_transfer kind ≡ true → extent.first ≡ home rules (Some (partition_number q)) (first_sector rules q + places.first)) → (is_transfer kind ≡ true → extent.count ≡ places.count)
       → ReplaysKind rules.sector_size disk extent bytes kind mid
       → Transfers (as_faithful rules) (over (parts disk rules.partitions) s) q places kind sectors (parts mid rules.partitions) × IsDisk rules size mid
   act_lifts s disk q places extent Read sectors arrays' bytes mid is_disk some fits covers h are place count replays =
       let p : ℕ = partition_number q in
       let from : ℕ = first_sector rules q + places.first in
       let inside : home_at rules.partitions p from + places.count ≤ length disk = subst (λ n. home_at rules.partitions p from + places.count ≤ n) (sym is_disk.0) (home_inside rules.partitions p from places.count size some (fits refl) is_map.each) in
-      let there : sectors_in disk extent ≡ slice_range disk (home_at rules.partitions p from) (home_at rules.partitions p from + places.count) = rw (place refl, count) refl in
+      let there : sectors_in disk extent ≡ slice_range disk (home_at rules.partitions p from) (home_at rules.partitions p from + places.count) = rw (place refl, count refl) refl in
       let long : length (sectors_in disk extent) ≡ places.count = ap (λ ys. length ys) (there ∙ slice_is_part disk (home_at rules.partitions p from) places.count) ∙ length-part disk (home_at rules.partitions p from) places.count inside in
       let whole : All (IsSector rules.sector_size) (sectors_in disk extent) = All-take (IsSector rules.sector_size) _ _ (All-drop (IsSector rules.sector_size) extent.first disk is_disk.1) in
       let same : sectors ≡ sectors_in disk extent = concat_same rules.sector_size sectors (sectors_in disk extent) h.1 whole (covers ∙ sym long) (sym are ∙ replays.0) in (
@@ -79,7 +81,7 @@ module _ (rules : Rules) (size : ℕ) (is_map : IsMap size rules.partitions) whe
       let fits' : from + length sectors ≤ count_at rules.partitions p = rw covers (fits refl) in
       let some' : 0 < length sectors = rw covers some in
       let all : All (IsPartition (length disk)) rules.partitions = subst (λ n. All (IsPartition n) rules.partitions) (sym is_disk.0) is_map.each in
-      let same : replays.0 ≡ sectors = concat_same rules.sector_size replays.0 sectors replays.3 h.1 (replays.2 ∙ count ∙ sym covers) (replays.1 ∙ are) in
+      let same : replays.0 ≡ sectors = concat_same rules.sector_size replays.0 sectors replays.3 h.1 (replays.2 ∙ count refl ∙ sym covers) (replays.1 ∙ are) in
       let is : mid ≡ splice disk (home_at rules.partitions p from) sectors = replays.4 ∙ ap (λ ys. splice disk extent.first ys) same ∙ ap (λ n. splice disk n sectors) (place refl) in
       let inside : home_at rules.partitions p from + length sectors ≤ length disk = home_inside rules.partitions p from (length sectors) (length disk) some' fits' all in
       let whole : All (IsSector rules.sector_size) (splice disk (home_at rules.partitions p from) sectors) =

@@ -9,8 +9,8 @@ use Rattle.std.proofs.lemmas.List.Sorted.{IsPermutation-sym, Contains-permutatio
 use Rattle.std.proofs.lemmas.Option.{slice_get-get_or}
 use Rattle.sector.specs.Splice.{splice}
 use Rattle.srb.specs.declared.DeviceLabel.TheVariants.{Start, Act, Fault, Return}
-use Rattle.machine.specs.declared.Kind.{Kind}
-use Rattle.machine.specs.declared.Kind.TheVariants.{Read, Write, Flush}
+use Rattle.srb.specs.declared.Kind.{Kind}
+use Rattle.srb.specs.declared.Kind.TheVariants.{Read, Write, Flush}
 use Rattle.machine.specs.declared.ClientRequest.{ClientRequest}
 use Rattle.machine.specs.declared.Label.{Label}
 use Rattle.machine.specs.declared.Label.TheVariants.{Call, Device, Answer, Cancel, Pause, Resume, Remove, Surprise, Removed}

@@ -2,7 +2,7 @@
 use Rattle.std.specs.Prelude.{◌≡◌, ℕ, Bool, true, false, List, [], ◌∷◌, Some, None}
 use Rattle.ntstatus.specs.declared.NtStatus.TheVariants.{DeviceBusy}
 use Rattle.srb.specs.Fate.{Fate, Fresh, Acted}
-use Rattle.machine.specs.declared.Kind.TheVariants.{Read}
+use Rattle.srb.specs.declared.Kind.TheVariants.{Read}
 use Rattle.machine.specs.declared.ClientRequest.{ClientRequest}
 use Rattle.machine.specs.declared.Label.TheVariants.{Call}
 use Rattle.machine.specs.Rules.{Rules}

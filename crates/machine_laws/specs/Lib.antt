@@ -8,3 +8,4 @@ pub mod Lifting
 pub mod NumberLaws
 pub mod LabelsLeft
 pub mod CountedLabels
+pub mod Booked

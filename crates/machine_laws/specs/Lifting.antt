@@ -1,45 +1,19 @@
 -- A run of a machine whose sectors stand elsewhere, and the journal of what its acts did there.
 use Rattle.std.specs.Prelude.{◌≡◌, ℕ, ◌+◌, List, [], ◌∷◌, Some, map, length, All, IsTrue}
 use mathlib.Core.Logic.{inl, inr}
-use Rattle.std.specs.List.{concat}
-use Rattle.sector.specs.declared.Extent.{Extent}
-use Rattle.sector.specs.Extents.{IsSector}
-use Rattle.sector.specs.Splice.{splice}
+use Rattle.sector.specs.Extents.{IsSector, sectors_in}
+use Rattle.srb.specs.declared.Entry.{Entry}
 use Rattle.srb.specs.declared.DeviceLabel.{DeviceLabel}
 use Rattle.srb.specs.declared.DeviceLabel.TheVariants.{Start, Act, Fault, Return}
-use Rattle.machine.specs.declared.Kind.{Kind}
-use Rattle.machine.specs.declared.Kind.TheVariants.{Read, Write, Flush}
+use Rattle.srb.specs.Replaying.{Replays}
 use Rattle.machine.specs.declared.Label.{Label}
 use Rattle.machine.specs.declared.Label.TheVariants.{Call, Device, Answer, Cancel, Pause, Resume, Remove, Surprise, Removed}
 use Rattle.machine.specs.Rules.{Rules, first_sector, home, is_transfer, as_faithful}
 use Rattle.machine.specs.State.{State}
-use Rattle.machine.specs.Map.{IsMap, sectors_in}
+use Rattle.machine.specs.Map.{IsMap}
 use Rattle.machine.specs.Sending.{Acts, partition_number}
 use Rattle.machine.specs.Step.{DeviceStep, FreeStep, Step, Run}
 use Rattle.machine_laws.specs.Reached.{IsReached}
-
--- THE JOURNAL
-
--- what one act did, and where on the disk
-pub record Entry : Type 0 where
-  pub piece : ℕ
-  pub tag : ℕ
-  pub extent : Extent
-  pub kind : Kind
-  pub bytes : List ℕ
-
--- the sectors after an act of this kind; what a read hands over stood there
-abbrev pub ReplaysKind : ℕ → List (List ℕ) → Extent → List ℕ → Kind → List (List ℕ) → Type 0
-ReplaysKind size disk extent bytes Read after = (bytes ≡ concat (sectors_in disk extent)) × (after ≡ disk)
-ReplaysKind size disk extent bytes Write after =
-    (moved : List (List ℕ)) × (concat moved ≡ bytes) × (length moved ≡ extent.count) × All (IsSector size) moved × (after ≡ splice disk extent.first moved)
-ReplaysKind size disk extent bytes Flush after = after ≡ disk
-
--- the sectors after all of them
-abbrev pub Replays : ℕ → List (List ℕ) → List Entry → List (List ℕ) → Type 0
-Replays size disk [] after = after ≡ disk
-Replays size disk (entry ∷ entries) after =
-    (mid : List (List ℕ)) × ReplaysKind size disk entry.extent entry.bytes entry.kind mid × Replays size mid entries after
 
 -- ITS ENTRIES AND THE ACTS OF A RUN
 
@@ -50,7 +24,7 @@ pub record IsEntryOf (rules : Rules) (s : State) (number : ℕ) (bytes : List �
   pub kind : entry.kind ≡ act.owner.request.kind
   pub place : IsTrue (is_transfer act.owner.request.kind)
       → entry.extent.first ≡ home rules (Some (partition_number act.owner.request)) (first_sector rules act.owner.request + act.piece.places.first)
-  pub count : entry.extent.count ≡ act.piece.places.count
+  pub count : IsTrue (is_transfer act.owner.request.kind) → entry.extent.count ≡ act.piece.places.count
   pub bytes_are : entry.bytes ≡ bytes
 
 -- an act takes the first entry, which is its own, and any other label none

@@ -1,7 +1,7 @@
 -- The sectors of the arrays, and the labels that write them.
 use Rattle.std.specs.Prelude.{◌≡◌, ◌<◌, ◌≤◌, ℕ, ◌+◌, ◌*◌, List, Option, Some, slice_get, slice_range, Contains}
 use Rattle.srb.specs.declared.DeviceLabel.TheVariants.{Act}
-use Rattle.machine.specs.declared.Kind.TheVariants.{Write}
+use Rattle.srb.specs.declared.Kind.TheVariants.{Write}
 use Rattle.machine.specs.declared.ClientRequest.{ClientRequest}
 use Rattle.machine.specs.declared.Label.{Label}
 use Rattle.machine.specs.declared.Label.TheVariants.{Device}

@@ -1,7 +1,7 @@
 -- The laws of a request that no other write meets, at each moment that a run reaches.
 use Rattle.std.specs.Prelude.{◌≡◌, ◌<◌, ◌⊎◌, ℕ, List, Some, None, IsTrue}
 use Rattle.ntstatus.specs.declared.NtStatus.{NtStatus}
-use Rattle.machine.specs.declared.Kind.TheVariants.{Write}
+use Rattle.srb.specs.declared.Kind.TheVariants.{Write}
 use Rattle.machine.specs.declared.ClientRequest.{ClientRequest}
 use Rattle.machine.specs.declared.Label.{Label}
 use Rattle.machine.specs.declared.Label.TheVariants.{Call, Answer}

@@ -15,6 +15,7 @@
 //! Nothing is said of requests that overlap as to their order, nor that any request is ever answered.
 #![tactic(auto)]
 
+ghost use Rattle.machine_laws.specs.Booked.{EntriesAreOfRuns, JournalsCloseRuns};
 ghost use Rattle.machine_laws.specs.CountedLabels.{AreCountedByHand};
 ghost use Rattle.machine_laws.specs.EndLaws.{
   AnsweredAreOver,
@@ -152,4 +153,15 @@ pub fn labels_are_of_one()
 /// machine from the sectors before the journal to those after it.
 pub fn runs_lift()
     ensures { RunsLift }
+{}
+
+/// Entries that are, by the labels of a trace, of its acts, are so of the acts of the run that the trace is.
+pub fn entries_are_of_runs()
+    ensures { EntriesAreOfRuns }
+{}
+
+/// A journal whose entries are, by the labels, of the acts of a trace makes it a run of the faithful machine, from the
+/// sectors before the journal to those after it.
+pub fn journals_close_runs()
+    ensures { JournalsCloseRuns }
 {}

@@ -24,7 +24,7 @@ use Rattle.miniport.specs.Memory.{AdapterKept, shown_of, view_of, ActsByTable, P
 use Rattle.miniport.proofs.Bad.{fault_is_bad}
 use Rattle.miniport.proofs.Keeping.{moved_piece, failed_piece, move_kept, fail_kept}
 use Rattle.adapter.proofs.Performing.{Performs-length}
-use Rattle.miniport.proofs.Showing.{acts, faults, acts_by_table, faults_by_table}
+use Rattle.miniport.proofs.Showing.{not_booked, acts, faults, acts_by_table, faults_by_table}
 
 -- a tag with a piece is one of the slots
 pub is_below : (slots : List (Option OnTag)) (tag : ℕ) (on : OnTag) → piece_at slots tag ≡ Some on → tag < length slots
@@ -35,7 +35,7 @@ is_below slots tag on there =
     ]
 
 -- the table after an act, in one set of the slot
-table_moved : (t t' : Table) (tag : ℕ) (on : OnTag) (srb : Srb) (bytes : List ℕ) → srb ≡ emptied bytes on.srb
+pub table_moved : (t t' : Table) (tag : ℕ) (on : OnTag) (srb : Srb) (bytes : List ℕ) → srb ≡ emptied bytes on.srb
     → t' ≡ with_moved tag (record on { srb = srb; progress = Done }) bytes (with_slot tag None t) → t' ≡ with_moved tag (moved_piece on bytes) bytes t
 table_moved t t' tag on srb bytes back e =
     e ∙ ap (λ (s : Srb). with_moved tag (record on { srb = s; progress = Done }) bytes (with_slot tag None t)) back
@@ -48,7 +48,7 @@ table_failed t t' tag on srb completion back e =
     ∙ ap (λ (l : List (Option OnTag)). record (with_failed tag (failed_piece on completion) t) { slots = l }) (set-set t.slots tag None (Some (failed_piece on completion)))
 
 -- the bytes that went out are those of the sectors
-whole_bytes : (size : ℕ) (block bytes : List ℕ) (moved : List (List ℕ)) → bytes ≡ concat moved → moved ≡ moved_by size block bytes → concat (moved_by size block bytes) ≡ bytes
+pub whole_bytes : (size : ℕ) (block bytes : List ℕ) (moved : List (List ℕ)) → bytes ≡ concat moved → moved ≡ moved_by size block bytes → concat (moved_by size block bytes) ≡ bytes
 whole_bytes size block bytes moved e f = ap concat (sym f) ∙ sym e
 
 -- what an act leaves
@@ -84,7 +84,7 @@ put_back m longest p t tag on (Failed srb completion) m' t' kept place there unt
     (table_failed t t' tag on srb completion fails.same e)
     (record {
       kept = fail_kept m longest t tag on completion fails.failures kept below there untouched (fault_is_bad (disk_of m p) on.srb fails.decoded completion fails.fault) fails.counted place;
-      acts = record { piece = on.piece; one_of = inr fault };
+      acts = record { piece = on.piece; one_of = inr (fault, not_booked m longest t tag) };
       by_table = faults_by_table m longest p t tag on completion fails.failures fails.decoded (kept.pieces tag on there) there untouched fails.decodes fails.fault fault;
     })
 

@@ -11,7 +11,7 @@ use Rattle.miniport.specs.Slots.{Table, Fails, HasNoneUntouched, in_use_of, tags
 use Rattle.miniport.specs.Memory.{MemView, AdapterKept, FailsWith, shown_of, view_of}
 use Rattle.miniport.proofs.Acts.{is_below, none_fresh, table_failed}
 use Rattle.miniport.proofs.Keeping.{failed_piece, fail_kept, in_order}
-use Rattle.miniport.proofs.Showing.{faults, fails_by}
+use Rattle.miniport.proofs.Showing.{not_booked, faults, fails_by}
 use Rattle.miniport.proofs.TagsInUse.{taken_first}
 
 -- what a failure leaves
@@ -34,7 +34,7 @@ failed_on m longest p t t' tag completion true whole kept bad place h =
     (record {
       kept = keeps;
       order = in_order m longest (with_failed tag (failed_piece on completion) t) whole keeps;
-      acts = record { piece = on.piece; one_of = inr fault };
+      acts = record { piece = on.piece; one_of = inr (fault, not_booked m longest t tag) };
       fails = record {
         use' = in_use_of m.sector_size tag on;
         others = tags_of m.sector_size 0 (slice_set t.slots tag None);

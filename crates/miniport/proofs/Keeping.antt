@@ -57,6 +57,8 @@ new_right m f piece srb ready buffers = record {
   counted = omega arith;
   failed = λ c e. absurd cc;
   met = λ e. absurd cc;
+  booked = λ e b. absurd (cc (b));
+  failing = λ c e. absurd (cc (e));
 }
 
 pub accept_kept : (m : MediumView) (longest : ℕ) (t : Table) (tag piece : ℕ) (srb : Srb) → AdapterKept m longest t → tag < length t.slots
@@ -107,6 +109,8 @@ moved_right m sectors f on bytes long untouched whole right = record {
   counted = right.counted;
   failed = λ c e. absurd cc;
   met = λ e. absurd ((right.met e).1 untouched);
+  booked = λ e b. absurd (cc (e));
+  failing = right.failing;
 }
 
 same_size_ready : (m : MediumView) (sectors : List (List ℕ)) → length sectors ≡ length m.sectors → (srb : Srb) → IsReady m srb → IsReady (record m { sectors = sectors }) srb
@@ -132,7 +136,7 @@ move_kept m longest t tag on bytes sectors kept below there untouched long whole
     let left : sum_by failures_left (slice_set t.slots tag (Some (moved_piece on bytes))) + 1 ≤ sum_by failures_left t.slots =
     put_back m t tag on (moved_piece on bytes) kept.pieces below there untouched (λ e. absurd cc) refl in
     let others : ArePiecesRight m' t.failures t.slots =
-    pieces_along m m' t.failures t.failures t.slots (other_medium m m' t.failures refl (same_size_ready m sectors long)) kept.pieces in
+    pieces_along m m' t.failures t.failures t.slots (other_medium m m' t.failures refl long (same_size_ready m sectors long)) kept.pieces in
     record {
       sector_size = kept.sector_size;
       sectors = rw long kept.sectors;
@@ -155,6 +159,8 @@ failed_right m k f on completion bad untouched right = record {
   counted = omega (arith, right.counted);
   failed = λ c e. (let same : completion ≡ c = cc in subst (λ (d : Completion). class_of d ≡ Bad d) same bad, omega (arith, right.counted));
   met = λ e. absurd ((right.met e).1 untouched);
+  booked = λ e b. absurd (cc (e));
+  failing = right.failing;
 }
 
 pub fail_kept : (m : MediumView) (longest : ℕ) (t : Table) (tag : ℕ) (on : OnTag) (completion : Completion) (k : ℕ) → AdapterKept m longest t
@@ -166,7 +172,7 @@ fail_kept m longest t tag on completion k kept below there untouched bad counted
     put_back m t tag on (failed_piece on completion) kept.pieces below there untouched (λ e. absurd cc) refl in
     let others : ArePiecesRight m' (t.failures + 1) t.slots =
     pieces_along m m' t.failures (t.failures + 1) t.slots
-    (λ p right. more_failures m' t.failures (t.failures + 1) (omega arith) p (other_medium m m' t.failures refl (λ srb ready. ready) p right)) kept.pieces in
+    (λ p right. more_failures m' t.failures (t.failures + 1) (omega arith) p (other_medium m m' t.failures refl refl (λ srb ready. ready) p right)) kept.pieces in
     record {
       sector_size = kept.sector_size;
       sectors = kept.sectors;

@@ -58,18 +58,22 @@ more_failures m f f' more on right = record {
   counted = omega (arith, right.counted);
   failed = λ c e. ((right.failed c e).0, omega (arith, (right.failed c e).1));
   met = λ e. (omega (arith, (right.met e).0), (right.met e).1);
+  booked = right.booked;
+  failing = right.failing;
 }
 
 -- a medium of the same size on which the same is reserved
-pub other_medium : (m m' : MediumView) (f : ℕ) → m'.sector_size ≡ m.sector_size → ((srb : Srb) → IsReady m srb → IsReady m' srb)
+pub other_medium : (m m' : MediumView) (f : ℕ) → m'.sector_size ≡ m.sector_size → length m'.sectors ≡ length m.sectors → ((srb : Srb) → IsReady m srb → IsReady m' srb)
     → (on : OnTag) → IsPieceRight m f on → IsPieceRight m' f on
-other_medium m m' f size ready on right = record {
+other_medium m m' f size long ready on right = record {
   ready = ready on.srb right.ready;
   buffers = right.buffers;
   moved = λ e. rw size (right.moved e);
   counted = right.counted;
   failed = right.failed;
   met = right.met;
+  booked = λ e b. rw (size, long) (right.booked e b);
+  failing = right.failing;
 }
 
 -- after a reset
@@ -102,6 +106,8 @@ reset_piece_right m f f' on more rose right =
       counted = omega (arith, right.counted);
       failed = λ c e. (elim (failed_so on.progress c e) [ inl was ↦ (right.failed c was).0 | inr is ↦ rw is is_reset_class ], before);
       met = λ e. (before, progress_met on.progress);
+      booked = λ e b. absurd (progress_met on.progress e);
+      failing = right.failing;
     }
 
 -- a slot that becomes a piece in a reset was one before

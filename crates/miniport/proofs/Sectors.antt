@@ -40,10 +40,10 @@ cut_again : (size count : ℕ) (bytes : List ℕ) (sectors : List (List ℕ)) �
 cut_again size count bytes sectors e long cut = rw (e, ← long) cut
 
 -- the sectors of an extent
-length-extent : (sectors : List (List ℕ)) (first count : ℕ) → first + count ≤ length sectors → length (slice_range sectors first (first + count)) ≡ count
+pub length-extent : (sectors : List (List ℕ)) (first count : ℕ) → first + count ≤ length sectors → length (slice_range sectors first (first + count)) ≡ count
 length-extent sectors first count within = length-take-le (first + count - first) (drop first sectors) (omega (arith, length-drop first sectors)) ∙ omega arith
 
-All-extent : (size : ℕ) (sectors : List (List ℕ)) (first count : ℕ) → All (IsSector size) sectors → All (IsSector size) (slice_range sectors first (first + count))
+pub All-extent : (size : ℕ) (sectors : List (List ℕ)) (first count : ℕ) → All (IsSector size) sectors → All (IsSector size) (slice_range sectors first (first + count))
 All-extent size sectors first count all = All-take (IsSector size) (first + count - first) (drop first sectors) (All-drop (IsSector size) first sectors all)
 
 -- a transfer is a read or a write, and no read writes
@@ -90,7 +90,7 @@ performs_write size sectors bytes ReadCapacity10 moved after e h = absurd cc
 performs_write size sectors bytes (ReadCapacity16 allocation) moved after e h = absurd cc
 
 -- the sectors that were moved, by the operation code
-moved_transfer : (size : ℕ) (block bytes : List ℕ) (command : Cdb) (sectors : List (List ℕ)) → first_chunks size (blocks_of command) bytes ≡ sectors
+pub moved_transfer : (size : ℕ) (block bytes : List ℕ) (command : Cdb) (sectors : List (List ℕ)) → first_chunks size (blocks_of command) bytes ≡ sectors
     → Means block command → (is_read command ≡ true) ⊎ (is_write command ≡ true) → sectors ≡ moved_by size block bytes
 moved_transfer size block bytes (Read10 lba count fua) sectors e h t = rw (h.0.operation, h.1.blocks) (sym e)
 moved_transfer size block bytes (Write10 lba count fua) sectors e h t = rw (h.0.operation, h.1.blocks) (sym e)

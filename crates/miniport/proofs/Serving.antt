@@ -204,7 +204,7 @@ more_reserved m longest t reserved lasts kept =
       max_transfer = kept.max_transfer;
       depth = kept.depth;
       pieces = pieces_along m m' t.failures t.failures t.slots
-          (other_medium m m' t.failures refl (λ srb ready lba count fua means within. lasts _ (ready lba count fua means within))) kept.pieces;
+          (other_medium m m' t.failures refl refl (λ srb ready lba count fua means within. lasts _ (ready lba count fua means within))) kept.pieces;
       accepted = kept.accepted;
       failures = kept.failures;
       medium_failures = kept.medium_failures;

@@ -16,7 +16,7 @@ use Rattle.disk.specs.Medium.{MediumView}
 use Rattle.miniport.specs.declared.on_tag.OnTag.{OnTag}
 use Rattle.miniport.specs.declared.on_tag.Progress.{Progress}
 use Rattle.miniport.specs.declared.on_tag.Progress.TheVariants.{Untouched, Moved, Failed}
-use Rattle.adapter.specs.Calls.{Finishes}
+use Rattle.adapter.specs.Calls.{Finishes, IsBooked}
 use Rattle.miniport.specs.Carrying.{emptied, disk_of}
 use Rattle.miniport.specs.Faults.{fault_of, Decodes, success, busy, bus_reset}
 use Rattle.miniport.specs.Moving.{moved_by}
@@ -64,14 +64,14 @@ accepts_due m longest p t tag piece srb = due_set m longest p (with_new tag piec
 
 -- ACT
 
-untouched_is_fresh : (size : ℕ) (tag : ℕ) (on : OnTag) → on.progress ≡ Untouched → (in_use_of size tag on).fate ≡ Fresh
+pub untouched_is_fresh : (size : ℕ) (tag : ℕ) (on : OnTag) → on.progress ≡ Untouched → (in_use_of size tag on).fate ≡ Fresh
 untouched_is_fresh size tag on e = ap (λ (p : Progress). fate_of size on.srb p) e
 
 not_met : (m : MediumView) (f : ℕ) (on : OnTag) (b : Bool) → IsPieceRight m f on → on.progress ≡ Untouched → on.was_reset ≡ b → b ≡ false
 not_met m f on false right untouched e = refl
 not_met m f on true right untouched e = absurd ((right.met e).1 untouched)
 
-shows_acted : (size tag : ℕ) (on : OnTag) (bytes : List ℕ) (moved : List (List ℕ)) → bytes ≡ concat moved → moved ≡ moved_by size on.srb.block bytes
+pub shows_acted : (size tag : ℕ) (on : OnTag) (bytes : List ℕ) (moved : List (List ℕ)) → bytes ≡ concat moved → moved ≡ moved_by size on.srb.block bytes
     → in_use_of size tag (moved_piece on bytes) ≡ acted moved [] (in_use_of size tag on)
 shows_acted size tag on bytes moved e f =
     ap (λ (s : List (List ℕ)). record (in_use_of size tag (moved_piece on bytes)) { fate = Acted s }) (sym f)
@@ -98,10 +98,15 @@ acts m longest t tag on command bytes moved sectors below there untouched means 
       means = means;
       performs = performs;
       hands_over = bytes_are;
+      as_booked = λ apart. absurd (cc (apart));
       in_use = subst (λ (u : TagInUse). IsPermutation (tags_of m.sector_size 0 (slice_set t.slots tag (Some (moved_piece on bytes)))) (u ∷ tags_of m.sector_size 0 (slice_set t.slots tag None)))
           (shows_acted m.sector_size tag on bytes moved bytes_are moved_is) put;
       after = depth_stays (record m { sectors = sectors }) longest (with_moved tag (moved_piece on bytes) bytes t) (length t.slots) (length-set t.slots tag (Some (moved_piece on bytes)));
     }
+
+-- an adapter that has its sectors books nothing
+pub not_booked : (m : MediumView) (longest : ℕ) (t : Table) (tag : ℕ) → ¬ IsBooked (shown_of m longest t) tag
+not_booked m longest t tag h = cc (h.apart)
 
 pub faults : (m : MediumView) (longest : ℕ) (t : Table) (tag : ℕ) (on : OnTag) (completion : Completion) (k : ℕ)
     → tag < length t.slots → piece_at t.slots tag ≡ Some on → on.progress ≡ Untouched

@@ -1,12 +1,16 @@
 -- What an adapter in memory shows, and what becomes of it.
-use Rattle.std.specs.Prelude.{◌≡◌, ◌≤◌, ◌<◌, ◌^◌, ◌⊎◌, ℕ, ◌+◌, ◌*◌, Bool, not, true, List, [], length, map, replicate, slice_set, count_by, sum_by, Option, Some, None, Result, if◌then◌else◌}
+use Rattle.std.specs.Prelude.{◌≡◌, ◌≢◌, ◌≤◌, ◌<◌, ◌^◌, ◌⊎◌, ℕ, ◌+◌, ◌*◌, Bool, not, true, List, [], length, map, replicate, slice_set, count_by, sum_by, Option, Some, None, Result, if◌then◌else◌}
 use Rattle.std.specs.List.{concat}
 use Rattle.cdb.specs.declared.Cdb.{Cdb}
 use Rattle.cdb.specs.declared.CdbFault.{CdbFault}
+use Rattle.srb.specs.declared.Srb.{Srb}
+use Rattle.srb.specs.declared.Entry.{Entry}
 use Rattle.srb.specs.declared.Completion.{Completion}
 use Rattle.srb.specs.declared.Class.TheVariants.{Bad}
 use Rattle.srb.specs.Fate.{class_of}
 use Rattle.adapter.specs.View.{TagInUse, AdapterView, IsOn, ActsOn, FaultsOn}
+use Rattle.adapter.specs.Booking.{IsOfSrb}
+use Rattle.miniport.specs.declared.on_tag.Booking.TheVariants.{Bytes, Failure}
 use Rattle.disk.specs.Medium.{MediumView}
 use Rattle.miniport.specs.declared.on_tag.OnTag.{OnTag}
 use Rattle.miniport.specs.declared.on_tag.Progress.{Progress}
@@ -158,6 +162,10 @@ abbrev pub failures_left : Option OnTag → ℕ
 failures_left None = 0
 failures_left (Some on) = if on.was_reset then 0 else left_by on.progress
 
+-- the second buffer has the bytes of an act that the SRB asks for
+abbrev pub HasBooked : ℕ → ℕ → Srb → Type 0
+HasBooked size sectors srb = (entry : Entry) × IsOfSrb size sectors srb entry × (srb.for_label ≡ entry.bytes)
+
 pub record IsPieceRight (medium : MediumView) (failures : ℕ) (on : OnTag) : Type 0 where
   pub ready : IsReady medium on.srb
   pub buffers : on.progress ≡ Untouched → length on.srb.for_label ≡ length on.srb.data
@@ -165,6 +173,8 @@ pub record IsPieceRight (medium : MediumView) (failures : ℕ) (on : OnTag) : Ty
   pub counted : on.failures_before ≤ failures
   pub failed : (completion : Completion) → on.progress ≡ Refused completion → (class_of completion ≡ Bad completion) × (on.failures_before < failures)
   pub met : on.was_reset ≡ true → (on.failures_before < failures) × (on.progress ≡ Untouched → ⊥)
+  pub booked : on.progress ≡ Untouched → on.booking ≡ Bytes → (on.piece ≢ 0) × HasBooked medium.sector_size (length medium.sectors) on.srb
+  pub failing : (completion : Completion) → on.booking ≡ Failure completion → class_of completion ≡ Bad completion
 
 abbrev pub ArePiecesRight : MediumView → ℕ → List (Option OnTag) → Type 0
 ArePiecesRight medium failures slots = (tag : ℕ) (on : OnTag) → piece_at slots tag ≡ Some on → IsPieceRight medium failures on

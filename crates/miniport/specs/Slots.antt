@@ -1,7 +1,8 @@
 -- The table of an adapter in memory: a slot for each tag, the counts, and the labels.
-use Rattle.std.specs.Prelude.{◌≡◌, ◌≢◌, ℕ, suc, ◌+◌, true, false, List, [], ◌∷◌, ◌++◌, Option, Some, None, get_or, slice_set, map, take, drop, sum_by, if◌then◌else◌}
+use Rattle.std.specs.Prelude.{◌≡◌, ◌≢◌, ℕ, suc, ◌+◌, Bool, true, false, List, [], ◌∷◌, ◌++◌, Option, Some, None, Result, Ok, Err, get_or, slice_set, length, map, take, drop, sum_by, if◌then◌else◌}
 use Rattle.std.specs.List.{flat_map}
 use Rattle.srb.specs.declared.Srb.{Srb}
+use Rattle.srb.specs.declared.Entry.{Entry}
 use Rattle.srb.specs.declared.Completion.{Completion}
 use Rattle.srb.specs.declared.DeviceLabel.{DeviceLabel}
 use Rattle.srb.specs.declared.DeviceLabel.TheVariants.{Start, Act, Fault, Return}
@@ -11,6 +12,8 @@ use Rattle.miniport.specs.declared.on_tag.OnTag.{OnTag}
 use Rattle.miniport.specs.declared.on_tag.Progress.{Progress}
 use Rattle.miniport.specs.declared.on_tag.Progress.TheVariants.{Untouched, Moved, Failed}
 use Rattle.miniport.specs.Faults.{success, busy, bus_reset}
+use Rattle.miniport.specs.declared.on_tag.Booking.{Booking}
+use Rattle.miniport.specs.declared.on_tag.Booking.TheVariants.{Nothing, Bytes, Failure}
 use Rattle.miniport.specs.Moving.{moved_by}
 
 pub record Table : Type 0 where
@@ -30,6 +33,11 @@ fate_of size srb Untouched = Fresh
 fate_of size srb Moved = Acted (moved_by size srb.block srb.data)
 fate_of size srb (Failed completion) = Faulted
 
+abbrev pub has_bytes : Booking → Bool
+has_bytes Nothing = false
+has_bytes Bytes = true
+has_bytes (Failure completion) = false
+
 abbrev pub in_use_of : ℕ → ℕ → OnTag → TagInUse
 in_use_of size tag on = record {
   tag = tag;
@@ -38,6 +46,7 @@ in_use_of size tag on = record {
   fate = fate_of size on.srb on.progress;
   failures_before = on.failures_before;
   was_reset = on.was_reset;
+  booked = has_bytes on.booking;
 }
 
 -- the tags in use, the slots being those from this tag on
@@ -71,6 +80,7 @@ new_piece failures piece srb = record {
   progress = Untouched;
   failures_before = failures;
   was_reset = false;
+  booking = Nothing;
 }
 
 abbrev pub with_new : ℕ → ℕ → Srb → Table → Table
@@ -94,6 +104,16 @@ with_failed tag on table = record table {
   failures = table.failures + 1;
   labels = table.labels ++ Fault on.piece ∷ [];
 }
+
+-- what is booked of a piece
+abbrev pub booked_piece : Result Entry Completion → OnTag → OnTag
+booked_piece (Ok entry) on = record on { srb = record on.srb { for_label = entry.bytes }; booking = Bytes }
+booked_piece (Err completion) on = record on { booking = Failure completion }
+
+-- the second buffer has room for what is to be booked
+abbrev pub HasRoomFor : Result Entry Completion → Srb → Type 0
+HasRoomFor (Ok entry) srb = length srb.for_label ≡ length entry.bytes
+HasRoomFor (Err completion) srb = Unit {0}
 
 -- the piece left
 abbrev pub with_returned : ℕ → OnTag → Table → Table

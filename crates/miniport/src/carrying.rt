@@ -20,7 +20,7 @@ use srb::{Completion, Srb};
 
 /// What became of a command.
 #[derive(Debug, Drop)]
-pub(crate) enum Outcome {
+pub enum Outcome {
     /// It was carried out; these bytes were read or written.
     Moved { srb: Srb, bytes: Bytes },
     Failed { srb: Srb, completion: Completion },
@@ -200,7 +200,7 @@ fn perform<M: Medium>(medium: &mut M, command: Cdb, srb: Srb) -> Outcome
 }
 
 /// Carries the command of an SRB out on a medium, or fails it by the first row of the table that fits.
-pub(crate) fn carry_out<M: Medium>(medium: &mut M, write_protected: bool, srb: Srb) -> Outcome
+pub fn carry_out<M: Medium>(medium: &mut M, write_protected: bool, srb: Srb) -> Outcome
     requires ready { IsReady (M.view medium.old) srb }
     requires buffers { length srb.for_label ≡ length srb.data }
     requires countable { (M.view medium.old).failures < 2 ^ 120 }

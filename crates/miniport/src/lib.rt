@@ -2,19 +2,25 @@
 //!
 //! [`MemAdapter`] keeps the contract of [`Adapter`] over any medium. It fails a command exactly by the first row that fits
 //! of one table (`fault_of`, in `by_table` of its `act`), with that row's completion, and it counts each failure.
+//! [`BookedAdapter`] has no sectors: its acts are as was booked of them.
 //! [`OnceAdapter`] is such an adapter, of which one act fails whatever it asks for (`once` of its `act`).
 //!
 //! It doesn't promise that a piece ever acts, nor that what was written outlives the process.
 #![tactic(auto)]
 
+mod booked;
 mod carrying;
 mod check;
 mod completion;
+mod first_sector;
 mod memory;
 mod on_tag;
 mod once;
+mod suiting;
 mod table;
 
 pub use adapter::Adapter;
+pub use booked::BookedAdapter;
+pub use carrying::{Outcome, carry_out};
 pub use memory::MemAdapter;
 pub use once::OnceAdapter;

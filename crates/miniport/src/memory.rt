@@ -3,16 +3,25 @@
 ghost use Rattle.std.specs.Prelude.{◌≡◌, ◌⊎◌, ◌≤◌, ◌<◌, ◌^◌, ℕ, IfOk, length, MatchBool};
 ghost use Rattle.miniport.specs.declared.carrying.Outcome.{Outcome};
 ghost use Rattle.miniport.specs.declared.on_tag.Progress.TheVariants.{Untouched};
-ghost use Rattle.miniport.specs.Carrying.{IsReady};
+ghost use Rattle.std.specs.Prelude.{◌==◌, true, Some};
+ghost use Rattle.std.specs.Bool.{Decides};
+ghost use Rattle.adapter.specs.Booking.{handed};
+ghost use Rattle.miniport.specs.Apart.{CanBook, CannotBook, BooksIn, ActsApartIn, EndsAsBooked, EndsUnbooked, SuitsPiece, failed_as, moved_as_booked as as_moved};
+ghost use Rattle.miniport.specs.Slots.{with_moved, with_failed, piece_at};
+ghost use Rattle.miniport.specs.declared.on_tag.OnTag.{OnTag};
+ghost use Rattle.miniport.specs.Carrying.{IsReady, emptied, sizes_of};
 ghost use Rattle.miniport.specs.Memory.{MemView, view_of, new_view, AdapterKept, PutsBack, ActsIn, ActsNotIn};
 
 use crate::carrying::{Outcome, carry_out};
-use crate::on_tag::{OnTag, Progress};
+use crate::check::Sizes;
+use crate::completion::{HARDWARE_ERROR, failed_with};
+use crate::on_tag::{Booking, OnTag, Progress};
+use crate::suiting::suits;
 use crate::table::TagTable;
 use adapter::Adapter;
 use disk::{Medium, NoMemory};
-use sector::Extent;
-use srb::{Completion, DeviceLabel, Srb};
+use sector::{Bytes, Extent};
+use srb::{Completion, DeviceLabel, Entry, Srb};
 use std::alloc::{AllocError, Global};
 use std::marker::Model;
 
@@ -93,10 +102,39 @@ impl<M: Medium> MemAdapter<M> {
     }
 }
 
+impl<M: Medium> MemAdapter<M> {
+    ghost use Rattle.adapter.specs.View.{IsInOrder};
+    ghost use Rattle.adapter.specs.Calls.{ActsOrFaults, ActsNot};
+    ghost use Rattle.adapter.specs.Booking.{Books, handed};
+    ghost use Rattle.miniport.specs.Apart.{apart};
+
+    /// Books of the tag's piece, as an adapter whose sectors are elsewhere.
+    pub(crate) fn book_apart(&mut self, tag: u8, piece: u128, what: Result<&Entry, Completion>)
+        ensures books { Books (apart self.old.shown) tag piece (handed what.entry) (apart self.new.shown) }
+        ensures order { IsInOrder self.new.shown }
+        ensures protected { self.new.write_protected ≡ self.old.write_protected }
+    {
+        let sizes = sizes_on(&self.medium, self.write_protected);
+        let _booked = book_on(&sizes, &mut self.table, tag, piece, what);
+    }
+
+    /// Ends the tag's piece as it was booked. Piece 0 is carried out; any other of which nothing was booked fails.
+    pub(crate) fn act_apart(&mut self, tag: u8) -> bool
+        requires place { length self.old.shown.labels < 64 }
+        requires protected { self.old.write_protected ≡ true }
+        ensures acts { MatchBool result (ActsOrFaults (apart self.old.shown) tag (apart self.new.shown)) (ActsNot (apart self.old.shown) tag (apart self.new.shown)) }
+        ensures order { IsInOrder self.new.shown }
+        ensures protected { self.new.write_protected ≡ true }
+    {
+        act_apart_on(&mut self.medium, &mut self.table, tag)
+    }
+}
+
 impl<M: Medium> Adapter for MemAdapter<M> {
-    ghost use Rattle.std.specs.Prelude.{◌+◌, ◌*◌, Some, None, IfSome, get_or, Any, OnOk, MatchOption};
+    ghost use Rattle.std.specs.Prelude.{◌+◌, ◌*◌, None, IfSome, get_or, Any, OnOk, MatchOption};
     ghost use Rattle.adapter.specs.View.{HasTag, IsFree, IsInOrder, IsReserved, IsWritable, ReservesMore, Accepts};
     ghost use Rattle.adapter.specs.Calls.{ActsOrFaults, ActsNot, Finishes, FinishesNot, Resets, LeavesFirst, HasNoLabel};
+    ghost use Rattle.adapter.specs.Booking.{Books, handed};
     ghost use Rattle.miniport.specs.Faults.{busy};
     ghost use Rattle.miniport.specs.Memory.{Dues, SameDues, ActsByTable, ResetsAll};
 
@@ -169,6 +207,22 @@ impl<M: Medium> Adapter for MemAdapter<M> {
         act_on(&mut self.medium, self.write_protected, &mut self.table, tag)
     }
 
+    fn armed(&self, tag: u8) -> Option<(u128, &Srb)> {
+        match self.table.untouched(tag) {
+            None => None,
+            Some(on_tag) => Some((on_tag.piece, &on_tag.srb)),
+        }
+    }
+
+    /// Nothing is booked, since its acts move its sectors.
+    fn book(&mut self, tag: u8, piece: u128, what: Result<&Entry, Completion>)
+        ensures books { Books self.old.shown tag piece (handed what.entry) self.new.shown }
+        ensures order { IsInOrder self.new.shown }
+        ensures same { self.new ≡ self.old }
+    {
+        let _tags = &self.table;
+    }
+
     fn finish(&mut self, tag: u8) -> Option<(Srb, Completion)>
         requires { length self.old.shown.labels < 64 }
         ensures finishes { MatchOption result (FinishesNot self.old.shown tag self.new.shown) (λ back. Finishes self.old.shown tag back.0 back.1 self.new.shown) }
@@ -232,6 +286,160 @@ fn carry_on<M: Medium>(
             table.put_failed(tag, on_tag);
         }
     }
+}
+
+fn sizes_on<M: Medium>(medium: &M, write_protected: bool) -> Sizes
+    ensures { result ≡ sizes_of (M.view medium.now) write_protected }
+{
+    Sizes {
+        sector_size: medium.sector_size(),
+        sectors: medium.sectors(),
+        write_protected,
+    }
+}
+
+/// Whether this may be booked of a piece.
+fn is_bookable_piece(
+    sizes: &Sizes,
+    on_tag: &OnTag,
+    piece: u128,
+    what: Result<&Entry, Completion>,
+) -> bool
+    ensures { Decides result (SuitsPiece sizes.now.sector_size sizes.now.sectors on_tag.now piece (handed what.entry)) }
+{
+    piece != 0 && on_tag.piece == piece && suits(sizes, &on_tag.srb, what)
+}
+
+/// Whether this may be booked of the tag's piece.
+fn is_bookable(
+    sizes: &Sizes,
+    table: &TagTable,
+    tag: u8,
+    piece: u128,
+    what: Result<&Entry, Completion>,
+) -> bool
+    ensures { MatchBool result (CanBook sizes.now table.now tag piece (handed what.entry)) (CannotBook sizes.now table.now tag piece (handed what.entry)) }
+{
+    match table.untouched(tag) {
+        None => false,
+        Some(on_tag) => is_bookable_piece(sizes, on_tag, piece, what),
+    }
+}
+
+/// Books of the tag's piece, where this may be; whether it was.
+fn book_on(
+    sizes: &Sizes,
+    table: &mut TagTable,
+    tag: u8,
+    piece: u128,
+    what: Result<&Entry, Completion>,
+) -> bool
+    requires { (on : OnTag) → piece_at table.old.slots tag ≡ Some on → on.progress ≡ Untouched → length on.srb.for_label ≡ length on.srb.data }
+    ensures { MatchBool result (BooksIn sizes.now table.old tag piece (handed what.entry) table.new) (CannotBook sizes.now table.old tag piece (handed what.entry) × (table.new ≡ table.old)) }
+{
+    if !is_bookable(sizes, table, tag, piece, what) {
+        return false;
+    }
+    table.book(tag, what);
+    true
+}
+
+/// The SRB with the bytes of its second buffer as its data, and these bytes, which go out with its label.
+fn moved_as_booked(srb: Srb) -> (Srb, Bytes)
+    requires { length srb.data ≡ length srb.for_label }
+    ensures srb { result.0 ≡ emptied srb.for_label srb }
+    ensures bytes { result.1 ≡ srb.for_label }
+{
+    let bytes = srb.for_label;
+    let mut data = srb.data.into_vec();
+    data.as_mut_slice().copy_from_slice(bytes.as_slice());
+    let left = Vec::new(*data.allocator());
+    let srb = Srb {
+        data: Bytes::new(data),
+        for_label: Bytes::new(left),
+        ..srb
+    };
+    (srb, bytes)
+}
+
+/// The piece acts by what was booked of it, and is put back on its tag.
+fn move_on(table: &mut TagTable, tag: u8, on_tag: OnTag)
+    requires buffers { length on_tag.srb.data ≡ length on_tag.srb.for_label }
+    requires below { tag < length table.old.slots }
+    requires place { length table.old.labels < 64 }
+    ensures { table.new ≡ with_moved tag (as_moved on_tag) on_tag.srb.for_label table.old }
+{
+    let OnTag { srb, .. } = on_tag;
+    let (srb, bytes) = moved_as_booked(srb);
+    let on_tag = OnTag {
+        srb,
+        progress: Progress::Moved,
+        ..on_tag
+    };
+    table.put_moved(tag, on_tag, bytes);
+}
+
+/// The piece fails, and is put back on its tag.
+fn fail_on(table: &mut TagTable, tag: u8, on_tag: OnTag, completion: Completion)
+    requires below { tag < length table.old.slots }
+    requires place { length table.old.labels < 64 }
+    requires counted { table.old.failures < 2 ^ 127 }
+    ensures { table.new ≡ with_failed tag (failed_as completion on_tag) table.old }
+{
+    let on_tag = OnTag {
+        progress: Progress::Failed(completion),
+        ..on_tag
+    };
+    table.put_failed(tag, on_tag);
+}
+
+/// A piece of which nothing was booked: piece 0 is carried out, any other fails.
+fn end_unbooked<M: Medium>(medium: &mut M, table: &mut TagTable, tag: u8, on_tag: OnTag)
+    requires ready { IsReady (M.view medium.old) on_tag.srb }
+    requires buffers { length on_tag.srb.for_label ≡ length on_tag.srb.data }
+    requires countable { (M.view medium.old).failures < 2 ^ 120 }
+    requires some { 1 ≤ length (M.view medium.old).sectors }
+    requires below { tag < length table.old.slots }
+    requires place { length table.old.labels < 64 }
+    requires counted { table.old.failures < 2 ^ 127 }
+    ensures { EndsUnbooked (on_tag.piece == 0) (M.view medium.old) table.old tag on_tag (M.view medium.new) table.new }
+{
+    if on_tag.piece == 0 {
+        carry_on(medium, true, table, tag, on_tag);
+    } else {
+        fail_on(table, tag, on_tag, failed_with(HARDWARE_ERROR, 0x00));
+    }
+}
+
+/// A piece ends as it was booked.
+fn end_as_booked<M: Medium>(medium: &mut M, table: &mut TagTable, tag: u8, on_tag: OnTag)
+    requires ready { IsReady (M.view medium.old) on_tag.srb }
+    requires buffers { length on_tag.srb.for_label ≡ length on_tag.srb.data }
+    requires countable { (M.view medium.old).failures < 2 ^ 120 }
+    requires some { 1 ≤ length (M.view medium.old).sectors }
+    requires below { tag < length table.old.slots }
+    requires place { length table.old.labels < 64 }
+    requires counted { table.old.failures < 2 ^ 127 }
+    ensures { EndsAsBooked on_tag.booking (M.view medium.old) table.old tag on_tag (M.view medium.new) table.new }
+{
+    match on_tag.booking {
+        Booking::Nothing => end_unbooked(medium, table, tag, on_tag),
+        Booking::Bytes => move_on(table, tag, on_tag),
+        Booking::Failure(completion) => fail_on(table, tag, on_tag, completion),
+    }
+}
+
+/// Ends a tag's piece as it was booked, if it has done nothing yet.
+fn act_apart_on<M: Medium>(medium: &mut M, table: &mut TagTable, tag: u8) -> bool
+    requires kept { (longest : ℕ) × AdapterKept (M.view medium.old) longest table.old }
+    requires place { length table.old.labels < 64 }
+    ensures { MatchBool result (ActsApartIn (M.view medium.old) table.old tag (M.view medium.new) table.new) (ActsNotIn (M.view medium.old) table.old tag (M.view medium.new) table.new) }
+{
+    let Some(on_tag) = table.take_untouched(tag) else {
+        return false;
+    };
+    end_as_booked(medium, table, tag, on_tag);
+    true
 }
 
 /// Carries the command of a tag's piece out, if it has done nothing yet.

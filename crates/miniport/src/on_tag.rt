@@ -15,6 +15,16 @@ pub(crate) enum Progress {
     Failed(Completion),
 }
 
+/// What was booked of a piece.
+#[derive(Debug, Clone, Copy, PartialEq, Eq)]
+pub(crate) enum Booking {
+    Nothing,
+    /// The bytes of its act, which stand in the second buffer of its SRB.
+    Bytes,
+    /// How it failed.
+    Failure(Completion),
+}
+
 #[derive(Debug, Drop)]
 pub(crate) struct OnTag {
     pub piece: u128,
@@ -23,6 +33,7 @@ pub(crate) struct OnTag {
     /// The failures counted when it was accepted.
     pub failures_before: u128,
     pub was_reset: bool,
+    pub booking: Booking,
 }
 
 impl OnTag {

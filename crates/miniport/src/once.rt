@@ -8,7 +8,7 @@ use crate::memory::MemAdapter;
 use adapter::Adapter;
 use disk::Medium;
 use sector::Extent;
-use srb::{Completion, DeviceLabel, Srb};
+use srb::{Completion, DeviceLabel, Entry, Srb};
 use std::alloc::AllocError;
 use std::marker::Model;
 
@@ -51,6 +51,7 @@ impl<M: Medium> OnceAdapter<M> {
 impl<M: Medium> Adapter for OnceAdapter<M> {
     ghost use Rattle.adapter.specs.View.{HasTag, IsFree, IsInOrder, IsReserved, IsWritable, ReservesMore, Accepts};
     ghost use Rattle.adapter.specs.Calls.{ActsOrFaults, ActsNot, Finishes, FinishesNot, Resets, LeavesFirst, HasNoLabel};
+    ghost use Rattle.adapter.specs.Booking.{Books, handed};
     ghost use Rattle.miniport.specs.Faults.{busy};
     ghost use Rattle.miniport.specs.Memory.{Dues, SameDues, ResetsAll};
     ghost use Rattle.miniport.specs.Once.{ActsOnce};
@@ -130,6 +131,19 @@ impl<M: Medium> Adapter for OnceAdapter<M> {
             self.before = self.before.and_then(|before| before.checked_sub(1));
         }
         acts
+    }
+
+    fn armed(&self, tag: u8) -> Option<(u128, &Srb)> {
+        self.inner.armed(tag)
+    }
+
+    /// Nothing is booked, since its acts move its sectors.
+    fn book(&mut self, tag: u8, piece: u128, what: Result<&Entry, Completion>)
+        ensures books { Books self.old.inner.shown tag piece (handed what.entry) self.new.inner.shown }
+        ensures order { IsInOrder self.new.inner.shown }
+        ensures same { self.new ≡ self.old }
+    {
+        self.inner.book(tag, piece, what);
     }
 
     fn finish(&mut self, tag: u8) -> Option<(Srb, Completion)>

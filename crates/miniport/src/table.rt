@@ -1,15 +1,18 @@
 //! The tags of the adapter in memory, its counts and its record of labels.
 
-ghost use Rattle.std.specs.Prelude.{◌≡◌, ◌≤◌, ◌<◌, ◌^◌, ◌+◌, ◌++◌, ◌∷◌, [], List, ℕ, Some, None, is_some, IsTrue, IfOk, length, replicate, get_or, vec_len, MatchBool, MatchOption, if◌then◌else◌};
+ghost use Rattle.std.specs.Prelude.{◌≡◌, ◌≤◌, ◌<◌, ◌^◌, ◌+◌, ◌++◌, ◌∷◌, [], List, ℕ, Some, None, is_some, IsTrue, IfOk, length, replicate, get_or, vec_len, Ok, MatchBool, MatchOption, if◌then◌else◌};
 ghost use Rattle.std.specs.VecDeque.{deque_len, deque_capacity};
 ghost use Rattle.srb.specs.declared.DeviceLabel.{DeviceLabel};
 ghost use Rattle.miniport.specs.Slots.{Table, ComesBack, Fails, HasNoneUntouched, piece_at, progress_after_reset, labels_by, slot_after_reset, with_reset_counted, with_slot, with_new, with_moved, with_failed, with_returned, with_reset, with_reset_at};
+ghost use Rattle.miniport.specs.declared.on_tag.OnTag.{OnTag};
 ghost use Rattle.miniport.specs.declared.on_tag.Progress.TheVariants.{Untouched};
+ghost use Rattle.adapter.specs.Booking.{handed};
+ghost use Rattle.miniport.specs.Slots.{HasRoomFor, booked_piece};
 
 use crate::completion::met_reset;
-use crate::on_tag::{OnTag, Progress};
+use crate::on_tag::{Booking, OnTag, Progress};
 use sector::Bytes;
-use srb::{Completion, DeviceLabel, Srb};
+use srb::{Completion, DeviceLabel, Entry, Srb};
 use std::alloc::{AllocError, Global};
 use std::collections::VecDeque;
 use std::marker::Model;
@@ -19,6 +22,44 @@ const LABELS: usize = 64;
 
 /// The most tags.
 const TAGS: usize = 32;
+
+/// The bytes in a place of the same length.
+fn put_in(place: Bytes, bytes: &Bytes) -> Bytes
+    requires { length place ≡ length bytes.now }
+    ensures { result ≡ bytes.now }
+{
+    let mut copy = place.into_vec();
+    copy.as_mut_slice().copy_from_slice(bytes.as_slice());
+    Bytes::new(copy)
+}
+
+/// The piece with its act's bytes booked.
+fn with_bytes(on_tag: OnTag, entry: &Entry) -> OnTag
+    requires { length on_tag.srb.for_label ≡ length entry.now.bytes }
+    ensures { result ≡ booked_piece (Ok entry.now) on_tag }
+{
+    let OnTag { srb, .. } = on_tag;
+    let for_label = put_in(srb.for_label, &entry.bytes);
+    OnTag {
+        srb: Srb { for_label, ..srb },
+        booking: Booking::Bytes,
+        ..on_tag
+    }
+}
+
+/// The piece with what is booked of it.
+fn with_booking(on_tag: OnTag, what: Result<&Entry, Completion>) -> OnTag
+    requires { HasRoomFor (handed what) on_tag.srb }
+    ensures { result ≡ booked_piece (handed what.entry) on_tag }
+{
+    match what {
+        Ok(entry) => with_bytes(on_tag, entry),
+        Err(completion) => OnTag {
+            booking: Booking::Failure(completion),
+            ..on_tag
+        },
+    }
+}
 
 /// A slot for each tag. Nothing but `new` takes memory.
 #[derive(Drop)]
@@ -82,6 +123,7 @@ impl TagTable {
             progress: Progress::Untouched,
             failures_before: self.failures,
             was_reset: false,
+            booking: Booking::Nothing,
         });
         self.accepted += 1;
         self.labels
@@ -106,6 +148,27 @@ impl TagTable {
         ensures { result ≡ is_some (piece_at self.now.slots tag) }
     {
         self.slots.get(tag as usize).is_some_and(Option::is_some)
+    }
+
+    /// The piece on a tag, if it has done nothing yet.
+    pub fn untouched(&self, tag: u8) -> Option<&OnTag>
+        ensures { MatchOption result (HasNoneUntouched self.now.slots tag) (λ on. (piece_at self.now.slots tag ≡ Some on.now) × (on.now.progress ≡ Untouched)) }
+    {
+        match self.slots.get(tag as usize) {
+            Some(Some(on_tag)) if on_tag.progress == Progress::Untouched => Some(on_tag),
+            _ => None,
+        }
+    }
+
+    /// Books of the piece on a tag.
+    pub fn book(&mut self, tag: u8, what: Result<&Entry, Completion>)
+        requires below { tag < length self.old.slots }
+        requires room { (on : OnTag) → piece_at self.old.slots tag ≡ Some on → HasRoomFor (handed what) on.srb }
+        ensures { (on : OnTag) → piece_at self.old.slots tag ≡ Some on → self.new ≡ with_slot tag (Some (booked_piece (handed what.entry) on)) (with_slot tag None self.old) }
+    {
+        if let Some(on_tag) = self.take(tag) {
+            self.place(tag, with_booking(on_tag, what));
+        }
     }
 
     /// Takes the piece off a tag, if it has done nothing yet.

@@ -6,10 +6,10 @@ ghost use Rattle.miniport.specs.Memory.{MemView};
 use crate::expect::{same, same_at};
 use arrayvec::ArrayVec;
 use disk::{Medium, NoMemory, VecDisk};
-use miniport::{Adapter, MemAdapter, OnceAdapter};
+use miniport::{Adapter, BookedAdapter, MemAdapter, OnceAdapter};
 use ntstatus::Sense;
 use sector::{Bytes, Extent};
-use srb::{CommandBlock, Completion, DeviceLabel, Srb, SrbFlags, SrbFunction};
+use srb::{CommandBlock, Completion, DeviceLabel, Entry, Kind, Srb, SrbFlags, SrbFunction};
 use std::alloc::Global;
 use std::process::Abort;
 use std::test::Fail;
@@ -666,4 +666,121 @@ fn the_first_act_fails(rt: HostRuntime) -> Result<(), Fail> {
             (back(1, GOOD, 0xA5), &[(2, 'G', 0)]),
         ],
     )
+}
+
+/// An adapter of two tags for a disk of four sectors, the first of them full of 11h.
+fn booked(alloc: Global) -> Result<BookedAdapter, Fail>
+    ensures accepted { IfOk result (λ a. a.shown.accepted ≡ 0) }
+    ensures labels { IfOk result (λ a. length a.shown.labels ≡ 0) }
+{
+    let first = vec![in alloc; 0x11; 512]?;
+    Ok(
+        BookedAdapter::new(alloc, first, 4, 64, 2)
+            .ok()
+            .ok_or("no memory")?,
+    )
+}
+
+/// An entry of one sector, or of a flush.
+fn entry(
+    alloc: Global,
+    kind: Kind,
+    first: u64,
+    count: u64,
+    bytes: usize,
+    byte: u8,
+) -> Result<Entry, Fail>
+    requires { bytes < 2 ^ 40 }
+{
+    Ok(Entry {
+        piece: 1,
+        tag: 0,
+        extent: Extent { first, count },
+        kind,
+        bytes: Bytes::new(vec![in alloc; byte; bytes]?),
+    })
+}
+
+/// What an SRB comes back with after its act, where this was booked of it.
+fn comes_back(
+    rt: &impl Abort,
+    alloc: Global,
+    asked: (u8, &[u8], usize),
+    what: Result<&Entry, Completion>,
+) -> Result<(u8, Completion, bool), Fail>
+    requires { asked.2 < 2 ^ 40 }
+{
+    let (flags, block, count) = asked;
+    let mut adapter = booked(alloc)?;
+    let srb = srb(alloc, SCSI, flags, block, count, 0xA5)?;
+    put(rt, &mut adapter, 0, 1, srb)?;
+    assert!(rt; adapter.armed(1).is_none());
+    assert!(rt; matches!(adapter.armed(0), Some((1, _))));
+    adapter.book(1, 1, what);
+    adapter.book(0, 2, what);
+    adapter.book(0, 1, what);
+    act(rt, &mut adapter, 0);
+    assert!(rt; adapter.armed(0).is_none());
+    let acted = matches!(adapter.take_label(), Some(DeviceLabel::Start { .. }))
+        && matches!(adapter.take_label(), Some(DeviceLabel::Act { .. }));
+    let (srb, completion) = finish(&mut adapter, 0)?;
+    Ok((
+        srb.data.as_slice().first().copied().unwrap_or(0),
+        completion,
+        acted,
+    ))
+}
+
+#[test]
+fn acts_are_as_booked(rt: HostRuntime) -> Result<(), Fail> {
+    let alloc = rt.alloc();
+    let unbooked = checked(4, 0);
+    let read = (0x40, READ.as_slice(), 512);
+    let write = (0x80, WRITE.as_slice(), 512);
+    let sync = (0, SYNC.as_slice(), 0);
+    let its = entry(alloc, Kind::Read, 0, 1, 512, 0x5A)?;
+    same(&rt, &comes_back(&rt, alloc, read, Ok(&its))?, &(0x5A, GOOD, true));
+    same(&rt, &comes_back(&rt, alloc, write, Ok(&its))?, &(0xA5, unbooked, false));
+    let other = entry(alloc, Kind::Read, 1, 1, 512, 0x5A)?;
+    same(&rt, &comes_back(&rt, alloc, read, Ok(&other))?, &(0xA5, unbooked, false));
+    let short = entry(alloc, Kind::Read, 0, 1, 511, 0x5A)?;
+    same(&rt, &comes_back(&rt, alloc, read, Ok(&short))?, &(0xA5, unbooked, false));
+    let written = entry(alloc, Kind::Write, 0, 1, 512, 0xA5)?;
+    same(&rt, &comes_back(&rt, alloc, write, Ok(&written))?, &(0xA5, GOOD, true));
+    let changed = entry(alloc, Kind::Write, 0, 1, 512, 0x5A)?;
+    same(&rt, &comes_back(&rt, alloc, write, Ok(&changed))?, &(0xA5, unbooked, false));
+    let flushed = entry(alloc, Kind::Flush, 0, 0, 0, 0)?;
+    same(&rt, &comes_back(&rt, alloc, sync, Ok(&flushed))?, &(0, GOOD, true));
+    let bad = checked(3, 0x11);
+    same(&rt, &comes_back(&rt, alloc, read, Err(bad))?, &(0xA5, bad, false));
+    same(&rt, &comes_back(&rt, alloc, read, Err(GOOD))?, &(0xA5, unbooked, false));
+    same(&rt, &comes_back(&rt, alloc, read, Err(BUSY))?, &(0xA5, unbooked, false));
+    Ok(())
+}
+
+#[test]
+fn a_booked_adapter_tells_of_its_disk(rt: HostRuntime) -> Result<(), Fail> {
+    let alloc = rt.alloc();
+    let mut adapter = booked(alloc)?;
+    assert!(rt; !adapter.is_faithful() && adapter.sectors() == 4);
+    let capacity = srb(alloc, SCSI, 0x40, &CAPACITY, 8, 0)?;
+    put(&rt, &mut adapter, 0, 0, capacity)?;
+    act(&rt, &mut adapter, 0);
+    let (srb_back, completion) = finish(&mut adapter, 0)?;
+    same(&rt, &completion, &GOOD);
+    same(&rt, &srb_back.data.as_slice(), &[0, 0, 0, 3, 0, 0, 2, 0].as_slice());
+    let first = srb(alloc, SCSI, 0x40, &READ, 512, 0)?;
+    put(&rt, &mut adapter, 0, 0, first)?;
+    act(&rt, &mut adapter, 0);
+    let (srb_back, completion) = finish(&mut adapter, 0)?;
+    same(&rt, &completion, &GOOD);
+    assert!(rt; srb_back.data.as_slice().iter().all(|b| *b == 0x11));
+    let second = [0x28, 0, 0, 0, 0, 1, 0, 0, 1, 0];
+    let elsewhere = srb(alloc, SCSI, 0x40, &second, 512, 0)?;
+    put(&rt, &mut adapter, 0, 0, elsewhere)?;
+    act(&rt, &mut adapter, 0);
+    let (_srb, completion) = finish(&mut adapter, 0)?;
+    same(&rt, &completion, &checked(3, 0x11));
+    same(&rt, &adapter.failures(), &1);
+    Ok(())
 }

@@ -9,8 +9,8 @@ use Rattle.std.proofs.lemmas.List.Sorted.{IsPermutation-sym, IsPermutation-map, 
 use Rattle.std.proofs.lemmas.List.Elements.{All-tail, All-cons, All-weaker}
 use Rattle.ntstatus.specs.declared.NtStatus.{NtStatus}
 use Rattle.sector.specs.declared.Extent.{Extent}
-use Rattle.machine.specs.declared.Kind.{Kind}
-use Rattle.machine.specs.declared.Kind.TheVariants.{Read, Write, Flush}
+use Rattle.srb.specs.declared.Kind.{Kind}
+use Rattle.srb.specs.declared.Kind.TheVariants.{Read, Write, Flush}
 use Rattle.machine.specs.declared.Request.{Request}
 use Rattle.machine.specs.declared.ClientRequest.{ClientRequest}
 use Rattle.machine.specs.Rules.{Rules, is_transfer, is_in_bounds, place_count, as_client}

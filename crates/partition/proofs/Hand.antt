@@ -1,12 +1,14 @@
 -- What holds between the calls, after a call of the layer below.
-use Rattle.std.proofs.Common.{◌≡◌, ℕ, Bool, List, ◌∷◌, sym, ap, subst, map}
+use Rattle.std.proofs.Common.{◌≡◌, ℕ, Bool, List, ◌∷◌, Result, refl, sym, ap, subst, map}
 use Rattle.std.specs.Prelude.{All, MatchBool}
 use Rattle.std.proofs.lemmas.List.Elements.{All-cons, All-head, All-tail}
 use Rattle.sector.specs.declared.Extent.{Extent}
+use Rattle.srb.specs.declared.Completion.{Completion}
+use Rattle.srb.specs.declared.Entry.{Entry}
 use Rattle.machine.specs.declared.Request.{Request}
 use Rattle.machine.specs.Sending.{array_at}
 use Rattle.device.specs.View.{DeviceView, IsOrderly, KeepsOutside}
-use Rattle.device.specs.Served.{ActsOrFaults, ActsNot}
+use Rattle.device.specs.Served.{BooksPiece, ActsOrFaults, ActsNot}
 use Rattle.partition.specs.declared.PartitionRoom.{PartitionRoom}
 use Rattle.partition.specs.OnDisk.{rules_over}
 use Rattle.partition.specs.Kept.{IsInHand, IsOnDisk, IsRoom, room_below}
@@ -82,3 +84,14 @@ pub acts_apart : (table : List Extent) (v v' : DeviceView) → IsOnDisk table v 
 acts_apart table v v' k o o' tag done h =
     let a : ActsOver table v v' k o tag done = acts_over table v v' k o o' tag done h in
     ((a.acts, keeps_outside table v v' k o a.goes.on_disk o' a.keeps), a.goes)
+
+-- what an act did is booked
+pub books_over : (table : List Extent) (v v' : DeviceView) → IsOnDisk table v → (tag piece : ℕ) (what : Result Entry Completion) → BooksPiece v tag piece what v'
+    → BooksPiece (view_of table v) tag piece what (view_of table v') × GoesOn table v v'
+books_over table v v' k tag piece what h = (
+  record { adapter = h.adapter; same = ap (λ (x : DeviceView). view_of table x) h.same },
+  subst (GoesOn table v) (sym h.same) (record {
+    on_disk = record { whole = k.whole; partitions = k.partitions; packets = k.packets; requests = k.requests; placed = k.placed };
+    same_rules = refl;
+  }),
+)

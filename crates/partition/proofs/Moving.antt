@@ -176,7 +176,7 @@ module _ (table : List Extent) (old new : DeviceView) (k : IsOnDisk table old) (
       let m : MovesOn table old new (h.label ∷ []) =
       moves_on table old new (h.label ∷ []) (stands table old k o) k.packets h.moves (numbered new o') in
       record {
-        acts = record { piece = h.piece; label = h.label; fresh = fresh_is tag h.piece h.fresh; told = h.told; moves = m.moves };
+        acts = record { piece = h.piece; label = h.label; fresh = fresh_is tag h.piece h.fresh; told = h.told; if_booked = h.if_booked; moves = m.moves };
         goes = m.goes;
         keeps = m.keeps;
       }

@@ -15,7 +15,7 @@ use Rattle.machine.specs.Sending.{is_started, array_at}
 use Rattle.machine.specs.Settled.{Settled, IsHeld, HasGone, WaitsIfCancelled, Waits, IsAllSent, IsHeldBack, HasMore, IsAtWork, IsFull}
 use Rattle.machine.specs.Holding.{is_lower}
 use Rattle.machine.specs.Numbers.{AreDistinct, IsGiven, HasPlaces, request_number}
-use Rattle.machine.specs.Map.{sectors_in}
+use Rattle.sector.specs.Extents.{sectors_in}
 use Rattle.machine.proofs.Permuting.{flips}
 use Rattle.device.specs.View.{DeviceView, Packet, IsRead, IsSending, WaitsForTag, IsOrderly, packet_number}
 use Rattle.partition.specs.OnDisk.{rules_over}

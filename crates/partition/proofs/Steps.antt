@@ -9,14 +9,14 @@ use Rattle.std.proofs.lemmas.List.{length-replicate}
 use Rattle.std.proofs.lemmas.List.Sorted.{IsPermutation-sym, IsPermutation-map, All-permutation, Contains-permutation}
 use Rattle.std.proofs.lemmas.List.Elements.{All-map, All-contains}
 use Rattle.sector.specs.declared.Extent.{Extent}
-use Rattle.sector.specs.Extents.{IsIn}
+use Rattle.sector.specs.Extents.{IsIn, sectors_in}
 use Rattle.sector.specs.Splice.{splice}
 use Rattle.sector.proofs.Splicing.{length-splice}
 use Rattle.cdb.specs.Meaning.{Means}
 use Rattle.srb.specs.declared.DeviceLabel.{DeviceLabel}
 use Rattle.srb.specs.declared.DeviceLabel.TheVariants.{Start, Act, Fault, Return}
-use Rattle.machine.specs.declared.Kind.{Kind}
-use Rattle.machine.specs.declared.Kind.TheVariants.{Read, Write, Flush}
+use Rattle.srb.specs.declared.Kind.{Kind}
+use Rattle.srb.specs.declared.Kind.TheVariants.{Read, Write, Flush}
 use Rattle.machine.specs.declared.ClientRequest.{ClientRequest}
 use Rattle.machine.specs.declared.Request.{Request}
 use Rattle.machine.specs.Rules.{Rules, is_transfer, first_sector, home}
@@ -25,7 +25,7 @@ use Rattle.machine.specs.Sending.{Starts, Acts, IsInTurn, IsFreshPiece, Transfer
 use Rattle.machine.specs.Step.{DeviceStep, Run, as_label}
 use Rattle.machine.specs.Numbers.{AreDistinct}
 use Rattle.machine.specs.Pieces.{IsPlaced, ArePlaced}
-use Rattle.machine.specs.Map.{IsPartition, IsMap, sectors_in}
+use Rattle.machine.specs.Map.{IsPartition, IsMap}
 use Rattle.machine.proofs.Same.{IsSame-sym}
 use Rattle.machine.proofs.Numbers.{AreDistinct-same, AreDistinct-DeviceStep}
 use Rattle.machine.proofs.Permuting.{All-changed}

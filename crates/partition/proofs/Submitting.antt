@@ -12,8 +12,8 @@ use Rattle.irp.specs.declared.StackLocation.{StackLocation}
 use Rattle.irp.specs.Climb.{above}
 use Rattle.irp.specs.Packet.{HasOwn, KeepsAllButLocations}
 use Rattle.irp.proofs.Returning.{above_is, always_asks}
-use Rattle.machine.specs.declared.Kind.{Kind}
-use Rattle.machine.specs.declared.Kind.TheVariants.{Read, Write, Flush}
+use Rattle.srb.specs.declared.Kind.{Kind}
+use Rattle.srb.specs.declared.Kind.TheVariants.{Read, Write, Flush}
 use Rattle.machine.specs.declared.Request.{Request}
 use Rattle.machine.specs.Rules.{Rules, home, as_client}
 use Rattle.machine.specs.Calling.{Opens}

@@ -6,8 +6,8 @@ use Rattle.irp.specs.declared.MajorFunction.{MajorFunction}
 use Rattle.irp.specs.declared.MajorFunction.TheVariants.{Read as MajorRead, Write as MajorWrite}
 use Rattle.irp.specs.declared.StackLocation.{StackLocation}
 use Rattle.irp.specs.Packet.{handed_to, with_routine}
-use Rattle.machine.specs.declared.Kind.{Kind}
-use Rattle.machine.specs.declared.Kind.TheVariants.{Read, Write, Flush}
+use Rattle.srb.specs.declared.Kind.{Kind}
+use Rattle.srb.specs.declared.Kind.TheVariants.{Read, Write, Flush}
 use Rattle.machine.specs.declared.Request.{Request}
 use Rattle.device.specs.View.{Packet, major_of}
 

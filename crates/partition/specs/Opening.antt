@@ -3,7 +3,8 @@ use Rattle.std.specs.Prelude.{◌≡◌, List, [], ◌∷◌, map}
 use Rattle.sector.specs.declared.Extent.{Extent}
 use Rattle.machine.specs.Rules.{Rules}
 use Rattle.machine.specs.State.{opening}
-use Rattle.machine.specs.Map.{sectors_in, IsMap}
+use Rattle.machine.specs.Map.{IsMap}
+use Rattle.sector.specs.Extents.{sectors_in}
 use Rattle.device.specs.View.{DeviceView}
 use Rattle.partition.specs.OnDisk.{rules_over}
 

@@ -6,7 +6,7 @@ use Rattle.machine.specs.declared.ClientRequest.{ClientRequest}
 use Rattle.machine.specs.Rules.{Rules}
 use Rattle.machine.specs.State.{OpenRequest, State}
 use Rattle.machine.specs.Sending.{array_at}
-use Rattle.machine.specs.Map.{sectors_in}
+use Rattle.sector.specs.Extents.{sectors_in}
 use Rattle.device.specs.View.{Packet, DeviceView}
 use Rattle.partition.specs.Noted.{asked}
 use Rattle.partition.specs.OnDisk.{rules_over}

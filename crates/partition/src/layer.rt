@@ -15,7 +15,7 @@ use crate::{PartitionRoom, Partitions};
 use device::{Device, Hold, Request};
 use irp::{Climb, Irp, resume};
 use sector::Extent;
-use srb::DeviceLabel;
+use srb::{Completion, DeviceLabel, Entry, Srb};
 use std::alloc::AllocError;
 
 impl<D: Device> Partitions<D> {
@@ -108,6 +108,14 @@ impl<D: Device> Device for Partitions<D> {
         ensures outside { KeepsOutside self.old.table.items (D.view self.old.device).adapter (D.view self.new.device).adapter }
     {
         self.device.act(tag)
+    }
+
+    fn armed(&self, tag: u8) -> Option<(u128, &Srb)> {
+        self.device.armed(tag)
+    }
+
+    fn book(&mut self, tag: u8, piece: u128, what: Result<&Entry, Completion>) {
+        self.device.book(tag, piece, what);
     }
 
     fn finish(&mut self, tag: u8) -> bool {

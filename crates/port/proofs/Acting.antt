@@ -4,7 +4,7 @@ use Rattle.std.specs.Prelude.{All, IsTrue, slice_set, slice_index, if◌then◌e
 use Rattle.std.specs.List.{concat, slice_range}
 use Rattle.std.proofs.lemmas.List.{length-append, take_all, length-take, length-drop}
 use Rattle.std.proofs.lemmas.List.Elements.{All-head, All-tail, All-take, All-drop}
-use Rattle.sector.specs.Extents.{IsSector}
+use Rattle.sector.specs.Extents.{IsSector, sectors_in}
 use Rattle.sector.specs.Splice.{splice}
 use Rattle.cdb.specs.declared.Cdb.{Cdb}
 use Rattle.cdb.specs.declared.Cdb.TheVariants.{Read10, Write10, Sync10, ReadCapacity10, Read16, Write16, Sync16, ReadCapacity16}
@@ -12,13 +12,12 @@ use Rattle.cdb.specs.Meaning.{Means, AsksToRead, AsksToWrite}
 use Rattle.srb.specs.declared.Srb.{Srb}
 use Rattle.adapter.specs.Performing.{CarriesOut}
 use Rattle.irp.specs.declared.Payload.TheVariants.{Srb as Packed}
-use Rattle.machine.specs.declared.Kind.{Kind}
-use Rattle.machine.specs.declared.Kind.TheVariants.{Read, Write, Flush}
+use Rattle.srb.specs.declared.Kind.{Kind}
+use Rattle.srb.specs.declared.Kind.TheVariants.{Read, Write, Flush}
 use Rattle.machine.specs.declared.Request.{Request}
 use Rattle.machine.specs.Rules.{Rules, as_client, home, is_transfer}
 use Rattle.machine.specs.State.{State}
 use Rattle.machine.specs.Sending.{Transfers, command_for, read_command, write_command, flush_command}
-use Rattle.machine.specs.Map.{sectors_in}
 use Rattle.machine.proofs.Forms.{read_forms, write_forms, flush_forms, one_read, one_write}
 use Rattle.device.specs.View.{AsksFor, IsBounded, sent_bytes, transfer_length}
 use Rattle.sector.proofs.Splicing.{length-splice}

@@ -6,7 +6,7 @@ use Rattle.adapter.specs.View.{AdapterView, TagInUse, IsInOrder}
 use Rattle.port.specs.declared.queues.Held.{Held}
 use Rattle.port.specs.declared.queues.Ended.{Ended}
 use Rattle.machine.specs.Rules.{Rules}
-use Rattle.machine.specs.Map.{sectors_in}
+use Rattle.sector.specs.Extents.{sectors_in}
 use Rattle.machine.proofs.Numbers.{AreDistinct-opening}
 use Rattle.port.specs.declared.queues.Sizes.{Sizes}
 use Rattle.port.specs.Books.{Books}

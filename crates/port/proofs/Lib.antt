@@ -18,3 +18,4 @@ pub mod Marking
 pub mod Fresh
 pub mod Queued
 pub mod Spots
+pub mod Booking

@@ -14,7 +14,7 @@ use Rattle.machine.specs.declared.Label.TheVariants.{Cancel}
 use Rattle.machine.specs.Rules.{Rules}
 use Rattle.machine.specs.State.{OpenRequest}
 use Rattle.machine.specs.Holding.{Cancels, as_cancelled}
-use Rattle.machine.specs.declared.Kind.TheVariants.{Read}
+use Rattle.srb.specs.declared.Kind.TheVariants.{Read}
 use Rattle.device.specs.View.{Carries, IsBounded, payload_bytes, transfer_length}
 use Rattle.device.specs.Served.{CancelsIfOpen, sectors_moved}
 use Rattle.machine.proofs.Numbers.{AreDistinct-Step}

@@ -17,8 +17,8 @@ use Rattle.adapter.specs.View.{AdapterView, TagInUse, IsInOrder, IsOn, HasNotTag
 use Rattle.adapter.specs.Calls.{Finishes as AdapterFinishes, FinishesNot as AdapterFinishesNot}
 use Rattle.irp.specs.declared.Payload.{Payload}
 use Rattle.irp.specs.declared.Payload.TheVariants.{Srb as Packed}
-use Rattle.machine.specs.declared.Kind.{Kind}
-use Rattle.machine.specs.declared.Kind.TheVariants.{Read, Write, Flush}
+use Rattle.srb.specs.declared.Kind.{Kind}
+use Rattle.srb.specs.declared.Kind.TheVariants.{Read, Write, Flush}
 use Rattle.machine.specs.declared.Request.{Request}
 use Rattle.machine.specs.Rules.{Rules, as_client}
 use Rattle.machine.specs.State.{Mark, Done, Out, OpenRequest}

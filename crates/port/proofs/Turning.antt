@@ -10,13 +10,13 @@ use Rattle.srb.specs.declared.DeviceLabel.TheVariants.{Act, Fault}
 use Rattle.adapter.specs.Performing.{CarriesOut}
 use Rattle.srb.specs.Fate.{Fresh}
 use Rattle.adapter.specs.View.{AdapterView, TagInUse, IsInOrder, IsOn, ActsOn as AdapterActsOn, FaultsOn as AdapterFaultsOn, MovesOn, acted, faulted}
-use Rattle.adapter.specs.Calls.{ActsOrFaults as AdapterActsOrFaults, ActsNot as AdapterActsNot}
+use Rattle.adapter.specs.Calls.{IsBooked, ActsOrFaults as AdapterActsOrFaults, ActsNot as AdapterActsNot}
 use Rattle.machine.specs.declared.Request.{Request}
 use Rattle.machine.specs.Rules.{Rules, as_client}
 use Rattle.machine.specs.State.{OpenRequest, Piece}
 use Rattle.machine.specs.Sending.{Acts, Faults}
 use Rattle.device.specs.View.{AsksFor, label_places}
-use Rattle.device.specs.Served.{IsActOrFault, ActsOrFaults, ActsNot}
+use Rattle.device.specs.Served.{IsAct, IsActOrFault, ActsOrFaults, ActsNot}
 use Rattle.machine.specs.Step.{DeviceStep}
 use Rattle.machine.proofs.Same.{IsSame-refl}
 use Rattle.machine.proofs.Numbers.{AreDistinct-DeviceStep}
@@ -119,16 +119,17 @@ module _ (b : Books) (v : AdapterView) (tag : ℕ) (use' use'' : TagInUse) (othe
       in_hand b (view_turned v sectors tags' failures label) rooms (kept_turned rooms k.kept h space order step) (λ free. k.busy (omega arith))
 
   -- all of it, by the machine's step and the adapter's move of the label
-  shown_turned : Turned b v tag use' use'' others tags' sectors held → use'.fate ≡ Fresh → IsActOrFault use'.piece label → length v.labels + (v.depth - length v.tags) + 1 ≤ 64
+  shown_turned : Turned b v tag use' use'' others tags' sectors held → use'.fate ≡ Fresh → IsActOrFault use'.piece label → (IsBooked v tag → IsAct label) → length v.labels + (v.depth - length v.tags) + 1 ≤ 64
       → IsInOrder (view_turned v sectors tags' failures label) → DeviceStep (rules_of b.sizes) (state_of b v) label (state_of b (view_turned v sectors tags' failures label))
       → MovesOn v tag label (view_turned v sectors tags' failures label) → IsTurned b v tag (view_turned v sectors tags' failures label)
-  shown_turned h fresh told space order step moved = record {
+  shown_turned h fresh told booked space order step moved = record {
     rooms = λ rs i. hand_turned rs i h space order step;
     acts = record {
       piece = out_piece (rules_of b.sizes) (entry_of held) use';
       label = label;
       fresh = record { is_out = Contains-permutation _ _ _ (IsPermutation-sym _ _ (is_out h)) (0, omega arith, refl); is_tag = h.on.has_tag; is_fresh = fresh };
       told = told;
+      if_booked = booked;
       moves = record {
         same_rules = refl;
         same_packets = packets_turned packet_as h;
@@ -199,14 +200,14 @@ acted_all b v v' rooms tag piece bytes k space a order =
         removed = refl;
       };
     } in
-    subst (λ y. IsTurned b v tag y) (sym a.after) (shown_turned b v tag a.use' u a.others a.tags a.sectors held v.failures label h a.is_fresh (sym a.is_piece) space
+    subst (λ y. IsTurned b v tag y) (sym a.after) (shown_turned b v tag a.use' u a.others a.tags a.sectors held v.failures label h a.is_fresh (sym a.is_piece) (λ booked. tt) space
     (subst IsInOrder a.after order) step (subst (AdapterActsOn v tag piece bytes) a.after a))
 
 -- A FAULT
 
 faulted_all : (b : Books) (v v' : AdapterView) (rooms : List Request) (tag piece : ℕ) → PortKept b v rooms → length v.labels + (v.depth - length v.tags) + 1 ≤ 64
-    → AdapterFaultsOn v tag piece v' → IsInOrder v' → IsTurned b v tag v'
-faulted_all b v v' rooms tag piece k space a order =
+    → AdapterFaultsOn v tag piece v' → ¬ IsBooked v tag → IsInOrder v' → IsTurned b v tag v'
+faulted_all b v v' rooms tag piece k space a not_booked order =
     let rules : Rules = rules_of b.sizes in
     let w = on_tag_some rules b.started v.tags a.use' a.others tag k.at_work a.is_on.in_use a.is_on.has_tag in
     let held : Held = w.0 in
@@ -241,7 +242,7 @@ faulted_all b v v' rooms tag piece k space a order =
         removed = refl;
       };
     } in
-    subst (λ y. IsTurned b v tag y) (sym a.after) (shown_turned b v tag a.use' u a.others a.tags v.sectors held a.failures label h a.is_fresh (sym a.is_piece) space
+    subst (λ y. IsTurned b v tag y) (sym a.after) (shown_turned b v tag a.use' u a.others a.tags v.sectors held a.failures label h a.is_fresh (sym a.is_piece) (λ booked. absurd (not_booked booked)) space
     (subst IsInOrder a.after order) step (subst (AdapterFaultsOn v tag piece) a.after a))
 
 label_space : (b : Books) (v : AdapterView) (rooms : List Request) → PortKept b v rooms → label_places (view_of b v) + 1 ≤ 64 → length v.labels + (v.depth - length v.tags) + 1 ≤ 64
@@ -253,9 +254,9 @@ label_space b v rooms k space =
 pub turned : (b : Books) (v v' : AdapterView) (rooms : List Request) (tag : ℕ) → PortKept b v rooms → label_places (view_of b v) + 1 ≤ 64 → AdapterActsOrFaults v tag v' → IsInOrder v' → IsTurned b v tag v'
 turned b v v' rooms tag k space a order = by_label a.one_of
   where
-    by_label : ((bytes : List ℕ) × AdapterActsOn v tag a.piece bytes v') ⊎ AdapterFaultsOn v tag a.piece v' → IsTurned b v tag v'
+    by_label : ((bytes : List ℕ) × AdapterActsOn v tag a.piece bytes v') ⊎ (AdapterFaultsOn v tag a.piece v' × ¬ IsBooked v tag) → IsTurned b v tag v'
     by_label (inl (bytes, h)) = acted_all b v v' rooms tag a.piece bytes k (label_space b v rooms k space) h order
-    by_label (inr h) = faulted_all b v v' rooms tag a.piece k (label_space b v rooms k space) h order
+    by_label (inr (h, not_booked)) = faulted_all b v v' rooms tag a.piece k (label_space b v rooms k space) h not_booked order
 
 -- WHERE NO PIECE CAN ACT
 

@@ -3,7 +3,7 @@ use Rattle.std.specs.Prelude.{◌≡◌, ◌≤◌, [], map, length}
 use Rattle.adapter.specs.View.{AdapterView}
 use Rattle.machine.specs.Rules.{Rules}
 use Rattle.machine.specs.State.{opening}
-use Rattle.machine.specs.Map.{sectors_in}
+use Rattle.sector.specs.Extents.{sectors_in}
 use Rattle.device.specs.View.{DeviceView}
 use Rattle.port.specs.declared.queues.Sizes.{Sizes}
 use Rattle.port.specs.Shown.{rules_of, most}

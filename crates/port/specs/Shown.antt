@@ -9,12 +9,12 @@ use Rattle.srb.specs.Status.{code_of}
 use Rattle.adapter.specs.View.{AdapterView, TagInUse}
 use Rattle.irp.specs.declared.Payload.{Payload}
 use Rattle.irp.specs.declared.Payload.TheVariants.{Srb as Packed}
-use Rattle.machine.specs.declared.Kind.TheVariants.{Flush}
+use Rattle.srb.specs.declared.Kind.TheVariants.{Flush}
 use Rattle.machine.specs.declared.Request.{Request}
 use Rattle.machine.specs.Rules.{Rules, place_count, as_client}
 use Rattle.machine.specs.State.{Mark, Untouched, Out, Done, Failed, Back, OpenRequest, Piece, State}
 use Rattle.machine.specs.Sending.{status_of_completion}
-use Rattle.machine.specs.Map.{sectors_in}
+use Rattle.sector.specs.Extents.{sectors_in}
 use Rattle.device.specs.View.{Packet, DeviceView, sent_bytes}
 use Rattle.device.specs.Served.{sectors_moved}
 use Rattle.port.specs.declared.queues.Sizes.{Sizes}

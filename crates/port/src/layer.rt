@@ -1,7 +1,7 @@
 // The port as a layer of the stack.
 ghost use Rattle.std.specs.Prelude.{⊤, map, ◌≡◌, ◌≢◌, ◌<◌, ◌≤◌, ◌*◌, ◌+◌, ◌^◌, ℕ, Bool, true, List, [], ◌∷◌, length, OnOk, OnErr, MatchBool};
 ghost use Rattle.adapter.specs.View.{IsInOrder, IsReserved, ReservesMore};
-ghost use Rattle.machine.specs.declared.Kind.TheVariants.{Write};
+ghost use Rattle.srb.specs.declared.Kind.TheVariants.{Write};
 ghost use Rattle.machine.specs.declared.Request.{Request};
 ghost use Rattle.port.specs.Books.{books_of, visits_of};
 ghost use Rattle.port.specs.Cancelling.{CancelsQueued, CancelsAt, CancelsNotAt, CancelsNoStarted};
@@ -17,7 +17,7 @@ use crate::{Port, PortRoom};
 use adapter::Adapter;
 use device::{Device, Kind, Request, information};
 use irp::{Climb, Irp, complete};
-use srb::DeviceLabel;
+use srb::{Completion, DeviceLabel, Entry, Srb};
 use std::alloc::AllocError;
 
 /// Requests that may be submitted in all.
@@ -163,6 +163,14 @@ impl<A: Adapter> Device for Port<A> {
 
     fn act(&mut self, tag: u8) -> bool {
         self.adapter.act(tag)
+    }
+
+    fn armed(&self, tag: u8) -> Option<(u128, &Srb)> {
+        self.adapter.armed(tag)
+    }
+
+    fn book(&mut self, tag: u8, piece: u128, what: Result<&Entry, Completion>) {
+        self.adapter.book(tag, piece, what);
     }
 
     fn finish(&mut self, tag: u8) -> bool {

@@ -118,7 +118,7 @@ exchanged_once old first second last command sent srb completion idle looks acce
           exchanges old first second last command sent (class_of completion) (Act 0 h.0) looks accepts refl
           (subst (λ (n : ℕ). ActsOn first 0 n h.0 second) none h.1)
           (returned second last (acted h.1.moved h.1.left h.1.use') srb completion one (sym (ap (λ (u : TagInUse). u.piece) alone.0)) finishes)
-      | inr h ↦
+      | inr (h, unbooked) ↦
           let alone = just_one (in_use_from old 0 0 sent) h.use' first.tags h.others (one_tag old first sent idle accepts) h.is_on.in_use in
           let none : acts.piece ≡ 0 = sym h.is_piece ∙ sym (ap (λ (u : TagInUse). u.piece) alone.0) in
           let one : IsPermutation second.tags (faulted h.use' ∷ []) =
@@ -191,7 +191,7 @@ asks_once old first second last command sent srb completion idle by looks accept
           (sym (ap (λ (u : TagInUse). u.failures_before) alone.0))
           refl seen.0 refl refl refl refl (omega arith)
           finishes' exchanged
-      | inr h ↦
+      | inr (h, unbooked) ↦
           let alone = just_one (in_use_from old 0 0 sent) h.use' accepts.tags h.others one h.is_on.in_use in
           let finishes' = subst (λ (v : AdapterView). Finishes v 0 srb completion last) h.after finishes in
           let counted = h.counted in
@@ -219,7 +219,7 @@ finishes_after first second last acts not =
       | inl h ↦
           let free : All (HasNotTag 0) h.1.tags = subst (λ (v : AdapterView). IsFree v 0) h.1.after not.is_free in
           All-head (HasNotTag 0) (acted h.1.moved h.1.left h.1.use') h.1.others (All-permutation (HasNotTag 0) _ _ h.1.in_use free) h.1.is_on.has_tag
-      | inr h ↦
+      | inr (h, unbooked) ↦
           let free : All (HasNotTag 0) h.tags = subst (λ (v : AdapterView). IsFree v 0) h.after not.is_free in
           All-head (HasNotTag 0) (faulted h.use') h.others (All-permutation (HasNotTag 0) _ _ h.in_use free) h.is_on.has_tag
     ]

@@ -1,5 +1,5 @@
 -- An extent as a set of sectors.
-use Rattle.std.specs.Prelude.{◌≡◌, ℕ, ◌+◌, ◌*◌, ◌%◌, ◌≤◌, ◌<◌, List, Contains, length}
+use Rattle.std.specs.Prelude.{◌≡◌, ℕ, ◌+◌, ◌*◌, ◌%◌, ◌≤◌, ◌<◌, List, Contains, length, slice_range}
 use Rattle.sector.specs.declared.Extent.{Extent}
 
 -- the sector of this number is one of the extent's
@@ -14,6 +14,10 @@ IsCovered extents extent =
 -- a sector of this many bytes
 abbrev pub IsSector : ℕ → List ℕ → Type 0
 IsSector size bytes = length bytes ≡ size
+
+-- the sectors of an extent
+abbrev pub sectors_in : List (List ℕ) → Extent → List (List ℕ)
+sectors_in sectors extent = slice_range sectors extent.first (extent.first + extent.count)
 
 -- these bytes begin at a sector, are whole sectors, and lie in a disk of so many
 pub record AreWholeSectors (offset length sector_size sectors : ℕ) : Type 0 where

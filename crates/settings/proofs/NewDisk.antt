@@ -4,7 +4,7 @@ use Rattle.std.proofs.lemmas.List.{length-replicate}
 use Rattle.disk.specs.Medium.{MediumView, StartsWith, HasWholeSectors}
 use Rattle.disk.specs.declared.NoMemory.{NoMemory}
 use Rattle.miniport.specs.Memory.{MemView, new_view}
-use Rattle.machine.specs.Map.{sectors_in}
+use Rattle.sector.specs.Extents.{sectors_in}
 use Rattle.mbr.specs.Table.{Entry, table_bytes}
 use Rattle.mbr.specs.Faults.{said_of, told_by}
 use Rattle.settings.specs.declared.Config.{Config}

@@ -3,7 +3,8 @@ use Rattle.std.specs.Prelude.{◌≡◌, ◌↔◌, ℕ, ◌-◌, true, Contains
 use Rattle.sector.specs.declared.Extent.{Extent}
 use Rattle.disk.specs.Medium.{MediumView}
 use Rattle.miniport.specs.Memory.{MemView}
-use Rattle.machine.specs.Map.{IsPartition, sectors_in}
+use Rattle.machine.specs.Map.{IsPartition}
+use Rattle.sector.specs.Extents.{sectors_in}
 use Rattle.mbr.specs.Table.{Entry, table_bytes}
 use Rattle.settings.specs.declared.Config.{Config}
 use Rattle.settings.specs.declared.Partition.{Partition}

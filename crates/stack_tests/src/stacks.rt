@@ -3,6 +3,7 @@
 mod disks;
 mod events;
 mod failing;
+mod journal;
 mod refused_memory;
 mod starting;
 mod steps;

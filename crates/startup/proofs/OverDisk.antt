@@ -7,7 +7,8 @@ use Rattle.std.proofs.lemmas.List.Elements.{All-head, All-tail}
 use Rattle.sector.specs.declared.Extent.{Extent}
 use Rattle.adapter.specs.View.{AdapterView}
 use Rattle.miniport.specs.Memory.{MemView}
-use Rattle.machine.specs.Map.{IsMap, IsPartition, sectors_in}
+use Rattle.machine.specs.Map.{IsMap, IsPartition}
+use Rattle.sector.specs.Extents.{sectors_in}
 use Rattle.machine.specs.State.{opening}
 use Rattle.mbr.specs.declared.MbrFault.{MbrFault}
 use Rattle.mbr.specs.Table.{partitions_of}

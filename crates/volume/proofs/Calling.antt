@@ -9,12 +9,11 @@ use Rattle.std.proofs.lemmas.List.Sorted.{IsPermutation-sym, IsPermutation-trans
 use Rattle.ntstatus.specs.declared.NtStatus.{NtStatus}
 use Rattle.ntstatus.specs.declared.NtStatus.TheVariants.{Success, InvalidHandle as InvalidHandleStatus, InvalidParameter as InvalidParameterStatus, DeletePending as DeletePendingStatus, DeviceBusy as DeviceBusyStatus, InsufficientResources as ResourcesStatus, InvalidDeviceRequest as RequestStatus, NotFound as FoundStatus}
 use Rattle.ntstatus.specs.First.{when, first_some}
-use Rattle.sector.specs.Extents.{IsIn, IsSector}
+use Rattle.sector.specs.Extents.{IsIn, IsSector, sectors_in}
 use Rattle.srb.specs.declared.DeviceLabel.{DeviceLabel}
 use Rattle.machine.specs.declared.ClientRequest.{ClientRequest}
 use Rattle.machine.specs.declared.Label.{Label}
 use Rattle.machine.specs.declared.Label.TheVariants.{Call, Answer}
-use Rattle.machine.specs.Map.{sectors_in}
 use Rattle.machine.specs.Rules.{Rules, is_transfer, is_in_bounds, place_count}
 use Rattle.machine.specs.State.{OpenRequest, Owed, State, IsSame}
 use Rattle.machine.specs.Calling.{refusal, is_full, Opens, Refuses, Admits, bytes_carried}

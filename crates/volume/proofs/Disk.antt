@@ -5,8 +5,7 @@ use Rattle.std.proofs.lemmas.Bool.{cases_lt}
 use Rattle.std.proofs.lemmas.List.{get_or_past}
 use Rattle.std.proofs.lemmas.List.Elements.{All-nil, All-cons, All-contains}
 use Rattle.sector.specs.declared.Extent.{Extent}
-use Rattle.sector.specs.Extents.{IsIn}
-use Rattle.machine.specs.Map.{sectors_in}
+use Rattle.sector.specs.Extents.{IsIn, sectors_in}
 use Rattle.machine.specs.Rules.{Rules, sectors_of}
 use Rattle.machine.specs.Sending.{array_at}
 use Rattle.volume.specs.Shown.{extent_at}

@@ -2,7 +2,7 @@
 use Rattle.std.proofs.Common.{◌≡◌, ◌≢◌, ◌<◌, ◌≤◌, ◌↔◌, inl, inr, ℕ, ◌+◌, ◌*◌, ◌/◌, ◌%◌, Bool, true, false, [], refl, sym, ◌∙◌, ap, subst, arith, length}
 use Rattle.std.specs.Prelude.{IsTrue, IsFalse, nat_le, ◌==◌, is_none, Result, Ok, Err, IfOk, IfErr}
 use Rattle.std.proofs.Math.Nat.{mod-add-div', mul-mod_left, mul-div_cancel}
-use Rattle.machine.specs.declared.Kind.TheVariants.{Read, Write}
+use Rattle.srb.specs.declared.Kind.TheVariants.{Read, Write}
 use Rattle.machine.specs.declared.ClientRequest.{ClientRequest}
 use Rattle.machine.specs.Map.{IsPartition}
 use Rattle.machine.specs.Rules.{Rules, is_in_bounds, sectors_of}

@@ -5,9 +5,9 @@ use Rattle.std.proofs.lemmas.Bool.{cases_lt}
 use Rattle.std.proofs.lemmas.Bool.Decides.{nat_tests}
 use Rattle.std.proofs.lemmas.List.Sorted.{IsPermutation-refl}
 use Rattle.sector.specs.declared.Extent.{Extent}
-use Rattle.sector.specs.Extents.{IsSector}
+use Rattle.sector.specs.Extents.{IsSector, sectors_in}
 use Rattle.adapter.specs.View.{AdapterView, IsInOrder, TagInUse}
-use Rattle.machine.specs.Map.{IsPartition, sectors_in}
+use Rattle.machine.specs.Map.{IsPartition}
 use Rattle.machine.specs.Rules.{Rules, sectors_of}
 use Rattle.machine.specs.State.{State, opening}
 use Rattle.machine.specs.Sending.{array_at}

@@ -11,7 +11,7 @@ const OWN: Option<Id> = Some(Id { slot: 0, number: 1 });
 const OTHER: Option<Id> = Some(Id { slot: 0, number: 2 });
 
 // What was written is read.
-const WRITE_AND_READ: &[Row] = &[
+pub(super) const WRITE_AND_READ: &[Row] = &[
     (Step::Open(0), "handle 1"),
     (
         Step::Write(FIRST, 0, 512, 0xA5),
@@ -43,7 +43,7 @@ fn writes_and_reads_a_sector(rt: HostRuntime) -> Result<(), Fail> {
 
 // A write that succeeds although it was cancelled, and a read of two pieces: they come back in turn, the first one busy at
 // first.
-const TWO_PIECES: &[Row] = &[
+pub(super) const TWO_PIECES: &[Row] = &[
     (Step::Open(0), "handle 1"),
     (Step::Open(0), "handle 2"),
     (

@@ -156,7 +156,7 @@ fn is_refused_for_memory(reply: &Reply) -> bool {
 
 /// Carries a step out, which shows just what is wanted. Where it was refused for want of memory it has told nothing, and is
 /// carried out again, unless that is wanted.
-fn go_one<A: Adapter>(
+pub(super) fn go_one<A: Adapter>(
     rt: &impl Abort,
     alloc: Global,
     stack: &mut Stack<A>,

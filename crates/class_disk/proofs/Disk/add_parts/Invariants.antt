@@ -1,6 +1,6 @@
 use Rattle.std.proofs.Common.{◌≡◌, ◌≢◌, ◌≤◌, ◌++◌, List}
 use Rattle.std.specs.Prelude.{vec_capacity}
-use Rattle.machine.specs.declared.Kind.TheVariants.{Write}
+use Rattle.srb.specs.declared.Kind.TheVariants.{Write}
 use Rattle.device.specs.Served.{Reserves}
 use Rattle.class_disk.specs.Parts.{rooms_of}
 use Rattle.class_disk.specs.Blocks.{part_count_of}

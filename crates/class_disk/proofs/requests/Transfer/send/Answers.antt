@@ -1,7 +1,7 @@
 use Rattle.std.proofs.Common.{◌≡◌, ◌<◌, ◌≤◌, ◌+◌, ◌-◌, ◌*◌, ◌^◌, true, sym, ◌∙◌, ap, subst, arith, length}
 use Rattle.std.specs.Prelude.{vec_capacity, slice_set}
 use Rattle.irp.specs.declared.Payload.TheVariants.{Buffer, Srb as Packed}
-use Rattle.machine.specs.declared.Kind.TheVariants.{Write}
+use Rattle.srb.specs.declared.Kind.TheVariants.{Write}
 use Rattle.device.specs.View.{AsksFor, AsksInLocation, payload_bytes, transfer_length}
 use Rattle.class_disk.specs.declared.parts.Part.{Part}
 use Rattle.class_disk.specs.declared.parts.Place.{Place}

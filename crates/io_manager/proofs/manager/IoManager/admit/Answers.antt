@@ -1,5 +1,5 @@
 use Rattle.std.proofs.Common.{◌≢◌, sym, ◌∙◌, subst}
-use Rattle.machine.specs.declared.Kind.TheVariants.{Write}
+use Rattle.srb.specs.declared.Kind.TheVariants.{Write}
 use Rattle.machine.specs.declared.Request.{Request}
 use Rattle.device.specs.View.{IsBounded}
 use Rattle.io_manager.specs.declared.Limits.{Limits}

@@ -1,5 +1,6 @@
 use Rattle.std.proofs.Common.{[], subst}
 use Rattle.machine.specs.Settled.{Settled, IsFinished}
+use Rattle.adapter.specs.View.{IsInOrder}
 use Rattle.device.specs.View.{DeviceView, IsOrderly}
 use Rattle.io_manager.specs.Shown.{ManagerView}
 use Rattle.io_manager.specs.Right.{FitsTogether}
@@ -21,3 +22,9 @@ returns-clause-whole g c =
     let below : DeviceView = g.D.Device.view c.self.inside.parts.device in
     let orderly : IsOrderly below = g.met.D.Device.in_order c.self.inside.parts.device [] c.self.invariant.rooms in
     subst FitsTogether c.self.view_is (FitsTogether-view c.self.inside.parts.limits below c.self.inside.parts.tables c.self.invariant.kept.sound orderly.read)
+
+pub returns-clause-in_order : goal.returns-clause-in_order
+returns-clause-in_order g c =
+    let below : DeviceView = g.D.Device.view c.self.inside.parts.device in
+    let orderly : IsOrderly below = g.met.D.Device.in_order c.self.inside.parts.device [] c.self.invariant.rooms in
+    subst (λ (v : ManagerView). IsInOrder v.adapter) c.self.view_is orderly.adapter

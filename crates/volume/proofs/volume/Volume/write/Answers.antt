@@ -1,6 +1,6 @@
 use Rattle.std.proofs.Common.{◌≡◌, ◌<◌, false, refl, subst, length}
 use Rattle.std.specs.Prelude.{is_none}
-use Rattle.machine.specs.declared.Kind.TheVariants.{Write}
+use Rattle.srb.specs.declared.Kind.TheVariants.{Write}
 use Rattle.machine.specs.declared.ClientRequest.{ClientRequest}
 use Rattle.io_manager.specs.Calls.{call_on}
 use Rattle.volume.specs.Shown.{VolumeView, volume_over}

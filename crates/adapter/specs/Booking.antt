@@ -1,0 +1,102 @@
+-- What is booked of a piece, by an adapter whose sectors stand elsewhere: what its act did there, or how it failed.
+use Rattle.std.specs.Prelude.{◌≡◌, ◌≢◌, ◌≤◌, ℕ, ◌+◌, ◌*◌, ◌==◌, Bool, true, false, List, map, length, Result, Ok, Err, IsFalse, if◌then◌else◌}
+use Rattle.std.specs.Bool.{Decides}
+use denote.Ref.{Bor}
+use Rattle.sector.specs.declared.Extent.{Extent}
+use Rattle.cdb.specs.declared.Cdb.{Cdb}
+use Rattle.cdb.specs.declared.Cdb.TheVariants.{Read10, Write10, Sync10, ReadCapacity10, Read16, Write16, Sync16, ReadCapacity16}
+use Rattle.cdb.specs.Meaning.{Means}
+use Rattle.srb.specs.declared.Srb.{Srb}
+use Rattle.srb.specs.declared.Kind.{Kind}
+use Rattle.srb.specs.declared.Kind.TheVariants.{Read, Write, Flush}
+use Rattle.srb.specs.declared.Entry.{Entry}
+use Rattle.srb.specs.declared.Completion.{Completion}
+use Rattle.srb.specs.declared.Class.TheVariants.{Bad}
+use Rattle.srb.specs.Fate.{Fresh, class_of}
+use Rattle.adapter.specs.View.{TagInUse, AdapterView, IsOn}
+
+-- THE PIECE THAT MAY ACT
+
+-- the fresh piece of a tag, with its SRB
+pub record IsArmed (view : AdapterView) (tag piece : ℕ) (srb : Srb) : Type 0 where
+  pub use' : TagInUse
+  pub others : List TagInUse
+  pub is_on : IsOn view tag use' others
+  pub is_piece : use'.piece ≡ piece
+  pub is_fresh : use'.fate ≡ Fresh
+  pub is_srb : use'.srb ≡ srb
+
+-- WHAT MAY BE BOOKED OF IT
+
+-- an entry of this kind, of these sectors, which lie in the disk, and as many bytes as the SRB has
+pub record IsTransferOf (size sectors : ℕ) (bytes : List ℕ) (kind : Kind) (lba count : ℕ) (entry : Entry) : Type 0 where
+  pub kind_is : entry.kind ≡ kind
+  pub first_is : entry.extent.first ≡ lba
+  pub count_is : entry.extent.count ≡ count
+  pub inside : lba + count ≤ sectors
+  pub whole : length bytes ≡ count * size
+  pub as_many : length entry.bytes ≡ length bytes
+
+pub record IsFlushOf (bytes : List ℕ) (lba count : ℕ) (entry : Entry) : Type 0 where
+  pub kind_is : entry.kind ≡ Flush
+  pub first_is : entry.extent.first ≡ lba
+  pub count_is : entry.extent.count ≡ count
+  pub none : length bytes ≡ 0
+  pub none_booked : length entry.bytes ≡ 0
+
+-- the entry may be of an act of this command, sent with these bytes, on a disk of so many sectors
+abbrev pub MayBeOf : ℕ → ℕ → List ℕ → Entry → Cdb → Type 0
+MayBeOf size sectors bytes entry (Read10 lba count fua) = IsTransferOf size sectors bytes Read lba count entry
+MayBeOf size sectors bytes entry (Write10 lba count fua) = IsTransferOf size sectors bytes Write lba count entry × (entry.bytes ≡ bytes)
+MayBeOf size sectors bytes entry (Sync10 lba count) = IsFlushOf bytes lba count entry
+MayBeOf size sectors bytes entry ReadCapacity10 = ⊥
+MayBeOf size sectors bytes entry (Read16 lba count fua) = IsTransferOf size sectors bytes Read lba count entry
+MayBeOf size sectors bytes entry (Write16 lba count fua) = IsTransferOf size sectors bytes Write lba count entry × (entry.bytes ≡ bytes)
+MayBeOf size sectors bytes entry (Sync16 lba count) = IsFlushOf bytes lba count entry
+MayBeOf size sectors bytes entry (ReadCapacity16 allocation) = ⊥
+
+-- an entry of an act that the SRB asks for
+pub record IsOfSrb (size sectors : ℕ) (srb : Srb) (entry : Entry) : Type 0 where
+  pub command : Cdb
+  pub means : Means srb.block command
+  pub may : MayBeOf size sectors srb.data entry command
+
+-- an entry of an act that the SRB asks for, or a completion that is neither good nor busy
+abbrev pub Suits : ℕ → ℕ → Srb → Result Entry Completion → Type 0
+Suits size sectors srb (Ok entry) = IsOfSrb size sectors srb entry
+Suits size sectors srb (Err completion) = class_of completion ≡ Bad completion
+
+-- the tag's fresh piece is this one, which isn't piece 0, what is to be booked suits it, and the sectors stand elsewhere
+pub record IsBookable (view : AdapterView) (tag piece : ℕ) (what : Result Entry Completion) : Type 0 where
+  pub use' : TagInUse
+  pub others : List TagInUse
+  pub apart : IsFalse view.faithful
+  pub is_on : IsOn view tag use' others
+  pub is_piece : use'.piece ≡ piece
+  pub is_fresh : use'.fate ≡ Fresh
+  pub not_first : piece ≢ 0
+  pub suits : Suits view.sector_size (length view.sectors) use'.srb what
+
+-- BOOKING
+
+-- what a call is handed to book
+abbrev pub handed : Result (Bor Entry) Completion → Result Entry Completion
+handed (Ok entry) = Ok entry.now
+handed (Err completion) = Err completion
+
+-- the bytes stand in the second buffer; of a failure nothing is shown
+abbrev pub with_booked : Result Entry Completion → TagInUse → TagInUse
+with_booked (Ok entry) use' = record use' { booked = true; srb = record use'.srb { for_label = entry.bytes } }
+with_booked (Err completion) use' = record use' { booked = false }
+
+abbrev pub booked_on : ℕ → Result Entry Completion → TagInUse → TagInUse
+booked_on tag what use' = if use'.tag == tag then with_booked what use' else use'
+
+abbrev pub with_booking : ℕ → Result Entry Completion → AdapterView → AdapterView
+with_booking tag what view = record view { tags = map (booked_on tag what) view.tags }
+
+-- it is booked exactly where it may be, and nothing else changes
+pub record Books (old : AdapterView) (tag piece : ℕ) (what : Result Entry Completion) (new : AdapterView) : Type 0 where
+  pub booked : Bool
+  pub decides : Decides booked (IsBookable old tag piece what)
+  pub after : new ≡ (if booked then with_booking tag what old else old)

@@ -1,0 +1,115 @@
+//! Whether something may be booked of an SRB.
+
+ghost use Rattle.std.specs.Prelude.{◌≡◌, ℕ, List};
+ghost use Rattle.std.specs.Bool.{Decides};
+ghost use Rattle.srb.specs.declared.Class.TheVariants.{Bad};
+ghost use Rattle.srb.specs.Fate.{class_of};
+ghost use Rattle.adapter.specs.Booking.{IsOfSrb, Suits, handed};
+ghost use Rattle.miniport.specs.Suiting.{agree, is_at, is_as_long, is_transfer_of, is_flush_of, may_be_of};
+
+use crate::check::Sizes;
+use cdb::{Cdb, decode};
+use srb::{Class, Completion, Entry, Kind, Srb};
+
+fn has_kind(entry: &Entry, kind: Kind) -> bool
+    ensures { result ≡ agree entry.now.kind kind }
+{
+    match (entry.kind, kind) {
+        (Kind::Read, Kind::Read) => true,
+        (Kind::Write, Kind::Write) => true,
+        (Kind::Flush, Kind::Flush) => true,
+        _ => false,
+    }
+}
+
+fn stands_at(entry: &Entry, lba: u64, count: u32) -> bool
+    ensures { result ≡ is_at lba count entry.now }
+{
+    entry.extent.first == lba && entry.extent.count == count as u64
+}
+
+/// Whether the sectors lie in the disk, and the SRB and the entry have just their bytes.
+fn has_length(sizes: &Sizes, bytes: &[u8], entry: &Entry, lba: u64, count: u32) -> bool
+    ensures { result ≡ is_as_long sizes.now.sector_size sizes.now.sectors bytes.now lba count entry.now }
+{
+    let length = count as u64 * sizes.sector_size as u64;
+    lba as u128 + count as u128 <= sizes.sectors as u128
+        && bytes.len() as u64 == length
+        && entry.bytes.len() == bytes.len()
+}
+
+fn is_transfer(
+    sizes: &Sizes,
+    bytes: &[u8],
+    entry: &Entry,
+    kind: Kind,
+    lba: u64,
+    count: u32,
+) -> bool
+    ensures { result ≡ is_transfer_of sizes.now.sector_size sizes.now.sectors bytes.now kind lba count entry.now }
+{
+    has_kind(entry, kind)
+        && stands_at(entry, lba, count)
+        && has_length(sizes, bytes, entry, lba, count)
+}
+
+fn is_flush(bytes: &[u8], entry: &Entry, lba: u64, count: u32) -> bool
+    ensures { result ≡ is_flush_of bytes.now lba count entry.now }
+{
+    has_kind(entry, Kind::Flush)
+        && stands_at(entry, lba, count)
+        && bytes.len() == 0
+        && entry.bytes.len() == 0
+}
+
+/// Whether an entry may be of an act of this command, sent with these bytes.
+fn may_be(sizes: &Sizes, bytes: &[u8], entry: &Entry, command: Cdb) -> bool
+    ensures { result ≡ may_be_of sizes.now.sector_size sizes.now.sectors bytes.now entry.now command }
+{
+    match command {
+        Cdb::Read10 { lba, count, .. } => {
+            is_transfer(sizes, bytes, entry, Kind::Read, lba as u64, count as u32)
+        }
+        Cdb::Read16 { lba, count, .. } => is_transfer(sizes, bytes, entry, Kind::Read, lba, count),
+        Cdb::Write10 { lba, count, .. } => {
+            is_transfer(sizes, bytes, entry, Kind::Write, lba as u64, count as u32)
+                && entry.bytes.as_slice() == bytes
+        }
+        Cdb::Write16 { lba, count, .. } => {
+            is_transfer(sizes, bytes, entry, Kind::Write, lba, count)
+                && entry.bytes.as_slice() == bytes
+        }
+        Cdb::Sync10 { lba, blocks } => is_flush(bytes, entry, lba as u64, blocks as u32),
+        Cdb::Sync16 { lba, blocks } => is_flush(bytes, entry, lba, blocks),
+        Cdb::ReadCapacity10 | Cdb::ReadCapacity16 { .. } => false,
+    }
+}
+
+/// Whether an entry may be of an act that the SRB asks for.
+fn suits_entry(sizes: &Sizes, srb: &Srb, entry: &Entry) -> bool
+    ensures { Decides result (IsOfSrb sizes.now.sector_size sizes.now.sectors srb.now entry.now) }
+{
+    match decode(srb.block.as_slice()) {
+        Ok(command) => may_be(sizes, srb.data.as_slice(), entry, command),
+        Err(_) => false,
+    }
+}
+
+fn is_bad(completion: &Completion) -> bool
+    ensures { Decides result (class_of completion.now ≡ Bad completion.now) }
+{
+    match completion.class() {
+        Class::Good | Class::Busy => false,
+        Class::Bad(_) => true,
+    }
+}
+
+/// Whether this may be booked of the SRB.
+pub(crate) fn suits(sizes: &Sizes, srb: &Srb, what: Result<&Entry, Completion>) -> bool
+    ensures { Decides result (Suits sizes.now.sector_size sizes.now.sectors srb.now (handed what.entry)) }
+{
+    match what {
+        Ok(entry) => suits_entry(sizes, srb, entry),
+        Err(completion) => is_bad(&completion),
+    }
+}

@@ -1,0 +1,3 @@
+pub mod Bookable
+pub mod Entered
+pub mod Entries

@@ -1,0 +1,40 @@
+-- What an act does to the sectors, and its entry.
+use Rattle.std.specs.Prelude.{◌≡◌, ◌≤◌, ℕ, ◌+◌, length, Option, Some, None}
+use Rattle.sector.specs.declared.Extent.{Extent}
+use Rattle.cdb.specs.declared.Cdb.{Cdb}
+use Rattle.cdb.specs.declared.Cdb.TheVariants.{Read10, Write10, Sync10, ReadCapacity10, Read16, Write16, Sync16, ReadCapacity16}
+use Rattle.srb.specs.declared.Srb.{Srb}
+use Rattle.srb.specs.declared.Kind.{Kind}
+use Rattle.srb.specs.declared.Kind.TheVariants.{Read, Write, Flush}
+use Rattle.srb.specs.declared.Entry.{Entry}
+use Rattle.srb.specs.declared.Completion.{Completion}
+use Rattle.srb.specs.declared.Class.TheVariants.{Bad}
+use Rattle.srb.specs.Fate.{class_of}
+use Rattle.adapter.specs.Booking.{IsOfSrb}
+use Rattle.disk.specs.Medium.{MediumView}
+use Rattle.srb.specs.Replaying.{ReplaysKind}
+
+-- the kind and the extent that a command names
+abbrev pub named : Cdb → Option (Kind × Extent)
+named (Read10 lba count fua) = Some (Read, record { first = lba; count = count })
+named (Write10 lba count fua) = Some (Write, record { first = lba; count = count })
+named (Sync10 lba count) = Some (Flush, record { first = lba; count = count })
+named ReadCapacity10 = None
+named (Read16 lba count fua) = Some (Read, record { first = lba; count = count })
+named (Write16 lba count fua) = Some (Write, record { first = lba; count = count })
+named (Sync16 lba count) = Some (Flush, record { first = lba; count = count })
+named (ReadCapacity16 allocation) = None
+
+-- the piece acted: its entry is of what the SRB asks for, and replays what became of the sectors
+pub record Enters (old : MediumView) (tag piece : ℕ) (srb : Srb) (entry : Entry) (new : MediumView) : Type 0 where
+  pub is_piece : entry.piece ≡ piece
+  pub is_tag : entry.tag ≡ tag
+  pub of_srb : IsOfSrb old.sector_size (length old.sectors) srb entry
+  pub replays : ReplaysKind old.sector_size old.sectors entry.extent entry.bytes entry.kind new.sectors
+  pub after : new ≡ record old { sectors = new.sectors }
+
+-- the piece failed, and no sector changed
+pub record Refuses (old : MediumView) (completion : Completion) (new : MediumView) : Type 0 where
+  pub is_bad : class_of completion ≡ Bad completion
+  pub counted : new.failures ≤ old.failures + 1
+  pub after : new ≡ record old { failures = new.failures }

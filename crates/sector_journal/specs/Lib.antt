@@ -1,0 +1,3 @@
+pub mod Arming
+pub mod Entering
+pub mod Journal
