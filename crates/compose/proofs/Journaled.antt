@@ -13,6 +13,7 @@ use Rattle.machine.specs.declared.Label.TheVariants.{Call, Device, Answer, Cance
 use Rattle.machine_laws.specs.Booked.{IsAskedBy, IsOfAct, TakesEntry, AreOfActs}
 use Rattle.adapter.specs.View.{TagInUse, AdapterView}
 use Rattle.adapter.specs.Booking.{MayBeOf, IsBookable}
+use Rattle.compose.specs.Journaled.{IsStarted}
 use Rattle.adapter.proofs.Tagged.{IsTagged, AllTagged}
 
 -- ONE ENTRY
@@ -26,10 +27,6 @@ may_is_asked size sectors bytes entry (Read16 lba count fua) h = (h.kind_is, h.f
 may_is_asked size sectors bytes entry (Write16 lba count fua) h = (h.0.kind_is, h.0.first_is, h.0.count_is)
 may_is_asked size sectors bytes entry (Sync16 lba count) h = h.kind_is
 may_is_asked size sectors bytes entry (ReadCapacity16 allocation) h = absurd h
-
--- the start of a piece stands in the trace
-abbrev pub IsStarted : List Label → ℕ → ℕ → List ℕ → Type 0
-IsStarted trace piece tag block = Contains trace (Device (Start piece tag block))
 
 -- what may be booked of a piece whose start stands in the trace is of its act
 pub entry_of_act : (trace : List Label) (v : AdapterView) (tag piece : ℕ) (entry : Entry) (bytes : List ℕ) → AllTagged (IsStarted trace) v → IsBookable v tag piece (Ok entry) → entry.piece ≡ piece → entry.tag ≡ tag → bytes ≡ entry.bytes

@@ -30,24 +30,9 @@ use Rattle.io_manager.specs.Calls.{call_on}
 use Rattle.io_manager.specs.Right.{Told, labels_of, end_labels, as_answer, as_cancel, tells_nothing, pnp_state, IsRightBy, TransferReplies, CallReplies, OpenReplies, CloseReplies, CancelReplies, MarkReplies, PnpReplies, IsRecalled, RecallReplies, FinishReplies, TellsReset, CancelsAllOf, CancelsOne, CancelsTarget, IsAnsweredAtOnce, IsTurnedAway}
 use Rattle.compose.specs.declared.Event.{Event}
 use Rattle.compose.specs.declared.Event.TheVariants.{Open, Close, Read as ReadEvent, Write as WriteEvent, Flush as FlushEvent, CancelIoEx, Mark, QueryRemove, CancelRemove, Remove, SurpriseRemove, Act as ActEvent, Finish, Reset}
+use Rattle.compose.specs.Journaled.{IsNoAct}
 use Rattle.compose.specs.Right.{IsRight}
 use Rattle.compose.proofs.Journaled.{acts_longer, acts_joined}
-
-abbrev pub IsNoAct : Event → Type 0
-IsNoAct (Open partition) = Unit {0}
-IsNoAct (Close handle) = Unit {0}
-IsNoAct (ReadEvent handle offset buffer) = Unit {0}
-IsNoAct (WriteEvent handle offset bytes through) = Unit {0}
-IsNoAct (FlushEvent handle) = Unit {0}
-IsNoAct (CancelIoEx handle target) = Unit {0}
-IsNoAct (Mark number) = Unit {0}
-IsNoAct QueryRemove = Unit {0}
-IsNoAct CancelRemove = Unit {0}
-IsNoAct Remove = Unit {0}
-IsNoAct SurpriseRemove = Unit {0}
-IsNoAct (ActEvent tag) = ⊥
-IsNoAct (Finish tag) = Unit {0}
-IsNoAct Reset = Unit {0}
 
 module _ (trace : List Label) where
   abbrev IsBare : List Label → Type 0

@@ -33,7 +33,8 @@ use Rattle.io_manager.specs.Shown.{ManagerView}
 use Rattle.io_manager.specs.Right.{Told, labels_of, end_labels, as_answer, BooksPiece, ActReplies, TellsAct, SameHandles, IsRightBy, AdapterMoves, MovesWith, FitsTogether, IsRight as IsRightCall}
 use Rattle.compose.specs.declared.Event.TheVariants.{Act as ActEvent}
 use Rattle.compose.specs.Right.{IsRight}
-use Rattle.compose.proofs.Journaled.{IsStarted, entry_of_act}
+use Rattle.compose.specs.Journaled.{IsStarted}
+use Rattle.compose.proofs.Journaled.{entry_of_act}
 
 -- PIECES OF THE MACHINE AND TAGS IN USE
 
@@ -41,12 +42,12 @@ maps : {X Y Z : Type 0} (g : Y → Z) (f : X → Y) (xs : List X) → map g (map
 maps g f [] = refl
 maps g f (x ∷ xs) = rw (maps g f xs) refl
 
-there_mapped : {X Y : Type 0} (f : X → Y) (xs : List X) (x : X) → Contains xs x → Contains (map f xs) (f x)
+pub there_mapped : {X Y : Type 0} (f : X → Y) (xs : List X) (x : X) → Contains xs x → Contains (map f xs) (f x)
 there_mapped f [] x (k, low, is) = absurd (omega (arith, low))
 there_mapped f (y ∷ xs) x (zero, low, is) = (0, omega arith, ap f is)
 there_mapped f (y ∷ xs) x (suc k, low, is) = let r = there_mapped f xs x (k, omega (arith, low), is) in (suc r.0, (let w = r.1 in omega (arith, w)), r.2)
 
-mapped_there : {X Y : Type 0} (f : X → Y) (xs : List X) (y : Y) → Contains (map f xs) y → (x : X) × Contains xs x × (f x ≡ y)
+pub mapped_there : {X Y : Type 0} (f : X → Y) (xs : List X) (y : Y) → Contains (map f xs) y → (x : X) × Contains xs x × (f x ≡ y)
 mapped_there f [] y (k, low, is) = absurd (omega (arith, low))
 mapped_there f (x ∷ xs) y (zero, low, is) = (x, (0, omega arith, refl), is)
 mapped_there f (x ∷ xs) y (suc k, low, is) =

@@ -7,3 +7,4 @@ pub mod Journaled
 pub mod JournaledStep
 pub mod JournaledOthers
 pub mod JournaledKept
+pub mod JournaledArmed

@@ -1,3 +1,4 @@
+pub mod Journaled
 pub mod Opening
 pub mod Right
 pub mod Runs

@@ -1,5 +1,8 @@
 //! Laws of every right step, whichever event it was: who calls one of these has the law.
 
+ghost use Rattle.compose.specs.Journaled.{
+    ArmedMayBeBooked, BookedActsAddEntries, IdleActsKeepEntries, StepsKeepEntries, StepsStayApart,
+};
 ghost use Rattle.compose.specs.StepLaws.{StepsCallOnce, StepsLeaveAnswers, StepsTakeNoMemory};
 
 /// Among the labels of a step is one call at most. It comes first, and only a read, a write or a flush brings it.
@@ -16,4 +19,29 @@ pub fn steps_take_no_memory()
 /// information and the bytes of its label.
 pub fn steps_leave_answers()
     ensures { StepsLeaveAnswers }
+{}
+
+/// A step of any event but `Act` adds no entry to the journal of the acts of a trace.
+pub fn steps_keep_entries()
+    ensures { StepsKeepEntries }
+{}
+
+/// Nor does the act of a tag on which nothing can act.
+pub fn idle_acts_keep_entries()
+    ensures { IdleActsKeepEntries }
+{}
+
+/// The act of a piece of which an entry was booked adds that entry; where a failure was booked, none.
+pub fn booked_acts_add_entries()
+    ensures { BookedActsAddEntries }
+{}
+
+/// What suits the SRB of a piece that may act may be booked of it.
+pub fn armed_may_be_booked()
+    ensures { ArmedMayBeBooked }
+{}
+
+/// Where an adapter's sectors stand elsewhere, they do so after each step.
+pub fn steps_stay_apart()
+    ensures { StepsStayApart }
 {}

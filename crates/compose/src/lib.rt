@@ -16,7 +16,10 @@ mod start;
 
 use device::Label;
 pub use io_manager::{Answer, Handle, Id, OpenHandle, Refusal, Reply};
-pub use laws::{steps_call_once, steps_leave_answers, steps_take_no_memory};
+pub use laws::{
+    armed_may_be_booked, booked_acts_add_entries, idle_acts_keep_entries, steps_call_once,
+    steps_keep_entries, steps_leave_answers, steps_stay_apart, steps_take_no_memory,
+};
 pub use mbr::MbrFault;
 use ntstatus::NtStatus;
 use sector::Bytes;
