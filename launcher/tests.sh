@@ -68,6 +68,8 @@ run_tests() {
     make_scratch
     # Each job is a group of processes, which can be ended as one.
     set -m
+    # Seconds for each test and each case, which may run beside others.
+    export RT_SECONDS=300
     trap 'stop_jobs; rm -rf "$scratch"' EXIT
     most=$(room)
     for name; do
