@@ -49,7 +49,13 @@ impl<M: Medium> Journal<M> {
         ensures { MatchOption result (HasNone self.old tag piece × (self.new ≡ self.old)) (λ done. Acts self.old tag piece done self.new) }
     {
         let armed = self.take(tag, piece)?;
-        match enter(&mut self.medium, self.write_protected, tag, piece, armed.srb) {
+        match enter(
+            &mut self.medium,
+            self.write_protected,
+            tag,
+            piece,
+            armed.srb,
+        ) {
             Ok(entry) => {
                 let number = self.entries.len() as u64;
                 self.entries.push_reserved(entry);

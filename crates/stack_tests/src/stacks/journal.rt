@@ -171,7 +171,10 @@ const FAULTS: &[Row] = &[
         "request 2 / call 2 flush 0 0 / start 2 tag 0 35000000000000000000",
     ),
     (Step::Act(0), "ok / act 2 none"),
-    (Step::Finish(0), "ok / return 2 good / answer 2 SUCCESS 0 none"),
+    (
+        Step::Finish(0),
+        "ok / return 2 good / answer 2 SUCCESS 0 none",
+    ),
 ];
 
 #[test]
