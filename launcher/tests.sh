@@ -59,7 +59,10 @@ test_built() {
 # Tests these crates, or all.
 run_tests() {
     local name all most
-    if [ "$*" = --built ]; then test_built && return; fi
+    if [ "$*" = --built ]; then
+        test_built
+        return
+    fi
     mapfile -t all < <(test_crates)
     for name; do
         [[ " ${all[*]} " = *" $name "* ]] || { say "there are no tests of '$name', but of ${all[*]}" && exit 1; }
