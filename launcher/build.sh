@@ -14,16 +14,16 @@ crates_of_the_program() {
         }' "$top/crates.txt"
 }
 
-# Says of each crate that it is being proved, as rt's lines tell, and of each function that is not.
+# Says of each crate that it is being proved, as rt's lines tell.
 tell_crates() {
-    local names line place at
+    local names line all at
     names=$(crates_of_the_program)
-    place=$(wc -l <<< "$names")
+    all=$(wc -l <<< "$names")
     while IFS= read -r line; do
         case $line in
             "rt: chose --jobs "*)
                 at=$(grep -nxF "${line##* }" <<< "$names") || continue
-                say "proving $(printf '%s' "${line##* }"), crate ${at%%:*} of $place, $SECONDS seconds so far"
+                say "proving ${line##* }, crate ${at%%:*} of $all, $SECONDS seconds so far"
                 ;;
             "rt: waiting "*) say "${line#rt: }" ;;
         esac
