@@ -38,7 +38,7 @@ fn named_by(command: Cdb) -> Option<(Kind, Extent)>
 }
 
 /// What a block names, where it asks for a transfer or a flush.
-fn named_in(block: &[u8]) -> Option<(Kind, Extent)>
+pub(crate) fn named_in(block: &[u8]) -> Option<(Kind, Extent)>
     ensures { (command : Cdb) → Means block.now command → result ≡ named command }
 {
     match decode(block) {
