@@ -16,6 +16,7 @@ mod journal;
 mod name;
 mod opened;
 mod reservation;
+mod shelf;
 mod slots;
 mod stock;
 

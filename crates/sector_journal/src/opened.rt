@@ -6,12 +6,20 @@ use crate::name::{Naming, OfArmings, OfEntries};
 use crate::slots::Armed;
 use srb::Entry;
 use std::alloc::{AllocError, Global};
-use std::marker::Brand;
+use std::marker::{Brand, Model};
 
-/// The histories of a new journal, which are empty and have no name yet.
+/// The histories of a new journal, which are empty and have no name yet. Contracts see their identities.
 pub struct Opened {
     pub(crate) armings: chronicle::Opened<Armed>,
     pub(crate) entries: chronicle::Opened<Entry>,
+}
+
+impl Model for Opened {
+    ghost use Rattle.sector_journal.specs.Naming.{Names};
+
+    ghost Value = { Names };
+
+    ghost view = { λ o. record { armings = o.armings; entries = o.entries } };
 }
 
 impl Opened {
@@ -41,7 +49,11 @@ fn end<E, N: chronicle::Naming>(opened: chronicle::Opened<E>)
 
 /// The words of a journal's histories, which threads share by reference. They say nothing, and never change.
 #[derive(Drop)]
-pub struct History<N: Naming> {
+pub struct History<N: Naming>
+where
+    OfArmings<N>: chronicle::Naming,
+    OfEntries<N>: chronicle::Naming,
+{
     pub armings: chronicle::History<Armed, OfArmings<N>>,
     pub entries: chronicle::History<Entry, OfEntries<N>>,
 }
