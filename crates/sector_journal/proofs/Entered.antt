@@ -17,6 +17,7 @@ use Rattle.srb.specs.declared.Kind.TheVariants.{Read, Write, Flush}
 use Rattle.srb.specs.declared.Entry.{Entry}
 use Rattle.srb.specs.declared.Completion.{Completion}
 use Rattle.adapter.specs.Performing.{Performs}
+use Rattle.adapter.proofs.Performing.{Performs-length}
 use Rattle.adapter.specs.Booking.{MayBeOf, IsTransferOf, IsFlushOf}
 use Rattle.disk.specs.Medium.{MediumView, HasWholeSectors}
 use Rattle.miniport.specs.Carrying.{CarriesOut, FailsBy, disk_of}
@@ -139,6 +140,7 @@ moved_enters view write_protected srb srb' bytes view' tag piece kind extent who
       is_tag = refl;
       of_srb = record { command = carries.command; means = carries.means; may = got.may };
       replays = subst (λ (x : List (List ℕ)). ReplaysKind view.sector_size view.sectors extent bytes kind x) (sym sectors_are) got.replays;
+      as_many = ap length sectors_are ∙ Performs-length view.sector_size view.sectors srb.data carries.command carries.moved carries.sectors carries.performs;
       after = carries.after ∙ ap (λ (x : List (List ℕ)). record view { sectors = x }) (sym sectors_are);
     }
 

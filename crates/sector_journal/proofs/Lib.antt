@@ -1,3 +1,5 @@
 pub mod Bookable
 pub mod Counting
 pub mod Entered
+pub mod Kept
+pub mod Shelves

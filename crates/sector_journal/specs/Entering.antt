@@ -36,6 +36,7 @@ pub record Enters (old : MediumView) (tag piece : ℕ) (srb : Srb) (entry : Entr
   pub is_tag : entry.tag ≡ tag
   pub of_srb : IsOfSrb old.sector_size (length old.sectors) srb entry
   pub replays : ReplaysKind old.sector_size old.sectors entry.extent entry.bytes entry.kind new.sectors
+  pub as_many : length new.sectors ≡ length old.sectors
   pub after : new ≡ record old { sectors = new.sectors }
 
 -- the piece failed, and no sector changed

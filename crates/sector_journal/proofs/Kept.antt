@@ -1,0 +1,131 @@
+-- What a journal keeps, through its calls.
+use Rattle.std.proofs.Common.{◌≡◌, ◌≢◌, ◌<◌, ◌≤◌, ℕ, zero, suc, ◌+◌, List, [], ◌∷◌, ◌++◌, length, All, Option, Some, None, get_or, set, slice_get, slice_set, refl, sym, ap, subst, ◌∙◌, arith, ◌^◌, length-append}
+use Rattle.std.proofs.lemmas.List.Elements.{All-weaker, All-push}
+use Rattle.srb.specs.declared.Srb.{Srb}
+use Rattle.srb.specs.declared.Entry.{Entry}
+use Rattle.srb.specs.declared.Completion.{Completion}
+use Rattle.srb.specs.Replaying.{ReplaysKind, Replays}
+use Rattle.sector.specs.declared.Extent.{Extent}
+use Rattle.sector.specs.Extents.{IsCovered}
+use Rattle.disk.specs.Medium.{MediumView, IsReserved}
+use Rattle.miniport.specs.Carrying.{IsReady}
+use Rattle.sector_journal.specs.declared.slots.Armed.{Armed}
+use Rattle.sector_journal.specs.declared.reservation.Reservation.{Reservation}
+use Rattle.sector_journal.specs.Entering.{Enters, Refuses}
+use Rattle.sector_journal.specs.Slots.{armed_at, armed_count, Takes}
+use Rattle.sector_journal.specs.Journal.{CanEnter, MayAct, IsHeld, JournalKept}
+use Rattle.sector_journal.proofs.Counting.{clear_count, within_slots}
+
+-- AN ENTRY AT THE END
+
+pub replays_longer : (size : ℕ) (entries : List Entry) (disk mid after : List (List ℕ)) (entry : Entry) → Replays size disk entries mid → ReplaysKind size mid entry.extent entry.bytes entry.kind after
+    → Replays size disk (entries ++ entry ∷ []) after
+replays_longer size [] disk mid after entry h k = (after, subst (λ (x : List (List ℕ)). ReplaysKind size x entry.extent entry.bytes entry.kind after) h k, refl)
+replays_longer size (first ∷ entries) disk mid after entry h k = (h.0, h.1, replays_longer size entries h.0 mid after entry h.2 k)
+
+-- the first entries of a journal
+pub replays_first : (size : ℕ) (entries more : List Entry) (disk after : List (List ℕ)) → Replays size disk (entries ++ more) after
+    → (mid : List (List ℕ)) × Replays size disk entries mid × Replays size mid more after
+replays_first size [] more disk after h = (disk, refl, h)
+replays_first size (entry ∷ entries) more disk after h =
+    let rest = replays_first size entries more h.0 after h.2 in
+    (rest.0, (h.0, h.1, rest.1), rest.2)
+
+-- A MEDIUM THAT CHANGED
+
+-- as many sectors, and what was reserved still is
+pub record Holds (old new : MediumView) : Type 0 where
+  as_many : length new.sectors ≡ length old.sectors
+  lasts : (extent : Extent) → IsReserved old extent → IsReserved new extent
+
+ready_on : (old new : MediumView) (armings : List Armed) (tag : ℕ) (armed : Armed) → Holds old new → MayAct old armings tag armed → MayAct new armings tag armed
+ready_on old new armings tag armed holds may = record {
+  can_enter = record {
+    ready = λ lba count fua asks inside. holds.lasts (record { first = lba; count = count }) (may.can_enter.ready lba count fua asks (subst (λ n. lba + count ≤ n) holds.as_many inside));
+    buffers = may.can_enter.buffers;
+    names = may.can_enter.names;
+  };
+  is_tag = may.is_tag;
+  noted = may.noted;
+}
+
+held_on : (old new : MediumView) (reservations : List Reservation) → Holds old new → All (IsHeld old) reservations → All (IsHeld new) reservations
+held_on old new reservations holds held = All-weaker (IsHeld old) (IsHeld new) (λ r h is. holds.lasts r.extent (h is)) reservations held
+
+holds_reserved : (old new : MediumView) (extent : Extent) → new.reserved ≡ old.reserved → IsReserved old extent → IsReserved new extent
+holds_reserved old new extent same h = subst (λ (r : List Extent). IsCovered r extent) (sym same) h
+
+-- A TAG THAT IS FREE AGAIN
+
+still_there : (slots : List (Option Armed)) (tag other : ℕ) (armed : Armed) → armed_at (slice_set slots tag None) other ≡ Some armed → armed_at slots other ≡ Some armed
+still_there [] tag other armed h = h
+still_there (slot ∷ slots) zero zero armed h = absurd (cc (h))
+still_there (slot ∷ slots) zero (suc other) armed h = h
+still_there (slot ∷ slots) (suc tag) zero armed h = h
+still_there (slot ∷ slots) (suc tag) (suc other) armed h = still_there slots tag other armed h
+
+ready_but : (medium : MediumView) (armings : List Armed) (slots slots' : List (Option Armed)) (tag : ℕ) → slots' ≡ slice_set slots tag None → ((other : ℕ) (armed : Armed) → armed_at slots other ≡ Some armed → MayAct medium armings other armed)
+    → (other : ℕ) (armed : Armed) → armed_at slots' other ≡ Some armed → MayAct medium armings other armed
+ready_but medium armings slots slots' tag after ready other armed h =
+    ready other armed (still_there slots tag other armed (subst (λ (s : List (Option Armed)). armed_at s other ≡ Some armed) after h))
+
+one_less : (slots slots' : List (Option Armed)) (tag piece : ℕ) (armed : Armed) → Takes slots tag piece armed slots' → armed_count slots' + 1 ≡ armed_count slots
+one_less slots slots' tag piece armed takes =
+    ap (λ (s : List (Option Armed)). armed_count s + 1) takes.after ∙ clear_count slots tag armed (within_slots slots tag armed takes.was_there) takes.was_there
+
+-- AN ACT
+
+module _ (opening : List (List ℕ)) (medium medium' : MediumView) (entries : List Entry) (places : ℕ) (slots slots' : List (Option Armed)) (armings : List Armed) (reservations : List Reservation)
+    (tag piece : ℕ) (armed : Armed) (kept : JournalKept opening medium entries places slots armings reservations) (takes : Takes slots tag piece armed slots') where
+  pub has_place : length entries < places
+  has_place =
+      let less : armed_count slots' + 1 ≡ armed_count slots = one_less slots slots' tag piece armed takes in
+      let placed : length entries + armed_count slots ≤ places = kept.placed in
+      omega (arith, less, placed)
+
+  pub is_countable : length armings < 2 ^ 64 → medium.failures < 2 ^ 120
+  is_countable few = let c : medium.failures + armed_count slots ≤ length armings = kept.counted in omega (arith, c, few)
+
+  pub entered_kept : (entry : Entry) (entries' : List Entry) (places' : ℕ) → Enters medium tag piece armed.srb entry medium' → entries' ≡ entries ++ entry ∷ [] → places' ≡ places
+      → JournalKept opening medium' entries' places' slots' armings reservations
+  entered_kept entry entries' places' enters longer same =
+      let less : armed_count slots' + 1 ≡ armed_count slots = one_less slots slots' tag piece armed takes in
+      let size_is : medium'.sector_size ≡ medium.sector_size = ap (λ (v : MediumView). v.sector_size) enters.after in
+      let failures_are : medium'.failures ≡ medium.failures = ap (λ (v : MediumView). v.failures) enters.after in
+      let reserved_are : medium'.reserved ≡ medium.reserved = ap (λ (v : MediumView). v.reserved) enters.after in
+      let holds : Holds medium medium' = record { as_many = enters.as_many; lasts = λ extent h. holds_reserved medium medium' extent reserved_are h } in
+      let long : length entries' ≡ length entries + 1 = ap length longer ∙ length-append entries (entry ∷ []) in
+      let placed : length entries + armed_count slots ≤ places = kept.placed in
+      let counted : medium.failures + armed_count slots ≤ length armings = kept.counted in
+      record {
+        replays =
+            subst (λ (x : ℕ). Replays x opening entries' medium'.sectors) (sym size_is)
+            (subst (λ (x : List Entry). Replays medium.sector_size opening x medium'.sectors) (sym longer)
+            (replays_longer medium.sector_size entries opening medium.sectors medium'.sectors entry kept.replays enters.replays));
+        some = subst (λ (n : ℕ). 1 ≤ n) (sym enters.as_many) kept.some;
+        ready = λ other a h. ready_on medium medium' armings other a holds (ready_but medium armings slots slots' tag takes.after kept.ready other a h);
+        placed = omega (arith, less, long, placed, same);
+        counted = omega (arith, less, failures_are, counted);
+        held = held_on medium medium' reservations holds kept.held;
+      }
+
+  pub refused_kept : (completion : Completion) → Refuses medium completion medium' → JournalKept opening medium' entries places slots' armings reservations
+  refused_kept completion refuses =
+      let less : armed_count slots' + 1 ≡ armed_count slots = one_less slots slots' tag piece armed takes in
+      let size_is : medium'.sector_size ≡ medium.sector_size = ap (λ (v : MediumView). v.sector_size) refuses.after in
+      let sectors_are : medium'.sectors ≡ medium.sectors = ap (λ (v : MediumView). v.sectors) refuses.after in
+      let reserved_are : medium'.reserved ≡ medium.reserved = ap (λ (v : MediumView). v.reserved) refuses.after in
+      let holds : Holds medium medium' = record { as_many = ap length sectors_are; lasts = λ extent h. holds_reserved medium medium' extent reserved_are h } in
+      let placed : length entries + armed_count slots ≤ places = kept.placed in
+      let counted : medium.failures + armed_count slots ≤ length armings = kept.counted in
+      let more : medium'.failures ≤ medium.failures + 1 = refuses.counted in
+      record {
+        replays =
+            subst (λ (x : ℕ). Replays x opening entries medium'.sectors) (sym size_is)
+            (subst (λ (x : List (List ℕ)). Replays medium.sector_size opening entries x) (sym sectors_are) kept.replays);
+        some = subst (λ (n : ℕ). 1 ≤ n) (sym (ap length sectors_are)) kept.some;
+        ready = λ other a h. ready_on medium medium' armings other a holds (ready_but medium armings slots slots' tag takes.after kept.ready other a h);
+        placed = omega (arith, less, placed);
+        counted = omega (arith, less, more, counted);
+        held = held_on medium medium' reservations holds kept.held;
+      }
