@@ -77,3 +77,22 @@ taken rooms long at old new (Some b) found is (fits, takes) =
     let l : new.pieces + 1 ≡ old.pieces = takes.less in
     let o : pieces_at rooms long ≡ old.pieces = h.2 in
     (subst (λ (n : ℕ). IsOfLength b n) h.1 fits, omega (arith, a, l, o))
+
+-- THE SAME OF A LIST THAT IS EQUAL
+
+pub is_there_in : (items rooms : List Room) (long at : ℕ) (old : Room) → items ≡ rooms → position (is_for long) rooms ≡ Some at → old ≡ get_or items at old → (at < length items) × (old.bytes ≡ long)
+is_there_in items rooms long at old same found is =
+    let h = is_there items long at old (ap (position (is_for long)) same ∙ found) is in
+    (h.0, h.1)
+
+pub put_more_in : (items rooms : List Room) (at : ℕ) (old new : Room) → items ≡ rooms → at < length items → old ≡ get_or items at old → new.bytes ≡ old.bytes → old.pieces ≤ new.pieces → (long : ℕ)
+    → pieces_at rooms long ≤ pieces_at (slice_set items at new) long
+put_more_in items rooms at old new same low is bytes more long =
+    subst (λ (r : List Room). pieces_at r long ≤ pieces_at (slice_set items at new) long) same (put_more items at old new low is bytes more long)
+
+pub taken_in : (items rooms : List Room) (long at : ℕ) (old new : Room) (result : Option Buffers) → items ≡ rooms → position (is_for long) rooms ≡ Some at → old ≡ get_or items at old
+    → MatchOption result ((old.pieces ≡ 0) × (new ≡ old)) (λ b. IsOfLength b old.bytes × TakesOne old new)
+    → MatchOption result ((pieces_at rooms long ≡ 0) × (slice_set items at new ≡ rooms)) (λ b. IsOfLength b long × (pieces_at (slice_set items at new) long + 1 ≡ pieces_at rooms long))
+taken_in items rooms long at old new result same found is takes =
+    subst (λ (r : List Room). MatchOption result ((pieces_at r long ≡ 0) × (slice_set items at new ≡ r)) (λ b. IsOfLength b long × (pieces_at (slice_set items at new) long + 1 ≡ pieces_at r long))) same
+    (taken items long at old new result (ap (position (is_for long)) same ∙ found) is takes)
