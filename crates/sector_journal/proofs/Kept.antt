@@ -1,6 +1,10 @@
 -- What a journal keeps, through its calls.
-use Rattle.std.proofs.Common.{◌≡◌, ◌≢◌, ◌<◌, ◌≤◌, ℕ, zero, suc, ◌+◌, List, [], ◌∷◌, ◌++◌, length, All, Option, Some, None, get_or, set, slice_get, slice_set, refl, sym, ap, subst, ◌∙◌, arith, ◌^◌, length-append}
-use Rattle.std.proofs.lemmas.List.Elements.{All-weaker, All-push}
+use Rattle.std.proofs.Common.{◌≡◌, ◌≢◌, ◌<◌, ◌≤◌, ℕ, zero, suc, ◌+◌, List, [], ◌∷◌, ◌++◌, length, All, Option, Some, None, get_or, set, slice_get, slice_set, refl, sym, ap, subst, ◌∙◌, arith, ◌^◌, length-append, inl, inr, take, drop, slice_index_or}
+use Rattle.std.specs.List.{sum_by, remove}
+use Rattle.std.proofs.lemmas.Bool.{cases_eq, cases_lt}
+use Rattle.std.proofs.lemmas.List.{set_past, get_or-set_same, get_or-set_other}
+use Rattle.std.proofs.lemmas.List.Sums.{sum_by-set}
+use Rattle.std.proofs.lemmas.List.Elements.{All-weaker, All-push, All-append, All-take, All-drop}
 use Rattle.srb.specs.declared.Srb.{Srb}
 use Rattle.srb.specs.declared.Entry.{Entry}
 use Rattle.srb.specs.declared.Completion.{Completion}
@@ -12,9 +16,9 @@ use Rattle.miniport.specs.Carrying.{IsReady}
 use Rattle.sector_journal.specs.declared.slots.Armed.{Armed}
 use Rattle.sector_journal.specs.declared.reservation.Reservation.{Reservation}
 use Rattle.sector_journal.specs.Entering.{Enters, Refuses}
-use Rattle.sector_journal.specs.Slots.{armed_at, armed_count, Takes}
+use Rattle.sector_journal.specs.Slots.{armed_at, armed_count, one_if_armed, IsFree, Takes}
 use Rattle.sector_journal.specs.Journal.{CanEnter, MayAct, IsHeld, JournalKept}
-use Rattle.sector_journal.proofs.Counting.{clear_count, within_slots}
+use Rattle.sector_journal.proofs.Counting.{clear_count, put_count, within_slots}
 
 -- AN ENTRY AT THE END
 
@@ -50,7 +54,7 @@ ready_on old new armings tag armed holds may = record {
 }
 
 held_on : (old new : MediumView) (reservations : List Reservation) → Holds old new → All (IsHeld old) reservations → All (IsHeld new) reservations
-held_on old new reservations holds held = All-weaker (IsHeld old) (IsHeld new) (λ r h is. holds.lasts r.extent (h is)) reservations held
+held_on old new reservations holds held = All-weaker (IsHeld old) (IsHeld new) (λ r h. record { some = h.some; reserved = λ is. holds.lasts r.extent (h.reserved is) }) reservations held
 
 holds_reserved : (old new : MediumView) (extent : Extent) → new.reserved ≡ old.reserved → IsReserved old extent → IsReserved new extent
 holds_reserved old new extent same h = subst (λ (r : List Extent). IsCovered r extent) (sym same) h
@@ -129,3 +133,89 @@ module _ (opening : List (List ℕ)) (medium medium' : MediumView) (entries : Li
         counted = omega (arith, less, more, counted);
         held = held_on medium medium' reservations holds kept.held;
       }
+
+-- A TAG THAT IS ARMED OR DISARMED
+
+cleared_count : (slots : List (Option Armed)) (tag : ℕ) → armed_count (slice_set slots tag None) ≤ armed_count slots
+cleared_count slots tag = elim (cases_lt tag (length slots)) [
+  | inl low ↦
+      let h : armed_count (slice_set slots tag None) + one_if_armed (get_or slots tag None) ≡ armed_count slots + 0 = sum_by-set one_if_armed slots tag None None low in
+      omega (arith, h)
+  | inr past ↦ let same : slice_set slots tag None ≡ slots = set_past slots tag None past in rw same (omega arith)
+]
+
+pub disarmed_kept : (opening : List (List ℕ)) (medium : MediumView) (entries : List Entry) (places : ℕ) (slots slots' : List (Option Armed)) (armings : List Armed) (reservations : List Reservation) (tag : ℕ)
+    → JournalKept opening medium entries places slots armings reservations → slots' ≡ slice_set slots tag None → JournalKept opening medium entries places slots' armings reservations
+disarmed_kept opening medium entries places slots slots' armings reservations tag kept after =
+    let less : armed_count slots' ≤ armed_count slots = rw after (cleared_count slots tag) in
+    let placed : length entries + armed_count slots ≤ places = kept.placed in
+    let counted : medium.failures + armed_count slots ≤ length armings = kept.counted in
+    record {
+      replays = kept.replays;
+      some = kept.some;
+      ready = ready_but medium armings slots slots' tag after kept.ready;
+      placed = omega (arith, less, placed);
+      counted = omega (arith, less, counted);
+      held = kept.held;
+    }
+
+pub released_kept : (opening : List (List ℕ)) (medium : MediumView) (entries : List Entry) (places : ℕ) (slots : List (Option Armed)) (armings : List Armed) (reservations reservations' : List Reservation) (at : ℕ)
+    → JournalKept opening medium entries places slots armings reservations → reservations' ≡ remove reservations at → JournalKept opening medium entries places slots armings reservations'
+released_kept opening medium entries places slots armings reservations reservations' at kept after = record {
+  replays = kept.replays;
+  some = kept.some;
+  ready = kept.ready;
+  placed = kept.placed;
+  counted = kept.counted;
+  held = subst (λ (r : List Reservation). All (IsHeld medium) r) (sym after)
+      (All-append (IsHeld medium) (take at reservations) (drop (suc at) reservations) (All-take (IsHeld medium) at reservations kept.held) (All-drop (IsHeld medium) (suc at) reservations kept.held));
+}
+
+pub held_at : (medium : MediumView) (reservations : List Reservation) (at : ℕ) (found : Reservation) → All (IsHeld medium) reservations → at < length reservations → found ≡ slice_index_or reservations at found
+    → 1 ≤ found.max_transfer
+held_at medium reservations at found held low is = subst (λ (r : Reservation). 1 ≤ r.max_transfer) (sym is) (held at found low).some
+
+get_front : {A : Type 0} (xs ys : List A) (k : ℕ) (x : A) → slice_get xs k ≡ Some x → slice_get (xs ++ ys) k ≡ Some x
+get_front [] ys k x h = absurd (cc (h))
+get_front (y ∷ xs) ys zero x h = h
+get_front (y ∷ xs) ys (suc k) x h = get_front xs ys k x h
+
+get_end : {A : Type 0} (xs : List A) (x : A) → slice_get (xs ++ x ∷ []) (length xs) ≡ Some x
+get_end [] x = refl
+get_end (y ∷ xs) x = get_end xs x
+
+some_is : {A : Type 0} {x y : A} → Some x ≡ Some y → x ≡ y
+some_is h = cc (h)
+
+pub armed_kept : (opening : List (List ℕ)) (medium : MediumView) (entries : List Entry) (places : ℕ) (slots slots' : List (Option Armed)) (armings armings' : List Armed) (reservations : List Reservation) (tag : ℕ) (armed : Armed)
+    → JournalKept opening medium entries places slots armings reservations → IsFree slots tag → armed.tag ≡ tag → armed.number ≡ length armings → CanEnter medium armed → length entries + armed_count slots < places
+    → slots' ≡ slice_set slots tag (Some armed) → armings' ≡ armings ++ armed ∷ [] → JournalKept opening medium entries places slots' armings' reservations
+armed_kept opening medium entries places slots slots' armings armings' reservations tag armed kept free is_tag is_number can place after longer =
+    let more : armed_count slots' ≡ armed_count slots + 1 = ap armed_count after ∙ put_count slots tag armed free in
+    let long : length armings' ≡ length armings + 1 = ap length longer ∙ length-append armings (armed ∷ []) in
+    let counted : medium.failures + armed_count slots ≤ length armings = kept.counted in
+    record {
+      replays = kept.replays;
+      some = kept.some;
+      ready = λ other a h. subst (λ (all : List Armed). MayAct medium all other a) (sym longer) (elim (cases_eq other tag) [
+        | inl is ↦
+            let put : armed_at slots' other ≡ Some armed = ap (λ n. get_or slots' n None) is ∙ ap (λ (s : List (Option Armed)). get_or s tag None) after ∙ get_or-set_same slots tag (Some armed) None free.0 in
+            let same : armed ≡ a = some_is (sym put ∙ h) in
+            subst (λ (x : Armed). MayAct medium (armings ++ armed ∷ []) other x) same (record {
+              can_enter = can;
+              is_tag = is_tag ∙ sym is;
+              noted = ap (slice_get (armings ++ armed ∷ [])) is_number ∙ get_end armings armed;
+            })
+        | inr apart ↦
+            let old : armed_at slots' other ≡ armed_at slots other = ap (λ (s : List (Option Armed)). get_or s other None) after ∙ get_or-set_other slots tag other (Some armed) None apart in
+            let may : MayAct medium armings other a = kept.ready other a (sym old ∙ h) in
+            record {
+              can_enter = may.can_enter;
+              is_tag = may.is_tag;
+              noted = get_front armings (armed ∷ []) a.number a may.noted;
+            }
+      ]);
+      placed = omega (arith, more, place);
+      counted = omega (arith, more, long, counted);
+      held = kept.held;
+    }

@@ -1,3 +1,4 @@
+pub mod Covered
 pub mod Bookable
 pub mod Counting
 pub mod Entered

@@ -51,9 +51,10 @@ pub record MayAct (medium : MediumView) (armings : List Armed) (tag : ℕ) (arme
   pub is_tag : armed.tag ≡ tag
   pub noted : slice_get armings armed.number ≡ Some armed
 
--- what a write may move is reserved in the medium
-abbrev pub IsHeld : MediumView → Reservation → Type 0
-IsHeld medium reservation = reservation.kind ≡ Write → IsReserved medium reservation.extent
+-- a piece has a sector at least, and what a write may move is reserved in the medium
+pub record IsHeld (medium : MediumView) (reservation : Reservation) : Type 0 where
+  pub some : 1 ≤ reservation.max_transfer
+  pub reserved : reservation.kind ≡ Write → IsReserved medium reservation.extent
 
 -- the entries give the sectors, replayed from those that the journal was opened with; and whatever is armed can act
 pub record JournalKept (opening : List (List ℕ)) (medium : MediumView) (entries : List Entry) (places : ℕ) (slots : List (Option Armed)) (armings : List Armed) (reservations : List Reservation) : Type 0 where
