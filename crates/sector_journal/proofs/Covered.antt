@@ -1,5 +1,5 @@
 -- An SRB that may be armed, by what was reserved.
-use Rattle.std.proofs.Common.{◌≡◌, ◌<◌, ◌≤◌, ◌^◌, ℕ, ◌+◌, ◌-◌, ◌∷◌, ◌++◌, ◌&&◌, ◌||◌, Bool, true, false, nat_le, List, [], length, All, Option, Some, None, slice_set, slice_index_or, refl, sym, ap, subst, ◌∙◌, arith, inl, inr, leb-true}
+use Rattle.std.proofs.Common.{◌≡◌, ◌<◌, ◌≤◌, ◌^◌, ℕ, ◌+◌, ◌-◌, ◌∷◌, ◌++◌, ◌&&◌, ◌||◌, Bool, true, false, nat_le, List, [], length, All, Option, Some, None, slice_set, slice_index_or, refl, sym, ap, subst, ◌∙◌, arith, inl, inr, leb-true, length-append}
 use Rattle.std.specs.List.{list_any, Any}
 use Rattle.std.proofs.lemmas.Bool.{and_parts}
 use Rattle.std.proofs.lemmas.List.Folds.{Any-from_list_any}
@@ -124,3 +124,6 @@ module _ (old shown : JournalView) (tag piece : ℕ) (kind : Kind) (extent : Ext
         less_room = less;
         after = rw (after, longer) refl;
       })
+
+pub one_longer : {A : Type 0} (xs ys : List A) (x : A) (n : ℕ) → n ≡ length xs → ys ≡ xs ++ x ∷ [] → n + 1 ≡ length ys
+one_longer xs ys x n is longer = let l : length ys ≡ length xs + 1 = ap length longer ∙ length-append xs (x ∷ []) in omega (arith, is, l)

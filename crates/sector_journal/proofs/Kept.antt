@@ -11,7 +11,7 @@ use Rattle.srb.specs.declared.Completion.{Completion}
 use Rattle.srb.specs.Replaying.{ReplaysKind, Replays}
 use Rattle.sector.specs.declared.Extent.{Extent}
 use Rattle.sector.specs.Extents.{IsCovered}
-use Rattle.disk.specs.Medium.{MediumView, IsReserved}
+use Rattle.disk.specs.Medium.{MediumView, IsReserved, Reserves}
 use Rattle.miniport.specs.Carrying.{IsReady}
 use Rattle.sector_journal.specs.declared.slots.Armed.{Armed}
 use Rattle.sector_journal.specs.declared.reservation.Reservation.{Reservation}
@@ -218,4 +218,45 @@ armed_kept opening medium entries places slots slots' armings armings' reservati
       placed = omega (arith, more, place);
       counted = omega (arith, more, long, counted);
       held = kept.held;
+    }
+
+-- ROOM FOR A REQUEST
+
+-- more room, and a medium of which more is reserved
+pub roomier_kept : (opening : List (List ℕ)) (medium medium' : MediumView) (entries entries' : List Entry) (places places' : ℕ) (slots : List (Option Armed)) (armings : List Armed) (reservations reservations' : List Reservation)
+    → JournalKept opening medium entries places slots armings reservations → Reserves medium medium' → entries' ≡ entries → places ≤ places' → reservations' ≡ reservations
+    → JournalKept opening medium' entries' places' slots armings reservations'
+roomier_kept opening medium medium' entries entries' places places' slots armings reservations reservations' kept reserves same more same' =
+    let size_is : medium'.sector_size ≡ medium.sector_size = ap (λ (v : MediumView). v.sector_size) reserves.after in
+    let sectors_are : medium'.sectors ≡ medium.sectors = ap (λ (v : MediumView). v.sectors) reserves.after in
+    let failures_are : medium'.failures ≡ medium.failures = ap (λ (v : MediumView). v.failures) reserves.after in
+    let holds : Holds medium medium' = record { as_many = ap length sectors_are; lasts = reserves.lasts } in
+    let placed : length entries + armed_count slots ≤ places = kept.placed in
+    let counted : medium.failures + armed_count slots ≤ length armings = kept.counted in
+    let long : length entries' ≡ length entries = ap length same in
+    record {
+      replays =
+          subst (λ (x : ℕ). Replays x opening entries' medium'.sectors) (sym size_is)
+          (subst (λ (x : List (List ℕ)). Replays medium.sector_size opening entries' x) (sym sectors_are)
+          (subst (λ (x : List Entry). Replays medium.sector_size opening x medium.sectors) (sym same) kept.replays));
+      some = subst (λ (n : ℕ). 1 ≤ n) (sym (ap length sectors_are)) kept.some;
+      ready = λ tag armed h. ready_on medium medium' armings tag armed holds (kept.ready tag armed h);
+      placed = omega (arith, long, more, placed);
+      counted = omega (arith, failures_are, counted);
+      held = subst (λ (r : List Reservation). All (IsHeld medium') r) (sym same') (held_on medium medium' reservations holds kept.held);
+    }
+
+-- one reservation more
+pub admitted_kept : (opening : List (List ℕ)) (medium medium' : MediumView) (entries entries' : List Entry) (places places' : ℕ) (slots : List (Option Armed)) (armings : List Armed) (reservations reservations' : List Reservation) (reservation : Reservation)
+    → JournalKept opening medium entries places slots armings reservations → Reserves medium medium' → entries' ≡ entries → places ≤ places' → IsHeld medium' reservation → reservations' ≡ reservations ++ reservation ∷ []
+    → JournalKept opening medium' entries' places' slots armings reservations'
+admitted_kept opening medium medium' entries entries' places places' slots armings reservations reservations' reservation kept reserves same more held longer =
+    let more_kept = roomier_kept opening medium medium' entries entries' places places' slots armings reservations reservations kept reserves same more refl in
+    record {
+      replays = more_kept.replays;
+      some = more_kept.some;
+      ready = more_kept.ready;
+      placed = more_kept.placed;
+      counted = more_kept.counted;
+      held = subst (λ (r : List Reservation). All (IsHeld medium') r) (sym longer) (All-push (IsHeld medium') reservations reservation more_kept.held held);
     }

@@ -4,7 +4,7 @@ use Rattle.cdb.specs.Meaning.{Means}
 use Rattle.sector_journal.specs.Reserving.{covers}
 use Rattle.sector_journal.specs.Slots.{IsFree, armed_count}
 use Rattle.sector_journal.specs.Stocking.{pieces_at}
-use Rattle.sector_journal.proofs.Covered.{AlwaysNames, can_enter, may_arm, arms}
+use Rattle.sector_journal.proofs.Covered.{AlwaysNames, can_enter, may_arm, arms, one_longer}
 use Rattle.sector_journal.proofs.Kept.{armed_kept}
 use Rattle.sector_journal.proofs.journal.Journal.arm.Goals as goal
 
@@ -17,7 +17,7 @@ invariant_of-self-2 g c =
     record {
       kept = armed_kept _ _ _ _ _ _ _ _ _ c.args.tag _ c.self.invariant.kept free refl c.self.invariant.numbers
           (can_enter _ c.in-Some.kind c.in-Some.extent _ c.args.srb.now _ names covered c.self.invariant.kept.held c.own_srb.ensures) place c.put.ensures c.add.ensures;
-      numbers = search rules;
+      numbers = one_longer _ _ _ _ c.self.invariant.numbers c.add.ensures;
       entered = c.self.invariant.entered;
     }
 
