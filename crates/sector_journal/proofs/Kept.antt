@@ -1,5 +1,5 @@
 -- What a journal keeps, through its calls.
-use Rattle.std.proofs.Common.{◌≡◌, ◌≢◌, ◌<◌, ◌≤◌, ℕ, zero, suc, ◌+◌, List, [], ◌∷◌, ◌++◌, length, All, Option, Some, None, get_or, set, slice_get, slice_set, refl, sym, ap, subst, ◌∙◌, arith, ◌^◌, length-append, inl, inr, take, drop, slice_index_or}
+use Rattle.std.proofs.Common.{◌≡◌, ◌≢◌, ◌<◌, ◌≤◌, ℕ, zero, suc, ◌+◌, Bool, List, [], ◌∷◌, ◌++◌, length, All, Option, Some, None, get_or, set, slice_get, slice_set, refl, sym, ap, subst, ◌∙◌, arith, ◌^◌, length-append, inl, inr, take, drop, slice_index_or}
 use Rattle.std.specs.List.{sum_by, remove}
 use Rattle.std.proofs.lemmas.Bool.{cases_eq, cases_lt}
 use Rattle.std.proofs.lemmas.List.{set_past, get_or-set_same, get_or-set_other}
@@ -79,7 +79,7 @@ one_less slots slots' tag piece armed takes =
 
 -- AN ACT
 
-module _ (opening : List (List ℕ)) (medium medium' : MediumView) (entries : List Entry) (places : ℕ) (slots slots' : List (Option Armed)) (armings : List Armed) (reservations : List Reservation)
+module _ (opening : List (List ℕ)) (medium medium' : MediumView) (write_protected : Bool) (entries : List Entry) (places : ℕ) (slots slots' : List (Option Armed)) (armings : List Armed) (reservations : List Reservation)
     (tag piece : ℕ) (armed : Armed) (kept : JournalKept opening medium entries places slots armings reservations) (takes : Takes slots tag piece armed slots') where
   pub has_place : length entries < places
   has_place =
@@ -90,7 +90,7 @@ module _ (opening : List (List ℕ)) (medium medium' : MediumView) (entries : Li
   pub is_countable : length armings < 2 ^ 64 → medium.failures < 2 ^ 120
   is_countable few = let c : medium.failures + armed_count slots ≤ length armings = kept.counted in omega (arith, c, few)
 
-  pub entered_kept : (entry : Entry) (entries' : List Entry) (places' : ℕ) → Enters medium tag piece armed.srb entry medium' → entries' ≡ entries ++ entry ∷ [] → places' ≡ places
+  pub entered_kept : (entry : Entry) (entries' : List Entry) (places' : ℕ) → Enters medium write_protected tag piece armed.srb entry medium' → entries' ≡ entries ++ entry ∷ [] → places' ≡ places
       → JournalKept opening medium' entries' places' slots' armings reservations
   entered_kept entry entries' places' enters longer same =
       let less : armed_count slots' + 1 ≡ armed_count slots = one_less slots slots' tag piece armed takes in
@@ -113,7 +113,7 @@ module _ (opening : List (List ℕ)) (medium medium' : MediumView) (entries : Li
         held = held_on medium medium' reservations holds kept.held;
       }
 
-  pub refused_kept : (completion : Completion) → Refuses medium completion medium' → JournalKept opening medium' entries places slots' armings reservations
+  pub refused_kept : (completion : Completion) → Refuses medium write_protected armed.srb completion medium' → JournalKept opening medium' entries places slots' armings reservations
   refused_kept completion refuses =
       let less : armed_count slots' + 1 ≡ armed_count slots = one_less slots slots' tag piece armed takes in
       let size_is : medium'.sector_size ≡ medium.sector_size = ap (λ (v : MediumView). v.sector_size) refuses.after in
