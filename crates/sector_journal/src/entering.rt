@@ -1,10 +1,10 @@
 //! What an act does to the sectors, and its entry.
 
-ghost use Rattle.std.specs.Prelude.{◌≡◌, ◌≤◌, ◌<◌, ◌^◌, ℕ, length, MatchResult, Some};
+ghost use Rattle.std.specs.Prelude.{◌≡◌, ◌≤◌, ◌<◌, ◌^◌, ℕ, length, MatchResult, Some, IfSome};
 ghost use Rattle.cdb.specs.declared.Cdb.{Cdb};
 ghost use Rattle.cdb.specs.Meaning.{Means};
 ghost use Rattle.miniport.specs.Carrying.{IsReady};
-ghost use Rattle.sector_journal.specs.Entering.{named, Enters, Refuses};
+ghost use Rattle.sector_journal.specs.Entering.{named, Names, Enters, Refuses};
 
 use cdb::{Cdb, decode};
 use disk::Medium;
@@ -38,8 +38,9 @@ fn named_by(command: Cdb) -> Option<(Kind, Extent)>
 }
 
 /// What a block names, where it asks for a transfer or a flush.
-fn named_in(block: &[u8]) -> Option<(Kind, Extent)>
-    ensures { (command : Cdb) → Means block.now command → result ≡ named command }
+pub(crate) fn named_in(block: &[u8]) -> Option<(Kind, Extent)>
+    ensures by_meaning { (command : Cdb) → Means block.now command → result ≡ named command }
+    ensures names { IfSome result (λ what. Names block.now what) }
 {
     match decode(block) {
         Ok(command) => named_by(command),
@@ -60,7 +61,7 @@ pub fn enter<M: Medium>(
     requires countable { (M.view medium.old).failures < 2 ^ 120 }
     requires some { 1 ≤ length (M.view medium.old).sectors }
     requires names { (command : Cdb) → Means srb.block command → (what : _) × (named command ≡ Some what) }
-    ensures { MatchResult result (λ entry. Enters (M.view medium.old) tag piece srb entry (M.view medium.new)) (λ completion. Refuses (M.view medium.old) completion (M.view medium.new)) }
+    ensures { MatchResult result (λ entry. Enters (M.view medium.old) write_protected tag piece srb entry (M.view medium.new)) (λ completion. Refuses (M.view medium.old) write_protected srb completion (M.view medium.new)) }
 {
     let named = named_in(srb.block.as_slice());
     match carry_out(medium, write_protected, srb) {
