@@ -62,8 +62,8 @@ module _ (view : AdapterView) (medium medium' : MediumView) (tag piece : ℕ) (o
       → IsBookable view tag piece (Ok entry)
   entered_bookable entry size_is count_is same enters =
       let of : IsOfSrb view.sector_size (length view.sectors) srb entry =
-          subst (λ (x : ℕ). IsOfSrb x (length view.sectors) srb entry) size_is
-          (subst (λ (x : ℕ). IsOfSrb medium.sector_size x srb entry) count_is (of_srb medium.sector_size (length medium.sectors) one srb entry same enters.of_srb)) in
+      subst (λ (x : ℕ). IsOfSrb x (length view.sectors) srb entry) size_is
+      (subst (λ (x : ℕ). IsOfSrb medium.sector_size x srb entry) count_is (of_srb medium.sector_size (length medium.sectors) one srb entry same enters.of_srb)) in
       record {
         use' = armed.use';
         others = armed.others;

@@ -133,7 +133,7 @@ moved_enters view write_protected srb srb' bytes view' tag piece kind extent who
     let sectors_are : view'.sectors ≡ carries.sectors = ap (λ (v : MediumView). v.sectors) carries.after in
     let long : length srb.data ≡ bytes_of view.sector_size carries.command = as_long (disk_of view write_protected) srb carries.command carries.no_fault in
     let got = entered view.sector_size view.sectors srb.data piece tag bytes carries.moved carries.sectors whole carries.bytes_are carries.command kind extent
-        (is carries.command carries.means) long carries.performs in
+    (is carries.command carries.means) long carries.performs in
     record {
       is_piece = refl;
       is_tag = refl;

@@ -1,3 +1,3 @@
 pub mod Bookable
+pub mod Counting
 pub mod Entered
-pub mod Entries

@@ -2,9 +2,20 @@
 use Rattle.std.specs.Prelude.{◌≡◌, ℕ, Bool, length}
 use Rattle.cdb.specs.Meaning.{AsksToWrite}
 use Rattle.srb.specs.declared.Srb.{Srb}
+use Rattle.srb.specs.declared.Kind.{Kind}
+use Rattle.srb.specs.declared.Kind.TheVariants.{Write}
 
 -- they ask for the same: a write's bytes are the same, a read's place is as long
 pub record AskTheSame (one other : Srb) : Type 0 where
   pub same_block : one.block ≡ other.block
   pub as_long : length one.data ≡ length other.data
   pub same_bytes : (lba count : ℕ) (fua : Bool) → AsksToWrite one.block lba count fua → one.data ≡ other.data
+
+-- the other asks for just what the first does, with no sense data and a second buffer as long as its data
+pub record IsCopy (kind : Kind) (srb copy : Srb) : Type 0 where
+  pub same_block : copy.block ≡ srb.block
+  pub same_function : copy.function ≡ srb.function
+  pub same_flags : copy.flags ≡ srb.flags
+  pub as_long : length copy.data ≡ length srb.data
+  pub buffers : length copy.for_label ≡ length copy.data
+  pub same_bytes : kind ≡ Write → copy.data ≡ srb.data

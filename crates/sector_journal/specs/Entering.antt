@@ -1,8 +1,9 @@
 -- What an act does to the sectors, and its entry.
-use Rattle.std.specs.Prelude.{◌≡◌, ◌≤◌, ℕ, ◌+◌, length, Option, Some, None}
+use Rattle.std.specs.Prelude.{◌≡◌, ◌≤◌, ℕ, ◌+◌, List, length, Option, Some, None}
 use Rattle.sector.specs.declared.Extent.{Extent}
 use Rattle.cdb.specs.declared.Cdb.{Cdb}
 use Rattle.cdb.specs.declared.Cdb.TheVariants.{Read10, Write10, Sync10, ReadCapacity10, Read16, Write16, Sync16, ReadCapacity16}
+use Rattle.cdb.specs.Meaning.{Means}
 use Rattle.srb.specs.declared.Srb.{Srb}
 use Rattle.srb.specs.declared.Kind.{Kind}
 use Rattle.srb.specs.declared.Kind.TheVariants.{Read, Write, Flush}
@@ -24,6 +25,10 @@ named (Read16 lba count fua) = Some (Read, record { first = lba; count = count }
 named (Write16 lba count fua) = Some (Write, record { first = lba; count = count })
 named (Sync16 lba count) = Some (Flush, record { first = lba; count = count })
 named (ReadCapacity16 allocation) = None
+
+-- a block asks for a transfer or a flush of this kind and extent
+abbrev pub Names : List ℕ → Kind × Extent → Type 0
+Names block what = (command : Cdb) × Means block command × (named command ≡ Some what)
 
 -- the piece acted: its entry is of what the SRB asks for, and replays what became of the sectors
 pub record Enters (old : MediumView) (tag piece : ℕ) (srb : Srb) (entry : Entry) (new : MediumView) : Type 0 where

@@ -1,45 +1,128 @@
--- What a journal shows, and its acts.
-use Rattle.std.specs.Prelude.{◌≡◌, ◌≢◌, ◌≤◌, ◌<◌, ◌^◌, ℕ, Bool, List, [], ◌∷◌, ◌++◌, length, Option, Some, None, Result, Ok, Err, get_or, slice_set}
+-- What a journal shows, and what its calls do.
+use Rattle.std.specs.Prelude.{◌≡◌, ◌≤◌, ◌<◌, ◌^◌, ℕ, ◌+◌, ◌-◌, Bool, true, List, [], ◌∷◌, ◌++◌, length, All, Option, Some, None, Result, Ok, Err, MatchOption, replicate, slice_get, slice_set}
+use Rattle.std.specs.List.{list_any, position, remove}
 use Rattle.cdb.specs.declared.Cdb.{Cdb}
 use Rattle.cdb.specs.Meaning.{Means}
+use Rattle.srb.specs.declared.Srb.{Srb}
+use Rattle.srb.specs.declared.Kind.{Kind}
+use Rattle.srb.specs.declared.Kind.TheVariants.{Write}
 use Rattle.srb.specs.declared.Entry.{Entry}
 use Rattle.srb.specs.declared.Completion.{Completion}
-use Rattle.disk.specs.Medium.{MediumView}
-use Rattle.miniport.specs.Carrying.{IsReady}
 use Rattle.srb.specs.Replaying.{Replays}
-use Rattle.sector_journal.specs.declared.journal.Armed.{Armed}
-use Rattle.sector_journal.specs.Entering.{named, Enters, Refuses}
+use Rattle.sector.specs.declared.Extent.{Extent}
+use Rattle.disk.specs.Medium.{MediumView, IsReserved, Reserves}
+use Rattle.miniport.specs.Carrying.{IsReady}
+use Rattle.sector_journal.specs.declared.slots.Armed.{Armed}
+use Rattle.sector_journal.specs.declared.reservation.Reservation.{Reservation}
+use Rattle.sector_journal.specs.Arming.{AskTheSame}
+use Rattle.sector_journal.specs.Entering.{named, Names, Enters, Refuses}
+use Rattle.sector_journal.specs.Slots.{armed_at, armed_count, IsFree}
+use Rattle.sector_journal.specs.Reserving.{covers, is_of, pieces_of}
+use Rattle.sector_journal.specs.Stocking.{Room, pieces_at}
 
 pub record JournalView : Type 0 where
+  -- the sectors
   pub medium : MediumView
   pub write_protected : Bool
+  -- what acts did, in their order
   pub entries : List Entry
-  -- the entries for which there is room
+  -- the entries for which there is room, those that are there among them
   pub places : ℕ
+  -- for each tag the piece that may act
   pub slots : List (Option Armed)
+  -- all that was ever armed, in its order
+  pub armings : List Armed
+  -- what open requests may move
+  pub reservations : List Reservation
+  -- for how many pieces of so many bytes there are buffers
+  pub room : List Room
 
-abbrev pub armed_at : List (Option Armed) → ℕ → Option Armed
-armed_at slots tag = get_or slots tag None
-
-abbrev pub with_slot : ℕ → Option Armed → JournalView → JournalView
-with_slot tag slot journal = record journal { slots = slice_set journal.slots tag slot }
-
--- the tag isn't armed for this piece
-abbrev pub HasNone : JournalView → ℕ → ℕ → Type 0
-HasNone journal tag piece = (armed : Armed) → armed_at journal.slots tag ≡ Some armed → armed.piece ≢ piece
-
-pub record Takes (old : JournalView) (tag piece : ℕ) (armed : Armed) (new : JournalView) : Type 0 where
-  pub was_there : armed_at old.slots tag ≡ Some armed
-  pub is_piece : armed.piece ≡ piece
-  pub after : new ≡ with_slot tag None old
+-- WHAT ALWAYS HOLDS
 
 -- what an armed piece has
 pub record CanEnter (medium : MediumView) (armed : Armed) : Type 0 where
   pub ready : IsReady medium armed.srb
   pub buffers : length armed.srb.for_label ≡ length armed.srb.data
-  pub countable : medium.failures < 2 ^ 120
+  pub names : (command : Cdb) → Means armed.srb.block command → (what : Kind × Extent) × (named command ≡ Some what)
+
+-- the piece that may act on a tag, and its place among all armings
+pub record MayAct (medium : MediumView) (armings : List Armed) (tag : ℕ) (armed : Armed) : Type 0 where
+  pub can_enter : CanEnter medium armed
+  pub is_tag : armed.tag ≡ tag
+  pub noted : slice_get armings armed.number ≡ Some armed
+
+-- what a write may move is reserved in the medium
+abbrev pub IsHeld : MediumView → Reservation → Type 0
+IsHeld medium reservation = reservation.kind ≡ Write → IsReserved medium reservation.extent
+
+-- the entries give the sectors, replayed from those that the journal was opened with; and whatever is armed can act
+pub record JournalKept (opening : List (List ℕ)) (medium : MediumView) (entries : List Entry) (places : ℕ) (slots : List (Option Armed)) (armings : List Armed) (reservations : List Reservation) : Type 0 where
+  pub replays : Replays medium.sector_size opening entries medium.sectors
   pub some : 1 ≤ length medium.sectors
-  pub names : (command : Cdb) → Means armed.srb.block command → (what : _) × (named command ≡ Some what)
+  pub ready : (tag : ℕ) (armed : Armed) → armed_at slots tag ≡ Some armed → MayAct medium armings tag armed
+  -- each armed piece has a place for its entry
+  pub placed : length entries + armed_count slots ≤ places
+  -- no more acts failed than were armed
+  pub counted : medium.failures + armed_count slots ≤ length armings
+  pub held : All (IsHeld medium) reservations
+
+-- THE CALLS
+
+-- a journal of these sectors in which nothing happened
+pub record IsNew (medium : MediumView) (depth : ℕ) (write_protected : Bool) (journal : JournalView) : Type 0 where
+  pub medium_is : journal.medium ≡ medium
+  pub protected : journal.write_protected ≡ write_protected
+  pub no_entry : journal.entries ≡ []
+  pub none_armed : journal.slots ≡ replicate depth None
+  pub no_arming : journal.armings ≡ []
+  pub none_open : journal.reservations ≡ []
+
+-- there may be more room, and nothing else changed
+pub record GainsRoom (old new : JournalView) : Type 0 where
+  pub medium : Reserves old.medium new.medium
+  pub more : old.places ≤ new.places
+  pub after : new ≡ record old { medium = new.medium; places = new.places; room = new.room }
+
+-- there is room for what the request may move
+pub record Admits (old : JournalView) (reservation : Reservation) (new : JournalView) : Type 0 where
+  pub medium : Reserves old.medium new.medium
+  pub held : IsHeld new.medium reservation
+  pub more : length old.entries + pieces_of reservation ≤ new.places
+  pub after : new ≡ record old { medium = new.medium; places = new.places; room = new.room; reservations = old.reservations ++ reservation ∷ [] }
+
+-- the first reservation of the request, if there is one, is no more
+abbrev pub without : ℕ → List Reservation → List Reservation → Type 0
+without request old new = MatchOption (position (is_of request) old) (new ≡ old) (λ at. new ≡ remove old at)
+
+pub record Releases (old : JournalView) (request : ℕ) (new : JournalView) : Type 0 where
+  pub gone : without request old.reservations new.reservations
+  pub after : new ≡ record old { reservations = new.reservations; room = new.room }
+
+-- a piece may be armed on the tag by this SRB
+pub record MayArm (journal : JournalView) (tag : ℕ) (srb : Srb) : Type 0 where
+  pub what : Kind × Extent
+  pub names : Names srb.block what
+  pub free : IsFree journal.slots tag
+  pub covered : list_any (covers what.0 what.1) journal.reservations ≡ true
+  pub room : 1 ≤ pieces_at journal.room (length srb.data)
+  pub place : length journal.entries + armed_count journal.slots < journal.places
+  pub number : length journal.armings < 2 ^ 64 - 1
+
+-- the piece may act on the tag, by an SRB that asks for the same
+pub record Arms (old : JournalView) (tag piece : ℕ) (srb : Srb) (new : JournalView) : Type 0 where
+  pub armed : Armed
+  pub is_tag : armed.tag ≡ tag
+  pub is_piece : armed.piece ≡ piece
+  pub is_number : armed.number ≡ length old.armings
+  pub same : AskTheSame armed.srb srb
+  pub same_function : armed.srb.function ≡ srb.function
+  pub same_flags : armed.srb.flags ≡ srb.flags
+  pub less_room : pieces_at new.room (length srb.data) + 1 ≡ pieces_at old.room (length srb.data)
+  pub after : new ≡ record old { slots = slice_set old.slots tag (Some armed); armings = old.armings ++ armed ∷ []; room = new.room }
+
+-- no piece may act on the tag
+pub record Disarms (old : JournalView) (tag : ℕ) (new : JournalView) : Type 0 where
+  pub after : new ≡ record old { slots = slice_set old.slots tag None; room = new.room }
 
 -- what came of it, in the medium and in the entries
 abbrev pub Does : JournalView → ℕ → ℕ → Armed → Result ℕ Completion → JournalView → Type 0
@@ -47,11 +130,10 @@ Does old tag piece armed (Ok number) new =
     (entry : Entry) × (number ≡ length old.entries) × Enters old.medium tag piece armed.srb entry new.medium × (new.entries ≡ old.entries ++ entry ∷ [])
 Does old tag piece armed (Err completion) new = Refuses old.medium completion new.medium × (new.entries ≡ old.entries)
 
--- the piece acts or fails, and the tag is disarmed; the journal rule is kept
+-- the piece acts or fails, and the tag is disarmed
 pub record Acts (old : JournalView) (tag piece : ℕ) (done : Result ℕ Completion) (new : JournalView) : Type 0 where
   pub armed : Armed
   pub was_there : armed_at old.slots tag ≡ Some armed
   pub is_piece : armed.piece ≡ piece
   pub does : Does old tag piece armed done new
-  pub keeps : (opening : List (List ℕ)) → Replays old.medium.sector_size opening old.entries old.medium.sectors → Replays new.medium.sector_size opening new.entries new.medium.sectors
-  pub after : new ≡ record (with_slot tag None old) { medium = new.medium; entries = new.entries }
+  pub after : new ≡ record old { medium = new.medium; entries = new.entries; slots = slice_set old.slots tag None }

@@ -1,10 +1,10 @@
 //! What an act does to the sectors, and its entry.
 
-ghost use Rattle.std.specs.Prelude.{◌≡◌, ◌≤◌, ◌<◌, ◌^◌, ℕ, length, MatchResult, Some};
+ghost use Rattle.std.specs.Prelude.{◌≡◌, ◌≤◌, ◌<◌, ◌^◌, ℕ, length, MatchResult, Some, IfSome};
 ghost use Rattle.cdb.specs.declared.Cdb.{Cdb};
 ghost use Rattle.cdb.specs.Meaning.{Means};
 ghost use Rattle.miniport.specs.Carrying.{IsReady};
-ghost use Rattle.sector_journal.specs.Entering.{named, Enters, Refuses};
+ghost use Rattle.sector_journal.specs.Entering.{named, Names, Enters, Refuses};
 
 use cdb::{Cdb, decode};
 use disk::Medium;
@@ -38,8 +38,9 @@ fn named_by(command: Cdb) -> Option<(Kind, Extent)>
 }
 
 /// What a block names, where it asks for a transfer or a flush.
-fn named_in(block: &[u8]) -> Option<(Kind, Extent)>
-    ensures { (command : Cdb) → Means block.now command → result ≡ named command }
+pub(crate) fn named_in(block: &[u8]) -> Option<(Kind, Extent)>
+    ensures by_meaning { (command : Cdb) → Means block.now command → result ≡ named command }
+    ensures names { IfSome result (λ what. Names block.now what) }
 {
     match decode(block) {
         Ok(command) => named_by(command),

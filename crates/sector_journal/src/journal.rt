@@ -1,61 +1,396 @@
 //! The journal: what acts did to the sectors, in their order.
 
-ghost use Rattle.std.specs.Prelude.{◌≡◌, ◌<◌, ◌≤◌, ◌^◌, None, length, vec_len, vec_capacity, MatchOption};
-ghost use Rattle.sector_journal.specs.Journal.{JournalView, HasNone, Takes, Acts, CanEnter, armed_at, with_slot};
+ghost use Rattle.std.specs.Prelude.{◌≡◌, ◌<◌, ◌≤◌, ◌+◌, ◌-◌, ◌^◌, ◌∷◌, [], None, Some, Ok, length, vec_len, vec_capacity, true, IfOk, OnOk, OnErr, IfSome, MatchOption, MatchBool, slice_get};
+ghost use Rattle.std.specs.Bool.{Decides};
+ghost use Rattle.std.specs.List.{list_any, position};
+ghost use Rattle.std.specs.Option.{option_copied};
+ghost use Rattle.chronicle.specs.Claims.{AllStand};
+ghost use Rattle.srb.specs.declared.Entry.{Entry};
+ghost use Rattle.srb.specs.Replaying.{Replays};
+ghost use Rattle.sector_journal.specs.declared.reservation.Reservation.{Reservation};
+ghost use Rattle.sector_journal.specs.declared.slots.Armed.{Armed};
+ghost use Rattle.sector_journal.specs.Arming.{IsCopy};
+ghost use Rattle.sector_journal.specs.Journal.{Acts, Admits, Arms, Disarms, GainsRoom, IsNew, MayArm, Releases};
+ghost use Rattle.sector_journal.specs.Reserving.{covers, is_of, pieces_of};
+ghost use Rattle.sector_journal.specs.Slots.{HasNone, armed_at};
+ghost use Rattle.sector_journal.specs.Stocking.{IsOfLength};
 
-use crate::entering::enter;
+use crate::entering::{enter, named_in};
+use crate::name::{Naming, OfArmings, OfEntries};
+use crate::opened::{History, Opened};
+use crate::reservation::{Reservation, is_write};
+use crate::shelf::Buffers;
+use crate::slots::{Armed, Slots};
+use crate::stock::Stock;
+use chronicle::{Claims, Whole};
 use disk::Medium;
-use srb::{Completion, Entry, Srb};
+use sector::{Bytes, Extent};
+use srb::{Completion, Entry, Kind, Srb};
+use std::alloc::{AllocError, Global};
 use std::marker::Model;
-
-/// A piece that may act, with the SRB that it acts by.
-#[derive(Debug, Drop)]
-pub struct Armed {
-    pub piece: u128,
-    pub srb: Srb,
-}
 
 /// The sectors, what acts did to them, and for each tag the piece that may act.
 #[derive(Drop)]
-pub struct Journal<M: Medium> {
+pub struct Journal<M: Medium, N: Naming> {
     medium: M,
     write_protected: bool,
     entries: Vec<Entry>,
-    slots: Vec<Option<Armed>>,
+    /// Entries that open requests may add, those that were added since they came among them.
+    promised: usize,
+    slots: Slots,
+    /// How many armings there were.
+    armings: u64,
+    reservations: Vec<Reservation>,
+    stock: Stock,
+    armed: Whole<Armed, OfArmings<N>>,
+    entered: Whole<Entry, OfEntries<N>>,
 }
 
-impl<M: Medium> Model for Journal<M> {
+impl<M: Medium, N: Naming> Model for Journal<M, N> {
+    ghost use Rattle.std.specs.Prelude.{◌≡◌, length, vec_capacity};
+    ghost use Rattle.sector_journal.specs.Journal.{JournalKept, JournalView};
+
     ghost Value = { JournalView };
 
-    ghost view = { λ j. record { medium = M.view j.medium; write_protected = j.write_protected; entries = j.entries.items; places = vec_capacity j.entries; slots = j.slots.items } };
+    ghost view = { λ j. record {
+      medium = M.view j.medium;
+      write_protected = j.write_protected;
+      entries = j.entries.items;
+      places = vec_capacity j.entries;
+      slots = j.slots;
+      armings = j.armed;
+      reservations = j.reservations.items;
+      room = j.stock;
+    } };
+
+    ghost invariant = { λ j. record {
+      kept : JournalKept N.opening (M.view j.medium) j.entries.items (vec_capacity j.entries) j.slots j.armed j.reservations.items;
+      numbers : j.armings ≡ length j.armed;
+      entered : j.entered ≡ j.entries.items;
+    } };
 }
 
-impl<M: Medium> Journal<M> {
-    /// Takes the piece off a tag, if it is this one.
-    fn take(&mut self, tag: u8, piece: u128) -> Option<Armed>
-        ensures { MatchOption result (HasNone self.old tag piece × (self.new ≡ self.old)) (λ armed. Takes self.old tag piece armed self.new) }
+/// The bytes that a piece sends, in its own buffer; a read's place is left as it is.
+fn own_data(srb: &Srb, kind: Kind, place: Bytes) -> Bytes
+    requires { length place ≡ length srb.now.data }
+    ensures { (length result ≡ length srb.now.data) × (kind ≡ Kind.Write → result ≡ srb.now.data) }
+{
+    match kind {
+        Kind::Write => place.overwritten(srb.data.as_slice()),
+        Kind::Read => place,
+        Kind::Flush => place,
+    }
+}
+
+/// The journal's own SRB of a piece, in these buffers.
+fn own_srb(srb: &Srb, kind: Kind, buffers: Buffers) -> Srb
+    requires { IsOfLength buffers (length srb.now.data) }
+    ensures { IsCopy kind srb.now result }
+{
+    Srb {
+        function: srb.function,
+        flags: srb.flags,
+        block: srb.block.copied(),
+        data: own_data(srb, kind, buffers.data),
+        for_label: buffers.for_label,
+        sense: None,
+    }
+}
+
+fn is_covered(reservations: &[Reservation], kind: Kind, extent: Extent) -> bool
+    ensures { result ≡ list_any (covers kind extent) reservations.now }
+{
+    reservations
+        .iter()
+        .any(|reservation| reservation.covers(kind, extent))
+}
+
+fn find_request(reservations: &[Reservation], request: u64) -> Option<usize>
+    ensures { result ≡ position (is_of request) reservations.now }
+{
+    reservations
+        .iter()
+        .position(|reservation| reservation.request == request)
+}
+
+impl<M: Medium, N: Naming> Journal<M, N> {
+    /// A journal of these sectors, one at least, with no entry, no armed piece and no open request; and the words of its
+    /// histories. `depth` is the number of tags.
+    ///
+    /// # Errors
+    ///
+    /// Where the memory for the tags was refused.
+    pub fn new(
+        alloc: Global,
+        opened: Opened,
+        medium: M,
+        depth: u8,
+        write_protected: bool,
+    ) -> Result<(Journal<M, N>, History<N>), AllocError>
+        requires named { opened ≡ record { armings = N.armings; entries = N.entries } }
+        requires opening { (M.view medium).sectors ≡ N.opening }
+        requires some { 1 ≤ length (M.view medium).sectors }
+        requires unfailed { (M.view medium).failures ≡ 0 }
+        ensures { IfOk result (λ r. IsNew (M.view medium) depth write_protected r.0) }
     {
-        match self.slots.get(tag as usize) {
-            Some(Some(armed)) if armed.piece == piece => self.slots[tag as usize].take(),
-            _ => None,
+        let Opened { armings, entries } = opened;
+        let (armings, armed) = armings.named();
+        let (entries, entered) = entries.named();
+        let slots = Slots::new(alloc, depth)?;
+        let journal = Journal {
+            medium,
+            write_protected,
+            entries: Vec::new(alloc),
+            promised: 0,
+            slots,
+            armings: 0,
+            reservations: Vec::new(alloc),
+            stock: Stock::new(alloc),
+            armed,
+            entered,
+        };
+        Ok((journal, History { armings, entries }))
+    }
+
+    /// The bytes of one sector.
+    pub fn sector_size(&self) -> u32
+        ensures { result ≡ self.now.medium.sector_size }
+    {
+        self.medium.sector_size()
+    }
+
+    /// The number of sectors.
+    pub fn sectors(&self) -> u64
+        ensures { result ≡ length self.now.medium.sectors }
+    {
+        self.medium.sectors()
+    }
+
+    /// The number of tags.
+    pub fn depth(&self) -> u8
+        ensures { result ≡ length self.now.slots }
+    {
+        self.slots.depth()
+    }
+
+    /// The piece that may act on a tag.
+    pub fn armed(&self, tag: u8) -> Option<&Armed>
+        ensures { option_copied result ≡ armed_at self.now.slots tag }
+    {
+        self.slots.get(tag)
+    }
+
+    /// What acts did, in their order; the number of an entry is its place here.
+    pub fn entries(&self) -> &[Entry]
+        ensures { result.now ≡ self.now.entries }
+    {
+        self.entries.as_slice()
+    }
+
+    /// The entries give the sectors, replayed from those that the journal was opened with.
+    pub fn shows_rule(&self)
+        ensures { Replays self.now.medium.sector_size N.opening self.now.entries self.now.medium.sectors }
+    {
+        // The invariant is known where a field is used.
+        let _slots = &self.slots;
+    }
+
+    /// Makes room for the acts of a request: for their entries, for the buffers of its pieces, and in the medium for a write.
+    /// `extent` is on the disk; of a flush it says nothing. The pieces are cut by `max_transfer`, in sectors, which is 1 at
+    /// least. No other call takes memory.
+    ///
+    /// # Errors
+    ///
+    /// Where memory was refused; the journal then has spare room at most.
+    pub fn reserve(
+        &mut self,
+        request: u64,
+        kind: Kind,
+        extent: Extent,
+        max_transfer: u32,
+    ) -> Result<(), AllocError>
+        requires within { extent.first + extent.count ≤ length self.old.medium.sectors }
+        requires some { 1 ≤ max_transfer }
+        ensures admits { OnOk result (Admits self.old (record { request = request; kind = kind; extent = extent; max_transfer = max_transfer }) self.new) }
+        ensures refused { OnErr result (GainsRoom self.old self.new) }
+    {
+        let reservation = Reservation {
+            request,
+            kind,
+            extent,
+            max_transfer,
+        };
+        let (full, last) = reservation.batches(self.medium.sector_size());
+        let pieces = full.pieces.saturating_add(last.pieces);
+        let wanted = self.promised.saturating_add(pieces);
+        self.reservations.reserve(1)?;
+        self.entries.reserve(wanted)?;
+        if is_write(kind) && self.medium.reserve(extent).is_err() {
+            return Err(AllocError);
+        }
+        let out = self.slots.armed_with(full.length);
+        self.stock.promise(full, out)?;
+        if self
+            .stock
+            .promise(last, self.slots.armed_with(last.length))
+            .is_err()
+        {
+            self.stock.withdraw(full, out);
+            return Err(AllocError);
+        }
+        self.promised = wanted;
+        self.reservations.push_reserved(reservation);
+        Ok(())
+    }
+
+    /// A request was answered: what was reserved for it and not used serves others, or is given back.
+    pub fn release(&mut self, request: u64)
+        ensures { Releases self.old request self.new }
+    {
+        let Some(at) = find_request(self.reservations.as_slice(), request) else {
+            return;
+        };
+        let reservation = self.reservations.remove(at);
+        let (full, last) = reservation.batches(self.medium.sector_size());
+        self.promised = self
+            .promised
+            .saturating_sub(full.pieces)
+            .saturating_sub(last.pieces);
+        self.stock
+            .withdraw(full, self.slots.armed_with(full.length));
+        self.stock
+            .withdraw(last, self.slots.armed_with(last.length));
+    }
+
+    /// Lets a piece act on a tag, by a copy of its SRB in room that was reserved. True exactly where the tag is there and
+    /// free, the block asks for a read, a write or a flush within an open request's, and there are buffers for the length of
+    /// its data, a place for its entry and a number for the arming; else nothing changes.
+    pub fn arm(&mut self, history: &History<N>, tag: u8, piece: u128, srb: &Srb) -> bool
+        ensures decides { Decides result (MayArm self.old tag srb.now) }
+        ensures arms { MatchBool result (Arms self.old tag piece srb.now self.new) (self.new ≡ self.old) }
+    {
+        let Some((kind, extent)) = named_in(srb.block.as_slice()) else {
+            return false;
+        };
+        if !self.slots.is_free(tag)
+            || self.armings == u64::MAX
+            || self.entries.len() + self.slots.armed() >= self.entries.capacity()
+            || !is_covered(self.reservations.as_slice(), kind, extent)
+        {
+            return false;
+        }
+        let Some(buffers) = self.stock.take(srb.data.len()) else {
+            return false;
+        };
+        let armed = Armed {
+            number: self.armings,
+            tag,
+            piece,
+            srb: own_srb(srb, kind, buffers),
+        };
+        self.armed.add(&history.armings, &armed);
+        self.armings += 1;
+        self.slots.put(armed);
+        true
+    }
+
+    /// No piece may act on a tag any more; its room is there for another.
+    pub fn disarm(&mut self, tag: u8)
+        ensures { Disarms self.old tag self.new }
+    {
+        if let Some(armed) = self.slots.clear(tag) {
+            self.stock.put(Buffers {
+                data: armed.srb.data,
+                for_label: armed.srb.for_label,
+            });
         }
     }
 
-    /// The piece of a tag acts: the number of its entry, or how it failed. None, and nothing changes, where the tag isn't
-    /// armed for it.
-    pub fn act(&mut self, tag: u8, piece: u128) -> Option<Result<u64, Completion>>
-        requires place { length self.old.entries < self.old.places }
-        requires armed { (armed : _) → armed_at self.old.slots tag ≡ Some armed → CanEnter self.old.medium armed }
-        ensures { MatchOption result (HasNone self.old tag piece × (self.new ≡ self.old)) (λ done. Acts self.old tag piece done self.new) }
+    /// The piece of a tag acts: the number of its entry, or how it failed. It may not act again. None, and nothing changes,
+    /// where the tag isn't armed for it.
+    pub fn act(
+        &mut self,
+        history: &History<N>,
+        tag: u8,
+        piece: u128,
+    ) -> Option<Result<u64, Completion>>
+        ensures { MatchOption result (HasNone self.old.slots tag piece × (self.new ≡ self.old)) (λ done. Acts self.old tag piece done self.new) }
     {
-        let armed = self.take(tag, piece)?;
-        match enter(&mut self.medium, self.write_protected, tag, piece, armed.srb) {
+        let armed = self.slots.take(tag, piece)?;
+        match enter(
+            &mut self.medium,
+            self.write_protected,
+            tag,
+            piece,
+            armed.srb,
+        ) {
             Ok(entry) => {
                 let number = self.entries.len() as u64;
+                self.entered.add(&history.entries, &entry);
                 self.entries.push_reserved(entry);
                 Some(Ok(number))
             }
             Err(completion) => Some(Err(completion)),
         }
+    }
+
+    /// A receipt of an entry: its number and itself, for good.
+    pub fn receipt(&mut self, history: &History<N>, number: u64) -> Claims<Entry, OfEntries<N>>
+        requires { number < length self.old.entries }
+        ensures same { self.new ≡ self.old }
+        ensures receipt { (entry : Entry) × (slice_get self.old.entries number ≡ Some entry) × (result ≡ (number, entry) ∷ []) }
+    {
+        let at = number as usize;
+        self.entered.claim(&history.entries, at, &self.entries[at])
+    }
+
+    /// Each entry that was receipted stands at its number.
+    pub fn check(&mut self, history: &History<N>, receipts: &mut Claims<Entry, OfEntries<N>>)
+        ensures same { (self.new ≡ self.old) × (receipts.new ≡ receipts.old) }
+        ensures stand { AllStand self.old.entries receipts.old }
+    {
+        self.entered.check(&history.entries, receipts)
+    }
+
+    /// A receipt of the arming of the piece that may act on a tag: its number among all armings, and itself, for good.
+    pub fn arming_receipt(
+        &mut self,
+        history: &History<N>,
+        tag: u8,
+    ) -> Option<Claims<Armed, OfArmings<N>>>
+        ensures same { self.new ≡ self.old }
+        ensures receipt { MatchOption result (armed_at self.old.slots tag ≡ None) (λ r. (armed : Armed) × (armed_at self.old.slots tag ≡ Some armed) × (r ≡ (armed.number, armed) ∷ [])) }
+    {
+        let armed = self.slots.get(tag)?;
+        Some(
+            self.armed
+                .claim(&history.armings, armed.number as usize, armed),
+        )
+    }
+
+    /// Each arming that was receipted stands at its number.
+    pub fn check_armings(
+        &mut self,
+        history: &History<N>,
+        receipts: &mut Claims<Armed, OfArmings<N>>,
+    )
+        ensures same { (self.new ≡ self.old) × (receipts.new ≡ receipts.old) }
+        ensures stand { AllStand self.old.armings receipts.old }
+    {
+        self.armed.check(&history.armings, receipts)
+    }
+
+    /// The sectors as they are at the end, and what acts did to them.
+    pub fn into_parts(self) -> (M, Vec<Entry>)
+        ensures sectors { M.view result.0 ≡ self.medium }
+        ensures entries { result.1.items ≡ self.entries }
+        ensures rule { Replays (M.view result.0).sector_size N.opening result.1.items (M.view result.0).sectors }
+    {
+        let Journal {
+            medium,
+            entries,
+            ..
+        } = self;
+        (medium, entries)
     }
 }

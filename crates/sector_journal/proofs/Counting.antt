@@ -1,0 +1,43 @@
+-- How many pieces may act.
+use Rattle.std.proofs.Common.{◌≡◌, ◌≤◌, ◌<◌, ℕ, ◌+◌, ◌-◌, ◌*◌, List, [], ◌∷◌, length, Option, Some, None, get_or, slice_set, All, refl, sym, ap, ◌∙◌, arith, Fits, w64}
+use Rattle.std.specs.List.{sum_by}
+use Rattle.std.proofs.lemmas.List.Sums.{sum_by-set, sum_by-le, get_or-le-sum_by}
+use Rattle.std.proofs.lemmas.List.Elements.{All-nil, All-cons}
+use Rattle.sector_journal.specs.declared.slots.Armed.{Armed}
+use Rattle.sector_journal.specs.Slots.{armed_at, armed_count, one_if_armed, IsFree}
+
+one_at_most : (slot : Option Armed) → one_if_armed slot ≤ 1
+one_at_most (Some armed) = omega arith
+one_at_most None = omega arith
+
+each_at_most : (slots : List (Option Armed)) → All (λ slot. one_if_armed slot ≤ 1) slots
+each_at_most [] = All-nil (λ slot. one_if_armed slot ≤ 1)
+each_at_most (slot ∷ slots) = All-cons (λ slot. one_if_armed slot ≤ 1) slot slots (one_at_most slot) (each_at_most slots)
+
+-- no more than there are tags
+pub few_armed : (slots : List (Option Armed)) → armed_count slots ≤ length slots
+few_armed slots = let h : armed_count slots ≤ length slots * 1 = sum_by-le one_if_armed 1 slots (each_at_most slots) in omega (arith, h)
+
+pub one_more_fits : (slots : List (Option Armed)) (armed n : ℕ) → armed ≡ armed_count slots → n ≡ length slots → n ≤ 255 → Fits w64 (armed + 1)
+one_more_fits slots armed n is long few = let h : armed_count slots ≤ length slots = few_armed slots in omega (arith, h, is, long, few)
+
+-- one more on a free tag
+pub put_count : (slots : List (Option Armed)) (tag : ℕ) (armed : Armed) → IsFree slots tag → armed_count (slice_set slots tag (Some armed)) ≡ armed_count slots + 1
+put_count slots tag armed free =
+    let h : armed_count (slice_set slots tag (Some armed)) + one_if_armed (get_or slots tag None) ≡ armed_count slots + 1 = sum_by-set one_if_armed slots tag (Some armed) None free.0 in
+    let none : one_if_armed (get_or slots tag None) ≡ 0 = ap one_if_armed free.1 in
+    omega (arith, h, none)
+
+-- one less where a piece was
+pub clear_count : (slots : List (Option Armed)) (tag : ℕ) (armed : Armed) → tag < length slots → armed_at slots tag ≡ Some armed → armed_count (slice_set slots tag None) + 1 ≡ armed_count slots
+clear_count slots tag armed low there =
+    let h : armed_count (slice_set slots tag None) + one_if_armed (get_or slots tag None) ≡ armed_count slots + 0 = sum_by-set one_if_armed slots tag None None low in
+    let one : one_if_armed (get_or slots tag None) ≡ 1 = ap one_if_armed there in
+    omega (arith, h, one)
+
+-- the same where none was
+pub same_count : (slots : List (Option Armed)) (tag : ℕ) → tag < length slots → armed_at slots tag ≡ None → armed_count (slice_set slots tag None) ≡ armed_count slots
+same_count slots tag low none =
+    let h : armed_count (slice_set slots tag None) + one_if_armed (get_or slots tag None) ≡ armed_count slots + 0 = sum_by-set one_if_armed slots tag None None low in
+    let zero_there : one_if_armed (get_or slots tag None) ≡ 0 = ap one_if_armed none in
+    omega (arith, h, zero_there)

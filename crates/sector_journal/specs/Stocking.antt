@@ -1,0 +1,26 @@
+-- The buffers of pieces that may yet be armed.
+use Rattle.std.specs.Prelude.{◌≡◌, ℕ, ◌+◌, List, [], ◌∷◌, length, Bool, ◌==◌, if◌then◌else◌}
+use Rattle.sector_journal.specs.declared.shelf.Buffers.{Buffers}
+
+-- for so many pieces of so many bytes there are buffers
+pub record Room : Type 0 where
+  pub bytes : ℕ
+  pub pieces : ℕ
+
+-- two buffers of this length
+pub record IsOfLength (buffers : Buffers) (long : ℕ) : Type 0 where
+  pub data_is : length buffers.data ≡ long
+  pub label_is : length buffers.for_label ≡ long
+
+-- the buffers of one piece are taken
+pub record TakesOne (old new : Room) : Type 0 where
+  pub same : new.bytes ≡ old.bytes
+  pub less : new.pieces + 1 ≡ old.pieces
+
+-- for how many pieces of this length there are buffers: as the first line for that length says
+abbrev pub pieces_at : List Room → ℕ → ℕ
+pieces_at [] long = 0
+pieces_at (room ∷ rooms) long = if room.bytes == long then room.pieces else pieces_at rooms long
+
+abbrev pub is_for : ℕ → Room → Bool
+is_for long room = room.bytes == long

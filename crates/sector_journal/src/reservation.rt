@@ -1,0 +1,118 @@
+//! What a request may move, and the pieces that it may be cut into.
+
+ghost use Rattle.std.specs.Prelude.{◌≡◌, ◌≤◌, ◌<◌, ◌+◌, ◌*◌, ◌/◌, ◌%◌, min, ◌^◌, ◌&&◌, ◌||◌};
+ghost use Rattle.sector_journal.specs.Reserving.{covers, is_flush, is_read, is_same, is_write, lies_in, pieces_of};
+
+use sector::Extent;
+use srb::Kind;
+
+/// What an open request may move.
+#[derive(Debug, Clone, Copy, PartialEq, Eq)]
+pub struct Reservation {
+    /// The request, by whatever number its caller gave it.
+    pub request: u64,
+    pub kind: Kind,
+    /// On the disk; of a flush it says nothing.
+    pub extent: Extent,
+    /// The most sectors of a piece, at least 1.
+    pub max_transfer: u32,
+}
+
+/// So many pieces of one length.
+#[derive(Debug, Clone, Copy, PartialEq, Eq)]
+pub(crate) struct Batch {
+    pub pieces: usize,
+    /// In bytes.
+    pub length: usize,
+}
+
+fn is_read(kind: Kind) -> bool
+    ensures { result ≡ is_read kind }
+{
+    match kind {
+        Kind::Read => true,
+        Kind::Write | Kind::Flush => false,
+    }
+}
+
+pub(crate) fn is_write(kind: Kind) -> bool
+    ensures { result ≡ is_write kind }
+{
+    match kind {
+        Kind::Write => true,
+        Kind::Read | Kind::Flush => false,
+    }
+}
+
+fn is_flush(kind: Kind) -> bool
+    ensures { result ≡ is_flush kind }
+{
+    match kind {
+        Kind::Flush => true,
+        Kind::Read | Kind::Write => false,
+    }
+}
+
+fn is_same(kind: Kind, other: Kind) -> bool
+    ensures { result ≡ is_same kind other }
+{
+    match kind {
+        Kind::Read => is_read(other),
+        Kind::Write => is_write(other),
+        Kind::Flush => is_flush(other),
+    }
+}
+
+/// Whether each sector of an extent is one of another's.
+fn lies_in(extent: Extent, other: Extent) -> bool
+    ensures { result ≡ lies_in extent other }
+{
+    other.first <= extent.first
+        && extent.count <= other.count
+        && extent.first - other.first <= other.count - extent.count
+}
+
+impl Reservation {
+    /// Whether a piece of this kind and extent may be one of the request's.
+    pub fn covers(&self, kind: Kind, extent: Extent) -> bool
+        ensures { result ≡ covers kind extent self.now }
+    {
+        is_same(kind, self.kind) && (is_flush(kind) || lies_in(extent, self.extent))
+    }
+
+    /// The pieces of full length, and the piece of what is left, if there is one: of a flush this is the only one.
+    pub(crate) fn batches(&self, sector_size: u32) -> (Batch, Batch)
+        requires { 1 ≤ self.now.max_transfer }
+        ensures { result.0.pieces + result.1.pieces ≡ pieces_of self.now }
+    {
+        let most = self.max_transfer as u64;
+        let size = sector_size as u64;
+        match self.kind {
+            Kind::Read => cut(self.extent.count, most, size),
+            Kind::Write => cut(self.extent.count, most, size),
+            Kind::Flush => (make_batch(0, 0), make_batch(1, 0)),
+        }
+    }
+}
+
+fn make_batch(pieces: u64, length: u64) -> Batch
+    ensures { result.pieces ≡ pieces }
+{
+    Batch {
+        pieces: pieces as usize,
+        length: length as usize,
+    }
+}
+
+fn cut(count: u64, most: u64, size: u64) -> (Batch, Batch)
+    requires some { 1 ≤ most }
+    requires most { most < 2 ^ 32 }
+    requires size { size < 2 ^ 32 }
+    ensures { result.0.pieces + result.1.pieces ≡ count / most + min (count % most) 1 }
+{
+    let left = count % most;
+    (
+        make_batch(count / most, most * size),
+        make_batch(left.min(1), left * size),
+    )
+}

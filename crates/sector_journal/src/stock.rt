@@ -1,0 +1,89 @@
+//! The buffers of pieces that may yet be armed.
+
+ghost use Rattle.std.specs.Prelude.{◌≡◌, ◌≤◌, ◌<◌, ◌+◌, ℕ, [], MatchOption, length};
+ghost use Rattle.std.specs.List.{position};
+ghost use Rattle.sector_journal.specs.Stocking.{IsOfLength, is_for, pieces_at};
+
+use crate::reservation::Batch;
+use crate::shelf::{Buffers, Shelf};
+use std::alloc::{AllocError, Global};
+use std::marker::Model;
+
+/// The buffers that armings have yet to take, by their length.
+#[derive(Debug, Drop)]
+pub(crate) struct Stock {
+    alloc: Global,
+    shelves: Vec<Shelf>,
+}
+
+impl Model for Stock {
+    ghost use Rattle.std.specs.Prelude.{List};
+    ghost use Rattle.sector_journal.specs.Stocking.{Room};
+
+    ghost Value = { List Room };
+
+    ghost view = { λ s. s.shelves.items };
+}
+
+impl Stock {
+    pub fn new(alloc: Global) -> Stock
+        ensures { result ≡ [] }
+    {
+        Stock {
+            alloc,
+            shelves: Vec::new(alloc),
+        }
+    }
+
+    fn find(&self, length: usize) -> Option<usize>
+        ensures { result ≡ position (is_for length) self.now }
+    {
+        self.shelves
+            .iter()
+            .position(|shelf| shelf.length() == length)
+    }
+
+    /// Makes the buffers of these pieces; `out` pieces of their length have theirs.
+    pub fn promise(&mut self, batch: Batch, out: usize) -> Result<(), AllocError> {
+        if batch.pieces == 0 {
+            return Ok(());
+        }
+        let at = match self.find(batch.length) {
+            Some(at) => at,
+            None => {
+                self.shelves.push(Shelf::new(self.alloc, batch.length))?;
+                self.shelves.len() - 1
+            }
+        };
+        self.shelves[at].promise(self.alloc, batch.pieces, out)
+    }
+
+    /// These pieces won't come any more.
+    pub fn withdraw(&mut self, batch: Batch, out: usize) {
+        let Some(at) = self.find(batch.length) else {
+            return;
+        };
+        self.shelves[at].withdraw(batch.pieces, out);
+        if self.shelves[at].is_spent() {
+            self.shelves.remove(at);
+        }
+    }
+
+    /// Two buffers of this length, if a piece may have them.
+    pub fn take(&mut self, length: usize) -> Option<Buffers>
+        ensures { MatchOption result ((pieces_at self.old length ≡ 0) × (self.new ≡ self.old)) (λ b. IsOfLength b length × (pieces_at self.new length + 1 ≡ pieces_at self.old length)) }
+    {
+        let at = self.find(length)?;
+        self.shelves[at].take()
+    }
+
+    /// The buffers of a piece that won't act.
+    pub fn put(&mut self, buffers: Buffers)
+        requires { length buffers.for_label ≡ length buffers.data }
+        ensures { (long : ℕ) → pieces_at self.old long ≤ pieces_at self.new long }
+    {
+        if let Some(at) = self.find(buffers.data.len()) {
+            self.shelves[at].put(buffers);
+        }
+    }
+}
