@@ -1,5 +1,20 @@
 //! The act of a tag's piece: in the journal first, and then in the stack, as it was booked there.
 
+ghost use Rattle.std.specs.Prelude.{◌≡◌, [], MatchOption};
+ghost use Rattle.srb.specs.declared.Srb.{Srb as SrbView};
+ghost use Rattle.srb.specs.declared.Entry.{Entry};
+ghost use Rattle.srb.specs.declared.Completion.{Completion as CompletionView};
+ghost use Rattle.std.specs.Prelude.{Result as ResultOf};
+ghost use Rattle.adapter.specs.Calls.{HasNoneFresh};
+ghost use Rattle.adapter.specs.Booking.{IsArmed};
+ghost use Rattle.io_manager.specs.Right.{BooksPiece};
+ghost use Rattle.compose.specs.declared.Event.TheVariants.{Act};
+ghost use Rattle.journaled.specs.Acting.{BooksArmed, CameTo, IsNumbered, IsThat};
+ghost use Rattle.journaled.specs.Right.{StepsBooked};
+ghost use Rattle.journaled.specs.Shown.{StandsIn, over};
+ghost use Rattle.journaled.specs.Told.{TellsOn};
+
+use crate::laws::laws_of_entries;
 use compose::{Event, Reply, Stack};
 use disk::Medium;
 use miniport::BookedAdapter;
@@ -26,7 +41,9 @@ fn enter<M: Medium, N: Naming>(
     tag: u8,
     piece: u128,
     srb: &Srb,
-) -> Result<u64, Completion> {
+) -> Result<u64, Completion>
+    ensures { CameTo journal.old tag piece srb.now result journal.new }
+{
     if !journal.arm(history, tag, piece, srb) {
         return Err(HARDWARE_ERROR);
     }
@@ -42,7 +59,9 @@ fn transfer<M: Medium, N: Naming>(
     journal: &mut Journal<M, N>,
     history: &History<N>,
     tag: u8,
-) -> Option<(u128, Result<u64, Completion>)> {
+) -> Option<(u128, Result<u64, Completion>)>
+    ensures { MatchOption result (HasNoneFresh stack.now.adapter tag × (journal.new ≡ journal.old)) (λ done. (srb : SrbView) × IsArmed stack.now.adapter tag done.0 srb × CameTo journal.old tag done.0 srb done.1 journal.new) }
+{
     let (piece, srb) = stack.armed(tag)?;
     Some((piece, enter(journal, history, tag, piece, srb)))
 }
@@ -54,10 +73,28 @@ fn book<M: Medium, N: Naming>(
     tag: u8,
     piece: u128,
     done: Result<u64, Completion>,
-) {
+)
+    requires there { IsNumbered journal.now.entries done }
+    ensures { (what : ResultOf Entry CompletionView) × IsThat journal.now.entries done what × BooksPiece stack.old tag piece what stack.new }
+{
     match done {
         Ok(number) => stack.book(tag, piece, Ok(&journal.entries()[number as usize])),
         Err(completion) => stack.book(tag, piece, Err(completion)),
+    }
+}
+
+/// The piece of a tag acts in the journal, if one could act, and what came of it is booked.
+fn book_armed<M: Medium, N: Naming>(
+    stack: &mut Stack<BookedAdapter>,
+    journal: &mut Journal<M, N>,
+    history: &History<N>,
+    tag: u8,
+)
+    requires stands { StandsIn stack.old journal.old }
+    ensures { BooksArmed stack.old journal.old tag stack.new journal.new }
+{
+    if let Some((piece, done)) = transfer(stack, journal, history, tag) {
+        book(stack, journal, tag, piece, done);
     }
 }
 
@@ -68,9 +105,16 @@ pub(crate) fn act<M: Medium, N: Naming>(
     history: &History<N>,
     alloc: Global,
     tag: u8,
-) -> Reply {
-    if let Some((piece, done)) = transfer(stack, journal, history, tag) {
-        book(stack, journal, tag, piece, done);
-    }
+) -> Reply
+    requires taken { stack.old.labels ≡ [] }
+    requires stands { StandsIn stack.old journal.old }
+    ensures right { StepsBooked stack.old (Act tag) result stack.new }
+    ensures rules { stack.new.rules ≡ stack.old.rules }
+    ensures stands { StandsIn stack.new journal.new }
+    ensures told { TellsOn (over stack.old journal.old) (over stack.new journal.new) }
+{
+    laws_of_entries();
+    book_armed(stack, journal, history, tag);
+    stack.shows_whole();
     stack.step(alloc, Event::Act { tag })
 }

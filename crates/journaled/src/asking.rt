@@ -1,5 +1,14 @@
 //! The events that are no act: where one opens a request, the journal has room for it first.
 
+ghost use Rattle.std.specs.Prelude.{◌≡◌, ◌≤◌, [], MatchOption};
+ghost use Rattle.io_manager.specs.declared.Refusal.TheVariants.{InsufficientResources};
+ghost use Rattle.io_manager.specs.declared.Reply.TheVariants.{Refused as RefusedReply};
+ghost use Rattle.compose.specs.Journaled.{IsNoAct};
+ghost use Rattle.journaled.specs.Right.{IsServed, bytes_of};
+ghost use Rattle.journaled.specs.Shown.{StandsIn, over};
+ghost use Rattle.journaled.specs.Told.{TellsOn};
+
+use crate::laws::laws_of_entries;
 use compose::{Event, Refusal, Reply, Stack};
 use disk::Medium;
 use miniport::BookedAdapter;
@@ -54,7 +63,9 @@ fn asked_by(stack: &Stack<BookedAdapter>, event: &Event) -> Option<Asked> {
 }
 
 /// The refusal of an event for want of memory, with the caller's bytes.
-fn refused(alloc: Global, event: Event) -> Reply {
+fn refused(alloc: Global, event: Event) -> Reply
+    ensures { result ≡ RefusedReply InsufficientResources (bytes_of event) }
+{
     let bytes = match event {
         Event::Read { buffer, .. } => buffer,
         Event::Write { bytes, .. } => bytes,
@@ -75,7 +86,17 @@ pub(crate) fn carry<M: Medium, N: Naming>(
     number: u64,
     max_transfer: u32,
     event: Event,
-) -> Reply {
+) -> Reply
+    requires taken { stack.old.labels ≡ [] }
+    requires stands { StandsIn stack.old journal.old }
+    requires some { 1 ≤ max_transfer }
+    requires no_act { IsNoAct event }
+    ensures right { IsServed (over stack.old journal.old) event result (over stack.new journal.new) }
+    ensures rules { stack.new.rules ≡ stack.old.rules }
+    ensures stands { StandsIn stack.new journal.new }
+    ensures told { TellsOn (over stack.old journal.old) (over stack.new journal.new) }
+{
+    laws_of_entries();
     let Some(Asked { kind, extent }) = asked_by(stack, &event) else {
         return stack.step(alloc, event);
     };

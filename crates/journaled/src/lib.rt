@@ -8,5 +8,6 @@
 mod acting;
 mod asking;
 mod journaled;
+mod laws;
 
 pub use crate::journaled::Journaled;
