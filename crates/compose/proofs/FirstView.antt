@@ -1,7 +1,7 @@
 -- What a stack shows before its first event: the opening of each layer over the one below.
 use Rattle.std.proofs.Common.{◌≡◌, ◌<◌, ◌≤◌, ℕ, List, [], Ok, refl, sym, ◌∙◌, ap, subst, map, length, arith}
 use Rattle.sector.specs.declared.Extent.{Extent}
-use Rattle.adapter.specs.View.{AdapterView}
+use Rattle.adapter.specs.View.{AdapterView, IsInOrder}
 use Rattle.machine.specs.Map.{IsMap}
 use Rattle.sector.specs.Extents.{sectors_in}
 use Rattle.machine.specs.State.{opening}
@@ -15,6 +15,7 @@ use Rattle.probe.specs.Exchange.{IsSameDisk}
 use Rattle.probe.specs.Probing.{IsProbed, IsReadBy, asked_by_probe}
 use Rattle.io_manager.specs.declared.Limits.{Limits}
 use Rattle.io_manager.specs.Shown.{ManagerView}
+use Rattle.io_manager.specs.Sound.{AreFirsts}
 use Rattle.io_manager.specs.Opening.{IsUnasked, AreFor, IsFirstView as IsFirstManager}
 use Rattle.compose.specs.declared.Settings.{Settings}
 use Rattle.compose.specs.Opening.{AreInRange, IsFirstView, first_rules}
@@ -48,6 +49,21 @@ module _ (disk v : AdapterView) (settings : Settings) (in_range : AreInRange set
         many = omega arith;
         no_labels = same.idle.no_labels;
       })
+
+      -- what the probe and the adapter tell are the limits of a manager over them
+      pub limits_for : IsInOrder v → (limits : Limits) → limits.sector_size ≡ probed.sector_size → limits.max_transfer ≡ v.max_transfer → limits.open_requests ≡ settings.open_requests
+          → AreFirsts limits.first_sectors probed.partitions.items → AreFor t limits
+      limits_for order limits sector_size max_transfer open_requests firsts =
+          let some_transfer : 1 ≤ v.max_transfer = order.max_transfer.0 in
+          let some_open : 1 ≤ settings.open_requests = in_range.open_requests.0 in
+          let few_open : settings.open_requests ≤ 64 = in_range.open_requests.1 in
+          subst (λ (b : DeviceView). AreFor b limits) (sym layers_are) (record {
+            sector_size = sector_size ∙ are.sector_size ∙ sym same.sector_size;
+            max_transfer = max_transfer;
+            some_transfer = omega arith;
+            firsts = firsts;
+            some_open = (omega arith, omega arith);
+          })
 
       pub first_view : (limits : Limits) → limits.open_requests ≡ settings.open_requests → IsReadBy disk v → (view : ManagerView)
           → IsFirstManager limits t view → IsFirstView disk settings view

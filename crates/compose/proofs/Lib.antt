@@ -3,6 +3,7 @@ pub mod Lawful
 pub mod FirstView
 pub mod Faulting
 pub mod StepLaws
+pub mod OpensAsTold
 pub mod Journaled
 pub mod JournaledStep
 pub mod JournaledOthers

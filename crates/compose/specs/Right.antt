@@ -1,10 +1,11 @@
--- When a step is right: by what the I/O manager promises of the call that the event stands for.
-use Rattle.std.specs.Prelude.{◌≡◌, [], false}
+-- When a step is right, and what it would open: by what the I/O manager promises of the call that the event stands for.
+use Rattle.std.specs.Prelude.{◌≡◌, ℕ, [], false, Option, None}
+use Rattle.sector.specs.declared.Extent.{Extent}
 use Rattle.srb.specs.declared.Kind.TheVariants.{Read, Write, Flush}
 use Rattle.io_manager.specs.declared.Reply.{Reply}
 use Rattle.io_manager.specs.declared.Reply.TheVariants.{Ok as OkReply}
 use Rattle.io_manager.specs.Shown.{ManagerView}
-use Rattle.io_manager.specs.Calls.{call_on}
+use Rattle.io_manager.specs.Calls.{call_on, would_open}
 use Rattle.io_manager.specs.Right.{IsRight as IsRightCall, IsRightReset, OpenReplies, CloseReplies, CallReplies, CancelReplies, MarkReplies, QueryReplies, RecallReplies, RemoveReplies, SurpriseReplies, ActReplies, FinishReplies}
 use Rattle.compose.specs.declared.Event.{Event}
 use Rattle.compose.specs.declared.Event.TheVariants.{Open, Close, Read as ReadEvent, Write as WriteEvent, Flush as FlushEvent, CancelIoEx, Mark, QueryRemove, CancelRemove, Remove, SurpriseRemove, Act, Finish, Reset}
@@ -25,3 +26,10 @@ IsRight old SurpriseRemove reply new = IsRightCall (SurpriseReplies old reply ne
 IsRight old (Act tag) reply new = IsRightCall (ActReplies old tag reply new) old new
 IsRight old (Finish tag) reply new = IsRightCall (FinishReplies old tag reply new) old new
 IsRight old Reset reply new = (reply ≡ OkReply) × IsRightReset old new
+
+-- what the next call of this event would open, if anything: the number of pieces, and its sectors of the disk
+abbrev pub opened_by : ManagerView → Event → Option (ℕ × Extent)
+opened_by v (ReadEvent handle offset buffer) = would_open v (call_on v handle Read offset buffer false)
+opened_by v (WriteEvent handle offset bytes through) = would_open v (call_on v handle Write offset bytes through)
+opened_by v (FlushEvent handle) = would_open v (call_on v handle Flush 0 [] false)
+opened_by v _ = None

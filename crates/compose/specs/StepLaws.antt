@@ -1,15 +1,19 @@
 -- Laws of every right step, for who keeps the trace of a stack.
-use Rattle.std.specs.Prelude.{◌≡◌, ◌⊎◌, ℕ, List, [], ◌∷◌, All, Contains}
+use Rattle.std.specs.Prelude.{◌≡◌, ◌⊎◌, ℕ, List, [], ◌∷◌, All, Contains, MatchOption}
 use Rattle.ntstatus.specs.declared.NtStatus.{NtStatus}
+use Rattle.sector.specs.declared.Extent.{Extent}
+use Rattle.machine.specs.declared.ClientRequest.{ClientRequest}
 use Rattle.machine.specs.declared.Label.{Label}
 use Rattle.machine.specs.declared.Label.TheVariants.{Call, Answer as AnswerLabel}
+use Rattle.machine.specs.Rules.{Rules}
 use Rattle.io_manager.specs.declared.Reply.{Reply}
-use Rattle.io_manager.specs.declared.Reply.TheVariants.{Refused, Answered}
+use Rattle.io_manager.specs.declared.Reply.TheVariants.{Request as Requested, Refused, Answered}
 use Rattle.io_manager.specs.declared.Refusal.TheVariants.{InsufficientResources}
 use Rattle.io_manager.specs.Shown.{ManagerView}
+use Rattle.io_manager.specs.Calls.{opened_as}
 use Rattle.compose.specs.declared.Event.{Event}
 use Rattle.compose.specs.declared.Event.TheVariants.{Read, Write, Flush}
-use Rattle.compose.specs.Right.{IsRight}
+use Rattle.compose.specs.Right.{IsRight, opened_by}
 
 -- a read, a write or a flush
 abbrev pub IsTransferEvent : Event → Type 0
@@ -50,3 +54,26 @@ StepsLeaveAnswers =
     (old : ManagerView) (event : Event) (reply : Reply) (new : ManagerView) (number : ℕ) (status : NtStatus) (informed : ℕ) (bytes : List ℕ)
     → IsRight old event reply new → Contains new.labels (AnswerLabel number status informed bytes)
     → IsAnsweredBy reply ⊎ Contains new.answers (record { number = number; status = status; information = informed; bytes = bytes })
+
+-- the request whose call the step tells under this number opens as so many pieces, on these sectors of the disk
+pub record OpensAs (rules : Rules) (told : ℕ × Extent) (number : ℕ) (labels : List Label) : Type 0 where
+  pub q : ClientRequest
+  pub is_called : Contains labels (Call number q)
+  pub as_told : opened_as rules q ≡ told
+
+-- the call opened what was told, or memory for it was refused
+abbrev pub OpensOrLacksMemory : ManagerView → ℕ × Extent → Reply → ManagerView → Type 0
+OpensOrLacksMemory old told (Requested id) new = OpensAs old.rules told id.number new.labels
+OpensOrLacksMemory old told (Refused InsufficientResources bytes) new = Unit {0}
+OpensOrLacksMemory old told _ new = ⊥
+
+-- no request is open
+abbrev pub OpensNone : Reply → Type 0
+OpensNone (Requested id) = ⊥
+OpensNone _ = Unit {0}
+
+-- a call opens what was told of it, unless memory is refused; where nothing is told, it opens nothing
+abbrev pub StepsOpenAsTold : Type 0
+StepsOpenAsTold =
+    (old : ManagerView) (event : Event) (reply : Reply) (new : ManagerView) → IsRight old event reply new
+    → MatchOption (opened_by old event) (OpensNone reply) (λ told. OpensOrLacksMemory old told reply new)

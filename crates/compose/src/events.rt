@@ -4,12 +4,13 @@ ghost use Rattle.std.specs.Prelude.{◌≡◌, ◌≤◌, [], MatchResult};
 ghost use Rattle.std.specs.VecDeque.{deque_capacity};
 ghost use Rattle.machine.specs.Settled.{Settled, IsFinished};
 ghost use Rattle.io_manager.specs.Right.{FitsTogether};
-ghost use Rattle.compose.specs.Right.{IsRight};
+ghost use Rattle.compose.specs.Right.{IsRight, opened_by};
 ghost use Rattle.compose.specs.Runs.{Carries, CarriesAll, IsLawful, RunsAreQuietOnceRemoved, RunsObeyLaws, StopsAfter};
 
 use crate::{Event, Reply, RunStopped, Shown};
-use device::{Hold, Label};
+use device::{Hold, Kind, Label};
 use io_manager::IoManager;
+use sector::Extent;
 use std::alloc::Global;
 use std::collections::VecDeque;
 
@@ -52,6 +53,27 @@ pub(crate) fn step<D: Hold>(manager: &mut IoManager<D>, alloc: Global, event: Ev
     };
     manager.shows_whole();
     reply
+}
+
+/// What the next call of an event would open, if anything: the number of pieces, and the sectors of the disk.
+pub(crate) fn admits<D: Hold>(manager: &IoManager<D>, event: &Event) -> Option<(u64, Extent)>
+    ensures { result ≡ opened_by manager.now event.now }
+{
+    match event {
+        Event::Read {
+            handle,
+            offset,
+            buffer,
+        } => manager.admits(*handle, Kind::Read, *offset, buffer.len() as u64),
+        Event::Write {
+            handle,
+            offset,
+            bytes,
+            through: _,
+        } => manager.admits(*handle, Kind::Write, *offset, bytes.len() as u64),
+        Event::Flush { handle } => manager.admits(*handle, Kind::Flush, 0, 0),
+        _ => None,
+    }
 }
 
 /// Carries events out one after another, and gives the reply and the labels of each, which are then taken. All labels of

@@ -3,7 +3,7 @@
 ghost use Rattle.compose.specs.Journaled.{
     ArmedMayBeBooked, BookedActsAddEntries, IdleActsKeepEntries, StepsKeepEntries, StepsStayApart,
 };
-ghost use Rattle.compose.specs.StepLaws.{StepsCallOnce, StepsLeaveAnswers, StepsTakeNoMemory};
+ghost use Rattle.compose.specs.StepLaws.{StepsCallOnce, StepsLeaveAnswers, StepsOpenAsTold, StepsTakeNoMemory};
 
 /// Among the labels of a step is one call at most. It comes first, and only a read, a write or a flush brings it.
 pub fn steps_call_once()
@@ -44,4 +44,10 @@ pub fn armed_may_be_booked()
 /// Where an adapter's sectors stand elsewhere, they do so after each step.
 pub fn steps_stay_apart()
     ensures { StepsStayApart }
+{}
+
+/// A step opens a request just where [`crate::Stack::admits`] tells before it what would be opened, and opens what was
+/// told, unless memory is refused.
+pub fn steps_open_as_told()
+    ensures { StepsOpenAsTold }
 {}

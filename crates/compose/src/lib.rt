@@ -5,8 +5,9 @@
 //! labels are a run of the sector machine, that the adapter moved by just the device labels among them, and that the stack
 //! is settled after it; by that of [`Stack::run`] (`lawful`), that the labels of many events obey the laws of whole runs;
 //! and by that of [`Stack::start`] (`view`, `fault`), that a stack begins with the sectors of the partitions that the
-//! disk's table gives. An event is one call of the I/O manager, so step and run are proved over any device that holds. It
-//! does not promise that a request completes, nor an order between requests that overlap.
+//! disk's table gives. [`Stack::admits`] tells beforehand what a call opens ([`steps_open_as_told`]). An event is one call
+//! of the I/O manager, so step and run are proved over any device that holds. It does not promise that a request
+//! completes, nor an order between requests that overlap.
 #![tactic(auto)]
 
 mod events;
@@ -18,7 +19,7 @@ use device::Label;
 pub use io_manager::{Answer, Handle, Id, OpenHandle, Refusal, Reply};
 pub use laws::{
     armed_may_be_booked, booked_acts_add_entries, idle_acts_keep_entries, steps_call_once,
-    steps_keep_entries, steps_leave_answers, steps_stay_apart, steps_take_no_memory,
+    steps_keep_entries, steps_leave_answers, steps_open_as_told, steps_stay_apart, steps_take_no_memory,
 };
 pub use mbr::MbrFault;
 use ntstatus::NtStatus;

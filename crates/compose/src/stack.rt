@@ -8,7 +8,7 @@ ghost use Rattle.machine.specs.Settled.{Settled, IsFinished};
 ghost use Rattle.machine_laws.specs.Reached.{IsReached};
 ghost use Rattle.probe.specs.Exchange.{IsIdle};
 ghost use Rattle.io_manager.specs.Right.{BooksPiece, FitsTogether, TakesAnswer, TakesAnswerOf, TakesLabel as TakesFirst};
-ghost use Rattle.compose.specs.Right.{IsRight};
+ghost use Rattle.compose.specs.Right.{IsRight, opened_by};
 ghost use Rattle.compose.specs.Opening.{IsFirstView, IsSpent};
 ghost use Rattle.compose.specs.Runs.{CarriesAll, IsLawful, StopsAfter};
 
@@ -16,6 +16,7 @@ use crate::start::{Manager, manager_over};
 use crate::{Answer, Event, Reply, RunStopped, Settings, Shown, StartFault, events};
 use device::Label;
 use adapter::Adapter;
+use sector::Extent;
 use srb::{Completion, Entry, Srb};
 use std::alloc::Global;
 use std::marker::Model;
@@ -73,6 +74,18 @@ impl<A: Adapter> Stack<A> {
         ensures whole { FitsTogether self.new }
     {
         events::step(&mut self.manager, alloc, event)
+    }
+
+    /// What a read, a write or a flush would open if it were the next event: the number of pieces that its request is cut
+    /// into, and its sectors of the disk, in order. A flush has one piece, and an empty extent where its partition begins.
+    /// It takes no memory.
+    ///
+    /// None where it would be refused or asks for no bytes, once request numbers are used up, and for every other event.
+    /// A step of the event then opens just this, unless memory is refused ([`crate::steps_open_as_told`]).
+    pub fn admits(&self, event: &Event) -> Option<(u64, Extent)>
+        ensures { result ≡ opened_by self.now event.now }
+    {
+        events::admits(&self.manager, event)
     }
 
     /// The piece on a tag that could act, with its SRB.

@@ -1,9 +1,10 @@
 //! How a stack starts: what its adapter tells, and the layers over it.
 
-ghost use Rattle.std.specs.Prelude.{◌≡◌, ◌↔◌, IfOk, IfErr, OnOk, IsTrue};
+ghost use Rattle.std.specs.Prelude.{◌≡◌, ◌≤◌, ◌↔◌, length, IfOk, IfErr, OnOk, IsTrue};
 ghost use Rattle.adapter.specs.View.{IsInOrder};
 ghost use Rattle.probe.specs.Exchange.{IsIdle, IsSameDisk};
 ghost use Rattle.probe.specs.Probing.{IsProbed, IsReadBy, asked_by_probe};
+ghost use Rattle.io_manager.specs.Sound.{AreFirsts};
 ghost use Rattle.compose.specs.Opening.{AreInRange, IsFirstView, IsSpent, IsStartFault};
 
 use crate::{Settings, StartFault};
@@ -14,6 +15,7 @@ use adapter::Adapter;
 use partition::Partitions;
 use port::{Port, PortRoom};
 use probe::{ProbeFault, Probed, probe};
+use sector::Extent;
 use std::alloc::{AllocError, Global};
 
 impl From<AllocError> for StartFault {
@@ -77,6 +79,18 @@ fn prepare<A: Adapter>(
     Ok(probed)
 }
 
+/// The sector of the disk where each partition begins.
+fn first_sectors_of(partitions: &[Extent]) -> [u64; 4]
+    requires few { length partitions.now ≤ 4 }
+    ensures { AreFirsts result partitions.now }
+{
+    let mut firsts = [0; 4];
+    for (partition, extent) in partitions.iter().enumerate() {
+        firsts[partition] = extent.first;
+    }
+    firsts
+}
+
 /// The manager of the partitions over a hold filter, the class driver and a port.
 pub(crate) type Manager<A> = IoManager<
     Partitions<Filter<Disk<Port<A>, PortRoom>, DiskRoom<PortRoom>>>,
@@ -98,13 +112,17 @@ pub(crate) fn manager_over<A: Adapter>(
     ensures fault { IfErr result (λ fault. (spent : A) × IsSpent (A.view adapter) settings fault (A.view spent)) }
 {
     let probed = prepare(alloc, &mut adapter, settings)?;
+    let max_transfer = adapter.max_transfer();
+    let first_sectors = first_sectors_of(probed.partitions.as_slice());
     let port = Port::new(alloc, adapter)?;
     let disk = Disk::new(alloc, port, probed.sector_size as u32);
     let filter = Filter::new(alloc, disk, settings.window as usize);
     let partitions = Partitions::new(filter, probed.partitions);
     let limits = Limits {
         sector_size: probed.sector_size,
+        max_transfer,
         open_requests: settings.open_requests,
+        first_sectors,
     };
     let manager = IoManager::new(alloc, partitions, limits)?;
     Ok(manager)

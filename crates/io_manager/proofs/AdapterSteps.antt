@@ -25,7 +25,7 @@ use Rattle.io_manager.proofs.AdapterJoins.{labels_moved, reset_joined}
 use Rattle.io_manager.proofs.Outside.{noted_inside}
 use Rattle.io_manager.proofs.Labelled.{act_settled, faults_settled, labels_collected}
 use Rattle.io_manager.proofs.Askings.{asks_same, as_many, run_keeps}
-use Rattle.io_manager.proofs.Fitted.{no_length}
+use Rattle.io_manager.proofs.Fitted.{FitsBelow-same, no_length}
 use Rattle.io_manager.proofs.Quiet.{IsRightBy-unmoved}
 use Rattle.io_manager.proofs.Righting.{IsServed, told_by, right_by, stays, have_partitions, IsSound-moves}
 use Rattle.io_manager.proofs.Stepping.{ManagerKept-collected}
@@ -141,7 +141,7 @@ pub reset_sound : (limits : Limits) (below : DeviceView) (tables : Tables) (belo
 reset_sound limits below tables below1 sound r =
     let s : IsSound limits (record below1 { adapter = r.all_faulted }) tables = IsSound-moves limits below tables (map fault_of r.fresh) (record below1 { adapter = r.all_faulted }) sound r.moves in
     record {
-      fits = record { sector_size = s.fits.sector_size; some_bytes = s.fits.some_bytes; some_open = s.fits.some_open; many = s.fits.many };
+      fits = FitsBelow-same limits (record below1 { adapter = r.all_faulted }) below1 refl refl s.fits;
       numbers = record { requests = s.numbers.requests; handles = s.numbers.handles; rising = s.numbers.rising; submitted = s.numbers.submitted };
       held = s.held;
       few = s.few;

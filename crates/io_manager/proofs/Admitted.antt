@@ -32,6 +32,7 @@ use Rattle.io_manager.proofs.Chained.{AreChained-more}
 use Rattle.io_manager.proofs.Numbered.{AreNumbered-more}
 use Rattle.io_manager.proofs.Counted.{AreCounted-more}
 use Rattle.io_manager.proofs.Askings.{KeepsAsked-same, asks_same, AreHeld-along}
+use Rattle.io_manager.proofs.Fitted.{FitsBelow-same}
 use Rattle.io_manager.proofs.Righting.{IsSound-moves}
 use Rattle.io_manager.proofs.Handing.{numbers_last}
 use Rattle.io_manager.proofs.Fitting.{AsksBy, asks_whole, free_place}
@@ -223,7 +224,7 @@ module _ (limits : Limits) (below : DeviceView) (tables : Tables) (q : ClientReq
           let slots : tables1.requests.capacity ≡ tables.requests.capacity = admits.slots in
           let asks : AsksBy below.rules q limits.sector_size = asks_whole limits below tables q h k in
           record {
-            fits = record { sector_size = h.fits.sector_size; some_bytes = h.fits.some_bytes; some_open = h.fits.some_open; many = h.fits.many };
+            fits = FitsBelow-same limits below (record below { state = sends.submits.opened; packets = sends.packet ∷ below.packets; submitted = below.submitted + 1 }) refl refl h.fits;
             numbers = record { requests = omega arith; handles = h.numbers.handles; rising = omega arith; submitted = omega arith };
             held =
                 AreHeld-along tables1.requests

@@ -16,6 +16,7 @@ use Rattle.io_manager.specs.Inside.{WritesInside, AllWriteInside}
 use Rattle.io_manager.specs.Right.{BooksPiece}
 use Rattle.io_manager.specs.Shown.{ManagerView}
 use Rattle.io_manager.specs.Sound.{ManagerKept, IsSound, view_of}
+use Rattle.io_manager.proofs.Fitted.{FitsBelow-same}
 
 inside_with : (partitions : List Extent) (what : Result Entry Completion) (u : TagInUse) → WritesInside partitions u → WritesInside partitions (with_booked what u)
 inside_with partitions (Ok entry) u h = h
@@ -34,7 +35,7 @@ inside_by partitions tag piece what v v' false after all = subst (AllWriteInside
 
 sound_beside : (limits : Limits) (below : DeviceView) (tables : Tables) (adapter : AdapterView) → IsSound limits below tables → IsSound limits (record below { adapter = adapter }) tables
 sound_beside limits below tables adapter h = record {
-  fits = record { sector_size = h.fits.sector_size; some_bytes = h.fits.some_bytes; some_open = h.fits.some_open; many = h.fits.many };
+  fits = FitsBelow-same limits below (record below { adapter = adapter }) refl refl h.fits;
   numbers = record { requests = h.numbers.requests; handles = h.numbers.handles; rising = h.numbers.rising; submitted = h.numbers.submitted };
   held = h.held;
   few = h.few;

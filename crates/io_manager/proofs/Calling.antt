@@ -36,6 +36,7 @@ use Rattle.io_manager.specs.Right.{tells_nothing, IsRight, IsRightBy, CallReplie
 use Rattle.io_manager.specs.Sound.{rules_of, shown_state, is_gone, holder_of, view_of, WasGiven, AreApart, IsInState, IsSound, AsksInside, Collects, ManagerKept}
 use Rattle.io_manager.specs.Admitting.{request_of, HasCopies, Admits, KeepsAnswers, SendsDown, IsSent, IsAdmissible}
 use Rattle.io_manager.proofs.Refusing.{Calls-opened}
+use Rattle.io_manager.proofs.Fitted.{FitsBelow-same}
 use Rattle.io_manager.proofs.Righting.{IsServed, told_by, IsRightBy-served, have_partitions}
 use Rattle.io_manager.proofs.Outside.{HasPartition}
 use Rattle.io_manager.proofs.AdapterJoins.{labels_moved}
@@ -49,7 +50,7 @@ pub reserved_sound : (limits : Limits) (below : DeviceView) (tables : Tables) (b
     → IsSound limits below' tables'
 reserved_sound limits below tables below' tables' h reserves keeps =
     subst (λ b. IsSound limits b tables') (sym reserves.same) (subst (IsSound limits (record below { adapter = record below.adapter { reserved = below'.adapter.reserved } })) (sym keeps.after) (record {
-      fits = record { sector_size = h.fits.sector_size; some_bytes = h.fits.some_bytes; some_open = h.fits.some_open; many = h.fits.many };
+      fits = FitsBelow-same limits below (record below { adapter = record below.adapter { reserved = below'.adapter.reserved } }) refl refl h.fits;
       numbers = record { requests = h.numbers.requests; handles = h.numbers.handles; rising = h.numbers.rising; submitted = h.numbers.submitted };
       held = h.held;
       few = h.few;

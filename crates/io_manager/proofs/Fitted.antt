@@ -1,18 +1,22 @@
 -- What of the tables outlasts a move of the device below.
 use Rattle.std.proofs.Common.{◌≡◌, ◌≤◌, List, [], ◌∷◌, refl, sym, ◌∙◌, ap, subst, arith, length}
-use Rattle.std.specs.Prelude.{IsTrue, IsFalse}
+use Rattle.std.specs.Prelude.{All, IsTrue, IsFalse}
 use Rattle.machine.specs.Rules.{Rules}
 use Rattle.machine.specs.State.{State}
 use Rattle.device.specs.View.{DeviceView}
 use Rattle.pnp.specs.declared.State.{State as PnpState}
 use Rattle.pnp.specs.declared.State.TheVariants.{Started, RemovePending, Removing, Removed}
 use Rattle.io_manager.specs.declared.Limits.{Limits}
-use Rattle.io_manager.specs.Sound.{FitsBelow, IsInState}
+use Rattle.io_manager.specs.Sound.{AreFirsts, EndsInRange, FitsBelow, IsInState}
 
 pub FitsBelow-same : (limits : Limits) (below below' : DeviceView) → below'.rules ≡ below.rules → below'.most ≡ below.most → FitsBelow limits below → FitsBelow limits below'
 FitsBelow-same limits below below' rules most h = record {
   sector_size = h.sector_size ∙ ap (λ (r : Rules). r.sector_size) (sym rules);
   some_bytes = h.some_bytes;
+  max_transfer = h.max_transfer ∙ ap (λ (r : Rules). r.max_transfer) (sym rules);
+  some_transfer = h.some_transfer;
+  firsts = subst (λ (r : Rules). AreFirsts limits.first_sectors r.partitions) (sym rules) h.firsts;
+  ends = subst (λ (r : Rules). All EndsInRange r.partitions) (sym rules) h.ends;
   some_open = h.some_open;
   many = rw most h.many;
 }

@@ -58,7 +58,7 @@ known_is count (Some p) h known = known
 none_of : (size : ℕ) → 0 < size → 0 ≡ 0 / size * size
 none_of size some = sym (ap (λ n. n * size) (zero-div size) ∙ zero-mul size)
 
-no_sectors : (size : ℕ) → 0 < size → 0 / size ≡ 0
+pub no_sectors : (size : ℕ) → 0 < size → 0 / size ≡ 0
 no_sectors size some = zero-div size
 
 module _ (limits : Limits) (below : DeviceView) (tables : Tables) (q : ClientRequest) (h : IsSound limits below tables) (k : IsAdmissible (view_of limits below tables) q) where

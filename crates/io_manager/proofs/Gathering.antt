@@ -395,7 +395,7 @@ pub told_sound : (limits : Limits) (mid new : DeviceView) (t t' t'' : Tables) �
     → deque_capacity t'.labels ≡ deque_capacity t.labels → deque_capacity t'.answered ≡ deque_capacity t.answered → IsSound limits new t''
 told_sound limits mid new t t' t'' taken s kept none e removal label_places answer_places =
     subst (λ v. IsSound limits v t'') (sym taken) (subst (IsSound limits (unlabelled mid)) (sym (e.after ∙ ap (λ (x : Tables). record x { state = t''.state; labels = t''.labels }) kept)) (record {
-      fits = record { sector_size = s.fits.sector_size; some_bytes = s.fits.some_bytes; some_open = s.fits.some_open; many = s.fits.many };
+      fits = FitsBelow-same limits mid (unlabelled mid) refl refl s.fits;
       numbers = record { requests = s.numbers.requests; handles = s.numbers.handles; rising = s.numbers.rising; submitted = s.numbers.submitted };
       held = s.held;
       few = s.few;

@@ -22,7 +22,7 @@ use Rattle.device.specs.Served.{IsActOrFault, fault_of}
 use Rattle.io_manager.specs.declared.Limits.{Limits}
 use Rattle.io_manager.specs.declared.tables.Tables.{Tables}
 use Rattle.io_manager.specs.Sound.{IsSound, TakesLabels, Collects, holder_of}
-use Rattle.io_manager.proofs.Fitted.{no_length}
+use Rattle.io_manager.proofs.Fitted.{FitsBelow-same, no_length}
 use Rattle.io_manager.proofs.Quiet.{none_answered}
 
 -- STILL SETTLED
@@ -119,7 +119,7 @@ module _ (below : DeviceView) (tables : Tables) (below' : DeviceView) (tables' :
   labels_sound limits s =
       subst (λ v. IsSound limits v tables') (sym t.taken)
       (subst (IsSound limits (record below { adapter = record below.adapter { labels = [] } })) (sym t.after) (record {
-        fits = record { sector_size = s.fits.sector_size; some_bytes = s.fits.some_bytes; some_open = s.fits.some_open; many = s.fits.many };
+        fits = FitsBelow-same limits below (record below { adapter = record below.adapter { labels = [] } }) refl refl s.fits;
         numbers = record { requests = s.numbers.requests; handles = s.numbers.handles; rising = s.numbers.rising; submitted = s.numbers.submitted };
         held = s.held;
         few = s.few;

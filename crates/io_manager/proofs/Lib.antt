@@ -25,6 +25,7 @@ pub mod Handing
 pub mod Refusing
 pub mod AnsweredAtOnce
 pub mod Fitting
+pub mod WouldOpen
 pub mod Admitted
 pub mod Asking
 pub mod Calling

@@ -1,8 +1,8 @@
 -- A stack before its first event is in order.
-use Rattle.std.proofs.Common.{◌≡◌, ◌<◌, ◌≤◌, ◌+◌, ℕ, zero, suc, false, List, [], ◌∷◌, inl, inr, All, Option, Some, None, refl, sym, ◌∙◌, ap, subst, map, length, get_or, arith}
+use Rattle.std.proofs.Common.{◌≡◌, ◌<◌, ◌≤◌, ◌+◌, ◌^◌, ℕ, zero, suc, false, List, [], ◌∷◌, inl, inr, All, Option, Some, None, refl, sym, ◌∙◌, ap, subst, map, length, get_or, arith}
 use Rattle.std.specs.Prelude.{IsPermutation, slice_get}
 use Rattle.std.proofs.lemmas.List.Sorted.{length_permutation}
-use Rattle.std.proofs.lemmas.List.Elements.{All-nil, All-head, All-tail}
+use Rattle.std.proofs.lemmas.List.Elements.{All-nil, All-head, All-tail, All-weaker}
 use Rattle.slab.specs.Slab.{Slab, slab_len}
 use Rattle.sector.specs.declared.Extent.{Extent}
 use Rattle.machine.specs.Map.{IsPartition}
@@ -22,7 +22,7 @@ use Rattle.io_manager.specs.declared.Answer.{Answer}
 use Rattle.io_manager.specs.declared.tables.OpenRequest.{OpenRequest}
 use Rattle.io_manager.specs.Right.{AreRising, answer_number}
 use Rattle.io_manager.specs.Inside.{WritesInside}
-use Rattle.io_manager.specs.Sound.{rules_of, shown_state, is_gone, holders_of, view_of, FitsBelow, HasNumbers, IsHeldAt, AreHeld, HasPlaces, IsSpotted, WasGiven, IsInState, IsSound, ManagerKept}
+use Rattle.io_manager.specs.Sound.{rules_of, shown_state, is_gone, holders_of, view_of, EndsInRange, FitsBelow, HasNumbers, IsHeldAt, AreHeld, HasPlaces, IsSpotted, WasGiven, IsInState, IsSound, ManagerKept}
 use Rattle.io_manager.specs.Opening.{IsUnasked, AreFor, AreEmpty, IsFirstView}
 use Rattle.io_manager.specs.Chains.{IsNumbered}
 use Rattle.io_manager.proofs.Linked.{AreLinked-empty}
@@ -93,8 +93,24 @@ module _ (limits : Limits) (below : DeviceView) (tables : Tables) (orderly : IsO
     | inr large ↦ let size = for.sector_size in let same = orderly.read.same_size in omega (arith, large, size, same)
   ]
 
+  -- each partition lies in the disk, which has 2^40 sectors at most
+  ends : All EndsInRange below.rules.partitions
+  ends =
+      All-weaker (IsPartition (length below.adapter.sectors)) EndsInRange
+      (λ extent p. let inside : extent.first + extent.count ≤ length below.adapter.sectors = p.inside in let few : length below.adapter.sectors ≤ 2 ^ 40 = orderly.adapter.sectors.1 in omega (arith, inside, few))
+      below.rules.partitions unasked.is_map.each
+
   fits : FitsBelow limits below
-  fits = record { sector_size = for.sector_size; some_bytes = some_bytes; some_open = for.some_open; many = unasked.many }
+  fits = record {
+    sector_size = for.sector_size;
+    some_bytes = some_bytes;
+    max_transfer = for.max_transfer;
+    some_transfer = for.some_transfer;
+    firsts = for.firsts;
+    ends = ends;
+    some_open = for.some_open;
+    many = unasked.many;
+  }
 
   numbers : HasNumbers below tables
   numbers = record {

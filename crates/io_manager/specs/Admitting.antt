@@ -26,6 +26,9 @@ use Rattle.io_manager.specs.declared.Handle.{Handle}
 use Rattle.io_manager.specs.declared.Reply.{Reply}
 use Rattle.io_manager.specs.declared.Reply.TheVariants.{Handle as HandleReply, Ok as OkReply, Request as Requested, Answered, Refused, Ignored}
 use Rattle.io_manager.specs.declared.tables.Tables.{Tables}
+use Rattle.io_manager.specs.declared.admission.Asked.{Asked}
+use Rattle.io_manager.specs.declared.admission.Decision.{Decision}
+use Rattle.io_manager.specs.declared.admission.Decision.TheVariants.{UsedUp, Ends, Opens}
 use Rattle.io_manager.specs.declared.admission.AtOnce.{AtOnce}
 use Rattle.io_manager.specs.declared.admission.AtOnce.TheVariants.{Empty, Refused as RefusedFor}
 use Rattle.io_manager.specs.declared.admission.Bounds.{Bounds}
@@ -39,6 +42,16 @@ abbrev pub status_at_once : AtOnce → NtStatus
 status_at_once Empty = Success
 status_at_once (RefusedFor refusal) = status_of_refusal refusal
 
+-- what a call asks of a partition, as a request without its bytes
+abbrev pub asked_for : Option ℕ → Asked → ClientRequest
+asked_for partition asked = record { partition = partition; kind = asked.kind; offset = asked.offset; length = asked.length; through = asked.through; bytes = [] }
+
+-- what is decided of a call: by its number, and then by what refuses it
+abbrev pub Decides : ManagerView → ClientRequest → Decision → Type 0
+Decides v q UsedUp = are_used_up v.state.next_request ≡ true
+Decides v q (Ends at_once) = (are_used_up v.state.next_request ≡ false) × (refusal v.rules v.state q ≡ Some (status_at_once at_once))
+Decides v q Opens = (are_used_up v.state.next_request ≡ false) × (refusal v.rules v.state q ≡ None)
+
 -- the machine's removal has begun
 abbrev pub is_going : PnpState → Bool
 is_going Started = false
@@ -47,9 +60,9 @@ is_going Removing = true
 is_going Removed = true
 
 -- what bounds a request: the sizes of these rules, the sectors of its partition, the state, and as many requests open
-pub record AreBoundsOf (bounds : Bounds) (q : ClientRequest) (rules : Rules) (s : State) : Type 0 where
+pub record AreBoundsOf (bounds : Bounds) (partition : Option ℕ) (rules : Rules) (s : State) : Type 0 where
   pub sector_size : bounds.sector_size ≡ rules.sector_size
-  pub sectors : bounds.sectors ≡ sectors_of rules q.partition
+  pub sectors : bounds.sectors ≡ sectors_of rules partition
   pub longest : bounds.longest ≡ rules.longest
   pub open_requests : rules.open_requests ≡ Some bounds.open_requests
   pub removing : s.removing ≡ bounds.removing

@@ -1,11 +1,15 @@
 -- What a client's call asks, and what refuses it.
-use Rattle.std.specs.Prelude.{ℕ, ◌==◌, ◌^◌, nat_le, Bool, List, [], ◌∷◌, Option, Some, None, length, slice_index_or, count_by, is_some, if◌then◌else◌}
+use Rattle.std.specs.Prelude.{ℕ, ◌/◌, ◌==◌, ◌^◌, nat_le, Bool, List, [], ◌∷◌, Option, Some, None, length, slice_index_or, count_by, is_some, if◌then◌else◌}
 use Rattle.ntstatus.specs.declared.NtStatus.{NtStatus}
 use Rattle.ntstatus.specs.declared.NtStatus.TheVariants.{InvalidHandle as HandleStatus, InvalidParameter as ParameterStatus, DeletePending as PendingStatus, DeviceBusy as BusyStatus, InsufficientResources as ResourcesStatus, InvalidDeviceRequest as RequestStatus, NotFound as FoundStatus}
 use Rattle.ntstatus.specs.First.{when, first_some}
+use Rattle.sector.specs.declared.Extent.{Extent}
 use Rattle.srb.specs.declared.Kind.{Kind}
 use Rattle.srb.specs.declared.Kind.TheVariants.{Read, Write, Flush}
 use Rattle.machine.specs.declared.ClientRequest.{ClientRequest}
+use Rattle.machine.specs.Rules.{Rules, home, first_sector, place_count}
+use Rattle.machine.specs.Cutting.{piece_count}
+use Rattle.machine.specs.Calling.{refusal}
 use Rattle.io_manager.specs.declared.Handle.{Handle}
 use Rattle.io_manager.specs.declared.Refusal.{Refusal}
 use Rattle.io_manager.specs.declared.Refusal.TheVariants.{InvalidHandle, InvalidParameter, DeletePending, DeviceBusy, InsufficientResources, InvalidDeviceRequest, NotFound}
@@ -55,16 +59,20 @@ bytes_called Write bytes = bytes
 bytes_called Read bytes = []
 bytes_called Flush bytes = []
 
--- a call on a handle, with the caller's buffer; a flush is one of no bytes
-abbrev pub call_on : ManagerView → Handle → Kind → ℕ → List ℕ → Bool → ClientRequest
-call_on v handle kind offset buffer through = record {
+-- a call on a handle for so many bytes, which are left out
+abbrev pub asked_on : ManagerView → Handle → Kind → ℕ → ℕ → Bool → ClientRequest
+asked_on v handle kind offset length' through = record {
   partition = partition_of v.handles handle;
   kind = kind;
   offset = offset;
-  length = length buffer;
+  length = length';
   through = through;
-  bytes = bytes_called kind buffer;
+  bytes = [];
 }
+
+-- and with the caller's buffer; a flush is one of no bytes
+abbrev pub call_on : ManagerView → Handle → Kind → ℕ → List ℕ → Bool → ClientRequest
+call_on v handle kind offset buffer through = record (asked_on v handle kind offset (length buffer) through) { bytes = bytes_called kind buffer }
 
 -- the label of a refused call has no bytes: they went back to the caller
 abbrev pub without_bytes : ClientRequest → ClientRequest
@@ -78,3 +86,17 @@ open_refusal v partition = first_some (
     ∷ when (nat_le (length v.rules.partitions) partition) ParameterStatus
     ∷ when (nat_le handle_limit (count_by is_some v.handles)) BusyStatus
     ∷ [])
+
+-- the sectors of the disk that a request moves, in order; a flush moves none, from where its partition begins
+abbrev pub disk_extent : Rules → ClientRequest → Extent
+disk_extent rules q = record { first = home rules q.partition (first_sector rules q); count = q.length / rules.sector_size }
+
+-- the number of pieces that a request is cut into, and its sectors of the disk
+abbrev pub opened_as : Rules → ClientRequest → ℕ × Extent
+opened_as rules q = (piece_count rules (place_count rules q), disk_extent rules q)
+
+-- what a call would open now, if anything: nothing once numbers are used up, nor where it is answered at once
+abbrev pub would_open : ManagerView → ClientRequest → Option (ℕ × Extent)
+would_open v q =
+    if are_used_up v.state.next_request then None
+    else (if is_some (refusal v.rules v.state q) then None else Some (opened_as v.rules q))

@@ -1,5 +1,5 @@
 -- A manager before its first call.
-use Rattle.std.specs.Prelude.{◌≡◌, ◌≤◌, [], map, length}
+use Rattle.std.specs.Prelude.{◌≡◌, ◌<◌, ◌≤◌, [], map, length}
 use Rattle.machine.specs.Map.{IsMap}
 use Rattle.sector.specs.Extents.{sectors_in}
 use Rattle.machine.specs.State.{opening}
@@ -10,7 +10,7 @@ use Rattle.io_manager.specs.declared.tables.Tables.{Tables}
 use Rattle.io_manager.specs.Shown.{ManagerView}
 use Rattle.io_manager.specs.Calls.{number_limit}
 use Rattle.io_manager.specs.Chains.{AreEnds}
-use Rattle.io_manager.specs.Sound.{rules_of}
+use Rattle.io_manager.specs.Sound.{rules_of, AreFirsts}
 
 -- nothing was asked of the device below yet, whose partitions lie on the disk and share no sector
 pub record IsUnasked (below : DeviceView) : Type 0 where
@@ -24,6 +24,9 @@ pub record IsUnasked (below : DeviceView) : Type 0 where
 -- limits of a manager over this device
 pub record AreFor (below : DeviceView) (limits : Limits) : Type 0 where
   pub sector_size : limits.sector_size ≡ below.rules.sector_size
+  pub max_transfer : limits.max_transfer ≡ below.rules.max_transfer
+  pub some_transfer : 0 < limits.max_transfer
+  pub firsts : AreFirsts limits.first_sectors below.rules.partitions
   pub some_open : (1 ≤ limits.open_requests) × (limits.open_requests ≤ 64)
 
 -- no handles, no requests, no labels and no answers

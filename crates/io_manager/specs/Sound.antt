@@ -1,7 +1,8 @@
 -- What the manager's tables and the device below say of each other between two calls.
-use Rattle.std.specs.Prelude.{◌≡◌, ◌≢◌, ◌<◌, ◌≤◌, ℕ, ◌+◌, ◌⊎◌, Bool, true, false, List, [], ◌++◌, Option, Some, option_map, is_some, map, length, IsTrue, IsFalse, All, Contains, IsPermutation}
+use Rattle.std.specs.Prelude.{◌≡◌, ◌≢◌, ◌<◌, ◌≤◌, ℕ, ◌+◌, ◌^◌, ◌⊎◌, Bool, true, false, List, [], ◌++◌, Option, Some, option_map, is_some, map, length, slice_get, IsTrue, IsFalse, All, Contains, IsPermutation}
 use Rattle.std.specs.VecDeque.{deque_len, deque_capacity}
 use Rattle.slab.specs.Slab.{Slab, get, slab_len}
+use Rattle.sector.specs.declared.Extent.{Extent}
 use Rattle.srb.specs.declared.DeviceLabel.{DeviceLabel}
 use Rattle.srb.specs.declared.Kind.TheVariants.{Read}
 use Rattle.machine.specs.Rules.{Rules}
@@ -62,10 +63,22 @@ view_of limits below tables = record {
   answers = tables.untaken.items;
 }
 
+-- at each partition's number stands its first sector
+abbrev pub AreFirsts : List ℕ → List Extent → Type 0
+AreFirsts firsts partitions = (p : ℕ) (extent : Extent) → slice_get partitions p ≡ Some extent → slice_get firsts p ≡ Some extent.first
+
+-- it ends where no sum of sectors goes past a word
+abbrev pub EndsInRange : Extent → Type 0
+EndsInRange extent = extent.first + extent.count < 2 ^ 64
+
 -- the sizes that the manager keeps are those of the device below
 pub record FitsBelow (limits : Limits) (below : DeviceView) : Type 0 where
   pub sector_size : limits.sector_size ≡ below.rules.sector_size
   pub some_bytes : 0 < limits.sector_size
+  pub max_transfer : limits.max_transfer ≡ below.rules.max_transfer
+  pub some_transfer : 0 < limits.max_transfer
+  pub firsts : AreFirsts limits.first_sectors below.rules.partitions
+  pub ends : All EndsInRange below.rules.partitions
   pub some_open : (1 ≤ limits.open_requests) × (limits.open_requests ≤ 64)
   pub many : number_limit ≤ below.most
 

@@ -1,19 +1,31 @@
-//! What a call is answered at once, and the packet of one that is admitted.
+//! What a call is answered at once, and what one that is admitted opens: its packet, its pieces, its extent on the disk.
 
-ghost use Rattle.std.specs.Prelude.{◌≡◌, ◌<◌, false, option_map, IfOk};
-ghost use Rattle.machine.specs.Rules.{Rules, is_transfer, is_in_bounds};
+ghost use Rattle.std.specs.Prelude.{◌≡◌, ◌<◌, ℕ, Option, false, length, option_map, IfOk};
+ghost use Rattle.machine.specs.Rules.{Rules, home, is_transfer, is_in_bounds, place_count};
 ghost use Rattle.machine.specs.State.{State};
 ghost use Rattle.machine.specs.Calling.{refusal};
 ghost use Rattle.irp.specs.declared.Payload.TheVariants.{Buffer};
 ghost use Rattle.io_manager.specs.Calls.{status_of_refusal};
-ghost use Rattle.io_manager.specs.Admitting.{status_at_once, AreBoundsOf, request_of, HasCopies, first_location, IsOnTop};
+ghost use Rattle.io_manager.specs.Sound.{AreFirsts};
+ghost use Rattle.io_manager.specs.Admitting.{asked_for, status_at_once, AreBoundsOf, IsKnown, request_of, HasCopies, first_location, IsOnTop};
 
-use crate::Refusal;
+use crate::{Limits, Refusal};
 use device::{ClientRequest, Kind, Request, major_for};
 use irp::{Control, Driver, Irp, LocationFlags, Payload, StackLocation};
 use ntstatus::NtStatus;
 use sector::{Bytes, Extent};
 use std::alloc::{AllocError, Global};
+
+/// What a call asks of a partition, but for its bytes.
+#[derive(Debug, Clone, Copy, PartialEq, Eq)]
+pub(crate) struct Asked {
+    pub(crate) kind: Kind,
+    /// In bytes, from the start of the partition.
+    pub(crate) offset: u64,
+    /// In bytes.
+    pub(crate) length: u64,
+    pub(crate) through: bool,
+}
 
 /// What bounds a request.
 #[derive(Debug, Clone, Copy, PartialEq, Eq)]
@@ -38,6 +50,17 @@ pub(crate) enum AtOnce {
     /// It asks for no bytes, and succeeds.
     Empty,
     Refused(Refusal),
+}
+
+/// What is decided of a call before anything changes.
+#[derive(Debug, Clone, Copy, PartialEq, Eq)]
+pub(crate) enum Decision {
+    /// There is no number left for it.
+    UsedUp,
+    /// It ends where it begins.
+    Ends(AtOnce),
+    /// It opens a request.
+    Opens,
 }
 
 impl AtOnce {
@@ -68,16 +91,44 @@ impl Refusal {
     }
 }
 
+impl Asked {
+    /// The places of the request: one for each of its sectors; a flush has one, of no sector.
+    pub(crate) fn place_count(self, sector_size: u64) -> u64
+        requires { 0 < sector_size }
+        ensures { (rules : Rules) (partition : Option ℕ) → rules.sector_size ≡ sector_size → result ≡ place_count rules (asked_for partition self) }
+    {
+        match self.kind {
+            Kind::Read | Kind::Write => self.length / sector_size,
+            Kind::Flush => 1,
+        }
+    }
+}
+
+impl Limits {
+    /// The sector of the disk where a partition begins, if there is one of this number.
+    pub(crate) fn first_sector(&self, partition: Option<u8>) -> u64
+        ensures { (rules : Rules) → AreFirsts self.now.first_sectors rules.partitions → IsKnown (length rules.partitions) partition
+            → result ≡ home rules partition 0 }
+    {
+        let Some(volume) = partition else { return 0 };
+        match self.first_sectors.get(volume as usize) {
+            Some(first) => *first,
+            None => 0,
+        }
+    }
+}
+
 impl Bounds {
     /// Whether a request asks for whole sectors of its partition, no more than the longest may.
-    fn holds(&self, request: &ClientRequest) -> bool
+    fn holds(&self, asked: Asked) -> bool
         requires some_bytes { 0 < self.now.sector_size }
-        ensures { (rules : Rules) (s : State) → AreBoundsOf self.now request.now rules s → result ≡ is_in_bounds rules request.now }
+        ensures { (rules : Rules) (s : State) (partition : Option ℕ) → AreBoundsOf self.now partition rules s
+            → result ≡ is_in_bounds rules (asked_for partition asked) }
     {
-        let first = request.offset / self.sector_size;
-        let count = request.length / self.sector_size;
-        request.offset % self.sector_size == 0
-            && request.length % self.sector_size == 0
+        let first = asked.offset / self.sector_size;
+        let count = asked.length / self.sector_size;
+        asked.offset % self.sector_size == 0
+            && asked.length % self.sector_size == 0
             && first <= self.sectors
             && count <= self.sectors - first
             && count <= self.longest
@@ -94,25 +145,39 @@ fn moves_bytes(kind: Kind) -> bool
     }
 }
 
-/// What a read, a write or a flush is answered at once, if anything.
-pub(crate) fn refusal_of(bounds: &Bounds, request: &ClientRequest) -> Option<AtOnce>
+/// What a read, a write or a flush of a partition is answered at once, if anything.
+pub(crate) fn refusal_of(bounds: &Bounds, partition: Option<u8>, asked: Asked) -> Option<AtOnce>
     requires some_bytes { 0 < bounds.now.sector_size }
-    ensures exact { (rules : Rules) (s : State) → AreBoundsOf bounds.now request.now rules s
-        → refusal rules s request.now ≡ option_map status_at_once result }
+    ensures exact { (rules : Rules) (s : State) → AreBoundsOf bounds.now partition rules s
+        → refusal rules s (asked_for partition asked) ≡ option_map status_at_once result }
 {
-    let transfer = moves_bytes(request.kind);
-    if request.partition.is_none() {
+    let transfer = moves_bytes(asked.kind);
+    if partition.is_none() {
         Some(AtOnce::Refused(Refusal::InvalidHandle))
     } else if bounds.removing {
         Some(AtOnce::Refused(Refusal::DeletePending))
-    } else if transfer && !bounds.holds(request) {
+    } else if transfer && !bounds.holds(asked) {
         Some(AtOnce::Refused(Refusal::InvalidParameter))
-    } else if transfer && request.length == 0 {
+    } else if transfer && asked.length == 0 {
         Some(AtOnce::Empty)
     } else if bounds.open_count >= bounds.open_requests as usize {
         Some(AtOnce::Refused(Refusal::DeviceBusy))
     } else {
         None
+    }
+}
+
+/// The request of a call, without its bytes.
+pub(crate) fn request_for(alloc: Global, partition: Option<u8>, asked: Asked) -> ClientRequest
+    ensures { result ≡ asked_for partition asked }
+{
+    ClientRequest {
+        partition,
+        kind: asked.kind,
+        offset: asked.offset,
+        length: asked.length,
+        through: asked.through,
+        bytes: Bytes::new(Vec::new(alloc)),
     }
 }
 

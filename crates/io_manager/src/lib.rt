@@ -47,13 +47,17 @@ pub struct OpenHandle {
     pub partition: u8,
 }
 
-/// The sizes that a manager keeps.
+/// The sizes that a manager keeps, and where its partitions begin.
 #[derive(Debug, Clone, Copy, PartialEq, Eq)]
 pub struct Limits {
     /// Bytes of a sector of the disk.
     pub sector_size: u64,
+    /// Sectors of the longest piece, from 1 on.
+    pub max_transfer: u32,
     /// Requests open at once, 1 to 64.
     pub open_requests: u32,
+    /// The sector of the disk where each partition begins, by the partition's number.
+    pub first_sectors: [u64; 4],
 }
 
 /// Why a call was refused.

@@ -1,22 +1,22 @@
 //! Client calls and adapter steps over any device stack. Each leaves it as it has to be between two steps.
 
-ghost use Rattle.std.specs.Prelude.{◌≡◌, ◌<◌, [], false, Some, None, MatchOption};
+ghost use Rattle.std.specs.Prelude.{◌≡◌, ◌<◌, [], false, length, Some, None, MatchOption};
 ghost use Rattle.adapter.specs.View.{IsInOrder};
 ghost use Rattle.adapter.specs.Calls.{HasNoneFresh};
 ghost use Rattle.adapter.specs.Booking.{IsArmed, handed};
 ghost use Rattle.srb.specs.declared.Kind.TheVariants.{Read, Write, Flush};
 ghost use Rattle.machine.specs.Settled.{Settled, IsFinished};
 ghost use Rattle.machine_laws.specs.Reached.{IsReached};
-ghost use Rattle.io_manager.specs.Calls.{call_on, without_bytes};
-ghost use Rattle.io_manager.specs.Admitting.{IsAdmissible, AreBoundsOf};
+ghost use Rattle.io_manager.specs.Calls.{asked_on, call_on, without_bytes, opened_as, would_open};
+ghost use Rattle.io_manager.specs.Admitting.{asked_for, AreBoundsOf, Decides, IsAdmissible};
 ghost use Rattle.io_manager.specs.Right.{IsRight, IsRightReset, IsHandleOpen, CallReplies, OpenReplies, CloseReplies, CancelReplies, MarkReplies, ActReplies, BooksPiece, FinishReplies, FitsTogether, TakesAnswer, TakesLabel as TakesFirst};
 
-use crate::admission::{Bounds, refusal_of, request_below};
+use crate::admission::{Asked, Bounds, Decision, refusal_of, request_below, request_for};
 use crate::parts::Parts;
 use crate::tables::{NUMBER_LIMIT, refused, refused_alone};
 use crate::{Answer, Handle, Id, Refusal, Reply};
 use device::{ClientRequest, Device, Kind, Label};
-use sector::Bytes;
+use sector::{Bytes, Extent};
 use srb::{Completion, Entry, Srb};
 use std::alloc::Global;
 use std::marker::Model;
@@ -49,15 +49,6 @@ impl<D: Device> Model for IoManager<D> {
       rooms : D.rooms_out s.parts.device [];
       kept : ManagerKept s.parts.limits (D.view s.parts.device) s.parts.tables;
     } };
-}
-
-/// A call of a client on a handle.
-#[derive(Debug, Clone, Copy, PartialEq, Eq)]
-struct Asked {
-    kind: Kind,
-    /// In bytes, from the start of the partition.
-    offset: u64,
-    through: bool,
 }
 
 impl<D: Device> IoManager<D> {
@@ -102,6 +93,7 @@ impl<D: Device> IoManager<D> {
         let asked = Asked {
             kind: Kind::Read,
             offset,
+            length: buffer.len() as u64,
             through: false,
         };
         self.call(alloc, handle, asked, buffer)
@@ -124,6 +116,7 @@ impl<D: Device> IoManager<D> {
         let asked = Asked {
             kind: Kind::Write,
             offset,
+            length: bytes.len() as u64,
             through,
         };
         self.call(alloc, handle, asked, bytes)
@@ -138,9 +131,38 @@ impl<D: Device> IoManager<D> {
         let asked = Asked {
             kind: Kind::Flush,
             offset: 0,
+            length: 0,
             through: false,
         };
         self.call(alloc, handle, asked, Bytes::new(Vec::new(alloc)))
+    }
+
+    /// What a read, a write or a flush of so many bytes, from byte `offset` of the handle's partition on, would open if it
+    /// were called now: the number of pieces that its request is cut into, and its sectors of the disk, in order. A flush,
+    /// of no bytes from the first on, has one piece, and an empty extent where the partition begins. It takes no memory.
+    ///
+    /// None where the call would be refused or is a read or a write of no bytes, and once request numbers are used up.
+    pub fn admits(
+        &self,
+        handle: Handle,
+        kind: Kind,
+        offset: u64,
+        length: u64,
+    ) -> Option<(u64, Extent)>
+        requires plain { kind ≡ Flush → (offset ≡ 0) × (length ≡ 0) }
+        ensures { result ≡ would_open self.now (asked_on self.now handle kind offset length false) }
+    {
+        let partition = self.parts.tables.partition_of(handle);
+        let asked = Asked {
+            kind,
+            offset,
+            length,
+            through: false,
+        };
+        match self.decide(partition, asked) {
+            Decision::Opens => Some(self.opened_by(partition, asked)),
+            Decision::UsedUp | Decision::Ends(_) => None,
+        }
     }
 
     /// Cancels all requests that are open on a handle, by rising numbers, or the one that is given (CancelIoEx). It takes
@@ -251,35 +273,45 @@ impl<D: Device> IoManager<D> {
     fn call(&mut self, alloc: Global, handle: Handle, asked: Asked, buffer: Bytes) -> Reply
         requires taken { self.old.labels ≡ [] }
         requires plain { asked.kind ≡ Flush → (asked.offset ≡ 0) × (buffer ≡ []) }
+        requires length { asked.length ≡ length buffer }
         ensures right { IsRight (CallReplies self.old handle (call_on self.old handle asked.kind asked.offset buffer asked.through) buffer result self.new) self.old self.new }
     {
-        if self.parts.tables.next_request >= NUMBER_LIMIT {
-            return refused(Refusal::DeviceBusy, buffer);
-        }
-        let request = ClientRequest {
-            partition: self.parts.tables.partition_of(handle),
-            kind: asked.kind,
-            offset: asked.offset,
-            length: buffer.len() as u64,
-            through: asked.through,
-            bytes: Bytes::new(Vec::new(alloc)),
-        };
-        let bounds = self.bounds_of(&request);
-        match refusal_of(&bounds, &request) {
-            Some(at_once) => self
-                .parts
-                .tables
-                .answer_at_once(alloc, request, at_once, buffer),
-            None => self.admit(alloc, handle, request, buffer),
+        let partition = self.parts.tables.partition_of(handle);
+        match self.decide(partition, asked) {
+            Decision::UsedUp => refused(Refusal::DeviceBusy, buffer),
+            Decision::Ends(at_once) => {
+                let request = request_for(alloc, partition, asked);
+                self.parts
+                    .tables
+                    .answer_at_once(alloc, request, at_once, buffer)
+            }
+            Decision::Opens => {
+                let request = request_for(alloc, partition, asked);
+                self.admit(alloc, handle, request, buffer)
+            }
         }
     }
 
-    /// What bounds a request of a client.
-    fn bounds_of(&self, request: &ClientRequest) -> Bounds
-        ensures some_bytes { 0 < result.sector_size }
-        ensures bounds { AreBoundsOf result request.now self.now.rules self.now.state }
+    /// What is decided of a call on a partition.
+    fn decide(&self, partition: Option<u8>, asked: Asked) -> Decision
+        ensures { Decides self.now (asked_for partition asked) result }
     {
-        let sectors = match request.partition {
+        if self.parts.tables.next_request >= NUMBER_LIMIT {
+            return Decision::UsedUp;
+        }
+        let bounds = self.bounds_of(partition);
+        match refusal_of(&bounds, partition, asked) {
+            Some(at_once) => Decision::Ends(at_once),
+            None => Decision::Opens,
+        }
+    }
+
+    /// What bounds a request of a client on a partition.
+    fn bounds_of(&self, partition: Option<u8>) -> Bounds
+        ensures some_bytes { 0 < result.sector_size }
+        ensures bounds { AreBoundsOf result partition self.now.rules self.now.state }
+    {
+        let sectors = match partition {
             Some(volume) => self.parts.device.sectors(volume),
             None => 0,
         };
@@ -291,6 +323,19 @@ impl<D: Device> IoManager<D> {
             open_count: self.parts.tables.requests.len(),
             removing: self.parts.tables.is_going(),
         }
+    }
+
+    /// The number of pieces and the sectors of the disk of a request that nothing refuses.
+    fn opened_by(&self, partition: Option<u8>, asked: Asked) -> (u64, Extent)
+        requires { IsAdmissible self.now (asked_for partition asked) }
+        ensures { result ≡ opened_as self.now.rules (asked_for partition asked) }
+    {
+        let limits = &self.parts.limits;
+        let first = limits.first_sector(partition) + asked.offset / limits.sector_size;
+        let count = asked.length / limits.sector_size;
+        let places = asked.place_count(limits.sector_size);
+        let pieces = places.div_ceil(limits.max_transfer as u64);
+        (pieces, Extent { first, count })
     }
 
     /// Opens a request and sends it down, or turns it away for want of memory.
