@@ -1,24 +1,18 @@
 -- What the act of a piece comes to, in the journal and at the adapter.
-use Rattle.std.specs.Prelude.{◌≡◌, ◌⊎◌, ◌<◌, ℕ, List, [], ◌∷◌, ◌++◌, length, slice_get, Result, Ok, Err}
+use Rattle.std.specs.Prelude.{◌≡◌, ◌⊎◌, ◌<◌, ℕ, List, [], ◌∷◌, ◌++◌, length, slice_get, Some, Result, Ok, Err}
 use Rattle.srb.specs.declared.Srb.{Srb}
 use Rattle.srb.specs.declared.Entry.{Entry}
 use Rattle.srb.specs.declared.Completion.{Completion}
 use Rattle.srb.specs.declared.Class.TheVariants.{Bad}
 use Rattle.srb.specs.Fate.{class_of}
-use Rattle.disk.specs.Medium.{MediumView}
 use Rattle.adapter.specs.Calls.{HasNoneFresh}
-use Rattle.adapter.specs.Booking.{IsArmed, Suits}
+use Rattle.adapter.specs.Booking.{IsArmed}
 use Rattle.io_manager.specs.Shown.{ManagerView}
 use Rattle.io_manager.specs.Right.{BooksPiece}
-use Rattle.compose.specs.Journaled.{IsOfPiece, with_entry}
 use Rattle.sector_journal.specs.Arming.{AskTheSame}
 use Rattle.sector_journal.specs.Entering.{Enters}
 use Rattle.sector_journal.specs.Journal.{JournalView}
-
--- as many sectors, as long
-pub record IsAsLarge (old new : JournalView) : Type 0 where
-  pub sector_size : new.medium.sector_size ≡ old.medium.sector_size
-  pub sectors : length new.medium.sectors ≡ length old.medium.sectors
+use Rattle.journaled.specs.Shown.{KeepsEntries}
 
 -- IN THE JOURNAL
 
@@ -34,8 +28,7 @@ pub record HasEntry (old : JournalView) (tag piece : ℕ) (srb : Srb) (number : 
 -- the piece failed, and nothing was entered
 pub record HasFailed (old : JournalView) (completion : Completion) (new : JournalView) : Type 0 where
   pub is_bad : class_of completion ≡ Bad completion
-  pub entries : new.entries ≡ old.entries
-  pub same_size : IsAsLarge old new
+  pub keeps : KeepsEntries old new
 
 -- it acted, or failed
 abbrev pub CameTo : JournalView → ℕ → ℕ → Srb → Result ℕ Completion → JournalView → Type 0
@@ -55,17 +48,16 @@ IsThat entries (Ok number) (Ok entry) = slice_get entries number ≡ Some entry
 IsThat entries (Err completion) (Err booked) = booked ≡ completion
 IsThat entries _ _ = ⊥
 
--- what came of the tag's piece suits it, stands in the journal, and is booked
+-- what came of the tag's piece in the journal is booked
 pub record HasBooked (old : ManagerView) (before : JournalView) (tag : ℕ) (new : ManagerView) (after : JournalView) : Type 0 where
   pub piece : ℕ
   pub srb : Srb
+  pub done : Result ℕ Completion
   pub what : Result Entry Completion
   pub armed : IsArmed old.adapter tag piece srb
-  pub of_piece : IsOfPiece tag piece what
-  pub suits : Suits before.medium.sector_size (length before.medium.sectors) srb what
+  pub came_to : CameTo before tag piece srb done after
+  pub is_that : IsThat after.entries done what
   pub books : BooksPiece old tag piece what new
-  pub entries : after.entries ≡ with_entry before.entries what
-  pub same_size : IsAsLarge before after
 
 -- there is none that could act, and nothing changes
 pub record HasNoneToBook (old : ManagerView) (before : JournalView) (tag : ℕ) (new : ManagerView) (after : JournalView) : Type 0 where

@@ -90,7 +90,6 @@ fn book_armed<M: Medium, N: Naming>(
     history: &History<N>,
     tag: u8,
 )
-    requires stands { StandsIn stack.old journal.old }
     ensures { BooksArmed stack.old journal.old tag stack.new journal.new }
 {
     if let Some((piece, done)) = transfer(stack, journal, history, tag) {
@@ -114,6 +113,7 @@ pub(crate) fn act<M: Medium, N: Naming>(
     ensures told { TellsOn (over stack.old journal.old) (over stack.new journal.new) }
 {
     laws_of_entries();
+    stack.shows_whole();
     book_armed(stack, journal, history, tag);
     stack.shows_whole();
     stack.step(alloc, Event::Act { tag })

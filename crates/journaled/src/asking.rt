@@ -1,11 +1,13 @@
 //! The events that are no act: where one opens a request, the journal has room for it first.
 
-ghost use Rattle.std.specs.Prelude.{◌≡◌, ◌≤◌, [], MatchOption};
+ghost use Rattle.std.specs.Prelude.{◌≡◌, ◌≤◌, ◌+◌, [], IfSome, OnErr};
 ghost use Rattle.io_manager.specs.declared.Refusal.TheVariants.{InsufficientResources};
 ghost use Rattle.io_manager.specs.declared.Reply.TheVariants.{Refused as RefusedReply};
+ghost use Rattle.machine.specs.Map.{IsMap};
 ghost use Rattle.compose.specs.Journaled.{IsNoAct};
+ghost use Rattle.compose.specs.StepLaws.{IsTransferEvent};
 ghost use Rattle.journaled.specs.Right.{IsServed, bytes_of};
-ghost use Rattle.journaled.specs.Shown.{StandsIn, over};
+ghost use Rattle.journaled.specs.Shown.{KeepsEntries, StandsIn, over};
 ghost use Rattle.journaled.specs.Told.{TellsOn};
 
 use crate::laws::laws_of_entries;
@@ -15,17 +17,19 @@ use miniport::BookedAdapter;
 use sector::{Bytes, Extent};
 use sector_journal::{Journal, Naming};
 use srb::Kind;
-use std::alloc::Global;
+use std::alloc::{AllocError, Global};
 
 /// What a request may move.
-pub(crate) struct Asked {
+struct Asked {
     kind: Kind,
     /// On the disk; of a flush it is empty.
     extent: Extent,
 }
 
 /// What kind of request an event asks for.
-fn kind_of(event: &Event) -> Option<Kind> {
+fn kind_of(event: &Event) -> Option<Kind>
+    ensures { IfSome result (λ _. IsTransferEvent event.now) }
+{
     match event {
         Event::Read { .. } => Some(Kind::Read),
         Event::Write { .. } => Some(Kind::Write),
@@ -34,32 +38,45 @@ fn kind_of(event: &Event) -> Option<Kind> {
     }
 }
 
-fn admits(_stack: &Stack<BookedAdapter>, event: &Event) -> Option<(u64, Extent)> {
-    match event {
-        Event::Read { offset, buffer, .. } => Some((
-            1,
-            Extent {
-                first: 2048 + *offset / 512,
-                count: buffer.len() as u64 / 512,
-            },
-        )),
-        Event::Write { offset, bytes, .. } => Some((
-            1,
-            Extent {
-                first: 2048 + *offset / 512,
-                count: bytes.len() as u64 / 512,
-            },
-        )),
-        Event::Flush { .. } => Some((1, Extent { first: 0, count: 0 })),
-        _ => None,
-    }
+/// The request that an event would open now.
+fn asked_by(stack: &Stack<BookedAdapter>, event: &Event) -> Option<Asked>
+    requires { IsMap stack.now.rules.disk_sectors stack.now.rules.partitions }
+    ensures transfer { IfSome result (λ _. IsTransferEvent event.now) }
+    ensures within { IfSome result (λ a. a.extent.first + a.extent.count ≤ stack.now.rules.disk_sectors) }
+{
+    let kind = kind_of(event)?;
+    let (_, extent) = stack.admits(event)?;
+    Some(Asked { kind, extent })
 }
 
-/// The request that an event would open now.
-fn asked_by(stack: &Stack<BookedAdapter>, event: &Event) -> Option<Asked> {
-    let kind = kind_of(event)?;
-    let (_, extent) = admits(stack, event)?;
-    Some(Asked { kind, extent })
+/// Makes room in the journal for the acts of the request that an event would open now, if it would open one. The request
+/// has the number that is given; its pieces have `max_transfer` sectors at most.
+fn make_room<M: Medium, N: Naming>(
+    stack: &Stack<BookedAdapter>,
+    journal: &mut Journal<M, N>,
+    number: u64,
+    max_transfer: u32,
+    event: &Event,
+) -> Result<(), AllocError>
+    requires map { IsMap stack.now.rules.disk_sectors stack.now.rules.partitions }
+    requires stands { StandsIn stack.now journal.old }
+    requires some { 1 ≤ max_transfer }
+    ensures keeps { KeepsEntries journal.old journal.new }
+    ensures transfer { OnErr result (IsTransferEvent event.now) }
+{
+    let Some(Asked { kind, extent }) = asked_by(stack, event) else {
+        return Ok(());
+    };
+    journal.reserve(number, kind, extent, max_transfer)
+}
+
+/// A call that opened no request needs no room.
+fn give_back<M: Medium, N: Naming>(journal: &mut Journal<M, N>, number: u64, reply: &Reply)
+    ensures { KeepsEntries journal.old journal.new }
+{
+    if !matches!(reply, Reply::Request(_)) {
+        journal.release(number);
+    }
 }
 
 /// The refusal of an event for want of memory, with the caller's bytes.
@@ -88,6 +105,7 @@ pub(crate) fn carry<M: Medium, N: Naming>(
     event: Event,
 ) -> Reply
     requires taken { stack.old.labels ≡ [] }
+    requires map { IsMap stack.old.rules.disk_sectors stack.old.rules.partitions }
     requires stands { StandsIn stack.old journal.old }
     requires some { 1 ≤ max_transfer }
     requires no_act { IsNoAct event }
@@ -97,15 +115,10 @@ pub(crate) fn carry<M: Medium, N: Naming>(
     ensures told { TellsOn (over stack.old journal.old) (over stack.new journal.new) }
 {
     laws_of_entries();
-    let Some(Asked { kind, extent }) = asked_by(stack, &event) else {
-        return stack.step(alloc, event);
-    };
-    if journal.reserve(number, kind, extent, max_transfer).is_err() {
+    if make_room(stack, journal, number, max_transfer, &event).is_err() {
         return refused(alloc, event);
     }
     let reply = stack.step(alloc, event);
-    if !matches!(&reply, Reply::Request(_)) {
-        journal.release(number);
-    }
+    give_back(journal, number, &reply);
     reply
 }

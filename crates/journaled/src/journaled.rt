@@ -16,13 +16,17 @@ use compose::{Answer, Event, Reply, Stack};
 use disk::Medium;
 use machine::Label;
 use miniport::BookedAdapter;
-use sector_journal::{History, Journal, Naming};
+use sector_journal::{History, Journal, Naming, OfArmings, OfEntries};
 use srb::Entry;
 use std::alloc::Global;
 use std::marker::Model;
 
 /// A stack over an adapter that holds no sectors, and the journal that has them.
-pub struct Journaled<M: Medium, N: Naming> {
+pub struct Journaled<M: Medium, N: Naming>
+where
+    OfArmings<N>: chronicle::Naming,
+    OfEntries<N>: chronicle::Naming,
+{
     stack: Stack<BookedAdapter>,
     journal: Journal<M, N>,
     history: History<N>,
@@ -33,7 +37,11 @@ pub struct Journaled<M: Medium, N: Naming> {
 }
 
 // By hand, so that no crate above proves it again, as it would a derived one.
-impl<M: Medium, N: Naming> Drop for Journaled<M, N> {
+impl<M: Medium, N: Naming> Drop for Journaled<M, N>
+where
+    OfArmings<N>: chronicle::Naming,
+    OfEntries<N>: chronicle::Naming,
+{
     fn drop(self) {
         let Journaled {
             stack: _,
@@ -45,7 +53,11 @@ impl<M: Medium, N: Naming> Drop for Journaled<M, N> {
     }
 }
 
-impl<M: Medium, N: Naming> Model for Journaled<M, N> {
+impl<M: Medium, N: Naming> Model for Journaled<M, N>
+where
+    OfArmings<N>: chronicle::Naming,
+    OfEntries<N>: chronicle::Naming,
+{
     ghost use Rattle.journaled.specs.Shown.{JournaledKept, JournaledView, over};
 
     ghost Value = { JournaledView };
