@@ -1,2 +1,5 @@
 pub mod Booked
 pub mod Telling
+pub mod Within
+pub mod Beginning
+pub mod Taking

@@ -1,6 +1,5 @@
 -- What was told goes on with the labels of a right step.
 use Rattle.std.proofs.Common.{◌≡◌, ◌≢◌, ◌⊎◌, inl, inr, ℕ, Bool, true, false, List, [], ◌∷◌, ◌++◌, length, Option, Some, None, Result, Ok, Err, IsFalse, refl, sym, ap, subst, ◌∙◌}
-use Rattle.std.proofs.lemmas.List.{append-nil}
 use Rattle.srb.specs.declared.Srb.{Srb}
 use Rattle.srb.specs.declared.Entry.{Entry}
 use Rattle.srb.specs.declared.Completion.{Completion}
@@ -24,7 +23,7 @@ use Rattle.compose.proofs.JournaledKept.{IsLed, led}
 use Rattle.sector_journal.specs.Journal.{JournalView}
 use Rattle.journaled.specs.Shown.{JournaledView, StandsIn, IsAsLarge, KeepsEntries, over}
 use Rattle.journaled.specs.Acting.{BooksArmed, HasBooked, HasNoneToBook}
-use Rattle.journaled.specs.Right.{BooksFor, StepsBooked, LacksRoom, IsServed}
+use Rattle.journaled.specs.Right.{StepsBooked}
 use Rattle.journaled.specs.Told.{IsTold, TellsOn}
 use Rattle.journaled.proofs.Booked.{IsOwn, own, came_large, kept_large, booked_apart}
 
@@ -78,38 +77,11 @@ module _ (keep : StepsKeepEntries) (apart : StepsStayApart) (old new : ManagerVi
             };
       }
 
-  pub others_served : IsRight old event reply new → IsServed (over old before) event reply (over new after)
-  others_served right = inl (record { booked = old; books = nothing event other; right = right })
-    where
-      nothing : (e : Event) → IsNoAct e → BooksFor old e old
-      nothing (Open partition) o = refl
-      nothing (Close handle) o = refl
-      nothing (Read handle offset buffer) o = refl
-      nothing (Write handle offset bytes through) o = refl
-      nothing (Flush handle) o = refl
-      nothing (CancelIoEx handle target) o = refl
-      nothing (Mark number) o = refl
-      nothing QueryRemove o = refl
-      nothing CancelRemove o = refl
-      nothing Remove o = refl
-      nothing SurpriseRemove o = refl
-      nothing (Act tag) o = absurd o
-      nothing (Finish tag) o = refl
-      nothing Reset o = refl
-
--- nothing happened
-pub nothing_follows : (old : ManagerView) (before after : JournalView) → old.labels ≡ [] → KeepsEntries before after → StandsIn old before → Follows (over old before) (over old after)
-nothing_follows old before after none keeps stands = record {
-  rules = refl;
-  stands = stands_by old old before after refl stands.apart (kept_large before after keeps) stands;
-  told = λ arrays trace told.
-      let same : trace ++ old.labels ≡ trace = ap (λ ls. trace ++ ls) none ∙ append-nil trace in
-      let at : IsTold arrays trace (over old after) = record {
-        whole = told.whole;
-        run = told.run;
-        journaled = subst (λ (es : List Entry). IsJournaled trace es old) (sym keeps.entries) told.journaled;
-      } in
-      subst (λ ls. IsTold arrays ls (over old after)) (sym same) at;
+pub keeps_on : (old mid new : JournalView) → KeepsEntries old mid → KeepsEntries mid new → KeepsEntries old new
+keeps_on old mid new one other = record {
+  entries = other.entries ∙ one.entries;
+  same_sectors = other.same_sectors ∙ one.same_sectors;
+  same_size = other.same_size ∙ one.same_size;
 }
 
 -- AN ACT

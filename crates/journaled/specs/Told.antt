@@ -29,4 +29,4 @@ abbrev pub RunsFaithfully : List (List ℕ) → JournaledView → Type 0
 RunsFaithfully disk v =
     (arrays : List (List (List ℕ))) (trace : List Label) → IsTold arrays trace v
     → Run (as_faithful v.stack.rules) (opening (map (sectors_in disk) v.stack.rules.partitions)) trace
-      (over_disk v.stack.rules v.journal.medium.sectors v.stack.state)
+    (over_disk v.stack.rules v.journal.medium.sectors v.stack.state)

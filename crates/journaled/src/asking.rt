@@ -38,6 +38,17 @@ fn kind_of(event: &Event) -> Option<Kind>
     }
 }
 
+/// The sectors of the disk that the request of an event would move, if it would open one now.
+fn extent_of(stack: &Stack<BookedAdapter>, event: &Event) -> Option<Extent>
+    requires { IsMap stack.now.rules.disk_sectors stack.now.rules.partitions }
+    ensures { IfSome result (λ e. e.first + e.count ≤ stack.now.rules.disk_sectors) }
+{
+    match stack.admits(event) {
+        Some((_, extent)) => Some(extent),
+        None => None,
+    }
+}
+
 /// The request that an event would open now.
 fn asked_by(stack: &Stack<BookedAdapter>, event: &Event) -> Option<Asked>
     requires { IsMap stack.now.rules.disk_sectors stack.now.rules.partitions }
@@ -45,7 +56,7 @@ fn asked_by(stack: &Stack<BookedAdapter>, event: &Event) -> Option<Asked>
     ensures within { IfSome result (λ a. a.extent.first + a.extent.count ≤ stack.now.rules.disk_sectors) }
 {
     let kind = kind_of(event)?;
-    let (_, extent) = stack.admits(event)?;
+    let extent = extent_of(stack, event)?;
     Some(Asked { kind, extent })
 }
 
