@@ -56,9 +56,9 @@ of_srb size sectors one other entry same h = record {
   may = may_be size sectors one other entry h.command same h.means h.may;
 }
 
-module _ (view : AdapterView) (medium medium' : MediumView) (tag piece : ℕ) (one srb : Srb) (apart : IsFalse view.faithful) (not_first : piece ≢ 0) (armed : IsArmed view tag piece srb) where
+module _ (view : AdapterView) (medium medium' : MediumView) (write_protected : Bool) (tag piece : ℕ) (one srb : Srb) (apart : IsFalse view.faithful) (not_first : piece ≢ 0) (armed : IsArmed view tag piece srb) where
   -- an entry
-  pub entered_bookable : (entry : Entry) → medium.sector_size ≡ view.sector_size → length medium.sectors ≡ length view.sectors → AskTheSame one srb → Enters medium tag piece one entry medium'
+  pub entered_bookable : (entry : Entry) → medium.sector_size ≡ view.sector_size → length medium.sectors ≡ length view.sectors → AskTheSame one srb → Enters medium write_protected tag piece one entry medium'
       → IsBookable view tag piece (Ok entry)
   entered_bookable entry size_is count_is same enters =
       let of : IsOfSrb view.sector_size (length view.sectors) srb entry =
@@ -76,7 +76,7 @@ module _ (view : AdapterView) (medium medium' : MediumView) (tag piece : ℕ) (o
       }
 
   -- a failure
-  pub refused_bookable : (completion : Completion) → Refuses medium completion medium' → IsBookable view tag piece (Err completion)
+  pub refused_bookable : (completion : Completion) → Refuses medium write_protected one completion medium' → IsBookable view tag piece (Err completion)
   refused_bookable completion refuses = record {
     use' = armed.use';
     others = armed.others;

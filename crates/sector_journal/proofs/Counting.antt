@@ -1,5 +1,5 @@
 -- How many pieces may act.
-use Rattle.std.proofs.Common.{◌≡◌, ◌≤◌, ◌<◌, ℕ, ◌+◌, ◌-◌, ◌*◌, List, [], ◌∷◌, length, Option, Some, None, get_or, slice_set, All, refl, sym, ap, ◌∙◌, arith, Fits, w64}
+use Rattle.std.proofs.Common.{◌≡◌, ◌≤◌, ◌<◌, ℕ, zero, suc, ◌+◌, ◌-◌, ◌*◌, List, [], ◌∷◌, length, Option, Some, None, get_or, slice_set, All, refl, sym, ap, ◌∙◌, arith, Fits, w64}
 use Rattle.std.specs.List.{sum_by}
 use Rattle.std.proofs.lemmas.List.Sums.{sum_by-set, sum_by-le, get_or-le-sum_by}
 use Rattle.std.proofs.lemmas.List.Elements.{All-nil, All-cons}
@@ -41,3 +41,8 @@ same_count slots tag low none =
     let h : armed_count (slice_set slots tag None) + one_if_armed (get_or slots tag None) ≡ armed_count slots + 0 = sum_by-set one_if_armed slots tag None None low in
     let zero_there : one_if_armed (get_or slots tag None) ≡ 0 = ap one_if_armed none in
     omega (arith, h, zero_there)
+
+pub within_slots : (slots : List (Option Armed)) (tag : ℕ) (armed : Armed) → armed_at slots tag ≡ Some armed → tag < length slots
+within_slots [] tag armed h = absurd (cc (h))
+within_slots (slot ∷ slots) zero armed h = omega arith
+within_slots (slot ∷ slots) (suc tag) armed h = let low : tag < length slots = within_slots slots tag armed h in omega (arith, low)

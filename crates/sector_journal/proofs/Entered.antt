@@ -17,6 +17,7 @@ use Rattle.srb.specs.declared.Kind.TheVariants.{Read, Write, Flush}
 use Rattle.srb.specs.declared.Entry.{Entry}
 use Rattle.srb.specs.declared.Completion.{Completion}
 use Rattle.adapter.specs.Performing.{Performs}
+use Rattle.adapter.proofs.Performing.{Performs-length}
 use Rattle.adapter.specs.Booking.{MayBeOf, IsTransferOf, IsFlushOf}
 use Rattle.disk.specs.Medium.{MediumView, HasWholeSectors}
 use Rattle.miniport.specs.Carrying.{CarriesOut, FailsBy, disk_of}
@@ -128,25 +129,28 @@ module _ (size : ℕ) (sectors : List (List ℕ)) (bytes0 : List ℕ) (piece tag
 
 pub moved_enters : (view : MediumView) (write_protected : Bool) (srb srb' : Srb) (bytes : List ℕ) (view' : MediumView) (tag piece : ℕ) (kind : Kind) (extent : Extent)
     → HasWholeSectors view → CarriesOut view write_protected srb srb' bytes view' → ((command : Cdb) → Means srb.block command → named command ≡ Some (kind, extent))
-    → Enters view tag piece srb (record { piece = piece; tag = tag; extent = extent; kind = kind; bytes = bytes }) view'
+    → Enters view write_protected tag piece srb (record { piece = piece; tag = tag; extent = extent; kind = kind; bytes = bytes }) view'
 moved_enters view write_protected srb srb' bytes view' tag piece kind extent whole carries is =
     let sectors_are : view'.sectors ≡ carries.sectors = ap (λ (v : MediumView). v.sectors) carries.after in
     let long : length srb.data ≡ bytes_of view.sector_size carries.command = as_long (disk_of view write_protected) srb carries.command carries.no_fault in
     let got = entered view.sector_size view.sectors srb.data piece tag bytes carries.moved carries.sectors whole carries.bytes_are carries.command kind extent
     (is carries.command carries.means) long carries.performs in
     record {
+      no_row = record { command = carries.command; means = carries.means; no_fault = carries.no_fault };
       is_piece = refl;
       is_tag = refl;
       of_srb = record { command = carries.command; means = carries.means; may = got.may };
       replays = subst (λ (x : List (List ℕ)). ReplaysKind view.sector_size view.sectors extent bytes kind x) (sym sectors_are) got.replays;
+      as_many = ap length sectors_are ∙ Performs-length view.sector_size view.sectors srb.data carries.command carries.moved carries.sectors carries.performs;
       after = carries.after ∙ ap (λ (x : List (List ℕ)). record view { sectors = x }) (sym sectors_are);
     }
 
 pub failed_refuses : (view : MediumView) (write_protected : Bool) (srb srb' : Srb) (completion : Completion) (view' : MediumView)
-    → FailsBy view write_protected srb srb' completion view' → Refuses view completion view'
+    → FailsBy view write_protected srb srb' completion view' → Refuses view write_protected srb completion view'
 failed_refuses view write_protected srb srb' completion view' fails =
     let failures_are : view'.failures ≡ fails.failures = ap (λ (v : MediumView). v.failures) fails.after in
     record {
+      by_row = record { decoded = fails.decoded; decodes = fails.decodes; fault = fails.fault };
       is_bad = fault_is_bad (disk_of view write_protected) srb fails.decoded completion fails.fault;
       counted = subst (λ (x : ℕ). x ≤ view.failures + 1) (sym failures_are) fails.counted;
       after = fails.after ∙ ap (λ (x : ℕ). record view { failures = x }) (sym failures_are);

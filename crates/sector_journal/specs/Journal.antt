@@ -51,9 +51,10 @@ pub record MayAct (medium : MediumView) (armings : List Armed) (tag : ℕ) (arme
   pub is_tag : armed.tag ≡ tag
   pub noted : slice_get armings armed.number ≡ Some armed
 
--- what a write may move is reserved in the medium
-abbrev pub IsHeld : MediumView → Reservation → Type 0
-IsHeld medium reservation = reservation.kind ≡ Write → IsReserved medium reservation.extent
+-- a piece has a sector at least, and what a write may move is reserved in the medium
+pub record IsHeld (medium : MediumView) (reservation : Reservation) : Type 0 where
+  pub some : 1 ≤ reservation.max_transfer
+  pub reserved : reservation.kind ≡ Write → IsReserved medium reservation.extent
 
 -- the entries give the sectors, replayed from those that the journal was opened with; and whatever is armed can act
 pub record JournalKept (opening : List (List ℕ)) (medium : MediumView) (entries : List Entry) (places : ℕ) (slots : List (Option Armed)) (armings : List Armed) (reservations : List Reservation) : Type 0 where
@@ -122,13 +123,14 @@ pub record Arms (old : JournalView) (tag piece : ℕ) (srb : Srb) (new : Journal
 
 -- no piece may act on the tag
 pub record Disarms (old : JournalView) (tag : ℕ) (new : JournalView) : Type 0 where
+  pub no_less : (long : ℕ) → pieces_at old.room long ≤ pieces_at new.room long
   pub after : new ≡ record old { slots = slice_set old.slots tag None; room = new.room }
 
 -- what came of it, in the medium and in the entries
 abbrev pub Does : JournalView → ℕ → ℕ → Armed → Result ℕ Completion → JournalView → Type 0
 Does old tag piece armed (Ok number) new =
-    (entry : Entry) × (number ≡ length old.entries) × Enters old.medium tag piece armed.srb entry new.medium × (new.entries ≡ old.entries ++ entry ∷ [])
-Does old tag piece armed (Err completion) new = Refuses old.medium completion new.medium × (new.entries ≡ old.entries)
+    (entry : Entry) × (number ≡ length old.entries) × Enters old.medium old.write_protected tag piece armed.srb entry new.medium × (new.entries ≡ old.entries ++ entry ∷ [])
+Does old tag piece armed (Err completion) new = Refuses old.medium old.write_protected armed.srb completion new.medium × (new.entries ≡ old.entries)
 
 -- the piece acts or fails, and the tag is disarmed
 pub record Acts (old : JournalView) (tag piece : ℕ) (done : Result ℕ Completion) (new : JournalView) : Type 0 where

@@ -1,5 +1,6 @@
 -- The buffers of pieces that may yet be armed.
-use Rattle.std.specs.Prelude.{◌≡◌, ℕ, ◌+◌, List, [], ◌∷◌, length, Bool, ◌==◌, if◌then◌else◌}
+use Rattle.std.specs.Prelude.{◌≡◌, ℕ, ◌+◌, List, length, Bool, ◌==◌, Option, Some, None, get_or}
+use Rattle.std.specs.List.{position}
 use Rattle.sector_journal.specs.declared.shelf.Buffers.{Buffers}
 
 -- for so many pieces of so many bytes there are buffers
@@ -17,10 +18,13 @@ pub record TakesOne (old new : Room) : Type 0 where
   pub same : new.bytes ≡ old.bytes
   pub less : new.pieces + 1 ≡ old.pieces
 
--- for how many pieces of this length there are buffers: as the first line for that length says
-abbrev pub pieces_at : List Room → ℕ → ℕ
-pieces_at [] long = 0
-pieces_at (room ∷ rooms) long = if room.bytes == long then room.pieces else pieces_at rooms long
-
 abbrev pub is_for : ℕ → Room → Bool
 is_for long room = room.bytes == long
+
+abbrev pub pieces_on : List Room → Option ℕ → ℕ
+pieces_on rooms None = 0
+pieces_on rooms (Some at) = (get_or rooms at (record { bytes = 0; pieces = 0 })).pieces
+
+-- for how many pieces of this length there are buffers: as the first line for that length says
+abbrev pub pieces_at : List Room → ℕ → ℕ
+pieces_at rooms long = pieces_on rooms (position (is_for long) rooms)

@@ -61,7 +61,7 @@ pub fn enter<M: Medium>(
     requires countable { (M.view medium.old).failures < 2 ^ 120 }
     requires some { 1 ≤ length (M.view medium.old).sectors }
     requires names { (command : Cdb) → Means srb.block command → (what : _) × (named command ≡ Some what) }
-    ensures { MatchResult result (λ entry. Enters (M.view medium.old) tag piece srb entry (M.view medium.new)) (λ completion. Refuses (M.view medium.old) completion (M.view medium.new)) }
+    ensures { MatchResult result (λ entry. Enters (M.view medium.old) write_protected tag piece srb entry (M.view medium.new)) (λ completion. Refuses (M.view medium.old) write_protected srb completion (M.view medium.new)) }
 {
     let named = named_in(srb.block.as_slice());
     match carry_out(medium, write_protected, srb) {

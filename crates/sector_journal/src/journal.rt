@@ -6,6 +6,8 @@ ghost use Rattle.std.specs.List.{list_any, position};
 ghost use Rattle.std.specs.Option.{option_copied};
 ghost use Rattle.chronicle.specs.Claims.{AllStand};
 ghost use Rattle.srb.specs.declared.Entry.{Entry};
+ghost use Rattle.srb.specs.declared.Kind.{Kind};
+ghost use Rattle.disk.specs.Medium.{IsReserved, IsWithin, Reserves};
 ghost use Rattle.srb.specs.Replaying.{Replays};
 ghost use Rattle.sector_journal.specs.declared.reservation.Reservation.{Reservation};
 ghost use Rattle.sector_journal.specs.declared.slots.Armed.{Armed};
@@ -18,7 +20,7 @@ ghost use Rattle.sector_journal.specs.Stocking.{IsOfLength};
 use crate::entering::{enter, named_in};
 use crate::name::{Naming, OfArmings, OfEntries};
 use crate::opened::{History, Opened};
-use crate::reservation::{Reservation, is_write};
+use crate::reservation::{Batch, Reservation, is_write};
 use crate::shelf::Buffers;
 use crate::slots::{Armed, Slots};
 use crate::stock::Stock;
@@ -95,6 +97,38 @@ fn own_srb(srb: &Srb, kind: Kind, buffers: Buffers) -> Srb
         for_label: buffers.for_label,
         sense: None,
     }
+}
+
+/// The pieces of both batches.
+fn pieces_in(batches: &(Batch, Batch)) -> usize
+    requires { batches.now.0.pieces + batches.now.1.pieces < 2 ^ 64 }
+    ensures { result ≡ batches.now.0.pieces + batches.now.1.pieces }
+{
+    batches.0.pieces + batches.1.pieces
+}
+
+/// Reserves in the medium what a write may move.
+fn hold<M: Medium>(medium: &mut M, kind: Kind, extent: Extent) -> Result<(), AllocError>
+    requires { IsWithin (M.view medium.old) extent }
+    ensures held { OnOk result (kind ≡ Kind.Write → IsReserved (M.view medium.new) extent) }
+    ensures reserves { Reserves (M.view medium.old) (M.view medium.new) }
+{
+    if !is_write(kind) {
+        return Ok(());
+    }
+    medium.reserve(extent).map_err(|_| AllocError)
+}
+
+/// Makes the buffers of these pieces, or of none.
+fn promise(stock: &mut Stock, slots: &Slots, batches: (Batch, Batch)) -> Result<(), AllocError> {
+    let (full, last) = batches;
+    let out = slots.armed_with(full.length);
+    stock.promise(full, out)?;
+    if stock.promise(last, slots.armed_with(last.length)).is_err() {
+        stock.withdraw(full, out);
+        return Err(AllocError);
+    }
+    Ok(())
 }
 
 fn is_covered(reservations: &[Reservation], kind: Kind, extent: Extent) -> bool
@@ -220,24 +254,12 @@ impl<M: Medium, N: Naming> Journal<M, N> {
             extent,
             max_transfer,
         };
-        let (full, last) = reservation.batches(self.medium.sector_size());
-        let pieces = full.pieces.saturating_add(last.pieces);
-        let wanted = self.promised.saturating_add(pieces);
+        let batches = reservation.batches(self.medium.sector_size());
         self.reservations.reserve(1)?;
+        let wanted = self.promised.saturating_add(pieces_in(&batches));
         self.entries.reserve(wanted)?;
-        if is_write(kind) && self.medium.reserve(extent).is_err() {
-            return Err(AllocError);
-        }
-        let out = self.slots.armed_with(full.length);
-        self.stock.promise(full, out)?;
-        if self
-            .stock
-            .promise(last, self.slots.armed_with(last.length))
-            .is_err()
-        {
-            self.stock.withdraw(full, out);
-            return Err(AllocError);
-        }
+        hold(&mut self.medium, kind, extent)?;
+        promise(&mut self.stock, &self.slots, batches)?;
         self.promised = wanted;
         self.reservations.push_reserved(reservation);
         Ok(())

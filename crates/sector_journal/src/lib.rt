@@ -26,6 +26,3 @@ pub use name::{Naming, OfArmings, OfEntries};
 pub use opened::{History, Opened};
 pub use reservation::Reservation;
 pub use slots::Armed;
-
-#[cfg(test)]
-mod tests;

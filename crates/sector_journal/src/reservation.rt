@@ -83,7 +83,8 @@ impl Reservation {
     /// The pieces of full length, and the piece of what is left, if there is one: of a flush this is the only one.
     pub(crate) fn batches(&self, sector_size: u32) -> (Batch, Batch)
         requires { 1 ≤ self.now.max_transfer }
-        ensures { result.0.pieces + result.1.pieces ≡ pieces_of self.now }
+        ensures together { result.0.pieces + result.1.pieces ≡ pieces_of self.now }
+        ensures fits { result.0.pieces + result.1.pieces < 2 ^ 64 }
     {
         let most = self.max_transfer as u64;
         let size = sector_size as u64;
@@ -108,7 +109,8 @@ fn cut(count: u64, most: u64, size: u64) -> (Batch, Batch)
     requires some { 1 ≤ most }
     requires most { most < 2 ^ 32 }
     requires size { size < 2 ^ 32 }
-    ensures { result.0.pieces + result.1.pieces ≡ count / most + min (count % most) 1 }
+    ensures together { result.0.pieces + result.1.pieces ≡ count / most + min (count % most) 1 }
+    ensures fits { result.0.pieces + result.1.pieces < 2 ^ 64 }
 {
     let left = count % most;
     (

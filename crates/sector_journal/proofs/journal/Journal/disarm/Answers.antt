@@ -1,0 +1,9 @@
+use Rattle.sector_journal.proofs.Kept.{disarmed_kept}
+use Rattle.sector_journal.proofs.journal.Journal.disarm.Goals as goal
+
+pub invariant_of-self : goal.invariant_of-self
+invariant_of-self g c = record {
+  kept = disarmed_kept _ _ _ _ _ _ _ _ c.args.tag c.self.invariant.kept c.clear.ensures.after;
+  numbers = c.self.invariant.numbers;
+  entered = c.self.invariant.entered;
+}

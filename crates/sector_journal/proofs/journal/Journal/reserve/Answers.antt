@@ -1,0 +1,37 @@
+use Rattle.std.proofs.Common.{rules, ◌≡◌, ◌≤◌, ◌∷◌, ◌++◌, [], vec_capacity, refl, sym, ap, ◌∙◌, le_refl, le_trans}
+use Rattle.sector_journal.specs.Journal.{IsHeld}
+use Rattle.sector_journal.proofs.Kept.{roomier_kept, admitted_kept}
+use Rattle.sector_journal.proofs.Reserved.{reserves_none, on_err, gains}
+use Rattle.sector_journal.proofs.journal.Journal.reserve.Goals as goal
+
+pub returns-in_err-reserve-clause-refused : goal.returns-in_err-reserve-clause-refused
+returns-in_err-reserve-clause-refused g c =
+    on_err c.from_residual.result (gains _ _ _ _ _ _ c.self.view_is (reserves_none _) (le_refl _) refl c.reserve.ensures.items)
+
+pub returns-in_err-reserve-2-clause-refused : goal.returns-in_err-reserve-2-clause-refused
+returns-in_err-reserve-2-clause-refused g c =
+    on_err c.from_residual-in_err-reserve-2.result (gains _ _ _ _ _ _ c.self.view_is (reserves_none _) c.reserve-2.ensures.capacity c.reserve-2.ensures.items c.reserve.ensures.items)
+
+pub invariant_of-self-in_err-hold : goal.invariant_of-self-in_err-hold
+invariant_of-self-in_err-hold g c = record {
+  kept = roomier_kept _ _ _ _ _ _ _ _ _ _ _ c.self.invariant.kept c.hold.ensures.reserves c.reserve-2.ensures.items c.reserve-2.ensures.capacity c.reserve.ensures.items;
+  numbers = c.self.invariant.numbers;
+  entered = c.self.invariant.entered ∙ sym c.reserve-2.ensures.items;
+}
+
+pub invariant_of-self-in_err-promise : goal.invariant_of-self-in_err-promise
+invariant_of-self-in_err-promise g c = record {
+  kept = roomier_kept _ _ _ _ _ _ _ _ _ _ _ c.self.invariant.kept c.hold.ensures.reserves c.reserve-2.ensures.items c.reserve-2.ensures.capacity c.reserve.ensures.items;
+  numbers = c.self.invariant.numbers;
+  entered = c.self.invariant.entered ∙ sym c.reserve-2.ensures.items;
+}
+
+pub invariant_of-self-2 : goal.invariant_of-self-2
+invariant_of-self-2 g c =
+    let held : IsHeld (g.M.Medium.view c.hold.new.medium) (record { request = c.args.request; kind = c.args.kind; extent = c.args.extent; max_transfer = c.args.max_transfer }) = search rules in
+    record {
+      kept = admitted_kept _ _ _ _ _ _ _ _ _ _ _ _ c.self.invariant.kept c.hold.ensures.reserves c.reserve-2.ensures.items c.reserve-2.ensures.capacity held
+          (c.push_reserved.ensures.items ∙ ap (λ rs. rs ++ (record { request = c.args.request; kind = c.args.kind; extent = c.args.extent; max_transfer = c.args.max_transfer }) ∷ []) c.reserve.ensures.items);
+      numbers = c.self.invariant.numbers;
+      entered = c.self.invariant.entered ∙ sym c.reserve-2.ensures.items;
+    }
