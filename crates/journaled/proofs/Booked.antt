@@ -1,27 +1,21 @@
 -- What came of a piece in the journal may be booked of it.
 use Rattle.std.proofs.Common.{◌≡◌, ◌≢◌, ◌≤◌, ℕ, ◌+◌, Bool, true, false, List, [], ◌∷◌, ◌++◌, length, Option, Some, None, Result, Ok, Err, IsFalse, refl, sym, ap, subst, ◌∙◌, arith, if◌then◌else◌}
 use Rattle.std.specs.Prelude.{slice_get}
-use Rattle.sector.specs.declared.Extent.{Extent}
-use Rattle.sector.proofs.Splicing.{length-splice}
-use Rattle.cdb.specs.declared.Cdb.{Cdb}
-use Rattle.cdb.specs.declared.Cdb.TheVariants.{Read10, Write10, Sync10, ReadCapacity10, Read16, Write16, Sync16, ReadCapacity16}
 use Rattle.srb.specs.declared.Srb.{Srb}
-use Rattle.srb.specs.declared.Kind.{Kind}
-use Rattle.srb.specs.declared.Kind.TheVariants.{Read, Write, Flush}
 use Rattle.srb.specs.declared.Entry.{Entry}
 use Rattle.srb.specs.declared.Completion.{Completion}
 use Rattle.srb.specs.declared.Class.TheVariants.{Bad}
 use Rattle.srb.specs.Fate.{class_of}
-use Rattle.srb.specs.Replaying.{ReplaysKind}
 use Rattle.disk.specs.Medium.{MediumView}
 use Rattle.adapter.specs.View.{AdapterView}
-use Rattle.adapter.specs.Booking.{IsArmed, IsBookable, Suits, MayBeOf, IsTransferOf, Books, with_booking}
+use Rattle.adapter.specs.Booking.{IsArmed, IsBookable, Suits, Books, with_booking}
 use Rattle.compose.specs.Journaled.{IsOfPiece, with_entry}
 use Rattle.sector_journal.specs.Entering.{Enters}
 use Rattle.sector_journal.specs.Journal.{JournalView}
 use Rattle.sector_journal.proofs.Bookable.{entered_bookable}
 use Rattle.journaled.specs.Shown.{IsAsLarge, KeepsEntries}
-use Rattle.journaled.specs.Acting.{CameTo, HasEntry, HasFailed, IsNumbered, IsThat}
+use Rattle.journaled.specs.Acting.{CameTo, IsNumbered, IsThat}
+use Rattle.journaled.proofs.Entered.{HasEntry, HasFailed, Left, left}
 
 -- THE ENTRY OF A NUMBER
 
@@ -42,57 +36,31 @@ own_entry before after number entry booked n a there =
     let f : slice_get (before ++ entry ∷ []) (length before) ≡ Some booked = subst (λ (k : ℕ). slice_get (before ++ entry ∷ []) k ≡ Some booked) n e in
     some_entry (sym f ∙ last_entry before entry)
 
--- what a piece came to is an entry's number, or a failure
-pub numbered : (old new : JournalView) (tag piece : ℕ) (srb : Srb) (done : Result ℕ Completion) → CameTo old tag piece srb done new → IsNumbered new.entries done
-numbered old new tag piece srb (Ok number) came =
-    let long : length new.entries ≡ length old.entries + 1 = ap (λ (es : List Entry). length es) came.entries ∙ longer old.entries came.entry in
-    let last : number ≡ length old.entries = came.is_last in
+-- what a piece left is an entry's number, or a failure
+left_numbered : (old new : JournalView) (tag piece : ℕ) (srb : Srb) (done : Result ℕ Completion) → Left old tag piece srb done new → IsNumbered new.entries done
+left_numbered old new tag piece srb (Ok number) has =
+    let long : length new.entries ≡ length old.entries + 1 = ap (λ (es : List Entry). length es) has.entries ∙ longer old.entries has.entry in
+    let last : number ≡ length old.entries = has.is_last in
     omega (arith, long, last)
-numbered old new tag piece srb (Err completion) came = tt
+left_numbered old new tag piece srb (Err completion) has = tt
+
+pub numbered : (old new : JournalView) (tag piece : ℕ) (srb : Srb) (done : Result ℕ Completion) → CameTo old tag piece srb done new → IsNumbered new.entries done
+numbered old new tag piece srb done came = left_numbered old new tag piece srb done (left old tag piece srb done new came)
 
 -- AS MANY SECTORS
 
-transfer_inside : (size sectors : ℕ) (bytes : List ℕ) (kind : Kind) (lba count : ℕ) (entry : Entry) → IsTransferOf size sectors bytes kind lba count entry → entry.extent.first + entry.extent.count ≤ sectors
-transfer_inside size sectors bytes kind lba count entry h =
-    let first : entry.extent.first ≡ lba = h.first_is in
-    let many : entry.extent.count ≡ count = h.count_is in
-    let inside : lba + count ≤ sectors = h.inside in
-    omega (arith, first, many, inside)
-
-inside : (size sectors : ℕ) (bytes : List ℕ) (entry : Entry) (command : Cdb) → MayBeOf size sectors bytes entry command → entry.kind ≡ Write → entry.extent.first + entry.extent.count ≤ sectors
-inside size sectors bytes entry (Read10 lba count fua) h kind = transfer_inside size sectors bytes Read lba count entry h
-inside size sectors bytes entry (Read16 lba count fua) h kind = transfer_inside size sectors bytes Read lba count entry h
-inside size sectors bytes entry (Write10 lba count fua) h kind = transfer_inside size sectors bytes Write lba count entry h.0
-inside size sectors bytes entry (Write16 lba count fua) h kind = transfer_inside size sectors bytes Write lba count entry h.0
-inside size sectors bytes entry (Sync10 lba count) h kind = let e : Flush ≡ Write = sym h.kind_is ∙ kind in absurd (cc (e))
-inside size sectors bytes entry (Sync16 lba count) h kind = let e : Flush ≡ Write = sym h.kind_is ∙ kind in absurd (cc (e))
-inside size sectors bytes entry ReadCapacity10 h kind = absurd h
-inside size sectors bytes entry (ReadCapacity16 allocation) h kind = absurd h
-
-as_many : (size : ℕ) (disk : List (List ℕ)) (extent : Extent) (bytes : List ℕ) (kind : Kind) (after : List (List ℕ)) → (kind ≡ Write → extent.first + extent.count ≤ length disk)
-    → ReplaysKind size disk extent bytes kind after → length after ≡ length disk
-as_many size disk extent bytes Read after fits h = ap (λ (xs : List (List ℕ)). length xs) h.1
-as_many size disk extent bytes Write after fits h =
-    let many : length h.0 ≡ extent.count = h.2 in
-    let low : extent.first + extent.count ≤ length disk = fits refl in
-    let room : extent.first + length h.0 ≤ length disk = omega (arith, many, low) in
-    ap (λ (xs : List (List ℕ)). length xs) h.4 ∙ length-splice disk extent.first h.0 room
-as_many size disk extent bytes Flush after fits h = ap (λ (xs : List (List ℕ)). length xs) h
-
-entered_large : (before after : JournalView) (tag piece : ℕ) (own : Srb) (entry : Entry) → Enters before.medium tag piece own entry after.medium → IsAsLarge before after
-entered_large before after tag piece own entry e = record {
-  sector_size = ap (λ (m : MediumView). m.sector_size) e.after;
-  sectors =
-      as_many before.medium.sector_size before.medium.sectors entry.extent entry.bytes entry.kind after.medium.sectors
-      (inside before.medium.sector_size (length before.medium.sectors) own.data entry e.of_srb.command e.of_srb.may) e.replays;
-}
+entered_large : (before after : JournalView) (tag piece : ℕ) (own : Srb) (entry : Entry) → Enters before.medium before.write_protected tag piece own entry after.medium → IsAsLarge before after
+entered_large before after tag piece own entry e = record { sector_size = ap (λ (m : MediumView). m.sector_size) e.after; sectors = e.as_many }
 
 pub kept_large : (before after : JournalView) → KeepsEntries before after → IsAsLarge before after
 kept_large before after keeps = record { sector_size = keeps.same_size; sectors = ap (λ (xs : List (List ℕ)). length xs) keeps.same_sectors }
 
+left_large : (before after : JournalView) (tag piece : ℕ) (srb : Srb) (done : Result ℕ Completion) → Left before tag piece srb done after → IsAsLarge before after
+left_large before after tag piece srb (Ok number) has = entered_large before after tag piece has.own has.entry has.enters
+left_large before after tag piece srb (Err completion) has = kept_large before after has.keeps
+
 pub came_large : (before after : JournalView) (tag piece : ℕ) (srb : Srb) (done : Result ℕ Completion) → CameTo before tag piece srb done after → IsAsLarge before after
-came_large before after tag piece srb (Ok number) came = entered_large before after tag piece came.own came.entry came.enters
-came_large before after tag piece srb (Err completion) came = kept_large before after came.keeps
+came_large before after tag piece srb done came = left_large before after tag piece srb done (left before tag piece srb done after came)
 
 -- MAY BE BOOKED
 
@@ -116,7 +84,7 @@ module _ (view : AdapterView) (before after : JournalView) (tag piece : ℕ) (sr
         of_piece = (has.enters.is_piece, has.enters.is_tag);
         entries = has.entries;
         large = entered_large before after tag piece has.own has.entry has.enters;
-        bookable = entered_bookable view before.medium after.medium tag piece has.own srb apart not_first armed has.entry size_is count_is has.same has.enters;
+        bookable = entered_bookable view before.medium after.medium before.write_protected tag piece has.own srb apart not_first armed has.entry size_is count_is has.same has.enters;
       } in
       subst (λ (x : Entry). IsOwn view before after tag piece (Ok x)) (sym own) it
 
@@ -130,11 +98,14 @@ module _ (view : AdapterView) (before after : JournalView) (tag piece : ℕ) (sr
       } in
       subst (λ (x : Completion). IsOwn view before after tag piece (Err x)) (sym same) it
 
+  left_own : (done : Result ℕ Completion) (what : Result Entry Completion) → Left before tag piece srb done after → IsThat after.entries done what → IsOwn view before after tag piece what
+  left_own (Ok number) (Ok entry) has that = entered number entry has that
+  left_own (Err completion) (Err booked) has that = failed completion booked has that
+  left_own (Ok number) (Err booked) has that = absurd that
+  left_own (Err completion) (Ok entry) has that = absurd that
+
   pub own : (done : Result ℕ Completion) (what : Result Entry Completion) → CameTo before tag piece srb done after → IsThat after.entries done what → IsOwn view before after tag piece what
-  own (Ok number) (Ok entry) came that = entered number entry came that
-  own (Err completion) (Err booked) came that = failed completion booked came that
-  own (Ok number) (Err booked) came that = absurd that
-  own (Err completion) (Ok entry) came that = absurd that
+  own done what came that = left_own done what (left before tag piece srb done after came) that
 
 -- BOOKING LEAVES THE SECTORS WHERE THEY ARE
 

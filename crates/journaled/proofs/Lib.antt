@@ -1,3 +1,4 @@
+pub mod Entered
 pub mod Booked
 pub mod Telling
 pub mod Within

@@ -23,7 +23,7 @@ use Rattle.compose.proofs.JournaledKept.{IsLed, led}
 use Rattle.sector_journal.specs.Journal.{JournalView}
 use Rattle.journaled.specs.Shown.{JournaledView, StandsIn, IsAsLarge, KeepsEntries, over}
 use Rattle.journaled.specs.Acting.{BooksArmed, HasBooked, HasNoneToBook}
-use Rattle.journaled.specs.Right.{StepsBooked}
+use Rattle.journaled.specs.Right.{BooksFor, StepsBooked, IsServed}
 use Rattle.journaled.specs.Told.{IsTold, TellsOn}
 use Rattle.journaled.proofs.Booked.{IsOwn, own, came_large, kept_large, booked_apart}
 
@@ -76,6 +76,26 @@ module _ (keep : StepsKeepEntries) (apart : StepsStayApart) (old new : ManagerVi
               journaled = subst (λ (es : List Entry). IsJournaled (trace ++ new.labels) es new) (sym keeps.entries) (keep trace before.entries old event reply new other right told.journaled);
             };
       }
+
+module _ (old new : ManagerView) (before after : JournalView) (reply : Reply) (keeps : KeepsEntries before after) where
+  nothing_booked : (event : Event) → IsNoAct event → BooksFor (over old before) event old after
+  nothing_booked (Open partition) other = (refl, keeps)
+  nothing_booked (Close handle) other = (refl, keeps)
+  nothing_booked (Read handle offset buffer) other = (refl, keeps)
+  nothing_booked (Write handle offset bytes through) other = (refl, keeps)
+  nothing_booked (Flush handle) other = (refl, keeps)
+  nothing_booked (CancelIoEx handle target) other = (refl, keeps)
+  nothing_booked (Mark number) other = (refl, keeps)
+  nothing_booked QueryRemove other = (refl, keeps)
+  nothing_booked CancelRemove other = (refl, keeps)
+  nothing_booked Remove other = (refl, keeps)
+  nothing_booked SurpriseRemove other = (refl, keeps)
+  nothing_booked (Act tag) other = absurd other
+  nothing_booked (Finish tag) other = (refl, keeps)
+  nothing_booked Reset other = (refl, keeps)
+
+  pub others_served : (event : Event) → IsNoAct event → IsRight old event reply new → IsServed (over old before) event reply (over new after)
+  others_served event other right = inl (record { booked = old; books = nothing_booked event other; right = right })
 
 pub keeps_on : (old mid new : JournalView) → KeepsEntries old mid → KeepsEntries mid new → KeepsEntries old new
 keeps_on old mid new one other = record {
@@ -143,9 +163,8 @@ module _ (idle : IdleActsKeepEntries) (adds : BookedActsAddEntries) (may : Armed
   act_told (inl has) = booked_told has
   act_told (inr none) = idle_told none
 
-  pub act_right : BooksArmed old before tag booked after → StepsBooked old (Act tag) reply new
-  act_right (inl has) = record { booked = booked; books = inl (has.piece, has.what, has.books); right = right }
-  act_right (inr none) = record { booked = booked; books = inr none.same_stack; right = right }
+  pub act_right : BooksArmed old before tag booked after → StepsBooked (over old before) (Act tag) reply (over new after)
+  act_right books = record { booked = booked; books = books; right = right }
 
   pub act_rules : BooksArmed old before tag booked after → new.rules ≡ old.rules
   act_rules (inl has) = by.by.same_rules ∙ ap (λ (v : ManagerView). v.rules) has.books.same

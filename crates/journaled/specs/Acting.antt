@@ -1,5 +1,5 @@
 -- What the act of a piece comes to, in the journal and at the adapter.
-use Rattle.std.specs.Prelude.{◌≡◌, ◌⊎◌, ◌<◌, ℕ, List, [], ◌∷◌, ◌++◌, length, slice_get, Some, Result, Ok, Err}
+use Rattle.std.specs.Prelude.{◌≡◌, ◌⊎◌, ◌<◌, ℕ, List, length, slice_get, Some, Result, Ok, Err}
 use Rattle.srb.specs.declared.Srb.{Srb}
 use Rattle.srb.specs.declared.Entry.{Entry}
 use Rattle.srb.specs.declared.Completion.{Completion}
@@ -9,31 +9,27 @@ use Rattle.adapter.specs.Calls.{HasNoneFresh}
 use Rattle.adapter.specs.Booking.{IsArmed}
 use Rattle.io_manager.specs.Shown.{ManagerView}
 use Rattle.io_manager.specs.Right.{BooksPiece}
-use Rattle.sector_journal.specs.Arming.{AskTheSame}
-use Rattle.sector_journal.specs.Entering.{Enters}
-use Rattle.sector_journal.specs.Journal.{JournalView}
-use Rattle.journaled.specs.Shown.{KeepsEntries}
+use Rattle.sector_journal.specs.Journal.{JournalView, MayArm, Arms, Acts}
 
 -- IN THE JOURNAL
 
--- the piece has its entry, the last, by an SRB of the journal's own that asks for the same
-pub record HasEntry (old : JournalView) (tag piece : ℕ) (srb : Srb) (number : ℕ) (new : JournalView) : Type 0 where
-  pub own : Srb
-  pub entry : Entry
-  pub same : AskTheSame own srb
-  pub is_last : number ≡ length old.entries
-  pub enters : Enters old.medium tag piece own entry new.medium
-  pub entries : new.entries ≡ old.entries ++ entry ∷ []
+-- the piece is armed, and then acts or fails
+pub record ActsThere (old : JournalView) (tag piece : ℕ) (srb : Srb) (done : Result ℕ Completion) (new : JournalView) : Type 0 where
+  pub may : MayArm old tag srb
+  pub armed : JournalView
+  pub arms : Arms old tag piece srb armed
+  pub acts : Acts armed tag piece done new
 
--- the piece failed, and nothing was entered
-pub record HasFailed (old : JournalView) (completion : Completion) (new : JournalView) : Type 0 where
+-- it may not be armed: it fails, and nothing changes
+pub record FailsUnarmed (old : JournalView) (tag : ℕ) (srb : Srb) (done : Result ℕ Completion) (new : JournalView) : Type 0 where
+  pub completion : Completion
+  pub may_not : ¬ (MayArm old tag srb)
+  pub fails : done ≡ Err completion
   pub is_bad : class_of completion ≡ Bad completion
-  pub keeps : KeepsEntries old new
+  pub same : new ≡ old
 
--- it acted, or failed
 abbrev pub CameTo : JournalView → ℕ → ℕ → Srb → Result ℕ Completion → JournalView → Type 0
-CameTo old tag piece srb (Ok number) new = HasEntry old tag piece srb number new
-CameTo old tag piece srb (Err completion) new = HasFailed old completion new
+CameTo old tag piece srb done new = ActsThere old tag piece srb done new ⊎ FailsUnarmed old tag srb done new
 
 -- AT THE ADAPTER
 

@@ -49,7 +49,8 @@ fn enter<M: Medium, N: Naming>(
     }
     match journal.act(history, tag, piece) {
         Some(done) => done,
-        None => Err(HARDWARE_ERROR),
+        // It was armed for just this piece.
+        None => unreachable!(),
     }
 }
 
@@ -107,7 +108,7 @@ pub(crate) fn act<M: Medium, N: Naming>(
 ) -> Reply
     requires taken { stack.old.labels ≡ [] }
     requires stands { StandsIn stack.old journal.old }
-    ensures right { StepsBooked stack.old (Act tag) result stack.new }
+    ensures right { StepsBooked (over stack.old journal.old) (Act tag) result (over stack.new journal.new) }
     ensures rules { stack.new.rules ≡ stack.old.rules }
     ensures stands { StandsIn stack.new journal.new }
     ensures told { TellsOn (over stack.old journal.old) (over stack.new journal.new) }
