@@ -1,23 +1,26 @@
 //! Stacks whose sectors stand in a journal: they show the same as stacks over a disk, row by row, and the entries of the
 //! journal, replayed on a fresh disk, read the same bytes and leave the same sectors.
 
-ghost use Rattle.std.specs.Prelude.{◌≡◌, [], IfOk, OnOk};
+ghost use Rattle.std.specs.Prelude.{◌≡◌, ◌≤◌, ◌+◌, ◌*◌, [], IfOk, IsFalse, OnOk, length};
+ghost use Rattle.disk.specs.Medium.{HasWholeSectors};
+ghost use Rattle.probe.specs.Exchange.{IsIdle};
+ghost use Rattle.journaled.specs.Opening.{IsStarted};
 
-use crate::disks::{ONE, Reluctant, disk};
+use crate::disks::{ONE, Reluctant, adapter, disk};
 use crate::expect::same;
-use crate::stacks::disks::stack_on;
 use crate::stacks::events::{
     HELD_AND_CANCELLED, PULLED_OUT, QUERY_TAKEN_BACK, REMOVED, RESET, TWO_PIECES, WRITE_AND_READ,
 };
 use crate::stacks::refused_memory::REFUSED_TWICE;
-use crate::stacks::steps::{Carrier, FIRST, Row, Step, go_and_answer, go_on};
-use compose::{Answer, Event, Reply, Stack};
+use crate::stacks::steps::{Carrier, FIRST, Row, Step, go_and_answer, go_on, show_step};
+use adapter::Adapter;
+use compose::{Answer, Event, Reply, Settings, Stack, StartFault};
 use device::Label;
 use disk::{Medium, VecDisk};
 use journaled::Journaled;
 use miniport::{BookedAdapter, MemAdapter};
 use ntstatus::Sense;
-use sector::{Bytes, Extent};
+use sector::Extent;
 use sector_journal::{History, Journal, Naming, Opened};
 use srb::{Completion, Entry, Kind};
 use std::alloc::{AllocError, Global};
@@ -41,36 +44,81 @@ impl<M: Medium, N: Naming> Carrier for Journaled<M, N> {
     }
 }
 
+/// A medium's sectors are whole.
+fn has_whole_sectors<M: Medium>(_medium: &M)
+    ensures { HasWholeSectors (M.view _medium.now) }
+{}
+
 /// A stack of two tags over no sectors, which moves two at most.
-fn stack_apart(rt: &impl Abort, alloc: Global) -> Result<Stack<BookedAdapter>, AllocError> {
+fn stack_apart(rt: &impl Abort, alloc: Global) -> Result<Stack<BookedAdapter>, AllocError>
+    ensures started { IfOk result IsStarted }
+    ensures apart { IfOk result (λ s. IsFalse s.adapter.faithful) }
+    ensures sizes { IfOk result (λ s. (s.rules.sector_size ≡ 512) × (s.rules.disk_sectors ≡ 4096)) }
+    ensures taken { IfOk result (λ s. s.labels ≡ []) }
+{
     let first = Vec::from_slice(alloc, &ONE.sector())?;
     let adapter = BookedAdapter::new(alloc, first, 4096, 2, 2).map_err(|_| AllocError)?;
-    stack_on(rt, alloc, adapter)
+    let settings = Settings {
+        window: 2,
+        open_requests: 4,
+    };
+    match Stack::start(alloc, adapter, settings) {
+        Ok(stack) => Ok(stack),
+        Err(StartFault::NoMemory) => Err(AllocError),
+        Err(fault) => panic!(rt; "{fault:?}"),
+    }
 }
 
-/// The same over a journal of this medium.
+/// The same over a journal of this medium, of 4,096 sectors of 512 bytes.
 fn journaled_on<M: Medium, N: Naming>(
     rt: &impl Abort,
     alloc: Global,
     opened: Opened,
     medium: M,
     write_protected: bool,
-) -> Result<Journaled<M, N>, AllocError> {
+) -> Result<Journaled<M, N>, AllocError>
+    requires named { opened ≡ record { armings = N.armings; entries = N.entries } }
+    requires opening { (M.view medium).sectors ≡ N.opening }
+    ensures { IfOk result (λ j. j.stack.labels ≡ []) }
+{
+    has_whole_sectors(&medium);
+    assert!(rt; medium.sectors() == 4096 && medium.sector_size() == 512);
+    assert!(rt; medium.failures() == 0);
     let (journal, history) = Journal::new(alloc, opened, medium, 2, write_protected)?;
     let stack = stack_apart(rt, alloc)?;
     Ok(Journaled::new(stack, journal, history, 2))
 }
 
-/// Reads sectors of a disk that can be read.
+/// The bytes of sectors that can be read.
 fn read_all<M: Medium>(
     rt: &impl Abort,
     alloc: Global,
     medium: &mut M,
     extent: Extent,
 ) -> Result<Vec<u8>, AllocError> {
+    let sectors = medium.sectors();
+    assert!(rt; extent.first <= sectors && extent.count <= sectors - extent.first);
+    assert!(rt; extent.count <= 64 && medium.sector_size() == 512);
+    assert!(rt; medium.failures() < 1000);
     let mut bytes = vec![in alloc; 0; extent.count as usize * 512]?;
     assert!(rt; medium.read(extent, bytes.as_mut_slice()).is_ok());
     Ok(bytes)
+}
+
+/// Writes sectors that can be written.
+fn write_all<M: Medium>(
+    rt: &impl Abort,
+    medium: &mut M,
+    extent: Extent,
+    bytes: &[u8],
+) -> Result<(), AllocError> {
+    let sectors = medium.sectors();
+    assert!(rt; extent.first <= sectors && extent.count <= sectors - extent.first);
+    medium.reserve(extent).map_err(|_| AllocError)?;
+    assert!(rt; extent.count <= 64 && medium.sector_size() == 512);
+    assert!(rt; bytes.len() == extent.count as usize * 512 && medium.failures() < 1000);
+    assert!(rt; medium.write(extent, bytes).is_ok());
+    Ok(())
 }
 
 /// An entry on a disk as it was before: a read's bytes are read again.
@@ -85,7 +133,7 @@ fn replay_one<M: Medium>(
             let bytes = read_all(rt, alloc, fresh, entry.extent)?;
             assert!(rt; bytes.as_slice() == entry.bytes.as_slice());
         }
-        Kind::Write => assert!(rt; fresh.write(entry.extent, entry.bytes.as_slice()).is_ok()),
+        Kind::Write => write_all(rt, fresh, entry.extent, entry.bytes.as_slice())?,
         Kind::Flush => assert!(rt; entry.bytes.len() == 0),
     }
     Ok(())
@@ -116,12 +164,13 @@ fn replay<M: Medium>(
 
 /// How many rows show an act.
 fn acts_in(rows: &[&[Row]]) -> usize {
-    let mut acts = 0;
+    let mut acts: usize = 0;
     for rows in rows {
-        acts += rows
-            .iter()
-            .filter(|(_, want)| want.contains("/ act "))
-            .count();
+        for (_, want) in *rows {
+            if want.contains("/ act ") {
+                acts = acts.saturating_add(1);
+            }
+        }
     }
     acts
 }
@@ -134,7 +183,10 @@ fn play_over<M: Medium, N: Naming>(
     medium: M,
     write_protected: bool,
     rows: &[&[Row]],
-) -> Result<(), AllocError> {
+) -> Result<(), AllocError>
+    requires named { opened ≡ record { armings = N.armings; entries = N.entries } }
+    requires opening { (M.view medium).sectors ≡ N.opening }
+{
     let mut driver: Journaled<M, N> = journaled_on(rt, alloc, opened, medium, write_protected)?;
     go_and_answer(rt, alloc, &mut driver, rows, None)?;
     let (_stack, mut medium, entries) = driver.into_parts();
@@ -192,12 +244,12 @@ const FAULTS: &[Row] = &[
 fn journals_what_a_bad_sector_leaves(rt: HostRuntime) -> Result<(), Fail> {
     let alloc = rt.alloc();
     play(&rt, alloc, &[FAULTS])?;
-    let adapter = crate::disks::adapter(&rt, alloc, disk(alloc, &ONE, &[2120])?, 2)?;
-    go_on(&rt, alloc, adapter, &[FAULTS], None)?;
+    let over_disk = adapter(&rt, alloc, disk(alloc, &ONE, &[2120])?, 2)?;
+    go_on(&rt, alloc, over_disk, &[FAULTS], None)?;
     Ok(())
 }
 
-/// A write meets a disk that takes none, and a read does not.
+/// A disk that takes no write: it fails, and a read does not.
 const PROTECTED: &[Row] = &[
     (Step::Open(0), "handle 1"),
     (
@@ -220,15 +272,29 @@ const PROTECTED: &[Row] = &[
     ),
 ];
 
+/// An adapter of two tags over a disk that takes no write.
+fn protected_adapter(
+    rt: &impl Abort,
+    alloc: Global,
+    medium: VecDisk,
+) -> Result<MemAdapter<VecDisk>, AllocError>
+    ensures idle { IfOk result (λ a. IsIdle a.shown) }
+    ensures unasked { IfOk result (λ a. a.shown.accepted ≡ 0) }
+{
+    let sectors = medium.sectors();
+    assert!(rt; 1 <= sectors && sectors <= 1 << 40);
+    assert!(rt; medium.sector_size() == 512 && medium.failures() == 0);
+    MemAdapter::new(alloc, medium, 2, 2, true).map_err(|_| AllocError)
+}
+
 #[test]
 fn journals_what_a_protected_disk_takes(rt: HostRuntime) -> Result<(), Fail> {
     let alloc = rt.alloc();
     let medium = disk(alloc, &ONE, &[])?;
     let opened = Opened::new(alloc)?;
     play_over::<VecDisk, Brand>(&rt, alloc, opened, medium, true, &[PROTECTED])?;
-    let medium = disk(alloc, &ONE, &[])?;
-    let adapter = MemAdapter::new(alloc, medium, 2, 2, true).map_err(|_| AllocError)?;
-    go_on(&rt, alloc, adapter, &[PROTECTED], None)?;
+    let over_disk = protected_adapter(&rt, alloc, disk(alloc, &ONE, &[])?)?;
+    go_on(&rt, alloc, over_disk, &[PROTECTED], None)?;
     Ok(())
 }
 
@@ -244,8 +310,7 @@ fn a_journal_refuses_a_write_twice(rt: HostRuntime) -> Result<(), Fail> {
     Ok(())
 }
 
-/// The key, the code and the qualifier of a sense (SPC, "Sense key and sense code definitions"), and the status that it
-/// comes to.
+/// A sense (SPC, "Sense key and sense code definitions"), and the status that it comes to.
 type Failure<'a> = (Sense, &'a str);
 
 const FAILURES: &[Failure] = &[
@@ -276,91 +341,104 @@ const FAILURES: &[Failure] = &[
 ];
 
 /// A piece of a new read fails as it is booked.
-fn fail_by(
+fn fail_by<A: Adapter>(
     rt: &impl Abort,
     alloc: Global,
-    stack: &mut Stack<BookedAdapter>,
+    stack: &mut Stack<A>,
     sense: Sense,
-) -> Result<Answer, AllocError> {
+) -> Result<Answer, AllocError>
+    requires { stack.old.labels ≡ [] }
+    ensures { OnOk result (stack.new.labels ≡ []) }
+{
+    show_step(alloc, stack, Step::Read(FIRST, 0, 512))?;
+    let Some((piece, _)) = stack.armed(0) else {
+        panic!(rt; "no piece could act");
+    };
     let completion = Completion {
         srb_status: 0x84,
         scsi_status: 0x02,
         sense: Some(sense),
     };
-    let buffer = Bytes::new(vec![in alloc; 0; 512]?);
-    let handle = FIRST;
-    stack.step(
-        alloc,
-        Event::Read {
-            handle,
-            offset: 0,
-            buffer,
-        },
-    );
-    while stack.take_label().is_some() {}
-    let Some((piece, _)) = stack.armed(0) else {
-        panic!(rt; "no piece could act");
-    };
     stack.book(0, piece, Err(completion));
-    for event in [Event::Act { tag: 0 }, Event::Finish { tag: 0 }] {
-        stack.step(alloc, event);
-        while stack.take_label().is_some() {}
-    }
+    show_step(alloc, stack, Step::Act(0))?;
+    show_step(alloc, stack, Step::Finish(0))?;
     match stack.take_answer() {
         Some(answer) => Ok(answer),
         None => panic!(rt; "no answer"),
     }
 }
 
-#[test]
-fn a_piece_comes_back_as_its_failure_was_booked(rt: HostRuntime) -> Result<(), Fail> {
-    let alloc = rt.alloc();
-    let mut stack = stack_apart(&rt, alloc)?;
-    stack.step(alloc, Event::Open { partition: 0 });
-    for (sense, want) in FAILURES {
-        let answer = fail_by(&rt, alloc, &mut stack, *sense)?;
-        same(&rt, &format!(in alloc; "{}", answer.status)?.as_str(), want);
+/// Each answer has the status of the failure that was booked.
+fn fail_all<A: Adapter>(
+    rt: &impl Abort,
+    alloc: Global,
+    stack: &mut Stack<A>,
+    failures: &[Failure],
+) -> Result<(), AllocError>
+    requires { stack.old.labels ≡ [] }
+{
+    show_step(alloc, stack, Step::Open(0))?;
+    for (sense, want) in failures {
+        let answer = fail_by(rt, alloc, stack, *sense)?;
+        let text = format!(in alloc; "{}", answer.status)?;
+        same(rt, &text.as_str(), want);
     }
     Ok(())
 }
 
+#[test]
+fn a_piece_comes_back_as_its_failure_was_booked(rt: HostRuntime) -> Result<(), Fail> {
+    let alloc = rt.alloc();
+    let mut stack = stack_apart(&rt, alloc)?;
+    fail_all(&rt, alloc, &mut stack, FAILURES)?;
+    Ok(())
+}
+
 /// A reset meets a piece that may act in the journal.
-fn reset_armed<N: Naming>(
+fn reset_armed<A: Adapter, N: Naming>(
     rt: &impl Abort,
     alloc: Global,
-    opened: Opened,
-    medium: VecDisk,
-) -> Result<(), AllocError> {
-    let (mut journal, history): (Journal<VecDisk, N>, History<N>) = Journal::new(
-        alloc, opened, medium, 2, false,
-    )?;
-    let mut stack = stack_apart(rt, alloc)?;
-    stack.step(alloc, Event::Open { partition: 0 });
-    let buffer = Bytes::new(vec![in alloc; 0; 512]?);
+    stack: &mut Stack<A>,
+    journal: &mut Journal<VecDisk, N>,
+    history: &History<N>,
+) -> Result<(), AllocError>
+    requires { stack.old.labels ≡ [] }
+{
+    show_step(alloc, stack, Step::Open(0))?;
+    assert!(rt; journal.sectors() == 4096);
     let extent = Extent {
         first: 2048,
         count: 1,
     };
     journal.reserve(1, Kind::Read, extent, 2)?;
-    stack.step(
-        alloc,
-        Event::Read {
-            handle: FIRST,
-            offset: 0,
-            buffer,
-        },
-    );
-    while stack.take_label().is_some() {}
+    show_step(alloc, stack, Step::Read(FIRST, 0, 512))?;
     let Some((piece, srb)) = stack.armed(0) else {
         panic!(rt; "no piece could act");
     };
-    assert!(rt; journal.arm(&history, 0, piece, srb));
-    stack.step(alloc, Event::Reset);
+    assert!(rt; journal.arm(history, 0, piece, srb));
+    show_step(alloc, stack, Step::Reset)?;
     assert!(rt; stack.armed(0).is_none());
     journal.disarm(0);
-    assert!(rt; journal.act(&history, 0, piece).is_none());
+    assert!(rt; journal.act(history, 0, piece).is_none());
     assert!(rt; journal.entries().is_empty());
     Ok(())
+}
+
+fn reset_over<N: Naming>(
+    rt: &impl Abort,
+    alloc: Global,
+    opened: Opened,
+    medium: VecDisk,
+) -> Result<(), AllocError>
+    requires named { opened ≡ record { armings = N.armings; entries = N.entries } }
+    requires opening { (⟦<VecDisk as Medium>⟧.view medium).sectors ≡ N.opening }
+{
+    assert!(rt; medium.sectors() == 4096 && medium.failures() == 0);
+    let (mut journal, history): (Journal<VecDisk, N>, History<N>) = Journal::new(
+        alloc, opened, medium, 2, false,
+    )?;
+    let mut stack = stack_apart(rt, alloc)?;
+    reset_armed(rt, alloc, &mut stack, &mut journal, &history)
 }
 
 #[test]
@@ -368,6 +446,6 @@ fn a_piece_that_a_reset_met_acts_no_more(rt: HostRuntime) -> Result<(), Fail> {
     let alloc = rt.alloc();
     let medium = disk(alloc, &ONE, &[])?;
     let opened = Opened::new(alloc)?;
-    reset_armed::<Brand>(&rt, alloc, opened, medium)?;
+    reset_over::<Brand>(&rt, alloc, opened, medium)?;
     Ok(())
 }

@@ -178,6 +178,19 @@ fn show<S: Carrier>(alloc: Global, stack: &mut S, event: Event) -> Result<Shown,
     Ok(Shown { reply, labels })
 }
 
+/// Carries a step out, whatever it shows.
+pub(super) fn show_step<S: Carrier>(
+    alloc: Global,
+    stack: &mut S,
+    step: Step,
+) -> Result<Shown, AllocError>
+    requires { S.labels stack.old ≡ [] }
+    ensures { OnOk result (S.labels stack.new ≡ []) }
+{
+    let event = event_of(alloc, step)?;
+    show(alloc, stack, event)
+}
+
 /// Whether memory for a call was refused.
 fn is_refused_for_memory(reply: &Reply) -> bool {
     matches!(
@@ -201,10 +214,10 @@ fn go_one<S: Carrier>(
     requires { S.labels stack.old ≡ [] }
     ensures { OnOk result (S.labels stack.new ≡ []) }
 {
-    let mut shown = show(alloc, stack, event_of(alloc, step)?)?;
+    let mut shown = show_step(alloc, stack, step)?;
     if is_refused_for_memory(&shown.reply) && want != REFUSED {
         assert!(rt; shown.labels.is_empty(), "{step:?}");
-        shown = show(alloc, stack, event_of(alloc, step)?)?;
+        shown = show_step(alloc, stack, step)?;
     }
     same_at(rt, &told(alloc, &shown)?.as_str(), &want, &step);
     Ok(())
@@ -235,10 +248,7 @@ fn answers<S: Carrier>(
     alloc: Global,
     stack: &mut S,
     wanted: &[&str],
-) -> Result<(), AllocError>
-    requires { S.labels stack.old ≡ [] }
-    ensures { OnOk result (S.labels stack.new ≡ []) }
-{
+) -> Result<(), AllocError> {
     for want in wanted {
         let Some(answer) = stack.take_answer() else {
             panic!(rt; "no answer waits")
@@ -289,7 +299,6 @@ pub(super) fn go_and_answer<S: Carrier>(
     told: Option<&[&str]>,
 ) -> Result<(), AllocError>
     requires { S.labels stack.old ≡ [] }
-    ensures { OnOk result (S.labels stack.new ≡ []) }
 {
     for rows in rows {
         go(rt, alloc, stack, rows)?;
