@@ -86,7 +86,7 @@ pub(super) const TWO_PIECES: &[Row] = &[
 ];
 
 // Two requests are at work and two held, so a fifth is refused; a mark of a held one, and a cancel of all on a handle.
-const HELD_AND_CANCELLED: &[Row] = &[
+pub(super) const HELD_AND_CANCELLED: &[Row] = &[
     (
         Step::Flush(FIRST),
         "request 4 / call 4 flush 0 0 / start 6 tag 0 35000000000000000000",
@@ -128,7 +128,7 @@ const HELD_AND_CANCELLED: &[Row] = &[
 
 // A mark of a write that waits for a tag, and a reset that meets a piece that acted and one that did not; what starts after
 // it is met by none.
-const RESET: &[Row] = &[
+pub(super) const RESET: &[Row] = &[
     (
         Step::Read(FIRST, 0, 2048),
         "request 9 / call 9 read 0 2048 / start 8 tag 0 28000000080000000200 / start 9 tag 1 28000000080200000200",
@@ -164,7 +164,7 @@ const RESET: &[Row] = &[
 
 // While a removal is pending a read is held that came after the query; a handle is closed with a read at the adapter and a
 // write held.
-const QUERY_TAKEN_BACK: &[Row] = &[
+pub(super) const QUERY_TAKEN_BACK: &[Row] = &[
     (Step::Remove, "refused InvalidDeviceRequest none"),
     (
         Step::Write(FIRST, 0, 512, 0x77),
@@ -203,7 +203,7 @@ const QUERY_TAKEN_BACK: &[Row] = &[
 ];
 
 // A removal with two pieces out, one that waits for a tag, and a write held: it ends with the last piece.
-const REMOVED: &[Row] = &[
+pub(super) const REMOVED: &[Row] = &[
     (
         Step::Read(FIRST, 0, 2048),
         "request 16 / call 16 read 0 2048 / start 14 tag 1 28000000080000000200",
@@ -236,7 +236,7 @@ const REMOVED: &[Row] = &[
 ];
 
 // The disk is pulled out with a piece out, and no query before.
-const PULLED_OUT: &[Row] = &[
+pub(super) const PULLED_OUT: &[Row] = &[
     (Step::Open(0), "handle 1"),
     (
         Step::Read(FIRST, 0, 1024),

@@ -1,159 +1,222 @@
-//! A stack that books what a toy journal did, in one thread.
+//! Stacks whose sectors stand in a journal: they show the same as stacks over a disk, row by row, and the entries of the
+//! journal, replayed on a fresh disk, read the same bytes and leave the same sectors.
 
-use crate::disks::{ONE, disk};
-use crate::stacks::disks::stack_on;
-use crate::stacks::events::{TWO_PIECES, WRITE_AND_READ};
-use crate::stacks::steps::{FIRST, Row, Step, go_one};
-use cdb::{Cdb, decode};
-use compose::Stack;
+ghost use Rattle.std.specs.Prelude.{◌≡◌, ◌≤◌, ◌+◌, ◌*◌, [], IfOk, IsFalse, OnOk, length};
+ghost use Rattle.disk.specs.Medium.{HasWholeSectors};
+ghost use Rattle.probe.specs.Exchange.{IsIdle};
+ghost use Rattle.journaled.specs.Opening.{IsStarted};
+
+use crate::disks::{ONE, Reluctant, adapter, disk};
+use crate::expect::same;
+use crate::stacks::events::{
+    HELD_AND_CANCELLED, PULLED_OUT, QUERY_TAKEN_BACK, REMOVED, RESET, TWO_PIECES, WRITE_AND_READ,
+};
+use crate::stacks::refused_memory::REFUSED_TWICE;
+use crate::stacks::steps::{Carrier, FIRST, Row, Step, go_and_answer, go_on, show_step};
+use adapter::Adapter;
+use compose::{Answer, Event, Reply, Settings, Stack, StartFault};
+use device::Label;
 use disk::{Medium, VecDisk};
-use miniport::BookedAdapter;
+use journaled::Journaled;
+use miniport::{BookedAdapter, MemAdapter};
 use ntstatus::Sense;
-use sector::{Bytes, Extent};
-use srb::{Completion, Entry, Kind, Srb};
+use sector::Extent;
+use sector_journal::{History, Journal, Naming, Opened};
+use srb::{Completion, Entry, Kind};
 use std::alloc::{AllocError, Global};
+use std::marker::Brand;
 use std::process::Abort;
 use std::test::Fail;
 
-const BAD: Completion = Completion {
-    srb_status: 0x84,
-    scsi_status: 0x02,
-    sense: Some(Sense {
-        key: 3,
-        asc: 0x11,
-        ascq: 0,
-    }),
+impl<M: Medium, N: Naming> Carrier for Journaled<M, N> {
+    ghost labels = { λ j. j.stack.labels };
+
+    fn step(&mut self, alloc: Global, event: Event) -> Reply {
+        self.step(alloc, event)
+    }
+
+    fn take_label(&mut self) -> Option<Label> {
+        self.take_label()
+    }
+
+    fn take_answer(&mut self) -> Option<Answer> {
+        self.take_answer()
+    }
+}
+
+/// A medium's sectors are whole.
+fn has_whole_sectors<M: Medium>(_medium: &M)
+    ensures { HasWholeSectors (M.view _medium.now) }
+{}
+
+/// A stack of two tags over no sectors, which moves two at most.
+fn stack_apart(rt: &impl Abort, alloc: Global) -> Result<Stack<BookedAdapter>, AllocError>
+    ensures started { IfOk result IsStarted }
+    ensures apart { IfOk result (λ s. IsFalse s.adapter.faithful) }
+    ensures sizes { IfOk result (λ s. (s.rules.sector_size ≡ 512) × (s.rules.disk_sectors ≡ 4096)) }
+    ensures taken { IfOk result (λ s. s.labels ≡ []) }
+{
+    let first = Vec::from_slice(alloc, &ONE.sector())?;
+    let adapter = BookedAdapter::new(alloc, first, 4096, 2, 2).map_err(|_| AllocError)?;
+    let settings = Settings {
+        window: 2,
+        open_requests: 4,
+    };
+    match Stack::start(alloc, adapter, settings) {
+        Ok(stack) => Ok(stack),
+        Err(StartFault::NoMemory) => Err(AllocError),
+        Err(fault) => panic!(rt; "{fault:?}"),
+    }
+}
+
+/// The same over a journal of this medium, of 4,096 sectors of 512 bytes.
+fn journaled_on<M: Medium, N: Naming>(
+    rt: &impl Abort,
+    alloc: Global,
+    opened: Opened,
+    medium: M,
+    write_protected: bool,
+) -> Result<Journaled<M, N>, AllocError>
+    requires named { opened ≡ record { armings = N.armings; entries = N.entries } }
+    requires opening { (M.view medium).sectors ≡ N.opening }
+    ensures { IfOk result (λ j. j.stack.labels ≡ []) }
+{
+    has_whole_sectors(&medium);
+    assert!(rt; medium.sectors() == 4096 && medium.sector_size() == 512);
+    assert!(rt; medium.failures() == 0);
+    let (journal, history) = Journal::new(alloc, opened, medium, 2, write_protected)?;
+    let stack = stack_apart(rt, alloc)?;
+    Ok(Journaled::new(stack, journal, history, 2))
+}
+
+/// The bytes of sectors that can be read.
+fn read_all<M: Medium>(
+    rt: &impl Abort,
+    alloc: Global,
+    medium: &mut M,
+    extent: Extent,
+) -> Result<Vec<u8>, AllocError> {
+    let sectors = medium.sectors();
+    assert!(rt; extent.first <= sectors && extent.count <= sectors - extent.first);
+    assert!(rt; extent.count <= 64 && medium.sector_size() == 512);
+    assert!(rt; medium.failures() < 1000);
+    let mut bytes = vec![in alloc; 0; extent.count as usize * 512]?;
+    assert!(rt; medium.read(extent, bytes.as_mut_slice()).is_ok());
+    Ok(bytes)
+}
+
+/// Writes sectors that can be written.
+fn write_all<M: Medium>(
+    rt: &impl Abort,
+    medium: &mut M,
+    extent: Extent,
+    bytes: &[u8],
+) -> Result<(), AllocError> {
+    let sectors = medium.sectors();
+    assert!(rt; extent.first <= sectors && extent.count <= sectors - extent.first);
+    medium.reserve(extent).map_err(|_| AllocError)?;
+    assert!(rt; extent.count <= 64 && medium.sector_size() == 512);
+    assert!(rt; bytes.len() == extent.count as usize * 512 && medium.failures() < 1000);
+    assert!(rt; medium.write(extent, bytes).is_ok());
+    Ok(())
+}
+
+/// An entry on a disk as it was before: a read's bytes are read again.
+fn replay_one<M: Medium>(
+    rt: &impl Abort,
+    alloc: Global,
+    fresh: &mut M,
+    entry: &Entry,
+) -> Result<(), AllocError> {
+    match entry.kind {
+        Kind::Read => {
+            let bytes = read_all(rt, alloc, fresh, entry.extent)?;
+            assert!(rt; bytes.as_slice() == entry.bytes.as_slice());
+        }
+        Kind::Write => write_all(rt, fresh, entry.extent, entry.bytes.as_slice())?,
+        Kind::Flush => assert!(rt; entry.bytes.len() == 0),
+    }
+    Ok(())
+}
+
+/// The sectors that a test may move.
+const MOVED: Extent = Extent {
+    first: 2048,
+    count: 64,
 };
 
-/// Carries an SRB out on the medium: its entry, or how it failed.
-fn transfer(
-    alloc: Global,
-    medium: &mut VecDisk,
-    tag: u8,
-    piece: u128,
-    srb: &Srb,
-) -> Result<Result<Entry, Completion>, AllocError> {
-    let length = srb.data.as_slice().len();
-    let mut bytes = vec![in alloc; 0; length]?;
-    let (kind, extent) = match decode(srb.block.as_slice()) {
-        Ok(Cdb::Read10 { lba, count, .. }) => (
-            Kind::Read,
-            Extent {
-                first: lba as u64,
-                count: count as u64,
-            },
-        ),
-        Ok(Cdb::Write10 { lba, count, .. }) => (
-            Kind::Write,
-            Extent {
-                first: lba as u64,
-                count: count as u64,
-            },
-        ),
-        _ => (Kind::Flush, Extent { first: 0, count: 0 }),
-    };
-    let moved = match kind {
-        Kind::Read => medium.read(extent, bytes.as_mut_slice()),
-        Kind::Write => {
-            bytes.as_mut_slice().copy_from_slice(srb.data.as_slice());
-            medium.write(extent, srb.data.as_slice())
-        }
-        Kind::Flush => Ok(()),
-    };
-    Ok(match moved {
-        Ok(()) => Ok(Entry {
-            piece,
-            tag,
-            extent,
-            kind,
-            bytes: Bytes::new(bytes),
-        }),
-        Err(_) => Err(BAD),
-    })
-}
-
-fn go(
-    rt: &impl Abort,
-    alloc: Global,
-    stack: &mut Stack<BookedAdapter>,
-    medium: &mut VecDisk,
-    rows: &[Row],
-) -> Result<Vec<Entry>, AllocError> {
-    let mut entries = Vec::new(alloc);
-    for (step, want) in rows {
-        if let Step::Act(tag) = step {
-            let what = match stack.armed(*tag) {
-                Some((piece, srb)) => Some((piece, transfer(alloc, medium, *tag, piece, srb)?)),
-                None => None,
-            };
-            if let Some((piece, what)) = what {
-                match what {
-                    Ok(entry) => {
-                        stack.book(*tag, piece, Ok(&entry));
-                        entries.push(entry)?;
-                    }
-                    Err(completion) => stack.book(*tag, piece, Err(completion)),
-                }
-            }
-        }
-        go_one(rt, alloc, stack, *step, want)?;
-    }
-    Ok(entries)
-}
-
 /// The entries, one after the other, on a disk as it was: the same bytes are read, and the same sectors stand there then.
-fn replay(
+fn replay<M: Medium>(
     rt: &impl Abort,
     alloc: Global,
-    medium: &mut VecDisk,
+    medium: &mut M,
     entries: &[Entry],
 ) -> Result<(), AllocError> {
     let mut fresh = disk(alloc, &ONE, &[])?;
     for entry in entries {
-        let mut bytes = vec![in alloc; 0; entry.bytes.len()]?;
-        match entry.kind {
-            Kind::Read => {
-                assert!(rt; fresh.read(entry.extent, bytes.as_mut_slice()).is_ok());
-                assert!(rt; bytes.as_slice() == entry.bytes.as_slice());
-            }
-            Kind::Write => assert!(rt; fresh.write(entry.extent, entry.bytes.as_slice()).is_ok()),
-            Kind::Flush => assert!(rt; bytes.is_empty()),
-        }
+        replay_one(rt, alloc, &mut fresh, entry)?;
     }
-    let whole = Extent {
-        first: 0,
-        count: 2120,
-    };
-    let mut one = vec![in alloc; 0; 2120 * 512]?;
-    let mut other = vec![in alloc; 0; 2120 * 512]?;
-    assert!(rt; medium.read(whole, one.as_mut_slice()).is_ok());
-    assert!(rt; fresh.read(whole, other.as_mut_slice()).is_ok());
+    let one = read_all(rt, alloc, medium, MOVED)?;
+    let other = read_all(rt, alloc, &mut fresh, MOVED)?;
     assert!(rt; one.as_slice() == other.as_slice());
     Ok(())
 }
 
-fn books(rt: &impl Abort, alloc: Global, rows: &[Row], acts: usize) -> Result<(), AllocError> {
-    let first = Vec::from_slice(alloc, &ONE.sector())?;
-    let mut medium = disk(alloc, &ONE, &[2120])?;
-    let adapter = BookedAdapter::new(alloc, first, 4096, 2, 2).map_err(|_| AllocError)?;
-    let mut stack = stack_on(rt, alloc, adapter)?;
-    let entries = go(rt, alloc, &mut stack, &mut medium, rows)?;
-    assert!(rt; entries.len() == acts);
+/// How many rows show an act.
+fn acts_in(rows: &[&[Row]]) -> usize {
+    let mut acts: usize = 0;
+    for rows in rows {
+        for (_, want) in *rows {
+            if want.contains("/ act ") {
+                acts = acts.saturating_add(1);
+            }
+        }
+    }
+    acts
+}
+
+/// The rows over a journal of this medium show just what is wanted, with an entry for each act.
+fn play_over<M: Medium, N: Naming>(
+    rt: &impl Abort,
+    alloc: Global,
+    opened: Opened,
+    medium: M,
+    write_protected: bool,
+    rows: &[&[Row]],
+) -> Result<(), AllocError>
+    requires named { opened ≡ record { armings = N.armings; entries = N.entries } }
+    requires opening { (M.view medium).sectors ≡ N.opening }
+{
+    let mut driver: Journaled<M, N> = journaled_on(rt, alloc, opened, medium, write_protected)?;
+    go_and_answer(rt, alloc, &mut driver, rows, None)?;
+    let (_stack, mut medium, entries) = driver.into_parts();
+    same(rt, &entries.len(), &acts_in(rows));
     replay(rt, alloc, &mut medium, entries.as_slice())
 }
 
-#[test]
-fn a_write_and_a_read_are_booked(rt: HostRuntime) -> Result<(), Fail> {
-    books(&rt, rt.alloc(), WRITE_AND_READ, 2)?;
-    Ok(())
+/// The same over a disk with a bad sector.
+fn play(rt: &impl Abort, alloc: Global, rows: &[&[Row]]) -> Result<(), AllocError> {
+    let medium = disk(alloc, &ONE, &[2120])?;
+    let opened = Opened::new(alloc)?;
+    play_over::<VecDisk, Brand>(rt, alloc, opened, medium, false, rows)
 }
 
 #[test]
-fn pieces_are_booked(rt: HostRuntime) -> Result<(), Fail> {
-    books(&rt, rt.alloc(), TWO_PIECES, 4)?;
+fn journals_every_event(rt: HostRuntime) -> Result<(), Fail> {
+    let rows = [
+        TWO_PIECES,
+        HELD_AND_CANCELLED,
+        RESET,
+        QUERY_TAKEN_BACK,
+        REMOVED,
+    ];
+    play(&rt, rt.alloc(), &rows)?;
+    play(&rt, rt.alloc(), &[PULLED_OUT])?;
+    play(&rt, rt.alloc(), &[WRITE_AND_READ])?;
     Ok(())
 }
 
+/// A read meets a bad sector, and a flush moves nothing.
 const FAULTS: &[Row] = &[
     (Step::Open(0), "handle 1"),
     (
@@ -178,7 +241,211 @@ const FAULTS: &[Row] = &[
 ];
 
 #[test]
-fn a_bad_sector_is_booked(rt: HostRuntime) -> Result<(), Fail> {
-    books(&rt, rt.alloc(), FAULTS, 1)?;
+fn journals_what_a_bad_sector_leaves(rt: HostRuntime) -> Result<(), Fail> {
+    let alloc = rt.alloc();
+    play(&rt, alloc, &[FAULTS])?;
+    let over_disk = adapter(&rt, alloc, disk(alloc, &ONE, &[2120])?, 2)?;
+    go_on(&rt, alloc, over_disk, &[FAULTS], None)?;
+    Ok(())
+}
+
+/// A disk that takes no write: it fails, and a read does not.
+const PROTECTED: &[Row] = &[
+    (Step::Open(0), "handle 1"),
+    (
+        Step::Write(FIRST, 0, 512, 0xA5),
+        "request 1 / call 1 write 0 512 a5*512 / start 1 tag 0 2a000000080000000100",
+    ),
+    (Step::Act(0), "ok / fault 1"),
+    (
+        Step::Finish(0),
+        "ok / return 1 bad / answer 1 MEDIA_WRITE_PROTECTED 0 none",
+    ),
+    (
+        Step::Read(FIRST, 0, 512),
+        "request 2 / call 2 read 0 512 / start 2 tag 0 28000000080000000100",
+    ),
+    (Step::Act(0), "ok / act 2 00*512"),
+    (
+        Step::Finish(0),
+        "ok / return 2 good / answer 2 SUCCESS 512 00*512",
+    ),
+];
+
+/// An adapter of two tags over a disk that takes no write.
+fn protected_adapter(
+    rt: &impl Abort,
+    alloc: Global,
+    medium: VecDisk,
+) -> Result<MemAdapter<VecDisk>, AllocError>
+    ensures idle { IfOk result (λ a. IsIdle a.shown) }
+    ensures unasked { IfOk result (λ a. a.shown.accepted ≡ 0) }
+{
+    let sectors = medium.sectors();
+    assert!(rt; 1 <= sectors && sectors <= 1 << 40);
+    assert!(rt; medium.sector_size() == 512 && medium.failures() == 0);
+    MemAdapter::new(alloc, medium, 2, 2, true).map_err(|_| AllocError)
+}
+
+#[test]
+fn journals_what_a_protected_disk_takes(rt: HostRuntime) -> Result<(), Fail> {
+    let alloc = rt.alloc();
+    let medium = disk(alloc, &ONE, &[])?;
+    let opened = Opened::new(alloc)?;
+    play_over::<VecDisk, Brand>(&rt, alloc, opened, medium, true, &[PROTECTED])?;
+    let over_disk = protected_adapter(&rt, alloc, disk(alloc, &ONE, &[])?)?;
+    go_on(&rt, alloc, over_disk, &[PROTECTED], None)?;
+    Ok(())
+}
+
+#[test]
+fn a_journal_refuses_a_write_twice(rt: HostRuntime) -> Result<(), Fail> {
+    let alloc = rt.alloc();
+    let medium = Reluctant {
+        medium: disk(alloc, &ONE, &[])?,
+        refusals: 2,
+    };
+    let opened = Opened::new(alloc)?;
+    play_over::<Reluctant<VecDisk>, Brand>(&rt, alloc, opened, medium, false, &[REFUSED_TWICE])?;
+    Ok(())
+}
+
+/// A sense (SPC, "Sense key and sense code definitions"), and the status that it comes to.
+type Failure<'a> = (Sense, &'a str);
+
+const FAILURES: &[Failure] = &[
+    (
+        Sense {
+            key: 3,
+            asc: 0x11,
+            ascq: 0,
+        },
+        "DEVICE_DATA_ERROR",
+    ),
+    (
+        Sense {
+            key: 4,
+            asc: 0,
+            ascq: 0,
+        },
+        "IO_DEVICE_ERROR",
+    ),
+    (
+        Sense {
+            key: 7,
+            asc: 0x27,
+            ascq: 0,
+        },
+        "MEDIA_WRITE_PROTECTED",
+    ),
+];
+
+/// A piece of a new read fails as it is booked.
+fn fail_by<A: Adapter>(
+    rt: &impl Abort,
+    alloc: Global,
+    stack: &mut Stack<A>,
+    sense: Sense,
+) -> Result<Answer, AllocError>
+    requires { stack.old.labels ≡ [] }
+    ensures { OnOk result (stack.new.labels ≡ []) }
+{
+    show_step(alloc, stack, Step::Read(FIRST, 0, 512))?;
+    let Some((piece, _)) = stack.armed(0) else {
+        panic!(rt; "no piece could act");
+    };
+    let completion = Completion {
+        srb_status: 0x84,
+        scsi_status: 0x02,
+        sense: Some(sense),
+    };
+    stack.book(0, piece, Err(completion));
+    show_step(alloc, stack, Step::Act(0))?;
+    show_step(alloc, stack, Step::Finish(0))?;
+    match stack.take_answer() {
+        Some(answer) => Ok(answer),
+        None => panic!(rt; "no answer"),
+    }
+}
+
+/// Each answer has the status of the failure that was booked.
+fn fail_all<A: Adapter>(
+    rt: &impl Abort,
+    alloc: Global,
+    stack: &mut Stack<A>,
+    failures: &[Failure],
+) -> Result<(), AllocError>
+    requires { stack.old.labels ≡ [] }
+{
+    show_step(alloc, stack, Step::Open(0))?;
+    for (sense, want) in failures {
+        let answer = fail_by(rt, alloc, stack, *sense)?;
+        let text = format!(in alloc; "{}", answer.status)?;
+        same(rt, &text.as_str(), want);
+    }
+    Ok(())
+}
+
+#[test]
+fn a_piece_comes_back_as_its_failure_was_booked(rt: HostRuntime) -> Result<(), Fail> {
+    let alloc = rt.alloc();
+    let mut stack = stack_apart(&rt, alloc)?;
+    fail_all(&rt, alloc, &mut stack, FAILURES)?;
+    Ok(())
+}
+
+/// A reset meets a piece that may act in the journal.
+fn reset_armed<A: Adapter, N: Naming>(
+    rt: &impl Abort,
+    alloc: Global,
+    stack: &mut Stack<A>,
+    journal: &mut Journal<VecDisk, N>,
+    history: &History<N>,
+) -> Result<(), AllocError>
+    requires { stack.old.labels ≡ [] }
+{
+    show_step(alloc, stack, Step::Open(0))?;
+    assert!(rt; journal.sectors() == 4096);
+    let extent = Extent {
+        first: 2048,
+        count: 1,
+    };
+    journal.reserve(1, Kind::Read, extent, 2)?;
+    show_step(alloc, stack, Step::Read(FIRST, 0, 512))?;
+    let Some((piece, srb)) = stack.armed(0) else {
+        panic!(rt; "no piece could act");
+    };
+    assert!(rt; journal.arm(history, 0, piece, srb));
+    show_step(alloc, stack, Step::Reset)?;
+    assert!(rt; stack.armed(0).is_none());
+    journal.disarm(0);
+    assert!(rt; journal.act(history, 0, piece).is_none());
+    assert!(rt; journal.entries().is_empty());
+    Ok(())
+}
+
+fn reset_over<N: Naming>(
+    rt: &impl Abort,
+    alloc: Global,
+    opened: Opened,
+    medium: VecDisk,
+) -> Result<(), AllocError>
+    requires named { opened ≡ record { armings = N.armings; entries = N.entries } }
+    requires opening { (⟦<VecDisk as Medium>⟧.view medium).sectors ≡ N.opening }
+{
+    assert!(rt; medium.sectors() == 4096 && medium.failures() == 0);
+    let (mut journal, history): (Journal<VecDisk, N>, History<N>) = Journal::new(
+        alloc, opened, medium, 2, false,
+    )?;
+    let mut stack = stack_apart(rt, alloc)?;
+    reset_armed(rt, alloc, &mut stack, &mut journal, &history)
+}
+
+#[test]
+fn a_piece_that_a_reset_met_acts_no_more(rt: HostRuntime) -> Result<(), Fail> {
+    let alloc = rt.alloc();
+    let medium = disk(alloc, &ONE, &[])?;
+    let opened = Opened::new(alloc)?;
+    reset_over::<Brand>(&rt, alloc, opened, medium)?;
     Ok(())
 }

@@ -6,7 +6,7 @@ use std::test::Fail;
 
 /// Two writes are refused by a medium that has no memory for them. They leave nothing behind: the next call has the first
 /// number, and goes as ever.
-const REFUSED_TWICE: &[Row] = &[
+pub(super) const REFUSED_TWICE: &[Row] = &[
     (Step::Open(0), "handle 1"),
     (Step::Write(FIRST, 0, 512, 0xA5), REFUSED),
     (

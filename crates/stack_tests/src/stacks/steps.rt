@@ -6,7 +6,8 @@ ghost use Rattle.probe.specs.Exchange.{IsIdle};
 use crate::expect::{same, same_at};
 use crate::stacks::disks::stack_on;
 use crate::stacks::told::{tell_answer, told};
-use compose::{Event, Handle, Id, Refusal, Reply, RunStopped, Shown, Stack};
+use compose::{Answer, Event, Handle, Id, Refusal, Reply, RunStopped, Shown, Stack};
+use device::Label;
 use miniport::Adapter;
 use sector::Bytes;
 use std::alloc::{AllocError, Global};
@@ -108,6 +109,40 @@ fn compare(
     Ok(())
 }
 
+/// Who carries events out one by one, as a stack does.
+pub(crate) trait Carrier {
+    ghost use Rattle.std.specs.Prelude.{◌≡◌, ◌∷◌, List, [], MatchOption};
+    ghost use Rattle.machine.specs.declared.Label.{Label};
+
+    /// The labels that were not taken yet.
+    ghost labels: { Self → List Label };
+
+    fn step(&mut self, alloc: Global, event: Event) -> Reply
+        requires { labels self.old ≡ [] };
+
+    fn take_label(&mut self) -> Option<Label>
+        ensures { MatchOption result ((labels self.old ≡ []) × (labels self.new ≡ [])) (λ label. labels self.old ≡ label ∷ labels self.new) };
+
+    fn take_answer(&mut self) -> Option<Answer>
+        ensures { labels self.new ≡ labels self.old };
+}
+
+impl<A: Adapter> Carrier for Stack<A> {
+    ghost labels = { λ s. s.labels };
+
+    fn step(&mut self, alloc: Global, event: Event) -> Reply {
+        self.step(alloc, event)
+    }
+
+    fn take_label(&mut self) -> Option<Label> {
+        self.take_label()
+    }
+
+    fn take_answer(&mut self) -> Option<Answer> {
+        self.take_answer()
+    }
+}
+
 // Carries the steps out in one run; each shows just what is wanted, also where the run stops for want of memory.
 fn run<A: Adapter>(
     rt: &impl Abort,
@@ -131,9 +166,9 @@ fn run<A: Adapter>(
 }
 
 /// Carries one event out, and takes its labels one by one.
-fn show<A: Adapter>(alloc: Global, stack: &mut Stack<A>, event: Event) -> Result<Shown, AllocError>
-    requires { stack.old.labels ≡ [] }
-    ensures { OnOk result (stack.new.labels ≡ []) }
+fn show<S: Carrier>(alloc: Global, stack: &mut S, event: Event) -> Result<Shown, AllocError>
+    requires { S.labels stack.old ≡ [] }
+    ensures { OnOk result (S.labels stack.new ≡ []) }
 {
     let reply = stack.step(alloc, event);
     let mut labels = Vec::new(alloc);
@@ -141,6 +176,19 @@ fn show<A: Adapter>(alloc: Global, stack: &mut Stack<A>, event: Event) -> Result
         labels.push(label)?;
     }
     Ok(Shown { reply, labels })
+}
+
+/// Carries a step out, whatever it shows.
+pub(super) fn show_step<S: Carrier>(
+    alloc: Global,
+    stack: &mut S,
+    step: Step,
+) -> Result<Shown, AllocError>
+    requires { S.labels stack.old ≡ [] }
+    ensures { OnOk result (S.labels stack.new ≡ []) }
+{
+    let event = event_of(alloc, step)?;
+    show(alloc, stack, event)
 }
 
 /// Whether memory for a call was refused.
@@ -156,20 +204,20 @@ fn is_refused_for_memory(reply: &Reply) -> bool {
 
 /// Carries a step out, which shows just what is wanted. Where it was refused for want of memory it has told nothing, and is
 /// carried out again, unless that is wanted.
-pub(super) fn go_one<A: Adapter>(
+fn go_one<S: Carrier>(
     rt: &impl Abort,
     alloc: Global,
-    stack: &mut Stack<A>,
+    stack: &mut S,
     step: Step,
     want: &str,
 ) -> Result<(), AllocError>
-    requires { stack.old.labels ≡ [] }
-    ensures { OnOk result (stack.new.labels ≡ []) }
+    requires { S.labels stack.old ≡ [] }
+    ensures { OnOk result (S.labels stack.new ≡ []) }
 {
-    let mut shown = show(alloc, stack, event_of(alloc, step)?)?;
+    let mut shown = show_step(alloc, stack, step)?;
     if is_refused_for_memory(&shown.reply) && want != REFUSED {
         assert!(rt; shown.labels.is_empty(), "{step:?}");
-        shown = show(alloc, stack, event_of(alloc, step)?)?;
+        shown = show_step(alloc, stack, step)?;
     }
     same_at(rt, &told(alloc, &shown)?.as_str(), &want, &step);
     Ok(())
@@ -179,14 +227,14 @@ pub(super) fn go_one<A: Adapter>(
 pub(crate) const REFUSED: &str = "refused InsufficientResources a5*512";
 
 // Carries the steps out one by one; each shows just what is wanted.
-fn go<A: Adapter>(
+fn go<S: Carrier>(
     rt: &impl Abort,
     alloc: Global,
-    stack: &mut Stack<A>,
+    stack: &mut S,
     rows: &[Row],
 ) -> Result<(), AllocError>
-    requires { stack.old.labels ≡ [] }
-    ensures { OnOk result (stack.new.labels ≡ []) }
+    requires { S.labels stack.old ≡ [] }
+    ensures { OnOk result (S.labels stack.new ≡ []) }
 {
     for (step, want) in rows {
         go_one(rt, alloc, stack, *step, want)?;
@@ -195,10 +243,10 @@ fn go<A: Adapter>(
 }
 
 // Takes the waiting answers, which are just these, in this order.
-fn answers<A: Adapter>(
+fn answers<S: Carrier>(
     rt: &impl Abort,
     alloc: Global,
-    stack: &mut Stack<A>,
+    stack: &mut S,
     wanted: &[&str],
 ) -> Result<(), AllocError> {
     for want in wanted {
@@ -242,15 +290,15 @@ pub(crate) fn run_on<A: Adapter>(
     run_and_answer(rt, alloc, &mut stack, rows, told)
 }
 
-// All rows one by one, and then the answers, where these are told.
-fn go_and_answer<A: Adapter>(
+/// All rows one by one, and then the answers, where these are told.
+pub(super) fn go_and_answer<S: Carrier>(
     rt: &impl Abort,
     alloc: Global,
-    stack: &mut Stack<A>,
+    stack: &mut S,
     rows: &[&[Row]],
     told: Option<&[&str]>,
 ) -> Result<(), AllocError>
-    requires { stack.old.labels ≡ [] }
+    requires { S.labels stack.old ≡ [] }
 {
     for rows in rows {
         go(rt, alloc, stack, rows)?;

@@ -1,0 +1,59 @@
+-- What is told of a stack over a journal before its first event.
+use Rattle.std.proofs.Common.{◌≡◌, ◌≤◌, ℕ, List, [], length, map, Option, Some, None, refl, sym, ap, subst, ◌∙◌, arith}
+use Rattle.std.specs.Prelude.{All}
+use Rattle.std.proofs.lemmas.List.Elements.{All-nil}
+use Rattle.srb.specs.declared.Entry.{Entry}
+use Rattle.srb.specs.Replaying.{Replays}
+use Rattle.sector.specs.Extents.{IsSector, sectors_in}
+use Rattle.adapter.specs.View.{TagInUse}
+use Rattle.machine.specs.Rules.{Rules, sectors_of}
+use Rattle.machine.specs.Map.{IsMap}
+use Rattle.machine.specs.Sending.{array_at}
+use Rattle.machine.specs.State.{State, IsSame, opening}
+use Rattle.machine.specs.Step.{Run}
+use Rattle.machine.proofs.Same.{IsSame-refl}
+use Rattle.machine_laws.specs.Reached.{AreWhole, IsReached}
+use Rattle.machine_laws.specs.WriteLaws.{HaveSameLengths, RunsKeepLengths}
+use Rattle.io_manager.specs.Shown.{ManagerView}
+use Rattle.compose.specs.Journaled.{IsStartedUse}
+use Rattle.sector_journal.specs.Journal.{JournalView}
+use Rattle.journaled.specs.Shown.{StandsIn, JournaledKept, over}
+use Rattle.journaled.specs.Opening.{IsStarted, IsUnused}
+use Rattle.journaled.specs.Told.{IsTold}
+
+module _ (stack : ManagerView) (journal : JournalView) (started : IsStarted stack) (unused : IsUnused journal) where
+  pub kept_at_first : (disk : List (List ℕ)) (max_transfer : ℕ) → StandsIn stack journal → 1 ≤ max_transfer → Replays journal.medium.sector_size disk journal.entries journal.medium.sectors
+      → JournaledKept disk stack journal max_transfer
+  kept_at_first disk max_transfer stands some replays =
+      let same : journal.medium.sectors ≡ disk = subst (λ (es : List Entry). Replays journal.medium.sector_size disk es journal.medium.sectors) unused.no_entry replays in
+      record {
+        stands = stands;
+        map = subst (λ (r : Rules). IsMap r.disk_sectors r.partitions) (sym started.first.rules) started.first.told.is_map;
+        disk = record {
+          whole = subst (λ (xs : List (List ℕ)). All (IsSector stack.rules.sector_size) xs) same (subst (λ (n : ℕ). All (IsSector n) journal.medium.sectors) stands.sector_size unused.whole);
+          many = sym (ap (λ (xs : List (List ℕ)). length xs) same) ∙ stands.sectors;
+        };
+        some = some;
+      }
+
+  whole : RunsKeepLengths → IsReached stack.rules stack.state → AreWhole stack.rules stack.state.arrays
+  whole keeps reached p =
+      let first : IsReached stack.rules (opening reached.arrays) = record { arrays = reached.arrays; labels = []; whole = reached.whole; run = IsSame-refl (opening reached.arrays) } in
+      let same : HaveSameLengths reached.arrays stack.state.arrays = keeps stack.rules (opening reached.arrays) reached.labels stack.state first reached.run in
+      let there : sectors_of stack.rules (Some p) ≤ length (array_at reached.arrays p) = reached.whole p in
+      let long : length (array_at stack.state.arrays p) ≡ length (array_at reached.arrays p) = same.sectors p in
+      omega (arith, there, long)
+
+  pub told_at_first : RunsKeepLengths → IsReached stack.rules stack.state → (arrays : List (List (List ℕ))) × IsTold arrays [] (over stack journal)
+  told_at_first keeps reached =
+      let arrays_are : stack.state.arrays ≡ map (sectors_in started.disk.sectors) started.first.partitions = ap (λ (s : State). s.arrays) started.first.state in (
+        map (sectors_in started.disk.sectors) started.first.partitions,
+        record {
+          whole = subst (λ (a : List (List (List ℕ))). AreWhole stack.rules a) arrays_are (whole keeps reached);
+          run = subst (λ (s : State). IsSame (opening (map (sectors_in started.disk.sectors) started.first.partitions)) s) (sym started.first.state) (IsSame-refl (opening (map (sectors_in started.disk.sectors) started.first.partitions)));
+          journaled = record {
+            of_acts = unused.no_entry;
+            started = subst (λ (us : List TagInUse). All (IsStartedUse []) us) (sym started.first.same_disk.idle.no_tags) (All-nil (IsStartedUse []));
+          };
+        },
+      )

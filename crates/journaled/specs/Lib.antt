@@ -1,0 +1,5 @@
+pub mod Shown
+pub mod Opening
+pub mod Acting
+pub mod Right
+pub mod Told

@@ -1,0 +1,42 @@
+-- What a stack over a journal shows.
+use Rattle.std.specs.Prelude.{◌≡◌, ◌≤◌, ℕ, List, IsFalse, All, length}
+use Rattle.sector.specs.Extents.{IsSector}
+use Rattle.machine.specs.Map.{IsMap}
+use Rattle.io_manager.specs.Shown.{ManagerView}
+use Rattle.sector_journal.specs.Journal.{JournalView}
+
+pub record JournaledView : Type 0 where
+  pub stack : ManagerView
+  pub journal : JournalView
+
+abbrev pub over : ManagerView → JournalView → JournaledView
+over stack journal = record { stack = stack; journal = journal }
+
+-- the stack's adapter moves no sectors, and the journal has as many, as long
+pub record StandsIn (stack : ManagerView) (journal : JournalView) : Type 0 where
+  pub apart : IsFalse stack.adapter.faithful
+  pub sector_size : journal.medium.sector_size ≡ stack.rules.sector_size
+  pub sectors : length journal.medium.sectors ≡ stack.rules.disk_sectors
+
+-- these sectors are whole, and are as many as the disk of the stack has
+pub record IsDiskOf (sectors : List (List ℕ)) (stack : ManagerView) : Type 0 where
+  pub whole : All (IsSector stack.rules.sector_size) sectors
+  pub many : length sectors ≡ stack.rules.disk_sectors
+
+-- what holds between two calls: the journal was opened with the sectors of the disk, which the partitions lie in
+pub record JournaledKept (opening : List (List ℕ)) (stack : ManagerView) (journal : JournalView) (max_transfer : ℕ) : Type 0 where
+  pub stands : StandsIn stack journal
+  pub map : IsMap stack.rules.disk_sectors stack.rules.partitions
+  pub disk : IsDiskOf opening stack
+  pub some : 1 ≤ max_transfer
+
+-- as many sectors, as long
+pub record IsAsLarge (old new : JournalView) : Type 0 where
+  pub sector_size : new.medium.sector_size ≡ old.medium.sector_size
+  pub sectors : length new.medium.sectors ≡ length old.medium.sectors
+
+-- nothing was entered
+pub record KeepsEntries (old new : JournalView) : Type 0 where
+  pub entries : new.entries ≡ old.entries
+  pub same_sectors : new.medium.sectors ≡ old.medium.sectors
+  pub same_size : new.medium.sector_size ≡ old.medium.sector_size

@@ -1,0 +1,201 @@
+//! The stack and its journal: what their user calls.
+
+ghost use Rattle.std.specs.Prelude.{◌≡◌, ◌≤◌, [], List, ℕ};
+ghost use Rattle.srb.specs.Replaying.{Replays};
+ghost use Rattle.machine.specs.Settled.{Settled, IsFinished};
+ghost use Rattle.machine_laws.specs.Reached.{IsReached};
+ghost use Rattle.io_manager.specs.Right.{FitsTogether, TakesAnswer, TakesLabel as TakesFirst};
+ghost use Rattle.journaled.specs.Opening.{IsStarted, IsUnused};
+ghost use Rattle.journaled.specs.Right.{IsServed};
+ghost use Rattle.journaled.specs.Shown.{StandsIn};
+ghost use Rattle.journaled.specs.Told.{IsTold, RunsFaithfully, StaysTold, TellsOn};
+
+use crate::acting::act;
+use crate::asking::carry;
+use compose::{Answer, Event, Reply, Stack};
+use disk::Medium;
+use machine::Label;
+use miniport::BookedAdapter;
+use sector_journal::{History, Journal, Naming, OfArmings, OfEntries};
+use srb::Entry;
+use std::alloc::Global;
+use std::marker::Model;
+
+/// A stack over an adapter that holds no sectors, and the journal that has them.
+pub struct Journaled<M: Medium, N: Naming>
+where
+    OfArmings<N>: chronicle::Naming,
+    OfEntries<N>: chronicle::Naming,
+{
+    stack: Stack<BookedAdapter>,
+    journal: Journal<M, N>,
+    history: History<N>,
+    /// Sectors of the longest piece.
+    max_transfer: u32,
+    /// The number of the next call.
+    next_request: u64,
+}
+
+// By hand, so that no crate above proves it again, as it would a derived one.
+impl<M: Medium, N: Naming> Drop for Journaled<M, N>
+where
+    OfArmings<N>: chronicle::Naming,
+    OfEntries<N>: chronicle::Naming,
+{
+    fn drop(self) {
+        let Journaled {
+            stack: _,
+            journal: _,
+            history: _,
+            max_transfer: _,
+            next_request: _,
+        } = self;
+    }
+}
+
+impl<M: Medium, N: Naming> Model for Journaled<M, N>
+where
+    OfArmings<N>: chronicle::Naming,
+    OfEntries<N>: chronicle::Naming,
+{
+    ghost use Rattle.journaled.specs.Shown.{JournaledKept, JournaledView, over};
+
+    ghost Value = { JournaledView };
+
+    ghost view = { λ j. over j.stack j.journal };
+
+    ghost invariant = { λ j. JournaledKept N.opening j.stack j.journal j.max_transfer };
+}
+
+impl<M: Medium, N: Naming> Journaled<M, N> {
+    /// A stack that was just started over an adapter without sectors, and a journal of the sectors of its disk, in which
+    /// nothing was entered yet. `max_transfer` is that of the stack's adapter, in sectors.
+    pub fn new(
+        stack: Stack<BookedAdapter>,
+        journal: Journal<M, N>,
+        history: History<N>,
+        max_transfer: u32,
+    ) -> Journaled<M, N>
+        requires started { IsStarted stack }
+        requires unused { IsUnused journal }
+        requires stands { StandsIn stack journal }
+        requires some { 1 ≤ max_transfer }
+        ensures stack { result.stack ≡ stack }
+        ensures journal { result.journal ≡ journal }
+        ensures told { (arrays : List (List (List ℕ))) × IsTold arrays [] result }
+    {
+        machine_laws::keeps_lengths();
+        stack.shows_whole();
+        journal.shows_rule();
+        Journaled {
+            stack,
+            journal,
+            history,
+            max_transfer,
+            next_request: 1,
+        }
+    }
+
+    /// Carries one event out, as [`Stack::step`]. Where it would open a request the journal has room for its acts first.
+    pub fn step(&mut self, alloc: Global, event: Event) -> Reply
+        requires taken { self.old.stack.labels ≡ [] }
+        ensures right { IsServed self.old event result self.new }
+        ensures told { TellsOn self.old self.new }
+    {
+        match event {
+            Event::Act { tag } => act(
+                &mut self.stack,
+                &mut self.journal,
+                &self.history,
+                alloc,
+                tag,
+            ),
+            event => carry(
+                &mut self.stack,
+                &mut self.journal,
+                alloc,
+                self.next_request,
+                self.max_transfer,
+                event,
+            ),
+        }
+    }
+
+    /// What is shown between two steps is settled and fits together, a removal with nothing open has ended, and a run leads
+    /// to it, for who calls this.
+    pub fn shows_whole(&self)
+        ensures settled { Settled self.now.stack.rules self.now.stack.state }
+        ensures finished { IsFinished self.now.stack.state }
+        ensures whole { FitsTogether self.now.stack }
+        ensures reached { IsReached self.now.stack.rules self.now.stack.state }
+    {
+        self.stack.shows_whole();
+    }
+
+    /// The labels so far are a run of the machine whose acts read and write its arrays, from the sectors that the journal was
+    /// opened with to those that it has now; for who calls this.
+    pub fn shows_run(&self)
+        ensures { RunsFaithfully N.opening self.now }
+    {
+        machine_laws::journals_close_runs();
+        self.journal.shows_rule();
+    }
+
+    /// A call took its number, and an answered request needs no room any more.
+    fn note(&mut self, label: &Label)
+        ensures stack { self.new.stack ≡ self.old.stack }
+        ensures told { StaysTold self.old self.new }
+        ensures entries { self.new.journal.entries ≡ self.old.journal.entries }
+    {
+        match label {
+            Label::Call { number, .. } => self.next_request = number.saturating_add(1),
+            Label::Answer { number, .. } => self.journal.release(*number),
+            _ => (),
+        }
+    }
+
+    /// Takes the earliest label of the last step that was not taken yet.
+    pub fn take_label(&mut self) -> Option<Label>
+        ensures taken { TakesFirst self.old.stack result self.new.stack }
+        ensures told { StaysTold self.old self.new }
+        ensures entries { self.new.journal.entries ≡ self.old.journal.entries }
+    {
+        let label = self.stack.take_label()?;
+        self.note(&label);
+        Some(label)
+    }
+
+    /// Takes the waiting answer with the lowest number, as [`Stack::take_answer`].
+    pub fn take_answer(&mut self) -> Option<Answer>
+        ensures taken { TakesAnswer self.old.stack result self.new.stack }
+        ensures told { StaysTold self.old self.new }
+        ensures entries { self.new.journal.entries ≡ self.old.journal.entries }
+    {
+        self.stack.take_answer()
+    }
+
+    /// What the acts did to the sectors, in their order.
+    pub fn entries(&self) -> &[Entry]
+        ensures { result.now ≡ self.now.journal.entries }
+    {
+        self.journal.entries()
+    }
+
+    /// The stack, the sectors and what acts did to them.
+    pub fn into_parts(self) -> (Stack<BookedAdapter>, M, Vec<Entry>)
+        ensures stack { result.0 ≡ self.stack }
+        ensures sectors { M.view result.1 ≡ self.journal.medium }
+        ensures entries { result.2.items ≡ self.journal.entries }
+        ensures replays { Replays (M.view result.1).sector_size N.opening result.2.items (M.view result.1).sectors }
+    {
+        let Journaled {
+            stack,
+            journal,
+            history: _,
+            max_transfer: _,
+            next_request: _,
+        } = self;
+        let (medium, entries) = journal.into_parts();
+        (stack, medium, entries)
+    }
+}

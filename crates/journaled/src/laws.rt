@@ -1,0 +1,18 @@
+//! The laws on the entries of a trace that a step goes by.
+
+ghost use Rattle.compose.specs.Journaled.{ArmedMayBeBooked, BookedActsAddEntries, IdleActsKeepEntries, StepsKeepEntries, StepsStayApart};
+
+/// Which steps add an entry, for who calls this.
+pub(crate) fn laws_of_entries()
+    ensures kept { StepsKeepEntries }
+    ensures idle { IdleActsKeepEntries }
+    ensures booked { BookedActsAddEntries }
+    ensures armed { ArmedMayBeBooked }
+    ensures apart { StepsStayApart }
+{
+    compose::steps_keep_entries();
+    compose::idle_acts_keep_entries();
+    compose::booked_acts_add_entries();
+    compose::armed_may_be_booked();
+    compose::steps_stay_apart();
+}
