@@ -51,7 +51,7 @@ answer_at_once() {
 
 # Whether a value is one that a key may have. The size of the disk stands before its bad sectors.
 is_in_range() {
-    local number='^(0|[123456789][0123456789]{0,12})$' least=1 most
+    local number='^(0|[123456789][0123456789]{0,12})$' least=1 most=0
     case $1 in
         write_protected) [[ $2 = true || $2 = false ]] && return ;;
         sector_size) [[ $2 = 512 || $2 = 4096 ]] && return ;;
@@ -67,11 +67,14 @@ is_in_range() {
     [[ $2 =~ $number ]] && [ "$2" -ge "$least" ] && [ "$2" -le "$most" ]
 }
 
+# Whether a file has no zero byte, which `read` would pass over.
+is_text() { LC_ALL=C tr -d '\0' < "$1" | cmp -s - "$1"; }
+
 # Whether all settings are there and in range, where they stand in the plainest form: a key a line, one bad sector at most. Of
 # any other form it answers no, and the program is asked.
 are_plain_settings() {
     local line key value setting='^([a-z_]+) *= *([a-z0-9]+|\[[0-9]+\]) *$' prefix='' tables=0 seen=' ' sectors=0
-    [ -f "$1" ] || return 1
+    [ -f "$1" ] && is_text "$1" || return 1
     while IFS= read -r line || [ -n "$line" ]; do
         if [[ $line = '[[partition]]' ]]; then
             tables=$((tables + 1)) prefix=partition.
