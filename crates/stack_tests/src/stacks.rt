@@ -1,5 +1,6 @@
 //! Whole stacks over disks in memory: rows worked by hand, what stops a start, and refused memory.
 
+mod admitting;
 mod disks;
 mod events;
 mod failing;

@@ -49,7 +49,8 @@ fn bytes(alloc: Global, byte: u8, length: usize) -> Result<Bytes, AllocError> {
     Ok(Bytes::new(vec![in alloc; byte; length]?))
 }
 
-fn event_of(alloc: Global, step: Step) -> Result<Event, AllocError> {
+/// The event of a step.
+pub(super) fn event_of(alloc: Global, step: Step) -> Result<Event, AllocError> {
     Ok(match step {
         Step::Open(partition) => Event::Open { partition },
         Step::Close(handle) => Event::Close { handle },
@@ -166,7 +167,11 @@ fn run<A: Adapter>(
 }
 
 /// Carries one event out, and takes its labels one by one.
-fn show<S: Carrier>(alloc: Global, stack: &mut S, event: Event) -> Result<Shown, AllocError>
+pub(super) fn show<S: Carrier>(
+    alloc: Global,
+    stack: &mut S,
+    event: Event,
+) -> Result<Shown, AllocError>
     requires { S.labels stack.old ≡ [] }
     ensures { OnOk result (S.labels stack.new ≡ []) }
 {
@@ -192,7 +197,7 @@ pub(super) fn show_step<S: Carrier>(
 }
 
 /// Whether memory for a call was refused.
-fn is_refused_for_memory(reply: &Reply) -> bool {
+pub(super) fn is_refused_for_memory(reply: &Reply) -> bool {
     matches!(
         reply,
         Reply::Refused {
