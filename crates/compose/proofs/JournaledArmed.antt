@@ -65,18 +65,19 @@ started_above rules s (label ∷ labels) s' run above piece tag block (suc k, lo
 
 pub armed_may_be_booked : ArmedMayBeBooked
 armed_may_be_booked arrays trace entries view tag piece srb what run kept apart armed suits = record {
-    use' = armed.use';
-    others = armed.others;
-    apart = apart;
-    is_on = armed.is_on;
-    is_piece = armed.is_piece;
-    is_fresh = armed.is_fresh;
-    not_first = λ zero_is. absurd (let one = started_one in omega (arith, one, zero_is));
-    suits = subst (λ x. Suits view.adapter.sector_size (length view.adapter.sectors) x what) (sym armed.is_srb) suits;
-  }
+  use' = armed.use';
+  others = armed.others;
+  apart = apart;
+  is_on = armed.is_on;
+  is_piece = armed.is_piece;
+  is_fresh = armed.is_fresh;
+  not_first = λ zero_is. absurd (let one = started_one in omega (arith, one, zero_is));
+  suits = subst (λ x. Suits view.adapter.sector_size (length view.adapter.sectors) x what) (sym armed.is_srb) suits;
+}
   where
     mine : IsStartedUse trace armed.use'
     mine = All-head (IsStartedUse trace) armed.use' armed.others (All-permutation (IsStartedUse trace) _ _ armed.is_on.in_use kept.started)
+
     started_one : 1 ≤ piece
     started_one = subst (λ n. 1 ≤ n) armed.is_piece
         (started_above view.rules (opening arrays) trace view.state run (omega arith) armed.use'.piece armed.use'.tag armed.use'.srb.block mine)
@@ -97,7 +98,7 @@ all_apart old [] new h apart = reserves_apart old new h apart
 all_apart old (label ∷ labels) new (before, after, reserves, (tag, moves), rest) apart =
     all_apart after labels new rest (moves_apart before after tag label moves (reserves_apart old before reserves apart))
 
-with_apart : (reset : Bool) (old : AdapterView) (labels : List DeviceLabel) (new : AdapterView) → MovesWith reset old labels new → IsFalse old.faithful → IsFalse new.faithful
+pub with_apart : (reset : Bool) (old : AdapterView) (labels : List DeviceLabel) (new : AdapterView) → MovesWith reset old labels new → IsFalse old.faithful → IsFalse new.faithful
 with_apart false old labels new h apart = all_apart old labels new h apart
 with_apart true old labels new (faulted, noted, moves, notes, reserves) apart =
     reserves_apart noted new reserves (subst (λ (v : AdapterView). IsFalse v.faithful) (sym notes.after) (all_apart old labels faulted moves apart))

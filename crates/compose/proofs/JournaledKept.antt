@@ -122,8 +122,8 @@ fresh_use v tag p read fresh none =
     let found = mapped_there use_on_tag v.adapter.tags (piece_on_tag p) there in
     let at = found.1 in
     none found.0 (remove v.adapter.tags at.0)
-      (record { in_use = IsPermutation-remove v.adapter.tags at.0 found.0 at.1 (sym at.2); has_tag = ap (λ (x : OnTag). x.tag) found.2 ∙ fresh.is_tag })
-      (ap (λ (x : OnTag). x.fate) found.2 ∙ fresh.is_fresh)
+    (record { in_use = IsPermutation-remove v.adapter.tags at.0 found.0 at.1 (sym at.2); has_tag = ap (λ (x : OnTag). x.tag) found.2 ∙ fresh.is_tag })
+    (ap (λ (x : OnTag). x.fate) found.2 ∙ fresh.is_fresh)
 
 idle_labels : (reset : Bool) (told : Told) (old new : ManagerView) → IsRightBy reset told old new → told ≡ tells_nothing old → new.labels ≡ []
 idle_labels reset told old new by nothing = by.in_order ∙ rw nothing refl
@@ -133,8 +133,8 @@ module _ (trace : List Label) (entries : List Entry) (old : ManagerView) (tag : 
   idle_reply OkReply told (tells, handles) by = absurd (fresh_use old tag tells.piece fits.read tells.fresh none)
   idle_reply Ignored told (unmoved, nothing, handles) by =
       subst (λ ls. IsJournaled (trace ++ ls) entries new) (sym (idle_labels false told old new by unmoved.nothing))
-        (subst (λ ls. IsJournaled ls entries new) (sym (append-nil trace))
-          (record { of_acts = kept.of_acts; started = subst (λ (v : AdapterView). AllTagged (IsStarted trace) v) (sym unmoved.same_adapter) kept.started }))
+      (subst (λ ls. IsJournaled ls entries new) (sym (append-nil trace))
+      (record { of_acts = kept.of_acts; started = subst (λ (v : AdapterView). AllTagged (IsStarted trace) v) (sym unmoved.same_adapter) kept.started }))
   idle_reply (HandleReply handle) told h by = absurd h
   idle_reply (Requested id) told h by = absurd h
   idle_reply (Answered answer) told h by = absurd h

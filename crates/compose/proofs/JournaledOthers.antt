@@ -204,5 +204,5 @@ pub others_step : (trace : List Label) (entries : List Entry) (old : ManagerView
     → AreOfActs trace trace entries → AreOfActs (trace ++ new.labels) (trace ++ new.labels) entries
 others_step trace entries old event reply new other right were =
     let joined : AreOfActs (trace ++ new.labels) (trace ++ new.labels) (entries ++ []) =
-        acts_joined (trace ++ new.labels) trace new.labels entries [] (acts_longer trace new.labels trace entries were) (other_bare (trace ++ new.labels) old event reply new other right) in
+    acts_joined (trace ++ new.labels) trace new.labels entries [] (acts_longer trace new.labels trace entries were) (other_bare (trace ++ new.labels) old event reply new other right) in
     rw (append-nil entries) at joined

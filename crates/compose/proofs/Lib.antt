@@ -1,6 +1,7 @@
 pub mod Removed
 pub mod Lawful
 pub mod FirstView
+pub mod FirstSectors
 pub mod Faulting
 pub mod StepLaws
 pub mod OpensAsTold

@@ -1,8 +1,6 @@
 //! Laws of every right step, whichever event it was: who calls one of these has the law.
 
-ghost use Rattle.compose.specs.Journaled.{
-    ArmedMayBeBooked, BookedActsAddEntries, IdleActsKeepEntries, StepsKeepEntries, StepsStayApart,
-};
+ghost use Rattle.compose.specs.Journaled.{ArmedMayBeBooked, BookedActsAddEntries, IdleActsKeepEntries, StepsKeepEntries, StepsStayApart};
 ghost use Rattle.compose.specs.StepLaws.{StepsCallOnce, StepsLeaveAnswers, StepsOpenAsTold, StepsTakeNoMemory};
 
 /// Among the labels of a step is one call at most. It comes first, and only a read, a write or a flush brings it.
@@ -19,6 +17,12 @@ pub fn steps_take_no_memory()
 /// information and the bytes of its label.
 pub fn steps_leave_answers()
     ensures { StepsLeaveAnswers }
+{}
+
+/// A step opens a request just where [`crate::Stack::admits`] tells before it what would be opened, and opens what was
+/// told, unless memory is refused.
+pub fn steps_open_as_told()
+    ensures { StepsOpenAsTold }
 {}
 
 /// A step of any event but `Act` adds no entry to the journal of the acts of a trace.
@@ -44,10 +48,4 @@ pub fn armed_may_be_booked()
 /// Where an adapter's sectors stand elsewhere, they do so after each step.
 pub fn steps_stay_apart()
     ensures { StepsStayApart }
-{}
-
-/// A step opens a request just where [`crate::Stack::admits`] tells before it what would be opened, and opens what was
-/// told, unless memory is refused.
-pub fn steps_open_as_told()
-    ensures { StepsOpenAsTold }
 {}

@@ -14,8 +14,8 @@ ghost use Rattle.compose.specs.Runs.{CarriesAll, IsLawful, StopsAfter};
 
 use crate::start::{Manager, manager_over};
 use crate::{Answer, Event, Reply, RunStopped, Settings, Shown, StartFault, events};
-use device::Label;
 use adapter::Adapter;
+use device::Label;
 use sector::Extent;
 use srb::{Completion, Entry, Srb};
 use std::alloc::Global;

@@ -8,10 +8,10 @@ ghost use Rattle.io_manager.specs.Sound.{AreFirsts};
 ghost use Rattle.compose.specs.Opening.{AreInRange, IsFirstView, IsSpent, IsStartFault};
 
 use crate::{Settings, StartFault};
+use adapter::Adapter;
 use class_disk::{Disk, DiskRoom};
 use hold_filter::Filter;
 use io_manager::{IoManager, Limits};
-use adapter::Adapter;
 use partition::Partitions;
 use port::{Port, PortRoom};
 use probe::{ProbeFault, Probed, probe};

@@ -1,12 +1,11 @@
 -- What is booked of a piece changes nothing but what the adapter shows.
-use Rattle.std.proofs.Common.{◌≡◌, ℕ, ◌==◌, Bool, true, false, List, [], ◌∷◌, map, Result, Ok, Err, refl, sym, ap, subst, ◌∙◌, if◌then◌else◌}
-use Rattle.std.specs.Prelude.{All}
+use Rattle.std.proofs.Common.{◌≡◌, ℕ, ◌==◌, Bool, true, false, List, [], Result, Ok, Err, refl, sym, ap, subst, ◌∙◌, if◌then◌else◌}
 use Rattle.std.proofs.lemmas.List.Elements.{All-map}
 use Rattle.sector.specs.declared.Extent.{Extent}
 use Rattle.srb.specs.declared.Completion.{Completion}
 use Rattle.srb.specs.declared.Entry.{Entry}
 use Rattle.adapter.specs.View.{AdapterView, TagInUse}
-use Rattle.adapter.specs.Booking.{Books, with_booked, booked_on, with_booking}
+use Rattle.adapter.specs.Booking.{with_booked, booked_on, with_booking}
 use Rattle.adapter.proofs.Booked.{books_labels}
 use Rattle.device.specs.View.{DeviceView}
 use Rattle.device.specs.Served.{BooksPiece as BooksBelow}

@@ -15,7 +15,7 @@ use std::alloc::Global;
 use std::test::Fail;
 
 /// Scripts, and the line that is bad.
-static SCRIPTS: [(&str, u64); 54] = [
+static SCRIPTS: [(&str, u64); 55] = [
     ("open\n", 1),
     ("open 0 0\n", 1),
     ("# a remark\n\n  \nopen zero\n", 4),
@@ -27,6 +27,7 @@ static SCRIPTS: [(&str, u64); 54] = [
     ("act +1\n", 1),
     ("act -1\n", 1),
     ("act 18446744073709551616\n", 1),
+    ("mark 18446744073709551616\n", 1),
     ("act 000000000000000000001\n", 1),
     ("mark 000000000000000000001\n", 1),
     ("cancel 1 000000000000000000001\n", 1),
@@ -42,7 +43,7 @@ static SCRIPTS: [(&str, u64); 54] = [
     ("write 1 0 512\n", 1),
     ("write 1 0 512 a\n", 1),
     ("write 1 0 512 0a5\n", 1),
-    ("write 1 0 512 g0\n", 1),
+    ("write 1 0 512 g5\n", 1),
     ("write 1 0 512 +1\n", 1),
     ("write 1 0 512 through\n", 1),
     ("write 1 0 512 a5 throuhg\n", 1),

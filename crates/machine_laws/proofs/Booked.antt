@@ -362,8 +362,7 @@ module _ (rules : Rules) (arrays : List (List (List ℕ))) (trace : List Label) 
       → AreOfActs trace labels entries → AreActsOf rules s labels s' run entries
   acts_along s [] s' run entries sound known all there acts = acts
   acts_along s (label ∷ labels) s' run entries sound known all there (left, takes, rest) =
-      let here : Contains trace label = All-head (Contains trace) label labels there in
-      (
+      let here : Contains trace label = All-head (Contains trace) label labels there in (
         left,
         step_takes s label run.0 run.1 entries left known all takes,
         acts_along run.0 labels s' run.2 left (IsSound-Step rules s label run.0 sound run.1) (known_step rules s label run.0 known run.1) (started_step rules trace s label run.0 sound here run.1 all)

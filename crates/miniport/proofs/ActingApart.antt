@@ -202,9 +202,9 @@ faults_apart old new tag piece h = record {
 not_booked_by : (m : MediumView) (longest : ℕ) (t : Table) (tag : ℕ) (on : OnTag) → piece_at t.slots tag ≡ Some on → has_bytes on.booking ≡ false → ¬ IsBooked (apart (shown_of m longest t)) tag
 not_booked_by m longest t tag on there none h =
     let same : h.use' ≡ in_use_of m.sector_size tag on = on_tag_once (tags_of m.sector_size 0 t.slots) (tags_differ m.sector_size t.slots) h.use' (in_use_of m.sector_size tag on)
-        (is_there (apart (shown_of m longest t)) tag h.use' h.others h.is_on)
-        (is_there (apart (shown_of m longest t)) tag (in_use_of m.sector_size tag on) (tags_of m.sector_size 0 (slice_set t.slots tag None)) (record { in_use = taken_first m.sector_size t.slots tag on there; has_tag = refl }))
-        h.is_on.has_tag in
+    (is_there (apart (shown_of m longest t)) tag h.use' h.others h.is_on)
+    (is_there (apart (shown_of m longest t)) tag (in_use_of m.sector_size tag on) (tags_of m.sector_size 0 (slice_set t.slots tag None)) (record { in_use = taken_first m.sector_size t.slots tag on there; has_tag = refl }))
+    h.is_on.has_tag in
     let booked : has_bytes on.booking ≡ true = sym (ap (λ (u : TagInUse). u.booked) same) ∙ h.booked in
     cc (booked, none)
 

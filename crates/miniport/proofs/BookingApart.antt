@@ -152,9 +152,9 @@ the_piece : (m : MediumView) (longest : ℕ) (t : Table) (tag piece : ℕ) (what
     → (on : OnTag) → piece_at t.slots tag ≡ Some on → SuitsPiece m.sector_size (length m.sectors) on piece what
 the_piece m longest t tag piece what h on there =
     let same : h.use' ≡ in_use_of m.sector_size tag on = on_tag_once (tags_of m.sector_size 0 t.slots) (tags_differ m.sector_size t.slots) h.use' (in_use_of m.sector_size tag on)
-        (is_there (apart (shown_of m longest t)) tag h.use' h.others h.is_on)
-        (is_there (apart (shown_of m longest t)) tag (in_use_of m.sector_size tag on) (tags_of m.sector_size 0 (slice_set t.slots tag None)) (record { in_use = taken_first m.sector_size t.slots tag on there; has_tag = refl }))
-        h.is_on.has_tag in
+    (is_there (apart (shown_of m longest t)) tag h.use' h.others h.is_on)
+    (is_there (apart (shown_of m longest t)) tag (in_use_of m.sector_size tag on) (tags_of m.sector_size 0 (slice_set t.slots tag None)) (record { in_use = taken_first m.sector_size t.slots tag on there; has_tag = refl }))
+    h.is_on.has_tag in
     record {
       not_first = h.not_first;
       is_piece = sym (ap (λ (u : TagInUse). u.piece) same) ∙ h.is_piece;

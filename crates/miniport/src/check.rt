@@ -10,7 +10,7 @@ use sector::Extent;
 use srb::{Completion, Srb, SrbFlags, SrbFunction};
 
 /// What of a disk, but for its bad sectors, decides whether it carries a command out.
-#[derive(Debug, Clone, Copy, PartialEq, Eq)]
+#[derive(Clone, Copy, PartialEq, Eq)]
 pub(crate) struct Sizes {
     /// Bytes.
     pub sector_size: u32,

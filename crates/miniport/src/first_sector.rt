@@ -6,7 +6,7 @@ use disk::{BadSector, Medium, NoMemory};
 use sector::Extent;
 
 /// A disk whose first sector stands here and whose others stand elsewhere: they can be neither read nor written.
-#[derive(Debug, Drop)]
+#[derive(Drop)]
 pub(crate) struct FirstSector {
     sector_size: u32,
     sectors: u64,

@@ -6,7 +6,7 @@ use crate::completion::{met_reset, succeeded, was_busy};
 use srb::{Completion, Srb};
 
 /// What a piece has done.
-#[derive(Debug, Clone, Copy, PartialEq, Eq)]
+#[derive(Clone, Copy, PartialEq, Eq)]
 pub(crate) enum Progress {
     Untouched,
     /// Its command was carried out.
@@ -16,7 +16,7 @@ pub(crate) enum Progress {
 }
 
 /// What was booked of a piece.
-#[derive(Debug, Clone, Copy, PartialEq, Eq)]
+#[derive(Clone, Copy, PartialEq, Eq)]
 pub(crate) enum Booking {
     Nothing,
     /// The bytes of its act, which stand in the second buffer of its SRB.
@@ -25,7 +25,7 @@ pub(crate) enum Booking {
     Failure(Completion),
 }
 
-#[derive(Debug, Drop)]
+#[derive(Drop)]
 pub(crate) struct OnTag {
     pub piece: u128,
     pub srb: Srb,

@@ -38,14 +38,7 @@ fn has_length(sizes: &Sizes, bytes: &[u8], entry: &Entry, lba: u64, count: u32) 
         && entry.bytes.len() == bytes.len()
 }
 
-fn is_transfer(
-    sizes: &Sizes,
-    bytes: &[u8],
-    entry: &Entry,
-    kind: Kind,
-    lba: u64,
-    count: u32,
-) -> bool
+fn is_transfer(sizes: &Sizes, bytes: &[u8], entry: &Entry, kind: Kind, lba: u64, count: u32) -> bool
     ensures { result ≡ is_transfer_of sizes.now.sector_size sizes.now.sectors bytes.now kind lba count entry.now }
 {
     has_kind(entry, kind)

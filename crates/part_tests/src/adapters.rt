@@ -739,22 +739,62 @@ fn acts_are_as_booked(rt: HostRuntime) -> Result<(), Fail> {
     let write = (0x80, WRITE.as_slice(), 512);
     let sync = (0, SYNC.as_slice(), 0);
     let its = entry(alloc, Kind::Read, 0, 1, 512, 0x5A)?;
-    same(&rt, &comes_back(&rt, alloc, read, Ok(&its))?, &(0x5A, GOOD, true));
-    same(&rt, &comes_back(&rt, alloc, write, Ok(&its))?, &(0xA5, unbooked, false));
+    same(
+        &rt,
+        &comes_back(&rt, alloc, read, Ok(&its))?,
+        &(0x5A, GOOD, true),
+    );
+    same(
+        &rt,
+        &comes_back(&rt, alloc, write, Ok(&its))?,
+        &(0xA5, unbooked, false),
+    );
     let other = entry(alloc, Kind::Read, 1, 1, 512, 0x5A)?;
-    same(&rt, &comes_back(&rt, alloc, read, Ok(&other))?, &(0xA5, unbooked, false));
+    same(
+        &rt,
+        &comes_back(&rt, alloc, read, Ok(&other))?,
+        &(0xA5, unbooked, false),
+    );
     let short = entry(alloc, Kind::Read, 0, 1, 511, 0x5A)?;
-    same(&rt, &comes_back(&rt, alloc, read, Ok(&short))?, &(0xA5, unbooked, false));
+    same(
+        &rt,
+        &comes_back(&rt, alloc, read, Ok(&short))?,
+        &(0xA5, unbooked, false),
+    );
     let written = entry(alloc, Kind::Write, 0, 1, 512, 0xA5)?;
-    same(&rt, &comes_back(&rt, alloc, write, Ok(&written))?, &(0xA5, GOOD, true));
+    same(
+        &rt,
+        &comes_back(&rt, alloc, write, Ok(&written))?,
+        &(0xA5, GOOD, true),
+    );
     let changed = entry(alloc, Kind::Write, 0, 1, 512, 0x5A)?;
-    same(&rt, &comes_back(&rt, alloc, write, Ok(&changed))?, &(0xA5, unbooked, false));
+    same(
+        &rt,
+        &comes_back(&rt, alloc, write, Ok(&changed))?,
+        &(0xA5, unbooked, false),
+    );
     let flushed = entry(alloc, Kind::Flush, 0, 0, 0, 0)?;
-    same(&rt, &comes_back(&rt, alloc, sync, Ok(&flushed))?, &(0, GOOD, true));
+    same(
+        &rt,
+        &comes_back(&rt, alloc, sync, Ok(&flushed))?,
+        &(0, GOOD, true),
+    );
     let bad = checked(3, 0x11);
-    same(&rt, &comes_back(&rt, alloc, read, Err(bad))?, &(0xA5, bad, false));
-    same(&rt, &comes_back(&rt, alloc, read, Err(GOOD))?, &(0xA5, unbooked, false));
-    same(&rt, &comes_back(&rt, alloc, read, Err(BUSY))?, &(0xA5, unbooked, false));
+    same(
+        &rt,
+        &comes_back(&rt, alloc, read, Err(bad))?,
+        &(0xA5, bad, false),
+    );
+    same(
+        &rt,
+        &comes_back(&rt, alloc, read, Err(GOOD))?,
+        &(0xA5, unbooked, false),
+    );
+    same(
+        &rt,
+        &comes_back(&rt, alloc, read, Err(BUSY))?,
+        &(0xA5, unbooked, false),
+    );
     Ok(())
 }
 
@@ -768,7 +808,11 @@ fn a_booked_adapter_tells_of_its_disk(rt: HostRuntime) -> Result<(), Fail> {
     act(&rt, &mut adapter, 0);
     let (srb_back, completion) = finish(&mut adapter, 0)?;
     same(&rt, &completion, &GOOD);
-    same(&rt, &srb_back.data.as_slice(), &[0, 0, 0, 3, 0, 0, 2, 0].as_slice());
+    same(
+        &rt,
+        &srb_back.data.as_slice(),
+        &[0, 0, 0, 3, 0, 0, 2, 0].as_slice(),
+    );
     let first = srb(alloc, SCSI, 0x40, &READ, 512, 0)?;
     put(&rt, &mut adapter, 0, 0, first)?;
     act(&rt, &mut adapter, 0);

@@ -108,7 +108,7 @@ fn faults_come_in_their_order(rt: HostRuntime) {
     assert!(rt; decode(&[0x28]) == Err(CdbFault::ShortCdb));
     assert!(rt; decode(&[0x12]) == Err(CdbFault::UnknownOpcode));
     assert!(rt; decode(&[0x28, 0x20, 0, 0, 0, 0, 0, 0, 1]) == Err(CdbFault::ShortCdb));
-    assert!(rt; decode(&[0x28, 0x20, 0, 0, 0, 0, 0, 0, 1, 0]) == Err(CdbFault::InvalidField));
+    assert!(rt; decode(&[0x28, 0x20, 0, 0, 8, 0, 0, 0, 1, 0]) == Err(CdbFault::InvalidField));
     // bits that `Cdb` doesn't hold, and an eleventh byte
     assert!(rt; decode(&[0x28, 0x17, 0, 0, 0, 0, 0xFF, 0, 1, 4, 9]) == Ok(read));
     assert!(rt; decode(&[0x35, 0xFF, 0, 0, 0, 0, 0xFF, 0, 0, 4]) == Ok(sync));

@@ -128,7 +128,10 @@ fn looks_at_512_bytes(rt: HostRuntime) {
     for length in [0, 1, 446, 462, 510, 511] {
         is_short(&rt, &sector, length);
     }
-    for bytes in [[0; 512], [0xFF; 512], [0x55; 512], [0xAA; 512]] {
+    let mut unsigned = sector;
+    unsigned[510] = 0;
+    unsigned[511] = 0;
+    for bytes in [unsigned, [0; 512], [0xFF; 512], [0x55; 512], [0xAA; 512]] {
         expect(&rt, &bytes, 4096, &[], Some(MbrFault::NoSignature));
     }
     let mut long = [0xFF; 4096];
@@ -210,7 +213,7 @@ fn takes_the_used_entries_in_table_order(rt: HostRuntime) {
 fn tells_the_first_fault(rt: HostRuntime) {
     let (low, high) = (extent(2048, 1024), extent(3072, 1024));
     let (empty, covering, long) = (extent(5000, 0), extent(0, 5000), extent(4095, 2));
-    let rows: [(&[(u8, Extent)], MbrFault); 14] = [
+    let rows: [(&[(u8, Extent)], MbrFault); 16] = [
         (&[(7, empty)], MbrFault::EmptyEntry),
         (&[(7, extent(0, 0))], MbrFault::EmptyEntry),
         (&[(7, extent(FAR, 0))], MbrFault::EmptyEntry),
@@ -218,11 +221,13 @@ fn tells_the_first_fault(rt: HostRuntime) {
         (&[(7, extent(0, 1))], MbrFault::CoversTable),
         (&[(7, long)], MbrFault::PastEnd),
         (&[(7, extent(4096, 1))], MbrFault::PastEnd),
+        (&[(7, extent(FAR, 1))], MbrFault::PastEnd),
         (&[(7, extent(FAR, FAR))], MbrFault::PastEnd),
         (
             &[(7, low), (7, high), (0, low), (7, low)],
             MbrFault::Overlap,
         ),
+        (&[(7, low), (7, extent(3000, 10))], MbrFault::Overlap),
         (&[(7, low), (7, extent(3071, 1))], MbrFault::Overlap),
         (
             &[(7, extent(1, 4095)), (0, empty), (7, high)],

@@ -1,6 +1,8 @@
-use Rattle.std.proofs.Common.{◌≡◌, Err, inr, refl, rules}
+use Rattle.std.proofs.Common.{◌≡◌, List, Err, inr, refl, subst, rules}
+use Rattle.sector.specs.declared.Extent.{Extent}
+use Rattle.io_manager.specs.Sound.{AreFirsts}
 use Rattle.compose.specs.declared.StartFault.TheVariants.{NoMemory}
-use Rattle.compose.proofs.FirstView.{fresh_partitions, unasked, first_view}
+use Rattle.compose.proofs.FirstView.{fresh_partitions, unasked, limits_for, first_view}
 use Rattle.compose.proofs.start.manager_over.Goals as goal
 
 pub new-partitions-requires-clause-fresh : goal.new-partitions-requires-clause-fresh
@@ -13,6 +15,13 @@ new-requires-2-clause-unasked g c =
     unasked (g.A.Adapter.view c.args.adapter) (g.A.Adapter.view c.prepare.new.adapter) c.args.settings c.in_ok-probed.ensures.in_range c.in_ok-probed.probed
     c.in_ok-probed.ensures.probed c.in_ok-probed.ensures.same _ _ _ c.in_ok-port.ensures.opening c.new-disk.ensures.opening c.new-filter.ensures.opening
     _ c.new-partitions.ensures.opening
+
+pub new-requires-2-clause-limits : goal.new-requires-2-clause-limits
+new-requires-2-clause-limits g c =
+    limits_for (g.A.Adapter.view c.args.adapter) (g.A.Adapter.view c.prepare.new.adapter) c.args.settings c.in_ok-probed.ensures.in_range c.in_ok-probed.probed
+    c.in_ok-probed.ensures.probed c.in_ok-probed.ensures.same _ _ _ c.in_ok-port.ensures.opening c.new-disk.ensures.opening c.new-filter.ensures.opening
+    _ c.new-partitions.ensures.opening c.in_ok-probed.ensures.order _ refl c.max_transfer-max_transfer.ensures.exact refl
+    (subst (λ (xs : List Extent). AreFirsts c.first_sectors_of-first_sectors.result xs) c.as_slice.ensures.value c.first_sectors_of-first_sectors.ensures)
 
 pub returns-clause-view : goal.returns-clause-view
 returns-clause-view g c =

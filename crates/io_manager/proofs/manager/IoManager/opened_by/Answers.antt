@@ -1,4 +1,4 @@
-use Rattle.std.proofs.Common.{◌≡◌, ◌<◌, ◌+◌, ◌/◌, ◌^◌, ℕ, sym, ap, subst, arith}
+use Rattle.std.proofs.Common.{◌≡◌, ◌<◌, ◌+◌, ◌/◌, ◌^◌, ℕ, sym, subst, arith}
 use Rattle.machine.specs.Rules.{home}
 use Rattle.device.specs.View.{DeviceView}
 use Rattle.sector.specs.declared.Extent.{Extent}

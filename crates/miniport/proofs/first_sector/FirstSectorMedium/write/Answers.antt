@@ -18,7 +18,7 @@ returns-then-extent-eq1-clause-refused c = let disk = c.args.self.now in (
 
 pub returns-then-extent-eq1-clause-writes : goal.returns-then-extent-eq1-clause-writes
 returns-then-extent-eq1-clause-writes c = let disk = c.args.self.now in
-    subst (λ (xs : List ℕ). Writes (disk_of disk.sector_size disk.sectors disk.first.items disk.failures) c.args.extent c.args.bytes.now (disk_of disk.sector_size disk.sectors xs disk.failures)) 
+    subst (λ (xs : List ℕ). Writes (disk_of disk.sector_size disk.sectors disk.first.items disk.failures) c.args.extent c.args.bytes.now (disk_of disk.sector_size disk.sectors xs disk.failures))
     (sym (take_at c.copy_from_slice.new.self (drop (length c.copy_from_slice.new.self) disk.first.items) disk.first.len (c.copy_from_slice.ensures.len ∙ c.as_mut_slice.ensures.len) ∙ c.copy_from_slice.ensures.after))
     (writes_one disk.sector_size disk.sectors disk.failures disk.first.items c.args.bytes.now c.args.extent (λ far. cc (c.if-is_elsewhere.ensures.1 far)) c.if-extent-eq1.true c.requires.long)
 
