@@ -49,15 +49,24 @@ fn has_whole_sectors<M: Medium>(_medium: &M)
     ensures { HasWholeSectors (M.view _medium.now) }
 {}
 
-/// A stack of two tags over no sectors, which moves two at most.
-fn stack_apart(rt: &impl Abort, alloc: Global) -> Result<Stack<BookedAdapter>, AllocError>
+/// A stack over an adapter without sectors, for a disk of 4,096 of 512 bytes.
+fn started_apart<A: Adapter>(
+    rt: &impl Abort,
+    alloc: Global,
+    adapter: A,
+) -> Result<Stack<A>, AllocError>
+    requires idle { IsIdle (A.view adapter) }
+    requires unasked { (A.view adapter).accepted ≡ 0 }
     ensures started { IfOk result IsStarted }
     ensures apart { IfOk result (λ s. IsFalse s.adapter.faithful) }
     ensures sizes { IfOk result (λ s. (s.rules.sector_size ≡ 512) × (s.rules.disk_sectors ≡ 4096)) }
     ensures taken { IfOk result (λ s. s.labels ≡ []) }
 {
-    let first = Vec::from_slice(alloc, &ONE.sector())?;
-    let adapter = BookedAdapter::new(alloc, first, 4096, 2, 2).map_err(|_| AllocError)?;
+    let size = adapter.sector_size();
+    let sectors = adapter.sectors();
+    let faithful = adapter.is_faithful();
+    assert!(rt; size == 512 && sectors == 4096);
+    assert!(rt; !faithful);
     let settings = Settings {
         window: 2,
         open_requests: 4,
@@ -67,6 +76,26 @@ fn stack_apart(rt: &impl Abort, alloc: Global) -> Result<Stack<BookedAdapter>, A
         Err(StartFault::NoMemory) => Err(AllocError),
         Err(fault) => panic!(rt; "{fault:?}"),
     }
+}
+
+/// An adapter of two tags without sectors, which moves two at most.
+fn adapter_apart(alloc: Global) -> Result<BookedAdapter, AllocError>
+    ensures idle { IfOk result (λ a. IsIdle a.shown) }
+    ensures unasked { IfOk result (λ a. a.shown.accepted ≡ 0) }
+{
+    let first = Vec::from_slice(alloc, &ONE.sector())?;
+    BookedAdapter::new(alloc, first, 4096, 2, 2).map_err(|_| AllocError)
+}
+
+/// A stack over it.
+fn stack_apart(rt: &impl Abort, alloc: Global) -> Result<Stack<BookedAdapter>, AllocError>
+    ensures started { IfOk result IsStarted }
+    ensures apart { IfOk result (λ s. IsFalse s.adapter.faithful) }
+    ensures sizes { IfOk result (λ s. (s.rules.sector_size ≡ 512) × (s.rules.disk_sectors ≡ 4096)) }
+    ensures taken { IfOk result (λ s. s.labels ≡ []) }
+{
+    let adapter = adapter_apart(alloc)?;
+    started_apart(rt, alloc, adapter)
 }
 
 /// The same over a journal of this medium, of 4,096 sectors of 512 bytes.
@@ -175,6 +204,18 @@ fn acts_in(rows: &[&[Row]]) -> usize {
     acts
 }
 
+/// The rows show just what is wanted.
+fn drive<M: Medium, N: Naming>(
+    rt: &impl Abort,
+    alloc: Global,
+    driver: &mut Journaled<M, N>,
+    rows: &[&[Row]],
+) -> Result<(), AllocError>
+    requires { driver.old.stack.labels ≡ [] }
+{
+    go_and_answer(rt, alloc, driver, rows, None)
+}
+
 /// The rows over a journal of this medium show just what is wanted, with an entry for each act.
 fn play_over<M: Medium, N: Naming>(
     rt: &impl Abort,
@@ -188,7 +229,7 @@ fn play_over<M: Medium, N: Naming>(
     requires opening { (M.view medium).sectors ≡ N.opening }
 {
     let mut driver: Journaled<M, N> = journaled_on(rt, alloc, opened, medium, write_protected)?;
-    go_and_answer(rt, alloc, &mut driver, rows, None)?;
+    drive(rt, alloc, &mut driver, rows)?;
     let (_stack, mut medium, entries) = driver.into_parts();
     same(rt, &entries.len(), &acts_in(rows));
     replay(rt, alloc, &mut medium, entries.as_slice())
