@@ -161,7 +161,7 @@ fn extent(lba: u64, count: u32) -> Extent
 }
 
 /// The command that an SRB asks of a medium, unless it fails whatever sectors are bad.
-fn check_on<M: Medium>(medium: &M, write_protected: bool, srb: &Srb) -> Result<Cdb, Completion>
+pub fn check_on<M: Medium>(medium: &M, write_protected: bool, srb: &Srb) -> Result<Cdb, Completion>
     ensures { let sizes = sizes_of (M.view medium.now) write_protected in MatchResult result (Passes sizes srb.now) (IsRefused sizes srb.now) }
 {
     let sizes = Sizes {

@@ -49,7 +49,7 @@ pub(crate) fn met_reset() -> Completion
 }
 
 /// The device checked the command and refuses it with sense data.
-pub(crate) fn failed_with(key: u8, asc: u8) -> Completion
+pub fn failed_with(key: u8, asc: u8) -> Completion
     ensures { result ≡ error key asc 0 }
 {
     Completion {
@@ -70,7 +70,7 @@ pub(crate) fn not_decoded(fault: CdbFault) -> Completion
 }
 
 /// Sense keys (SPC).
-pub(crate) const MEDIUM_ERROR: u8 = 3;
+pub const MEDIUM_ERROR: u8 = 3;
 
 pub(crate) const HARDWARE_ERROR: u8 = 4;
 

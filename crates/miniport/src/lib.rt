@@ -21,6 +21,7 @@ mod table;
 
 pub use adapter::Adapter;
 pub use booked::BookedAdapter;
-pub use carrying::{Outcome, carry_out};
+pub use carrying::{Outcome, carry_out, check_on};
+pub use completion::{MEDIUM_ERROR, failed_with};
 pub use memory::MemAdapter;
 pub use once::OnceAdapter;

@@ -85,7 +85,6 @@ can_enter medium kind extent reservations srb armed names any held copy =
           let of = asked armed.srb.block kind extent lba count fua names' asks in
           subst (λ (e : Extent). IsReserved medium e) of.extent_is
           (reserved_by medium extent reservations (subst (λ (k : Kind). list_any (covers k extent) reservations ≡ true) of.kind_is any) held);
-      buffers = copy.buffers;
       names = λ command means. ((kind, extent), sym (names' command means));
     }
 

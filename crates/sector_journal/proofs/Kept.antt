@@ -46,7 +46,6 @@ ready_on : (old new : MediumView) (armings : List Armed) (tag : ℕ) (armed : Ar
 ready_on old new armings tag armed holds may = record {
   can_enter = record {
     ready = λ lba count fua asks inside. holds.lasts (record { first = lba; count = count }) (may.can_enter.ready lba count fua asks (subst (λ n. lba + count ≤ n) holds.as_many inside));
-    buffers = may.can_enter.buffers;
     names = may.can_enter.names;
   };
   is_tag = may.is_tag;

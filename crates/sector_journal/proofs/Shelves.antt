@@ -5,7 +5,6 @@ use Rattle.std.proofs.lemmas.Bool.{cases_eq}
 use Rattle.std.proofs.lemmas.List.{length-set, get_or-set_same, get_or-set_other, get_or_read, set-get_or}
 use Rattle.std.proofs.lemmas.List.Folds.{position_or_len-set}
 use Rattle.std.proofs.lemmas.List.Quantifiers.{position-Some}
-use Rattle.sector_journal.specs.declared.shelf.Buffers.{Buffers}
 use Rattle.sector_journal.specs.Stocking.{Room, IsOfLength, TakesOne, is_for, pieces_on, pieces_at}
 
 abbrev no_room : Room
@@ -65,7 +64,7 @@ same_room rooms at old new low is same =
     let o : old ≡ get_or rooms at no_room = get_or_read rooms at old low is no_room in
     ap (slice_set rooms at) (same ∙ o) ∙ set-get_or rooms at no_room
 
-pub taken : (rooms : List Room) (long at : ℕ) (old new : Room) (result : Option Buffers) → position (is_for long) rooms ≡ Some at → old ≡ get_or rooms at old
+pub taken : (rooms : List Room) (long at : ℕ) (old new : Room) (result : Option (List ℕ)) → position (is_for long) rooms ≡ Some at → old ≡ get_or rooms at old
     → MatchOption result ((old.pieces ≡ 0) × (new ≡ old)) (λ b. IsOfLength b old.bytes × TakesOne old new)
     → MatchOption result ((pieces_at rooms long ≡ 0) × (slice_set rooms at new ≡ rooms)) (λ b. IsOfLength b long × (pieces_at (slice_set rooms at new) long + 1 ≡ pieces_at rooms long))
 taken rooms long at old new None found is (none, same) =
@@ -90,7 +89,7 @@ pub put_more_in : (items rooms : List Room) (at : ℕ) (old new : Room) → item
 put_more_in items rooms at old new same low is bytes more long =
     subst (λ (r : List Room). pieces_at r long ≤ pieces_at (slice_set items at new) long) same (put_more items at old new low is bytes more long)
 
-pub taken_in : (items rooms : List Room) (long at : ℕ) (old new : Room) (result : Option Buffers) → items ≡ rooms → position (is_for long) rooms ≡ Some at → old ≡ get_or items at old
+pub taken_in : (items rooms : List Room) (long at : ℕ) (old new : Room) (result : Option (List ℕ)) → items ≡ rooms → position (is_for long) rooms ≡ Some at → old ≡ get_or items at old
     → MatchOption result ((old.pieces ≡ 0) × (new ≡ old)) (λ b. IsOfLength b old.bytes × TakesOne old new)
     → MatchOption result ((pieces_at rooms long ≡ 0) × (slice_set items at new ≡ rooms)) (λ b. IsOfLength b long × (pieces_at (slice_set items at new) long + 1 ≡ pieces_at rooms long))
 taken_in items rooms long at old new result same found is takes =

@@ -11,11 +11,10 @@ pub record AskTheSame (one other : Srb) : Type 0 where
   pub as_long : length one.data ≡ length other.data
   pub same_bytes : (lba count : ℕ) (fua : Bool) → AsksToWrite one.block lba count fua → one.data ≡ other.data
 
--- the other asks for just what the first does, with no sense data and a second buffer as long as its data
+-- the other asks for just what the first does, with no sense data and no second buffer
 pub record IsCopy (kind : Kind) (srb copy : Srb) : Type 0 where
   pub same_block : copy.block ≡ srb.block
   pub same_function : copy.function ≡ srb.function
   pub same_flags : copy.flags ≡ srb.flags
   pub as_long : length copy.data ≡ length srb.data
-  pub buffers : length copy.for_label ≡ length copy.data
   pub same_bytes : kind ≡ Write → copy.data ≡ srb.data

@@ -1,5 +1,5 @@
 -- What an act does to the sectors, and its entry.
-use Rattle.std.specs.Prelude.{◌≡◌, ◌≤◌, ℕ, ◌+◌, Bool, List, length, Option, Some, None, Result, Ok}
+use Rattle.std.specs.Prelude.{◌≡◌, ◌≤◌, ℕ, ◌+◌, Bool, List, length, Option, Some, None, Result, Ok, Err}
 use Rattle.sector.specs.declared.Extent.{Extent}
 use Rattle.cdb.specs.declared.Cdb.{Cdb}
 use Rattle.cdb.specs.declared.Cdb.TheVariants.{Read10, Write10, Sync10, ReadCapacity10, Read16, Write16, Sync16, ReadCapacity16}
@@ -14,7 +14,9 @@ use Rattle.srb.specs.declared.Class.TheVariants.{Bad}
 use Rattle.srb.specs.Fate.{class_of}
 use Rattle.adapter.specs.Booking.{IsOfSrb}
 use Rattle.disk.specs.Medium.{MediumView}
-use Rattle.miniport.specs.Carrying.{disk_of}
+use Rattle.miniport.specs.declared.carrying.Outcome.{Outcome}
+use Rattle.miniport.specs.declared.carrying.Outcome.TheVariants.{Moved, Failed}
+use Rattle.miniport.specs.Carrying.{disk_of, emptied}
 use Rattle.miniport.specs.Faults.{Decodes, fault_of}
 use Rattle.srb.specs.Replaying.{ReplaysKind}
 
@@ -32,6 +34,11 @@ named (ReadCapacity16 allocation) = None
 -- a block asks for a transfer or a flush of this kind and extent
 abbrev pub Names : List ℕ → Kind × Extent → Type 0
 Names block what = (command : Cdb) × Means block command × (named command ≡ Some what)
+
+-- the same in the words of the adapter in memory
+abbrev pub outcome_of : Srb → Result (List ℕ) Completion → Outcome
+outcome_of srb (Ok bytes) = Moved (emptied bytes srb) bytes
+outcome_of srb (Err completion) = Failed srb completion
 
 -- the command that the SRB asks for fits no row of the table by which a disk fails commands
 pub record FitsNoRow (medium : MediumView) (write_protected : Bool) (srb : Srb) : Type 0 where

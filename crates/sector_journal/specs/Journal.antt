@@ -42,7 +42,6 @@ pub record JournalView : Type 0 where
 -- what an armed piece has
 pub record CanEnter (medium : MediumView) (armed : Armed) : Type 0 where
   pub ready : IsReady medium armed.srb
-  pub buffers : length armed.srb.for_label ≡ length armed.srb.data
   pub names : (command : Cdb) → Means armed.srb.block command → (what : Kind × Extent) × (named command ≡ Some what)
 
 -- the piece that may act on a tag, and its place among all armings

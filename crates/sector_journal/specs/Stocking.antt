@@ -1,19 +1,17 @@
 -- The buffers of pieces that may yet be armed.
 use Rattle.std.specs.Prelude.{◌≡◌, ℕ, ◌+◌, List, length, Bool, ◌==◌, Option, Some, None, get_or}
 use Rattle.std.specs.List.{position}
-use Rattle.sector_journal.specs.declared.shelf.Buffers.{Buffers}
 
 -- for so many pieces of so many bytes there are buffers
 pub record Room : Type 0 where
   pub bytes : ℕ
   pub pieces : ℕ
 
--- two buffers of this length
-pub record IsOfLength (buffers : Buffers) (long : ℕ) : Type 0 where
-  pub data_is : length buffers.data ≡ long
-  pub label_is : length buffers.for_label ≡ long
+-- a buffer of this length
+abbrev pub IsOfLength : List ℕ → ℕ → Type 0
+IsOfLength buffer long = length buffer ≡ long
 
--- the buffers of one piece are taken
+-- the buffer of one piece is taken
 pub record TakesOne (old new : Room) : Type 0 where
   pub same : new.bytes ≡ old.bytes
   pub less : new.pieces + 1 ≡ old.pieces

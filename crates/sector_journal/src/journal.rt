@@ -21,7 +21,6 @@ use crate::entering::{enter, named_in};
 use crate::name::{Naming, OfArmings, OfEntries};
 use crate::opened::{History, Opened};
 use crate::reservation::{Batch, Reservation, is_write};
-use crate::shelf::Buffers;
 use crate::slots::{Armed, Slots};
 use crate::stock::Stock;
 use chronicle::{Claims, Whole};
@@ -34,6 +33,7 @@ use std::marker::Model;
 /// The sectors, what acts did to them, and for each tag the piece that may act.
 #[derive(Drop)]
 pub struct Journal<M: Medium, N: Naming> {
+    alloc: Global,
     medium: M,
     write_protected: bool,
     entries: Vec<Entry>,
@@ -84,17 +84,17 @@ fn own_data(srb: &Srb, kind: Kind, place: Bytes) -> Bytes
     }
 }
 
-/// The journal's own SRB of a piece, in these buffers.
-fn own_srb(srb: &Srb, kind: Kind, buffers: Buffers) -> Srb
-    requires { IsOfLength buffers (length srb.now.data) }
+/// The journal's own SRB of a piece, with this buffer; acts want no second one.
+fn own_srb(alloc: Global, srb: &Srb, kind: Kind, place: Bytes) -> Srb
+    requires { IsOfLength place (length srb.now.data) }
     ensures { IsCopy kind srb.now result }
 {
     Srb {
         function: srb.function,
         flags: srb.flags,
         block: srb.block.copied(),
-        data: own_data(srb, kind, buffers.data),
-        for_label: buffers.for_label,
+        data: own_data(srb, kind, place),
+        for_label: Bytes::new(Vec::new(alloc)),
         sense: None,
     }
 }
@@ -172,6 +172,7 @@ impl<M: Medium, N: Naming> Journal<M, N> {
         let (entries, entered) = entries.named();
         let slots = Slots::new(alloc, depth)?;
         let journal = Journal {
+            alloc,
             medium,
             write_protected,
             entries: Vec::new(alloc),
@@ -285,7 +286,7 @@ impl<M: Medium, N: Naming> Journal<M, N> {
     }
 
     /// Lets a piece act on a tag, by a copy of its SRB in room that was reserved. True exactly where the tag is there and
-    /// free, the block asks for a read, a write or a flush within an open request's, and there are buffers for the length of
+    /// free, the block asks for a read, a write or a flush within an open request's, and there is a buffer for the length of
     /// its data, a place for its entry and a number for the arming; else nothing changes.
     pub fn arm(&mut self, history: &History<N>, tag: u8, piece: u128, srb: &Srb) -> bool
         ensures decides { Decides result (MayArm self.old tag srb.now) }
@@ -301,14 +302,14 @@ impl<M: Medium, N: Naming> Journal<M, N> {
         {
             return false;
         }
-        let Some(buffers) = self.stock.take(srb.data.len()) else {
+        let Some(place) = self.stock.take(srb.data.len()) else {
             return false;
         };
         let armed = Armed {
             number: self.armings,
             tag,
             piece,
-            srb: own_srb(srb, kind, buffers),
+            srb: own_srb(self.alloc, srb, kind, place),
         };
         self.armed.add(&history.armings, &armed);
         self.armings += 1;
@@ -321,10 +322,7 @@ impl<M: Medium, N: Naming> Journal<M, N> {
         ensures { Disarms self.old tag self.new }
     {
         if let Some(armed) = self.slots.clear(tag) {
-            self.stock.put(Buffers {
-                data: armed.srb.data,
-                for_label: armed.srb.for_label,
-            });
+            self.stock.put(armed.srb.data);
         }
     }
 

@@ -7,19 +7,12 @@ use sector::Bytes;
 use std::alloc::{AllocError, Global};
 use std::marker::Model;
 
-/// Two buffers of one length: a piece's data, and what goes out with its act.
-#[derive(Debug, Drop)]
-pub(crate) struct Buffers {
-    pub data: Bytes,
-    pub for_label: Bytes,
-}
-
 /// The buffers of one length that are there. Contracts see the length, and for how many pieces they are.
 #[derive(Debug, Drop)]
 pub(crate) struct Shelf {
     /// Of each buffer, in bytes.
     bytes: usize,
-    free: Vec<Buffers>,
+    free: Vec<Bytes>,
     /// How many pieces of this length the open requests have.
     promised: usize,
 }
@@ -32,18 +25,14 @@ impl Model for Shelf {
 
     ghost view = { λ s. record { bytes = s.bytes; pieces = length s.free.items } };
 
-    ghost invariant = { λ s. All (λ buffers. IsOfLength buffers s.bytes) s.free.items };
+    ghost invariant = { λ s. All (λ buffer. IsOfLength buffer s.bytes) s.free.items };
 }
 
-fn make_buffers(alloc: Global, length: usize) -> Result<Buffers, AllocError>
+fn make_buffer(alloc: Global, length: usize) -> Result<Bytes, AllocError>
     ensures { IfOk result (λ b. IsOfLength b length) }
 {
-    let data = vec![in alloc; 0; length]?;
-    let for_label = vec![in alloc; 0; length]?;
-    Ok(Buffers {
-        data: Bytes::new(data),
-        for_label: Bytes::new(for_label),
-    })
+    let bytes = vec![in alloc; 0; length]?;
+    Ok(Bytes::new(bytes))
 }
 
 /// Puts the buffers of so many pieces more behind others.
@@ -51,14 +40,14 @@ fn fill(
     alloc: Global,
     length: usize,
     missing: usize,
-    free: &mut Vec<Buffers>,
+    free: &mut Vec<Bytes>,
 ) -> Result<(), AllocError>
-    requires { All (λ buffers. IsOfLength buffers length) free.old.items }
-    ensures { All (λ buffers. IsOfLength buffers length) free.new.items }
+    requires { All (λ buffer. IsOfLength buffer length) free.old.items }
+    ensures { All (λ buffer. IsOfLength buffer length) free.new.items }
 {
     for _ in 0..missing {
-        let buffers = make_buffers(alloc, length)?;
-        free.push(buffers)?;
+        let buffer = make_buffer(alloc, length)?;
+        free.push(buffer)?;
     }
     Ok(())
 }
@@ -118,21 +107,21 @@ impl Shelf {
         self.trim(out);
     }
 
-    /// The buffers of a piece.
-    pub fn take(&mut self) -> Option<Buffers>
+    /// The buffer of a piece.
+    pub fn take(&mut self) -> Option<Bytes>
         ensures { MatchOption result ((self.old.pieces ≡ 0) × (self.new ≡ self.old)) (λ b. IsOfLength b self.old.bytes × TakesOne self.old self.new) }
     {
         self.free.pop()
     }
 
-    /// The buffers of a piece that won't act.
-    pub fn put(&mut self, buffers: Buffers)
-        requires { IsOfLength buffers self.old.bytes }
+    /// The buffer of a piece that won't act.
+    pub fn put(&mut self, buffer: Bytes)
+        requires { IsOfLength buffer self.old.bytes }
         ensures same { self.new.bytes ≡ self.old.bytes }
         ensures no_less { self.old.pieces ≤ self.new.pieces }
     {
         if self.free.len() < self.free.capacity() {
-            self.free.push_reserved(buffers);
+            self.free.push_reserved(buffer);
         }
     }
 }

@@ -5,7 +5,8 @@ ghost use Rattle.std.specs.List.{position};
 ghost use Rattle.sector_journal.specs.Stocking.{IsOfLength, is_for, pieces_at};
 
 use crate::reservation::Batch;
-use crate::shelf::{Buffers, Shelf};
+use crate::shelf::Shelf;
+use sector::Bytes;
 use std::alloc::{AllocError, Global};
 use std::marker::Model;
 
@@ -69,21 +70,20 @@ impl Stock {
         }
     }
 
-    /// Two buffers of this length, if a piece may have them.
-    pub fn take(&mut self, length: usize) -> Option<Buffers>
+    /// A buffer of this length, if a piece may have one.
+    pub fn take(&mut self, length: usize) -> Option<Bytes>
         ensures { MatchOption result ((pieces_at self.old length ≡ 0) × (self.new ≡ self.old)) (λ b. IsOfLength b length × (pieces_at self.new length + 1 ≡ pieces_at self.old length)) }
     {
         let at = self.find(length)?;
         self.shelves[at].take()
     }
 
-    /// The buffers of a piece that won't act.
-    pub fn put(&mut self, buffers: Buffers)
-        requires { length buffers.for_label ≡ length buffers.data }
+    /// The buffer of a piece that won't act.
+    pub fn put(&mut self, buffer: Bytes)
         ensures { (long : ℕ) → pieces_at self.old long ≤ pieces_at self.new long }
     {
-        if let Some(at) = self.find(buffers.data.len()) {
-            self.shelves[at].put(buffers);
+        if let Some(at) = self.find(buffer.len()) {
+            self.shelves[at].put(buffer);
         }
     }
 }

@@ -3,4 +3,4 @@ use Rattle.sector_journal.specs.Stocking.{IsOfLength}
 use Rattle.sector_journal.proofs.shelf.fill.Given as goal
 
 abbrev pub invariant-loop : goal.invariant-loop
-invariant-loop l = All (λ buffers. IsOfLength buffers l.fn.length) l.free.items
+invariant-loop l = All (λ buffer. IsOfLength buffer l.fn.length) l.free.items

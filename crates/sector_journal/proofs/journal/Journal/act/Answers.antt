@@ -18,3 +18,6 @@ invariant_of-self-in-Err g c = record {
   numbers = c.self.invariant.numbers;
   entered = c.self.invariant.entered;
 }
+
+pub enter-requires-clause-names : goal.enter-requires-clause-names
+enter-requires-clause-names g c = (c.self.invariant.kept.ready c.args.tag c.in_ok-armed.armed c.in_ok-armed.ensures.was_there).can_enter.names

@@ -5,7 +5,7 @@ use Rattle.sector_journal.proofs.stock.Stock.put.Goals as goal
 pub put-requires : goal.put-requires
 put-requires c =
     let there = is_there_in c.self.inside.shelves.items c.args.self.now c.len.result c.in-Some.at c.index_mut.result.now c.self.view_is (sym c.find.ensures ∙ c.in-Some.is) c.index_mut.ensures.value in
-    record { data_is = sym c.len.ensures ∙ sym there.1; label_is = c.requires ∙ sym c.len.ensures ∙ sym there.1 }
+    sym c.len.ensures ∙ sym there.1
 
 pub returns-in-Some : goal.returns-in-Some
 returns-in-Some c =
