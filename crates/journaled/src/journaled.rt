@@ -22,6 +22,7 @@ use std::alloc::Global;
 use std::marker::Model;
 
 /// A stack over an adapter that holds no sectors, and the journal that has them.
+#[derive(Drop)]
 pub struct Journaled<M: Medium, N: Naming>
 where
     OfArmings<N>: chronicle::Naming,
@@ -34,23 +35,6 @@ where
     max_transfer: u32,
     /// The number of the next call.
     next_request: u64,
-}
-
-// By hand, so that no crate above proves it again, as it would a derived one.
-impl<M: Medium, N: Naming> Drop for Journaled<M, N>
-where
-    OfArmings<N>: chronicle::Naming,
-    OfEntries<N>: chronicle::Naming,
-{
-    fn drop(self) {
-        let Journaled {
-            stack: _,
-            journal: _,
-            history: _,
-            max_transfer: _,
-            next_request: _,
-        } = self;
-    }
 }
 
 impl<M: Medium, N: Naming> Model for Journaled<M, N>

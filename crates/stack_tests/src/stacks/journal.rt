@@ -229,8 +229,9 @@ fn play_over<M: Medium, N: Naming>(
     requires opening { (M.view medium).sectors ≡ N.opening }
 {
     let mut driver: Journaled<M, N> = journaled_on(rt, alloc, opened, medium, write_protected)?;
-    drive(rt, alloc, &mut driver, rows)?;
+    let driven = drive(rt, alloc, &mut driver, rows);
     let (_stack, mut medium, entries) = driver.into_parts();
+    driven?;
     same(rt, &entries.len(), &acts_in(rows));
     replay(rt, alloc, &mut medium, entries.as_slice())
 }
