@@ -10,7 +10,7 @@ use miniport::{Adapter, BookedAdapter, MemAdapter, OnceAdapter};
 use ntstatus::Sense;
 use sector::{Bytes, Extent};
 use srb::{CommandBlock, Completion, DeviceLabel, Entry, Kind, Srb, SrbFlags, SrbFunction};
-use std::alloc::Global;
+use std::alloc::{AllocError, Global};
 use std::process::Abort;
 use std::test::Fail;
 
@@ -669,16 +669,12 @@ fn the_first_act_fails(rt: HostRuntime) -> Result<(), Fail> {
 }
 
 /// An adapter of two tags for a disk of four sectors, the first of them full of 11h.
-fn booked(alloc: Global) -> Result<BookedAdapter, Fail>
+fn booked(alloc: Global) -> Result<BookedAdapter, AllocError>
     ensures accepted { IfOk result (λ a. a.shown.accepted ≡ 0) }
     ensures labels { IfOk result (λ a. length a.shown.labels ≡ 0) }
 {
-    let first = vec![in alloc; 0x11; 512]?;
-    Ok(
-        BookedAdapter::new(alloc, first, 4, 64, 2)
-            .ok()
-            .ok_or("no memory")?,
-    )
+    let first = Vec::from_slice(alloc, &[0x11; 512])?;
+    BookedAdapter::new(alloc, first, 4, 64, 2).map_err(|_| AllocError)
 }
 
 /// An entry of one sector, or of a flush.

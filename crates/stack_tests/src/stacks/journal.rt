@@ -111,7 +111,9 @@ fn journaled_on<M: Medium, N: Naming>(
     ensures { IfOk result (λ j. j.stack.labels ≡ []) }
 {
     has_whole_sectors(&medium);
-    assert!(rt; medium.sectors() == 4096 && medium.sector_size() == 512);
+    let sectors = medium.sectors();
+    let size = medium.sector_size();
+    assert!(rt; size == 512 && sectors == 4096);
     assert!(rt; medium.failures() == 0);
     let (journal, history) = Journal::new(alloc, opened, medium, 2, write_protected)?;
     let stack = stack_apart(rt, alloc)?;
