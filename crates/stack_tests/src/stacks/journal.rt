@@ -396,7 +396,8 @@ fn fail_by<A: Adapter>(
 {
     show_step(alloc, stack, Step::Read(FIRST, 0, 512))?;
     let Some((piece, _)) = stack.armed(0) else {
-        panic!(rt; "no piece could act");
+        // The read was refused for want of memory.
+        return Err(AllocError);
     };
     let completion = Completion {
         srb_status: 0x84,
@@ -457,7 +458,8 @@ fn reset_armed<A: Adapter, N: Naming>(
     journal.reserve(1, Kind::Read, extent, 2)?;
     show_step(alloc, stack, Step::Read(FIRST, 0, 512))?;
     let Some((piece, srb)) = stack.armed(0) else {
-        panic!(rt; "no piece could act");
+        // The read was refused for want of memory.
+        return Err(AllocError);
     };
     assert!(rt; journal.arm(history, 0, piece, srb));
     show_step(alloc, stack, Step::Reset)?;
