@@ -20,20 +20,23 @@ abbrev pub IsNoted : List Entry → ℕ → List Receipt → Type 0
 IsNoted es place claim = (e : Entry) × (slice_get es place ≡ Some e) × (claim ≡ (place, e) ∷ [])
 
 -- a call's receipt, above all before
-pub record IsReceived (handles : List (Option OpenHandle)) (partitions : List ℕ) (share share' : ShareView) (called : List Receipt) (called' : List Receipt) (answered claim : List Receipt) (place number : ℕ) (q : ClientRequest) : Type 0 where
+pub record IsReceived (handles : List (Option OpenHandle)) (partitions : List ℕ) (share share' : ShareView) (called called' answered answered' claim : List Receipt) (place number : ℕ) (q : ClientRequest) : Type 0 where
   pub claim_is : claim ≡ receipt place (CallLabel number q) share.client
-  pub above : AreBelow place called
+  pub above_calls : AreBelow place called
+  pub above_answers : AreBelow place answered
   pub list : called' ≡ called ++ claim
-  pub kept : AccountKept handles partitions share' called' answered
+  pub kept : AccountKept handles partitions share' called' answered'
 
-pub received : (handles : List (Option OpenHandle)) (partitions : List ℕ) (share share' : ShareView) (called checked noted : ReceiptsView) (answered claim : List Receipt) (es mid new : List Entry) (place number : ℕ) (q : ClientRequest)
-    → AccountKept handles partitions share called.list answered → AllStand es called.list → mid ≡ es → checked ≡ called → length mid ≤ place → Stands new place (CallLabel number q) share.client → HasCounted share 1 share'
-    → IsNoted new place claim → noted ≡ record { list = checked.list ++ claim; room = checked.room - 1 } → IsReceived handles partitions share share' called.list noted.list answered claim place number q
-received handles partitions share share' called checked noted answered claim es mid new place number q kept stand same_es same late stands counted entry noted_is = record {
+pub received : (handles : List (Option OpenHandle)) (partitions : List ℕ) (share share' : ShareView) (called checked noted answered answered' : ReceiptsView) (claim : List Receipt) (es mid end new : List Entry) (place number : ℕ) (q : ClientRequest)
+    → AccountKept handles partitions share called.list answered.list → AllStand es called.list → mid ≡ es → checked ≡ called → AllStand mid answered.list → end ≡ mid → answered' ≡ answered → length end ≤ place → Stands new place (CallLabel number q) share.client → HasCounted share 1 share'
+    → IsNoted new place claim → noted ≡ record { list = checked.list ++ claim; room = checked.room - 1 } → IsReceived handles partitions share share' called.list noted.list answered.list answered'.list claim place number q
+received handles partitions share share' called checked noted answered answered' claim es mid end new place number q kept stand same_es same stand_answers same_mid same_answers late stands counted entry noted_is = record {
   claim_is = claim_is;
-  above = below_more (length es) place called.list below late';
+  above_calls = below_more (length es) place called.list below late';
+  above_answers = below_more (length mid) place answered.list (below_stand mid answered.list stand_answers) late_mid;
   list = list;
-  kept = subst (λ (l : List Receipt). AccountKept handles partitions share' l answered) (sym list) (account_called handles partitions share share' called.list answered claim (length es) place number q kept counted claim_is below late');
+  kept = subst (λ (r : ReceiptsView). AccountKept handles partitions share' noted.list r.list) (sym same_answers)
+      (subst (λ (l : List Receipt). AccountKept handles partitions share' l answered.list) (sym list) (account_called handles partitions share share' called.list answered.list claim (length es) place number q kept counted claim_is below late'));
 }
   where
     claim_is : claim ≡ receipt place (CallLabel number q) share.client
@@ -42,8 +45,11 @@ received handles partitions share share' called checked noted answered claim es 
     below : AreBelow (length es) called.list
     below = below_stand es called.list stand
 
+    late_mid : length mid ≤ place
+    late_mid = subst (λ (xs : List Entry). length xs ≤ place) same_mid late
+
     late' : length es ≤ place
-    late' = subst (λ (xs : List Entry). length xs ≤ place) same_es late
+    late' = subst (λ (xs : List Entry). length xs ≤ place) same_es late_mid
 
     list : noted.list ≡ called.list ++ claim
     list = ap (λ (r : ReceiptsView). r.list) noted_is ∙ ap (λ (r : ReceiptsView). r.list ++ claim) same

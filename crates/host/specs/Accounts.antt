@@ -36,20 +36,22 @@ abbrev pub told_request : Option ℕ → ClientRequest → ClientRequest
 told_request None q = without_bytes q
 told_request (Some slot) q = q
 
--- a call was taken in, at a place above all of the client's before
+-- a call was taken in, at a place above all receipts of the client
 pub record IsCalled (partition : ℕ) (old : AccountView) (t : TicketView) (call : Call) (new : AccountView) : Type 0 where
   pub client : t.client ≡ old.share.client
   pub receipt_is : t.call ≡ receipt t.place (CallLabel t.number (told_request t.slot (request_of partition call))) old.share.client
-  pub above : AreBelow t.place old.called.list
+  pub above_calls : AreBelow t.place old.called.list
+  pub above_answers : AreBelow t.place old.answered.list
   pub same_client : new.share.client ≡ old.share.client
   pub called : new.called.list ≡ old.called.list ++ t.call
   pub answered : new.answered ≡ old.answered
 
--- the receipts of a call that the book refused, with its answer right behind it
+-- the receipts of a call that the book refused, above all others of the client, with its answer right behind it
 pub record AreAnsweredAt (partition : ℕ) (call : Call) (reason : Why) (places : Places) (client : ℕ) (called answered called' answered' : List Receipt) : Type 0 where
   pub number : ℕ
   pub behind : places.answer ≡ places.call + 1
-  pub above : AreBelow places.call called
+  pub above_calls : AreBelow places.call called
+  pub above_answers : AreBelow places.call answered
   pub called_is : called' ≡ called ++ receipt places.call (CallLabel number (without_bytes (request_of partition call))) client
   pub answered_is : answered' ≡ answered ++ receipt places.answer (AnswerLabel number (status_of_refusal reason) 0 []) client
 

@@ -2,6 +2,7 @@
 use Rattle.std.specs.Prelude.{◌≡◌, ◌≤◌, ◌<◌, ℕ, ◌+◌, true, List, [], ◌++◌, Option, Some, None, length, slice_index_or}
 use Rattle.machine.specs.declared.Label.TheVariants.{Call as CallLabel}
 use Rattle.io_manager.specs.declared.Refusal.TheVariants.{DeletePending}
+use Rattle.io_manager.specs.Calls.{IsWant}
 use Rattle.io_manager.specs.Right.{as_answer}
 use Rattle.atomic_table.specs.Seated.{TableId}
 use Rattle.remove_lock.specs.declared.rule.View.{View as PassView}
@@ -59,11 +60,12 @@ pub record ClientKept (gate marks : TableId) (account : AccountView) (pass : Pas
 
 -- ISSUING
 
--- a call was issued, at a place above all of the client's before
+-- a call was issued, at a place above all receipts of the client
 pub record IsIssued (partition : ℕ) (old : ClientView) (t : TicketView) (call : Call) (new : ClientView) : Type 0 where
   pub client : t.client ≡ old.client
   pub receipt_is : t.call ≡ receipt t.place (CallLabel t.number (told_request t.slot (request_of partition call))) old.client
-  pub above : AreBelow t.place old.called
+  pub above_calls : AreBelow t.place old.called
+  pub above_answers : AreBelow t.place old.answered
   pub held : IsHeld old.pass new.pass
   pub adds : new ≡ record old { called = old.called ++ t.call; pass = new.pass }
 
@@ -72,10 +74,10 @@ pub record HasNoReceipt (old new : ClientView) : Type 0 where
   pub called : new.called ≡ old.called
   pub answered : new.answered ≡ old.answered
 
--- why no receipt came: DeletePending only where the pass saw the gate closed, and TooManyTickets only with all tickets out
+-- why no receipt came: the pass saw the gate closed, or all tickets are out; else for want of memory, or of a number for the call
 abbrev pub IsWithoutReceipt : ClientView → Reason → ClientView → Type 0
 IsWithoutReceipt old (Refused DeletePending) new = new.pass.saw_closed ≡ true
-IsWithoutReceipt old (Refused _) new = Unit {0}
+IsWithoutReceipt old (Refused reason) new = IsWant reason
 IsWithoutReceipt old TooManyTickets new = old.pass.holds ≡ ticket_limit
 
 -- the receipts of a call that was refused, if any

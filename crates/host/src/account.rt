@@ -168,6 +168,7 @@ impl<N: Naming> Account<N> {
         ensures refused { IfErr result (λ r. IsTurnedDown (slice_index_or N.partitions self.old.share.client 0) self.old call r self.new) }
     {
         self.called.check(&host.history, book);
+        self.answered.check(&host.history, book);
         let client = self.share.client();
         let (reply, place) = carry_call(host, book, &mut self.share, call);
         let Some(place) = place else {

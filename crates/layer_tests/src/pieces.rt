@@ -17,28 +17,38 @@ use std::alloc::{AllocError, Global};
 use std::process::Abort;
 use std::test::Fail;
 
-/// These steps on a class driver over a port of eight sectors of which nothing was asked yet.
+/// These steps on a class driver over a port of so many sectors of which nothing was asked yet.
 fn run_over<R: Drop, D: Device<Room = R>>(
     rt: &impl Abort,
     alloc: Global,
     port: D,
+    sectors: u64,
     steps: &[Step],
 ) -> Result<(), AllocError>
     requires takes { D.TAKES_SRB ≡ true }
     requires locations { D.STACK_SIZE ≡ 1 }
     requires fresh { IsFreshPort (D.rooms_out port) (D.view port) }
     requires many { (D.view port).most ≡ 2 ^ 96 }
-    requires known { IsKnown (D.view port) (record { first = 0; count = 8 } ∷ []) 1 false false }
+    requires known { IsKnown (D.view port) (record { first = 0; count = sectors } ∷ []) 1 false false }
 {
     let disk = Disk::new(alloc, port, 512);
-    let whole = [Extent { first: 0, count: 8 }];
+    let whole = [Extent {
+        first: 0,
+        count: sectors,
+    }];
     try_all(rt, alloc, disk, Driver::Class, &whole, steps)
 }
 
 /// These steps on a class driver over eight sectors of 512 bytes, sector 5 bad, with pieces of two sectors and two tags.
 fn run(rt: &impl Abort, alloc: Global, steps: &[Step]) -> Result<(), AllocError> {
     let port = port(alloc, 8, &[5], 2)?;
-    run_over(rt, alloc, port, steps)
+    run_over(rt, alloc, port, 8, steps)
+}
+
+/// The same over 4,096 sectors, with pieces of 16.
+fn run_on_large(rt: &impl Abort, alloc: Global, steps: &[Step]) -> Result<(), AllocError> {
+    let port = port(alloc, 4096, &[], 16)?;
+    run_over(rt, alloc, port, 4096, steps)
 }
 
 // The sizes. A read joins its pieces by their places, though the second comes back first. A bad piece in the middle, and one
@@ -137,6 +147,29 @@ fn sends_again_and_withdraws(rt: HostRuntime) -> Result<(), Fail> {
             Step::Finish(0, &[Good(20)]),
             Step::Finish(1, &[Busy(21)]),
             Step::Moved(3, NtStatus::NoSuchDevice, &[]),
+            Step::NoneDone,
+        ],
+    )?;
+    Ok(())
+}
+
+// A removal meets a write of four pieces of which two were started: it ends once both have come back.
+#[test]
+fn withdraws_what_was_not_started(rt: HostRuntime) -> Result<(), Fail> {
+    run_on_large(
+        &rt,
+        rt.alloc(),
+        &[
+            Step::Submit(0, Kind::Write, 0, 64, 0xA5),
+            Step::Tells(&[Starts(1, 0), Starts(2, 1)]),
+            Step::Drain,
+            Step::NoneDone,
+            Step::Act(0, &[Acts(1)]),
+            Step::Finish(0, &[Good(1)]),
+            Step::NoneDone,
+            Step::Act(1, &[Acts(2)]),
+            Step::Finish(1, &[Good(2)]),
+            Step::Moved(1, NtStatus::NoSuchDevice, &[]),
             Step::NoneDone,
         ],
     )?;

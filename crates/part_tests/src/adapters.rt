@@ -5,7 +5,7 @@ ghost use Rattle.miniport.specs.Memory.{MemView};
 
 use crate::expect::{same, same_at};
 use arrayvec::ArrayVec;
-use disk::{Medium, NoMemory, VecDisk};
+use disk::{Medium, NoMemory, SparseDisk, VecDisk};
 use miniport::{Adapter, BookedAdapter, MemAdapter, OnceAdapter};
 use ntstatus::Sense;
 use sector::{Bytes, Extent};
@@ -126,11 +126,11 @@ fn put<A: Adapter>(
     ensures accepted { OnOk result ((A.view adapter.new).accepted ≡ (A.view adapter.old).accepted + 1) }
     ensures labels { OnOk result (length (A.view adapter.new).labels ≡ length (A.view adapter.old).labels + 1) }
 {
-    let whole = Extent {
+    let first = Extent {
         first: 0,
-        count: adapter.sectors(),
+        count: adapter.sectors().min(4096),
     };
-    adapter.reserve(whole).ok().ok_or("no memory")?;
+    adapter.reserve(first).ok().ok_or("no memory")?;
     assert!(rt; tag < adapter.depth());
     assert!(rt; !adapter.in_use(tag));
     adapter.accept(tag, piece, srb);
@@ -295,18 +295,24 @@ fn all_else_is_carried_out(rt: HostRuntime) -> Result<(), Fail> {
     )
 }
 
-/// The data that a command brings from a disk of 4,096 sectors of 512 bytes.
-fn brought(rt: &impl Abort, alloc: Global, block: &[u8], count: usize) -> Result<Srb, Fail>
-    requires { count < 2 ^ 40 }
+/// The data that a command brings from a disk of so many sectors of 512 bytes.
+fn brought(
+    rt: &impl Abort,
+    alloc: Global,
+    sectors: u64,
+    block: &[u8],
+    count: usize,
+) -> Result<Srb, Fail>
+    requires some { 1 ≤ sectors }
+    requires few { sectors ≤ 2 ^ 40 }
+    requires long { count < 2 ^ 40 }
 {
-    let disk = VecDisk::new(alloc, 512, 4096, vec![in alloc]?)
-        .ok()
-        .ok_or("no memory")?;
+    let disk = SparseDisk::new(alloc, 512, sectors, Vec::new(alloc));
     let mut adapter = MemAdapter::new(alloc, disk, 65_536, 2, true)
         .ok()
         .ok_or("no memory")?;
     same(rt, &adapter.sector_size(), &512);
-    same(rt, &adapter.sectors(), &4096);
+    same(rt, &adapter.sectors(), &sectors);
     same(rt, &adapter.max_transfer(), &65_536);
     same(rt, &adapter.depth(), &2);
     let srb = srb(alloc, SrbFunction::ExecuteScsi, 0x40, block, count, 0xA5)?;
@@ -317,26 +323,40 @@ fn brought(rt: &impl Abort, alloc: Global, block: &[u8], count: usize) -> Result
     Ok(srb)
 }
 
-// The worked data of READ CAPACITY for 4,096 sectors of 512 bytes; those of the sixteen-byte form are cut at the
-// allocation length.
+/// For a number of sectors the data of READ CAPACITY(10), and how those of READ CAPACITY(16) begin.
+const CAPACITIES: [(u64, [u8; 8], [u8; 12]); 3] = [
+    (
+        4096,
+        [0, 0, 0x0F, 0xFF, 0, 0, 2, 0],
+        [0, 0, 0, 0, 0, 0, 0x0F, 0xFF, 0, 0, 2, 0],
+    ),
+    (
+        0xFFFF_FFFF,
+        [0xFF, 0xFF, 0xFF, 0xFE, 0, 0, 2, 0],
+        [0, 0, 0, 0, 0xFF, 0xFF, 0xFF, 0xFE, 0, 0, 2, 0],
+    ),
+    (
+        1 << 40,
+        [0xFF, 0xFF, 0xFF, 0xFF, 0, 0, 2, 0],
+        [0, 0, 0, 0xFF, 0xFF, 0xFF, 0xFF, 0xFF, 0, 0, 2, 0],
+    ),
+];
+
+// The worked data of READ CAPACITY; those of the sixteen-byte form end in zeros, and are cut at the allocation length.
 #[test]
 fn tells_its_capacity(rt: HostRuntime) -> Result<(), Fail> {
-    let short = brought(&rt, rt.alloc(), &CAPACITY, 8)?;
-    same(
-        &rt,
-        &short.data.as_slice(),
-        &[0, 0, 0x0F, 0xFF, 0, 0, 2, 0].as_slice(),
-    );
-    let mut told = [0; 32];
-    told[6] = 0x0F;
-    told[7] = 0xFF;
-    told[10] = 2;
-    let long = brought(&rt, rt.alloc(), &LONG_CAPACITY, 32)?;
-    same(&rt, &long.data.as_slice(), &told.as_slice());
-    let mut cut = LONG_CAPACITY;
-    cut[13] = 7;
-    let long = brought(&rt, rt.alloc(), &cut, 7)?;
-    same(&rt, &long.data.as_slice(), &&told[..7]);
+    for (sectors, ten, sixteen) in CAPACITIES {
+        let short = brought(&rt, rt.alloc(), sectors, &CAPACITY, 8)?;
+        same_at(&rt, &short.data.as_slice(), &ten.as_slice(), &sectors);
+        let long = brought(&rt, rt.alloc(), sectors, &LONG_CAPACITY, 32)?;
+        let mut told = [0; 32];
+        told[..12].copy_from_slice(&sixteen);
+        same_at(&rt, &long.data.as_slice(), &told.as_slice(), &sectors);
+        let mut cut = LONG_CAPACITY;
+        cut[13] = 7;
+        let long = brought(&rt, rt.alloc(), sectors, &cut, 7)?;
+        same_at(&rt, &long.data.as_slice(), &&told[..7], &sectors);
+    }
     Ok(())
 }
 
@@ -597,6 +617,21 @@ fn resets_are_met(rt: HostRuntime) -> Result<(), Fail> {
             (read(0, 5, 1), &[(5, 'S', 0)]),
             (acts(0, true), &[(5, 'A', 0xA5)]),
             (back(0, GOOD, 0xA5), &[(5, 'G', 0)]),
+        ],
+    )?;
+    // Two pieces of one write, of which the first acted: two failures.
+    let mut adapter = four_sectors(rt.alloc(), 2, false)?;
+    run(
+        &rt,
+        rt.alloc(),
+        &mut adapter,
+        &[
+            (write(0, 1, 0, 0xA5), &[(1, 'S', 0)]),
+            (write(1, 2, 1, 0xA5), &[(2, 'S', 1)]),
+            (acts(0, true), &[(1, 'A', 0xA5)]),
+            (Step::Reset(2), &[(2, 'F', 0)]),
+            (back(0, RESET, 0xA5), &[(1, 'R', 0x0E)]),
+            (back(1, RESET, 0xA5), &[(2, 'R', 0x0E)]),
         ],
     )
 }

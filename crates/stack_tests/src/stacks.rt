@@ -8,4 +8,4 @@ mod journal;
 mod refused_memory;
 mod starting;
 mod steps;
-mod told;
+pub(crate) mod told;

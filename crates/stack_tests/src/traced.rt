@@ -5,7 +5,7 @@ use machine::Label;
 use srb::DeviceLabel;
 use std::alloc::{AllocError, Global};
 
-/// As `call 1 of 0 / start 1 / act 1 / return 1 / answer 1 SUCCESS of 0`: of a call and an answer the row as well.
+/// As `call 1 of 0 / start 1 through / act 1 / return 1 / answer 1 SUCCESS of 0`: of a call and an answer the row as well, of a start whether its block has FUA.
 pub(crate) fn trace(alloc: Global, entries: &[Entry]) -> Result<String, AllocError> {
     let mut text = String::new(alloc);
     for entry in entries {
@@ -36,9 +36,20 @@ fn tell(text: &mut String, label: &Label) -> Result<(), AllocError> {
 
 fn tell_device(text: &mut String, label: &DeviceLabel) -> Result<(), AllocError> {
     match label {
-        DeviceLabel::Start { piece, .. } => write!(text, "start {piece}"),
+        DeviceLabel::Start { piece, block, .. } => {
+            write!(text, "start {piece}")?;
+            tell_through(text, block.as_slice())
+        }
         DeviceLabel::Act { piece, .. } => write!(text, "act {piece}"),
         DeviceLabel::Fault { piece } => write!(text, "fault {piece}"),
         DeviceLabel::Return { piece, .. } => write!(text, "return {piece}"),
+    }
+}
+
+/// SBC, READ and WRITE: FUA is bit 3 of byte 1.
+fn tell_through(text: &mut String, block: &[u8]) -> Result<(), AllocError> {
+    match block {
+        [_, flags, ..] if flags & 0x08 != 0 => write!(text, " through"),
+        _ => Ok(()),
     }
 }

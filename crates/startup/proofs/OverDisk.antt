@@ -97,11 +97,11 @@ module _ (c : Config) (view : MemView) (new : IsNewAdapter c view)
         no_answers = first.no_answers;
       }
 
-  pub not_started : AreInRange c → (why : StartFault) (after : AdapterView) → IsSpent view.shown (limits_of c) why after → IsStartFault c why
-  not_started settings WrongSettings after spent = absurd (spent.why.0 (record { window = settings.window; open_requests = settings.open_requests }))
-  not_started settings (FailedCommand status) after spent = spent.why.1.failure
-  not_started settings (WrongTable fault) after spent = sym told_is ∙ spent.why.1.1
-  not_started settings WantOfMemory after spent = tt
+  pub not_started : AreInRange c → HasBlankPartitions c view.shown.sectors → (why : StartFault) (after : AdapterView) → IsSpent view.shown (limits_of c) why after → IsStartFault c why
+  not_started settings blank WrongSettings after spent = absurd (spent.why.0 (record { window = settings.window; open_requests = settings.open_requests }))
+  not_started settings blank (FailedCommand status) after spent = record { adapter = view; new = new; blank = blank; after = after; fails = spent.why.1 }
+  not_started settings blank (WrongTable fault) after spent = sym told_is ∙ spent.why.1.1
+  not_started settings blank WantOfMemory after spent = tt
 
   pub opened : (p : ℕ) (volume : VolumeView) → HasBlankPartitions c view.shown.sectors → ShowsDisk view.shown p volume.content → volume.partition ≡ p → IsVolumeOf c p volume
   opened p volume blank shows is_on =
@@ -119,12 +119,12 @@ module _ (c : Config) (view : MemView) (new : IsNewAdapter c view)
         partition = is_on;
       }
 
-  pub not_opened : AreInRange c → (p : ℕ) (why : OpenFault) → IsOpenFaultOver view.shown (limits_of c) p why → IsOpenFault c p why
-  not_opened settings p (NotStarted fault) h = not_started settings fault h.0 h.1
-  not_opened settings p (Refused InvalidParameter) h = subst (λ (es : List Extent). length es ≤ p) (same_extents h.0 h.1.told) h.2
-  not_opened settings p (Refused DeviceBusy) h = tt
-  not_opened settings p (Refused InsufficientResources) h = tt
-  not_opened settings p (Refused InvalidHandle) h = absurd h
-  not_opened settings p (Refused DeletePending) h = absurd h
-  not_opened settings p (Refused InvalidDeviceRequest) h = absurd h
-  not_opened settings p (Refused NotFound) h = absurd h
+  pub not_opened : AreInRange c → HasBlankPartitions c view.shown.sectors → (p : ℕ) (why : OpenFault) → IsOpenFaultOver view.shown (limits_of c) p why → IsOpenFault c p why
+  not_opened settings blank p (NotStarted fault) h = not_started settings blank fault h.0 h.1
+  not_opened settings blank p (Refused InvalidParameter) h = subst (λ (es : List Extent). length es ≤ p) (same_extents h.0 h.1.told) h.2
+  not_opened settings blank p (Refused DeviceBusy) h = tt
+  not_opened settings blank p (Refused InsufficientResources) h = tt
+  not_opened settings blank p (Refused InvalidHandle) h = absurd h
+  not_opened settings blank p (Refused DeletePending) h = absurd h
+  not_opened settings blank p (Refused InvalidDeviceRequest) h = absurd h
+  not_opened settings blank p (Refused NotFound) h = absurd h

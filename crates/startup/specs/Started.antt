@@ -1,13 +1,15 @@
 -- What settings start.
 use Rattle.std.specs.Prelude.{◌≡◌, ◌≤◌, ℕ, true, false, Err, [], length, map, Some}
 use Rattle.std.specs.List.{concat}
+use Rattle.ntstatus.specs.declared.NtStatus.{NtStatus}
 use Rattle.adapter.specs.View.{AdapterView}
 use Rattle.miniport.specs.Memory.{MemView}
 use Rattle.machine.specs.Map.{IsMap}
 use Rattle.machine.specs.Rules.{Rules}
 use Rattle.machine.specs.State.{opening}
 use Rattle.mbr.specs.Faults.{said_of}
-use Rattle.probe.specs.Exchange.{IsIdle, IsOfFailure}
+use Rattle.probe.specs.Exchange.{IsIdle}
+use Rattle.probe.specs.Probing.{FailsOne}
 use Rattle.io_manager.specs.Shown.{ManagerView}
 use Rattle.io_manager.specs.declared.Refusal.TheVariants.{InvalidParameter, DeviceBusy, InsufficientResources}
 use Rattle.compose.specs.declared.Settings.{Settings}
@@ -69,9 +71,17 @@ pub record IsFirstOf (c : Config) (view : ManagerView) : Type 0 where
   pub blank : HasBlankPartitions c adapter.shown.sectors
   pub first : IsFirstView adapter.shown (limits_of c) view
 
+-- over the disk of these settings a command was sent and failed with this status
+pub record FailsOnDisk (c : Config) (status : NtStatus) : Type 0 where
+  pub adapter : MemView
+  pub new : IsNewAdapter c adapter
+  pub blank : HasBlankPartitions c adapter.shown.sectors
+  pub after : AdapterView
+  pub fails : FailsOne adapter.shown status after
+
 -- why no stack of these settings could be started: the adapter failed a command, a partition is wrong, or memory was refused
 abbrev pub IsStartFault : Config → StartFault → Type 0
-IsStartFault c (FailedCommand status) = IsOfFailure status
+IsStartFault c (FailedCommand status) = FailsOnDisk c status
 IsStartFault c (WrongTable fault) = said_of c.sectors (entries_of c) ≡ Err fault
 IsStartFault c WantOfMemory = Unit {0}
 IsStartFault c WrongSettings = ⊥

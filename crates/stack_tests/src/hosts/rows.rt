@@ -48,8 +48,8 @@ const TWO_CLIENTS: Run = Run {
         Row::Host(Drive::Finish(1), "ok"),
         Row::Host(Drive::Act(0), "ok"),
         Row::Host(Drive::Finish(0), "ok"),
-        Row::By(0, Deed::Wait, "answer 1 SUCCESS 512 at 0, 9"),
-        Row::By(1, Deed::Wait, "answer 2 SUCCESS 512 at 2, 6"),
+        Row::By(0, Deed::Wait, "answer 1 SUCCESS 512 00*512 at 0, 9"),
+        Row::By(1, Deed::Wait, "answer 2 SUCCESS 512 none at 2, 6"),
     ],
     trace: "call 1 of 0 / start 1 / call 2 of 1 / start 2 / act 2 / return 2 / answer 2 SUCCESS of 1 / act 1 / return 1 / answer 1 SUCCESS of 0",
     first: Part {
@@ -61,6 +61,31 @@ const TWO_CLIENTS: Run = Run {
         calls: &[2],
         answers: &[6],
         row: &[2, 6],
+    },
+};
+
+// A write past caches goes with FUA, and a read brings what it wrote.
+const THROUGH: Run = Run {
+    rows: &[
+        Row::By(0, Deed::WriteThrough(0, 512, 0xA5), "request 1"),
+        Row::Host(Drive::Act(0), "ok"),
+        Row::Host(Drive::Finish(0), "ok"),
+        Row::By(0, Deed::Wait, "answer 1 SUCCESS 512 none at 0, 4"),
+        Row::By(0, Deed::Read(0, 512), "request 2"),
+        Row::Host(Drive::Act(0), "ok"),
+        Row::Host(Drive::Finish(0), "ok"),
+        Row::By(0, Deed::Wait, "answer 2 SUCCESS 512 a5*512 at 5, 9"),
+    ],
+    trace: "call 1 of 0 / start 1 through / act 1 / return 1 / answer 1 SUCCESS of 0 / call 2 of 0 / start 2 / act 2 / return 2 / answer 2 SUCCESS of 0",
+    first: Part {
+        calls: &[0, 5],
+        answers: &[4, 9],
+        row: &[0, 4, 5, 9],
+    },
+    second: Part {
+        calls: &[],
+        answers: &[],
+        row: &[],
     },
 };
 
@@ -76,7 +101,7 @@ const MARKED: Run = Run {
         Row::Host(Drive::Act(1), "ok"),
         Row::Host(Drive::Finish(1), "ok"),
         Row::By(0, Deed::Mark, "Gone"),
-        Row::By(0, Deed::Wait, "answer 1 CANCELLED 0 at 0, 8"),
+        Row::By(0, Deed::Wait, "answer 1 CANCELLED 0 none at 0, 8"),
     ],
     trace: "call 1 of 0 / start 1 / start 2 / cancel 1 / act 1 / return 1 / act 2 / return 2 / answer 1 CANCELLED of 0",
     first: Part {
@@ -91,16 +116,20 @@ const MARKED: Run = Run {
     },
 };
 
-// Calls that are answered at once, a flush on a lane, and a removal, after which no call reaches the trace.
+// Calls that are answered at once, a flush with no lane and one on a lane, and a removal, after which no call reaches the trace.
 const REMOVED: Run = Run {
     rows: &[
         Row::By(0, Deed::Read(524_288, 512), "InvalidParameter 512 at 0, 1"),
         Row::By(1, Deed::Read(0, 0), "request 2"),
         Row::By(1, Deed::Mark, "Gone"),
-        Row::By(1, Deed::Wait, "answer 2 SUCCESS 0 at 2, 3"),
+        Row::By(1, Deed::Wait, "answer 2 SUCCESS 0 none at 2, 3"),
         Row::By(1, Deed::Flush, "request 3"),
+        Row::Host(Drive::Act(0), "ok"),
+        Row::Host(Drive::Finish(0), "ok"),
+        Row::By(1, Deed::Wait, "answer 3 SUCCESS 0 none at 4, 8"),
+        Row::By(1, Deed::Flush, "request 4"),
         Row::Lane(0, Step::Ready),
-        Row::By(1, Deed::Wait, "answer 3 SUCCESS 0 at 4, 8"),
+        Row::By(1, Deed::Wait, "answer 4 SUCCESS 0 none at 9, 13"),
         Row::Host(Drive::Act(0), "ignored"),
         Row::Host(Drive::Finish(0), "ignored"),
         Row::Host(Drive::Reset, "ok"),
@@ -112,16 +141,16 @@ const REMOVED: Run = Run {
         Row::Lane(0, Step::Ended),
         Row::By(1, Deed::Read(0, 512), "DeletePending 512"),
     ],
-    trace: "call 1 of 0 / answer 1 INVALID_PARAMETER of 0 / call 2 of 1 / answer 2 SUCCESS of 1 / call 3 of 1 / start 1 / act 1 / return 1 / answer 3 SUCCESS of 1 / pause / resume / pause / remove / removed",
+    trace: "call 1 of 0 / answer 1 INVALID_PARAMETER of 0 / call 2 of 1 / answer 2 SUCCESS of 1 / call 3 of 1 / start 1 / act 1 / return 1 / answer 3 SUCCESS of 1 / call 4 of 1 / start 2 / act 2 / return 2 / answer 4 SUCCESS of 1 / pause / resume / pause / remove / removed",
     first: Part {
         calls: &[0],
         answers: &[1],
         row: &[0, 1],
     },
     second: Part {
-        calls: &[2, 4],
-        answers: &[3, 8],
-        row: &[2, 3, 4, 8],
+        calls: &[2, 4, 9],
+        answers: &[3, 8, 13],
+        row: &[2, 3, 4, 8, 9, 13],
     },
 };
 
@@ -206,6 +235,12 @@ fn compare_fault_on_disk(
 #[test]
 fn serves_two_clients(rt: HostRuntime) -> Result<(), Fail> {
     run_on_disk(&rt, rt.alloc(), &TWO_CLIENTS)?;
+    Ok(())
+}
+
+#[test]
+fn writes_past_caches(rt: HostRuntime) -> Result<(), Fail> {
+    run_on_disk(&rt, rt.alloc(), &THROUGH)?;
     Ok(())
 }
 

@@ -1,5 +1,6 @@
 //! What a host says, as text.
 
+use crate::stacks::told::tell_answer;
 use compose::Reply;
 use host::{Answered, Reason, Refusal};
 use std::alloc::{AllocError, Global};
@@ -25,16 +26,13 @@ pub(crate) fn refusal(alloc: Global, refusal: &Refusal) -> Result<String, AllocE
     Ok(text)
 }
 
-/// As `answer 1 SUCCESS 512 at 0, 9`, with the bytes transferred.
+/// As `answer 1 SUCCESS 512 00*512 at 0, 9`, with the number of bytes transferred, and the bytes of a read.
 pub(crate) fn answered(alloc: Global, answered: &Answered) -> Result<String, AllocError> {
     let mut text = String::new(alloc);
-    let answer = &answered.answer;
     let places = answered.places;
-    write!(
-        text,
-        "answer {} {} {} at {}, {}",
-        answer.number, answer.status, answer.information, places.call, places.answer
-    )?;
+    write!(text, "answer ")?;
+    tell_answer(&mut text, &answered.answer)?;
+    write!(text, " at {}, {}", places.call, places.answer)?;
     Ok(text)
 }
 

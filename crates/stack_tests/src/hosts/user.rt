@@ -20,6 +20,8 @@ pub(crate) enum Deed {
     Read(u64, usize),
     /// A write at this offset of so many equal bytes.
     Write(u64, usize, u8),
+    /// The same past volatile caches.
+    WriteThrough(u64, usize, u8),
     Flush,
     /// Reads of a sector each, from the first on, sixty-four of them. The last one's ticket is left.
     Fill,
@@ -47,6 +49,21 @@ impl<N: Naming> Model for User<N> {
 
 fn bytes(alloc: Global, byte: u8, length: usize) -> Result<Bytes, AllocError> {
     Ok(Bytes::new(vec![in alloc; byte; length]?))
+}
+
+fn write(
+    alloc: Global,
+    offset: u64,
+    length: usize,
+    byte: u8,
+    through: bool,
+) -> Result<Call, AllocError> {
+    let bytes = bytes(alloc, byte, length)?;
+    Ok(Call::Write {
+        offset,
+        bytes,
+        through,
+    })
 }
 
 impl<N: Naming> User<N> {
@@ -154,12 +171,11 @@ impl<N: Naming> User<N> {
                 self.issue(rt, alloc, host, Call::Read { offset, buffer })
             }
             Deed::Write(offset, length, byte) => {
-                let bytes = bytes(alloc, byte, length)?;
-                let call = Call::Write {
-                    offset,
-                    bytes,
-                    through: false,
-                };
+                let call = write(alloc, offset, length, byte, false)?;
+                self.issue(rt, alloc, host, call)
+            }
+            Deed::WriteThrough(offset, length, byte) => {
+                let call = write(alloc, offset, length, byte, true)?;
                 self.issue(rt, alloc, host, call)
             }
             Deed::Flush => self.issue(rt, alloc, host, Call::Flush),

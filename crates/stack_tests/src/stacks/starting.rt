@@ -31,7 +31,7 @@ const PAST_END: Table = Table {
 
 const OVERLAPPING: Table = Table {
     signature: SIGNATURE,
-    entries: [MIDDLE, UNUSED, (7, 3071, 1), UNUSED],
+    entries: [MIDDLE, UNUSED, (7, 3000, 10), UNUSED],
 };
 
 /// The last partition begins at sector 2.
