@@ -24,7 +24,7 @@ failure_fails s f e =
     cc (same)
 
 pub start_fails : (c : Config) (fault : StartFault) → IsStartFault c fault → start_status fault ≡ Success → ⊥
-start_fails c (Device s) failure e = failure_fails s failure e
+start_fails c (Device s) failure e = failure_fails s failure.fails.failure e
 start_fails c NoMemory failure e = cc (e)
 start_fails c Settings failure e = cc (e)
 start_fails c (Mbr fault) failure e = cc (e)

@@ -1,0 +1,85 @@
+#!/usr/bin/env python3
+"""Runs each example of the pages: the indented lines that begin with `./` or `$ `, from the top of the repository.
+
+A command has to end with status 0. What stands behind it in its block is all that it prints; so is the next block where
+the text before that ends with 'It prints:', and 'It begins:' gives the first lines alone. Lines with a word in capitals
+show a form and are not run; nor are `./stackrun build` and `./stackrun test`, which the gate runs by itself."""
+
+import glob
+import os
+import re
+import subprocess
+import sys
+
+TOP = os.path.dirname(os.path.dirname(os.path.realpath(__file__)))
+PAGES = ["*.md", "docs/*.md", "clients/*.md", "examples/*.md", "examples/rows/*.md"]
+FORM = re.compile(r"\b[A-Z]{3,}\b|\[")
+LEFT_OUT = re.compile(r"\./stackrun (build|test)\b")
+
+
+def blocks(page):
+    """Returns the page's indented blocks, each as the text before it and its lines."""
+    found, before, lines = [], "", []
+    with open(page, encoding="utf-8") as it:
+        for line in [*it.read().split("\n"), ""]:
+            if line.startswith("    "):
+                lines.append(line[4:])
+            elif lines:
+                found.append((before, lines))
+                before, lines = line.strip(), []
+            elif line.strip():
+                before = line.strip()
+    return found
+
+
+def command_of(line):
+    """Returns the command that a line shows, if it does."""
+    if line.startswith("$ "):
+        return line[2:]
+    return line if line.startswith("./") else None
+
+
+def examples(page):
+    """Returns the page's examples: a command, what it prints as far as the page says, and whether that is all."""
+    found, open_command = [], None
+    for before, lines in blocks(page):
+        if open_command and before.endswith(("It begins:", "It prints:")):
+            found.append((open_command, lines, before.endswith("It prints:")))
+            open_command = None
+            continue
+        starts = [k for k, line in enumerate(lines) if command_of(line)]
+        open_command = None
+        for k, after in zip(starts, [*starts[1:], len(lines)]):
+            command, printed = command_of(lines[k]), lines[k + 1 : after]
+            if FORM.search(re.sub(r"\$\w+", "", command)) or LEFT_OUT.search(command):
+                continue
+            found.append((command, printed, bool(printed)))
+            open_command = command
+    return found
+
+
+def tries(command, printed, is_all):
+    """Returns what is wrong with an example, or None."""
+    ran = subprocess.run(["bash", "-c", command], cwd=TOP, capture_output=True, text=True, check=False)
+    lines = ran.stdout.split("\n")[:-1]
+    if ran.returncode != 0:
+        return f"status {ran.returncode}: {ran.stderr.strip()}"
+    if is_all and lines != printed or lines[: len(printed)] != printed:
+        return "it prints otherwise"
+    return None
+
+
+def main():
+    passed = failed = 0
+    for page in sorted(path for form in PAGES for path in glob.glob(f"{TOP}/{form}")):
+        for command, printed, is_all in examples(page):
+            fault = tries(command, printed, is_all)
+            passed, failed = passed + (not fault), failed + bool(fault)
+            if fault:
+                print(f"FAILED {os.path.relpath(page, TOP)}: {command}: {fault}", file=sys.stderr)
+    print(f"examples of the pages: {passed} passed, {failed} failed")
+    return 1 if failed or not passed else 0
+
+
+if __name__ == "__main__":
+    sys.exit(main())
