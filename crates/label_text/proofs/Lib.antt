@@ -1,0 +1,13 @@
+mod Found
+mod Parting
+mod Numbers
+mod Digits
+mod Printed
+mod Hexed
+mod LongestRuns
+mod RunsTaken
+mod RunsRead
+mod Spaced
+mod Names
+mod Written
+mod Understood

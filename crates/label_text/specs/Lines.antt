@@ -1,0 +1,154 @@
+-- The text of a label: one line, of words that single spaces join.
+use Rattle.std.specs.Prelude.{◌≡◌, ◌≤◌, ◌<◌, ◌^◌, ◌==◌, ◌&&◌, ℕ, Bool, true, false, All, List, [], ◌∷◌, ◌++◌, Option, Some, None, codes, length, not, ⊤, if◌then◌else◌}
+use Rattle.std.specs.Fmt.{decimal}
+use Rattle.std.specs.List.{join_with_byte}
+use Rattle.ntstatus.specs.declared.Sense.{Sense}
+use Rattle.ntstatus.specs.Codes.{name_of}
+use Rattle.srb.specs.declared.Class.{Class}
+use Rattle.srb.specs.declared.Class.TheVariants.{Good, Busy, Bad}
+use Rattle.srb.specs.declared.DeviceLabel.TheVariants.{Start, Act, Fault, Return}
+use Rattle.srb.specs.declared.Kind.{Kind}
+use Rattle.srb.specs.declared.Kind.TheVariants.{Read, Write, Flush}
+use Rattle.machine.specs.declared.ClientRequest.{ClientRequest}
+use Rattle.machine.specs.declared.Label.{Label}
+use Rattle.machine.specs.declared.Label.TheVariants.{Call, Device, Answer, Cancel, Pause, Resume, Remove, Surprise, Removed}
+use Rattle.label_text.specs.Runs.{AreBytes, hex_bytes, hex_of, runs_of, runs_text}
+
+-- several words
+abbrev pub Words : Type 0
+Words = List (List ℕ)
+
+-- the runs of bytes are a word, where there are bytes
+abbrev pub runs_words : List ℕ → Words
+runs_words [] = []
+runs_words (byte ∷ bytes) = runs_text (runs_of (byte ∷ bytes)) ∷ []
+
+-- the digits of a command block are a word, where it has bytes
+abbrev pub block_words : List ℕ → Words
+block_words [] = []
+block_words (byte ∷ bytes) = hex_bytes (byte ∷ bytes) ∷ []
+
+abbrev pub kind_word : Kind → List ℕ
+kind_word Read = codes "read"
+kind_word Write = codes "write"
+kind_word Flush = codes "flush"
+
+-- where a request begins and how long it is, in bytes; a flush has neither, but for one that came with some
+abbrev pub extent_words : Kind → ℕ → ℕ → Words
+extent_words Read offset bytes = decimal offset ∷ decimal bytes ∷ []
+extent_words Write offset bytes = decimal offset ∷ decimal bytes ∷ []
+extent_words Flush offset bytes = if (offset == 0) && (bytes == 0) then [] else codes "at" ∷ decimal offset ∷ decimal bytes ∷ []
+
+abbrev pub through_words : Bool → Words
+through_words true = codes "through" ∷ []
+through_words false = []
+
+-- the number of a partition, or - where the handle of a call isn't open
+abbrev pub partition_word : Option ℕ → List ℕ
+partition_word None = codes "-"
+partition_word (Some partition) = decimal partition
+
+-- the words of a call behind its number
+abbrev pub request_words : ClientRequest → Words
+request_words q =
+    kind_word q.kind ∷ (extent_words q.kind q.offset q.length
+    ++ (through_words q.through ++ (codes "in" ∷ partition_word q.partition ∷ runs_words q.bytes)))
+
+abbrev pub sense_words : Option Sense → Words
+sense_words None = []
+sense_words (Some sense) = hex_of sense.key ∷ hex_of sense.asc ∷ hex_of sense.ascq ∷ []
+
+abbrev pub class_words : Class → Words
+class_words Good = codes "good" ∷ []
+class_words Busy = codes "busy" ∷ []
+class_words (Bad completion) = codes "bad" ∷ hex_of completion.srb_status ∷ hex_of completion.scsi_status ∷ sense_words completion.sense
+
+-- the word that a line begins with
+abbrev pub verb_of : Label → List ℕ
+verb_of (Call number request) = codes "call"
+verb_of (Device (Start piece tag block)) = codes "start"
+verb_of (Device (Act piece bytes)) = codes "act"
+verb_of (Device (Fault piece)) = codes "fault"
+verb_of (Device (Return piece class)) = codes "return"
+verb_of (Answer number status information bytes) = codes "answer"
+verb_of (Cancel number) = codes "cancel"
+verb_of Pause = codes "pause"
+verb_of Resume = codes "resume"
+verb_of Remove = codes "remove"
+verb_of Surprise = codes "surprise"
+verb_of Removed = codes "removed"
+
+-- and those that follow it
+abbrev pub words_behind : Label → Words
+words_behind (Call number request) = decimal number ∷ request_words request
+words_behind (Device (Start piece tag block)) = decimal piece ∷ codes "tag" ∷ decimal tag ∷ block_words block
+words_behind (Device (Act piece bytes)) = decimal piece ∷ runs_words bytes
+words_behind (Device (Fault piece)) = decimal piece ∷ []
+words_behind (Device (Return piece class)) = decimal piece ∷ class_words class
+words_behind (Answer number status information bytes) = decimal number ∷ name_of status ∷ decimal information ∷ runs_words bytes
+words_behind (Cancel number) = decimal number ∷ []
+words_behind Pause = []
+words_behind Resume = []
+words_behind Remove = []
+words_behind Surprise = []
+words_behind Removed = []
+
+abbrev pub words_of : Label → Words
+words_of label = verb_of label ∷ words_behind label
+
+-- the line of a label, without its end
+abbrev pub line_of : Label → List ℕ
+line_of label = join_with_byte 32 (words_of label)
+
+-- the end of a line
+abbrev pub line_end : List ℕ
+line_end = 10 ∷ []
+
+-- WHAT FITS: the numbers of a label are no larger than their types
+
+abbrev pub PartitionFits : Option ℕ → Type 0
+PartitionFits None = ⊤
+PartitionFits (Some partition) = partition < 2 ^ 8
+
+pub record RequestFits (q : ClientRequest) : Type 0 where
+  pub offset : q.offset < 2 ^ 64
+  pub bytes_long : q.length < 2 ^ 64
+  pub partition : PartitionFits q.partition
+  pub bytes : AreBytes q.bytes
+
+abbrev pub SenseFits : Option Sense → Type 0
+SenseFits None = ⊤
+SenseFits (Some sense) = (sense.key < 2 ^ 8) × (sense.asc < 2 ^ 8) × (sense.ascq < 2 ^ 8)
+
+abbrev pub ClassFits : Class → Type 0
+ClassFits Good = ⊤
+ClassFits Busy = ⊤
+ClassFits (Bad completion) = (completion.srb_status < 2 ^ 8) × (completion.scsi_status < 2 ^ 8) × SenseFits completion.sense
+
+-- at most sixteen bytes
+abbrev pub BlockFits : List ℕ → Type 0
+BlockFits block = (length block ≤ 16) × All (λ byte. byte < 2 ^ 8) block
+
+abbrev pub Fits : Label → Type 0
+Fits (Call number request) = (number < 2 ^ 64) × RequestFits request
+Fits (Device (Start piece tag block)) = (piece < 2 ^ 128) × (tag < 2 ^ 8) × BlockFits block
+Fits (Device (Act piece bytes)) = (piece < 2 ^ 128) × AreBytes bytes
+Fits (Device (Fault piece)) = piece < 2 ^ 128
+Fits (Device (Return piece class)) = (piece < 2 ^ 128) × ClassFits class
+Fits (Answer number status information bytes) = (number < 2 ^ 64) × (information < 2 ^ 64) × AreBytes bytes
+Fits (Cancel number) = number < 2 ^ 64
+Fits Pause = ⊤
+Fits Resume = ⊤
+Fits Remove = ⊤
+Fits Surprise = ⊤
+Fits Removed = ⊤
+
+-- a text spells a label: it is the label's line
+pub record Spells (text : List ℕ) (label : Label) : Type 0 where
+  pub line : text ≡ line_of label
+  pub fits : Fits label
+
+-- a line of a trace tells a label: it is neither empty nor a remark, which begins with #
+abbrev pub is_told : List ℕ → Bool
+is_told [] = false
+is_told (b ∷ bs) = not (b == 35)

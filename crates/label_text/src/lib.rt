@@ -1,0 +1,59 @@
+//! The text of labels, one a line: what today's printed lines hide stands in it, so that a trace can be stored, sent and
+//! read again.
+//!
+//! It promises to the crate above, by the contract of [`write_line`] (`text`, `spelled`), that a label is written as its
+//! line and nothing else; by that of [`read_line`] (`spelled`, `only`, `fault`), that a line is read as the one label whose
+//! line it is, and refused exactly where it is the line of none. So what is written is read as what it was, and what is
+//! read would be written as it stood.
+//!
+//! It does not promise that labels are a run of the machine, or that a writer takes all.
+#![tactic(auto)]
+
+mod reading;
+mod runs;
+#[cfg(test)]
+mod tests;
+mod words;
+mod writing;
+
+ghost use Rattle.std.specs.Prelude.{Some};
+ghost use Rattle.label_text.specs.Faults.{text_of};
+
+pub use reading::{is_told, read_line};
+use std::alloc::AllocError;
+use std::error::Error;
+use std::fmt;
+pub use writing::write_line;
+
+/// Why a line was not read.
+#[derive(Debug, Clone, Copy, PartialEq, Eq)]
+pub enum LineFault {
+    /// The line is that of no label. Reading stopped at the word that begins in this column, counted in bytes from 1.
+    BadWord { column: u64 },
+    /// Memory was refused.
+    NoMemory,
+}
+
+impl fmt::Display for LineFault {
+    ghost output = { λ fault. Some (text_of fault) };
+
+    fn fmt<W: fmt::Write>(&self, f: &mut fmt::Formatter<W>) -> fmt::Result {
+        match self {
+            LineFault::BadWord { column } => write!(f, "bad word in column {column}"),
+            LineFault::NoMemory => f.write_str("no memory"),
+        }
+    }
+}
+
+impl Error for LineFault {}
+
+impl From<AllocError> for LineFault {
+    ghost use Rattle.std.specs.Prelude.{◌≡◌};
+    ghost use Rattle.label_text.specs.declared.LineFault.TheVariants.{NoMemory};
+
+    ghost from_gives = { λ _ fault. fault ≡ NoMemory };
+
+    fn from(_error: AllocError) -> LineFault {
+        LineFault::NoMemory
+    }
+}

@@ -1,0 +1,109 @@
+//! Bytes as runs of equal ones.
+
+ghost use Rattle.std.specs.Prelude.{◌≡◌, ◌≢◌, ◌<◌, ◌≤◌, ◌++◌, All, IfOk, OnOk, codes, length, option_map, replicate, slice_index, take};
+ghost use Rattle.std.specs.Fmt.{decimal};
+ghost use Rattle.std.specs.Io.KnownBytes.{Appends};
+ghost use Rattle.label_text.specs.Runs.{hex_of, runs_of, runs_text};
+ghost use Rattle.label_text.specs.Spacing.{comma};
+ghost use Rattle.label_text.specs.Reading.{may_follow, run_in, run_told, runs_in};
+
+use crate::words::Words;
+use crate::writing::{write_byte, write_number};
+use std::alloc::{AllocError, Global};
+use std::io;
+use std::io::Write;
+
+/// So many equal bytes, one after the other.
+#[derive(Debug, Clone, Copy)]
+pub struct Run {
+    pub byte: u8,
+    pub count: u64,
+}
+
+/// The bytes that runs tell, where they are written as the longest ones.
+///
+/// # Errors
+///
+/// [`AllocError`] where memory was refused.
+pub fn expanded(alloc: Global, word: &str) -> Result<Option<Vec<u8>>, AllocError>
+    ensures { IfOk result (λ found. option_map (λ v. v.items) found ≡ runs_in word.now) }
+{
+    let mut bytes = Vec::new(alloc);
+    let mut last = None;
+    let mut parts = Words::new(b',', word);
+    while let Some(part) = parts.word() {
+        let Some(run) = run_in(part) else {
+            return Ok(None);
+        };
+        if !may_follow(last, run) {
+            return Ok(None);
+        }
+        append(&mut bytes, run)?;
+        last = Some(run.byte);
+    }
+    Ok(Some(bytes))
+}
+
+/// Whether a run may stand behind one of this byte: it has bytes, and other ones.
+fn may_follow(last: Option<u8>, run: Run) -> bool
+    ensures { result ≡ may_follow last (run_told run) }
+{
+    run.count != 0 && last != Some(run.byte)
+}
+
+/// Appends the bytes of a run.
+fn append(bytes: &mut Vec<u8>, run: Run) -> Result<(), AllocError>
+    ensures { OnOk result (bytes.new.items ≡ bytes.old.items ++ replicate run.count run.byte) }
+{
+    let Some(length) = bytes.len().checked_add(run.count as usize) else {
+        return Err(AllocError);
+    };
+    bytes.resize(length, run.byte)
+}
+
+/// The run that a part of a word tells: its byte, *, and how many.
+fn run_in(part: &str) -> Option<Run>
+    ensures { option_map run_told result ≡ run_in part.now }
+{
+    let mut words = Words::new(b'*', part);
+    let byte = words.byte()?;
+    let count = words.number()?;
+    words.are_over().then_some(Run { byte, count })
+}
+
+/// The number of bytes at the front that equal this one.
+fn equal_bytes(bytes: &[u8], byte: u8) -> usize
+    ensures within { result ≤ length bytes.now }
+    ensures equal { All (λ b. b ≡ byte) (take result bytes.now) }
+    ensures longest { result < length bytes.now → slice_index bytes.now result ≢ byte }
+{
+    bytes.iter().position(|b| *b != byte).unwrap_or(bytes.len())
+}
+
+/// Writes bytes as their longest runs, joined by commas.
+pub fn write_runs<W: Write>(out: &mut W, bytes: &[u8]) -> io::Result<()>
+    ensures { OnOk result (Appends (W.contents out.old) (W.contents out.new) (runs_text (runs_of bytes.now))) }
+{
+    let mut rest = bytes;
+    while !rest.is_empty() {
+        let byte = rest[0];
+        let count = equal_bytes(rest, byte);
+        let (_, behind) = rest.split_at(count);
+        write_run(out, byte, count, behind.is_empty())?;
+        rest = behind;
+    }
+    Ok(())
+}
+
+/// Writes a run, and a comma behind it unless it is the last.
+fn write_run<W: Write>(out: &mut W, byte: u8, count: usize, is_last: bool) -> io::Result<()>
+    ensures { OnOk result (Appends (W.contents out.old) (W.contents out.new) (hex_of byte ++ (codes "*" ++ (decimal count ++ comma is_last)))) }
+{
+    write_byte(out, byte)?;
+    out.write_all(b"*")?;
+    write_number(out, count)?;
+    if is_last {
+        return Ok(());
+    }
+    out.write_all(b",")
+}
