@@ -196,4 +196,5 @@ def main():
     {'trace': trace, 'clients': clients, 'layers': layers}[sys.argv[1]](sys.argv[2])
 
 
-main()
+if __name__ == '__main__':
+    main()

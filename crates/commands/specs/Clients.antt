@@ -23,9 +23,10 @@ tally_line threads rounds t =
 abbrev pub verdict_on : ℕ → ℕ → Tally → Verdict
 verdict_on threads rounds t = if (t.differing == 0) && (t.answered == 2 * threads * rounds) then Passed else Failed
 
--- the line of some tally was printed, which this is the verdict on
+-- the line of some tally was printed, which this is the verdict on: no more calls succeeded than two a round of each client
 pub record PrintsTally (threads rounds : ℕ) (old new : Option (List ℕ)) (verdict : Verdict) : Type 0 where
   pub tally : Tally
+  pub most : tally.answered ≤ 2 * (threads * rounds)
   pub appends : Appends old new (tally_line threads rounds tally)
   pub verdict_is : verdict ≡ verdict_on threads rounds tally
 

@@ -1,14 +1,14 @@
 mod Asked
 mod EqualBytes
-mod Flushed
 mod GivenBack
+mod Filled
 mod Hexadecimal
 mod Parted
 mod Playing
 mod Printed
 mod PrintedLabels
 mod Reading
-mod Shifted
+mod Same
 mod Skipped
 mod Spelled
 mod Trims

@@ -3,7 +3,7 @@ use Rattle.std.proofs.Common.{◌≡◌, ◌≤◌, ◌<◌, ◌+◌, ◌-◌, i
 use Rattle.std.specs.Prelude.{codes, IsPermutation}
 use Rattle.std.proofs.lemmas.List.{append_assoc, append-nil, drop_all, length-drop, take_more}
 use Rattle.std.proofs.lemmas.List.Sorted.{length_permutation}
-use Rattle.std.specs.Io.KnownBytes.{Appends}
+use Rattle.std.specs.Io.KnownBytes.{Appends, Keeps as KeepsBytes, append_known}
 use Rattle.machine.specs.declared.Label.{Label}
 use Rattle.machine.specs.declared.Label.TheVariants.{Call, Device, Answer as AnswerLabel, Cancel, Pause, Resume, Remove, Surprise, Removed}
 use Rattle.machine.specs.Step.{as_label}
@@ -19,9 +19,9 @@ use Rattle.script.specs.declared.Order.{Order}
 use Rattle.script.specs.declared.numbers.Given.{Given}
 use Rattle.script.specs.Events.{Keeps}
 use Rattle.script.specs.Printing.{labels_text, line_end, reply_line}
-use Rattle.script.specs.Trace.{left_by, left_by_all, without_labels, Between, IsAllTaken, IsCarriedOut, IsLinePlayed, IsPlayed, IsTrace, IsTraceTo, Prints, line_text}
+use Rattle.script.specs.Trace.{Adds, left_by, left_by_all, without_labels, Between, IsAllTaken, IsCarriedOut, IsLinePlayed, IsPlayed, IsTrace, IsTraceTo, Prints, line_text}
 use Rattle.std.specs.BTreeMap.{IsEmpty}
-use Rattle.script.proofs.Printed.{both, nothing}
+use Rattle.script.proofs.Printed.{added_waits, behind_both, both, nothing, stays}
 
 -- NO ANSWER IS LEFT
 
@@ -96,10 +96,10 @@ of_carried given order old reply new taken (inr h) =
 -- A LINE
 
 -- what the steps of a line give
-pub line_played : (old new : Between) (line : Line) (reply : Reply) (stepped : ManagerView) (a b c d : Option (List ℕ)) → IsAllTaken old.stack
-    → IsCarriedOut old.given line.order old.stack reply stepped → Appends a b (codes "> " ++ (line.text.now ++ line_end)) → Appends b c (reply_line reply)
-    → Keeps reply old.given new.given → new.stack ≡ without_labels stepped → Appends c d (labels_text stepped.labels)
-    → Prints a d (λ text. IsLinePlayed old line text new)
+pub line_played : (old new : Between) (line : Line) (reply : Reply) (stepped : ManagerView) (a b c d : List ℕ) → IsAllTaken old.stack
+    → IsCarriedOut old.given line.order old.stack reply stepped → b ≡ a ++ (codes "> " ++ (line.text.now ++ line_end)) → c ≡ b ++ reply_line reply
+    → Keeps reply old.given new.given → new.stack ≡ without_labels stepped → d ≡ c ++ labels_text stepped.labels
+    → Adds a d (λ text. IsLinePlayed old line text new)
 line_played old new line reply stepped a b c d taken carried first second keeps gone third = record {
   text = line_text line reply stepped.labels;
   is = record {
@@ -110,8 +110,8 @@ line_played old new line reply stepped a b c d taken carried first second keeps 
     taken = gone ∙ ap (λ (xs : List Answer). record stepped { labels = []; answers = xs }) (of_carried old.given line.order old.stack reply stepped taken carried);
     keeps = keeps;
   };
-  appends = both a b d (codes "> " ++ (line.text.now ++ line_end)) (reply_line reply ++ labels_text stepped.labels) first
-      (both b c d (reply_line reply) (labels_text stepped.labels) second third);
+  appends = behind_both a b d (codes "> " ++ (line.text.now ++ line_end)) (reply_line reply ++ labels_text stepped.labels) first
+      (behind_both b c d (reply_line reply) (labels_text stepped.labels) second third);
 }
 
 -- after a line all labels and answers are taken
@@ -152,6 +152,15 @@ one_played stack lines i d mid new a b c inside h one = record {
   };
   appends = both a b c h.text one.text h.appends one.appends;
 }
+
+-- the same where a block may have been written before, and the text of the line waits
+pub one_waits : (stack : ManagerView) (lines : List Line) (i : ℕ) (d : Line) (mid new : Between) (a b held : Option (List ℕ)) (text more : List ℕ) → i < length lines
+    → Prints a b (λ told. IsTraceTo stack (take i lines) told mid) → KeepsBytes b (append_known held text)
+    → Adds text more (λ told. IsLinePlayed mid (get_or lines i d) told new) → Prints a (append_known held more) (λ told. IsTraceTo stack (take (i + 1) lines) told new)
+one_waits stack lines i d mid new a b held text more inside h keeps one =
+    one_played stack lines i d mid new a (append_known held text) (append_known held more) inside
+    (stays a b (append_known held text) (λ told. IsTraceTo stack (take i lines) told mid) h keeps)
+    (added_waits held text more (λ told. IsLinePlayed mid (get_or lines i d) told new) one)
 
 -- all lines
 pub all_played : (stack : ManagerView) (lines : List Line) (i : ℕ) (end : Between) (a b : Option (List ℕ)) → take i lines ≡ lines

@@ -1,18 +1,24 @@
 -- Equal bytes, for reads and writes.
-use Rattle.std.specs.Prelude.{◌≡◌, ℕ, List, length, replicate}
+use Rattle.std.specs.Prelude.{◌≡◌, ℕ, List, All, length, replicate}
 use Rattle.io_manager.specs.declared.Reply.{Reply}
 use Rattle.io_manager.specs.declared.Reply.TheVariants.{Refused}
 use Rattle.script.specs.declared.Order.{Order}
 use Rattle.script.specs.declared.Order.TheVariants.{Read, Write}
+use Rattle.script.specs.declared.filling.Full.{Full}
 use Rattle.script.specs.declared.filling.Spare.{Spare}
 
 -- all bytes are this one
 abbrev pub IsAll : ℕ → List ℕ → Type 0
 IsAll byte bytes = bytes ≡ replicate (length bytes) byte
 
--- so are those that are spared
-abbrev pub IsFilled : Spare → Type 0
-IsFilled spare = IsAll spare.byte spare.bytes
+-- so are those of a buffer that is full of a byte
+abbrev pub IsFull : Full → Type 0
+IsFull full = IsAll full.byte full.bytes.items
+
+-- and those of all that are spared
+pub record AreFilled (spare : Spare) : Type 0 where
+  pub small : All IsFull spare.small.items
+  pub large : IsFull spare.large
 
 -- the bytes that a refused read or write gives back are all the one that it was filled with
 abbrev pub GivesBack : Order → Reply → Type 0

@@ -91,3 +91,9 @@ pub record Prints (old new : Option (List ℕ)) (Is : List ℕ → Type 0) : Typ
   pub text : List ℕ
   pub is : Is text
   pub appends : Appends old new text
+
+-- a text of this kind stands behind an older one
+pub record Adds (old new : List ℕ) (Is : List ℕ → Type 0) : Type 0 where
+  pub text : List ℕ
+  pub is : Is text
+  pub appends : new ≡ old ++ text

@@ -7,6 +7,8 @@
 //! the stack that it was given. It does not promise that a writer takes all.
 #![tactic(auto)]
 
+ghost use Rattle.script.specs.Faults.{IsOfWrite};
+
 mod filling;
 mod numbers;
 mod orders;
@@ -14,6 +16,7 @@ mod player;
 mod printing;
 mod runs;
 
+pub use filling::Spare;
 pub use numbers::Given;
 pub use orders::lines;
 pub use player::{event, play, write_labels};
@@ -135,9 +138,16 @@ impl From<io::Error> for ScriptFault {
     ghost from_gives = { λ error fault. IsOfWrite (error_kind error) fault };
 
     fn from(error: io::Error) -> ScriptFault {
-        match error.kind() {
-            ErrorKind::OutOfMemory => ScriptFault::NoMemory,
-            _ => ScriptFault::OutputFailed,
-        }
+        fault_of_write(error.kind())
+    }
+}
+
+/// The fault of a write that failed with an error of this kind.
+fn fault_of_write(kind: ErrorKind) -> ScriptFault
+    ensures { IsOfWrite kind result }
+{
+    match kind {
+        ErrorKind::OutOfMemory => ScriptFault::NoMemory,
+        _ => ScriptFault::OutputFailed,
     }
 }

@@ -115,8 +115,7 @@ fn make_place(requests: &mut Vec<Option<Id>>, number: usize) -> Result<(), Alloc
     if number < requests.len() {
         return Ok(());
     }
-    let Some(len) = number.checked_add(1) else {
-        return Err(AllocError);
-    };
-    requests.resize(len, None)
+    requests.resize(number, None)?;
+    requests.push(None)?;
+    Ok(())
 }

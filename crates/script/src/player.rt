@@ -1,12 +1,12 @@
 //! Lines of a script, carried out by a stack, and what comes of each in print.
 
-ghost use Rattle.std.specs.Prelude.{◌≡◌, ◌⊎◌, ◌++◌, IfErr, OnOk, MatchResult, codes};
-ghost use Rattle.std.specs.Io.KnownBytes.{Appends};
+ghost use Rattle.std.specs.Prelude.{◌≡◌, ◌⊎◌, ◌++◌, [], IfErr, OnOk, MatchResult, codes};
+ghost use Rattle.std.specs.Io.KnownBytes.{Appends, Keeps, append_known};
 ghost use Rattle.script.specs.Events.{AreNamed, IsEventOf, IsReplyTo};
 ghost use Rattle.script.specs.Faults.{IsPrintFault};
-ghost use Rattle.script.specs.Filling.{IsFilled};
+ghost use Rattle.script.specs.Filling.{AreFilled};
 ghost use Rattle.script.specs.Printing.{labels_text, line_end};
-ghost use Rattle.script.specs.Trace.{IsAllTaken, IsCarriedOut, IsLinePlayed, IsTrace, Prints, left_by, without_labels};
+ghost use Rattle.script.specs.Trace.{Adds, IsAllTaken, IsCarriedOut, IsLinePlayed, IsTrace, Prints, left_by, without_labels};
 
 use crate::filling::Spare;
 use crate::numbers::Given;
@@ -15,17 +15,25 @@ use crate::{Line, Order, ScriptFault};
 use adapter::Adapter;
 use compose::{Event, Reply, Stack};
 use machine::Label;
-use std::alloc::Global;
+use std::alloc::{AllocError, Global};
 use std::io;
 use std::io::Write;
 
 /// Tags that an adapter can have.
 const TAGS: u64 = 32;
 
-/// Carries the lines of a script out, one after the other, and writes each line, its reply and the labels of its step.
-/// The writer is flushed behind the last.
+/// Bytes of text that are written at once.
+const BLOCK: usize = 65_536;
+
+/// Bytes of the longest text of one answer: of 65,536 sectors, each of another byte than the one before.
+const LONGEST: usize = 65_536 * 9;
+
+/// Carries the lines of a script out, one after the other, and writes each line, its reply and the labels of its step,
+/// in blocks. What is left of the text is written behind the last line, also where a line ends in want of memory, and
+/// then the writer is flushed.
 ///
-/// All labels and answers of the stack have to be taken. It knows the handles and the requests that these lines open, and no others.
+/// All labels and answers of the stack have to be taken. It knows the handles and the requests that these lines open, and
+/// no others.
 ///
 /// # Errors
 ///
@@ -40,60 +48,94 @@ pub fn play<A: Adapter, W: Write>(
     ensures text { OnOk result (Prints (W.contents out.old) (W.contents out.new) (λ text. IsTrace stack.old lines.now text stack.new)) }
     ensures fault { IfErr result IsPrintFault }
 {
-    play_lines(alloc, stack, lines, out)?;
-    out.flush()?;
-    Ok(())
+    let mut text = Vec::with_capacity(alloc, BLOCK + LONGEST)?;
+    match play_lines(alloc, stack, lines, &mut text, out) {
+        Ok(()) => {
+            write_out(&mut text, out)?;
+            out.flush()?;
+            Ok(())
+        }
+        Err(fault) => {
+            let _ = write_out(&mut text, out);
+            Err(fault)
+        }
+    }
 }
 
+/// Gives a text that waited to the writer, and begins a new one.
+fn write_out<W: Write>(text: &mut Vec<u8>, out: &mut W) -> io::Result<()>
+    ensures written { OnOk result (Appends (W.contents out.old) (W.contents out.new) text.old.items) }
+    ensures none_waits { text.new.items ≡ [] }
+{
+    let written = out.write_all(text.as_slice());
+    text.clear();
+    written
+}
+
+/// The same once a block of it is full.
+fn write_block<W: Write>(text: &mut Vec<u8>, out: &mut W) -> io::Result<()>
+    ensures { OnOk result (Keeps (append_known (W.contents out.old) text.old.items) (append_known (W.contents out.new) text.new.items)) }
+{
+    if text.len() < BLOCK {
+        return Ok(());
+    }
+    write_out(text, out)
+}
+
+/// Carries the lines out. What the writer has not got yet is the text.
 fn play_lines<A: Adapter, W: Write>(
     alloc: Global,
     stack: &mut Stack<A>,
     lines: &[Line<'_>],
+    text: &mut Vec<u8>,
     out: &mut W,
 ) -> Result<(), ScriptFault>
     requires taken { IsAllTaken stack.old }
-    ensures text { OnOk result (Prints (W.contents out.old) (W.contents out.new) (λ text. IsTrace stack.old lines.now text stack.new)) }
+    ensures text { OnOk result (Prints (append_known (W.contents out.old) text.old.items) (append_known (W.contents out.new) text.new.items) (λ told. IsTrace stack.old lines.now told stack.new)) }
     ensures fault { IfErr result IsPrintFault }
 {
     let mut given = Given::new(alloc);
-    let mut spare = Spare::new(alloc);
+    let mut spare = Spare::with_places(alloc)?;
     for line in lines {
-        play_line(alloc, stack, line, &mut given, &mut spare, out)?;
+        write_block(text, out)?;
+        play_line(alloc, stack, line, &mut given, &mut spare, text)?;
     }
     Ok(())
 }
 
-/// Carries out what a line asks for, and writes the line, the reply and the labels.
-fn play_line<A: Adapter, W: Write>(
+/// Carries out what a line asks for, and writes the line, the reply and the labels behind a text.
+fn play_line<A: Adapter>(
     alloc: Global,
     stack: &mut Stack<A>,
     line: &Line<'_>,
     given: &mut Given,
     spare: &mut Spare,
-    out: &mut W,
+    text: &mut Vec<u8>,
 ) -> Result<(), ScriptFault>
     requires taken { IsAllTaken stack.old }
     requires named { AreNamed given.old }
-    requires filled { IsFilled spare.old }
+    requires filled { AreFilled spare.old }
     ensures named { OnOk result (AreNamed given.new) }
-    ensures filled { OnOk result (IsFilled spare.new) }
-    ensures text { OnOk result (Prints (W.contents out.old) (W.contents out.new) (λ text. IsLinePlayed (record { stack = stack.old; given = given.old }) line.now text (record { stack = stack.new; given = given.new }))) }
+    ensures filled { OnOk result (AreFilled spare.new) }
+    ensures text { OnOk result (Adds text.old.items text.new.items (λ told. IsLinePlayed (record { stack = stack.old; given = given.old }) line.now told (record { stack = stack.new; given = given.new }))) }
     ensures fault { IfErr result IsPrintFault }
 {
     let reply = carry_out(alloc, stack, line.order, given, spare);
-    write_line(out, line.text)?;
-    write_reply(out, &reply)?;
+    write_line(text, line.text)?;
+    write_reply(text, &reply)?;
     given.keep(&reply)?;
     spare.take_back(line.order, reply);
-    write_labels(stack, out)?;
+    write_labels(stack, text, spare)?;
     Ok(())
 }
 
-/// Writes a line of the script.
-fn write_line<W: Write>(out: &mut W, text: &str) -> io::Result<()>
-    ensures { OnOk result (Appends (W.contents out.old) (W.contents out.new) (codes "> " ++ (text.now ++ line_end))) }
+/// Writes a line of the script behind a text.
+fn write_line(text: &mut Vec<u8>, line: &str) -> Result<(), AllocError>
+    ensures { OnOk result (text.new.items ≡ text.old.items ++ (codes "> " ++ (line.now ++ line_end))) }
 {
-    writeln!(out, "> {text}")
+    text.extend_from_slice(b"> ")?;
+    text.extend_from_slice(line.as_bytes())?;
+    text.extend_from_slice(b"\n")
 }
 
 /// Carries out what a line asks for.
@@ -106,9 +148,9 @@ fn carry_out<A: Adapter>(
 ) -> Reply
     requires taken { IsAllTaken stack.old }
     requires named { AreNamed given.now }
-    requires filled { IsFilled spare.old }
+    requires filled { AreFilled spare.old }
     ensures carried { IsCarriedOut given.now order stack.old result stack.new }
-    ensures filled { IsFilled spare.new }
+    ensures filled { AreFilled spare.new }
 {
     match event_from(alloc, order, given, spare) {
         Ok(event) => stack.step(alloc, event),
@@ -116,25 +158,40 @@ fn carry_out<A: Adapter>(
     }
 }
 
-/// Writes all labels that a stack has not given yet, and takes the answers that go with them.
-pub fn write_labels<A: Adapter, W: Write>(stack: &mut Stack<A>, out: &mut W) -> io::Result<()>
+/// Writes all labels that a stack has not given yet behind a text, and takes the answers that go with them, whose buffers
+/// are kept.
+///
+/// # Errors
+///
+/// [`AllocError`] where the text has no room, and memory for more was refused.
+pub fn write_labels<A: Adapter>(
+    stack: &mut Stack<A>,
+    text: &mut Vec<u8>,
+    spare: &mut Spare,
+) -> Result<(), AllocError>
+    requires { AreFilled spare.old }
     ensures taken { OnOk result (stack.new ≡ without_labels stack.old) }
-    ensures text { OnOk result (Appends (W.contents out.old) (W.contents out.new) (labels_text stack.old.labels)) }
+    ensures text { OnOk result (text.new.items ≡ text.old.items ++ labels_text stack.old.labels) }
+    ensures filled { AreFilled spare.new }
 {
     while let Some(label) = stack.take_label() {
-        write_label(out, &label)?;
-        take_answer_of(stack, label);
+        write_label(text, &label)?;
+        take_answer_of(stack, label, spare);
     }
     Ok(())
 }
 
-/// Takes the answer that goes with a label, if one does.
+/// Takes the answer that goes with a label, if one does, and keeps its buffer.
 #[tactic(auto, using(crate::proofs::PrintedLabels::answer_taken))]
-fn take_answer_of<A: Adapter>(stack: &mut Stack<A>, label: Label)
-    ensures { stack.new ≡ record stack.old { answers = left_by label stack.old.answers } }
+fn take_answer_of<A: Adapter>(stack: &mut Stack<A>, label: Label, spare: &mut Spare)
+    requires { AreFilled spare.old }
+    ensures taken { stack.new ≡ record stack.old { answers = left_by label stack.old.answers } }
+    ensures filled { AreFilled spare.new }
 {
     if let Label::Answer { .. } = label {
-        let _ = stack.take_answer();
+        if let Some(answer) = stack.take_answer() {
+            spare.take_emptied(answer.bytes);
+        }
     }
 }
 
@@ -158,9 +215,9 @@ pub fn event(alloc: Global, order: Order, given: &Given) -> Result<Event, Reply>
 /// As that.
 fn event_from(alloc: Global, order: Order, given: &Given, spare: &mut Spare) -> Result<Event, Reply>
     requires named { AreNamed given.now }
-    requires filled { IsFilled spare.old }
+    requires filled { AreFilled spare.old }
     ensures event { MatchResult result (IsEventOf given.now order) (IsReplyTo order) }
-    ensures filled { IsFilled spare.new }
+    ensures filled { AreFilled spare.new }
 {
     match order {
         Order::Open { partition } => Ok(Event::Open {

@@ -1,8 +1,7 @@
-//! Replies and labels in print, one a line.
+//! Replies and labels in print, one a line, each behind a text.
 
 ghost use Rattle.std.specs.Prelude.{◌≡◌, ◌++◌, OnOk, codes};
 ghost use Rattle.std.specs.Fmt.{decimal};
-ghost use Rattle.std.specs.Io.KnownBytes.{Appends};
 ghost use Rattle.script.specs.Printing.{answer_line, bytes_text, call_line, device_line, hex_bytes, hex_of, label_line, line_end, number_of, reply_line, word_of};
 
 use crate::runs::write_runs;
@@ -12,59 +11,62 @@ use itoa::{Buffer, Integer};
 use machine::{ClientRequest, Kind, Label};
 use ntstatus::NtStatus;
 use srb::{Class, CommandBlock, DeviceLabel};
-use std::io;
-use std::io::Write;
+use std::alloc::AllocError;
 
 /// The hexadecimal digits.
 static DIGITS: [u8; 16] = *b"0123456789abcdef";
 
-/// Writes the line of a reply.
-pub fn write_reply<W: Write>(out: &mut W, reply: &Reply) -> io::Result<()>
-    ensures { OnOk result (Appends (W.contents out.old) (W.contents out.new) (reply_line reply.now)) }
+/// Writes the line of a reply behind a text.
+///
+/// # Errors
+///
+/// [`AllocError`] where the text has no room, and memory for more was refused; so do all writes here.
+pub fn write_reply(text: &mut Vec<u8>, reply: &Reply) -> Result<(), AllocError>
+    ensures { OnOk result (text.new.items ≡ text.old.items ++ reply_line reply.now) }
 {
     match reply {
-        Reply::Handle(handle) => write_numbered(out, b"handle ", handle.number),
-        Reply::Ok => out.write_all(b"ok\n"),
-        Reply::Request(id) => write_numbered(out, b"request ", id.number),
-        Reply::Answered(_) => out.write_all(b"answered\n"),
-        Reply::Refused { refusal, .. } => write_numbered(out, b"refused E", number_of(*refusal)),
-        Reply::Ignored => out.write_all(b"ignored\n"),
+        Reply::Handle(handle) => write_numbered(text, b"handle ", handle.number),
+        Reply::Ok => text.extend_from_slice(b"ok\n"),
+        Reply::Request(id) => write_numbered(text, b"request ", id.number),
+        Reply::Answered(_) => text.extend_from_slice(b"answered\n"),
+        Reply::Refused { refusal, .. } => write_numbered(text, b"refused E", number_of(*refusal)),
+        Reply::Ignored => text.extend_from_slice(b"ignored\n"),
     }
 }
 
 /// Writes a number in decimal digits.
-pub fn write_number<W: Write, N: Integer>(out: &mut W, number: N) -> io::Result<()>
-    ensures { OnOk result (Appends (W.contents out.old) (W.contents out.new) (N.text number)) }
+pub fn write_number<N: Integer>(text: &mut Vec<u8>, number: N) -> Result<(), AllocError>
+    ensures { OnOk result (text.new.items ≡ text.old.items ++ N.text number) }
 {
-    out.write_all(Buffer::new().format(number).as_bytes())
+    text.extend_from_slice(Buffer::new().format(number).as_bytes())
 }
 
 /// Writes the number of a piece, which seldom needs the digits of 128 bits.
-fn write_piece<W: Write>(out: &mut W, piece: u128) -> io::Result<()>
-    ensures { OnOk result (Appends (W.contents out.old) (W.contents out.new) (decimal piece)) }
+fn write_piece(text: &mut Vec<u8>, piece: u128) -> Result<(), AllocError>
+    ensures { OnOk result (text.new.items ≡ text.old.items ++ decimal piece) }
 {
     match u64::try_from(piece) {
-        Ok(short) => write_number(out, short),
-        Err(_) => write_number(out, piece),
+        Ok(short) => write_number(text, short),
+        Err(_) => write_number(text, piece),
     }
 }
 
 /// Writes a line of a word and the number of a piece.
-fn write_of_piece<W: Write>(out: &mut W, word: &[u8], piece: u128) -> io::Result<()>
-    ensures { OnOk result (Appends (W.contents out.old) (W.contents out.new) (word.now ++ (decimal piece ++ line_end))) }
+fn write_of_piece(text: &mut Vec<u8>, word: &[u8], piece: u128) -> Result<(), AllocError>
+    ensures { OnOk result (text.new.items ≡ text.old.items ++ (word.now ++ (decimal piece ++ line_end))) }
 {
-    out.write_all(word)?;
-    write_piece(out, piece)?;
-    out.write_all(b"\n")
+    text.extend_from_slice(word)?;
+    write_piece(text, piece)?;
+    text.extend_from_slice(b"\n")
 }
 
 /// Writes a line of a word and a number.
-fn write_numbered<W: Write, N: Integer>(out: &mut W, word: &[u8], number: N) -> io::Result<()>
-    ensures { OnOk result (Appends (W.contents out.old) (W.contents out.new) (word.now ++ (N.text number ++ line_end))) }
+fn write_numbered<N: Integer>(text: &mut Vec<u8>, word: &[u8], number: N) -> Result<(), AllocError>
+    ensures { OnOk result (text.new.items ≡ text.old.items ++ (word.now ++ (N.text number ++ line_end))) }
 {
-    out.write_all(word)?;
-    write_number(out, number)?;
-    out.write_all(b"\n")
+    text.extend_from_slice(word)?;
+    write_number(text, number)?;
+    text.extend_from_slice(b"\n")
 }
 
 /// The number of a refusal, as it is printed after its E.
@@ -82,102 +84,106 @@ fn number_of(refusal: Refusal) -> u8
     }
 }
 
-/// Writes the line of a label.
-pub fn write_label<W: Write>(out: &mut W, label: &Label) -> io::Result<()>
-    ensures { OnOk result (Appends (W.contents out.old) (W.contents out.new) (label_line label.now)) }
+/// Writes the line of a label behind a text.
+///
+/// # Errors
+///
+/// [`AllocError`] where the text has no room, and memory for more was refused.
+pub fn write_label(text: &mut Vec<u8>, label: &Label) -> Result<(), AllocError>
+    ensures { OnOk result (text.new.items ≡ text.old.items ++ label_line label.now) }
 {
     match label {
-        Label::Call { number, request } => write_call(out, *number, request),
-        Label::Device(label) => write_device_label(out, label),
+        Label::Call { number, request } => write_call(text, *number, request),
+        Label::Device(label) => write_device_label(text, label),
         Label::Answer {
             number,
             status,
             information,
             bytes,
-        } => write_answer(out, *number, *status, *information, bytes.as_slice()),
-        Label::Cancel { number } => write_numbered(out, b"cancel ", *number),
-        Label::Pause => out.write_all(b"pause\n"),
-        Label::Resume => out.write_all(b"resume\n"),
-        Label::Remove => out.write_all(b"remove\n"),
-        Label::Surprise => out.write_all(b"surprise\n"),
-        Label::Removed => out.write_all(b"removed\n"),
+        } => write_answer(text, *number, *status, *information, bytes.as_slice()),
+        Label::Cancel { number } => write_numbered(text, b"cancel ", *number),
+        Label::Pause => text.extend_from_slice(b"pause\n"),
+        Label::Resume => text.extend_from_slice(b"resume\n"),
+        Label::Remove => text.extend_from_slice(b"remove\n"),
+        Label::Surprise => text.extend_from_slice(b"surprise\n"),
+        Label::Removed => text.extend_from_slice(b"removed\n"),
     }
 }
 
 /// Writes a call, without the bytes of a write.
-fn write_call<W: Write>(out: &mut W, number: u64, request: &ClientRequest) -> io::Result<()>
-    ensures { OnOk result (Appends (W.contents out.old) (W.contents out.new) (call_line number request.now)) }
+fn write_call(text: &mut Vec<u8>, number: u64, request: &ClientRequest) -> Result<(), AllocError>
+    ensures { OnOk result (text.new.items ≡ text.old.items ++ call_line number request.now) }
 {
-    out.write_all(b"call ")?;
-    write_number(out, number)?;
+    text.extend_from_slice(b"call ")?;
+    write_number(text, number)?;
     match request.kind {
-        Kind::Read => write_place(out, b" read ", request, b"\n"),
-        Kind::Write if request.through => write_place(out, b" write ", request, b" through\n"),
-        Kind::Write => write_place(out, b" write ", request, b"\n"),
-        Kind::Flush => out.write_all(b" flush\n"),
+        Kind::Read => write_place(text, b" read ", request, b"\n"),
+        Kind::Write if request.through => write_place(text, b" write ", request, b" through\n"),
+        Kind::Write => write_place(text, b" write ", request, b"\n"),
+        Kind::Flush => text.extend_from_slice(b" flush\n"),
     }
 }
 
 /// Writes the word of a request, its first byte and its length, and what ends the line.
-fn write_place<W: Write>(
-    out: &mut W,
+fn write_place(
+    text: &mut Vec<u8>,
     word: &[u8],
     request: &ClientRequest,
     end: &[u8],
-) -> io::Result<()>
-    ensures { OnOk result (Appends (W.contents out.old) (W.contents out.new) (word.now ++ (decimal request.now.offset ++ (codes " " ++ (decimal request.now.length ++ end.now))))) }
+) -> Result<(), AllocError>
+    ensures { OnOk result (text.new.items ≡ text.old.items ++ (word.now ++ (decimal request.now.offset ++ (codes " " ++ (decimal request.now.length ++ end.now))))) }
 {
-    out.write_all(word)?;
-    write_number(out, request.offset)?;
-    out.write_all(b" ")?;
-    write_number(out, request.length)?;
-    out.write_all(end)
+    text.extend_from_slice(word)?;
+    write_number(text, request.offset)?;
+    text.extend_from_slice(b" ")?;
+    write_number(text, request.length)?;
+    text.extend_from_slice(end)
 }
 
-fn write_device_label<W: Write>(out: &mut W, label: &DeviceLabel) -> io::Result<()>
-    ensures { OnOk result (Appends (W.contents out.old) (W.contents out.new) (device_line label.now)) }
+fn write_device_label(text: &mut Vec<u8>, label: &DeviceLabel) -> Result<(), AllocError>
+    ensures { OnOk result (text.new.items ≡ text.old.items ++ device_line label.now) }
 {
     match label {
         DeviceLabel::Start { piece, tag, block } => {
-            out.write_all(b"start ")?;
-            write_piece(out, *piece)?;
-            out.write_all(b" tag ")?;
-            write_number(out, *tag)?;
-            out.write_all(b" ")?;
-            write_hex(out, block)?;
-            out.write_all(b"\n")
+            text.extend_from_slice(b"start ")?;
+            write_piece(text, *piece)?;
+            text.extend_from_slice(b" tag ")?;
+            write_number(text, *tag)?;
+            text.extend_from_slice(b" ")?;
+            write_hex(text, block)?;
+            text.extend_from_slice(b"\n")
         }
-        DeviceLabel::Act { piece, .. } => write_of_piece(out, b"act ", *piece),
-        DeviceLabel::Fault { piece } => write_of_piece(out, b"fault ", *piece),
+        DeviceLabel::Act { piece, .. } => write_of_piece(text, b"act ", *piece),
+        DeviceLabel::Fault { piece } => write_of_piece(text, b"fault ", *piece),
         DeviceLabel::Return { piece, class } => {
-            out.write_all(b"return ")?;
-            write_piece(out, *piece)?;
-            out.write_all(b" ")?;
-            out.write_all(word_of(class).as_bytes())?;
-            out.write_all(b"\n")
+            text.extend_from_slice(b"return ")?;
+            write_piece(text, *piece)?;
+            text.extend_from_slice(b" ")?;
+            text.extend_from_slice(word_of(class).as_bytes())?;
+            text.extend_from_slice(b"\n")
         }
     }
 }
 
 /// Writes the bytes of a command block as hexadecimal digits.
 #[tactic(auto, using(crate::proofs::Hexadecimal::encoded))]
-fn write_hex<W: Write>(out: &mut W, block: &CommandBlock) -> io::Result<()>
-    ensures { OnOk result (Appends (W.contents out.old) (W.contents out.new) (hex_bytes block.now)) }
+fn write_hex(text: &mut Vec<u8>, block: &CommandBlock) -> Result<(), AllocError>
+    ensures { OnOk result (text.new.items ≡ text.old.items ++ hex_bytes block.now) }
 {
     let bytes = block.as_slice();
     let mut digits = [0; 32];
-    let text = &mut digits[..2 * bytes.len()];
-    let Ok(()) = encode_to_slice(bytes, text) else {
+    let spelled = &mut digits[..2 * bytes.len()];
+    let Ok(()) = encode_to_slice(bytes, spelled) else {
         unreachable!()
     };
-    out.write_all(text)
+    text.extend_from_slice(spelled)
 }
 
 /// Writes a byte as two hexadecimal digits.
-pub fn write_byte<W: Write>(out: &mut W, byte: u8) -> io::Result<()>
-    ensures { OnOk result (Appends (W.contents out.old) (W.contents out.new) (hex_of byte)) }
+pub fn write_byte(text: &mut Vec<u8>, byte: u8) -> Result<(), AllocError>
+    ensures { OnOk result (text.new.items ≡ text.old.items ++ hex_of byte) }
 {
-    out.write_all(&[DIGITS[byte as usize / 16], DIGITS[byte as usize % 16]])
+    text.extend_from_slice(&[DIGITS[byte as usize / 16], DIGITS[byte as usize % 16]])
 }
 
 fn word_of(class: &Class) -> &'static str
@@ -191,32 +197,32 @@ fn word_of(class: &Class) -> &'static str
 }
 
 /// Writes an answer; `information` is the number of bytes that were moved.
-fn write_answer<W: Write>(
-    out: &mut W,
+fn write_answer(
+    text: &mut Vec<u8>,
     number: u64,
     status: NtStatus,
     information: u64,
     bytes: &[u8],
-) -> io::Result<()>
-    ensures { OnOk result (Appends (W.contents out.old) (W.contents out.new) (answer_line number status information bytes.now)) }
+) -> Result<(), AllocError>
+    ensures { OnOk result (text.new.items ≡ text.old.items ++ answer_line number status information bytes.now) }
 {
-    out.write_all(b"answer ")?;
-    write_number(out, number)?;
-    out.write_all(b" ")?;
-    out.write_all(status.name().as_bytes())?;
-    out.write_all(b" ")?;
-    write_number(out, information)?;
-    write_bytes(out, bytes)
+    text.extend_from_slice(b"answer ")?;
+    write_number(text, number)?;
+    text.extend_from_slice(b" ")?;
+    text.extend_from_slice(status.name().as_bytes())?;
+    text.extend_from_slice(b" ")?;
+    write_number(text, information)?;
+    write_bytes(text, bytes)
 }
 
 /// Writes the bytes of a read, and ends the line.
-fn write_bytes<W: Write>(out: &mut W, bytes: &[u8]) -> io::Result<()>
-    ensures { OnOk result (Appends (W.contents out.old) (W.contents out.new) (bytes_text bytes.now)) }
+fn write_bytes(text: &mut Vec<u8>, bytes: &[u8]) -> Result<(), AllocError>
+    ensures { OnOk result (text.new.items ≡ text.old.items ++ bytes_text bytes.now) }
 {
     if bytes.is_empty() {
-        return out.write_all(b"\n");
+        return text.extend_from_slice(b"\n");
     }
-    out.write_all(b" ")?;
-    write_runs(out, bytes)?;
-    out.write_all(b"\n")
+    text.extend_from_slice(b" ")?;
+    write_runs(text, bytes)?;
+    text.extend_from_slice(b"\n")
 }

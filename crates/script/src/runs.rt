@@ -1,25 +1,13 @@
 //! Bytes in print: each run of equal bytes as `BYTE*COUNT`, the runs joined by commas.
 
 ghost use Rattle.std.specs.Prelude.{◌≡◌, ◌≢◌, ◌<◌, ◌≤◌, ◌++◌, All, IsTrue, OnOk, length, take, slice_index};
-ghost use Rattle.std.specs.Io.KnownBytes.{Appends};
 ghost use Rattle.script.specs.Printing.{comma, run_text, runs_of, runs_text};
 
 use crate::printing::{write_byte, write_number};
-use std::io;
-use std::io::Write;
+use std::alloc::AllocError;
 
 /// Bytes that are compared at once.
-const BLOCK: usize = 256;
-
-/// Whether all bytes equal the first one: whether they are the same without the first as without the last.
-fn is_one_run(bytes: &[u8]) -> bool
-    requires { 0 < length bytes.now }
-    ensures { IsTrue result → All (λ byte. byte ≡ slice_index bytes.now 0) bytes.now }
-{
-    let (_, behind) = bytes.split_at(1);
-    let (before, _) = bytes.split_at(bytes.len() - 1);
-    behind == before
-}
+const BLOCK: usize = 128;
 
 /// The number of bytes at the front that equal the first one.
 fn first_run(bytes: &[u8]) -> usize
@@ -29,9 +17,6 @@ fn first_run(bytes: &[u8]) -> usize
     ensures equal { All (λ byte. byte ≡ slice_index bytes.now 0) (take result bytes.now) }
     ensures longest { result < length bytes.now → slice_index bytes.now result ≢ slice_index bytes.now 0 }
 {
-    if is_one_run(bytes) {
-        return bytes.len();
-    }
     run_of(bytes, bytes[0])
 }
 
@@ -61,38 +46,49 @@ fn equal_bytes(bytes: &[u8], byte: u8) -> usize
     bytes.iter().position(|b| *b != byte).unwrap_or(bytes.len())
 }
 
-/// Whether all bytes are this one.
-fn is_all(bytes: &[u8], byte: u8) -> bool
-    requires { 0 < length bytes.now }
-    ensures { IsTrue result → All (λ b. b ≡ byte) bytes.now }
+/// Whether all bytes of a block are this one. Where the first is not, no other is looked at.
+fn is_all(block: &[u8], byte: u8) -> bool
+    requires { 0 < length block.now }
+    ensures { IsTrue result → All (λ b. b ≡ byte) block.now }
 {
-    bytes[0] == byte && is_one_run(bytes)
+    block[0] == byte && are_all(block, byte)
 }
 
-/// Writes bytes as runs.
-pub fn write_runs<W: Write>(out: &mut W, bytes: &[u8]) -> io::Result<()>
-    ensures { OnOk result (Appends (W.contents out.old) (W.contents out.new) (runs_text (runs_of bytes.now))) }
+/// Whether all bytes are this one. All are looked at, many at once.
+fn are_all(bytes: &[u8], byte: u8) -> bool
+    ensures { IsTrue result → All (λ b. b ≡ byte) bytes.now }
+{
+    let mut same = true;
+    for b in bytes {
+        same = same & (*b == byte);
+    }
+    same
+}
+
+/// Writes bytes as runs, each found in one pass.
+pub fn write_runs(text: &mut Vec<u8>, bytes: &[u8]) -> Result<(), AllocError>
+    ensures { OnOk result (text.new.items ≡ text.old.items ++ runs_text (runs_of bytes.now)) }
 {
     let mut rest = bytes;
     while !rest.is_empty() {
         let byte = rest[0];
         let count = first_run(rest);
         let (_, behind) = rest.split_at(count);
-        write_run(out, byte, count, behind.is_empty())?;
+        write_run(text, byte, count, behind.is_empty())?;
         rest = behind;
     }
     Ok(())
 }
 
 /// Writes a run, and a comma behind it unless it is the last.
-fn write_run<W: Write>(out: &mut W, byte: u8, count: usize, is_last: bool) -> io::Result<()>
-    ensures { OnOk result (Appends (W.contents out.old) (W.contents out.new) (run_text (byte, count) ++ comma is_last)) }
+fn write_run(text: &mut Vec<u8>, byte: u8, count: usize, is_last: bool) -> Result<(), AllocError>
+    ensures { OnOk result (text.new.items ≡ text.old.items ++ (run_text (byte, count) ++ comma is_last)) }
 {
-    write_byte(out, byte)?;
-    out.write_all(b"*")?;
-    write_number(out, count)?;
+    write_byte(text, byte)?;
+    text.extend_from_slice(b"*")?;
+    write_number(text, count)?;
     if is_last {
         return Ok(());
     }
-    out.write_all(b",")
+    text.extend_from_slice(b",")
 }

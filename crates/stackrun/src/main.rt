@@ -13,13 +13,9 @@ use commands::words::command;
 use commands::{Fault, input};
 use startup::{Verdict, ended, fault_of};
 use std::env;
-use std::io::BufWriter;
 use std::process::ExitCode;
 use std::sync::Wait;
 use std::thread::Threads;
-
-/// Bytes of output that are written at once.
-const BUFFER: usize = 65_536;
 
 /// Does what the command line asks for. Clients run in threads of `host`.
 fn run<H: Threads + Wait + Sync>(rt: &HostRuntime, host: &H) -> Result<Verdict, Fault> {
@@ -32,10 +28,7 @@ fn run<H: Threads + Wait + Sync>(rt: &HostRuntime, host: &H) -> Result<Verdict, 
         Command::Trace { config, script } => {
             let config = input::open(rt, config);
             let script = input::open(rt, script);
-            let Ok(mut out) = BufWriter::with_capacity(alloc, BUFFER, rt.stdout()) else {
-                return Err(Fault::NoMemory);
-            };
-            trace(alloc, config, script, &mut out)?;
+            trace(alloc, config, script, &mut rt.stdout())?;
             Ok(Verdict::Passed)
         }
         Command::Clients {

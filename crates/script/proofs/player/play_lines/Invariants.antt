@@ -1,6 +1,7 @@
 use Rattle.std.proofs.Common.{take}
+use Rattle.std.specs.Io.KnownBytes.{append_known}
 use Rattle.script.specs.Events.{AreNamed}
-use Rattle.script.specs.Filling.{IsFilled}
+use Rattle.script.specs.Filling.{AreFilled}
 use Rattle.script.specs.Trace.{IsAllTaken, IsTraceTo, Prints}
 use Rattle.script.proofs.player.play_lines.Given as goal
 
@@ -9,7 +10,7 @@ abbrev pub invariant-loop-line : goal.invariant-loop-line
 invariant-loop-line g l = record {
   taken : IsAllTaken l.stack;
   named : AreNamed l.given;
-  filled : IsFilled l.spare;
-  text : Prints (g.W.Write.contents l.initial.out) (g.W.Write.contents l.out)
-      (λ text. IsTraceTo l.initial.stack (take l.line-index l.lines) text (record { stack = l.stack; given = l.given }));
+  filled : AreFilled l.spare;
+  text : Prints (append_known (g.W.Write.contents l.initial.out) l.initial.text.items) (append_known (g.W.Write.contents l.out) l.text.items)
+      (λ told. IsTraceTo l.initial.stack (take l.line-index l.lines) told (record { stack = l.stack; given = l.given }));
 }

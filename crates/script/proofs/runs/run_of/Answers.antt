@@ -3,7 +3,7 @@ use Rattle.script.proofs.runs.run_of.Goals as goal
 
 pub loop-rest-preserved : goal.loop-rest-preserved
 loop-rest-preserved c =
-    block_skipped c.args.byte 256 c.args.bytes.now c.loop-rest.rest.now c.split_at.result.0.now c.split_at.result.1.now c.loop-rest.invariant c.split_at.ensures.front c.split_at.ensures.back
+    block_skipped c.args.byte 128 c.args.bytes.now c.loop-rest.rest.now c.split_at.result.0.now c.split_at.result.1.now c.loop-rest.invariant c.split_at.ensures.front c.split_at.ensures.back
     (c.is_all.ensures c.if-not-is_all.false)
 
 pub returns-clause-equal : goal.returns-clause-equal
