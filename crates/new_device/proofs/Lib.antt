@@ -1,0 +1,3 @@
+mod Finishing
+pub mod Out
+pub mod Returning

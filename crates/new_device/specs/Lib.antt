@@ -1,0 +1,4 @@
+pub mod Climbing
+pub mod Out
+pub mod Served
+pub mod View

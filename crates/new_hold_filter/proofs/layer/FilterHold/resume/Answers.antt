@@ -1,0 +1,31 @@
+use Rattle.std.proofs.Common.{ap, subst, sym, ◌∙◌}
+use Rattle.std.specs.Prelude.{All}
+use Rattle.machine.specs.Settled.{WaitsIfCancelled}
+use Rattle.new_hold_filter.specs.Shown.{FilterView}
+use Rattle.new_hold_filter.specs.inside.Books.{Books, books_of}
+use Rattle.new_hold_filter.specs.inside.View.{view_of}
+use Rattle.new_hold_filter.specs.inside.Kept.{FilterKept}
+use Rattle.new_hold_filter.specs.inside.Releases.{Releases}
+use Rattle.new_hold_filter.proofs.Turning.{kept_resumed, resumes}
+use Rattle.new_hold_filter.proofs.layer.FilterHold.resume.Goals as goal
+
+pub release-requires-clause-kept : goal.release-requires-clause-kept
+release-requires-clause-kept g c =
+    let paused = ap (λ (f : FilterView). f.shown.state.paused) c.self.view_is ∙ c.requires.paused in
+    let taken = subst (λ (f : FilterView). All WaitsIfCancelled f.shown.state.requests)
+    (sym c.self.view_is) c.requires.taken in
+    subst (λ (b : Books). FilterKept g.D.Shown.stack_size (g.D.Shown.view c.self.inside.parts.device) b)
+    (sym c.resume.ensures) (kept_resumed _ _ _ c.self.invariant.in_hand paused taken)
+
+pub returns : goal.returns
+returns g c =
+    let paused = ap (λ (f : FilterView). f.shown.state.paused) c.self.view_is ∙ c.requires.paused in
+    let released = subst
+    (λ (b : Books). Releases (view_of (g.D.Shown.view c.self.inside.parts.device) b)
+    (view_of (g.D.Shown.view c.release.new.self.device) (books_of c.release.new.self.table))) c.resume.ensures
+    c.release.ensures.releases in
+    rw (← c.self.view_is)
+    (record {
+      resumes = resumes _ _ _ c.self.invariant.in_hand paused (g.D.Shown.view c.release.new.self.device)
+          (books_of c.release.new.self.table) released;
+    })

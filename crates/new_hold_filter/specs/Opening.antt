@@ -1,0 +1,18 @@
+-- A filter to which nothing was submitted yet.
+use Rattle.std.specs.Prelude.{◌≡◌, ◌<◌, ℕ, ◌^◌, [], Some, None}
+use Rattle.machine.specs.State.{opening}
+use Rattle.machine.specs.Frame.{with_window}
+use Rattle.new_device.specs.View.{DeviceView, room_at}
+
+-- a device of which nothing was asked yet, with no spot reserved and no window of its own
+pub record IsFreshBelow (v : DeviceView) : Type 0 where
+  pub rooms : (spot : ℕ) → room_at v.rooms spot ≡ None
+  pub no_window : v.rules.window ≡ None
+  pub state : v.state ≡ opening v.state.arrays
+  pub packets : v.packets ≡ []
+  pub submitted : v.submitted ≡ 0
+  pub most : v.most < 2 ^ 128
+
+-- what the filter shows over it: the same machine, with the window
+abbrev pub opening_over : ℕ → DeviceView → DeviceView
+opening_over window v = record v { rules = with_window (Some window) v.rules }

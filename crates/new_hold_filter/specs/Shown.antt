@@ -1,0 +1,34 @@
+-- What a filter shows beside its device view, and how a packet is cancelled that it holds.
+use Rattle.std.specs.Prelude.{◌≡◌, ℕ, List, length, Contains, if◌then◌else◌}
+use Rattle.machine.specs.Holding.{Cancels}
+use Rattle.new_device.specs.View.{DeviceView}
+use Rattle.new_device.specs.Served.{IsBeside}
+
+-- a packet that is held: the spot of its room and its number
+pub record Queued : Type 0 where
+  pub spot : ℕ
+  pub number : ℕ
+
+pub record FilterView : Type 0 where
+  pub shown : DeviceView
+  -- the packets that are held, the one that was held longest first; once the device is removed they have ended
+  pub queue : List Queued
+  -- how often an entry of the queue was visited, and one of those that were cancelled while they were held
+  pub queue_visits : ℕ
+  pub ended_visits : ℕ
+
+-- how many packets are held: at a removal all that were have ended
+abbrev pub held_count : FilterView → ℕ
+held_count f = if f.shown.state.removing then 0 else length f.queue
+
+-- the packet with this spot and this number is held, and is cancelled
+pub record CancelsHeld (old : FilterView) (spot number : ℕ) (new : FilterView) : Type 0 where
+  pub held : Contains old.queue (record { spot = spot; number = number })
+  pub cancels : Cancels old.shown.state number new.shown.state
+  pub beside : IsBeside old.shown new.shown
+
+-- no packet is held that has both, and nothing changes
+pub record CancelsNone (old : FilterView) (spot number : ℕ) (new : FilterView) : Type 0 where
+  pub none : Contains old.queue (record { spot = spot; number = number }) → ⊥
+  pub same_queue : new.queue ≡ old.queue
+  pub same : new.shown ≡ old.shown

@@ -1,0 +1,4 @@
+pub mod Places
+pub mod Queue
+pub mod Chain
+pub mod Links

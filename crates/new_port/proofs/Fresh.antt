@@ -1,0 +1,93 @@
+-- A port of which nothing was asked yet.
+use Rattle.std.proofs.Common.{◌≡◌, ◌≤◌, ℕ, Bool, false, List, [], Option, eqb, refl, sym, subst, ap, ◌∙◌, arith, length, map}
+use Rattle.std.proofs.lemmas.List.Elements.{All-nil}
+use Rattle.srb.specs.declared.DeviceLabel.{DeviceLabel}
+use Rattle.adapter.specs.View.{AdapterView, TagInUse, IsInOrder}
+use Rattle.new_port.specs.declared.queues.Held.{Held}
+use Rattle.new_port.specs.declared.queues.Ended.{Ended}
+use Rattle.machine.specs.Rules.{Rules}
+use Rattle.sector.specs.Extents.{sectors_in}
+use Rattle.machine.proofs.Numbers.{AreDistinct-opening}
+use Rattle.new_port.specs.declared.queues.Sizes.{Sizes}
+use Rattle.new_port.specs.Books.{Books}
+use Rattle.new_port.specs.Turns.{IsEmpty}
+use Rattle.new_port.specs.Shown.{rules_of, view_of}
+use Rattle.new_port.specs.Kept.{IsInHand, IsRoom, IsWaiting, IsAtWork, HasEnded, IsTaken}
+use Rattle.std.specs.List.{IsDistinct}
+use Rattle.machine.specs.declared.Request.{Request}
+use Rattle.new_port.specs.Opening.{IsFresh, sizes_of, opening_view}
+use Rattle.new_port.proofs.Orderly.{in_hand}
+
+-- the books of empty queues over this adapter
+abbrev books_empty : Books → Sizes → Books
+books_empty b sizes = record b { sizes = sizes; waiting = []; done = []; last_request = 0; next_piece = 1; submitted = 0; removing = false; places = 0; rooms = [] }
+
+empty_is : (b : Books) (sizes : Sizes) → IsEmpty sizes b → b ≡ books_empty b sizes
+empty_is b sizes h =
+    ap (λ (x : Sizes). record b { sizes = x }) h.sizes_are
+    ∙ ap (λ (x : List Held). record b { sizes = sizes; waiting = x }) h.waiting
+    ∙ ap (λ (x : List Ended). record b { sizes = sizes; waiting = []; done = x }) h.done
+    ∙ ap (λ (x : ℕ). record b { sizes = sizes; waiting = []; done = []; last_request = x }) h.last_request
+    ∙ ap (λ (x : ℕ). record b { sizes = sizes; waiting = []; done = []; last_request = 0; next_piece = x }) h.next_piece
+    ∙ ap (λ (x : ℕ). record b { sizes = sizes; waiting = []; done = []; last_request = 0; next_piece = 1; submitted = x }) h.submitted
+    ∙ ap (λ (x : Bool). record b { sizes = sizes; waiting = []; done = []; last_request = 0; next_piece = 1; submitted = 0; removing = x }) h.removing
+    ∙ ap (λ (x : ℕ). record b { sizes = sizes; waiting = []; done = []; last_request = 0; next_piece = 1; submitted = 0; removing = false; places = x }) h.places
+    ∙ ap (λ (x : List (Option (Option Request))). record b { sizes = sizes; waiting = []; done = []; last_request = 0; next_piece = 1; submitted = 0; removing = false; places = 0; rooms = x }) h.rooms
+
+distinct_none : IsDistinct eqb []
+unfolding IsDistinct
+distinct_none = tt
+
+abbrev view_fresh : AdapterView → AdapterView
+view_fresh v = record v { tags = []; labels = [] }
+
+fresh_is : (v : AdapterView) → IsFresh v → v ≡ view_fresh v
+fresh_is v h = ap (λ (x : List TagInUse). record v { tags = x }) h.tags ∙ ap (λ (x : List DeviceLabel). record v { tags = []; labels = x }) h.labels
+
+abbrev pub sizes_by : ℕ → ℕ → ℕ → ℕ → Bool → Sizes
+sizes_by sector_size sectors max_transfer depth faithful = record { sector_size = sector_size; sectors = sectors; max_transfer = max_transfer; depth = depth; faithful = faithful }
+
+hand_empty : (b : Books) (v : AdapterView) → v.accepted ≤ 3 → length b.started ≡ v.depth → IsInOrder (view_fresh v) → IsInHand (books_empty b (sizes_of v)) (view_fresh v) []
+hand_empty b v few long order =
+    let rules : Rules = rules_of (sizes_of v) in
+    let depth = order.depth.1 in
+    in_hand (books_empty b (sizes_of v)) (view_fresh v) [] (record {
+      adapter = order;
+      sizes = record { sector_size = refl; sectors = refl; max_transfer = refl; depth = refl; faithful = refl };
+      started = long;
+      waiting = All-nil (IsWaiting rules (view_fresh v));
+      in_turn = tt;
+      at_work = All-nil (IsAtWork rules b.started);
+      ended = All-nil (HasEnded rules false);
+      reserved = All-nil (IsRoom rules (view_fresh v));
+      rooms_out = All-nil (IsRoom rules (view_fresh v));
+      spots = distinct_none;
+      taken = All-nil (IsTaken []);
+      removing = λ _. refl;
+      distinct = AreDistinct-opening (map (sectors_in v.sectors) rules.partitions);
+      places = refl;
+      submitted = omega arith;
+      accepted = omega arith;
+      numbered = omega arith;
+      labels = omega arith;
+    }) (λ _. refl)
+
+pub opens_in_hand : (b : Books) (v : AdapterView) (sizes : Sizes) → sizes ≡ sizes_of v → IsEmpty sizes b → IsFresh v → IsInOrder v → IsInHand b v []
+opens_in_hand b v sizes e h f order =
+    let h' : IsEmpty (sizes_of v) b = subst (λ (x : Sizes). IsEmpty x b) e h in
+    let v_is : v ≡ view_fresh v = fresh_is v f in
+    subst (λ x. IsInHand x v []) (sym (empty_is b (sizes_of v) h'))
+    (subst (λ x. IsInHand (books_empty b (sizes_of v)) x []) (sym v_is) (hand_empty b v f.accepted (h'.started) (subst IsInOrder v_is order)))
+
+pub opens_seen : (b : Books) (v : AdapterView) (sizes : Sizes) → sizes ≡ sizes_of v → IsEmpty sizes b → IsFresh v → view_of b v ≡ opening_view v
+opens_seen b v sizes e h f =
+    let h' : IsEmpty (sizes_of v) b = subst (λ (x : Sizes). IsEmpty x b) e h in
+    let v_is : v ≡ view_fresh v = fresh_is v f in
+    ap (λ (x : Books). view_of x v) (empty_is b (sizes_of v) h') ∙ ap (λ (x : AdapterView). view_of (books_empty b (sizes_of v)) x) v_is ∙ ap (λ (x : AdapterView). opening_view x) (sym v_is)
+
+pub sizes_are : (v : AdapterView) (sector_size sectors max_transfer depth : ℕ) (faithful : Bool) → sector_size ≡ v.sector_size → sectors ≡ length v.sectors → max_transfer ≡ v.max_transfer → depth ≡ v.depth
+    → faithful ≡ v.faithful → sizes_by sector_size sectors max_transfer depth faithful ≡ sizes_of v
+sizes_are v sector_size sectors max_transfer depth faithful a c d e f =
+    ap (λ (n : ℕ). sizes_by n sectors max_transfer depth faithful) a ∙ ap (λ (n : ℕ). sizes_by v.sector_size n max_transfer depth faithful) c
+    ∙ ap (λ (n : ℕ). sizes_by v.sector_size (length v.sectors) n depth faithful) d ∙ ap (λ (n : ℕ). sizes_by v.sector_size (length v.sectors) v.max_transfer n faithful) e
+    ∙ ap (λ (b : Bool). sizes_by v.sector_size (length v.sectors) v.max_transfer v.depth b) f

@@ -1,0 +1,249 @@
+-- A reset, and labels that are taken.
+use Rattle.std.proofs.Common.{◌≡◌, ◌≤◌, inl, ℕ, ◌+◌, ◌-◌, Bool, true, not, List, [], ◌∷◌, ◌++◌, Option, Some, None, refl, sym, subst, ap, arith, map, length}
+use Rattle.std.specs.Prelude.{All, IsNone, IsPermutation, MatchOption, filter}
+use Rattle.std.proofs.lemmas.List.{length-append, length-map, map-append}
+use Rattle.std.proofs.lemmas.List.Elements.{All-nil, All-cons, All-weaker, All-head, All-tail, All-map}
+use Rattle.std.specs.List.Sorted.{IsStrictlyIncreasing}
+use Rattle.std.proofs.lemmas.List.Sorted.{IsPermutation-refl, IsPermutation-sym, IsPermutation-trans, IsPermutation-cons, IsPermutation-map, IsPermutation-middle, IsPermutation-append_left, IsPermutation-append_right, IsPermutation-filter_both, All-permutation, length_permutation}
+use Rattle.srb.specs.declared.DeviceLabel.{DeviceLabel}
+use Rattle.srb.specs.Fate.{Fate, Fresh, Acted, Faulted, is_fresh}
+use Rattle.adapter.specs.View.{AdapterView, TagInUse, IsInOrder, MovesByAll, NotesReset}
+use Rattle.adapter.specs.Calls.{Resets as AdapterResets, HasNoLabel, LeavesFirst, after_reset, fate_after_reset, tag_of, is_fresh_use, fault_of as use_fault}
+use Rattle.machine.specs.declared.Request.{Request}
+use Rattle.machine.specs.Rules.{Rules}
+use Rattle.machine.specs.State.{Piece, State, IsSame}
+use Rattle.machine.specs.Sending.{with_fate}
+use Rattle.new_device.specs.View.{label_places}
+use Rattle.new_device.specs.Served.{Resets, piece_tag, is_fresh_piece, fault_of}
+use Rattle.machine.specs.Step.{Run, as_label}
+use Rattle.machine.proofs.Same.{IsSame-refl, Run-same}
+use Rattle.machine.proofs.Numbers.{AreDistinct-Run}
+use Rattle.new_port.specs.declared.queues.Held.{Held}
+use Rattle.new_port.specs.Books.{Entry, Books, spot_in}
+use Rattle.new_port.specs.Shown.{rules_of, waiting_open, done_open, open_on, piece_on, packet as packet_as, of_packets, of_waiting, of_tag, of_done, state_of, view_of}
+use Rattle.new_port.specs.Kept.{asked, IsInHand, IsRoom, IsWaiting, IsAtWork, IsDoing, IsTaken}
+use Rattle.new_port.proofs.Places.{distinct_same}
+use Rattle.new_port.proofs.Tags.{tags_fit}
+use Rattle.new_port.proofs.Starting.{room_moves, waiting_moves}
+use Rattle.new_port.proofs.Orderly.{in_hand, maps_are}
+
+-- THE MACHINE'S FAULTS
+
+abbrev IsFreshFate : Piece → Type 0
+IsFreshFate piece = piece.fate ≡ Fresh
+
+abbrev faulted_piece : Piece → Piece
+faulted_piece piece = with_fate Faulted piece
+
+abbrev with_pieces : State → List Piece → State
+with_pieces s pieces = record s { pieces = pieces }
+
+same_pieces : (s : State) (ps qs : List Piece) → IsPermutation ps qs → IsSame (with_pieces s ps) (with_pieces s qs)
+same_pieces s ps qs p = record {
+  arrays = refl;
+  next_request = refl;
+  next_piece = refl;
+  requests = IsPermutation-refl _;
+  pieces = p;
+  owed = refl;
+  paused = refl;
+  removing = refl;
+  removed = refl;
+}
+
+faults_run : (rules : Rules) (s : State) (fresh rest : List Piece) → All IsFreshFate fresh → IsNone s.owed → IsPermutation s.pieces (fresh ++ rest)
+    → Run rules s (map as_label (map fault_of fresh)) (with_pieces s (map faulted_piece fresh ++ rest))
+faults_run rules s [] rest all none p = same_pieces s s.pieces rest p
+faults_run rules s (f ∷ fs) rest all none p =
+    let mid : State = with_pieces s (faulted_piece f ∷ (fs ++ rest)) in
+    let more = faults_run rules mid fs (faulted_piece f ∷ rest) (All-tail IsFreshFate f fs all) none (IsPermutation-sym _ _ (IsPermutation-middle fs (faulted_piece f) rest)) in (
+      mid,
+      inl (
+        none,
+        record {
+          piece = f;
+          other_pieces = fs ++ rest;
+          fresh = record { is_out = p; is_number = refl; is_fresh = All-head IsFreshFate f fs all };
+          after = IsSame-refl _;
+        },
+      ),
+      Run-same rules _ mid mid _ _ (IsSame-refl _) (same_pieces s _ _ (IsPermutation-middle (map faulted_piece fs) (faulted_piece f) rest)) more,
+    )
+
+-- THE TAGS
+
+abbrev is_other : TagInUse → Bool
+is_other use' = not (is_fresh_use use')
+
+fresh_fates : (tags : List TagInUse) → All (λ u. u.fate ≡ Fresh) (filter is_fresh_use tags)
+fresh_fates [] = All-nil (λ u. u.fate ≡ Fresh)
+fresh_fates (u ∷ us) = by_fate (fresh_fates us) u.fate refl
+  where
+    by_fate : All (λ x. x.fate ≡ Fresh) (filter is_fresh_use us) → (fate : Fate) → u.fate ≡ fate → All (λ x. x.fate ≡ Fresh) (filter is_fresh_use (u ∷ us))
+    by_fate h Fresh is = let e : is_fresh u.fate ≡ true = ap is_fresh is in rw e (All-cons (λ x. x.fate ≡ Fresh) u (filter is_fresh_use us) is h)
+    by_fate h (Acted moved) is = rw is h
+    by_fate h Faulted is = rw is h
+
+filter_pieces : (rules : Rules) (started : List (Option Held)) (tags : List TagInUse) → map (piece_on rules started) (filter is_fresh_use tags) ≡ filter is_fresh_piece (map (piece_on rules started) tags)
+filter_pieces rules started [] = refl
+filter_pieces rules started (u ∷ us) = by_fate (filter_pieces rules started us) u.fate refl
+  where
+    by_fate : map (piece_on rules started) (filter is_fresh_use us) ≡ filter is_fresh_piece (map (piece_on rules started) us) → (fate : Fate) → u.fate ≡ fate → map (piece_on rules started) (filter is_fresh_use (u ∷ us)) ≡ filter is_fresh_piece (map (piece_on rules started) (u ∷ us))
+    by_fate h Fresh is =
+        let e : is_fresh u.fate ≡ true = ap is_fresh is in
+        rw e (ap (λ ps. piece_on rules started u ∷ ps) h)
+    by_fate h (Acted moved) is = rw is h
+    by_fate h Faulted is = rw is h
+
+-- what had done nothing has faulted, and all else is as it was
+reset_pieces : (rules : Rules) (started : List (Option Held)) (tags : List TagInUse)
+    → IsPermutation (map (piece_on rules started) (map after_reset tags)) (map faulted_piece (map (piece_on rules started) (filter is_fresh_use tags)) ++ map (piece_on rules started) (filter is_other tags))
+reset_pieces rules started [] = IsPermutation-refl _
+reset_pieces rules started (u ∷ us) = by_fate (reset_pieces rules started us) u.fate refl
+  where
+    by_fate : IsPermutation (map (piece_on rules started) (map after_reset us)) (map faulted_piece (map (piece_on rules started) (filter is_fresh_use us)) ++ map (piece_on rules started) (filter is_other us))
+        → (fate : Fate) → u.fate ≡ fate
+        → IsPermutation (map (piece_on rules started) (map after_reset (u ∷ us))) (map faulted_piece (map (piece_on rules started) (filter is_fresh_use (u ∷ us))) ++ map (piece_on rules started) (filter is_other (u ∷ us)))
+    by_fate h Fresh is = rw is (IsPermutation-cons _ _ _ h)
+    by_fate h (Acted moved) is = rw is (IsPermutation-trans _ _ _ (IsPermutation-cons _ _ _ h) (IsPermutation-sym _ _ (IsPermutation-middle (map faulted_piece (map (piece_on rules started) (filter is_fresh_use us))) _ (map (piece_on rules started) (filter is_other us)))))
+    by_fate h Faulted is = rw is (IsPermutation-trans _ _ _ (IsPermutation-cons _ _ _ h) (IsPermutation-sym _ _ (IsPermutation-middle (map faulted_piece (map (piece_on rules started) (filter is_fresh_use us))) _ (map (piece_on rules started) (filter is_other us)))))
+
+work_reset : (rules : Rules) (started : List (Option Held)) (u : TagInUse) → IsAtWork rules started u → IsAtWork rules started (after_reset u)
+work_reset rules started u w = record { held = w.held; on_tag = w.on_tag; bounded = w.bounded; doing = by_fate u.fate w.doing; empty = w.empty }
+  where
+    by_fate : (fate : Fate) → IsDoing rules w.held.request fate u.srb → IsDoing rules w.held.request (fate_after_reset fate) u.srb
+    by_fate Fresh h = tt
+    by_fate (Acted moved) h = h
+    by_fate Faulted h = tt
+
+-- THE RESET
+
+abbrev view_reset : AdapterView → List TagInUse → ℕ → List DeviceLabel → AdapterView
+view_reset v tags failures labels = record v { tags = tags; failures = failures; labels = v.labels ++ labels }
+
+packets_reset : {Y : Type 0} (f : Entry → Y) (b : Books) (v : AdapterView) (tags' : List TagInUse) (failures : ℕ) (labels : List DeviceLabel) → IsPermutation tags' (map after_reset v.tags)
+    → IsPermutation (of_packets f b (view_reset v tags' failures labels)) (of_packets f b v)
+packets_reset f b v tags' failures labels p =
+    let e : map (of_tag f b.started) (map after_reset v.tags) ≡ map (of_tag f b.started) v.tags = maps_are after_reset (of_tag f b.started) (of_tag f b.started) (λ u. refl) v.tags in
+    IsPermutation-append_right (map (of_waiting f) b.waiting) _ _ (IsPermutation-append_left (map (of_done f) b.done) _ _ (subst (λ xs. IsPermutation (map (of_tag f b.started) tags') xs) e (IsPermutation-map (of_tag f b.started) _ _ p)))
+
+reset_run : (b : Books) (v : AdapterView) (tags' fresh : List TagInUse) (failures : ℕ) (labels : List DeviceLabel) → IsPermutation tags' (map after_reset v.tags) → IsPermutation (filter is_fresh_use v.tags) fresh
+    → Run (rules_of b.sizes) (state_of b v) (map as_label (map fault_of (map (piece_on (rules_of b.sizes) b.started) fresh))) (state_of b (view_reset v tags' failures labels))
+reset_run b v tags' fresh failures labels p f =
+    let rules : Rules = rules_of b.sizes in
+    let on : TagInUse → Piece = piece_on rules b.started in
+    let split : IsPermutation (map on v.tags) (map on fresh ++ map on (filter is_other v.tags)) =
+    IsPermutation-trans _ _ _ (subst (λ ps. IsPermutation (map on v.tags) ps) (map-append on (filter is_fresh_use v.tags) (filter is_other v.tags)) (IsPermutation-map on _ _ (IsPermutation-filter_both is_fresh_use is_other (λ u. refl) v.tags)))
+    (IsPermutation-append_left (map on (filter is_other v.tags)) _ _ (IsPermutation-map on _ _ f)) in
+    let all : All IsFreshFate (map on fresh) = All-map IsFreshFate on fresh (All-permutation (λ u. u.fate ≡ Fresh) _ _ f (fresh_fates v.tags)) in
+    let run = faults_run rules (state_of b v) (map on fresh) (map on (filter is_other v.tags)) all refl split in
+    let pieces : IsPermutation (map faulted_piece (map on fresh) ++ map on (filter is_other v.tags)) (map on tags') =
+    IsPermutation-sym _ _ (IsPermutation-trans _ _ _ (IsPermutation-map on _ _ p) (IsPermutation-trans _ _ _ (reset_pieces rules b.started v.tags)
+    (IsPermutation-append_left (map on (filter is_other v.tags)) _ _ (IsPermutation-map faulted_piece _ _ (IsPermutation-map on _ _ f))))) in
+    let e : map (open_on rules b.started) (map after_reset v.tags) ≡ map (open_on rules b.started) v.tags = maps_are after_reset (open_on rules b.started) (open_on rules b.started) (λ u. refl) v.tags in
+    let opens : IsPermutation (map (open_on rules b.started) tags') (map (open_on rules b.started) v.tags) = subst (λ xs. IsPermutation (map (open_on rules b.started) tags') xs) e (IsPermutation-map (open_on rules b.started) _ _ p) in
+    Run-same rules _ (state_of b v) (state_of b v) _ _ (IsSame-refl _) (record {
+      arrays = refl;
+      next_request = refl;
+      next_piece = refl;
+      requests = IsPermutation-append_right (map (waiting_open rules) b.waiting) _ _ (IsPermutation-append_left (map (done_open rules) b.done) _ _ (IsPermutation-sym _ _ opens));
+      pieces = pieces;
+      owed = refl;
+      paused = refl;
+      removing = refl;
+      removed = refl;
+    }) run
+
+hand_reset : (b : Books) (v : AdapterView) (tags' fresh : List TagInUse) (failures : ℕ) (rooms : List Request) → IsInHand b v rooms → IsPermutation tags' (map after_reset v.tags) → IsPermutation (filter is_fresh_use v.tags) fresh
+    → length v.labels + (v.depth - length v.tags) + v.depth ≤ 64 → IsInOrder (view_reset v tags' failures (map use_fault fresh)) → IsInHand b (view_reset v tags' failures (map use_fault fresh)) rooms
+hand_reset b v tags' fresh failures rooms i p f space order =
+    let k = i.kept in
+    let rules : Rules = rules_of b.sizes in
+    let v' : AdapterView = view_reset v tags' failures (map use_fault fresh) in
+    let t = length_permutation _ _ p in
+    let m = length-map v.tags after_reset in
+    let n = length_permutation _ _ f in
+    let parts = length_permutation _ _ (IsPermutation-filter_both is_fresh_use is_other (λ u. refl) v.tags) in
+    let sum = length-append (filter is_fresh_use v.tags) (filter is_other v.tags) in
+    let fits = tags_fit v k.adapter in
+    in_hand b v' rooms (record {
+      adapter = order;
+      sizes = record { sector_size = k.sizes.sector_size; sectors = k.sizes.sectors; max_transfer = k.sizes.max_transfer; depth = k.sizes.depth; faithful = k.sizes.faithful };
+      started = k.started;
+      waiting = All-weaker (IsWaiting rules v) (IsWaiting rules v') (waiting_moves rules v v' (λ extent r. r)) b.waiting k.waiting;
+      in_turn = k.in_turn;
+      at_work = All-permutation (IsAtWork rules b.started) _ _ (IsPermutation-sym _ _ p) (All-map (IsAtWork rules b.started) after_reset v.tags (All-weaker (IsAtWork rules b.started) (λ u. IsAtWork rules b.started (after_reset u)) (work_reset rules b.started) v.tags k.at_work));
+      ended = k.ended;
+      reserved = All-permutation (IsRoom rules v') _ _ (IsPermutation-sym _ _ (packets_reset asked b v tags' failures (map use_fault fresh) p)) (All-weaker (IsRoom rules v) (IsRoom rules v') (room_moves rules v v' (λ extent r. r)) (of_packets asked b v) k.reserved);
+      spots = distinct_same _ _ (IsPermutation-sym _ _ (packets_reset spot_in b v tags' failures (map use_fault fresh) p)) k.spots;
+      taken = All-permutation (IsTaken b.rooms) _ _ (IsPermutation-sym _ _ (packets_reset spot_in b v tags' failures (map use_fault fresh) p)) k.taken;
+      rooms_out = All-weaker (IsRoom rules v) (IsRoom rules v') (room_moves rules v v' (λ extent r. r)) rooms k.rooms_out;
+      removing = k.removing;
+      distinct = AreDistinct-Run rules (state_of b v) _ _ k.distinct (reset_run b v tags' fresh failures (map use_fault fresh) p f);
+      places = let c = k.places in omega arith;
+      submitted = k.submitted;
+      accepted = k.accepted;
+      numbered = k.numbered;
+      labels = omega (arith, length-append v.labels (map use_fault fresh), length-map fresh use_fault);
+    }) (λ free. i.busy (omega arith))
+
+pub record IsReset (b : Books) (v v' : AdapterView) : Type 0 where
+  pub rooms : (rooms : List Request) → IsInHand b v rooms → IsInHand b v' rooms
+  pub resets : Resets (view_of b v) (view_of b v')
+
+pub reset_all : (b : Books) (v v' : AdapterView) (rooms : List Request) → IsInHand b v rooms → label_places (view_of b v) + (rules_of b.sizes).depth ≤ 64 → AdapterResets v v' → IsInOrder v' → IsReset b v v'
+reset_all b v v' rooms k space h order =
+    let rules : Rules = rules_of b.sizes in
+    let l = length-map v.tags (piece_on rules b.started) in
+    let d = k.kept.sizes.depth in
+    let room : length v.labels + (v.depth - length v.tags) + v.depth ≤ 64 = omega arith in
+    let faults : map fault_of (map (piece_on rules b.started) h.fresh) ≡ map use_fault h.fresh = maps_are (piece_on rules b.started) fault_of use_fault (λ u. refl) h.fresh in
+    subst (λ x. IsReset b v x) (sym h.after) (record {
+      rooms = λ rs i. hand_reset b v h.tags h.fresh h.failures rs i h.in_use h.are_fresh room (subst IsInOrder h.after order);
+      resets = record {
+        fresh = map (piece_on rules b.started) h.fresh;
+        all_faulted = h.all_faulted;
+        all_fresh = subst (λ ps. IsPermutation (map (piece_on rules b.started) h.fresh) ps) (filter_pieces rules b.started v.tags) (IsPermutation-map (piece_on rules b.started) _ _ (IsPermutation-sym _ _ h.are_fresh));
+        rising = subst IsStrictlyIncreasing (sym (maps_are (piece_on rules b.started) piece_tag tag_of (λ u. refl) h.fresh)) h.rising;
+        moves = record {
+          same_rules = refl;
+          same_packets = packets_reset packet_as b v h.tags h.failures (map use_fault h.fresh) h.in_use;
+          same_rooms = λ _. refl;
+          same_submitted = refl;
+          same_most = refl;
+          run = reset_run b v h.tags h.fresh h.failures (map use_fault h.fresh) h.in_use h.are_fresh;
+          adapter = subst (λ ls. MovesByAll v ls h.all_faulted) (sym faults) h.moves;
+        };
+        noted = subst (λ x. NotesReset h.all_faulted x) h.after h.noted;
+      };
+    })
+
+-- LABELS
+
+pub hand_labels : (b : Books) (v v' : AdapterView) (rooms : List Request) (result : Option DeviceLabel) → MatchOption result (HasNoLabel v v') (λ label. LeavesFirst v label v') → IsInOrder v' → IsInHand b v rooms → IsInHand b v' rooms
+hand_labels b v v' rooms None h order i = subst (λ x. IsInHand b x rooms) (sym h.same) i
+hand_labels b v v' rooms (Some label) h order i =
+    let k = i.kept in
+    let rules : Rules = rules_of b.sizes in
+    let x : AdapterView = record v { labels = h.rest } in
+    let l = ap (λ (ls : List DeviceLabel). length ls) h.first in
+    subst (λ y. IsInHand b y rooms) (sym h.after) (in_hand b x rooms (record {
+      adapter = subst IsInOrder h.after order;
+      sizes = record { sector_size = k.sizes.sector_size; sectors = k.sizes.sectors; max_transfer = k.sizes.max_transfer; depth = k.sizes.depth; faithful = k.sizes.faithful };
+      started = k.started;
+      waiting = All-weaker (IsWaiting rules v) (IsWaiting rules x) (waiting_moves rules v x (λ extent r. r)) b.waiting k.waiting;
+      in_turn = k.in_turn;
+      at_work = k.at_work;
+      ended = k.ended;
+      reserved = All-weaker (IsRoom rules v) (IsRoom rules x) (room_moves rules v x (λ extent r. r)) (of_packets asked b v) k.reserved;
+      spots = k.spots;
+      taken = k.taken;
+      rooms_out = All-weaker (IsRoom rules v) (IsRoom rules x) (room_moves rules v x (λ extent r. r)) rooms k.rooms_out;
+      removing = k.removing;
+      distinct = k.distinct;
+      places = k.places;
+      submitted = k.submitted;
+      accepted = k.accepted;
+      numbered = k.numbered;
+      labels = let c = k.labels in omega arith;
+    }) i.busy)

@@ -1,0 +1,82 @@
+-- Packets that are cancelled, or that wait at a removal: the queues.
+use Rattle.std.proofs.Common.{◌≡◌, ◌<◌, ℕ, suc, ◌+◌, Bool, true, false, List, [], ◌∷◌, ◌++◌, Some, None, refl, sym, ap, ◌∙◌, arith, map, length, get_or, take, drop}
+use Rattle.std.specs.Prelude.{All, position, remove}
+use Rattle.std.specs.List.{position_from}
+use Rattle.std.proofs.lemmas.List.{append-nil, nil_from_length, take-append-drop, drop_more}
+use Rattle.std.proofs.lemmas.List.Elements.{All-nil, All-cons}
+use Rattle.std.proofs.lemmas.List.Quantifiers.{position-Some}
+use Rattle.std.proofs.lemmas.Iterator.Adapters.{position_from-zero}
+use Rattle.new_port.specs.declared.queues.Held.{Held}
+use Rattle.new_port.specs.declared.queues.Ended.{Ended}
+use Rattle.new_port.specs.declared.queues.Outcome.TheVariants.{Withdrawn}
+use Rattle.new_port.specs.Books.{Books, entry_of, ended_entry}
+use Rattle.new_port.specs.Turns.{gone, drained, cancelled, can_cancel_held, can_cancel_ended, Withdraws, CancelsEnded, CancelsNoEnded}
+
+pub drained_by : (b x : Books) (before after : List Held) → b.waiting ≡ before ++ x.waiting → x.done ≡ b.done ++ map gone before → x ≡ record b { waiting = x.waiting; done = x.done }
+    → length x.waiting ≡ 0 → length after ≡ 0 → record x { waiting = after; removing = true } ≡ drained b
+drained_by b x before after waited went others none none' =
+    let w : x.waiting ≡ [] = nil_from_length x.waiting none in
+    let w' : after ≡ [] = nil_from_length after none' in
+    let all : before ≡ b.waiting = sym (waited ∙ ap (λ (hs : List Held). before ++ hs) w ∙ append-nil before) in
+    ap (λ (hs : List Held). record x { waiting = hs; removing = true }) w'
+    ∙ ap (λ (y : Books). record y { waiting = []; removing = true }) others
+    ∙ ap (λ (ds : List Ended). record b { waiting = []; done = ds; removing = true }) (went ∙ ap (λ (hs : List Held). b.done ++ map gone hs) all)
+
+-- SEARCHES
+
+none_from : {X : Type 0} (test : X → Bool) (i : ℕ) (xs : List X) → position_from test i xs ≡ None → All (λ x. test x ≡ false) xs
+none_from test i [] h = All-nil (λ x. test x ≡ false)
+none_from {X} test i (x ∷ xs) h = by_test (test x) refl (none_from test (i + 1) xs)
+  where
+    by_test : (b : Bool) → test x ≡ b → (position_from test (i + 1) xs ≡ None → All (λ x. test x ≡ false) xs) → All (λ x. test x ≡ false) (x ∷ xs)
+    by_test true is rest = let e : Some i ≡ None = rw is at h in absurd (cc (e))
+    by_test false is rest = All-cons (λ x. test x ≡ false) x xs is (rest (rw is at h))
+
+none_found : {X : Type 0} (test : X → Bool) (xs : List X) → position test xs ≡ None → All (λ x. test x ≡ false) xs
+none_found test xs h = none_from test 0 xs (sym (position_from-zero test xs) ∙ h)
+
+-- a list at one of its places
+pub split_at : {X : Type 0} (xs : List X) (i : ℕ) (x : X) → i < length xs → x ≡ get_or xs i x → xs ≡ take i xs ++ x ∷ drop (suc i) xs
+split_at {X} xs i x low is =
+    let e : drop i xs ≡ get_or xs i x ∷ drop (i + 1) xs = drop_more xs i x low in
+    let n : i + 1 ≡ suc i = omega arith in
+    sym (take-append-drop i xs) ∙ ap (λ (ys : List X). take i xs ++ ys) (e ∙ ap (λ (y : X). y ∷ drop (i + 1) xs) (sym is) ∙ ap (λ (k : ℕ). x ∷ drop k xs) n)
+
+pub withdraws : (b b' : Books) (number index : ℕ) (held : Held) (withdrawn : Ended) (waiting' : List Held) (done' : List Ended) → Some index ≡ position (can_cancel_held number) b.waiting → held ≡ get_or b.waiting index held
+    → waiting' ≡ remove b.waiting index → ended_entry withdrawn ≡ cancelled (entry_of held) → withdrawn.irp.value.payload ≡ held.irp.value.payload → withdrawn.outcome ≡ Withdrawn → done' ≡ b.done ++ withdrawn ∷ []
+    → b' ≡ record b { waiting = waiting'; done = done' } → Withdraws b number b'
+withdraws b b' number index held withdrawn waiting' done' found is left entry carries ends more after =
+    let at = position-Some (can_cancel_held number) b.waiting index held (sym found) in
+    record {
+      before = take index b.waiting;
+      held = held;
+      behind = drop (suc index) b.waiting;
+      withdrawn = withdrawn;
+      waits = split_at b.waiting index held at.0 is;
+      can = ap (can_cancel_held number) is ∙ at.1;
+      same_entry = entry;
+      carries = carries;
+      ends = ends;
+      after = after ∙ ap (λ (hs : List Held). record b { waiting = hs; done = done' }) left ∙ ap (λ (ds : List Ended). record b { waiting = remove b.waiting index; done = ds }) more;
+    }
+
+pub cancels_ended : (b b' : Books) (number index : ℕ) (ended marked : Ended) (done' done'' : List Ended) → Some index ≡ position (can_cancel_ended number) b.done → ended ≡ get_or b.done index ended
+    → done' ≡ remove b.done index → ended_entry marked ≡ cancelled (ended_entry ended) → marked.irp.value.payload ≡ ended.irp.value.payload → marked.outcome ≡ ended.outcome → done'' ≡ done' ++ marked ∷ []
+    → b' ≡ record b { done = done'' } → CancelsEnded b number b'
+cancels_ended b b' number index ended marked done' done'' found is left entry carries ends more after =
+    let at = position-Some (can_cancel_ended number) b.done index ended (sym found) in
+    record {
+      before = take index b.done;
+      ended = ended;
+      behind = drop (suc index) b.done;
+      marked = marked;
+      is_done = split_at b.done index ended at.0 is;
+      can = ap (can_cancel_ended number) is ∙ at.1;
+      same_entry = entry;
+      carries = carries;
+      ends = ends;
+      after = after ∙ ap (λ (ds : List Ended). record b { done = ds }) (more ∙ ap (λ (ds : List Ended). ds ++ marked ∷ []) left);
+    }
+
+pub cancels_no_ended : (b : Books) (number : ℕ) → None ≡ position (can_cancel_ended number) b.done → CancelsNoEnded b number b
+cancels_no_ended b number h = record { none = none_found (can_cancel_ended number) b.done (sym h); same = refl }

@@ -1,0 +1,44 @@
+use Rattle.std.proofs.Common.{rules, ◌≡◌, ◌≤◌, ◌+◌, ◌∙◌, length, sym, subst, arith, Err}
+use Rattle.new_port.specs.Books.{Books, books_of}
+use Rattle.new_port.specs.Shown.{reserved_of}
+use Rattle.new_device.specs.View.{DeviceView, IsBounded}
+use Rattle.new_port.proofs.Rooms.{hand_after}
+use Rattle.new_port.proofs.Sound.{sound_on, sound_made, reserves_none_shown, reserves_spot_shown}
+use Rattle.new_port.proofs.Seeing.{shown_is}
+use Rattle.new_port.proofs.layer.PortDevice.reserve.Goals as goal
+
+pub add_place-requires : goal.add_place-requires
+add_place-requires g c =
+    let k = c.self.invariant.kept.places in
+    subst (λ (b : Books). length b.waiting + length b.done ≤ b.places) (sym c.reserve_extent.ensures.queues) (omega arith)
+
+pub returns-in_err-reserve_extent-clause-refused : goal.returns-in_err-reserve_extent-clause-refused
+returns-in_err-reserve_extent-clause-refused g c =
+    let given : c.from_residual.result ≡ Err c.in_err-reserve_extent.field-0.0 = search rules in
+    rw given (rw (← shown_is c.self.view_is) (reserves_none_shown _ _ _ _ c.reserve_extent.ensures.queues c.reserve_extent.ensures.reserves))
+
+pub invariant_of-self : goal.invariant_of-self
+invariant_of-self g c =
+    sound_on (books_of c.self.inside.parts.queues) (books_of c.reserve_extent.new.self.queues) (g.A.Adapter.view c.self.inside.parts.adapter) (g.A.Adapter.view c.reserve_extent.new.self.adapter)
+    (reserves_none_shown _ _ _ _ c.reserve_extent.ensures.queues c.reserve_extent.ensures.reserves).room
+    (hand_after _ _ _ _ (reserved_of (books_of c.self.inside.parts.queues).rooms) c.reserve_extent.ensures.queues c.reserve_extent.ensures.reserves c.reserve_extent.ensures.order c.self.invariant)
+
+pub invariant_of-self-in_err-spot : goal.invariant_of-self-in_err-spot
+invariant_of-self-in_err-spot g c =
+    sound_on (books_of c.self.inside.parts.queues) (books_of c.add_place.new.self) (g.A.Adapter.view c.self.inside.parts.adapter) (g.A.Adapter.view c.reserve_extent.new.self.adapter)
+    (reserves_none_shown _ _ _ _ (c.in_err-spot.ensures.refused ∙ c.reserve_extent.ensures.queues) c.reserve_extent.ensures.reserves).room
+    (hand_after _ _ _ _ (reserved_of (books_of c.self.inside.parts.queues).rooms) (c.in_err-spot.ensures.refused ∙ c.reserve_extent.ensures.queues) c.reserve_extent.ensures.reserves c.reserve_extent.ensures.order c.self.invariant)
+
+pub returns-in_err-spot-clause-refused : goal.returns-in_err-spot-clause-refused
+returns-in_err-spot-clause-refused g c =
+    let given : c.from_residual-in_err-spot.result ≡ Err c.in_err-spot.field-0.0 = search rules in
+    rw given (rw (← shown_is c.self.view_is) (reserves_none_shown _ _ _ _ (c.in_err-spot.ensures.refused ∙ c.reserve_extent.ensures.queues) c.reserve_extent.ensures.reserves))
+
+pub invariant_of-self-2 : goal.invariant_of-self-2
+invariant_of-self-2 g c =
+    sound_made (books_of c.self.inside.parts.queues) (books_of c.reserve_extent.new.self.queues) (books_of c.add_place.new.self) _ _ _ _ c.reserve_extent.ensures.queues c.in_ok-spot.ensures.added
+    c.reserve_extent.ensures.reserves c.reserve_extent.ensures.order (subst (λ (x : DeviceView). IsBounded x.rules c.args.request.now) (sym (shown_is c.self.view_is)) c.requires.bounded) c.in_ok-reserve_extent.ensures.reserved c.self.invariant
+
+pub returns-clause-reserved : goal.returns-clause-reserved
+returns-clause-reserved g c =
+    rw (← shown_is c.self.view_is) (reserves_spot_shown (books_of c.self.inside.parts.queues) (books_of c.reserve_extent.new.self.queues) (books_of c.add_place.new.self) _ _ _ _ c.reserve_extent.ensures.queues c.in_ok-spot.ensures.added c.reserve_extent.ensures.reserves)

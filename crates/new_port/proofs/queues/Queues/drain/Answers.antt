@@ -1,0 +1,43 @@
+use Rattle.std.proofs.Common.{◌++◌, [], ◌∷◌, List, ap, sym, refl, ◌∙◌, arith, length, map, length-append, append_assoc}
+use Rattle.std.proofs.lemmas.List.{append-nil, map-append}
+use Rattle.new_port.specs.declared.queues.Held.{Held}
+use Rattle.new_port.specs.declared.queues.Ended.{Ended}
+use Rattle.new_port.specs.Books.{Books, books_of, held_at}
+use Rattle.new_port.specs.Turns.{gone}
+use Rattle.new_port.proofs.Searching.{drained_by}
+use Rattle.new_port.proofs.Queued.{popped}
+use Rattle.new_port.proofs.queues.Queues.drain.Goals as goal
+
+pub loop-spot-init : goal.loop-spot-init
+loop-spot-init c = record { before = []; waited = refl; went = sym (append-nil _); others = refl; few = c.requires }
+
+pub push_back_reserved-requires : goal.push_back_reserved-requires
+push_back_reserved-requires c =
+    let l = ap (λ (hs : List Held). length hs) (popped _ _ _ _ c.in-Some.ensures) in
+    let few = c.loop-spot.invariant.few in
+    omega (arith, c.loop-spot.self.done.ok, c.loop-spot.self.done_places)
+
+pub loop-spot-smaller : goal.loop-spot-smaller
+loop-spot-smaller c = let l = ap (λ (hs : List Held). length hs) (popped _ _ _ _ c.in-Some.ensures) in omega arith
+
+pub loop-spot-preserved : goal.loop-spot-preserved
+loop-spot-preserved c =
+    let h = held_at (c.in-Some.spot, c.in-Some.waiting) in
+    let i = c.loop-spot.invariant in
+    let p = popped _ _ _ _ c.in-Some.ensures in
+    let l = ap (λ (hs : List Held). length hs) p in
+    let m = ap (λ (ds : List Ended). length ds) c.push_back_reserved.ensures.items in
+    record {
+      before = i.before ++ h ∷ [];
+      waited = i.waited ∙ ap (λ (hs : List Held). i.before ++ hs) p ∙ sym (append_assoc i.before (h ∷ []) _);
+      went = c.push_back_reserved.ensures.items ∙ ap (λ (ds : List Ended). ds ++ gone h ∷ []) i.went ∙ append_assoc _ (map gone i.before) (gone h ∷ []) ∙ ap (λ (ds : List Ended). c.args.self.now.done.items ++ ds) (sym (map-append gone i.before (h ∷ [])));
+      others = ap (λ (x : Books). record x { waiting = map held_at c.pop_front.new.self.entries; done = c.push_back_reserved.new.self.items }) i.others;
+      few = omega (arith, i.few, length-append c.loop-spot.self.done.items (gone h ∷ []));
+    }
+
+pub returns : goal.returns
+returns c =
+    let none = ap (λ es. length (map held_at es)) c.in_default.ensures.empty in
+    let same = ap (λ q. length (map held_at q.entries)) c.in_default.ensures.same in
+    drained_by (books_of c.args.self.now) (books_of c.loop-spot.self) c.loop-spot.invariant.before (map held_at c.pop_front.new.self.entries) c.loop-spot.invariant.waited c.loop-spot.invariant.went c.loop-spot.invariant.others
+    none (same ∙ none)

@@ -1,0 +1,17 @@
+use Rattle.std.proofs.Common.{◌≡◌, ◌≤◌, ◌+◌, List, ◌++◌, map, length}
+use Rattle.new_port.specs.declared.queues.Held.{Held}
+use Rattle.new_port.specs.Books.{books_of}
+use Rattle.new_port.specs.Turns.{gone}
+use Rattle.new_port.proofs.queues.Queues.drain.Given as goal
+
+abbrev pub invariant-loop-spot : goal.invariant-loop-spot
+invariant-loop-spot l = record {
+  before : List Held;
+  waited : (books_of l.initial.self).waiting ≡ before ++ (books_of l.self).waiting;
+  went : l.self.done.items ≡ l.initial.self.done.items ++ map gone before;
+  others : books_of l.self ≡ record (books_of l.initial.self) { waiting = (books_of l.self).waiting; done = l.self.done.items };
+  few : length (books_of l.self).waiting + length l.self.done.items ≤ l.self.places;
+}
+
+abbrev pub decreases-loop-spot : goal.decreases-loop-spot
+decreases-loop-spot l = length (books_of l.self).waiting

@@ -1,0 +1,10 @@
+use Rattle.std.proofs.Common.{refl, ap}
+use Rattle.new_port.specs.Books.{books_of}
+use Rattle.new_port.proofs.Queued.{found_none, found}
+use Rattle.new_port.proofs.queues.Queues.withdraw.Goals as goal
+
+pub returns-in_default : goal.returns-in_default
+returns-in_default c = found_none (books_of c.args.self.now) _ c.args.self.now.waiting c.find.new.self c.args.number refl c.in_default.ensures.none (ap (λ q. q.entries) c.in_default.ensures.after) refl
+
+pub returns : goal.returns
+returns c = found (books_of c.args.self.now) _ c.args.self.now.waiting c.find.new.self c.args.number c.in-Some.spot c.withdraw_at.result refl c.in-Some.ensures c.withdraw_at.ensures.withdraws

@@ -1,0 +1,10 @@
+use Rattle.std.proofs.Common.{refl}
+use Rattle.new_port.specs.Books.{books_of}
+use Rattle.new_port.proofs.Queued.{withdrawn_none, withdrawn}
+use Rattle.new_port.proofs.queues.Queues.withdraw_at.Goals as goal
+
+pub returns-in_default-clause-withdraws : goal.returns-in_default-clause-withdraws
+returns-in_default-clause-withdraws c = withdrawn_none (books_of c.args.self.now) _ c.args.self.now.waiting c.remove_number.new.self c.args.spot c.args.number refl c.in_default.ensures refl
+
+pub returns-clause-withdraws : goal.returns-clause-withdraws
+returns-clause-withdraws c = withdrawn (books_of c.args.self.now) _ c.args.self.now.waiting c.remove_number.new.self c.args.spot c.args.number _ _ _ refl c.requires.not_cancelled c.in-Some.ensures (c.mark_cancelled.ensures.entry _ _) c.mark_cancelled.ensures.payload refl c.push_back_reserved.ensures.items refl

@@ -1,0 +1,35 @@
+-- A port of which nothing was asked yet.
+use Rattle.std.specs.Prelude.{◌≡◌, ◌≤◌, [], map, length}
+use Rattle.adapter.specs.View.{AdapterView}
+use Rattle.machine.specs.Rules.{Rules}
+use Rattle.machine.specs.State.{opening}
+use Rattle.sector.specs.Extents.{sectors_in}
+use Rattle.new_device.specs.View.{DeviceView}
+use Rattle.new_port.specs.declared.queues.Sizes.{Sizes}
+use Rattle.new_port.specs.Shown.{rules_of, most}
+
+-- an adapter with no piece on a tag and no label, which accepted three pieces at most
+pub record IsFresh (v : AdapterView) : Type 0 where
+  pub tags : v.tags ≡ []
+  pub labels : v.labels ≡ []
+  pub accepted : v.accepted ≤ 3
+
+-- the sizes of the adapter's disk
+abbrev pub sizes_of : AdapterView → Sizes
+sizes_of v = record { sector_size = v.sector_size; sectors = length v.sectors; max_transfer = v.max_transfer; depth = v.depth; faithful = v.faithful }
+
+-- the rules of a port over this adapter
+abbrev pub rules_over : AdapterView → Rules
+rules_over v = rules_of (sizes_of v)
+
+-- what it shows: the machine's opening, with all sectors of the adapter
+abbrev pub opening_view : AdapterView → DeviceView
+opening_view v = record {
+  rules = rules_over v;
+  state = opening (map (sectors_in v.sectors) (rules_over v).partitions);
+  packets = [];
+  rooms = [];
+  submitted = 0;
+  most = most;
+  adapter = v;
+}
