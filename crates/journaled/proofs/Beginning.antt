@@ -1,5 +1,5 @@
 -- What is told of a stack over a journal before its first event.
-use Rattle.std.proofs.Common.{◌≡◌, ◌≤◌, ℕ, List, [], length, map, Option, Some, None, refl, sym, ap, subst, ◌∙◌, arith}
+use Rattle.std.proofs.Common.{◌≡◌, ◌≤◌, ℕ, List, [], length, map, Some, sym, ap, subst, ◌∙◌, arith}
 use Rattle.std.specs.Prelude.{All}
 use Rattle.std.proofs.lemmas.List.Elements.{All-nil}
 use Rattle.srb.specs.declared.Entry.{Entry}
@@ -10,22 +10,21 @@ use Rattle.machine.specs.Rules.{Rules, sectors_of}
 use Rattle.machine.specs.Map.{IsMap}
 use Rattle.machine.specs.Sending.{array_at}
 use Rattle.machine.specs.State.{State, IsSame, opening}
-use Rattle.machine.specs.Step.{Run}
 use Rattle.machine.proofs.Same.{IsSame-refl}
 use Rattle.machine_laws.specs.Reached.{AreWhole, IsReached}
 use Rattle.machine_laws.specs.WriteLaws.{HaveSameLengths, RunsKeepLengths}
 use Rattle.io_manager.specs.Shown.{ManagerView}
 use Rattle.compose.specs.Journaled.{IsStartedUse}
-use Rattle.sector_journal.specs.Journal.{JournalView}
+use Rattle.sector_journal.specs.Journal.{JournalView, entries_in, entries_of}
 use Rattle.journaled.specs.Shown.{StandsIn, JournaledKept, over}
 use Rattle.journaled.specs.Opening.{IsStarted, IsUnused}
 use Rattle.journaled.specs.Told.{IsTold}
 
 module _ (stack : ManagerView) (journal : JournalView) (started : IsStarted stack) (unused : IsUnused journal) where
-  pub kept_at_first : (disk : List (List ℕ)) (max_transfer : ℕ) → StandsIn stack journal → 1 ≤ max_transfer → Replays journal.medium.sector_size disk journal.entries journal.medium.sectors
+  pub kept_at_first : (disk : List (List ℕ)) (max_transfer : ℕ) → StandsIn stack journal → 1 ≤ max_transfer → Replays journal.medium.sector_size disk (entries_of journal) journal.medium.sectors
       → JournaledKept disk stack journal max_transfer
   kept_at_first disk max_transfer stands some replays =
-      let same : journal.medium.sectors ≡ disk = subst (λ (es : List Entry). Replays journal.medium.sector_size disk es journal.medium.sectors) unused.no_entry replays in
+      let same : journal.medium.sectors ≡ disk = subst (λ (es : List Entry). Replays journal.medium.sector_size disk es journal.medium.sectors) (ap entries_in unused.no_entry) replays in
       record {
         stands = stands;
         map = subst (λ (r : Rules). IsMap r.disk_sectors r.partitions) (sym started.first.rules) started.first.told.is_map;
@@ -52,7 +51,7 @@ module _ (stack : ManagerView) (journal : JournalView) (started : IsStarted stac
           whole = subst (λ (a : List (List (List ℕ))). AreWhole stack.rules a) arrays_are (whole keeps reached);
           run = subst (λ (s : State). IsSame (opening (map (sectors_in started.disk.sectors) started.first.partitions)) s) (sym started.first.state) (IsSame-refl (opening (map (sectors_in started.disk.sectors) started.first.partitions)));
           journaled = record {
-            of_acts = unused.no_entry;
+            of_acts = ap entries_in unused.no_entry;
             started = subst (λ (us : List TagInUse). All (IsStartedUse []) us) (sym started.first.same_disk.idle.no_tags) (All-nil (IsStartedUse []));
           };
         },

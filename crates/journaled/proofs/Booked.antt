@@ -1,17 +1,17 @@
 -- What came of a piece in the journal may be booked of it.
-use Rattle.std.proofs.Common.{◌≡◌, ◌≢◌, ◌≤◌, ℕ, ◌+◌, Bool, true, false, List, [], ◌∷◌, ◌++◌, length, Option, Some, None, Result, Ok, Err, IsFalse, refl, sym, ap, subst, ◌∙◌, arith, if◌then◌else◌}
+use Rattle.std.proofs.Common.{◌≡◌, ◌≢◌, ℕ, ◌+◌, Bool, true, false, List, [], ◌∷◌, ◌++◌, length, Some, None, Result, Ok, Err, IsFalse, refl, sym, ap, subst, ◌∙◌, arith, if◌then◌else◌}
 use Rattle.std.specs.Prelude.{slice_get}
+use Rattle.std.proofs.lemmas.List.{map_push}
 use Rattle.srb.specs.declared.Srb.{Srb}
 use Rattle.srb.specs.declared.Entry.{Entry}
 use Rattle.srb.specs.declared.Completion.{Completion}
-use Rattle.srb.specs.declared.Class.TheVariants.{Bad}
-use Rattle.srb.specs.Fate.{class_of}
 use Rattle.disk.specs.Medium.{MediumView}
 use Rattle.adapter.specs.View.{AdapterView}
 use Rattle.adapter.specs.Booking.{IsArmed, IsBookable, Suits, Books, with_booking}
 use Rattle.compose.specs.Journaled.{IsOfPiece, with_entry}
 use Rattle.sector_journal.specs.Entering.{Enters}
-use Rattle.sector_journal.specs.Journal.{JournalView}
+use Rattle.sector_journal.specs.declared.acted.Entered.{Entered}
+use Rattle.sector_journal.specs.Journal.{JournalView, entries_in, entries_of, of_arming}
 use Rattle.sector_journal.proofs.Bookable.{entered_bookable}
 use Rattle.journaled.specs.Shown.{IsAsLarge, KeepsEntries}
 use Rattle.journaled.specs.Acting.{CameTo, IsNumbered, IsThat}
@@ -19,32 +19,32 @@ use Rattle.journaled.proofs.Entered.{HasEntry, HasFailed, Left, left}
 
 -- THE ENTRY OF A NUMBER
 
-some_entry : {x y : Entry} → Some x ≡ Some y → x ≡ y
+some_entry : {x y : Entered} → Some x ≡ Some y → x ≡ y
 some_entry {x} {y} e = cc
 
-last_entry : (xs : List Entry) (x : Entry) → slice_get (xs ++ x ∷ []) (length xs) ≡ Some x
+last_entry : (xs : List Entered) (x : Entered) → slice_get (xs ++ x ∷ []) (length xs) ≡ Some x
 last_entry [] x = refl
 last_entry (y ∷ xs) x = last_entry xs x
 
-longer : (xs : List Entry) (x : Entry) → length (xs ++ x ∷ []) ≡ length xs + 1
+longer : (xs : List Entered) (x : Entered) → length (xs ++ x ∷ []) ≡ length xs + 1
 longer [] x = refl
 longer (y ∷ xs) x = let e : length (xs ++ x ∷ []) ≡ length xs + 1 = longer xs x in omega (arith, e)
 
-own_entry : (before after : List Entry) (number : ℕ) (entry booked : Entry) → number ≡ length before → after ≡ before ++ entry ∷ [] → slice_get after number ≡ Some booked → booked ≡ entry
+own_entry : (before after : List Entered) (number : ℕ) (entry booked : Entered) → number ≡ length before → after ≡ before ++ entry ∷ [] → slice_get after number ≡ Some booked → booked ≡ entry
 own_entry before after number entry booked n a there =
-    let e : slice_get (before ++ entry ∷ []) number ≡ Some booked = subst (λ (xs : List Entry). slice_get xs number ≡ Some booked) a there in
+    let e : slice_get (before ++ entry ∷ []) number ≡ Some booked = subst (λ (xs : List Entered). slice_get xs number ≡ Some booked) a there in
     let f : slice_get (before ++ entry ∷ []) (length before) ≡ Some booked = subst (λ (k : ℕ). slice_get (before ++ entry ∷ []) k ≡ Some booked) n e in
     some_entry (sym f ∙ last_entry before entry)
 
 -- what a piece left is an entry's number, or a failure
-left_numbered : (old new : JournalView) (tag piece : ℕ) (srb : Srb) (done : Result ℕ Completion) → Left old tag piece srb done new → IsNumbered new.entries done
+left_numbered : (old new : JournalView) (tag piece : ℕ) (srb : Srb) (done : Result ℕ Completion) → Left old tag piece srb done new → IsNumbered new.entered done
 left_numbered old new tag piece srb (Ok number) has =
-    let long : length new.entries ≡ length old.entries + 1 = ap (λ (es : List Entry). length es) has.entries ∙ longer old.entries has.entry in
-    let last : number ≡ length old.entries = has.is_last in
+    let long : length new.entered ≡ length old.entered + 1 = ap (λ (es : List Entered). length es) has.entries ∙ longer old.entered (of_arming has.arming has.entry) in
+    let last : number ≡ length old.entered = has.is_last in
     omega (arith, long, last)
 left_numbered old new tag piece srb (Err completion) has = tt
 
-pub numbered : (old new : JournalView) (tag piece : ℕ) (srb : Srb) (done : Result ℕ Completion) → CameTo old tag piece srb done new → IsNumbered new.entries done
+pub numbered : (old new : JournalView) (tag piece : ℕ) (srb : Srb) (done : Result ℕ Completion) → CameTo old tag piece srb done new → IsNumbered new.entered done
 numbered old new tag piece srb done came = left_numbered old new tag piece srb done (left old tag piece srb done new came)
 
 -- AS MANY SECTORS
@@ -67,7 +67,7 @@ came_large before after tag piece srb done came = left_large before after tag pi
 -- what is booked is of the piece, may be, and is all that was entered
 pub record IsOwn (view : AdapterView) (before after : JournalView) (tag piece : ℕ) (what : Result Entry Completion) : Type 0 where
   pub of_piece : IsOfPiece tag piece what
-  pub entries : after.entries ≡ with_entry before.entries what
+  pub entries : entries_of after ≡ with_entry (entries_of before) what
   pub large : IsAsLarge before after
   pub bookable : IsBookable view tag piece what
 
@@ -77,12 +77,12 @@ module _ (view : AdapterView) (before after : JournalView) (tag piece : ℕ) (sr
   not_first : piece ≢ 0
   not_first = (can (Err (record { srb_status = 0x84; scsi_status = 0x02; sense = None })) refl).not_first
 
-  entered : (number : ℕ) (entry : Entry) → HasEntry before tag piece srb number after → slice_get after.entries number ≡ Some entry → IsOwn view before after tag piece (Ok entry)
-  entered number entry has there =
-      let own : entry ≡ has.entry = own_entry before.entries after.entries number has.entry entry has.is_last has.entries there in
+  entered : (number : ℕ) (entry : Entry) → HasEntry before tag piece srb number after → (own : Entered) → slice_get after.entered number ≡ Some own → entry ≡ own.entry → IsOwn view before after tag piece (Ok entry)
+  entered number entry has booked there same =
+      let own : entry ≡ has.entry = same ∙ ap (λ (e : Entered). e.entry) (own_entry before.entered after.entered number (of_arming has.arming has.entry) booked has.is_last has.entries there) in
       let it : IsOwn view before after tag piece (Ok has.entry) = record {
         of_piece = (has.enters.is_piece, has.enters.is_tag);
-        entries = has.entries;
+        entries = ap entries_in has.entries ∙ map_push (λ (e : Entered). e.entry) before.entered (of_arming has.arming has.entry);
         large = entered_large before after tag piece has.own has.entry has.enters;
         bookable = entered_bookable view before.medium after.medium before.write_protected tag piece has.own srb apart not_first armed has.entry size_is count_is has.same has.enters;
       } in
@@ -92,19 +92,19 @@ module _ (view : AdapterView) (before after : JournalView) (tag piece : ℕ) (sr
   failed completion booked has same =
       let it : IsOwn view before after tag piece (Err completion) = record {
         of_piece = tt;
-        entries = has.keeps.entries;
+        entries = ap entries_in has.keeps.entries;
         large = kept_large before after has.keeps;
         bookable = can (Err completion) has.is_bad;
       } in
       subst (λ (x : Completion). IsOwn view before after tag piece (Err x)) (sym same) it
 
-  left_own : (done : Result ℕ Completion) (what : Result Entry Completion) → Left before tag piece srb done after → IsThat after.entries done what → IsOwn view before after tag piece what
-  left_own (Ok number) (Ok entry) has that = entered number entry has that
+  left_own : (done : Result ℕ Completion) (what : Result Entry Completion) → Left before tag piece srb done after → IsThat after.entered done what → IsOwn view before after tag piece what
+  left_own (Ok number) (Ok entry) has that = entered number entry has that.0 that.1 that.2
   left_own (Err completion) (Err booked) has that = failed completion booked has that
   left_own (Ok number) (Err booked) has that = absurd that
   left_own (Err completion) (Ok entry) has that = absurd that
 
-  pub own : (done : Result ℕ Completion) (what : Result Entry Completion) → CameTo before tag piece srb done after → IsThat after.entries done what → IsOwn view before after tag piece what
+  pub own : (done : Result ℕ Completion) (what : Result Entry Completion) → CameTo before tag piece srb done after → IsThat after.entered done what → IsOwn view before after tag piece what
   own done what came that = left_own done what (left before tag piece srb done after came) that
 
 -- BOOKING LEAVES THE SECTORS WHERE THEY ARE

@@ -1,27 +1,29 @@
 -- What a piece left in the journal.
-use Rattle.std.proofs.Common.{◌≡◌, ◌≢◌, ℕ, List, [], ◌∷◌, ◌++◌, inl, inr, length, Option, Some, None, Result, Ok, Err, refl, sym, ap, subst, ◌∙◌, get_or-set_same}
+use Rattle.std.proofs.Common.{◌≡◌, ℕ, List, [], ◌∷◌, ◌++◌, inl, inr, length, Some, None, Result, Ok, Err, sym, ap, subst, ◌∙◌, get_or-set_same}
 use Rattle.srb.specs.declared.Srb.{Srb}
 use Rattle.srb.specs.declared.Entry.{Entry}
 use Rattle.srb.specs.declared.Completion.{Completion}
 use Rattle.srb.specs.declared.Class.TheVariants.{Bad}
 use Rattle.srb.specs.Fate.{class_of}
 use Rattle.disk.specs.Medium.{MediumView}
+use Rattle.sector_journal.specs.declared.acted.Entered.{Entered}
 use Rattle.sector_journal.specs.declared.slots.Armed.{Armed}
 use Rattle.sector_journal.specs.Arming.{AskTheSame}
 use Rattle.sector_journal.specs.Entering.{Enters}
 use Rattle.sector_journal.specs.Slots.{HasNone, armed_at}
-use Rattle.sector_journal.specs.Journal.{JournalView, MayArm, Arms, Acts, Does}
-use Rattle.journaled.specs.Shown.{IsAsLarge, KeepsEntries}
-use Rattle.journaled.specs.Acting.{ActsThere, FailsUnarmed, CameTo}
+use Rattle.sector_journal.specs.Journal.{JournalView, MayArm, Arms, Acts, Does, of_arming}
+use Rattle.journaled.specs.Shown.{KeepsEntries}
+use Rattle.journaled.specs.Acting.{CameTo}
 
 -- its entry, the last, by an SRB of the journal's own that asks for the same
 pub record HasEntry (old : JournalView) (tag piece : ℕ) (srb : Srb) (number : ℕ) (new : JournalView) : Type 0 where
   pub own : Srb
   pub entry : Entry
   pub same : AskTheSame own srb
-  pub is_last : number ≡ length old.entries
+  pub arming : ℕ
+  pub is_last : number ≡ length old.entered
   pub enters : Enters old.medium old.write_protected tag piece own entry new.medium
-  pub entries : new.entries ≡ old.entries ++ entry ∷ []
+  pub entries : new.entered ≡ old.entered ++ of_arming arming entry ∷ []
 
 -- nothing
 pub record HasFailed (old : JournalView) (completion : Completion) (new : JournalView) : Type 0 where
@@ -46,8 +48,8 @@ module _ (old mid : JournalView) (tag piece : ℕ) (srb : Srb) (may : MayArm old
   medium_is : mid.medium ≡ old.medium
   medium_is = ap (λ (j : JournalView). j.medium) arms.after
 
-  entries_are : mid.entries ≡ old.entries
-  entries_are = ap (λ (j : JournalView). j.entries) arms.after
+  entries_are : mid.entered ≡ old.entered
+  entries_are = ap (λ (j : JournalView). j.entered) arms.after
 
   protected_is : mid.write_protected ≡ old.write_protected
   protected_is = ap (λ (j : JournalView). j.write_protected) arms.after
@@ -58,11 +60,12 @@ module _ (old mid : JournalView) (tag piece : ℕ) (srb : Srb) (may : MayArm old
       own = own.srb;
       entry = does.0;
       same = subst (λ (a : Armed). AskTheSame a.srb srb) same arms.same;
-      is_last = does.1 ∙ ap (λ (es : List Entry). length es) entries_are;
+      arming = own.number;
+      is_last = does.1 ∙ ap (λ (es : List Entered). length es) entries_are;
       enters =
           subst (λ (m : MediumView). Enters m old.write_protected tag piece own.srb does.0 new.medium) medium_is
           (subst (λ b. Enters mid.medium b tag piece own.srb does.0 new.medium) protected_is does.2);
-      entries = does.3 ∙ ap (λ (es : List Entry). es ++ does.0 ∷ []) entries_are;
+      entries = does.3 ∙ ap (λ (es : List Entered). es ++ of_arming own.number does.0 ∷ []) entries_are;
     }
     by_done (Err completion) own same does = record {
       is_bad = does.0.is_bad;
@@ -78,7 +81,7 @@ module _ (old mid : JournalView) (tag piece : ℕ) (srb : Srb) (may : MayArm old
 
 pub keeps_same : (old new : JournalView) → new ≡ old → KeepsEntries old new
 keeps_same old new same = record {
-  entries = ap (λ (j : JournalView). j.entries) same;
+  entries = ap (λ (j : JournalView). j.entered) same;
   same_sectors = ap (λ (j : JournalView). j.medium.sectors) same;
   same_size = ap (λ (j : JournalView). j.medium.sector_size) same;
 }

@@ -1,5 +1,5 @@
 -- What was told stays as labels and answers are taken.
-use Rattle.std.proofs.Common.{◌≡◌, List, Option, Some, None, refl, sym, ap, subst, ◌∙◌}
+use Rattle.std.proofs.Common.{◌≡◌, Option, Some, None, sym, ap, subst}
 use Rattle.std.specs.Prelude.{All}
 use Rattle.adapter.specs.View.{AdapterView}
 use Rattle.machine.specs.declared.Label.{Label}

@@ -1,11 +1,8 @@
 -- What was told goes on with the labels of a right step.
-use Rattle.std.proofs.Common.{◌≡◌, ◌≢◌, ◌⊎◌, inl, inr, ℕ, Bool, true, false, List, [], ◌∷◌, ◌++◌, length, Option, Some, None, Result, Ok, Err, IsFalse, refl, sym, ap, subst, ◌∙◌}
-use Rattle.srb.specs.declared.Srb.{Srb}
+use Rattle.std.proofs.Common.{◌≡◌, inl, inr, ℕ, Bool, List, ◌++◌, length, IsFalse, refl, sym, ap, subst, ◌∙◌}
 use Rattle.srb.specs.declared.Entry.{Entry}
-use Rattle.srb.specs.declared.Completion.{Completion}
-use Rattle.adapter.specs.View.{AdapterView, IsInOrder}
+use Rattle.adapter.specs.View.{IsInOrder}
 use Rattle.adapter.specs.Calls.{HasNoneFresh}
-use Rattle.adapter.specs.Booking.{Suits, IsBookable}
 use Rattle.machine.specs.declared.Label.{Label}
 use Rattle.machine.specs.Rules.{Rules}
 use Rattle.machine.specs.State.{State, opening}
@@ -14,13 +11,13 @@ use Rattle.machine.proofs.Same.{Run-append}
 use Rattle.machine_laws.specs.Reached.{AreWhole, IsReached}
 use Rattle.io_manager.specs.declared.Reply.{Reply}
 use Rattle.io_manager.specs.Shown.{ManagerView}
-use Rattle.io_manager.specs.Right.{BooksPiece, FitsTogether, IsRightBy, Told}
+use Rattle.io_manager.specs.Right.{FitsTogether, IsRightBy, Told}
 use Rattle.compose.specs.declared.Event.{Event}
 use Rattle.compose.specs.declared.Event.TheVariants.{Open, Close, Read, Write, Flush, CancelIoEx, Mark, QueryRemove, CancelRemove, Remove, SurpriseRemove, Act, Finish, Reset}
 use Rattle.compose.specs.Right.{IsRight}
-use Rattle.compose.specs.Journaled.{ArmedMayBeBooked, BookedActsAddEntries, IdleActsKeepEntries, StepsKeepEntries, StepsStayApart, IsNoAct, IsJournaled, with_entry}
+use Rattle.compose.specs.Journaled.{ArmedMayBeBooked, BookedActsAddEntries, IdleActsKeepEntries, StepsKeepEntries, StepsStayApart, IsNoAct, IsJournaled}
 use Rattle.compose.proofs.JournaledKept.{IsLed, led}
-use Rattle.sector_journal.specs.Journal.{JournalView}
+use Rattle.sector_journal.specs.Journal.{JournalView, entries_in, entries_of}
 use Rattle.journaled.specs.Shown.{JournaledView, StandsIn, IsAsLarge, KeepsEntries, over}
 use Rattle.journaled.specs.Acting.{BooksArmed, HasBooked, HasNoneToBook}
 use Rattle.journaled.specs.Right.{BooksFor, StepsBooked, IsServed}
@@ -73,7 +70,7 @@ module _ (keep : StepsKeepEntries) (apart : StepsStayApart) (old new : ManagerVi
             record {
               whole = on.whole;
               run = on.run;
-              journaled = subst (λ (es : List Entry). IsJournaled (trace ++ new.labels) es new) (sym keeps.entries) (keep trace before.entries old event reply new other right told.journaled);
+              journaled = subst (λ (es : List Entry). IsJournaled (trace ++ new.labels) es new) (sym (ap entries_in keeps.entries)) (keep trace (entries_of before) old event reply new other right told.journaled);
             };
       }
 
@@ -128,7 +125,7 @@ module _ (idle : IdleActsKeepEntries) (adds : BookedActsAddEntries) (may : Armed
     own_at : (arrays : List (List (List ℕ))) (trace : List Label) → IsTold arrays trace (over old before) → IsOwn old.adapter before after tag has.piece has.what
     own_at arrays trace told =
         own old.adapter before after tag has.piece has.srb stands.apart has.armed size_is count_is
-        (λ what suits. may arrays trace before.entries old tag has.piece has.srb what told.run told.journaled stands.apart has.armed suits) has.done has.what has.came_to has.is_that
+        (λ what suits. may arrays trace (entries_of before) old tag has.piece has.srb what told.run told.journaled stands.apart has.armed suits) has.done has.what has.came_to has.is_that
 
     booked_told : TellsOn (over old before) (over new after)
     booked_told arrays trace told =
@@ -139,7 +136,7 @@ module _ (idle : IdleActsKeepEntries) (adds : BookedActsAddEntries) (may : Armed
           run = on.run;
           journaled =
               subst (λ (es : List Entry). IsJournaled (trace ++ new.labels) es new) (sym it.entries)
-              (adds trace before.entries old booked new tag has.piece has.what reply it.bookable it.of_piece has.books order fits reached right told.journaled);
+              (adds trace (entries_of before) old booked new tag has.piece has.what reply it.bookable it.of_piece has.books order fits reached right told.journaled);
         }
 
   module _ (none : HasNoneToBook old before tag booked after) where
@@ -150,13 +147,13 @@ module _ (idle : IdleActsKeepEntries) (adds : BookedActsAddEntries) (may : Armed
     idle_told arrays trace told =
         let on : GoesOn arrays trace new =
         goes_on old booked new by.reset by.told (ap (λ (v : ManagerView). v.rules) none.same_stack) (ap (λ (v : ManagerView). v.state) none.same_stack) by.by arrays trace told.whole told.run in
-        let was : IsJournaled trace before.entries booked = subst (λ (v : ManagerView). IsJournaled trace before.entries v) (sym none.same_stack) told.journaled in
+        let was : IsJournaled trace (entries_of before) booked = subst (λ (v : ManagerView). IsJournaled trace (entries_of before) v) (sym none.same_stack) told.journaled in
         record {
           whole = on.whole;
           run = on.run;
           journaled =
-              subst (λ (es : List Entry). IsJournaled (trace ++ new.labels) es new) (sym (ap (λ (j : JournalView). j.entries) none.same_journal))
-              (idle trace before.entries booked tag reply new fits still_none right was);
+              subst (λ (es : List Entry). IsJournaled (trace ++ new.labels) es new) (sym (ap entries_of none.same_journal))
+              (idle trace (entries_of before) booked tag reply new fits still_none right was);
         }
 
   pub act_told : BooksArmed old before tag booked after → TellsOn (over old before) (over new after)

@@ -1,5 +1,5 @@
 -- What a call would open lies on the disk.
-use Rattle.std.proofs.Common.{◌≡◌, ◌≤◌, ℕ, zero, suc, ◌+◌, ◌/◌, ◌&&◌, Bool, true, false, not, List, [], ◌∷◌, Option, None, Some, refl, sym, ap, subst, ◌∙◌, arith, if◌then◌else◌}
+use Rattle.std.proofs.Common.{◌≡◌, ◌≤◌, ℕ, zero, suc, ◌+◌, ◌/◌, ◌&&◌, Bool, true, false, not, List, [], ◌∷◌, Option, None, Some, refl, ap, subst, ◌∙◌, arith, if◌then◌else◌}
 use Rattle.std.specs.Prelude.{All, is_some, is_none, slice_get}
 use Rattle.std.proofs.lemmas.Bool.{leb-true, not-false, and_parts}
 use Rattle.std.proofs.lemmas.List.Elements.{All-head, All-tail}

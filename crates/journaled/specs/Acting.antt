@@ -9,6 +9,7 @@ use Rattle.adapter.specs.Calls.{HasNoneFresh}
 use Rattle.adapter.specs.Booking.{IsArmed}
 use Rattle.io_manager.specs.Shown.{ManagerView}
 use Rattle.io_manager.specs.Right.{BooksPiece}
+use Rattle.sector_journal.specs.declared.acted.Entered.{Entered}
 use Rattle.sector_journal.specs.Journal.{JournalView, MayArm, Arms, Acts}
 
 -- IN THE JOURNAL
@@ -34,15 +35,15 @@ CameTo old tag piece srb done new = ActsThere old tag piece srb done new ⊎ Fai
 -- AT THE ADAPTER
 
 -- the number is that of an entry
-abbrev pub IsNumbered : List Entry → Result ℕ Completion → Type 0
-IsNumbered entries (Ok number) = number < length entries
-IsNumbered entries (Err completion) = Unit {0}
+abbrev pub IsNumbered : List Entered → Result ℕ Completion → Type 0
+IsNumbered entered (Ok number) = number < length entered
+IsNumbered entered (Err completion) = Unit {0}
 
 -- what is booked is the entry of the number, or the failure
-abbrev pub IsThat : List Entry → Result ℕ Completion → Result Entry Completion → Type 0
-IsThat entries (Ok number) (Ok entry) = slice_get entries number ≡ Some entry
-IsThat entries (Err completion) (Err booked) = booked ≡ completion
-IsThat entries _ _ = ⊥
+abbrev pub IsThat : List Entered → Result ℕ Completion → Result Entry Completion → Type 0
+IsThat entered (Ok number) (Ok entry) = (own : Entered) × (slice_get entered number ≡ Some own) × (entry ≡ own.entry)
+IsThat entered (Err completion) (Err booked) = booked ≡ completion
+IsThat entered _ _ = ⊥
 
 -- what came of the tag's piece in the journal is booked
 pub record HasBooked (old : ManagerView) (before : JournalView) (tag : ℕ) (new : ManagerView) (after : JournalView) : Type 0 where
@@ -52,7 +53,7 @@ pub record HasBooked (old : ManagerView) (before : JournalView) (tag : ℕ) (new
   pub what : Result Entry Completion
   pub armed : IsArmed old.adapter tag piece srb
   pub came_to : CameTo before tag piece srb done after
-  pub is_that : IsThat after.entries done what
+  pub is_that : IsThat after.entered done what
   pub books : BooksPiece old tag piece what new
 
 -- there is none that could act, and nothing changes

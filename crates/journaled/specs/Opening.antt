@@ -1,5 +1,5 @@
 -- A stack over a journal before its first event.
-use Rattle.std.specs.Prelude.{◌≡◌, [], length}
+use Rattle.std.specs.Prelude.{◌≡◌, []}
 use Rattle.adapter.specs.View.{AdapterView}
 use Rattle.disk.specs.Medium.{HasWholeSectors}
 use Rattle.io_manager.specs.Shown.{ManagerView}
@@ -16,4 +16,4 @@ pub record IsStarted (stack : ManagerView) : Type 0 where
 -- a journal of whole sectors, in which nothing was entered
 pub record IsUnused (journal : JournalView) : Type 0 where
   pub whole : HasWholeSectors journal.medium
-  pub no_entry : journal.entries ≡ []
+  pub no_entry : journal.entered ≡ []

@@ -37,6 +37,6 @@ pub record IsAsLarge (old new : JournalView) : Type 0 where
 
 -- nothing was entered
 pub record KeepsEntries (old new : JournalView) : Type 0 where
-  pub entries : new.entries ≡ old.entries
+  pub entries : new.entered ≡ old.entered
   pub same_sectors : new.medium.sectors ≡ old.medium.sectors
   pub same_size : new.medium.sector_size ≡ old.medium.sector_size

@@ -8,13 +8,14 @@ use Rattle.machine.specs.Step.{Run}
 use Rattle.machine_laws.specs.Lifting.{over_disk}
 use Rattle.machine_laws.specs.Reached.{AreWhole}
 use Rattle.compose.specs.Journaled.{IsJournaled}
+use Rattle.sector_journal.specs.Journal.{entries_of}
 use Rattle.journaled.specs.Shown.{JournaledView}
 
 -- the labels so far are a run of the machine that moves no sectors, and the journal has the entries of its acts
 pub record IsTold (arrays : List (List (List ℕ))) (trace : List Label) (v : JournaledView) : Type 0 where
   pub whole : AreWhole v.stack.rules arrays
   pub run : Run v.stack.rules (opening arrays) trace v.stack.state
-  pub journaled : IsJournaled trace v.journal.entries v.stack
+  pub journaled : IsJournaled trace (entries_of v.journal) v.stack
 
 -- whatever was told goes on with the labels of a step
 abbrev pub TellsOn : JournaledView → JournaledView → Type 0

@@ -75,11 +75,11 @@ fn book<M: Medium, N: Naming>(
     piece: u128,
     done: Result<u64, Completion>,
 )
-    requires there { IsNumbered journal.now.entries done }
-    ensures { (what : ResultOf Entry CompletionView) × IsThat journal.now.entries done what × BooksPiece stack.old tag piece what stack.new }
+    requires there { IsNumbered journal.now.entered done }
+    ensures { (what : ResultOf Entry CompletionView) × IsThat journal.now.entered done what × BooksPiece stack.old tag piece what stack.new }
 {
     match done {
-        Ok(number) => stack.book(tag, piece, Ok(&journal.entries()[number as usize])),
+        Ok(number) => stack.book(tag, piece, Ok(&journal.entries()[number as usize].entry)),
         Err(completion) => stack.book(tag, piece, Err(completion)),
     }
 }

@@ -4,6 +4,7 @@ ghost use Rattle.std.specs.Prelude.{◌≡◌, ◌≤◌, [], List, ℕ};
 ghost use Rattle.srb.specs.Replaying.{Replays};
 ghost use Rattle.machine.specs.Settled.{Settled, IsFinished};
 ghost use Rattle.machine_laws.specs.Reached.{IsReached};
+ghost use Rattle.sector_journal.specs.Journal.{entries_in};
 ghost use Rattle.io_manager.specs.Right.{FitsTogether, TakesAnswer, TakesLabel as TakesFirst};
 ghost use Rattle.journaled.specs.Opening.{IsStarted, IsUnused};
 ghost use Rattle.journaled.specs.Right.{IsServed};
@@ -16,8 +17,7 @@ use compose::{Answer, Event, Reply, Stack};
 use disk::Medium;
 use machine::Label;
 use miniport::BookedAdapter;
-use sector_journal::{History, Journal, Naming, OfArmings, OfEntries};
-use srb::Entry;
+use sector_journal::{Entered, History, Journal, Naming, OfArmings, OfEntries};
 use std::alloc::Global;
 use std::marker::Model;
 
@@ -129,7 +129,7 @@ impl<M: Medium, N: Naming> Journaled<M, N> {
     fn note(&mut self, label: &Label)
         ensures stack { self.new.stack ≡ self.old.stack }
         ensures told { StaysTold self.old self.new }
-        ensures entries { self.new.journal.entries ≡ self.old.journal.entries }
+        ensures entries { self.new.journal.entered ≡ self.old.journal.entered }
     {
         match label {
             Label::Call { number, .. } => self.next_request = number.saturating_add(1),
@@ -142,7 +142,7 @@ impl<M: Medium, N: Naming> Journaled<M, N> {
     pub fn take_label(&mut self) -> Option<Label>
         ensures taken { TakesFirst self.old.stack result self.new.stack }
         ensures told { StaysTold self.old self.new }
-        ensures entries { self.new.journal.entries ≡ self.old.journal.entries }
+        ensures entries { self.new.journal.entered ≡ self.old.journal.entered }
     {
         let label = self.stack.take_label()?;
         self.note(&label);
@@ -153,24 +153,24 @@ impl<M: Medium, N: Naming> Journaled<M, N> {
     pub fn take_answer(&mut self) -> Option<Answer>
         ensures taken { TakesAnswer self.old.stack result self.new.stack }
         ensures told { StaysTold self.old self.new }
-        ensures entries { self.new.journal.entries ≡ self.old.journal.entries }
+        ensures entries { self.new.journal.entered ≡ self.old.journal.entered }
     {
         self.stack.take_answer()
     }
 
-    /// What the acts did to the sectors, in their order.
-    pub fn entries(&self) -> &[Entry]
-        ensures { result.now ≡ self.now.journal.entries }
+    /// What the acts did to the sectors, in their order, each with its arming.
+    pub fn entries(&self) -> &[Entered]
+        ensures { result.now ≡ self.now.journal.entered }
     {
         self.journal.entries()
     }
 
     /// The stack, the sectors and what acts did to them.
-    pub fn into_parts(self) -> (Stack<BookedAdapter>, M, Vec<Entry>)
+    pub fn into_parts(self) -> (Stack<BookedAdapter>, M, Vec<Entered>)
         ensures stack { result.0 ≡ self.stack }
         ensures sectors { M.view result.1 ≡ self.journal.medium }
-        ensures entries { result.2.items ≡ self.journal.entries }
-        ensures replays { Replays (M.view result.1).sector_size N.opening result.2.items (M.view result.1).sectors }
+        ensures entries { result.2.items ≡ self.journal.entered }
+        ensures replays { Replays (M.view result.1).sector_size N.opening (entries_in result.2.items) (M.view result.1).sectors }
     {
         let Journaled {
             stack,

@@ -1,17 +1,14 @@
 -- What a journal entered may be booked.
-use Rattle.std.proofs.Common.{◌≡◌, ◌≢◌, ◌≤◌, ℕ, ◌+◌, ◌*◌, Bool, List, length, Option, Some, None, Result, Ok, Err, IsFalse, refl, sym, ap, subst, ◌∙◌, inl, inr}
-use Rattle.sector.specs.declared.Extent.{Extent}
+use Rattle.std.proofs.Common.{◌≡◌, ◌≢◌, ℕ, Bool, List, length, Ok, Err, IsFalse, sym, subst, ◌∙◌, inl, inr}
 use Rattle.cdb.specs.declared.Cdb.{Cdb}
 use Rattle.cdb.specs.declared.Cdb.TheVariants.{Read10, Write10, Sync10, ReadCapacity10, Read16, Write16, Sync16, ReadCapacity16}
-use Rattle.cdb.specs.Meaning.{Means, AsksToWrite}
+use Rattle.cdb.specs.Meaning.{Means}
 use Rattle.srb.specs.declared.Srb.{Srb}
 use Rattle.srb.specs.declared.Kind.{Kind}
 use Rattle.srb.specs.declared.Entry.{Entry}
 use Rattle.srb.specs.declared.Completion.{Completion}
-use Rattle.srb.specs.declared.Class.TheVariants.{Bad}
-use Rattle.srb.specs.Fate.{class_of}
 use Rattle.adapter.specs.View.{AdapterView}
-use Rattle.adapter.specs.Booking.{IsArmed, IsTransferOf, IsFlushOf, MayBeOf, IsOfSrb, Suits, IsBookable}
+use Rattle.adapter.specs.Booking.{IsArmed, IsTransferOf, IsFlushOf, MayBeOf, IsOfSrb, IsBookable}
 use Rattle.disk.specs.Medium.{MediumView}
 use Rattle.sector_journal.specs.Arming.{AskTheSame}
 use Rattle.sector_journal.specs.Entering.{Enters, Refuses}
@@ -49,7 +46,7 @@ may_be size sectors one other entry (Sync16 lba count) same means h = flush_of o
 may_be size sectors one other entry ReadCapacity10 same means h = absurd h
 may_be size sectors one other entry (ReadCapacity16 allocation) same means h = absurd h
 
-of_srb : (size sectors : ℕ) (one other : Srb) (entry : Entry) → AskTheSame one other → IsOfSrb size sectors one entry → IsOfSrb size sectors other entry
+pub of_srb : (size sectors : ℕ) (one other : Srb) (entry : Entry) → AskTheSame one other → IsOfSrb size sectors one entry → IsOfSrb size sectors other entry
 of_srb size sectors one other entry same h = record {
   command = h.command;
   means = subst (λ (x : List ℕ). Means x h.command) same.same_block h.means;

@@ -1,23 +1,22 @@
 -- An SRB that may be armed, by what was reserved.
-use Rattle.std.proofs.Common.{◌≡◌, ◌<◌, ◌≤◌, ◌^◌, ℕ, ◌+◌, ◌-◌, ◌∷◌, ◌++◌, ◌&&◌, ◌||◌, Bool, true, false, nat_le, List, [], length, All, Option, Some, None, slice_set, slice_index_or, refl, sym, ap, subst, ◌∙◌, arith, inl, inr, leb-true, length-append}
+use Rattle.std.proofs.Common.{◌≡◌, ◌≢◌, ◌<◌, ◌≤◌, ◌^◌, ℕ, ◌+◌, ◌-◌, ◌∷◌, ◌++◌, Bool, true, nat_le, List, [], length, All, Option, Some, None, slice_set, refl, sym, ap, subst, ◌∙◌, arith, inl, inr, leb-true, length-append}
 use Rattle.std.specs.List.{list_any, Any}
 use Rattle.std.proofs.lemmas.Bool.{and_parts}
 use Rattle.std.proofs.lemmas.List.Folds.{Any-from_list_any}
 use Rattle.sector.specs.declared.Extent.{Extent}
 use Rattle.sector.specs.Extents.{IsIn}
 use Rattle.cdb.specs.declared.Cdb.{Cdb}
-use Rattle.cdb.specs.declared.Cdb.TheVariants.{Read10, Write10, Sync10, ReadCapacity10, Read16, Write16, Sync16, ReadCapacity16}
+use Rattle.cdb.specs.declared.Cdb.TheVariants.{Write10, Write16}
 use Rattle.cdb.specs.Meaning.{Means, AsksToWrite}
 use Rattle.srb.specs.declared.Srb.{Srb}
 use Rattle.srb.specs.declared.Kind.{Kind}
 use Rattle.srb.specs.declared.Kind.TheVariants.{Read, Write, Flush}
 use Rattle.disk.specs.Medium.{MediumView, IsReserved}
-use Rattle.miniport.specs.Carrying.{IsReady}
 use Rattle.sector_journal.specs.declared.slots.Armed.{Armed}
 use Rattle.sector_journal.specs.declared.reservation.Reservation.{Reservation}
 use Rattle.sector_journal.specs.Arming.{AskTheSame, IsCopy}
 use Rattle.sector_journal.specs.Entering.{named, Names}
-use Rattle.sector_journal.specs.Reserving.{covers, is_same, is_write, is_flush, lies_in}
+use Rattle.sector_journal.specs.Reserving.{covers, is_write, lies_in}
 use Rattle.sector_journal.specs.Slots.{armed_count, IsFree}
 use Rattle.sector_journal.specs.Stocking.{Room, pieces_at}
 use Rattle.sector_journal.specs.Journal.{JournalView, CanEnter, IsHeld, MayArm, Arms}
@@ -97,7 +96,7 @@ ask_the_same kind extent srb copy names is = record {
 
 module _ (old shown : JournalView) (tag piece : ℕ) (kind : Kind) (extent : Extent) (srb : Srb) (shown_is : shown ≡ old) where
   pub may_arm : Names srb.block (kind, extent) → IsFree shown.slots tag → list_any (covers kind extent) shown.reservations ≡ true → (room' : List Room) → pieces_at room' (length srb.data) + 1 ≡ pieces_at shown.room (length srb.data)
-      → length shown.entries + armed_count shown.slots < shown.places → length shown.armings < 2 ^ 64 - 1 → MayArm old tag srb
+      → length shown.entered + armed_count shown.slots < shown.places → length shown.armings < 2 ^ 64 - 1 → MayArm old tag srb
   may_arm names free covered room' less place number = subst (λ (j : JournalView). MayArm j tag srb) shown_is (record {
     what = (kind, extent);
     names = names;
@@ -109,9 +108,10 @@ module _ (old shown : JournalView) (tag piece : ℕ) (kind : Kind) (extent : Ext
   })
 
   pub arms : (armed : Armed) (slots' : List (Option Armed)) (armings' : List Armed) (room' : List Room) → AlwaysNames srb.block (kind, extent) → IsCopy kind srb armed.srb → armed.tag ≡ tag → armed.piece ≡ piece
-      → armed.number ≡ length shown.armings → pieces_at room' (length srb.data) + 1 ≡ pieces_at shown.room (length srb.data) → slots' ≡ slice_set shown.slots tag (Some armed) → armings' ≡ shown.armings ++ armed ∷ []
+      → armed.number ≡ length shown.armings → pieces_at room' (length srb.data) + 1 ≡ pieces_at shown.room (length srb.data)
+      → ((long : ℕ) → long ≢ length srb.data → pieces_at room' long ≡ pieces_at shown.room long) → slots' ≡ slice_set shown.slots tag (Some armed) → armings' ≡ shown.armings ++ armed ∷ []
       → Arms old tag piece srb (record shown { slots = slots'; armings = armings'; room = room' })
-  arms armed slots' armings' room' names copy is_tag is_piece is_number less after longer =
+  arms armed slots' armings' room' names copy is_tag is_piece is_number less others after longer =
       subst (λ (j : JournalView). Arms j tag piece srb (record shown { slots = slots'; armings = armings'; room = room' })) shown_is (record {
         armed = armed;
         is_tag = is_tag;
@@ -121,6 +121,7 @@ module _ (old shown : JournalView) (tag piece : ℕ) (kind : Kind) (extent : Ext
         same_function = copy.same_function;
         same_flags = copy.same_flags;
         less_room = less;
+        same_room = others;
         after = rw (after, longer) refl;
       })
 

@@ -1,23 +1,22 @@
 -- What a journal keeps, through its calls.
-use Rattle.std.proofs.Common.{◌≡◌, ◌≢◌, ◌<◌, ◌≤◌, ℕ, zero, suc, ◌+◌, Bool, List, [], ◌∷◌, ◌++◌, length, All, Option, Some, None, get_or, set, slice_get, slice_set, refl, sym, ap, subst, ◌∙◌, arith, ◌^◌, length-append, inl, inr, take, drop, slice_index_or}
-use Rattle.std.specs.List.{sum_by, remove}
+use Rattle.std.proofs.Common.{◌≡◌, ◌<◌, ◌≤◌, ℕ, zero, suc, ◌+◌, Bool, List, [], ◌∷◌, ◌++◌, length, All, Option, Some, None, get_or, slice_get, slice_set, refl, sym, ap, subst, ◌∙◌, arith, ◌^◌, length-append, inl, inr, take, drop, slice_index_or}
+use Rattle.std.specs.List.{remove}
 use Rattle.std.proofs.lemmas.Bool.{cases_eq, cases_lt}
-use Rattle.std.proofs.lemmas.List.{set_past, get_or-set_same, get_or-set_other}
+use Rattle.std.proofs.lemmas.List.{set_past, get_or-set_same, get_or-set_other, map_push}
 use Rattle.std.proofs.lemmas.List.Sums.{sum_by-set}
 use Rattle.std.proofs.lemmas.List.Elements.{All-weaker, All-push, All-append, All-take, All-drop}
-use Rattle.srb.specs.declared.Srb.{Srb}
 use Rattle.srb.specs.declared.Entry.{Entry}
 use Rattle.srb.specs.declared.Completion.{Completion}
 use Rattle.srb.specs.Replaying.{ReplaysKind, Replays}
 use Rattle.sector.specs.declared.Extent.{Extent}
 use Rattle.sector.specs.Extents.{IsCovered}
 use Rattle.disk.specs.Medium.{MediumView, IsReserved, Reserves}
-use Rattle.miniport.specs.Carrying.{IsReady}
+use Rattle.sector_journal.specs.declared.acted.Entered.{Entered}
 use Rattle.sector_journal.specs.declared.slots.Armed.{Armed}
 use Rattle.sector_journal.specs.declared.reservation.Reservation.{Reservation}
 use Rattle.sector_journal.specs.Entering.{Enters, Refuses}
 use Rattle.sector_journal.specs.Slots.{armed_at, armed_count, one_if_armed, IsFree, Takes}
-use Rattle.sector_journal.specs.Journal.{CanEnter, MayAct, IsHeld, JournalKept}
+use Rattle.sector_journal.specs.Journal.{CanEnter, MayAct, IsHeld, IsOfArming, AreOfArmings, JournalKept, entries_in, of_arming}
 use Rattle.sector_journal.proofs.Counting.{clear_count, put_count, within_slots}
 
 -- AN ENTRY AT THE END
@@ -76,35 +75,69 @@ one_less : (slots slots' : List (Option Armed)) (tag piece : ℕ) (armed : Armed
 one_less slots slots' tag piece armed takes =
     ap (λ (s : List (Option Armed)). armed_count s + 1) takes.after ∙ clear_count slots tag armed (within_slots slots tag armed takes.was_there) takes.was_there
 
+get_front : {A : Type 0} (xs ys : List A) (k : ℕ) (x : A) → slice_get xs k ≡ Some x → slice_get (xs ++ ys) k ≡ Some x
+get_front [] ys k x h = absurd (cc (h))
+get_front (y ∷ xs) ys zero x h = h
+get_front (y ∷ xs) ys (suc k) x h = get_front xs ys k x h
+
+get_end : {A : Type 0} (xs : List A) (x : A) → slice_get (xs ++ x ∷ []) (length xs) ≡ Some x
+get_end [] x = refl
+get_end (y ∷ xs) x = get_end xs x
+
+some_is : {A : Type 0} {x y : A} → Some x ≡ Some y → x ≡ y
+some_is h = cc (h)
+
+-- AN ENTRY AND ITS ARMING
+
+-- where the sectors are as many, and as long
+of_all : (old new : MediumView) (armings : List Armed) (entered : List Entered) → new.sector_size ≡ old.sector_size → length new.sectors ≡ length old.sectors → AreOfArmings old armings entered → AreOfArmings new armings entered
+of_all old new armings entered size_is as_many all =
+    subst (λ (n : ℕ). All (IsOfArming n (length new.sectors) armings) entered) (sym size_is) (subst (λ (n : ℕ). All (IsOfArming old.sector_size n armings) entered) (sym as_many) all)
+
+-- where more was armed
+of_more : (medium : MediumView) (armings : List Armed) (armed : Armed) (entered : List Entered) → AreOfArmings medium armings entered → AreOfArmings medium (armings ++ armed ∷ []) entered
+of_more medium armings armed entered all =
+    All-weaker (IsOfArming medium.sector_size (length medium.sectors) armings) (IsOfArming medium.sector_size (length medium.sectors) (armings ++ armed ∷ []))
+    (λ e of. record { armed = of.armed; noted = get_front armings (armed ∷ []) e.arming of.armed of.noted; is_piece = of.is_piece; is_tag = of.is_tag; of_srb = of.of_srb }) entered all
+
 -- AN ACT
 
-module _ (opening : List (List ℕ)) (medium medium' : MediumView) (write_protected : Bool) (entries : List Entry) (places : ℕ) (slots slots' : List (Option Armed)) (armings : List Armed) (reservations : List Reservation)
-    (tag piece : ℕ) (armed : Armed) (kept : JournalKept opening medium entries places slots armings reservations) (takes : Takes slots tag piece armed slots') where
-  pub has_place : length entries < places
+module _ (opening : List (List ℕ)) (medium medium' : MediumView) (write_protected : Bool) (entered : List Entered) (places : ℕ) (slots slots' : List (Option Armed)) (armings : List Armed) (reservations : List Reservation)
+    (tag piece : ℕ) (armed : Armed) (kept : JournalKept opening medium entered places slots armings reservations) (takes : Takes slots tag piece armed slots') where
+  pub has_place : length entered < places
   has_place =
       let less : armed_count slots' + 1 ≡ armed_count slots = one_less slots slots' tag piece armed takes in
-      let placed : length entries + armed_count slots ≤ places = kept.placed in
+      let placed : length entered + armed_count slots ≤ places = kept.placed in
       omega (arith, less, placed)
 
   pub is_countable : length armings < 2 ^ 64 → medium.failures < 2 ^ 120
   is_countable few = let c : medium.failures + armed_count slots ≤ length armings = kept.counted in omega (arith, c, few)
 
-  pub entered_kept : (entry : Entry) (entries' : List Entry) (places' : ℕ) → Enters medium write_protected tag piece armed.srb entry medium' → entries' ≡ entries ++ entry ∷ [] → places' ≡ places
-      → JournalKept opening medium' entries' places' slots' armings reservations
-  entered_kept entry entries' places' enters longer same =
+  of_this : (entry : Entry) → Enters medium write_protected tag piece armed.srb entry medium' → IsOfArming medium.sector_size (length medium.sectors) armings (of_arming armed.number entry)
+  of_this entry enters =
+      let may : MayAct medium armings tag armed = kept.ready tag armed takes.was_there in
+      record { armed = armed; noted = may.noted; is_piece = enters.is_piece ∙ sym takes.is_piece; is_tag = enters.is_tag ∙ sym may.is_tag; of_srb = enters.of_srb }
+
+  pub entered_kept : (entry : Entry) (entered' : List Entered) (places' : ℕ) → Enters medium write_protected tag piece armed.srb entry medium' → entered' ≡ entered ++ of_arming armed.number entry ∷ [] → places' ≡ places
+      → JournalKept opening medium' entered' places' slots' armings reservations
+  entered_kept entry entered' places' enters longer same =
       let less : armed_count slots' + 1 ≡ armed_count slots = one_less slots slots' tag piece armed takes in
       let size_is : medium'.sector_size ≡ medium.sector_size = ap (λ (v : MediumView). v.sector_size) enters.after in
       let failures_are : medium'.failures ≡ medium.failures = ap (λ (v : MediumView). v.failures) enters.after in
       let reserved_are : medium'.reserved ≡ medium.reserved = ap (λ (v : MediumView). v.reserved) enters.after in
       let holds : Holds medium medium' = record { as_many = enters.as_many; lasts = λ extent h. holds_reserved medium medium' extent reserved_are h } in
-      let long : length entries' ≡ length entries + 1 = ap length longer ∙ length-append entries (entry ∷ []) in
-      let placed : length entries + armed_count slots ≤ places = kept.placed in
+      let long : length entered' ≡ length entered + 1 = ap length longer ∙ length-append entered (of_arming armed.number entry ∷ []) in
+      let placed : length entered + armed_count slots ≤ places = kept.placed in
       let counted : medium.failures + armed_count slots ≤ length armings = kept.counted in
+      let all : AreOfArmings medium armings (entered ++ of_arming armed.number entry ∷ []) =
+      All-push (IsOfArming medium.sector_size (length medium.sectors) armings) entered (of_arming armed.number entry) kept.of_armings (of_this entry enters) in
+      let entries_are : entries_in entered' ≡ entries_in entered ++ entry ∷ [] = ap entries_in longer ∙ map_push (λ (e : Entered). e.entry) entered (of_arming armed.number entry) in
       record {
         replays =
-            subst (λ (x : ℕ). Replays x opening entries' medium'.sectors) (sym size_is)
-            (subst (λ (x : List Entry). Replays medium.sector_size opening x medium'.sectors) (sym longer)
-            (replays_longer medium.sector_size entries opening medium.sectors medium'.sectors entry kept.replays enters.replays));
+            subst (λ (x : ℕ). Replays x opening (entries_in entered') medium'.sectors) (sym size_is)
+            (subst (λ (x : List Entry). Replays medium.sector_size opening x medium'.sectors) (sym entries_are)
+            (replays_longer medium.sector_size (entries_in entered) opening medium.sectors medium'.sectors entry kept.replays enters.replays));
+        of_armings = of_all medium medium' armings entered' size_is enters.as_many (subst (λ (x : List Entered). AreOfArmings medium armings x) (sym longer) all);
         some = subst (λ (n : ℕ). 1 ≤ n) (sym enters.as_many) kept.some;
         ready = λ other a h. ready_on medium medium' armings other a holds (ready_but medium armings slots slots' tag takes.after kept.ready other a h);
         placed = omega (arith, less, long, placed, same);
@@ -112,20 +145,21 @@ module _ (opening : List (List ℕ)) (medium medium' : MediumView) (write_protec
         held = held_on medium medium' reservations holds kept.held;
       }
 
-  pub refused_kept : (completion : Completion) → Refuses medium write_protected armed.srb completion medium' → JournalKept opening medium' entries places slots' armings reservations
+  pub refused_kept : (completion : Completion) → Refuses medium write_protected armed.srb completion medium' → JournalKept opening medium' entered places slots' armings reservations
   refused_kept completion refuses =
       let less : armed_count slots' + 1 ≡ armed_count slots = one_less slots slots' tag piece armed takes in
       let size_is : medium'.sector_size ≡ medium.sector_size = ap (λ (v : MediumView). v.sector_size) refuses.after in
       let sectors_are : medium'.sectors ≡ medium.sectors = ap (λ (v : MediumView). v.sectors) refuses.after in
       let reserved_are : medium'.reserved ≡ medium.reserved = ap (λ (v : MediumView). v.reserved) refuses.after in
       let holds : Holds medium medium' = record { as_many = ap length sectors_are; lasts = λ extent h. holds_reserved medium medium' extent reserved_are h } in
-      let placed : length entries + armed_count slots ≤ places = kept.placed in
+      let placed : length entered + armed_count slots ≤ places = kept.placed in
       let counted : medium.failures + armed_count slots ≤ length armings = kept.counted in
       let more : medium'.failures ≤ medium.failures + 1 = refuses.counted in
       record {
         replays =
-            subst (λ (x : ℕ). Replays x opening entries medium'.sectors) (sym size_is)
-            (subst (λ (x : List (List ℕ)). Replays medium.sector_size opening entries x) (sym sectors_are) kept.replays);
+            subst (λ (x : ℕ). Replays x opening (entries_in entered) medium'.sectors) (sym size_is)
+            (subst (λ (x : List (List ℕ)). Replays medium.sector_size opening (entries_in entered) x) (sym sectors_are) kept.replays);
+        of_armings = of_all medium medium' armings entered size_is (ap length sectors_are) kept.of_armings;
         some = subst (λ (n : ℕ). 1 ≤ n) (sym (ap length sectors_are)) kept.some;
         ready = λ other a h. ready_on medium medium' armings other a holds (ready_but medium armings slots slots' tag takes.after kept.ready other a h);
         placed = omega (arith, less, placed);
@@ -143,14 +177,15 @@ cleared_count slots tag = elim (cases_lt tag (length slots)) [
   | inr past ↦ let same : slice_set slots tag None ≡ slots = set_past slots tag None past in rw same (omega arith)
 ]
 
-pub disarmed_kept : (opening : List (List ℕ)) (medium : MediumView) (entries : List Entry) (places : ℕ) (slots slots' : List (Option Armed)) (armings : List Armed) (reservations : List Reservation) (tag : ℕ)
-    → JournalKept opening medium entries places slots armings reservations → slots' ≡ slice_set slots tag None → JournalKept opening medium entries places slots' armings reservations
-disarmed_kept opening medium entries places slots slots' armings reservations tag kept after =
+pub disarmed_kept : (opening : List (List ℕ)) (medium : MediumView) (entered : List Entered) (places : ℕ) (slots slots' : List (Option Armed)) (armings : List Armed) (reservations : List Reservation) (tag : ℕ)
+    → JournalKept opening medium entered places slots armings reservations → slots' ≡ slice_set slots tag None → JournalKept opening medium entered places slots' armings reservations
+disarmed_kept opening medium entered places slots slots' armings reservations tag kept after =
     let less : armed_count slots' ≤ armed_count slots = rw after (cleared_count slots tag) in
-    let placed : length entries + armed_count slots ≤ places = kept.placed in
+    let placed : length entered + armed_count slots ≤ places = kept.placed in
     let counted : medium.failures + armed_count slots ≤ length armings = kept.counted in
     record {
       replays = kept.replays;
+      of_armings = kept.of_armings;
       some = kept.some;
       ready = ready_but medium armings slots slots' tag after kept.ready;
       placed = omega (arith, less, placed);
@@ -158,10 +193,11 @@ disarmed_kept opening medium entries places slots slots' armings reservations ta
       held = kept.held;
     }
 
-pub released_kept : (opening : List (List ℕ)) (medium : MediumView) (entries : List Entry) (places : ℕ) (slots : List (Option Armed)) (armings : List Armed) (reservations reservations' : List Reservation) (at : ℕ)
-    → JournalKept opening medium entries places slots armings reservations → reservations' ≡ remove reservations at → JournalKept opening medium entries places slots armings reservations'
-released_kept opening medium entries places slots armings reservations reservations' at kept after = record {
+pub released_kept : (opening : List (List ℕ)) (medium : MediumView) (entered : List Entered) (places : ℕ) (slots : List (Option Armed)) (armings : List Armed) (reservations reservations' : List Reservation) (at : ℕ)
+    → JournalKept opening medium entered places slots armings reservations → reservations' ≡ remove reservations at → JournalKept opening medium entered places slots armings reservations'
+released_kept opening medium entered places slots armings reservations reservations' at kept after = record {
   replays = kept.replays;
+  of_armings = kept.of_armings;
   some = kept.some;
   ready = kept.ready;
   placed = kept.placed;
@@ -174,27 +210,16 @@ pub held_at : (medium : MediumView) (reservations : List Reservation) (at : ℕ)
     → 1 ≤ found.max_transfer
 held_at medium reservations at found held low is = subst (λ (r : Reservation). 1 ≤ r.max_transfer) (sym is) (held at found low).some
 
-get_front : {A : Type 0} (xs ys : List A) (k : ℕ) (x : A) → slice_get xs k ≡ Some x → slice_get (xs ++ ys) k ≡ Some x
-get_front [] ys k x h = absurd (cc (h))
-get_front (y ∷ xs) ys zero x h = h
-get_front (y ∷ xs) ys (suc k) x h = get_front xs ys k x h
-
-get_end : {A : Type 0} (xs : List A) (x : A) → slice_get (xs ++ x ∷ []) (length xs) ≡ Some x
-get_end [] x = refl
-get_end (y ∷ xs) x = get_end xs x
-
-some_is : {A : Type 0} {x y : A} → Some x ≡ Some y → x ≡ y
-some_is h = cc (h)
-
-pub armed_kept : (opening : List (List ℕ)) (medium : MediumView) (entries : List Entry) (places : ℕ) (slots slots' : List (Option Armed)) (armings armings' : List Armed) (reservations : List Reservation) (tag : ℕ) (armed : Armed)
-    → JournalKept opening medium entries places slots armings reservations → IsFree slots tag → armed.tag ≡ tag → armed.number ≡ length armings → CanEnter medium armed → length entries + armed_count slots < places
-    → slots' ≡ slice_set slots tag (Some armed) → armings' ≡ armings ++ armed ∷ [] → JournalKept opening medium entries places slots' armings' reservations
-armed_kept opening medium entries places slots slots' armings armings' reservations tag armed kept free is_tag is_number can place after longer =
+pub armed_kept : (opening : List (List ℕ)) (medium : MediumView) (entered : List Entered) (places : ℕ) (slots slots' : List (Option Armed)) (armings armings' : List Armed) (reservations : List Reservation) (tag : ℕ) (armed : Armed)
+    → JournalKept opening medium entered places slots armings reservations → IsFree slots tag → armed.tag ≡ tag → armed.number ≡ length armings → CanEnter medium armed → length entered + armed_count slots < places
+    → slots' ≡ slice_set slots tag (Some armed) → armings' ≡ armings ++ armed ∷ [] → JournalKept opening medium entered places slots' armings' reservations
+armed_kept opening medium entered places slots slots' armings armings' reservations tag armed kept free is_tag is_number can place after longer =
     let more : armed_count slots' ≡ armed_count slots + 1 = ap armed_count after ∙ put_count slots tag armed free in
     let long : length armings' ≡ length armings + 1 = ap length longer ∙ length-append armings (armed ∷ []) in
     let counted : medium.failures + armed_count slots ≤ length armings = kept.counted in
     record {
       replays = kept.replays;
+      of_armings = subst (λ (all : List Armed). AreOfArmings medium all entered) (sym longer) (of_more medium armings armed entered kept.of_armings);
       some = kept.some;
       ready = λ other a h. subst (λ (all : List Armed). MayAct medium all other a) (sym longer) (elim (cases_eq other tag) [
         | inl is ↦
@@ -222,22 +247,23 @@ armed_kept opening medium entries places slots slots' armings armings' reservati
 -- ROOM FOR A REQUEST
 
 -- more room, and a medium of which more is reserved
-pub roomier_kept : (opening : List (List ℕ)) (medium medium' : MediumView) (entries entries' : List Entry) (places places' : ℕ) (slots : List (Option Armed)) (armings : List Armed) (reservations reservations' : List Reservation)
-    → JournalKept opening medium entries places slots armings reservations → Reserves medium medium' → entries' ≡ entries → places ≤ places' → reservations' ≡ reservations
-    → JournalKept opening medium' entries' places' slots armings reservations'
-roomier_kept opening medium medium' entries entries' places places' slots armings reservations reservations' kept reserves same more same' =
+pub roomier_kept : (opening : List (List ℕ)) (medium medium' : MediumView) (entered entered' : List Entered) (places places' : ℕ) (slots : List (Option Armed)) (armings : List Armed) (reservations reservations' : List Reservation)
+    → JournalKept opening medium entered places slots armings reservations → Reserves medium medium' → entered' ≡ entered → places ≤ places' → reservations' ≡ reservations
+    → JournalKept opening medium' entered' places' slots armings reservations'
+roomier_kept opening medium medium' entered entered' places places' slots armings reservations reservations' kept reserves same more same' =
     let size_is : medium'.sector_size ≡ medium.sector_size = ap (λ (v : MediumView). v.sector_size) reserves.after in
     let sectors_are : medium'.sectors ≡ medium.sectors = ap (λ (v : MediumView). v.sectors) reserves.after in
     let failures_are : medium'.failures ≡ medium.failures = ap (λ (v : MediumView). v.failures) reserves.after in
     let holds : Holds medium medium' = record { as_many = ap length sectors_are; lasts = reserves.lasts } in
-    let placed : length entries + armed_count slots ≤ places = kept.placed in
+    let placed : length entered + armed_count slots ≤ places = kept.placed in
     let counted : medium.failures + armed_count slots ≤ length armings = kept.counted in
-    let long : length entries' ≡ length entries = ap length same in
+    let long : length entered' ≡ length entered = ap length same in
     record {
       replays =
-          subst (λ (x : ℕ). Replays x opening entries' medium'.sectors) (sym size_is)
-          (subst (λ (x : List (List ℕ)). Replays medium.sector_size opening entries' x) (sym sectors_are)
-          (subst (λ (x : List Entry). Replays medium.sector_size opening x medium.sectors) (sym same) kept.replays));
+          subst (λ (x : ℕ). Replays x opening (entries_in entered') medium'.sectors) (sym size_is)
+          (subst (λ (x : List (List ℕ)). Replays medium.sector_size opening (entries_in entered') x) (sym sectors_are)
+          (subst (λ (x : List Entered). Replays medium.sector_size opening (entries_in x) medium.sectors) (sym same) kept.replays));
+      of_armings = of_all medium medium' armings entered' size_is (ap length sectors_are) (subst (λ (x : List Entered). AreOfArmings medium armings x) (sym same) kept.of_armings);
       some = subst (λ (n : ℕ). 1 ≤ n) (sym (ap length sectors_are)) kept.some;
       ready = λ tag armed h. ready_on medium medium' armings tag armed holds (kept.ready tag armed h);
       placed = omega (arith, long, more, placed);
@@ -246,13 +272,14 @@ roomier_kept opening medium medium' entries entries' places places' slots arming
     }
 
 -- one reservation more
-pub admitted_kept : (opening : List (List ℕ)) (medium medium' : MediumView) (entries entries' : List Entry) (places places' : ℕ) (slots : List (Option Armed)) (armings : List Armed) (reservations reservations' : List Reservation) (reservation : Reservation)
-    → JournalKept opening medium entries places slots armings reservations → Reserves medium medium' → entries' ≡ entries → places ≤ places' → IsHeld medium' reservation → reservations' ≡ reservations ++ reservation ∷ []
-    → JournalKept opening medium' entries' places' slots armings reservations'
-admitted_kept opening medium medium' entries entries' places places' slots armings reservations reservations' reservation kept reserves same more held longer =
-    let more_kept = roomier_kept opening medium medium' entries entries' places places' slots armings reservations reservations kept reserves same more refl in
+pub admitted_kept : (opening : List (List ℕ)) (medium medium' : MediumView) (entered entered' : List Entered) (places places' : ℕ) (slots : List (Option Armed)) (armings : List Armed) (reservations reservations' : List Reservation) (reservation : Reservation)
+    → JournalKept opening medium entered places slots armings reservations → Reserves medium medium' → entered' ≡ entered → places ≤ places' → IsHeld medium' reservation → reservations' ≡ reservations ++ reservation ∷ []
+    → JournalKept opening medium' entered' places' slots armings reservations'
+admitted_kept opening medium medium' entered entered' places places' slots armings reservations reservations' reservation kept reserves same more held longer =
+    let more_kept = roomier_kept opening medium medium' entered entered' places places' slots armings reservations reservations kept reserves same more refl in
     record {
       replays = more_kept.replays;
+      of_armings = more_kept.of_armings;
       some = more_kept.some;
       ready = more_kept.ready;
       placed = more_kept.placed;

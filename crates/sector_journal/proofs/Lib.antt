@@ -1,7 +1,7 @@
 pub mod Bookable
+pub mod Carried
 pub mod Counting
 pub mod Covered
-pub mod Entered
 pub mod Kept
 pub mod Reserved
 pub mod Shelves

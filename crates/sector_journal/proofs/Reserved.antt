@@ -1,8 +1,12 @@
 -- A journal with more room.
-use Rattle.std.proofs.Common.{◌≡◌, ◌≤◌, ℕ, List, Result, Ok, Err, OnErr, refl, sym, ap, subst, ◌∙◌}
-use Rattle.srb.specs.declared.Entry.{Entry}
+use Rattle.std.proofs.Common.{◌≡◌, ◌≤◌, ◌<◌, ℕ, ◌+◌, ◌-◌, List, [], ◌∷◌, ◌++◌, length, get_or, slice_index_or, Result, Ok, Err, OnErr, refl, ap, subst, ◌∙◌, arith}
+use Rattle.std.specs.List.{sum_by, remove}
+use Rattle.std.proofs.lemmas.List.Sums.{sum_by_push, sum_by-remove}
 use Rattle.disk.specs.Medium.{MediumView, Reserves}
+use Rattle.sector_journal.specs.declared.acted.Entered.{Entered}
 use Rattle.sector_journal.specs.declared.reservation.Reservation.{Reservation}
+use Rattle.sector_journal.specs.Reserving.{pieces_of}
+use Rattle.sector_journal.specs.Stocking.{Room, pieces_at}
 use Rattle.sector_journal.specs.Journal.{JournalView, GainsRoom}
 
 pub reserves_none : (medium : MediumView) → Reserves medium medium
@@ -12,8 +16,27 @@ pub on_err : {A B P : Type 0} (result : Result A B) → P → OnErr result P
 on_err (Ok x) p = tt
 on_err (Err e) p = p
 
-pub gains : (old shown : JournalView) (medium' : MediumView) (entries' : List Entry) (places' : ℕ) (reservations' : List Reservation) → shown ≡ old → Reserves shown.medium medium' → shown.places ≤ places' → entries' ≡ shown.entries
-    → reservations' ≡ shown.reservations → GainsRoom old (record shown { medium = medium'; places = places'; entries = entries'; reservations = reservations' })
-gains old shown medium' entries' places' reservations' shown_is reserves more same same' =
-    subst (λ (j : JournalView). GainsRoom j (record shown { medium = medium'; places = places'; entries = entries'; reservations = reservations' })) shown_is
-    (record { medium = reserves; more = more; after = rw (same, same') refl })
+-- more room for entries and in the medium, and as many buffers
+pub gains : (old shown : JournalView) (medium' : MediumView) (entered' : List Entered) (places' : ℕ) (reservations' : List Reservation) (room' : List Room) → shown ≡ old → Reserves shown.medium medium' → shown.places ≤ places'
+    → entered' ≡ shown.entered → reservations' ≡ shown.reservations → ((long : ℕ) → pieces_at room' long ≡ pieces_at shown.room long)
+    → GainsRoom old (record shown { medium = medium'; places = places'; entered = entered'; reservations = reservations'; room = room' })
+gains old shown medium' entered' places' reservations' room' shown_is reserves more same same' buffers =
+    subst (λ (j : JournalView). GainsRoom j (record shown { medium = medium'; places = places'; entered = entered'; reservations = reservations'; room = room' })) shown_is
+    (record { medium = reserves; more = more; buffers = buffers; after = rw (same, same') refl })
+
+-- a request that was answered, and its pieces
+pub released : (reservations reservations' : List Reservation) (at : ℕ) (found : Reservation) (promised full last : ℕ) → at < length reservations → found ≡ slice_index_or reservations at found
+    → reservations' ≡ remove reservations at → promised ≡ sum_by pieces_of reservations → full + last ≡ pieces_of found → promised - full - last ≡ sum_by pieces_of reservations'
+released reservations reservations' at found promised full last low is less p q =
+    let sum : sum_by pieces_of (remove reservations at) + pieces_of (get_or reservations at found) ≡ sum_by pieces_of reservations = sum_by-remove pieces_of reservations at found low in
+    let it : pieces_of found ≡ pieces_of (get_or reservations at found) = ap pieces_of is in
+    let rest : sum_by pieces_of reservations' ≡ sum_by pieces_of (remove reservations at) = ap (sum_by pieces_of) less in
+    omega (arith, sum, it, rest, p, q)
+
+-- a request that was admitted, and its pieces
+pub admitted : (reservations items reservations' : List Reservation) (reservation : Reservation) (promised pieces cut wanted : ℕ) → promised ≡ sum_by pieces_of reservations → pieces ≡ cut → cut ≡ pieces_of reservation → wanted ≡ promised + pieces → items ≡ reservations
+    → reservations' ≡ items ++ reservation ∷ [] → wanted ≡ sum_by pieces_of reservations'
+admitted reservations items reservations' reservation promised pieces cut wanted p q r w same longer =
+    let sum : sum_by pieces_of reservations' ≡ sum_by pieces_of items + pieces_of reservation = ap (sum_by pieces_of) longer ∙ sum_by_push pieces_of items reservation in
+    let old : sum_by pieces_of items ≡ sum_by pieces_of reservations = ap (sum_by pieces_of) same in
+    omega (arith, sum, old, p, q, r, w)

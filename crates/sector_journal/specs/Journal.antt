@@ -1,6 +1,6 @@
 -- What a journal shows, and what its calls do.
-use Rattle.std.specs.Prelude.{◌≡◌, ◌≤◌, ◌<◌, ◌^◌, ℕ, ◌+◌, ◌-◌, Bool, true, List, [], ◌∷◌, ◌++◌, length, All, Option, Some, None, Result, Ok, Err, MatchOption, replicate, slice_get, slice_set}
-use Rattle.std.specs.List.{list_any, position, remove}
+use Rattle.std.specs.Prelude.{◌≡◌, ◌≢◌, ◌≤◌, ◌<◌, ◌^◌, ℕ, ◌+◌, ◌-◌, Bool, true, List, [], ◌∷◌, ◌++◌, length, map, All, Option, Some, None, Result, Ok, Err, MatchOption, replicate, slice_get, slice_set}
+use Rattle.std.specs.List.{list_any, position, remove, sum_by}
 use Rattle.cdb.specs.declared.Cdb.{Cdb}
 use Rattle.cdb.specs.Meaning.{Means}
 use Rattle.srb.specs.declared.Srb.{Srb}
@@ -9,23 +9,25 @@ use Rattle.srb.specs.declared.Kind.TheVariants.{Write}
 use Rattle.srb.specs.declared.Entry.{Entry}
 use Rattle.srb.specs.declared.Completion.{Completion}
 use Rattle.srb.specs.Replaying.{Replays}
+use Rattle.adapter.specs.Booking.{IsOfSrb}
 use Rattle.sector.specs.declared.Extent.{Extent}
 use Rattle.disk.specs.Medium.{MediumView, IsReserved, Reserves}
 use Rattle.miniport.specs.Carrying.{IsReady}
+use Rattle.sector_journal.specs.declared.acted.Entered.{Entered}
 use Rattle.sector_journal.specs.declared.slots.Armed.{Armed}
 use Rattle.sector_journal.specs.declared.reservation.Reservation.{Reservation}
 use Rattle.sector_journal.specs.Arming.{AskTheSame}
 use Rattle.sector_journal.specs.Entering.{named, Names, Enters, Refuses}
 use Rattle.sector_journal.specs.Slots.{armed_at, armed_count, IsFree}
-use Rattle.sector_journal.specs.Reserving.{covers, is_of, pieces_of}
+use Rattle.sector_journal.specs.Reserving.{covers, is_of, pieces_of, pieces_with}
 use Rattle.sector_journal.specs.Stocking.{Room, pieces_at}
 
 pub record JournalView : Type 0 where
   -- the sectors
   pub medium : MediumView
   pub write_protected : Bool
-  -- what acts did, in their order
-  pub entries : List Entry
+  -- what acts did, in their order, each with its arming
+  pub entered : List Entered
   -- the entries for which there is room, those that are there among them
   pub places : ℕ
   -- for each tag the piece that may act
@@ -36,6 +38,13 @@ pub record JournalView : Type 0 where
   pub reservations : List Reservation
   -- for how many pieces of so many bytes there are buffers
   pub room : List Room
+
+-- what acts did, without their armings
+abbrev pub entries_in : List Entered → List Entry
+entries_in entered = map (λ (e : Entered). e.entry) entered
+
+abbrev pub entries_of : JournalView → List Entry
+entries_of journal = entries_in journal.entered
 
 -- WHAT ALWAYS HOLDS
 
@@ -50,18 +59,31 @@ pub record MayAct (medium : MediumView) (armings : List Armed) (tag : ℕ) (arme
   pub is_tag : armed.tag ≡ tag
   pub noted : slice_get armings armed.number ≡ Some armed
 
+-- the entry is of the piece that was armed under this number, and of what its SRB asks for
+pub record IsOfArming (size sectors : ℕ) (armings : List Armed) (entered : Entered) : Type 0 where
+  pub armed : Armed
+  pub noted : slice_get armings entered.arming ≡ Some armed
+  pub is_piece : entered.entry.piece ≡ armed.piece
+  pub is_tag : entered.entry.tag ≡ armed.tag
+  pub of_srb : IsOfSrb size sectors armed.srb entered.entry
+
+-- each entry is of its arming
+abbrev pub AreOfArmings : MediumView → List Armed → List Entered → Type 0
+AreOfArmings medium armings entered = All (IsOfArming medium.sector_size (length medium.sectors) armings) entered
+
 -- a piece has a sector at least, and what a write may move is reserved in the medium
 pub record IsHeld (medium : MediumView) (reservation : Reservation) : Type 0 where
   pub some : 1 ≤ reservation.max_transfer
   pub reserved : reservation.kind ≡ Write → IsReserved medium reservation.extent
 
 -- the entries give the sectors, replayed from those that the journal was opened with; and whatever is armed can act
-pub record JournalKept (opening : List (List ℕ)) (medium : MediumView) (entries : List Entry) (places : ℕ) (slots : List (Option Armed)) (armings : List Armed) (reservations : List Reservation) : Type 0 where
-  pub replays : Replays medium.sector_size opening entries medium.sectors
+pub record JournalKept (opening : List (List ℕ)) (medium : MediumView) (entered : List Entered) (places : ℕ) (slots : List (Option Armed)) (armings : List Armed) (reservations : List Reservation) : Type 0 where
+  pub replays : Replays medium.sector_size opening (entries_in entered) medium.sectors
+  pub of_armings : AreOfArmings medium armings entered
   pub some : 1 ≤ length medium.sectors
   pub ready : (tag : ℕ) (armed : Armed) → armed_at slots tag ≡ Some armed → MayAct medium armings tag armed
   -- each armed piece has a place for its entry
-  pub placed : length entries + armed_count slots ≤ places
+  pub placed : length entered + armed_count slots ≤ places
   -- no more acts failed than were armed
   pub counted : medium.failures + armed_count slots ≤ length armings
   pub held : All (IsHeld medium) reservations
@@ -72,22 +94,24 @@ pub record JournalKept (opening : List (List ℕ)) (medium : MediumView) (entrie
 pub record IsNew (medium : MediumView) (depth : ℕ) (write_protected : Bool) (journal : JournalView) : Type 0 where
   pub medium_is : journal.medium ≡ medium
   pub protected : journal.write_protected ≡ write_protected
-  pub no_entry : journal.entries ≡ []
+  pub no_entry : journal.entered ≡ []
   pub none_armed : journal.slots ≡ replicate depth None
   pub no_arming : journal.armings ≡ []
   pub none_open : journal.reservations ≡ []
 
--- there may be more room, and nothing else changed
+-- there may be more room for entries and in the medium, and nothing else changed
 pub record GainsRoom (old new : JournalView) : Type 0 where
   pub medium : Reserves old.medium new.medium
   pub more : old.places ≤ new.places
+  pub buffers : (long : ℕ) → pieces_at new.room long ≡ pieces_at old.room long
   pub after : new ≡ record old { medium = new.medium; places = new.places; room = new.room }
 
--- there is room for what the request may move
+-- there is room for what the request may move: for an entry of each piece of all open requests, and for the buffers of its own pieces beside all others
 pub record Admits (old : JournalView) (reservation : Reservation) (new : JournalView) : Type 0 where
   pub medium : Reserves old.medium new.medium
   pub held : IsHeld new.medium reservation
-  pub more : length old.entries + pieces_of reservation ≤ new.places
+  pub places : length old.entered + sum_by pieces_of new.reservations ≤ new.places
+  pub buffers : (long : ℕ) → pieces_at new.room long ≡ pieces_at old.room long + pieces_with old.medium.sector_size long reservation
   pub after : new ≡ record old { medium = new.medium; places = new.places; room = new.room; reservations = old.reservations ++ reservation ∷ [] }
 
 -- the first reservation of the request, if there is one, is no more
@@ -105,7 +129,7 @@ pub record MayArm (journal : JournalView) (tag : ℕ) (srb : Srb) : Type 0 where
   pub free : IsFree journal.slots tag
   pub covered : list_any (covers what.0 what.1) journal.reservations ≡ true
   pub room : 1 ≤ pieces_at journal.room (length srb.data)
-  pub place : length journal.entries + armed_count journal.slots < journal.places
+  pub place : length journal.entered + armed_count journal.slots < journal.places
   pub number : length journal.armings < 2 ^ 64 - 1
 
 -- the piece may act on the tag, by an SRB that asks for the same
@@ -118,6 +142,7 @@ pub record Arms (old : JournalView) (tag piece : ℕ) (srb : Srb) (new : Journal
   pub same_function : armed.srb.function ≡ srb.function
   pub same_flags : armed.srb.flags ≡ srb.flags
   pub less_room : pieces_at new.room (length srb.data) + 1 ≡ pieces_at old.room (length srb.data)
+  pub same_room : (long : ℕ) → long ≢ length srb.data → pieces_at new.room long ≡ pieces_at old.room long
   pub after : new ≡ record old { slots = slice_set old.slots tag (Some armed); armings = old.armings ++ armed ∷ []; room = new.room }
 
 -- no piece may act on the tag
@@ -125,11 +150,15 @@ pub record Disarms (old : JournalView) (tag : ℕ) (new : JournalView) : Type 0 
   pub no_less : (long : ℕ) → pieces_at old.room long ≤ pieces_at new.room long
   pub after : new ≡ record old { slots = slice_set old.slots tag None; room = new.room }
 
+-- an entry, of this arming
+abbrev pub of_arming : ℕ → Entry → Entered
+of_arming number entry = record { arming = number; entry = entry }
+
 -- what came of it, in the medium and in the entries
 abbrev pub Does : JournalView → ℕ → ℕ → Armed → Result ℕ Completion → JournalView → Type 0
 Does old tag piece armed (Ok number) new =
-    (entry : Entry) × (number ≡ length old.entries) × Enters old.medium old.write_protected tag piece armed.srb entry new.medium × (new.entries ≡ old.entries ++ entry ∷ [])
-Does old tag piece armed (Err completion) new = Refuses old.medium old.write_protected armed.srb completion new.medium × (new.entries ≡ old.entries)
+    (entry : Entry) × (number ≡ length old.entered) × Enters old.medium old.write_protected tag piece armed.srb entry new.medium × (new.entered ≡ old.entered ++ of_arming armed.number entry ∷ [])
+Does old tag piece armed (Err completion) new = Refuses old.medium old.write_protected armed.srb completion new.medium × (new.entered ≡ old.entered)
 
 -- the piece acts or fails, and the tag is disarmed
 pub record Acts (old : JournalView) (tag piece : ℕ) (done : Result ℕ Completion) (new : JournalView) : Type 0 where
@@ -137,4 +166,4 @@ pub record Acts (old : JournalView) (tag piece : ℕ) (done : Result ℕ Complet
   pub was_there : armed_at old.slots tag ≡ Some armed
   pub is_piece : armed.piece ≡ piece
   pub does : Does old tag piece armed done new
-  pub after : new ≡ record old { medium = new.medium; entries = new.entries; slots = slice_set old.slots tag None }
+  pub after : new ≡ record old { medium = new.medium; entered = new.entered; slots = slice_set old.slots tag None }

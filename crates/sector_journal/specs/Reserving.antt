@@ -1,5 +1,5 @@
 -- What a request reserved, and the pieces that it covers.
-use Rattle.std.specs.Prelude.{ℕ, ◌+◌, ◌-◌, ◌/◌, ◌%◌, min, ◌&&◌, ◌||◌, Bool, true, false, nat_le, nat_eq, not}
+use Rattle.std.specs.Prelude.{ℕ, ◌*◌, ◌==◌, if◌then◌else◌, ◌+◌, ◌-◌, ◌/◌, ◌%◌, min, ◌&&◌, ◌||◌, Bool, true, false, nat_le, nat_eq}
 use Rattle.sector.specs.declared.Extent.{Extent}
 use Rattle.srb.specs.declared.Kind.{Kind}
 use Rattle.srb.specs.declared.Kind.TheVariants.{Read, Write, Flush}
@@ -44,3 +44,16 @@ pieces_by Flush count most = 1
 
 abbrev pub pieces_of : Reservation → ℕ
 pieces_of reservation = pieces_by reservation.kind reservation.extent.count reservation.max_transfer
+
+-- so many of one length, as of this one
+abbrev pub of_length : ℕ → ℕ → ℕ → ℕ
+of_length pieces bytes long = if bytes == long then pieces else 0
+
+-- how many pieces of so many bytes are cut of a transfer: those of full length, and the last; a flush has none
+abbrev pub lengths_by : Kind → ℕ → ℕ → ℕ → ℕ → ℕ
+lengths_by Read count most size long = of_length (count / most) (most * size) long + of_length (min (count % most) 1) (count % most * size) long
+lengths_by Write count most size long = of_length (count / most) (most * size) long + of_length (min (count % most) 1) (count % most * size) long
+lengths_by Flush count most size long = of_length 0 0 long + of_length 1 0 long
+
+abbrev pub pieces_with : ℕ → ℕ → Reservation → ℕ
+pieces_with size long reservation = lengths_by reservation.kind reservation.extent.count reservation.max_transfer size long

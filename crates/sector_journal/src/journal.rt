@@ -1,22 +1,23 @@
 //! The journal: what acts did to the sectors, in their order.
 
-ghost use Rattle.std.specs.Prelude.{◌≡◌, ◌<◌, ◌≤◌, ◌+◌, ◌-◌, ◌^◌, ◌∷◌, [], None, Some, Ok, length, vec_len, vec_capacity, true, IfOk, OnOk, OnErr, IfSome, MatchOption, MatchBool, slice_get};
+ghost use Rattle.std.specs.Prelude.{◌≡◌, ℕ, ◌<◌, ◌≤◌, ◌+◌, ◌-◌, ◌^◌, ◌∷◌, [], None, Some, Ok, length, vec_len, vec_capacity, true, IfOk, OnOk, OnErr, IfSome, MatchOption, MatchBool, slice_get};
 ghost use Rattle.std.specs.Bool.{Decides};
 ghost use Rattle.std.specs.List.{list_any, position};
 ghost use Rattle.std.specs.Option.{option_copied};
 ghost use Rattle.chronicle.specs.Claims.{AllStand};
-ghost use Rattle.srb.specs.declared.Entry.{Entry};
+ghost use Rattle.sector_journal.specs.declared.acted.Entered.{Entered};
 ghost use Rattle.srb.specs.declared.Kind.{Kind};
 ghost use Rattle.disk.specs.Medium.{IsReserved, IsWithin, Reserves};
 ghost use Rattle.srb.specs.Replaying.{Replays};
 ghost use Rattle.sector_journal.specs.declared.reservation.Reservation.{Reservation};
 ghost use Rattle.sector_journal.specs.declared.slots.Armed.{Armed};
 ghost use Rattle.sector_journal.specs.Arming.{IsCopy};
-ghost use Rattle.sector_journal.specs.Journal.{Acts, Admits, Arms, Disarms, GainsRoom, IsNew, MayArm, Releases};
-ghost use Rattle.sector_journal.specs.Reserving.{covers, is_of, pieces_of};
+ghost use Rattle.sector_journal.specs.Journal.{Acts, Admits, AreOfArmings, Arms, Disarms, GainsRoom, IsNew, MayArm, Releases, entries_in, entries_of};
+ghost use Rattle.sector_journal.specs.Reserving.{covers, is_of, of_length};
 ghost use Rattle.sector_journal.specs.Slots.{HasNone, armed_at};
-ghost use Rattle.sector_journal.specs.Stocking.{IsOfLength};
+ghost use Rattle.sector_journal.specs.Stocking.{IsOfLength, pieces_at};
 
+use crate::acted::Entered;
 use crate::entering::{enter, named_in};
 use crate::name::{Naming, OfArmings, OfEntries};
 use crate::opened::{History, Opened};
@@ -26,7 +27,7 @@ use crate::stock::Stock;
 use chronicle::{Claims, Whole};
 use disk::Medium;
 use sector::{Bytes, Extent};
-use srb::{Completion, Entry, Kind, Srb};
+use srb::{Completion, Kind, Srb};
 use std::alloc::{AllocError, Global};
 use std::marker::Model;
 
@@ -36,8 +37,8 @@ pub struct Journal<M: Medium, N: Naming> {
     alloc: Global,
     medium: M,
     write_protected: bool,
-    entries: Vec<Entry>,
-    /// Entries that open requests may add, those that were added since they came among them.
+    entries: Vec<Entered>,
+    /// The pieces of all open requests, those that acted among them.
     promised: usize,
     slots: Slots,
     /// How many armings there were.
@@ -45,11 +46,13 @@ pub struct Journal<M: Medium, N: Naming> {
     reservations: Vec<Reservation>,
     stock: Stock,
     armed: Whole<Armed, OfArmings<N>>,
-    entered: Whole<Entry, OfEntries<N>>,
+    entered: Whole<Entered, OfEntries<N>>,
 }
 
 impl<M: Medium, N: Naming> Model for Journal<M, N> {
     ghost use Rattle.std.specs.Prelude.{◌≡◌, length, vec_capacity};
+    ghost use Rattle.std.specs.List.{sum_by};
+    ghost use Rattle.sector_journal.specs.Reserving.{pieces_of};
     ghost use Rattle.sector_journal.specs.Journal.{JournalKept, JournalView};
 
     ghost Value = { JournalView };
@@ -57,7 +60,7 @@ impl<M: Medium, N: Naming> Model for Journal<M, N> {
     ghost view = { λ j. record {
       medium = M.view j.medium;
       write_protected = j.write_protected;
-      entries = j.entries.items;
+      entered = j.entries.items;
       places = vec_capacity j.entries;
       slots = j.slots;
       armings = j.armed;
@@ -68,6 +71,7 @@ impl<M: Medium, N: Naming> Model for Journal<M, N> {
     ghost invariant = { λ j. record {
       kept : JournalKept N.opening (M.view j.medium) j.entries.items (vec_capacity j.entries) j.slots j.armed j.reservations.items;
       numbers : j.armings ≡ length j.armed;
+      promised : j.promised ≡ sum_by pieces_of j.reservations.items;
       entered : j.entered ≡ j.entries.items;
     } };
 }
@@ -120,12 +124,14 @@ fn hold<M: Medium>(medium: &mut M, kind: Kind, extent: Extent) -> Result<(), All
 }
 
 /// Makes the buffers of these pieces, or of none.
-fn promise(stock: &mut Stock, slots: &Slots, batches: (Batch, Batch)) -> Result<(), AllocError> {
+fn promise(stock: &mut Stock, slots: &Slots, batches: (Batch, Batch)) -> Result<(), AllocError>
+    ensures made { OnOk result ((long : ℕ) → pieces_at stock.new long ≡ pieces_at stock.old long + (of_length batches.0.pieces batches.0.length long + of_length batches.1.pieces batches.1.length long)) }
+    ensures refused { OnErr result ((long : ℕ) → pieces_at stock.new long ≡ pieces_at stock.old long) }
+{
     let (full, last) = batches;
-    let out = slots.armed_with(full.length);
-    stock.promise(full, out)?;
+    stock.promise(full, slots.armed_with(full.length))?;
     if stock.promise(last, slots.armed_with(last.length)).is_err() {
-        stock.withdraw(full, out);
+        stock.forget(full);
         return Err(AllocError);
     }
     Ok(())
@@ -216,27 +222,34 @@ impl<M: Medium, N: Naming> Journal<M, N> {
     }
 
     /// What acts did, in their order; the number of an entry is its place here.
-    pub fn entries(&self) -> &[Entry]
-        ensures { result.now ≡ self.now.entries }
+    pub fn entries(&self) -> &[Entered]
+        ensures { result.now ≡ self.now.entered }
     {
         self.entries.as_slice()
     }
 
     /// The entries give the sectors, replayed from those that the journal was opened with.
     pub fn shows_rule(&self)
-        ensures { Replays self.now.medium.sector_size N.opening self.now.entries self.now.medium.sectors }
+        ensures { Replays self.now.medium.sector_size N.opening (entries_of self.now) self.now.medium.sectors }
     {
         // The invariant is known where a field is used.
         let _slots = &self.slots;
     }
 
-    /// Makes room for the acts of a request: for their entries, for the buffers of its pieces, and in the medium for a write.
-    /// `extent` is on the disk; of a flush it says nothing. The pieces are cut by `max_transfer`, in sectors, which is 1 at
-    /// least. No other call takes memory.
+    /// Each entry is of the piece that was armed under the number that it names, and of what its SRB asks for.
+    pub fn shows_armings(&self)
+        ensures { AreOfArmings self.now.medium self.now.armings self.now.entered }
+    {
+        let _slots = &self.slots;
+    }
+
+    /// Makes room for the acts of a request: for their entries beside those of all open requests, for the buffers of its
+    /// pieces, and in the medium for a write. `extent` is on the disk; of a flush it says nothing. The pieces are cut by
+    /// `max_transfer`, in sectors, which is 1 at least. No other call takes memory.
     ///
     /// # Errors
     ///
-    /// Where memory was refused; the journal then has spare room at most.
+    /// Where memory was refused; there may then be room for more entries and in the medium, and there are no more buffers.
     pub fn reserve(
         &mut self,
         request: u64,
@@ -257,7 +270,9 @@ impl<M: Medium, N: Naming> Journal<M, N> {
         };
         let batches = reservation.batches(self.medium.sector_size());
         self.reservations.reserve(1)?;
-        let wanted = self.promised.saturating_add(pieces_in(&batches));
+        let Some(wanted) = self.promised.checked_add(pieces_in(&batches)) else {
+            return Err(AllocError);
+        };
         self.entries.reserve(wanted)?;
         hold(&mut self.medium, kind, extent)?;
         promise(&mut self.stock, &self.slots, batches)?;
@@ -337,6 +352,7 @@ impl<M: Medium, N: Naming> Journal<M, N> {
         ensures { MatchOption result (HasNone self.old.slots tag piece × (self.new ≡ self.old)) (λ done. Acts self.old tag piece done self.new) }
     {
         let armed = self.slots.take(tag, piece)?;
+        let arming = armed.number;
         match enter(
             &mut self.medium,
             self.write_protected,
@@ -346,28 +362,37 @@ impl<M: Medium, N: Naming> Journal<M, N> {
         ) {
             Ok(entry) => {
                 let number = self.entries.len() as u64;
-                self.entered.add(&history.entries, &entry);
-                self.entries.push_reserved(entry);
+                let entered = Entered { arming, entry };
+                self.entered.add(&history.entries, &entered);
+                self.entries.push_reserved(entered);
                 Some(Ok(number))
             }
             Err(completion) => Some(Err(completion)),
         }
     }
 
-    /// A receipt of an entry: its number and itself, for good.
-    pub fn receipt(&mut self, history: &History<N>, number: u64) -> Claims<Entry, OfEntries<N>>
-        requires { number < length self.old.entries }
+    /// No receipts yet.
+    pub fn no_receipts(&mut self, history: &History<N>) -> Claims<Entered, OfEntries<N>>
         ensures same { self.new ≡ self.old }
-        ensures receipt { (entry : Entry) × (slice_get self.old.entries number ≡ Some entry) × (result ≡ (number, entry) ∷ []) }
+        ensures none { result ≡ [] }
+    {
+        self.entered.no_claims(&history.entries)
+    }
+
+    /// A receipt of an entry: its number and itself with its arming, for good.
+    pub fn receipt(&mut self, history: &History<N>, number: u64) -> Claims<Entered, OfEntries<N>>
+        requires { number < length self.old.entered }
+        ensures same { self.new ≡ self.old }
+        ensures receipt { (entered : Entered) × (slice_get self.old.entered number ≡ Some entered) × (result ≡ (number, entered) ∷ []) }
     {
         let at = number as usize;
         self.entered.claim(&history.entries, at, &self.entries[at])
     }
 
     /// Each entry that was receipted stands at its number.
-    pub fn check(&mut self, history: &History<N>, receipts: &mut Claims<Entry, OfEntries<N>>)
+    pub fn check(&mut self, history: &History<N>, receipts: &mut Claims<Entered, OfEntries<N>>)
         ensures same { (self.new ≡ self.old) × (receipts.new ≡ receipts.old) }
-        ensures stand { AllStand self.old.entries receipts.old }
+        ensures stand { AllStand self.old.entered receipts.old }
     {
         self.entered.check(&history.entries, receipts)
     }
@@ -401,10 +426,10 @@ impl<M: Medium, N: Naming> Journal<M, N> {
     }
 
     /// The sectors as they are at the end, and what acts did to them.
-    pub fn into_parts(self) -> (M, Vec<Entry>)
+    pub fn into_parts(self) -> (M, Vec<Entered>)
         ensures sectors { M.view result.0 ≡ self.medium }
-        ensures entries { result.1.items ≡ self.entries }
-        ensures rule { Replays (M.view result.0).sector_size N.opening result.1.items (M.view result.0).sectors }
+        ensures entries { result.1.items ≡ self.entered }
+        ensures rule { Replays (M.view result.0).sector_size N.opening (entries_in result.1.items) (M.view result.0).sectors }
     {
         let Journal {
             medium,

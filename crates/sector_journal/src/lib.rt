@@ -5,12 +5,14 @@
 //! and books what came of it with the adapter. Acts take no memory.
 //!
 //! Promised to the crate above, whatever calls are made in whatever order: the entries, replayed from the sectors that the
-//! journal was opened with, give its sectors, and the bytes of each read are what stood at its place. What was claimed of an
-//! arming or of an entry stands for good, so one who held the journal's lock once knows later what stands there.
+//! journal was opened with, give its sectors, and the bytes of each read are what stood at its place; and each entry names
+//! the arming by which its piece acted, and is of what was armed there. What was claimed of an arming or of an entry stands
+//! for good, so one who held the journal's lock once knows later what stands there.
 //!
 //! Not promised: that a piece which may act ever does, nor that sectors outlive the process.
 #![tactic(auto)]
 
+mod acted;
 mod entering;
 mod journal;
 mod name;
@@ -20,6 +22,7 @@ mod shelf;
 mod slots;
 mod stock;
 
+pub use acted::Entered;
 pub use entering::enter;
 pub use journal::Journal;
 pub use name::{Naming, OfArmings, OfEntries};

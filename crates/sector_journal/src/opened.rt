@@ -2,16 +2,16 @@
 
 ghost use Rattle.std.specs.Prelude.{◌≡◌};
 
+use crate::acted::Entered;
 use crate::name::{Naming, OfArmings, OfEntries};
 use crate::slots::Armed;
-use srb::Entry;
 use std::alloc::{AllocError, Global};
 use std::marker::{Brand, Model};
 
 /// The histories of a new journal, which are empty and have no name yet. Contracts see their identities.
 pub struct Opened {
     pub(crate) armings: chronicle::Opened<Armed>,
-    pub(crate) entries: chronicle::Opened<Entry>,
+    pub(crate) entries: chronicle::Opened<Entered>,
 }
 
 impl Model for Opened {
@@ -55,5 +55,5 @@ where
     OfEntries<N>: chronicle::Naming,
 {
     pub armings: chronicle::History<Armed, OfArmings<N>>,
-    pub entries: chronicle::History<Entry, OfEntries<N>>,
+    pub entries: chronicle::History<Entered, OfEntries<N>>,
 }

@@ -1,7 +1,7 @@
 //! What a request may move, and the pieces that it may be cut into.
 
-ghost use Rattle.std.specs.Prelude.{◌≡◌, ◌≤◌, ◌<◌, ◌+◌, ◌*◌, ◌/◌, ◌%◌, min, ◌^◌, ◌&&◌, ◌||◌};
-ghost use Rattle.sector_journal.specs.Reserving.{covers, is_flush, is_read, is_same, is_write, lies_in, pieces_of};
+ghost use Rattle.std.specs.Prelude.{◌≡◌, ◌≤◌, ◌<◌, ◌+◌, ◌*◌, ◌/◌, ◌%◌, min, ◌^◌, ◌&&◌, ◌||◌, ℕ};
+ghost use Rattle.sector_journal.specs.Reserving.{covers, is_flush, is_read, is_same, is_write, lies_in, of_length, pieces_of, pieces_with};
 
 use sector::Extent;
 use srb::Kind;
@@ -84,6 +84,7 @@ impl Reservation {
     pub(crate) fn batches(&self, sector_size: u32) -> (Batch, Batch)
         requires { 1 ≤ self.now.max_transfer }
         ensures together { result.0.pieces + result.1.pieces ≡ pieces_of self.now }
+        ensures lengths { (long : ℕ) → of_length result.0.pieces result.0.length long + of_length result.1.pieces result.1.length long ≡ pieces_with sector_size long self.now }
         ensures fits { result.0.pieces + result.1.pieces < 2 ^ 64 }
     {
         let most = self.max_transfer as u64;
@@ -97,7 +98,7 @@ impl Reservation {
 }
 
 fn make_batch(pieces: u64, length: u64) -> Batch
-    ensures { result.pieces ≡ pieces }
+    ensures { (result.pieces ≡ pieces) × (result.length ≡ length) }
 {
     Batch {
         pieces: pieces as usize,
@@ -110,6 +111,7 @@ fn cut(count: u64, most: u64, size: u64) -> (Batch, Batch)
     requires most { most < 2 ^ 32 }
     requires size { size < 2 ^ 32 }
     ensures together { result.0.pieces + result.1.pieces ≡ count / most + min (count % most) 1 }
+    ensures lengths { (long : ℕ) → of_length result.0.pieces result.0.length long + of_length result.1.pieces result.1.length long ≡ of_length (count / most) (most * size) long + of_length (min (count % most) 1) (count % most * size) long }
     ensures fits { result.0.pieces + result.1.pieces < 2 ^ 64 }
 {
     let left = count % most;

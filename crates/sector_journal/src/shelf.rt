@@ -1,6 +1,6 @@
 //! Buffers of one length.
 
-ghost use Rattle.std.specs.Prelude.{◌≡◌, ◌≤◌, ◌<◌, ◌+◌, IfOk, MatchOption, length, vec_len, All};
+ghost use Rattle.std.specs.Prelude.{◌≡◌, ◌≤◌, ◌<◌, ◌+◌, ◌-◌, IfOk, OnOk, OnErr, MatchOption, length, vec_len, All};
 ghost use Rattle.sector_journal.specs.Stocking.{IsOfLength, TakesOne};
 
 use sector::Bytes;
@@ -35,18 +35,15 @@ fn make_buffer(alloc: Global, length: usize) -> Result<Bytes, AllocError>
     Ok(Bytes::new(bytes))
 }
 
-/// Puts the buffers of so many pieces more behind others.
-fn fill(
-    alloc: Global,
-    length: usize,
-    missing: usize,
-    free: &mut Vec<Bytes>,
-) -> Result<(), AllocError>
-    requires { All (λ buffer. IsOfLength buffer length) free.old.items }
-    ensures { All (λ buffer. IsOfLength buffer length) free.new.items }
+/// Puts so many buffers behind others.
+fn fill(alloc: Global, long: usize, missing: usize, free: &mut Vec<Bytes>) -> Result<(), AllocError>
+    requires { All (λ buffer. IsOfLength buffer long) free.old.items }
+    ensures lengths { All (λ buffer. IsOfLength buffer long) free.new.items }
+    ensures made { OnOk result (length free.new.items ≡ length free.old.items + missing) }
+    ensures no_less { length free.old.items ≤ length free.new.items }
 {
     for _ in 0..missing {
-        let buffer = make_buffer(alloc, length)?;
+        let buffer = make_buffer(alloc, long)?;
         free.push(buffer)?;
     }
     Ok(())
@@ -78,18 +75,25 @@ impl Shelf {
 
     /// Makes the buffers of so many pieces more; `out` pieces have theirs.
     pub fn promise(&mut self, alloc: Global, pieces: usize, out: usize) -> Result<(), AllocError>
-        ensures { self.new.bytes ≡ self.old.bytes }
+        ensures made { OnOk result (self.new ≡ record self.old { pieces = self.old.pieces + pieces }) }
+        ensures refused { OnErr result (self.new ≡ self.old) }
     {
-        let wanted = self.promised.saturating_add(pieces);
-        let there = self.free.len().saturating_add(out);
-        let missing = wanted.saturating_sub(there);
-        self.free.reserve(wanted)?;
-        if fill(alloc, self.bytes, missing, &mut self.free).is_err() {
-            self.trim(out);
+        let there = self.free.len();
+        self.free.reserve(pieces.saturating_add(out))?;
+        if fill(alloc, self.bytes, pieces, &mut self.free).is_err() {
+            self.free.truncate(there);
             return Err(AllocError);
         }
-        self.promised = wanted;
+        self.promised = self.promised.saturating_add(pieces);
         Ok(())
+    }
+
+    /// Drops the buffers of so many pieces that were made last.
+    pub fn forget(&mut self, pieces: usize)
+        ensures { self.new ≡ record self.old { pieces = self.old.pieces - pieces } }
+    {
+        self.promised = self.promised.saturating_sub(pieces);
+        self.free.truncate(self.free.len().saturating_sub(pieces));
     }
 
     /// Drops what no open request can want.

@@ -1,7 +1,8 @@
 //! The buffers of pieces that may yet be armed.
 
-ghost use Rattle.std.specs.Prelude.{◌≡◌, ◌≤◌, ◌<◌, ◌+◌, ℕ, [], MatchOption, length};
+ghost use Rattle.std.specs.Prelude.{◌≡◌, ◌≢◌, ◌≤◌, ◌<◌, ◌+◌, ◌-◌, ℕ, [], Some, IfOk, OnOk, OnErr, MatchOption, length};
 ghost use Rattle.std.specs.List.{position};
+ghost use Rattle.sector_journal.specs.Reserving.{of_length};
 ghost use Rattle.sector_journal.specs.Stocking.{IsOfLength, is_for, pieces_at};
 
 use crate::reservation::Batch;
@@ -44,19 +45,40 @@ impl Stock {
             .position(|shelf| shelf.length() == length)
     }
 
+    /// The shelf of this length, which is empty where there was none.
+    fn find_or_add(&mut self, length: usize) -> Result<usize, AllocError>
+        ensures found { IfOk result (λ at. position (is_for length) self.new ≡ Some at) }
+        ensures same { (long : ℕ) → pieces_at self.new long ≡ pieces_at self.old long }
+    {
+        match self.find(length) {
+            Some(at) => Ok(at),
+            None => {
+                let at = self.shelves.len();
+                self.shelves.push(Shelf::new(self.alloc, length))?;
+                Ok(at)
+            }
+        }
+    }
+
     /// Makes the buffers of these pieces; `out` pieces of their length have theirs.
-    pub fn promise(&mut self, batch: Batch, out: usize) -> Result<(), AllocError> {
+    pub fn promise(&mut self, batch: Batch, out: usize) -> Result<(), AllocError>
+        ensures made { OnOk result ((long : ℕ) → pieces_at self.new long ≡ pieces_at self.old long + of_length batch.pieces batch.length long) }
+        ensures refused { OnErr result ((long : ℕ) → pieces_at self.new long ≡ pieces_at self.old long) }
+    {
         if batch.pieces == 0 {
             return Ok(());
         }
-        let at = match self.find(batch.length) {
-            Some(at) => at,
-            None => {
-                self.shelves.push(Shelf::new(self.alloc, batch.length))?;
-                self.shelves.len() - 1
-            }
-        };
+        let at = self.find_or_add(batch.length)?;
         self.shelves[at].promise(self.alloc, batch.pieces, out)
+    }
+
+    /// Drops the buffers of these pieces, which were made last.
+    pub fn forget(&mut self, batch: Batch)
+        ensures { (long : ℕ) → pieces_at self.new long ≡ pieces_at self.old long - of_length batch.pieces batch.length long }
+    {
+        if let Some(at) = self.find(batch.length) {
+            self.shelves[at].forget(batch.pieces);
+        }
     }
 
     /// These pieces won't come any more.
@@ -72,7 +94,7 @@ impl Stock {
 
     /// A buffer of this length, if a piece may have one.
     pub fn take(&mut self, length: usize) -> Option<Bytes>
-        ensures { MatchOption result ((pieces_at self.old length ≡ 0) × (self.new ≡ self.old)) (λ b. IsOfLength b length × (pieces_at self.new length + 1 ≡ pieces_at self.old length)) }
+        ensures { MatchOption result ((pieces_at self.old length ≡ 0) × (self.new ≡ self.old)) (λ b. IsOfLength b length × (pieces_at self.new length + 1 ≡ pieces_at self.old length) × ((long : ℕ) → long ≢ length → pieces_at self.new long ≡ pieces_at self.old long)) }
     {
         let at = self.find(length)?;
         self.shelves[at].take()

@@ -21,7 +21,7 @@ use journaled::Journaled;
 use miniport::{BookedAdapter, MemAdapter};
 use ntstatus::Sense;
 use sector::Extent;
-use sector_journal::{History, Journal, Naming, Opened};
+use sector_journal::{Entered, History, Journal, Naming, Opened};
 use srb::{Completion, Entry, Kind};
 use std::alloc::{AllocError, Global};
 use std::marker::Brand;
@@ -181,11 +181,11 @@ fn replay<M: Medium>(
     rt: &impl Abort,
     alloc: Global,
     medium: &mut M,
-    entries: &[Entry],
+    entries: &[Entered],
 ) -> Result<(), AllocError> {
     let mut fresh = disk(alloc, &ONE, &[])?;
-    for entry in entries {
-        replay_one(rt, alloc, &mut fresh, entry)?;
+    for entered in entries {
+        replay_one(rt, alloc, &mut fresh, &entered.entry)?;
     }
     let one = read_all(rt, alloc, medium, MOVED)?;
     let other = read_all(rt, alloc, &mut fresh, MOVED)?;

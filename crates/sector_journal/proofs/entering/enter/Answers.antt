@@ -1,9 +1,7 @@
-use Rattle.std.proofs.Common.{◌≡◌, refl, sym, ap, subst, ◌∙◌, List, ℕ, Ok, Err, Some, Result}
-use Rattle.srb.specs.declared.Completion.{Completion}
-use Rattle.miniport.specs.Carrying.{CarriesOut, FailsBy, Ends, emptied}
+use Rattle.std.proofs.Common.{sym, ◌∙◌}
+use Rattle.miniport.specs.Carrying.{emptied}
 use Rattle.miniport.proofs.Sectors.{refused_ends}
-use Rattle.sector_journal.specs.Entering.{outcome_of}
-use Rattle.sector_journal.proofs.Entered.{moved_enters, failed_refuses}
+use Rattle.sector_journal.proofs.Carried.{moved_enters, failed_refuses}
 use Rattle.sector_journal.proofs.entering.enter.Goals as goal
 
 pub returns-in-Err : goal.returns-in-Err

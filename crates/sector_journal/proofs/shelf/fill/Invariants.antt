@@ -1,6 +1,9 @@
-use Rattle.std.proofs.Common.{All}
+use Rattle.std.proofs.Common.{◌≡◌, ◌+◌, All, length}
 use Rattle.sector_journal.specs.Stocking.{IsOfLength}
 use Rattle.sector_journal.proofs.shelf.fill.Given as goal
 
 abbrev pub invariant-loop : goal.invariant-loop
-invariant-loop l = All (λ buffer. IsOfLength buffer l.fn.length) l.free.items
+invariant-loop l = record {
+  long : All (λ buffer. IsOfLength buffer l.fn.long) l.free.items;
+  made : length l.free.items ≡ length l.initial.free.items + l.counter;
+}

@@ -1,4 +1,5 @@
-use Rattle.std.proofs.Common.{rules, ◌≡◌, [], ◌∷◌, ◌++◌, refl, sym, ap, ◌∙◌}
+use Rattle.std.proofs.Common.{[], ◌∷◌, ◌++◌, sym, ap, ◌∙◌}
+use Rattle.sector_journal.specs.Journal.{of_arming}
 use Rattle.sector_journal.proofs.Kept.{entered_kept, refused_kept}
 use Rattle.sector_journal.proofs.journal.Journal.act.Goals as goal
 
@@ -9,13 +10,15 @@ pub invariant_of-self-in-Ok : goal.invariant_of-self-in-Ok
 invariant_of-self-in-Ok g c = record {
   kept = entered_kept _ _ _ _ _ _ _ _ _ _ c.args.tag c.args.piece c.in_ok-armed.armed c.self.invariant.kept c.in_ok-armed.ensures c.in-Ok.entry _ _ c.in-Ok.ensures c.push_reserved.ensures.items c.push_reserved.ensures.capacity;
   numbers = c.self.invariant.numbers;
-  entered = c.add.ensures ∙ ap (λ es. es ++ c.in-Ok.entry ∷ []) c.self.invariant.entered ∙ sym c.push_reserved.ensures.items;
+  promised = c.self.invariant.promised;
+  entered = c.add.ensures ∙ ap (λ es. es ++ of_arming c.in_ok-armed.armed.number c.in-Ok.entry ∷ []) c.self.invariant.entered ∙ sym c.push_reserved.ensures.items;
 }
 
 pub invariant_of-self-in-Err : goal.invariant_of-self-in-Err
 invariant_of-self-in-Err g c = record {
   kept = refused_kept _ _ _ _ _ _ _ _ _ _ c.args.tag c.args.piece c.in_ok-armed.armed c.self.invariant.kept c.in_ok-armed.ensures c.in-Err.completion c.in-Err.ensures;
   numbers = c.self.invariant.numbers;
+  promised = c.self.invariant.promised;
   entered = c.self.invariant.entered;
 }
 

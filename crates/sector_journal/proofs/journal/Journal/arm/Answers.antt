@@ -1,6 +1,5 @@
-use Rattle.std.proofs.Common.{rules, ◌≡◌, ◌≤◌, ◌<◌, ◌+◌, ◌-◌, ◌^◌, length, vec_capacity, true, Some, refl, sym, ap, subst, ◌∙◌}
+use Rattle.std.proofs.Common.{rules, ◌≡◌, ◌≢◌, ℕ, ◌<◌, ◌+◌, ◌-◌, ◌^◌, length, vec_capacity, true, refl, sym, ◌∙◌}
 use Rattle.std.specs.List.{list_any}
-use Rattle.cdb.specs.Meaning.{Means}
 use Rattle.sector_journal.specs.Reserving.{covers}
 use Rattle.sector_journal.specs.Slots.{IsFree, armed_count}
 use Rattle.sector_journal.specs.Stocking.{pieces_at}
@@ -18,6 +17,7 @@ invariant_of-self-2 g c =
       kept = armed_kept _ _ _ _ _ _ _ _ _ c.args.tag _ c.self.invariant.kept free refl c.self.invariant.numbers
           (can_enter _ c.in-Some.kind c.in-Some.extent _ c.args.srb.now _ names covered c.self.invariant.kept.held c.own_srb.ensures) place c.put.ensures c.add.ensures;
       numbers = one_longer _ _ _ _ c.self.invariant.numbers c.add.ensures;
+      promised = c.self.invariant.promised;
       entered = c.self.invariant.entered;
     }
 
@@ -34,4 +34,5 @@ pub returns-clause-arms : goal.returns-clause-arms
 returns-clause-arms g c =
     let names : AlwaysNames c.args.srb.now.block (c.in-Some.kind, c.in-Some.extent) = λ command means. sym c.in-Some.is ∙ c.named_in.ensures.by_meaning command (rw c.as_slice.ensures.value means) in
     let less : pieces_at c.take.new.self (length c.args.srb.now.data) + 1 ≡ pieces_at c.self.inside.stock (length c.args.srb.now.data) = search rules in
-    arms _ _ c.args.tag c.args.piece c.in-Some.kind c.in-Some.extent c.args.srb.now c.self.view_is _ _ _ _ names c.own_srb.ensures refl refl c.self.invariant.numbers less c.put.ensures c.add.ensures
+    let others : (long : ℕ) → long ≢ length c.args.srb.now.data → pieces_at c.take.new.self long ≡ pieces_at c.self.inside.stock long = search rules in
+    arms _ _ c.args.tag c.args.piece c.in-Some.kind c.in-Some.extent c.args.srb.now c.self.view_is _ _ _ _ names c.own_srb.ensures refl refl c.self.invariant.numbers less others c.put.ensures c.add.ensures

@@ -1,21 +1,24 @@
-use Rattle.std.proofs.Common.{rules, ◌≡◌, ◌≤◌, ◌∷◌, ◌++◌, [], vec_capacity, refl, sym, ap, ◌∙◌, le_refl, le_trans}
+use Rattle.std.proofs.Common.{rules, ◌≡◌, ◌+◌, ◌∷◌, ◌++◌, [], refl, sym, ap, ◌∙◌, le_refl}
+use Rattle.std.specs.List.{sum_by}
+use Rattle.sector_journal.specs.Reserving.{pieces_of}
 use Rattle.sector_journal.specs.Journal.{IsHeld}
 use Rattle.sector_journal.proofs.Kept.{roomier_kept, admitted_kept}
-use Rattle.sector_journal.proofs.Reserved.{reserves_none, on_err, gains}
+use Rattle.sector_journal.proofs.Reserved.{reserves_none, on_err, gains, admitted}
 use Rattle.sector_journal.proofs.journal.Journal.reserve.Goals as goal
 
 pub returns-in_err-reserve-clause-refused : goal.returns-in_err-reserve-clause-refused
 returns-in_err-reserve-clause-refused g c =
-    on_err c.from_residual.result (gains _ _ _ _ _ _ c.self.view_is (reserves_none _) (le_refl _) refl c.reserve.ensures.items)
+    on_err c.from_residual.result (gains _ _ _ _ _ _ _ c.self.view_is (reserves_none _) (le_refl _) refl c.reserve.ensures.items (λ long. refl))
 
 pub returns-in_err-reserve-2-clause-refused : goal.returns-in_err-reserve-2-clause-refused
 returns-in_err-reserve-2-clause-refused g c =
-    on_err c.from_residual-in_err-reserve-2.result (gains _ _ _ _ _ _ c.self.view_is (reserves_none _) c.reserve-2.ensures.capacity c.reserve-2.ensures.items c.reserve.ensures.items)
+    on_err c.from_residual-in_err-reserve-2.result (gains _ _ _ _ _ _ _ c.self.view_is (reserves_none _) c.reserve-2.ensures.capacity c.reserve-2.ensures.items c.reserve.ensures.items (λ long. refl))
 
 pub invariant_of-self-in_err-hold : goal.invariant_of-self-in_err-hold
 invariant_of-self-in_err-hold g c = record {
   kept = roomier_kept _ _ _ _ _ _ _ _ _ _ _ c.self.invariant.kept c.hold.ensures.reserves c.reserve-2.ensures.items c.reserve-2.ensures.capacity c.reserve.ensures.items;
   numbers = c.self.invariant.numbers;
+  promised = c.self.invariant.promised ∙ ap (sum_by pieces_of) (sym c.reserve.ensures.items);
   entered = c.self.invariant.entered ∙ sym c.reserve-2.ensures.items;
 }
 
@@ -23,6 +26,7 @@ pub invariant_of-self-in_err-promise : goal.invariant_of-self-in_err-promise
 invariant_of-self-in_err-promise g c = record {
   kept = roomier_kept _ _ _ _ _ _ _ _ _ _ _ c.self.invariant.kept c.hold.ensures.reserves c.reserve-2.ensures.items c.reserve-2.ensures.capacity c.reserve.ensures.items;
   numbers = c.self.invariant.numbers;
+  promised = c.self.invariant.promised ∙ ap (sum_by pieces_of) (sym c.reserve.ensures.items);
   entered = c.self.invariant.entered ∙ sym c.reserve-2.ensures.items;
 }
 
@@ -33,5 +37,12 @@ invariant_of-self-2 g c =
       kept = admitted_kept _ _ _ _ _ _ _ _ _ _ _ _ c.self.invariant.kept c.hold.ensures.reserves c.reserve-2.ensures.items c.reserve-2.ensures.capacity held
           (c.push_reserved.ensures.items ∙ ap (λ rs. rs ++ (record { request = c.args.request; kind = c.args.kind; extent = c.args.extent; max_transfer = c.args.max_transfer }) ∷ []) c.reserve.ensures.items);
       numbers = c.self.invariant.numbers;
+      promised =
+          let wanted : c.in-Some.wanted ≡ c.self.inside.promised + c.pieces_in.result = search rules in
+          admitted c.self.inside.reservations.items _ _ (record { request = c.args.request; kind = c.args.kind; extent = c.args.extent; max_transfer = c.args.max_transfer }) c.self.inside.promised c.pieces_in.result _ _
+          c.self.invariant.promised c.pieces_in.ensures c.batches-batches.ensures.together wanted c.reserve.ensures.items c.push_reserved.ensures.items;
       entered = c.self.invariant.entered ∙ sym c.reserve-2.ensures.items;
     }
+
+pub returns-in_default-clause-refused : goal.returns-in_default-clause-refused
+returns-in_default-clause-refused g c = gains _ _ _ _ _ _ _ c.self.view_is (reserves_none _) (le_refl _) refl c.reserve.ensures.items (λ long. refl)

@@ -1,4 +1,4 @@
-use Rattle.std.proofs.Common.{◌≡◌, ◌≤◌}
+use Rattle.std.proofs.Common.{◌≤◌}
 use Rattle.sector_journal.proofs.slots.Slots.armed_with.Given as goal
 
 abbrev pub invariant-loop-slot : goal.invariant-loop-slot

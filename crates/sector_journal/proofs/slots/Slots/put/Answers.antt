@@ -1,4 +1,3 @@
-use Rattle.std.proofs.Common.{rules, ◌≡◌, refl, sym, ap, ◌∙◌}
 use Rattle.sector_journal.proofs.Counting.{one_more_fits}
 use Rattle.sector_journal.proofs.slots.Slots.put.Goals as goal
 

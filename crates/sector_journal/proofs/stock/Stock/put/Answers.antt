@@ -1,4 +1,4 @@
-use Rattle.std.proofs.Common.{rules, ◌≡◌, refl, sym, ap, ◌∙◌}
+use Rattle.std.proofs.Common.{sym, ◌∙◌}
 use Rattle.sector_journal.proofs.Shelves.{is_there_in, put_more_in}
 use Rattle.sector_journal.proofs.stock.Stock.put.Goals as goal
 

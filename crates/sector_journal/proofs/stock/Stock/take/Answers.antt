@@ -1,4 +1,4 @@
-use Rattle.std.proofs.Common.{rules, ◌≡◌, None, refl, sym, ap, ◌∙◌}
+use Rattle.std.proofs.Common.{rules, ◌≡◌, None, refl, sym, ◌∙◌}
 use Rattle.sector_journal.proofs.Shelves.{none_there, taken_in}
 use Rattle.sector_journal.proofs.stock.Stock.take.Goals as goal
 
