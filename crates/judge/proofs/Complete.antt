@@ -48,7 +48,7 @@ gives_test P false o e h = cc (e)
 to_end : {X : Type 0} (xs ys : List X) (x : X) → IsPermutation xs ys → IsPermutation (x ∷ xs) (ys ++ x ∷ [])
 to_end xs ys x p = IsPermutation-trans _ _ _ (IsPermutation-cons x _ _ p) (IsPermutation-sym _ _ (IsPermutation-to_front ys x))
 
-first_of : {X : Type 0} (xs : List X) (x : X) → Contains xs x → (others : List X) × IsPermutation xs (x ∷ others)
+pub first_of : {X : Type 0} (xs : List X) (x : X) → Contains xs x → (others : List X) × IsPermutation xs (x ∷ others)
 first_of xs x (k, low, is) = (remove xs k, IsPermutation-remove xs k x low (sym is))
 
 module _ (rules : Rules) (s : State) (d : AreDistinct s) (whole : HaveAllPlaces rules s) (s' : State) where

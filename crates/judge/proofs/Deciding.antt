@@ -158,7 +158,7 @@ decides_both_ways false b P h = (
 any_weaker : {X : Type 0} (P Q : X → Type 0) → ((x : X) → P x → Q x) → (xs : List X) → Any P xs → Any Q xs
 any_weaker P Q f xs h = (h.0, h.1, h.2, h.3, f h.1 h.4)
 
-decides_tag : (tag : ℕ) (pieces : List Piece) → Decides (list_any (has_tag tag) pieces) (Any (HasTag tag) pieces)
+pub decides_tag : (tag : ℕ) (pieces : List Piece) → Decides (list_any (has_tag tag) pieces) (Any (HasTag tag) pieces)
 decides_tag tag pieces = (
   λ h. any_weaker (λ (p : Piece). has_tag tag p ≡ true) (HasTag tag) (λ p e. (Decides-eqb p.tag tag).0 e) pieces (Any-from_list_any (has_tag tag) pieces h),
   λ h. list_any-from_Any (has_tag tag) pieces (any_weaker (HasTag tag) (λ (p : Piece). has_tag tag p ≡ true) (λ p e. (Decides-eqb p.tag tag).1 e) pieces h),
@@ -172,7 +172,7 @@ decides_lowest_free depth pieces tag = Decides-like (is_lowest_free depth pieces
     (Decides-by_and (has_other_tag tag) (HasOtherTag tag) (list_all (has_other_tag tag)) (λ p. Decides-not (has_tag tag p) (Decides-eqb p.tag tag)) refl (λ _ _. refl) pieces)
     (Decides-below_and (λ k. list_any (has_tag k) pieces) (λ k. Any (HasTag k) pieces) (λ k. all_used k pieces) (λ k. decides_tag k pieces) refl (λ _. refl) tag)))
 
-decides_turn : (o other : OpenRequest) → Decides (is_in_turn o.number other) (IsInTurn o other)
+pub decides_turn : (o other : OpenRequest) → Decides (is_in_turn o.number other) (IsInTurn o other)
 decides_turn o other = (there, back)
   where
     there : is_in_turn o.number other ≡ true → IsInTurn o other

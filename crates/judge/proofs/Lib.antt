@@ -14,3 +14,12 @@ pub mod Lateness
 pub mod Branching
 pub mod Judged
 pub mod Settled
+pub mod RefutingPieces
+pub mod Refuting
+pub mod Named
+pub mod NamedPieces
+pub mod NamedStarts
+pub mod Broken
+pub mod Followed
+pub mod Differing
+pub mod Leaving

@@ -53,7 +53,7 @@ chunks_are (suc count) size bytes e =
     sum : length bytes ≡ suc count * size → size + count * size ≡ length bytes
     sum h = omega arith
 
-chunks_only : (size : ℕ) (sectors : List (List ℕ)) → All (IsSector size) sectors → (chunked (length sectors) size (concat sectors) ≡ sectors) × (length (concat sectors) ≡ length sectors * size)
+pub chunks_only : (size : ℕ) (sectors : List (List ℕ)) → All (IsSector size) sectors → (chunked (length sectors) size (concat sectors) ≡ sectors) × (length (concat sectors) ≡ length sectors * size)
 chunks_only size [] sized = (refl, none size)
   where
     none : (size : ℕ) → 0 ≡ 0 * size

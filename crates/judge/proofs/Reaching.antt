@@ -32,7 +32,7 @@ module _ {X : Type 0} (P : X → Type 0) where
   any_from_among (y ∷ ys) (inr h) = let more : Any P ys = any_from_among ys h in (suc more.0, more.1, omega arith, more.3, more.4)
 
 -- a run of joined labels passes through a state between them
-Run-split : (rules : Rules) (s : State) (xs ys : List Label) (s' : State) → Run rules s (xs ++ ys) s' → (mid : State) × Run rules s xs mid × Run rules mid ys s'
+pub Run-split : (rules : Rules) (s : State) (xs ys : List Label) (s' : State) → Run rules s (xs ++ ys) s' → (mid : State) × Run rules s xs mid × Run rules mid ys s'
 Run-split rules s [] ys s' run = (s, IsSame-refl s, run)
 Run-split rules s (x ∷ xs) ys s' run =
     let rest : (mid : State) × Run rules run.0 xs mid × Run rules mid ys s' = Run-split rules run.0 xs ys s' run.2 in

@@ -36,16 +36,16 @@ within : (window : Option ℕ) (count : ℕ) → Decides (is_within window count
 within None count = (λ h. tt, λ h. refl)
 within (Some window) count = decides_leb count window
 
-held : (o : OpenRequest) → Decides (is_held o) (IsHeld o)
+pub held : (o : OpenRequest) → Decides (is_held o) (IsHeld o)
 held o = Decides-like (is_held o) (λ h. record { not_started = h.0; late = h.1 }) (λ h. (h.not_started, h.late)) (Decides-and _ _ (decides_false (is_started o)) (decides_true o.late))
 
-waits : (o : OpenRequest) → Decides (waits_if_cancelled o) (WaitsIfCancelled o)
+pub waits : (o : OpenRequest) → Decides (waits_if_cancelled o) (WaitsIfCancelled o)
 waits o = when o.cancelled (has_out o) _ _ (decides_true o.cancelled) (decides_true (has_out o))
 
-more : (o : OpenRequest) → Decides (has_more o) (HasMore o)
+pub more : (o : OpenRequest) → Decides (has_more o) (HasMore o)
 more o = when (is_started o) (has_out o || has_unsent o) _ _ (decides_true (is_started o)) (Decides-or _ _ (decides_true (has_out o)) (decides_true (has_unsent o)))
 
-works : (o : OpenRequest) → Decides (is_at_work o) (IsAtWork o)
+pub works : (o : OpenRequest) → Decides (is_at_work o) (IsAtWork o)
 works o = when (is_started o) (has_out o) _ _ (decides_true (is_started o)) (decides_true (has_out o))
 
 -- the second is asked where the first is false
@@ -61,11 +61,11 @@ module _ (rules : Rules) (s : State) where
   gone o (Done sector) = (λ h. tt, λ h. refl)
   gone o (Failed status) = (λ h. tt, λ h. refl)
 
-  all_sent : (o : OpenRequest) → Decides (is_all_sent rules.busy_limit o) (IsAllSent rules o)
+  pub all_sent : (o : OpenRequest) → Decides (is_all_sent rules.busy_limit o) (IsAllSent rules o)
   all_sent o = or_else o.cancelled _ _ (when (is_started o) _ _ _ (decides_true (is_started o))
       (Decides-by_and (has_gone (nat_le rules.busy_limit o.busy_returns)) (HasGone rules o) (list_all (has_gone (nat_le rules.busy_limit o.busy_returns))) (gone o) refl (λ _ _. refl) o.marks))
 
-  held_back : (o : OpenRequest) → Decides (is_held_back (is_full rules.window (started_count s)) o) (IsHeldBack rules s o)
+  pub held_back : (o : OpenRequest) → Decides (is_held_back (is_full rules.window (started_count s)) o) (IsHeldBack rules s o)
   held_back o = or_else (is_started o) _ _ (Decides-or _ _ (decides_true o.late) (full rules.window (started_count s)))
 
   pub decides_settled : Decides (is_settled rules s) (Settled rules s)

@@ -75,31 +75,32 @@ module _ (rules : Rules) (s : State) where
       by : eqb number s.next_request ≡ true → IfSome (admitted rules s number q (refusal rules s q)) (Calls rules s number q)
       by h = let e : number ≡ s.next_request = eqb-true _ _ h in with_number e _ (admits number q (refusal rules s q) refl (omega arith))
 
+  pub answers_by : (number : ℕ) (status : NtStatus) (informed : ℕ) (bytes : List ℕ) (o : OpenRequest) (others : List OpenRequest) → IsPermutation s.requests (o ∷ others) → has_number number o ≡ true
+      → may_answer rules s o status informed bytes ≡ true → AnswersWith rules s number status informed bytes (record s { requests = others })
+  answers_by number status informed bytes o others p e h =
+      let parts : _ × _ = and_parts (may_end_as rules s o status) ((informed == information o.request status) && bytes_eq bytes (answer_bytes o.request.kind o.marks)) h in
+      let told : _ × _ = and_parts (informed == information o.request status) (bytes_eq bytes (answer_bytes o.request.kind o.marks)) parts.1 in
+      let ends : _ × _ = and_parts (list_all (has_ended rules s o) o.marks) (same_truth (same_status status Success) (list_all is_done o.marks) && has_cause rules s o status o.marks) parts.0 in
+      let causes : _ × _ = and_parts (same_truth (same_status status Success) (list_all is_done o.marks)) (has_cause rules s o status o.marks) ends.1 in
+      record {
+        answers = record {
+          request = o;
+          others = others;
+          is_open = p;
+          is_number = eqb-true _ _ e;
+          ended = (decides_all_ended rules s o o.marks).0 ends.0;
+          success = (decides_both_ways (same_status status Success) (list_all is_done o.marks) (status ≡ Success) (decides_status status Success)).0 causes.0;
+          cause = (decides_lowest rules s o status o.marks).0 causes.1;
+          hands_back = (bytes_eq-Decides bytes (answer_bytes o.request.kind o.marks)).0 told.1;
+          after = IsSame-refl _;
+        };
+        informs = eqb-true _ _ told.0;
+      }
+
   answers : (number : ℕ) (status : NtStatus) (informed : ℕ) (bytes : List ℕ) → IfSome (answered rules s number status informed bytes) (AnswersWith rules s number status informed bytes)
   answers number status informed bytes =
-      at_found (has_number number) (λ o. IfSome (answered_of rules s status informed bytes o) (AnswersWith rules s number status informed bytes)) s.requests tt by
-    where
-      by : (o : OpenRequest) (others : List OpenRequest) → IsPermutation s.requests (o ∷ others) → has_number number o ≡ true
-          → IfSome (only (may_answer rules s o status informed bytes) (record s { requests = others })) (AnswersWith rules s number status informed bytes)
-      by o others p e = if_only (AnswersWith rules s number status informed bytes) _ _ (λ h.
-          let parts : _ × _ = and_parts (may_end_as rules s o status) ((informed == information o.request status) && bytes_eq bytes (answer_bytes o.request.kind o.marks)) h in
-          let told : _ × _ = and_parts (informed == information o.request status) (bytes_eq bytes (answer_bytes o.request.kind o.marks)) parts.1 in
-          let ends : _ × _ = and_parts (list_all (has_ended rules s o) o.marks) (same_truth (same_status status Success) (list_all is_done o.marks) && has_cause rules s o status o.marks) parts.0 in
-          let causes : _ × _ = and_parts (same_truth (same_status status Success) (list_all is_done o.marks)) (has_cause rules s o status o.marks) ends.1 in
-          record {
-            answers = record {
-              request = o;
-              others = others;
-              is_open = p;
-              is_number = eqb-true _ _ e;
-              ended = (decides_all_ended rules s o o.marks).0 ends.0;
-              success = (decides_both_ways (same_status status Success) (list_all is_done o.marks) (status ≡ Success) (decides_status status Success)).0 causes.0;
-              cause = (decides_lowest rules s o status o.marks).0 causes.1;
-              hands_back = (bytes_eq-Decides bytes (answer_bytes o.request.kind o.marks)).0 told.1;
-              after = IsSame-refl _;
-            };
-            informs = eqb-true _ _ told.0;
-          })
+      at_found (has_number number) (λ o. IfSome (answered_of rules s status informed bytes o) (AnswersWith rules s number status informed bytes)) s.requests tt
+      (λ o others p e. if_only (AnswersWith rules s number status informed bytes) _ _ (answers_by number status informed bytes o others p e))
 
   repays : (owed : Owed) → s.owed ≡ Some owed → (number : ℕ) (status : NtStatus) (informed : ℕ) (bytes : List ℕ) → IfSome (repaid s owed number status informed bytes) (AnswersRefused s number status informed bytes)
   repays owed is number status informed bytes = if_only (AnswersRefused s number status informed bytes) _ _ (λ h.
@@ -118,12 +119,12 @@ module _ (rules : Rules) (s : State) where
   -- STARTS
 
   -- places that may start now by a command
-  record StartsSo (command : Option Cdb) (o : OpenRequest) (places : Extent) : Type 0 where
-    asked : command ≡ Some (command_for rules o.request places o.request.kind)
-    may : MayStart s o
-    sendable : IsSendable rules o places
+  pub record StartsSo (command : Option Cdb) (o : OpenRequest) (places : Extent) : Type 0 where
+    pub asked : command ≡ Some (command_for rules o.request places o.request.kind)
+    pub may : MayStart s o
+    pub sendable : IsSendable rules o places
 
-  starts_so : (command : Option Cdb) (o : OpenRequest) → IfSome (startable rules s command o) (StartsSo command o)
+  pub starts_so : (command : Option Cdb) (o : OpenRequest) → IfSome (startable rules s command o) (StartsSo command o)
   starts_so None o = tt
   starts_so (Some c) o = by (places_for rules o.request o.request.kind c) (places_ask rules o.request o.request.kind c)
     where
@@ -165,7 +166,7 @@ module _ (rules : Rules) (s : State) where
 
   -- ACTS, FAULTS AND RETURNS
 
-  fresh_fate : (fate : Fate) → is_fresh fate ≡ true → fate ≡ Fresh
+  pub fresh_fate : (fate : Fate) → is_fresh fate ≡ true → fate ≡ Fresh
   fresh_fate Fresh e = refl
   fresh_fate (Acted sectors) e = cc (e)
   fresh_fate Faulted e = cc (e)
@@ -209,7 +210,7 @@ module _ (rules : Rules) (s : State) where
         after = IsSame-reordered s _ _ _ _ (IsPermutation-refl s.requests) (to_front pieces (with_fate Faulted piece));
       }))
 
-  bad_class : (completion : Completion) → is_bad (class_of completion) ≡ true → class_of completion ≡ Bad completion
+  pub bad_class : (completion : Completion) → is_bad (class_of completion) ≡ true → class_of completion ≡ Bad completion
   bad_class completion = by (bit_and completion.srb_status 63 == 1) (bit_and completion.srb_status 63 == 5)
     where
       by : (a b : Bool) → is_bad (if a then Good else (if b then Busy else Bad completion)) ≡ true → (if a then Good else (if b then Busy else Bad completion)) ≡ Bad completion

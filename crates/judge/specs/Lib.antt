@@ -7,3 +7,12 @@ pub mod Taking
 pub mod Verdicts
 pub mod Settling
 pub mod Starting
+pub mod Breaking
+pub mod Ruling
+pub mod PieceRuling
+pub mod StartRuling
+pub mod LabelRuling
+pub mod Following
+pub mod Refusals
+pub mod LeftUndone
+pub mod Undoing

@@ -23,7 +23,7 @@ use srb::Class;
 use std::alloc::{AllocError, Global};
 
 /// The number of a request's partition.
-fn partition_of(q: &ClientRequest) -> usize
+pub(crate) fn partition_of(q: &ClientRequest) -> usize
     ensures { result ≡ partition_number q.now }
 {
     q.partition.unwrap_or(0) as usize

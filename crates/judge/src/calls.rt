@@ -29,7 +29,7 @@ pub(crate) fn is_full(most: Option<u64>, count: usize) -> bool
 }
 
 /// As many bytes come with a call.
-fn bytes_carried(kind: Kind, length: u64) -> u64
+pub(crate) fn bytes_carried(kind: Kind, length: u64) -> u64
     ensures { result ≡ bytes_carried kind length }
 {
     match kind {
@@ -39,7 +39,7 @@ fn bytes_carried(kind: Kind, length: u64) -> u64
 }
 
 /// The number of bytes that a request tells, if it ends so.
-fn information_of(q: &ClientRequest, status: NtStatus) -> u64
+pub(crate) fn information_of(q: &ClientRequest, status: NtStatus) -> u64
     ensures { result ≡ information q.now status }
 {
     match status {
@@ -50,7 +50,7 @@ fn information_of(q: &ClientRequest, status: NtStatus) -> u64
 
 impl Machine {
     /// What a call is answered at once, if anything.
-    fn refusal(&self, rules: &MachineRules, q: &ClientRequest) -> Option<NtStatus>
+    pub(crate) fn refusal(&self, rules: &MachineRules, q: &ClientRequest) -> Option<NtStatus>
         ensures { result ≡ refusal (rules_of rules.now) self.now q.now }
     {
         let moves = moves_bytes(q.kind);
@@ -137,7 +137,7 @@ impl Machine {
     }
 
     /// Whether this is the status by which a place of the request is given up.
-    fn gives_up_as(&self, entry: &Open, status: NtStatus) -> bool
+    pub(crate) fn gives_up_as(&self, entry: &Open, status: NtStatus) -> bool
         ensures { result ≡ gives_up_as self.now entry.now status }
     {
         let removed_as = if entry.is_late() {

@@ -11,7 +11,12 @@ use machine::{ClientRequest, Kind};
 use sector::Extent;
 
 /// The places of the request whose sectors begin at this address.
-fn places_at(rules: &MachineRules, q: &ClientRequest, lba: u64, count: u64) -> Option<Extent>
+pub(crate) fn places_at(
+    rules: &MachineRules,
+    q: &ClientRequest,
+    lba: u64,
+    count: u64,
+) -> Option<Extent>
     ensures { result ≡ places_at (rules_of rules.now) q.now lba count }
 {
     let base = rules.home(q);
@@ -25,7 +30,7 @@ fn places_at(rules: &MachineRules, q: &ClientRequest, lba: u64, count: u64) -> O
 }
 
 /// Whether the address and the number have room in a block of ten bytes.
-fn is_short(lba: u64, count: u64) -> bool
+pub(crate) fn is_short(lba: u64, count: u64) -> bool
     ensures { result ≡ fits_ten lba count }
 {
     lba < 1 << 32 && count < 1 << 16

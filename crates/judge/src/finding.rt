@@ -46,7 +46,7 @@ pub(crate) fn take_piece(pieces: &mut Vec<Started>, number: u128) -> Option<Star
     Some(pieces.remove(at))
 }
 
-fn is_used(pieces: &[Started], tag: u8) -> bool
+pub(crate) fn is_used(pieces: &[Started], tag: u8) -> bool
     ensures { result ≡ list_any (has_tag tag) pieces.now }
 {
     pieces.iter().any(|piece| piece.has_tag(tag))

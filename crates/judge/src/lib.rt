@@ -11,28 +11,47 @@
 #![tactic(auto)]
 
 mod adapter_labels;
+mod breaking;
+mod broken_answers;
+mod broken_calls;
+mod broken_pieces;
+mod broken_starts;
 mod calls;
 mod commands;
 mod copies;
 mod finding;
+mod hindrances;
 mod holding;
 mod judging;
+mod label_rules;
 mod lists;
 mod machine_state;
 mod open;
+mod piece_rules;
 mod pieces;
 mod places;
 mod rules;
 mod sectors;
 mod settling;
+mod start_rules;
 mod starts;
 mod steps;
+pub mod stepwise;
+mod undone;
+mod undone_rules;
 
+pub use breaking::breaking_refutes;
 pub use judging::{Verdict, judge};
+pub use label_rules::{AnswerRule, CallRule, CancelRule, Difference, OwedRule, RemovalRule, Rule};
 pub use machine_state::{Machine, Sectors};
+pub use open::Open as OpenRequest;
+pub use piece_rules::{ActRule, ReturnRule};
+pub use pieces::Started;
 pub use rules::MachineRules;
+pub use start_rules::{Hindrance, Misfit, StartRule};
 use std::alloc::{AllocError, AllocFailed};
 use thiserror::Error;
+pub use undone_rules::Undone;
 
 /// There is no verdict: memory was refused, or a count of calls, of pieces or of a request's busy returns has no successor
 /// that fits its type, which takes as many labels.

@@ -120,6 +120,39 @@ impl Machine {
         }
     }
 
+    /// The open requests, in no order that means anything.
+    pub fn requests(&self) -> &[Open]
+        ensures { result.now ≡ self.now.requests }
+    {
+        self.requests.as_slice()
+    }
+
+    /// The pieces at the adapter, likewise.
+    pub fn pieces(&self) -> &[Started]
+        ensures { result.now ≡ self.now.pieces }
+    {
+        self.pieces.as_slice()
+    }
+
+    pub fn is_paused(&self) -> bool
+        ensures { result ≡ self.now.paused }
+    {
+        self.paused
+    }
+
+    /// Whether a removal has begun, which may have ended.
+    pub fn is_removing(&self) -> bool
+        ensures { result ≡ self.now.removing }
+    {
+        self.removing
+    }
+
+    pub fn is_removed(&self) -> bool
+        ensures { result ≡ self.now.removed }
+    {
+        self.removed
+    }
+
     /// Takes the first request of this number out.
     pub(crate) fn take_open(&mut self, number: u64) -> Option<Open>
         ensures { TakesOpen self.old number result self.new }

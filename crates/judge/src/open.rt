@@ -1,16 +1,17 @@
 //! Open requests.
 
-ghost use Rattle.std.specs.Prelude.{◌≡◌, ◌<◌, ◌^◌, ◌+◌, ◌==◌, false, List, IfOk, length, replicate};
+ghost use Rattle.std.specs.Prelude.{◌≡◌, ◌<◌, ◌^◌, ◌+◌, ◌==◌, false, List, IfOk, MatchOption, get_or, length, replicate};
 ghost use Rattle.std.specs.List.{list_all, list_any};
 ghost use Rattle.std.specs.Str.{bytes_eq};
 ghost use Rattle.machine.specs.State.{OpenRequest, Untouched, with_marks};
-ghost use Rattle.machine.specs.Cutting.{is_back, pieces_with, restarts_left};
+ghost use Rattle.machine.specs.Cutting.{mark_at, is_back, pieces_with, restarts_left};
 ghost use Rattle.machine.specs.Sending.{is_started, is_untouched, is_unsent, sent};
 ghost use Rattle.machine.specs.Answering.{is_done, answer_bytes};
 ghost use Rattle.machine.specs.Holding.{as_cancelled};
 ghost use Rattle.machine.specs.Settled.{is_out, has_out, has_unsent};
 ghost use Rattle.judge.specs.Deciding.{has_number, ended_by, cause_by, lowest_by, is_in_turn, is_sendable, begins_piece};
 ghost use Rattle.judge.specs.Settling.{has_gone, is_all_sent};
+ghost use Rattle.judge.specs.Ruling.{failure_of};
 ghost use Rattle.judge.specs.Views.{rules_of, opened, joined_marks, with_late, with_busy_returns};
 
 use crate::NoVerdict;
@@ -26,7 +27,7 @@ use std::marker::Model;
 
 /// An open request, from its call to its answer.
 #[derive(Debug, Drop)]
-pub(crate) struct Open {
+pub struct Open {
     number: u64,
     request: ClientRequest,
     cancelled: bool,
@@ -131,6 +132,14 @@ fn have_ended(marks: &[Place], given_up: bool, worn_out: bool) -> bool
         .all(|place| place.has_ended(given_up, worn_out))
 }
 
+/// The place of this number; past the last, none.
+fn place_at(marks: &[Place], at: usize) -> Option<&Place>
+    ensures { MatchOption result (get_or marks.now at Untouched ≡ Untouched) (λ place. get_or marks.now at Untouched ≡ place.now) }
+{
+    let place = marks.get(at);
+    place
+}
+
 impl Open {
     /// A request of so many places, none of which was sent.
     pub(crate) fn new(
@@ -152,7 +161,8 @@ impl Open {
         })
     }
 
-    pub(crate) fn number(&self) -> u64
+    /// The number of its call.
+    pub fn number(&self) -> u64
         ensures { result ≡ self.now.number }
     {
         self.number
@@ -164,33 +174,36 @@ impl Open {
         self.number == number
     }
 
-    pub(crate) fn request(&self) -> &ClientRequest
+    /// What its client asks for.
+    pub fn request(&self) -> &ClientRequest
         ensures { result.now ≡ self.now.request }
     {
         &self.request
     }
 
-    pub(crate) fn is_cancelled(&self) -> bool
+    /// Whether its cancel flag is set.
+    pub fn is_cancelled(&self) -> bool
         ensures { result ≡ self.now.cancelled }
     {
         self.cancelled
     }
 
     /// Whether a pause holds it.
-    pub(crate) fn is_late(&self) -> bool
+    pub fn is_late(&self) -> bool
         ensures { result ≡ self.now.late }
     {
         self.late
     }
 
-    pub(crate) fn busy_returns(&self) -> u64
+    /// How often a piece of it came back busy.
+    pub fn busy_returns(&self) -> u64
         ensures { result ≡ self.now.busy_returns }
     {
         self.busy_returns
     }
 
     /// Whether a piece was started for some place.
-    pub(crate) fn is_started(&self) -> bool
+    pub fn is_started(&self) -> bool
         ensures { result ≡ is_started self.now }
     {
         !are_untouched(self.marks.as_slice())
@@ -201,6 +214,56 @@ impl Open {
         ensures { result ≡ is_in_turn number self.now }
     {
         self.number >= number || self.cancelled || self.is_started()
+    }
+
+    /// Its places.
+    pub(crate) fn marks(&self) -> &[Place]
+        ensures { result.now ≡ self.now.marks }
+    {
+        self.marks.as_slice()
+    }
+
+    /// The place of this number; past the last, none.
+    pub(crate) fn mark(&self, at: usize) -> Option<&Place>
+        ensures { MatchOption result (mark_at self.now at ≡ Untouched) (λ place. mark_at self.now at ≡ place.now) }
+    {
+        place_at(self.marks.as_slice(), at)
+    }
+
+    /// Whether this place is out.
+    pub(crate) fn is_out_at(&self, at: usize) -> bool
+        ensures { result ≡ is_out (mark_at self.now at) }
+    {
+        match self.mark(at) {
+            Some(place) => place.is_out(),
+            None => false,
+        }
+    }
+
+    /// Whether this place gives it this status, which may be the one that it was given up with.
+    pub(crate) fn causes_at(
+        &self,
+        at: usize,
+        given_up: bool,
+        worn_out: bool,
+        status: NtStatus,
+    ) -> bool
+        ensures { result ≡ cause_by given_up worn_out status (mark_at self.now at) }
+    {
+        match self.mark(at) {
+            Some(place) => place.causes(given_up, worn_out, status),
+            None => given_up,
+        }
+    }
+
+    /// The status by which this place failed, if it did.
+    pub(crate) fn failure_at(&self, at: usize) -> Option<NtStatus>
+        ensures { result ≡ failure_of (mark_at self.now at) }
+    {
+        match self.mark(at) {
+            Some(place) => place.failure(),
+            None => None,
+        }
     }
 
     /// Whether some place is out.
@@ -308,7 +371,7 @@ impl Open {
     }
 
     /// How often pieces of it may start again.
-    fn restarts_left(&self, rules: &MachineRules) -> u128
+    pub(crate) fn restarts_left(&self, rules: &MachineRules) -> u128
         requires some { 0 < rules.now.max_transfer }
         ensures { result ≡ restarts_left (rules_of rules.now) self.now }
     {

@@ -7,6 +7,7 @@ ghost use Rattle.machine.specs.Sending.{with_fate, status_of_completion};
 ghost use Rattle.judge.specs.Picking.{only};
 ghost use Rattle.judge.specs.Deciding.{is_piece, has_tag, is_bad};
 ghost use Rattle.judge.specs.Next.{marks_left, marks_of_fate};
+ghost use Rattle.judge.specs.PieceRuling.{has_acted};
 ghost use Rattle.judge.specs.Views.{fresh_piece, fate_of};
 
 use crate::copies::{Copied, all_copied};
@@ -31,7 +32,7 @@ enum Deed {
 
 /// A piece at the adapter.
 #[derive(Debug, Drop)]
-pub(crate) struct Started {
+pub struct Started {
     number: u128,
     tag: u8,
     owner: u64,
@@ -80,7 +81,7 @@ fn marks_of(alloc: Global, deed: Deed) -> Result<Option<Vec<Place>>, AllocError>
 }
 
 /// The completion's status, if it is a bad one.
-fn bad_status(completion: &Completion) -> Option<NtStatus>
+pub(crate) fn bad_status(completion: &Completion) -> Option<NtStatus>
     ensures { result ≡ only (is_bad (class_of completion.now)) (status_of_completion completion.now) }
 {
     match completion.class() {
@@ -103,10 +104,24 @@ impl Started {
         }
     }
 
+    /// Its number.
+    pub fn number(&self) -> u128
+        ensures { result ≡ self.now.number }
+    {
+        self.number
+    }
+
     pub(crate) fn has_number(&self, number: u128) -> bool
         ensures { result ≡ is_piece number self.now }
     {
         self.number == number
+    }
+
+    /// The tag that it is on.
+    pub fn tag(&self) -> u8
+        ensures { result ≡ self.now.tag }
+    {
+        self.tag
     }
 
     pub(crate) fn has_tag(&self, tag: u8) -> bool
@@ -116,25 +131,36 @@ impl Started {
     }
 
     /// The number of its request.
-    pub(crate) fn owner(&self) -> u64
+    pub fn owner(&self) -> u64
         ensures { result ≡ self.now.owner }
     {
         self.owner
     }
 
-    pub(crate) fn places(&self) -> Extent
+    /// The sectors of its request that it is of, counted from 0; of a flush the one place.
+    pub fn places(&self) -> Extent
         ensures { result ≡ self.now.places }
     {
         self.places
     }
 
     /// Whether it has done nothing yet.
-    pub(crate) fn is_fresh(&self) -> bool
+    pub fn is_fresh(&self) -> bool
         ensures { result ≡ is_fresh self.now.fate }
     {
         match self.deed {
             Deed::Fresh => true,
             Deed::Acted(_) | Deed::Faulted => false,
+        }
+    }
+
+    /// Whether it has acted.
+    pub(crate) fn has_acted(&self) -> bool
+        ensures { result ≡ has_acted self.now.fate }
+    {
+        match self.deed {
+            Deed::Acted(_) => true,
+            Deed::Fresh | Deed::Faulted => false,
         }
     }
 

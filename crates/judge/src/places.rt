@@ -7,9 +7,12 @@ ghost use Rattle.machine.specs.Sending.{is_untouched, is_unsent};
 ghost use Rattle.machine.specs.Answering.{is_done, bytes_of_mark};
 ghost use Rattle.machine.specs.Settled.{is_out};
 ghost use Rattle.judge.specs.Settling.{has_gone};
+ghost use Rattle.judge.specs.Ruling.{failure_of};
+ghost use Rattle.judge.specs.StartRuling.{sent_as};
 ghost use Rattle.judge.specs.Deciding.{ended_by, cause_by, same_status};
 
 use crate::copies::Copied;
+use crate::start_rules::Hindrance;
 use ntstatus::NtStatus;
 use sector::Bytes;
 use std::alloc::{AllocError, Global};
@@ -173,6 +176,27 @@ impl Place {
             Marked::Done(_) => false,
             Marked::Failed(failure) => are_same(status, *failure),
             Marked::Back => given_up || (worn_out && are_same(status, NtStatus::DeviceBusy)),
+        }
+    }
+
+    /// The status by which it failed, if it did.
+    pub(crate) fn failure(&self) -> Option<NtStatus>
+        ensures { result ≡ failure_of self.now }
+    {
+        match &self.marked {
+            Marked::Failed(failure) => Some(*failure),
+            Marked::Untouched | Marked::Out | Marked::Done(_) | Marked::Back => None,
+        }
+    }
+
+    /// What the place of this number is, where it doesn't wait to be sent.
+    pub(crate) fn sent_as(&self, place: u64) -> Hindrance
+        ensures { result ≡ sent_as place self.now }
+    {
+        match self.marked {
+            Marked::Done(_) => Hindrance::Done { place },
+            Marked::Failed(_) => Hindrance::Failed { place },
+            Marked::Untouched | Marked::Out | Marked::Back => Hindrance::Out { place },
         }
     }
 

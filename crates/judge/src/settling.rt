@@ -13,7 +13,7 @@ use crate::open::Open;
 use crate::rules::MachineRules;
 
 /// How many of the requests are started.
-fn count_started(requests: &[Open]) -> usize
+pub(crate) fn count_started(requests: &[Open]) -> usize
     ensures { result ≡ count_by is_started requests.now }
 {
     let mut count = 0;
@@ -121,7 +121,7 @@ impl Machine {
     }
 
     /// The same, by the test.
-    fn settled(&self, rules: &MachineRules) -> bool
+    pub(crate) fn settled(&self, rules: &MachineRules) -> bool
         ensures { result ≡ is_settled (rules_of rules.now) self.now }
     {
         let pieces = self.pieces.len();

@@ -55,7 +55,12 @@ impl Machine {
     }
 
     /// The places of the request that may be started now by this command.
-    fn startable(&self, rules: &MachineRules, command: Option<Cdb>, entry: &Open) -> Option<Extent>
+    pub(crate) fn startable(
+        &self,
+        rules: &MachineRules,
+        command: Option<Cdb>,
+        entry: &Open,
+    ) -> Option<Extent>
         ensures { result ≡ startable (rules_of rules.now) self.now command entry.now }
     {
         let Some(command) = command else {

@@ -1,0 +1,406 @@
+-- The rule that is named of a start is one that the label breaks; where none is named some step goes by the label.
+use Rattle.std.proofs.Common.{◌≡◌, ◌≢◌, ◌<◌, ◌≤◌, ◌⊎◌, inl, inr, ℕ, zero, suc, ◌+◌, ◌-◌, ◌%◌, Bool, true, false, List, [], ◌∷◌, Option, Some, None, refl, sym, ◌∙◌, ap, subst, arith, length, get_or, eqb, eq-eqb}
+use Rattle.std.specs.Prelude.{◌==◌, ◌&&◌, ◌||◌, not, nat_lt, nat_le, ◌↔◌, Result, Ok, Err, IsPermutation, Contains, All, Any, IsTrue, IsFalse, IfSome, MatchOption, slice_range, is_some, option_map, if◌then◌else◌}
+use Rattle.std.specs.List.{find, list_all, list_any, position}
+use Rattle.std.specs.Option.{option_or}
+use Rattle.std.proofs.lemmas.Bool.{both_ways, eqb-true, eqb-false, ltb-true, ltb-false, leb-true, le-leb, lt-ltb, and_parts, and_from, and_cases, or_parts, not-true, not-false, not_from_false}
+use Rattle.std.proofs.lemmas.Bool.Decides.{Decides-by_and}
+use Rattle.std.proofs.lemmas.List.Edits.{get_or-between, length-between}
+use Rattle.std.proofs.lemmas.List.Elements.{All-contains, Contains-get_or}
+use Rattle.std.proofs.lemmas.List.Folds.{Any-from_list_any}
+use Rattle.std.proofs.lemmas.List.Quantifiers.{position-Some}
+use Rattle.sector.specs.declared.Extent.{Extent}
+use Rattle.cdb.specs.declared.Cdb.{Cdb}
+use Rattle.cdb.specs.declared.CdbFault.{CdbFault}
+use Rattle.cdb.specs.Meaning.{Means}
+use Rattle.cdb.specs.Faults.{HasFault}
+use Rattle.srb.specs.declared.Kind.{Kind}
+use Rattle.srb.specs.declared.Kind.TheVariants.{Read, Write, Flush}
+use Rattle.machine.specs.Rules.{Rules}
+use Rattle.machine.specs.State.{Mark, Untouched, Out, Done, Failed, Back, OpenRequest, Piece, State}
+use Rattle.machine.specs.Cutting.{mark_at, is_back, restarts_left}
+use Rattle.machine.specs.Sending.{HasTag, HasOtherTag, IsLowestFreeTag, is_unsent, IsUnsent, is_started, IsInTurn, MayStart, IsWholeRequest, IsSendable, Starts, command_for, new_piece, sent}
+use Rattle.machine.proofs.Same.{IsSame-refl}
+use Rattle.judge.specs.Picking.{only}
+use Rattle.judge.specs.Deciding.{has_tag, is_in_turn, may_start, is_sendable, places_for, startable_at, startable}
+use Rattle.judge.specs.declared.start_rules.StartRule.{StartRule}
+use Rattle.judge.specs.declared.start_rules.StartRule.TheVariants as start_rule
+use Rattle.judge.specs.declared.start_rules.Misfit.{Misfit}
+use Rattle.judge.specs.declared.start_rules.Misfit.TheVariants as misfit
+use Rattle.judge.specs.declared.start_rules.Hindrance.{Hindrance}
+use Rattle.judge.specs.declared.start_rules.Hindrance.TheVariants as hindrance
+use Rattle.judge.specs.Breaking.{Asks, NoneAsks, IsMisfit, IsAmong, Hinders, AllHeld, HoldsOne, BreaksStartOf}
+use Rattle.judge.specs.StartRuling.{lowest_free, used_rule, lower_rule, tag_rule, is_inside, asked_inside, asked, flag_hindrance, is_before, turn_hindrance, is_sent, sent_as, sent_hindrance, cut_hindrance, places_hindrance, hindrance_of, same_kind, has_kind, kind_of, is_in_form, span_of, is_in_range, has_blocks, blocks_misfit, kind_misfit, misfit_of, may_go, is_asked, held_by_one, held_rule, asked_rule, command_rule, block_rule, starting_rule}
+use Rattle.judge.proofs.AllPlaces.{HasAllPlaces, HaveAllPlaces}
+use Rattle.judge.proofs.Deciding.{decides_tag, decides_turn, decides_true, decides_may_start, decides_sendable}
+use Rattle.judge.proofs.Asking.{places_ask, places_found}
+use Rattle.judge.proofs.Complete.{first_of}
+use Rattle.judge.proofs.Sound.{StartsSo, starts_so}
+use Rattle.judge.proofs.Named.{found_pass, found_fail, none_any, found_there, found_nowhere, all_passed, either}
+use Rattle.judge.proofs.NamedPieces.{flush_places}
+
+-- TAGS
+
+-- the tags of a range are all in use, or this is the lowest that is free
+record IsLowestIn (pieces : List Piece) (from past lowest : ℕ) : Type 0 where
+  above : from ≤ lowest
+  low : lowest < past
+  free : list_any (has_tag lowest) pieces ≡ false
+  used : (k : ℕ) → from ≤ k → k < lowest → list_any (has_tag k) pieces ≡ true
+
+lowest_in : (pieces : List Piece) (from more : ℕ) → MatchOption (lowest_free pieces from more) ((k : ℕ) → from ≤ k → k < from + more → list_any (has_tag k) pieces ≡ true) (IsLowestIn pieces from (from + more))
+lowest_in pieces from zero = λ k low high. absurd (omega arith)
+lowest_in pieces from (suc more) = by (list_any (has_tag from) pieces) refl (lowest_free pieces (from + 1) more) (lowest_in pieces (from + 1) more)
+  where
+    here : list_any (has_tag from) pieces ≡ true → (k : ℕ) → (k ≡ from) ⊎ (from + 1 ≤ k) → (from + 1 ≤ k → list_any (has_tag k) pieces ≡ true) → list_any (has_tag k) pieces ≡ true
+    here e k (inl same) rest = subst (λ n. list_any (has_tag n) pieces ≡ true) (sym same) e
+    here e k (inr high) rest = rest high
+
+    split : (k : ℕ) → from ≤ k → (k ≡ from) ⊎ (from + 1 ≤ k)
+    split k low = each (eqb k from) refl
+      where
+        each : (b : Bool) → eqb k from ≡ b → (k ≡ from) ⊎ (from + 1 ≤ k)
+        each true e = inl (eqb-true _ _ e)
+        each false e = inr (omega (arith, eqb-false k from e))
+
+    by : (b : Bool) → list_any (has_tag from) pieces ≡ b → (o : Option ℕ) → MatchOption o ((k : ℕ) → from + 1 ≤ k → k < from + 1 + more → list_any (has_tag k) pieces ≡ true) (IsLowestIn pieces (from + 1) (from + 1 + more))
+        → MatchOption (if b then o else Some from) ((k : ℕ) → from ≤ k → k < from + suc more → list_any (has_tag k) pieces ≡ true) (IsLowestIn pieces from (from + suc more))
+    by true e None h = λ k low high. here e k (split k low) (λ above. h k above (omega arith))
+    by true e (Some lowest) h = record {
+      above = omega (arith, h.above);
+      low = omega (arith, h.low);
+      free = h.free;
+      used = λ k low high. here e k (split k low) (λ above. h.used k above high);
+    }
+    by false e o h = record { above = omega arith; low = omega arith; free = e; used = λ k low high. absurd (omega arith) }
+
+module _ (depth : ℕ) (pieces : List Piece) where
+  none_on : (tag : ℕ) → list_any (has_tag tag) pieces ≡ false → All (HasOtherTag tag) pieces
+  none_on tag none = λ k d low same. eqb-false _ _ (none_any (has_tag tag) pieces none (get_or pieces k d) (Contains-get_or pieces k d low)) same
+
+  none_found : (tag : ℕ) → find (has_tag tag) pieces ≡ None → All (HasOtherTag tag) pieces
+  none_found tag none = λ k d low same. eqb-false _ _ (found_fail (has_tag tag) pieces none (get_or pieces k d) (Contains-get_or pieces k d low)) same
+
+-- WHAT HOLDS A REQUEST BACK
+
+kind_itself : (kind : Kind) → same_kind kind kind ≡ true
+kind_itself Read = refl
+kind_itself Write = refl
+kind_itself Flush = refl
+
+some_is : {X : Type 0} (o : Option X) → is_some o ≡ true → (x : X) × (o ≡ Some x)
+some_is None e = cc (e)
+some_is (Some x) e = (x, refl)
+
+module _ (rules : Rules) (s : State) where
+  module _ (o : OpenRequest) (places : Extent) (inside : is_inside o places ≡ true) where
+    some : 0 < places.count
+    some = ltb-true _ _ (and_parts _ _ inside).0
+
+    within : places.first + places.count ≤ length o.marks
+    within = leb-true _ _ (and_parts _ _ inside).1
+
+    abbrev Held : Hindrance → Type 0
+    Held h = Hinders rules s o places h
+
+    record IsFree : Type 0 where
+      not_cancelled : IsFalse o.cancelled
+      not_removing : IsFalse s.removing
+      not_held : IsTrue s.paused → IsFalse o.late
+
+    flags_named : MatchOption (flag_hindrance s o) IsFree Held
+    flags_named = by o.cancelled refl s.removing refl s.paused refl o.late refl
+      where
+        by : (c : Bool) → o.cancelled ≡ c → (r : Bool) → s.removing ≡ r → (p : Bool) → s.paused ≡ p → (l : Bool) → o.late ≡ l
+            → MatchOption (if c then Some hindrance.Cancelled else (if r then Some hindrance.Removing else (if p && l then Some hindrance.Late else None))) IsFree Held
+        by true e r f p g l h = e
+        by false e true f p g l h = f
+        by false e false f true g true h = (g, h)
+        by false e false f true g false h = record { not_cancelled = e; not_removing = f; not_held = λ t. h }
+        by false e false f false g l h = record { not_cancelled = e; not_removing = f; not_held = λ t. cc (g, t) }
+
+    turns_named : MatchOption (turn_hindrance (find (is_before o.number) s.requests)) (All (IsInTurn o) s.requests) Held
+    turns_named = by (find (is_before o.number) s.requests) refl
+      where
+        by : (found : Option OpenRequest) → find (is_before o.number) s.requests ≡ found → MatchOption (turn_hindrance found) (All (IsInTurn o) s.requests) Held
+        by None e = λ k d low. (decides_turn o (get_or s.requests k d)).0 (not-false _ (found_fail (is_before o.number) s.requests e (get_or s.requests k d) (Contains-get_or s.requests k d low)))
+        by (Some other) e =
+            let h : Contains s.requests other × (is_before o.number other ≡ true) = found_pass (is_before o.number) s.requests other e in
+            let parts : _ × _ = or_parts (not (nat_lt other.number o.number)) (other.cancelled || is_started other) (not-true _ h.1) in
+            let more : _ × _ = or_parts other.cancelled (is_started other) parts.1 in
+            (other, h.0, refl, ltb-true _ _ (not-false _ parts.0), more.0, more.1)
+
+    sent_named : MatchOption (sent_hindrance o places.first (position is_sent (slice_range o.marks places.first (places.first + places.count))))
+        (All IsUnsent (slice_range o.marks places.first (places.first + places.count))) Held
+    sent_named = by (position is_sent (slice_range o.marks places.first (places.first + places.count))) refl
+      where
+        marks : List Mark
+        marks = o.marks
+
+        as_it_is : (place : ℕ) → IsAmong places place → (m : Mark) → mark_at o place ≡ m → not (is_unsent m) ≡ true → Held (sent_as place m)
+        as_it_is place among Out e h = (among, e)
+        as_it_is place among (Done sector) e h = (among, rw e refl)
+        as_it_is place among (Failed status) e h = (among, status, e)
+        as_it_is place among Untouched e h = cc (h)
+        as_it_is place among Back e h = cc (h)
+
+        by : (found : Option ℕ) → position is_sent (slice_range o.marks places.first (places.first + places.count)) ≡ found
+            → MatchOption (sent_hindrance o places.first found) (All IsUnsent (slice_range o.marks places.first (places.first + places.count))) Held
+        by None e = (Decides-by_and is_unsent IsUnsent (list_all is_unsent) (λ m. decides_true (is_unsent m)) refl (λ _ _. refl) (slice_range o.marks places.first (places.first + places.count))).0
+            (all_passed is_unsent (slice_range o.marks places.first (places.first + places.count)) e)
+        by (Some k) e =
+            let at : _ × _ × _ = position-Some is_sent (slice_range o.marks places.first (places.first + places.count)) k Untouched e in
+            let n : length (slice_range o.marks places.first (places.first + places.count)) ≡ places.first + places.count - places.first = length-between o.marks places.first (places.first + places.count) within in
+            let low : k < places.count = omega (arith, at.0, n) in
+            let there : get_or (slice_range o.marks places.first (places.first + places.count)) k Untouched ≡ mark_at o (places.first + k) = get_or-between o.marks places.first (places.first + places.count) k Untouched (omega arith) in
+            as_it_is (places.first + k) (omega arith, omega arith) (mark_at o (places.first + k)) refl (subst (λ m. is_sent m ≡ true) there at.1)
+
+    -- how a request is cut
+    record IsCut : Type 0 where
+      begins : places.first % rules.max_transfer ≡ 0
+      spare : IsTrue (is_back (mark_at o places.first)) → 0 < restarts_left rules o
+      whole : IsTrue rules.one_piece → IsWholeRequest o places
+
+    cut_named : MatchOption (cut_hindrance rules o places) IsCut Held
+    cut_named = by (places.first % rules.max_transfer == 0) refl (is_back (mark_at o places.first)) refl (nat_lt 0 (restarts_left rules o)) refl rules.one_piece refl (places.count == length o.marks) refl (is_started o) refl
+      where
+        none_left : nat_lt 0 (restarts_left rules o) ≡ false → restarts_left rules o ≡ 0
+        none_left e = let h : restarts_left rules o ≤ 0 = ltb-false _ _ e in omega arith
+
+        spare_by : (b : Bool) → is_back (mark_at o places.first) ≡ b → (l : Bool) → nat_lt 0 (restarts_left rules o) ≡ l → (b && not l) ≡ false → IsTrue (is_back (mark_at o places.first)) → 0 < restarts_left rules o
+        spare_by b e true f h t = ltb-true _ _ f
+        spare_by true e false f h t = cc (h)
+        spare_by false e false f h t = absurd (both_ways _ e t)
+
+        by : (g : Bool) → (places.first % rules.max_transfer == 0) ≡ g → (b : Bool) → is_back (mark_at o places.first) ≡ b → (l : Bool) → nat_lt 0 (restarts_left rules o) ≡ l
+            → (w : Bool) → rules.one_piece ≡ w → (c : Bool) → (places.count == length o.marks) ≡ c → (t : Bool) → is_started o ≡ t
+            → MatchOption (if not g then Some (hindrance.OffGrid places.first rules.max_transfer)
+            else (if b && not l then Some (hindrance.Worn places.first)
+            else (if w && not c then Some (hindrance.NotWhole (length o.marks) places.count)
+            else (if w && t then Some hindrance.Again else None)))) IsCut Held
+        by false e b f l h w i c j t k = (refl, refl, λ zero_is. eqb-false _ _ e zero_is)
+        by true e true f false h w i c j t k = (refl, f, none_left h)
+        by true e true f true h true i false j t k = (i, refl, refl, λ same. eqb-false _ _ j same)
+        by true e true f true h true i true j true k = (i, k)
+        by true e true f true h true i true j false k = record { begins = eqb-true _ _ e; spare = spare_by true f true h refl; whole = λ one. record { all_places = eqb-true _ _ j; not_before = k } }
+        by true e true f true h false i c j t k = record { begins = eqb-true _ _ e; spare = spare_by true f true h refl; whole = λ one. cc (i, one) }
+        by true e false f l h true i false j t k = (i, refl, refl, λ same. eqb-false _ _ j same)
+        by true e false f l h true i true j true k = (i, k)
+        by true e false f l h true i true j false k = record { begins = eqb-true _ _ e; spare = spare_by false f l h refl; whole = λ one. record { all_places = eqb-true _ _ j; not_before = k } }
+        by true e false f l h false i c j t k = record { begins = eqb-true _ _ e; spare = spare_by false f l h refl; whole = λ one. cc (i, one) }
+
+    places_named : MatchOption (places_hindrance rules o places) (IsSendable rules o places) Held
+    places_named = by (nat_lt rules.max_transfer places.count) refl
+      where
+        ready : (found : Option Hindrance) → MatchOption found (All IsUnsent (slice_range o.marks places.first (places.first + places.count)) × IsCut) Held → places.count ≤ rules.max_transfer
+            → MatchOption found (IsSendable rules o places) Held
+        ready None h short = record { some = some; short = short; inside = within; unsent = h.0; begins = h.1.begins; spare = h.1.spare; whole = h.1.whole }
+        ready (Some x) h short = h
+
+        by : (b : Bool) → nat_lt rules.max_transfer places.count ≡ b
+            → MatchOption (if b then Some (hindrance.Long rules.max_transfer places.count)
+            else option_or (sent_hindrance o places.first (position is_sent (slice_range o.marks places.first (places.first + places.count)))) (cut_hindrance rules o places)) (IsSendable rules o places) Held
+        by true e = (refl, refl, ltb-true _ _ e)
+        by false e = ready _ (either (All IsUnsent (slice_range o.marks places.first (places.first + places.count))) IsCut Held
+            (sent_hindrance o places.first (position is_sent (slice_range o.marks places.first (places.first + places.count)))) (cut_hindrance rules o places) sent_named (λ unsent. cut_named)) (ltb-false _ _ e)
+
+    abbrev after_flags : Option Hindrance
+    after_flags = option_or (turn_hindrance (find (is_before o.number) s.requests)) (places_hindrance rules o places)
+
+    pub hindrance_named : MatchOption (hindrance_of rules s o places) (MayStart s o × IsSendable rules o places) Held
+    hindrance_named = by (hindrance_of rules s o places)
+        (either IsFree (All (IsInTurn o) s.requests × IsSendable rules o places) Held (flag_hindrance s o) after_flags flags_named (λ flags.
+        either (All (IsInTurn o) s.requests) (IsSendable rules o places) Held (turn_hindrance (find (is_before o.number) s.requests)) (places_hindrance rules o places) turns_named (λ turns. places_named)))
+      where
+        by : (found : Option Hindrance) → MatchOption found (IsFree × (All (IsInTurn o) s.requests × IsSendable rules o places)) Held → MatchOption found (MayStart s o × IsSendable rules o places) Held
+        by None h = (record { not_cancelled = h.0.not_cancelled; not_removing = h.0.not_removing; not_held = h.0.not_held; in_turn = h.1.0 }, h.1.1)
+        by (Some x) h = h
+
+  -- WHICH REQUEST
+
+  module _ (whole : HaveAllPlaces rules s) (number tag : ℕ) (block : List ℕ) where
+    abbrev CanStart : Type 0
+    CanStart = (s' : State) × Starts rules s number tag block s'
+
+    abbrev Broken : StartRule → Type 0
+    Broken r = BreaksStartOf rules s number tag block r
+
+    module _ (next : number ≡ s.next_piece) (free : IsLowestFreeTag rules.depth s.pieces tag) (command : Cdb) (means : Means block command) (only_it : (c : Cdb) → Means block c → command ≡ c) where
+      start_by : (o : OpenRequest) (places : Extent) → Contains s.requests o → command ≡ command_for rules o.request places o.request.kind → MayStart s o → IsSendable rules o places → CanStart
+      start_by o places there is may send =
+          let p : (others : List OpenRequest) × IsPermutation s.requests (o ∷ others) = first_of s.requests o there in (
+            record s { next_piece = s.next_piece + 1; requests = sent places o ∷ p.0; pieces = new_piece s tag o places ∷ s.pieces },
+            record {
+              owner = o;
+              others = p.0;
+              places = places;
+              next_number = next;
+              on_tag = free;
+              is_open = p.1;
+              may_start = may;
+              sendable = send;
+              asks = subst (λ c. Means block c) is means;
+              after = IsSame-refl _;
+            },
+          )
+
+      start_so : (o : OpenRequest) → Contains s.requests o → (found : Option Extent) → IfSome found (StartsSo rules s (Some command) o) → is_some found ≡ true → CanStart
+      start_so o there None h e = cc (e)
+      start_so o there (Some places) h e = let is : command ≡ command_for rules o.request places o.request.kind = cc (h.asked) in start_by o places there is h.may h.sendable
+
+      some_goes : list_any (may_go rules s command) s.requests ≡ true → CanStart
+      some_goes e =
+          let any : _ × _ × _ × _ × _ = Any-from_list_any (may_go rules s command) s.requests e in
+          start_so any.1 (any.0, any.2, any.3) (startable rules s (Some command) any.1) (starts_so rules s (Some command) any.1) any.4
+
+      -- the places that are asked for are found
+      found_asked : (o : OpenRequest) (places : Extent) → Asks rules s block o places → (asked rules command o ≡ Some places) × (is_inside o places ≡ true)
+      found_asked o places h =
+          let is : command ≡ command_for rules o.request places o.request.kind = only_it _ h.means in
+          let inside : is_inside o places ≡ true = and_from _ _ (lt-ltb _ _ h.some) (le-leb _ _ h.inside) in
+          let found : places_for rules o.request o.request.kind (command_for rules o.request places o.request.kind) ≡ Some places = places_found rules o.request o.request.kind places one_place in
+          (ap (λ c. asked_inside o (places_for rules o.request o.request.kind c)) is ∙ ap (asked_inside o) found ∙ ap (λ b. if b then Some places else None) inside, inside)
+        where
+          one_place : o.request.kind ≡ Flush → (places.first ≡ 0) × (places.count ≡ 1)
+          one_place e =
+              let all : HasAllPlaces rules o = All-contains (HasAllPlaces rules) s.requests o whole h.is_there in
+              let one : length o.marks ≡ 1 = all.places ∙ flush_places rules o o.request.kind e in
+              (omega (arith, h.some, h.inside, one), omega (arith, h.some, h.inside, one))
+
+      -- and what is found is asked for
+      asks_found : (o : OpenRequest) (places : Extent) → Contains s.requests o → asked rules command o ≡ Some places
+          → Asks rules s block o places × (places_for rules o.request o.request.kind command ≡ Some places) × (is_inside o places ≡ true)
+      asks_found o places there e = by (places_for rules o.request o.request.kind command) refl (places_ask rules o.request o.request.kind command) e
+        where
+          inside_by : (p : Extent) → command_for rules o.request p o.request.kind ≡ command → places_for rules o.request o.request.kind command ≡ Some p → (b : Bool) → is_inside o p ≡ b → (if b then Some p else None) ≡ Some places
+              → Asks rules s block o places × (places_for rules o.request o.request.kind command ≡ Some places) × (is_inside o places ≡ true)
+          inside_by p asks f false i e = cc (e)
+          inside_by p asks f true i e =
+              let same : p ≡ places = cc (e) in
+              subst (λ (x : Extent). Asks rules s block o x × (places_for rules o.request o.request.kind command ≡ Some x) × (is_inside o x ≡ true)) same
+              (record { is_there = there; some = some o p i; inside = within o p i; means = subst (λ c. Means block c) (sym asks) means }, f, i)
+
+          by : (found : Option Extent) → places_for rules o.request o.request.kind command ≡ found → IfSome found (λ p. command_for rules o.request p o.request.kind ≡ command)
+              → asked_inside o found ≡ Some places → Asks rules s block o places × (places_for rules o.request o.request.kind command ≡ Some places) × (is_inside o places ≡ true)
+          by None f h e = cc (e)
+          by (Some p) f h e = inside_by p h f (is_inside o p) refl e
+
+      none_goes : list_any (may_go rules s command) s.requests ≡ false → (o : OpenRequest) (places : Extent) → Contains s.requests o → places_for rules o.request o.request.kind command ≡ Some places
+          → MayStart s o → IsSendable rules o places → ⊥
+      none_goes none o places there found may send =
+          let goes : startable rules s (Some command) o ≡ Some places =
+          ap (startable_at rules s o) found ∙ ap (λ b. only b places) (and_from (may_start s o) _ ((decides_may_start s o).1 may) ((decides_sendable rules o places).1 send)) in
+          both_ways _ (none_any (may_go rules s command) s.requests none o there) (ap is_some goes)
+
+      held_so : list_any (may_go rules s command) s.requests ≡ false → (o : OpenRequest) (places : Extent) → Asks rules s block o places → places_for rules o.request o.request.kind command ≡ Some places
+          → (inside : is_inside o places ≡ true) → (h : Hindrance) × (hindrance_of rules s o places ≡ Some h) × Hinders rules s o places h
+      held_so none o places asks found inside = by (hindrance_of rules s o places) refl (hindrance_named o places inside)
+        where
+          by : (x : Option Hindrance) → hindrance_of rules s o places ≡ x → MatchOption x (MayStart s o × IsSendable rules o places) (Hinders rules s o places)
+              → (h : Hindrance) × (hindrance_of rules s o places ≡ Some h) × Hinders rules s o places h
+          by None e h = absurd (none_goes none o places asks.is_there found h.0 h.1)
+          by (Some x) e h = (x, e, h)
+
+      all_held : list_any (may_go rules s command) s.requests ≡ false → AllHeld rules s block
+      all_held none o places asks =
+          let f : (asked rules command o ≡ Some places) × (is_inside o places ≡ true) = found_asked o places asks in
+          let g : Asks rules s block o places × (places_for rules o.request o.request.kind command ≡ Some places) × (is_inside o places ≡ true) = asks_found o places asks.is_there f.0 in
+          let held : (h : Hindrance) × (hindrance_of rules s o places ≡ Some h) × Hinders rules s o places h = held_so none o places asks g.1 g.2 in
+          (held.0, held.2)
+
+      kind_fits : (kind : Kind) → list_any (has_kind kind) s.requests ≡ false → (o : OpenRequest) → Contains s.requests o → o.request.kind ≢ kind
+      kind_fits kind none o there same =
+          both_ways _ (none_any (has_kind kind) s.requests none o there) (ap (same_kind kind) same ∙ kind_itself kind)
+
+      misfit_is : IsMisfit s (misfit_of rules s.requests command)
+      misfit_is = by_form (is_in_form rules command)
+        where
+          blocks : (kind : Kind) (found : Option OpenRequest) → find (has_blocks rules kind (span_of command)) s.requests ≡ found → IsMisfit s (blocks_misfit (span_of command) found)
+          blocks kind None e = tt
+          blocks kind (Some o) e = (o, (found_pass (has_blocks rules kind (span_of command)) s.requests o e).0, refl, refl)
+
+          by_kind : (kind : Kind) (r : Bool) (k : Bool) → list_any (has_kind kind) s.requests ≡ k
+              → IsMisfit s (if not r then misfit.Range else (if not k then misfit.Kind kind else blocks_misfit (span_of command) (find (has_blocks rules kind (span_of command)) s.requests)))
+          by_kind kind false k e = tt
+          by_kind kind true false e = kind_fits kind e
+          by_kind kind true true e = blocks kind (find (has_blocks rules kind (span_of command)) s.requests) refl
+
+          by_command : (kind : Option Kind) → IsMisfit s (kind_misfit rules s.requests (span_of command) kind)
+          by_command None = tt
+          by_command (Some kind) = by_kind kind (is_in_range kind (span_of command)) (list_any (has_kind kind) s.requests) refl
+
+          by_form : (b : Bool) → IsMisfit s (if not b then misfit.Form else kind_misfit rules s.requests (span_of command) (kind_of command))
+          by_form false = tt
+          by_form true = by_command (kind_of command)
+
+      none_asks : find (is_asked rules command) s.requests ≡ None → NoneAsks rules s block
+      none_asks e o places asks =
+          both_ways _ (found_fail (is_asked rules command) s.requests e o asks.is_there) (ap is_some (found_asked o places asks).0)
+
+      held_named : list_any (may_go rules s command) s.requests ≡ false → (o : OpenRequest) → Contains s.requests o → is_asked rules command o ≡ true → MatchOption (held_rule rules s o (asked rules command o)) CanStart Broken
+      held_named none o there is = by (asked rules command o) refl is
+        where
+          one : (places : Extent) → asked rules command o ≡ Some places → (x : Option Hindrance) → hindrance_of rules s o places ≡ x → MatchOption (held_by_one o x) CanStart Broken
+          one places e x f =
+              let g : Asks rules s block o places × (places_for rules o.request o.request.kind command ≡ Some places) × (is_inside o places ≡ true) = asks_found o places there e in
+              let held : (h : Hindrance) × (hindrance_of rules s o places ≡ Some h) × Hinders rules s o places h = held_so none o places g.0 g.1 g.2 in
+              subst (λ y. MatchOption (held_by_one o y) CanStart Broken) (sym held.1 ∙ f) (all_held none, (o, places, g.0, refl, held.2))
+
+          by : (found : Option Extent) → asked rules command o ≡ found → is_some found ≡ true → MatchOption (held_rule rules s o found) CanStart Broken
+          by None e t = cc (t)
+          by (Some places) e t = one places e (hindrance_of rules s o places) refl
+
+      asked_named : list_any (may_go rules s command) s.requests ≡ false → (found : Option OpenRequest) → find (is_asked rules command) s.requests ≡ found → MatchOption (asked_rule rules s command found) CanStart Broken
+      asked_named none None e = (none_asks e, misfit_is)
+      asked_named none (Some o) e = let h : Contains s.requests o × (is_asked rules command o ≡ true) = found_pass (is_asked rules command) s.requests o e in held_named none o h.0 h.1
+
+      command_named : MatchOption (command_rule rules s command) CanStart Broken
+      command_named = by (list_any (may_go rules s command) s.requests) refl
+        where
+          by : (b : Bool) → list_any (may_go rules s command) s.requests ≡ b
+              → MatchOption (if b then None else asked_rule rules s command (find (is_asked rules command) s.requests)) CanStart Broken
+          by true e = some_goes e
+          by false e = asked_named e (find (is_asked rules command) s.requests) refl
+
+    -- THE TAG AND THE BLOCK
+
+    tag_named : MatchOption (tag_rule rules.depth s.pieces tag) (IsLowestFreeTag rules.depth s.pieces tag) Broken
+    tag_named = by (nat_lt tag rules.depth) refl
+      where
+        lower : tag < rules.depth → All (HasOtherTag tag) s.pieces → (found : Option ℕ) → MatchOption found ((k : ℕ) → 0 ≤ k → k < 0 + tag → list_any (has_tag k) s.pieces ≡ true) (IsLowestIn s.pieces 0 (0 + tag))
+            → MatchOption (lower_rule tag found) (IsLowestFreeTag rules.depth s.pieces tag) Broken
+        lower low free None h = record { within = low; free = free; lowest = λ k less. (decides_tag k s.pieces).0 (h k (omega arith) (omega arith)) }
+        lower low free (Some lowest) h =
+            let less : lowest < tag = omega (arith, h.low) in
+            (refl, record { within = omega arith; free = none_on rules.depth s.pieces lowest h.free; lowest = λ k lesser. (decides_tag k s.pieces).0 (h.used k (omega arith) lesser) }, less)
+
+        used : tag < rules.depth → (found : Option Piece) → find (has_tag tag) s.pieces ≡ found
+            → MatchOption (option_or (used_rule tag found) (lower_rule tag (lowest_free s.pieces 0 tag))) (IsLowestFreeTag rules.depth s.pieces tag) Broken
+        used low None e = lower low (none_found rules.depth s.pieces tag e) (lowest_free s.pieces 0 tag) (lowest_in s.pieces 0 tag)
+        used low (Some piece) e = let h : Contains s.pieces piece × (has_tag tag piece ≡ true) = found_pass (has_tag tag) s.pieces piece e in (refl, piece, h.0, eqb-true _ _ h.1, refl)
+
+        by : (b : Bool) → nat_lt tag rules.depth ≡ b
+            → MatchOption (if not b then Some (start_rule.Depth tag rules.depth) else option_or (used_rule tag (find (has_tag tag) s.pieces)) (lower_rule tag (lowest_free s.pieces 0 tag)))
+            (IsLowestFreeTag rules.depth s.pieces tag) Broken
+        by false e = (refl, refl, ltb-false _ _ e)
+        by true e = used (ltb-true _ _ e) (find (has_tag tag) s.pieces) refl
+
+    module _ (read : Result Cdb CdbFault) (right : (c : Cdb) → (read ≡ Ok c) ↔ Means block c) (fault : (f : CdbFault) → (read ≡ Err f) ↔ HasFault block f) where
+      block_named : number ≡ s.next_piece → IsLowestFreeTag rules.depth s.pieces tag → MatchOption (block_rule rules s read) CanStart Broken
+      block_named next free = by read refl
+        where
+          by : (r : Result Cdb CdbFault) → read ≡ r → MatchOption (block_rule rules s r) CanStart Broken
+          by (Ok command) e = command_named next free command ((right command).0 e) (λ c m. cc (e, (right c).1 m))
+          by (Err f) e = ((fault f).0 e, λ c m. cc (e, (right c).1 m))
+
+      pub starts_named : MatchOption (starting_rule rules s number tag read) ((s' : State) × Starts rules s number tag block s') (BreaksStartOf rules s number tag block)
+      starts_named = by (number == s.next_piece) refl
+        where
+          last : (x : Option StartRule) → MatchOption x (IsLowestFreeTag rules.depth s.pieces tag × CanStart) Broken → MatchOption x CanStart Broken
+          last None h = h.1
+          last (Some r) h = h
+
+          by : (b : Bool) → (number == s.next_piece) ≡ b
+              → MatchOption (if not b then Some (start_rule.Number s.next_piece number) else option_or (tag_rule rules.depth s.pieces tag) (block_rule rules s read)) CanStart Broken
+          by true e = last _ (either (IsLowestFreeTag rules.depth s.pieces tag) CanStart Broken (tag_rule rules.depth s.pieces tag) (block_rule rules s read) tag_named (λ free. block_named (eqb-true _ _ e) free))
+          by false e = (refl, refl, λ same. eqb-false _ _ e same)

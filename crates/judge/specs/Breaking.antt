@@ -1,0 +1,326 @@
+-- What it says that a label breaks a rule.
+use Rattle.std.specs.Prelude.{◌≡◌, ◌≢◌, ◌<◌, ◌≤◌, ℕ, ◌+◌, ◌*◌, ◌%◌, List, Option, Some, None, length, take, slice_get, slice_range, All, Contains, IsTrue, IsFalse, if◌then◌else◌}
+use Rattle.std.specs.List.{list_all, concat}
+use Rattle.ntstatus.specs.declared.NtStatus.{NtStatus}
+use Rattle.ntstatus.specs.declared.NtStatus.TheVariants.{Success}
+use Rattle.sector.specs.declared.Extent.{Extent}
+use Rattle.sector.specs.Extents.{IsSector}
+use Rattle.cdb.specs.declared.Cdb.{Cdb}
+use Rattle.cdb.specs.Meaning.{Means}
+use Rattle.cdb.specs.Faults.{HasFault}
+use Rattle.srb.specs.declared.Completion.{Completion}
+use Rattle.srb.specs.declared.Class.{Class}
+use Rattle.srb.specs.declared.Class.TheVariants.{Good, Busy, Bad}
+use Rattle.srb.specs.declared.DeviceLabel.TheVariants as device
+use Rattle.srb.specs.Fate.{Fresh, Acted, class_of}
+use Rattle.srb.specs.declared.Kind.TheVariants.{Read, Write}
+use Rattle.machine.specs.declared.ClientRequest.{ClientRequest}
+use Rattle.machine.specs.declared.Label.{Label}
+use Rattle.machine.specs.declared.Label.TheVariants as label
+use Rattle.machine.specs.Rules.{Rules, is_transfer}
+use Rattle.machine.specs.State.{Mark, Out, Failed, OpenRequest, Piece, Owed, State, opening}
+use Rattle.machine.specs.Calling.{refusal, bytes_carried}
+use Rattle.machine.specs.Cutting.{mark_at, is_back, restarts_left}
+use Rattle.machine.specs.Sending.{IsLowestFreeTag, is_started, command_for, sectors_at}
+use Rattle.machine.specs.Answering.{is_done, Cause, HasEnded, answer_bytes, information}
+use Rattle.machine.specs.Step.{Step, Run}
+use Rattle.judge.specs.declared.label_rules.Difference.{Difference}
+use Rattle.judge.specs.declared.label_rules.Rule.{Rule}
+use Rattle.judge.specs.declared.label_rules.Rule.TheVariants as rule
+use Rattle.judge.specs.declared.label_rules.OwedRule.{OwedRule}
+use Rattle.judge.specs.declared.label_rules.OwedRule.TheVariants as owed_rule
+use Rattle.judge.specs.declared.label_rules.CallRule.{CallRule}
+use Rattle.judge.specs.declared.label_rules.CallRule.TheVariants as call_rule
+use Rattle.judge.specs.declared.start_rules.StartRule.{StartRule}
+use Rattle.judge.specs.declared.start_rules.StartRule.TheVariants as start_rule
+use Rattle.judge.specs.declared.start_rules.Misfit.{Misfit}
+use Rattle.judge.specs.declared.start_rules.Misfit.TheVariants as misfit
+use Rattle.judge.specs.declared.start_rules.Hindrance.{Hindrance}
+use Rattle.judge.specs.declared.start_rules.Hindrance.TheVariants as hindrance
+use Rattle.judge.specs.declared.piece_rules.ActRule.{ActRule}
+use Rattle.judge.specs.declared.piece_rules.ActRule.TheVariants as act_rule
+use Rattle.judge.specs.declared.piece_rules.ReturnRule.{ReturnRule}
+use Rattle.judge.specs.declared.piece_rules.ReturnRule.TheVariants as return_rule
+use Rattle.judge.specs.declared.label_rules.AnswerRule.{AnswerRule}
+use Rattle.judge.specs.declared.label_rules.AnswerRule.TheVariants as answer_rule
+use Rattle.judge.specs.declared.label_rules.CancelRule.{CancelRule}
+use Rattle.judge.specs.declared.label_rules.CancelRule.TheVariants as cancel_rule
+use Rattle.judge.specs.declared.label_rules.RemovalRule.{RemovalRule}
+use Rattle.judge.specs.declared.label_rules.RemovalRule.TheVariants as removal_rule
+
+-- some step goes by the label
+abbrev pub HasStep : Rules → State → Label → Type 0
+HasStep rules s label = (s' : State) × Step rules s label s'
+
+-- the state is one that labels lead to
+abbrev pub IsReached : Rules → State → Type 0
+IsReached rules s = (arrays : List (List (List ℕ))) × (labels : List Label) × Run rules (opening arrays) labels s
+
+-- the open request of a number, the only one
+pub record IsOpen (s : State) (number : ℕ) (o : OpenRequest) : Type 0 where
+  pub is_there : Contains s.requests o
+  pub is_number : o.number ≡ number
+  pub alone : (other : OpenRequest) → Contains s.requests other → other.number ≡ number → other ≡ o
+
+abbrev pub IsNotOpen : State → ℕ → Type 0
+IsNotOpen s number = (o : OpenRequest) → Contains s.requests o → o.number ≢ number
+
+-- the first byte in which those that a label tells differ from those that are due
+pub record Differs (due told : List ℕ) (d : Difference) : Type 0 where
+  pub before : take d.at told ≡ take d.at due
+  pub is_due : slice_get due d.at ≡ d.due
+  pub is_told : slice_get told d.at ≡ d.told
+  pub unlike : d.told ≢ d.due
+
+-- WHERE AN ANSWER IS OWED
+
+abbrev pub Owes : State → ℕ → NtStatus → Type 0
+Owes s number status = s.owed ≡ Some (record { number = number; status = status })
+
+abbrev pub BreaksOwedAnswer : State → ℕ → NtStatus → ℕ → List ℕ → OwedRule → Type 0
+BreaksOwedAnswer s number status informed bytes (owed_rule.Other n due) = Owes s n due × (number ≢ n)
+BreaksOwedAnswer s number status informed bytes (owed_rule.Status n due told) = Owes s n due × (told ≡ status) × (told ≢ due)
+BreaksOwedAnswer s number status informed bytes (owed_rule.Information n told) = ((due : NtStatus) × Owes s n due) × (told ≡ informed) × (told ≢ 0)
+BreaksOwedAnswer s number status informed bytes (owed_rule.Bytes n count) = ((due : NtStatus) × Owes s n due) × (count ≡ length bytes) × (count ≢ 0)
+
+-- the answer that is owed comes first
+abbrev pub IsOwedFirst : State → OwedRule → Type 0
+IsOwedFirst s (owed_rule.Other n due) = Owes s n due
+IsOwedFirst s _ = ⊥
+
+abbrev pub BreaksOwed : State → Label → OwedRule → Type 0
+BreaksOwed s (label.Answer number status informed bytes) rule = BreaksOwedAnswer s number status informed bytes rule
+BreaksOwed s _ rule = IsOwedFirst s rule
+
+-- CALLS
+
+abbrev pub BreaksCallOf : Rules → State → ℕ → ClientRequest → CallRule → Type 0
+BreaksCallOf rules s number q (call_rule.Number due told) = (due ≡ s.next_request) × (told ≡ number) × (told ≢ due)
+BreaksCallOf rules s number q (call_rule.Refused status count) = (refusal rules s q ≡ Some status) × (count ≡ length q.bytes) × (count ≢ 0)
+BreaksCallOf rules s number q (call_rule.Bytes due told) =
+    (refusal rules s q ≡ None) × (due ≡ bytes_carried q.kind q.length) × (told ≡ length q.bytes) × (told ≢ due)
+
+abbrev pub BreaksCall : Rules → State → Label → CallRule → Type 0
+BreaksCall rules s (label.Call number q) rule = BreaksCallOf rules s number q rule
+BreaksCall rules s _ rule = ⊥
+
+-- ANSWERS
+
+-- the lowest place that isn't done
+pub record IsLowest (o : OpenRequest) (place : ℕ) : Type 0 where
+  pub within : place < length o.marks
+  pub not_done : IsFalse (is_done (mark_at o place))
+  pub below : (lower : ℕ) → lower < place → IsTrue (is_done (mark_at o lower))
+
+-- how the answer of an open request may be wrong
+abbrev pub EndsWrong : Rules → State → OpenRequest → NtStatus → ℕ → List ℕ → AnswerRule → Type 0
+EndsWrong rules s o status informed bytes (answer_rule.NotOpen n) = ⊥
+EndsWrong rules s o status informed bytes (answer_rule.Out place) = (place < length o.marks) × (mark_at o place ≡ Out)
+EndsWrong rules s o status informed bytes (answer_rule.Waits place) = (place < length o.marks) × ¬ (HasEnded rules s o (mark_at o place))
+EndsWrong rules s o status informed bytes (answer_rule.NotDone place) = IsLowest o place × (status ≡ Success)
+EndsWrong rules s o status informed bytes (answer_rule.AllDone told) = IsTrue (list_all is_done o.marks) × (told ≡ status) × (told ≢ Success)
+EndsWrong rules s o status informed bytes (answer_rule.Status place due told) =
+    IsLowest o place × (told ≡ status) × Cause rules s o (mark_at o place) due × ¬ (Cause rules s o (mark_at o place) told)
+EndsWrong rules s o status informed bytes (answer_rule.Information due told) = (due ≡ information o.request status) × (told ≡ informed) × (told ≢ due)
+EndsWrong rules s o status informed bytes (answer_rule.Bytes d) = Differs (answer_bytes o.request.kind o.marks) bytes d
+
+-- it isn't open, or is and its answer is wrong
+abbrev pub BreaksAnswerOf : Rules → State → ℕ → NtStatus → ℕ → List ℕ → AnswerRule → Type 0
+BreaksAnswerOf rules s number status informed bytes (answer_rule.NotOpen n) = (n ≡ number) × IsNotOpen s number
+BreaksAnswerOf rules s number status informed bytes rule = (o : OpenRequest) × IsOpen s number o × EndsWrong rules s o status informed bytes rule
+
+abbrev pub BreaksAnswer : Rules → State → Label → AnswerRule → Type 0
+BreaksAnswer rules s (label.Answer number status informed bytes) rule = (s.owed ≡ None) × BreaksAnswerOf rules s number status informed bytes rule
+BreaksAnswer rules s _ rule = ⊥
+
+-- CANCELS
+
+abbrev pub BreaksCancelOf : State → ℕ → CancelRule → Type 0
+BreaksCancelOf s number (cancel_rule.NotOpen n) = (n ≡ number) × IsNotOpen s number
+BreaksCancelOf s number (cancel_rule.Before n) = (n ≡ number) × (o : OpenRequest) × IsOpen s number o × IsTrue o.cancelled
+
+abbrev pub BreaksCancel : State → Label → CancelRule → Type 0
+BreaksCancel s (label.Cancel number) rule = BreaksCancelOf s number rule
+BreaksCancel s _ rule = ⊥
+
+-- THE HOLD AND REMOVAL
+
+-- what the rule says of the state
+abbrev pub IsSoNow : State → RemovalRule → Type 0
+IsSoNow s removal_rule.Paused = IsTrue s.paused
+IsSoNow s removal_rule.NotPaused = IsFalse s.paused
+IsSoNow s removal_rule.Removing = IsTrue s.removing
+IsSoNow s removal_rule.NotRemoving = IsFalse s.removing
+IsSoNow s removal_rule.Removed = IsTrue s.removed
+IsSoNow s (removal_rule.Open number) = (o : OpenRequest) × Contains s.requests o × (o.number ≡ number)
+
+-- of which labels it is asked
+abbrev pub IsOfPause : RemovalRule → Type 0
+IsOfPause removal_rule.Paused = Unit {0}
+IsOfPause removal_rule.Removing = Unit {0}
+IsOfPause _ = ⊥
+
+abbrev pub IsOfEnd : RemovalRule → Type 0
+IsOfEnd removal_rule.NotRemoving = Unit {0}
+IsOfEnd removal_rule.Removed = Unit {0}
+IsOfEnd (removal_rule.Open number) = Unit {0}
+IsOfEnd _ = ⊥
+
+abbrev pub BreaksRemoval : State → Label → RemovalRule → Type 0
+BreaksRemoval s label.Pause rule = IsOfPause rule × IsSoNow s rule
+BreaksRemoval s label.Resume rule = (rule ≡ removal_rule.NotPaused) × IsSoNow s rule
+BreaksRemoval s label.Remove rule = (rule ≡ removal_rule.NotPaused) × IsSoNow s rule
+BreaksRemoval s label.Surprise rule = (rule ≡ removal_rule.Removing) × IsSoNow s rule
+BreaksRemoval s label.Removed rule = IsOfEnd rule × IsSoNow s rule
+BreaksRemoval s _ rule = ⊥
+
+-- STARTS
+
+-- the open request asks for the block by those of its places
+pub record Asks (rules : Rules) (s : State) (block : List ℕ) (o : OpenRequest) (places : Extent) : Type 0 where
+  pub is_there : Contains s.requests o
+  pub some : 0 < places.count
+  pub inside : places.first + places.count ≤ length o.marks
+  pub means : Means block (command_for rules o.request places o.request.kind)
+
+-- no open request asks for it
+abbrev pub NoneAsks : Rules → State → List ℕ → Type 0
+NoneAsks rules s block = (o : OpenRequest) (places : Extent) → ¬ (Asks rules s block o places)
+
+-- what is said of it beside that
+abbrev pub IsMisfit : State → Misfit → Type 0
+IsMisfit s (misfit.Kind kind) = (o : OpenRequest) → Contains s.requests o → o.request.kind ≢ kind
+IsMisfit s (misfit.Fua number due) = (o : OpenRequest) × Contains s.requests o × (o.number ≡ number) × (o.request.through ≡ due)
+IsMisfit s _ = Unit {0}
+
+-- one of the places
+abbrev pub IsAmong : Extent → ℕ → Type 0
+IsAmong places place = (places.first ≤ place) × (place < places.first + places.count)
+
+-- what holds those places of the request back
+abbrev pub Hinders : Rules → State → OpenRequest → Extent → Hindrance → Type 0
+Hinders rules s o places hindrance.Cancelled = IsTrue o.cancelled
+Hinders rules s o places hindrance.Removing = IsTrue s.removing
+Hinders rules s o places hindrance.Late = IsTrue s.paused × IsTrue o.late
+Hinders rules s o places (hindrance.Earlier number) =
+    (other : OpenRequest) × Contains s.requests other × (other.number ≡ number) × (number < o.number) × IsFalse other.cancelled × IsFalse (is_started other)
+Hinders rules s o places (hindrance.Long longest count) = (longest ≡ rules.max_transfer) × (count ≡ places.count) × (longest < count)
+Hinders rules s o places (hindrance.Out place) = IsAmong places place × (mark_at o place ≡ Out)
+Hinders rules s o places (hindrance.Done place) = IsAmong places place × IsTrue (is_done (mark_at o place))
+Hinders rules s o places (hindrance.Failed place) = IsAmong places place × (status : NtStatus) × (mark_at o place ≡ Failed status)
+Hinders rules s o places (hindrance.OffGrid place grid) = (place ≡ places.first) × (grid ≡ rules.max_transfer) × (place % grid ≢ 0)
+Hinders rules s o places (hindrance.Worn place) = (place ≡ places.first) × IsTrue (is_back (mark_at o place)) × (restarts_left rules o ≡ 0)
+Hinders rules s o places (hindrance.NotWhole due count) = IsTrue rules.one_piece × (due ≡ length o.marks) × (count ≡ places.count) × (count ≢ due)
+Hinders rules s o places hindrance.Again = IsTrue rules.one_piece × IsTrue (is_started o)
+
+-- each open request that asks for the block is held back
+abbrev pub AllHeld : Rules → State → List ℕ → Type 0
+AllHeld rules s block = (o : OpenRequest) (places : Extent) → Asks rules s block o places → (h : Hindrance) × Hinders rules s o places h
+
+-- that of a number by this
+abbrev pub HoldsOne : Rules → State → List ℕ → ℕ → Hindrance → Type 0
+HoldsOne rules s block number h = (o : OpenRequest) × (places : Extent) × Asks rules s block o places × (o.number ≡ number) × Hinders rules s o places h
+
+abbrev pub BreaksStartOf : Rules → State → ℕ → ℕ → List ℕ → StartRule → Type 0
+BreaksStartOf rules s number tag block (start_rule.Number due told) = (due ≡ s.next_piece) × (told ≡ number) × (told ≢ due)
+BreaksStartOf rules s number tag block (start_rule.Depth t depth) = (t ≡ tag) × (depth ≡ rules.depth) × (depth ≤ t)
+BreaksStartOf rules s number tag block (start_rule.TagInUse t n) = (t ≡ tag) × (piece : Piece) × Contains s.pieces piece × (piece.tag ≡ t) × (piece.number ≡ n)
+BreaksStartOf rules s number tag block (start_rule.Tag lowest told) = (told ≡ tag) × IsLowestFreeTag rules.depth s.pieces lowest × (lowest < told)
+BreaksStartOf rules s number tag block (start_rule.Block fault) = HasFault block fault × ((c : Cdb) → ¬ (Means block c))
+BreaksStartOf rules s number tag block (start_rule.NotAsked misfit) = NoneAsks rules s block × IsMisfit s misfit
+BreaksStartOf rules s number tag block (start_rule.Held n h) = AllHeld rules s block × HoldsOne rules s block n h
+
+abbrev pub BreaksStart : Rules → State → Label → StartRule → Type 0
+BreaksStart rules s (label.Device (device.Start number tag block)) rule = BreaksStartOf rules s number tag block rule
+BreaksStart rules s _ rule = ⊥
+
+-- ACTS AND FAULTS
+
+-- the piece of a number at the adapter, the only one
+pub record IsAtAdapter (s : State) (number : ℕ) (piece : Piece) : Type 0 where
+  pub is_there : Contains s.pieces piece
+  pub is_number : piece.number ≡ number
+  pub alone : (other : Piece) → Contains s.pieces other → other.number ≡ number → other ≡ piece
+
+abbrev pub IsNotAtAdapter : State → ℕ → Type 0
+IsNotAtAdapter s number = (piece : Piece) → Contains s.pieces piece → piece.number ≢ number
+
+-- the piece, and the request that it is of
+pub record IsOwned (s : State) (number : ℕ) (piece : Piece) (o : OpenRequest) : Type 0 where
+  pub piece_out : IsAtAdapter s number piece
+  pub owner_open : IsOpen s piece.owner o
+
+-- as many bytes move with an act
+abbrev pub length_due : Rules → Piece → OpenRequest → ℕ
+length_due rules piece o = if is_transfer o.request.kind then piece.places.count * rules.sector_size else 0
+
+-- the bytes of the places of a write
+abbrev pub bytes_sent : Rules → ClientRequest → Extent → List ℕ
+bytes_sent rules q places = slice_range q.bytes (places.first * rules.sector_size) ((places.first + places.count) * rules.sector_size)
+
+-- as many sectors as there are places, each of the size of a sector
+pub record AreWhole (rules : Rules) (places : Extent) (sectors : List (List ℕ)) : Type 0 where
+  pub many : length sectors ≡ places.count
+  pub sized : All (IsSector rules.sector_size) sectors
+
+-- a read of the sectors that stand in the machine's arrays
+pub record IsFaithfulRead (rules : Rules) (o : OpenRequest) : Type 0 where
+  pub faithful : IsTrue rules.faithful
+  pub is_read : o.request.kind ≡ Read
+
+abbrev pub ActsWrong : Rules → State → Piece → OpenRequest → List ℕ → ActRule → Type 0
+ActsWrong rules s piece o bytes (act_rule.NoPiece n) = ⊥
+ActsWrong rules s piece o bytes (act_rule.Before n) = ⊥
+ActsWrong rules s piece o bytes (act_rule.Length due told) = (due ≡ length_due rules piece o) × (told ≡ length bytes) × (told ≢ due)
+ActsWrong rules s piece o bytes (act_rule.Write d) = (o.request.kind ≡ Write) × Differs (bytes_sent rules o.request piece.places) bytes d
+ActsWrong rules s piece o bytes (act_rule.Disk d) = IsFaithfulRead rules o × Differs (concat (sectors_at rules s o.request piece.places)) bytes d
+ActsWrong rules s piece o bytes (act_rule.NoSectors n) =
+    (n ≡ piece.number) × IsFaithfulRead rules o × ¬ (AreWhole rules piece.places (sectors_at rules s o.request piece.places))
+
+abbrev pub BreaksAct : Rules → State → ℕ → List ℕ → ActRule → Type 0
+BreaksAct rules s number bytes (act_rule.NoPiece n) = (n ≡ number) × IsNotAtAdapter s number
+BreaksAct rules s number bytes (act_rule.Before n) = (n ≡ number) × (piece : Piece) × IsAtAdapter s number piece × (piece.fate ≢ Fresh)
+BreaksAct rules s number bytes rule = (piece : Piece) × (o : OpenRequest) × IsOwned s number piece o × ActsWrong rules s piece o bytes rule
+
+abbrev pub BreaksFault : State → ℕ → ActRule → Type 0
+BreaksFault s number (act_rule.NoPiece n) = (n ≡ number) × IsNotAtAdapter s number
+BreaksFault s number (act_rule.Before n) = (n ≡ number) × (piece : Piece) × IsAtAdapter s number piece × (piece.fate ≢ Fresh)
+BreaksFault s number _ = ⊥
+
+abbrev pub BreaksActing : Rules → State → Label → ActRule → Type 0
+BreaksActing rules s (label.Device (device.Act number bytes)) rule = BreaksAct rules s number bytes rule
+BreaksActing rules s (label.Device (device.Fault number)) rule = BreaksFault s number rule
+BreaksActing rules s _ rule = ⊥
+
+-- RETURNS
+
+abbrev pub ReturnsWrong : Piece → Class → ReturnRule → Type 0
+ReturnsWrong piece class (return_rule.NoPiece n) = ⊥
+ReturnsWrong piece class (return_rule.GoodWithoutAct n) = (n ≡ piece.number) × (class ≡ Good) × ((sectors : List (List ℕ)) → piece.fate ≢ Acted sectors)
+ReturnsWrong piece class (return_rule.BusyAfterAct n) = (n ≡ piece.number) × (class ≡ Busy) × (piece.fate ≢ Fresh)
+ReturnsWrong piece class (return_rule.GoodCode n srb_status) =
+    (n ≡ piece.number) × (completion : Completion) × (class ≡ Bad completion) × (srb_status ≡ completion.srb_status) × (class_of completion ≢ Bad completion)
+
+abbrev pub BreaksReturnOf : State → ℕ → Class → ReturnRule → Type 0
+BreaksReturnOf s number class (return_rule.NoPiece n) = (n ≡ number) × IsNotAtAdapter s number
+BreaksReturnOf s number class rule = (piece : Piece) × IsAtAdapter s number piece × ReturnsWrong piece class rule
+
+abbrev pub BreaksReturn : State → Label → ReturnRule → Type 0
+BreaksReturn s (label.Device (device.Return number class)) rule = BreaksReturnOf s number class rule
+BreaksReturn s _ rule = ⊥
+
+-- EACH RULE
+
+abbrev pub Breaks : Rules → State → Label → Rule → Type 0
+Breaks rules s label (rule.Owed r) = BreaksOwed s label r
+Breaks rules s label (rule.Call r) = BreaksCall rules s label r
+Breaks rules s label (rule.Start r) = BreaksStart rules s label r
+Breaks rules s label (rule.Act r) = BreaksActing rules s label r
+Breaks rules s label (rule.Return r) = BreaksReturn s label r
+Breaks rules s label (rule.Answer r) = BreaksAnswer rules s label r
+Breaks rules s label (rule.Cancel r) = BreaksCancel s label r
+Breaks rules s label (rule.Removal r) = BreaksRemoval s label r
+
+-- a rule that a label breaks refutes each step by it
+abbrev pub BreakingRefutes : Type 0
+BreakingRefutes = (rules : Rules) (s : State) (label : Label) (rule : Rule) → Breaks rules s label rule → ¬ (HasStep rules s label)

@@ -1,0 +1,57 @@
+-- Labels that are judged one by one.
+use Rattle.std.specs.Prelude.{◌≡◌, ◌<◌, ℕ, List, [], ◌∷◌, ◌++◌, length, All, Any}
+use Rattle.machine.specs.declared.Label.{Label}
+use Rattle.machine.specs.Rules.{Rules}
+use Rattle.machine.specs.State.{State, opening}
+use Rattle.machine.specs.Step.{Run}
+use Rattle.judge.specs.Judging.{AreReached, IsRun}
+use Rattle.judge.specs.declared.label_rules.Rule.{Rule}
+use Rattle.judge.specs.Breaking.{HasStep, IsReached, Breaks}
+
+-- what a judge holds: its rules, and the states that the labels lead to
+pub record JudgeView : Type 0 where
+  pub rules : Rules
+  pub states : List State
+
+-- the judge has taken these labels, from the opening state with these arrays: they are a run, and it holds all states that they lead to
+pub record HasTaken (j : JudgeView) (arrays : List (List (List ℕ))) (labels : List Label) : Type 0 where
+  pub reached : AreReached j.rules (opening arrays) labels j.states
+  pub some : 0 < length j.states
+
+-- one label more is taken
+abbrev pub Takes : JudgeView → Label → JudgeView → Type 0
+Takes old label new =
+    (arrays : List (List (List ℕ))) (labels : List Label) → HasTaken old arrays labels → HasTaken new arrays (labels ++ label ∷ [])
+
+-- no run has the labels before and this one; at a state that those before lead to it breaks the rule
+pub record IsRefused (rules : Rules) (arrays : List (List (List ℕ))) (labels : List Label) (label : Label) (rule : Rule) : Type 0 where
+  pub no_run : ¬ (IsRun rules (opening arrays) (labels ++ label ∷ []))
+  pub broken : (s : State) × Run rules (opening arrays) labels s × Breaks rules s label rule
+
+-- the label breaks the rule whatever was taken
+abbrev pub Refuses : JudgeView → Label → Rule → Type 0
+Refuses j label rule = (arrays : List (List (List ℕ))) (labels : List Label) → HasTaken j arrays labels → IsRefused j.rules arrays labels label rule
+
+-- each state is one that labels lead to
+abbrev pub AllReached : Rules → List State → Type 0
+AllReached rules states = All (IsReached rules) states
+
+-- no step goes by the label from the state
+abbrev pub HasNoStep : Rules → Label → State → Type 0
+HasNoStep rules label s = ¬ (HasStep rules s label)
+
+-- it breaks the rule there
+abbrev pub BreaksThere : Rules → Label → Rule → State → Type 0
+BreaksThere rules label rule s = Breaks rules s label rule
+
+-- it goes from none of the states, and breaks the rule at one of them
+pub record StopsAll (rules : Rules) (states : List State) (label : Label) (rule : Rule) : Type 0 where
+  pub none : All (HasNoStep rules label) states
+  pub there : Any (BreaksThere rules label rule) states
+
+abbrev pub Goes : Rules → Label → State → Type 0
+Goes rules label s = HasStep rules s label
+
+-- from some of them it goes
+abbrev pub SomeGoes : Rules → List State → Label → Type 0
+SomeGoes rules states label = Any (Goes rules label) states
