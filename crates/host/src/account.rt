@@ -9,6 +9,7 @@ ghost use Rattle.host.specs.Calls.{AnswerLaws, FindsCall, IsTold, Stands, buffer
 ghost use Rattle.host.specs.Receipts.{none_yet, receipt};
 ghost use Rattle.host.specs.Opening.{IsHandleFor};
 
+use crate::bells::Concerned;
 use crate::call::{Answered, Call, Places, Reason, Refusal};
 use crate::host::Host;
 use crate::name::Naming;
@@ -218,6 +219,22 @@ impl<N: Naming> Account<N> {
         }
     }
 
+    /// The same, and whom the call concerns.
+    pub(crate) fn issue_and_note<A: Adapter>(
+        &mut self,
+        host: &Host<A, N>,
+        book: &mut Book<A, N>,
+        call: Call,
+    ) -> (Result<Ticket<N>, Refusal>, Concerned)
+        requires room { (0 < self.old.called.room) × (0 < self.old.answered.room) }
+        ensures issued { IfOk result.0 (λ t. IsCalled (slice_index_or N.partitions self.old.share.client 0) self.old t call self.new) }
+        ensures refused { IfErr result.0 (λ r. IsTurnedDown (slice_index_or N.partitions self.old.share.client 0) self.old call r self.new) }
+    {
+        let from = book.len();
+        let issued = self.issue_in(host, book, call);
+        (issued, Concerned::since(book, from))
+    }
+
     /// Waits for the answer to a call of this account.
     pub(crate) fn answer_of<A: Adapter, R: Wait>(
         &mut self,
@@ -240,12 +257,13 @@ impl<N: Naming> Account<N> {
             return self.keep_answer(&host.history, place, place + 1, answer, told);
         }
         let mut claim = claim;
+        let client = self.share.client();
         let mut book = host.book.lock(rt);
         for _ in rt.forever() {
             if let Some(answered) = self.answer_in(host, &mut book, number, place, &mut claim) {
                 return answered;
             }
-            book = host.told.wait(rt, book);
+            book = host.bells.client(client).wait(rt, book);
         }
         unreachable!()
     }

@@ -100,8 +100,10 @@ impl<N: Naming> Client<N> {
             Ok(()) => {}
             Err(reason) => return Err(call.refused(host.alloc, reason)),
         }
-        let issued = self.account.issue_in(host, &mut host.book.lock(rt), call);
-        host.told.notify_all();
+        let (issued, concerned) = self
+            .account
+            .issue_and_note(host, &mut host.book.lock(rt), call);
+        host.bells.ring(rt, concerned);
         match issued {
             Ok(ticket) => {
                 self.out += 1;

@@ -5,7 +5,7 @@ use crate::name::Naming;
 use adapter::Adapter;
 use book::Book;
 use compose::Event;
-use lanes::{Desk, Step};
+use lanes::{Desk, Step, Woken};
 use machine::Label;
 use srb::DeviceLabel;
 use std::sync::{Mutex, Wait};
@@ -83,12 +83,6 @@ impl Board {
         tags.catch_up(book);
         tags.take(tag)
     }
-
-    fn is_removed<A: Adapter, N: Naming, R: Wait>(&self, rt: &R, book: &Book<A, N>) -> bool {
-        let mut tags = self.tags.lock(rt);
-        tags.catch_up(book);
-        tags.removed
-    }
 }
 
 impl<A: Adapter, N: Naming> Desk for Host<A, N> {
@@ -98,7 +92,7 @@ impl<A: Adapter, N: Naming> Desk for Host<A, N> {
             if let Some(step) = self.board.take(rt, &book, tag) {
                 return step;
             }
-            book = self.told.wait(rt, book);
+            book = self.bells.lane(tag).wait(rt, book);
         }
         unreachable!()
     }
@@ -111,8 +105,11 @@ impl<A: Adapter, N: Naming> Desk for Host<A, N> {
         self.step(rt, Event::Finish { tag });
     }
 
-    fn ended<R: Wait>(&self, rt: &R) -> bool {
-        let book = self.book.lock(rt);
-        self.board.is_removed(rt, &book)
+    fn ring<R: Wait>(&self, rt: &R) {
+        self.bells.ring_worker(rt);
+    }
+
+    fn rest<R: Wait>(&self, rt: &R, heard: u64) -> Woken {
+        self.bells.rest(rt, heard)
     }
 }

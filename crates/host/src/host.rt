@@ -9,6 +9,7 @@ ghost use Rattle.host.specs.Replies.{IsReplyTo};
 ghost use Rattle.compose.specs.declared.Event.TheVariants.{Act, Finish, Reset};
 
 use crate::account::Account;
+use crate::bells::{Bells, Concerned};
 use crate::client::Client;
 use crate::desk::Board;
 use crate::name::Naming;
@@ -23,14 +24,13 @@ use remove_lock::Pass;
 use std::alloc::{AllocError, Global};
 use std::marker::{Model, PhantomData};
 use std::sync::ledger::Share as Part;
-use std::sync::{Condvar, Mutex, Wait};
+use std::sync::{Mutex, Wait};
 
 /// A book under its lock, and what threads share beside it.
 #[derive(Drop)]
 pub struct Host<A: Adapter, N: Naming> {
     pub(crate) book: Mutex<Book<A, N>>,
-    // notified of each step
-    pub(crate) told: Condvar,
+    pub(crate) bells: Bells,
     pub(crate) history: History<Entry, N>,
     pub(crate) table: Table<N>,
     pub(crate) door: Door<N>,
@@ -160,6 +160,7 @@ impl<A: Adapter, N: Naming> Host<A, N> {
         let count = partitions.len();
         let (history, mut whole) = history.named::<N>();
         let (tally, mut all) = ledger.open::<N>();
+        let bells = Bells::new(alloc, count)?;
         let (clients, pass) = hand_out(
             alloc, &history, &mut whole, &mut all, handles, seats, passes,
         )?;
@@ -167,7 +168,7 @@ impl<A: Adapter, N: Naming> Host<A, N> {
         let book = Book::new(alloc, stack, whole, owner, tally, count, slots, sizes)?;
         let host = Host {
             book: Mutex::new(book),
-            told: Condvar::new(),
+            bells,
             history,
             table: Table {
                 marks,
@@ -224,13 +225,23 @@ impl<A: Adapter, N: Naming> Host<A, N> {
         )
     }
 
-    // A step that is no client's, of which those who wait are told.
+    // The same, and whom it concerns.
+    fn step_and_note(&self, book: &mut Book<A, N>, event: Event) -> (Reply, Concerned)
+        requires { (is_handle_event event ≡ false) × (call_handle event ≡ None) }
+        ensures reply { IsReplyTo event result.0 }
+    {
+        let from = book.len();
+        let reply = self.step_in(book, event);
+        (reply, Concerned::since(book, from))
+    }
+
+    // A step that is no client's, of which those are told whom it concerns.
     pub(crate) fn step<R: Wait>(&self, rt: &R, event: Event) -> Reply
         requires { (is_handle_event event ≡ false) × (call_handle event ≡ None) }
         ensures reply { IsReplyTo event result }
     {
-        let reply = self.step_in(&mut self.book.lock(rt), event);
-        self.told.notify_all();
+        let (reply, concerned) = self.step_and_note(&mut self.book.lock(rt), event);
+        self.bells.ring(rt, concerned);
         reply
     }
 }

@@ -23,6 +23,7 @@
 #![tactic(auto)]
 
 mod account;
+mod bells;
 mod call;
 mod client;
 mod closing;

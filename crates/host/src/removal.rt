@@ -12,6 +12,7 @@ ghost use Rattle.host.specs.Replies.{IsReplyTo};
 ghost use Rattle.compose.specs.declared.Event.TheVariants.{CancelRemove, QueryRemove, Remove, SurpriseRemove};
 
 use crate::account::laws_of_numbers;
+use crate::bells::Concerned;
 use crate::host::{Host, Keeper};
 use crate::name::Naming;
 use crate::notice::{Notice, claim_notice};
@@ -71,6 +72,24 @@ impl<A: Adapter, N: Naming> Host<A, N> {
         (reply, from)
     }
 
+    // The same, and whom it concerns.
+    fn begin_and_note(
+        &self,
+        book: &mut Book<A, N>,
+        told: &mut Claims<Entry, N>,
+        event: Event,
+    ) -> (Reply, usize, Concerned)
+        requires { (is_handle_event event ≡ false) × (call_handle event ≡ None) }
+        ensures same { told.new ≡ told.old }
+        ensures above { AreBelow result.1 told.old }
+        ensures from { result.1 ≡ length book.old.entries }
+        ensures stepped { IsStepped N.slots None (inl tt) book.old event result.0 book.new }
+        ensures reply { IsReplyTo event result.0 }
+    {
+        let (reply, from) = self.begin(book, told, event);
+        (reply, from, Concerned::since(book, from))
+    }
+
     // The part of a query that has the book.
     fn query_in(&self, book: &mut Book<A, N>, told: &mut Claims<Entry, N>) -> Reply
         ensures told { HasNotedIfOk PauseLabel result told.old told.new }
@@ -87,6 +106,20 @@ impl<A: Adapter, N: Naming> Host<A, N> {
         reply
     }
 
+    // The same, and whom it concerns.
+    fn query_and_note(
+        &self,
+        book: &mut Book<A, N>,
+        told: &mut Claims<Entry, N>,
+    ) -> (Reply, Concerned)
+        ensures told { HasNotedIfOk PauseLabel result.0 told.old told.new }
+        ensures reply { IsReplyTo QueryRemove result.0 }
+    {
+        let from = book.len();
+        let reply = self.query_in(book, told);
+        (reply, Concerned::since(book, from))
+    }
+
     // Waits until the removal has ended: its label stands at a place from this one on.
     fn await_removed<R: Wait>(&self, rt: &R, from: usize) -> Claims<Entry, N>
         ensures { IsNoticed from RemovedLabel result }
@@ -98,7 +131,7 @@ impl<A: Adapter, N: Naming> Host<A, N> {
                 return claim;
             }
             from = from.max(book.len());
-            book = self.told.wait(rt, book);
+            book = self.bells.keeper().wait(rt, book);
         }
         unreachable!()
     }
@@ -121,8 +154,12 @@ impl<A: Adapter, N: Naming> Host<A, N> {
         ensures drained { result ≡ OkReply → keeper.new.pass.saw_drained ≡ true }
         ensures told { HasNotedIfOk RemovedLabel result keeper.old.told keeper.new.told }
     {
-        let (reply, from) = self.begin(&mut self.book.lock(rt), &mut keeper.told, event);
-        self.told.notify_all();
+        let (reply, from, concerned) = self.begin_and_note(
+            &mut self.book.lock(rt),
+            &mut keeper.told,
+            event,
+        );
+        self.bells.ring(rt, concerned);
         if let Reply::Ok = reply {
             self.end_removal(rt, keeper, from);
         }
@@ -136,8 +173,8 @@ impl<A: Adapter, N: Naming> Host<A, N> {
         ensures pass { keeper.new.pass ≡ keeper.old.pass }
         ensures told { HasNotedIfOk PauseLabel result keeper.old.told keeper.new.told }
     {
-        let reply = self.query_in(&mut self.book.lock(rt), &mut keeper.told);
-        self.told.notify_all();
+        let (reply, concerned) = self.query_and_note(&mut self.book.lock(rt), &mut keeper.told);
+        self.bells.ring(rt, concerned);
         reply
     }
 

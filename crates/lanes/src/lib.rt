@@ -24,7 +24,6 @@ use rule::{Another, Item, Place, Put, Queue, Take};
 use std::alloc::{AllocError, Global};
 use std::marker::Model;
 use std::sync::Wait;
-use std::thread;
 use thiserror::Error;
 
 /// There was no memory.
@@ -53,6 +52,15 @@ pub enum Step {
     Ended,
 }
 
+/// What woke the worker.
+#[derive(Debug, Clone, Copy, PartialEq, Eq, Drop)]
+pub struct Woken {
+    /// How often it was rung for, counted modulo 2^64.
+    pub heard: u64,
+    /// Whether the disk is removed: no piece will be started.
+    pub is_removed: bool,
+}
+
 /// Where the pieces of a disk's tags are acted and finished. Many threads share one.
 pub trait Desk {
     /// Waits for the tag's next step: [`Step::Ready`] once for each piece started on the tag, also one that a reset met,
@@ -65,8 +73,11 @@ pub trait Desk {
     /// Completes the piece on the tag.
     fn finish<R: Wait>(&self, rt: &R, tag: u8);
 
-    /// Whether the disk is removed.
-    fn ended<R: Wait>(&self, rt: &R) -> bool;
+    /// Tells the worker that an item was put.
+    fn ring<R: Wait>(&self, rt: &R);
+
+    /// The worker sleeps until it was rung for more often than it heard, or the disk is removed.
+    fn rest<R: Wait>(&self, rt: &R, heard: u64) -> Woken;
 }
 
 /// The queue from the lanes to the worker. Contracts see it as its identity and its capacity.
@@ -226,8 +237,9 @@ pub fn serve_lane<R: Wait, D: Desk, T: Turnstile>(
             Step::Ready => {
                 turnstile.pass(rt, tag);
                 desk.act(rt, tag);
-                if let Err(item) = completions.put(rt, &mut pass, tag) {
-                    desk.finish(rt, item.tag);
+                match completions.put(rt, &mut pass, tag) {
+                    Ok(()) => desk.ring(rt),
+                    Err(item) => desk.finish(rt, item.tag),
                 }
             }
         }
@@ -235,8 +247,9 @@ pub fn serve_lane<R: Wait, D: Desk, T: Turnstile>(
     pass
 }
 
-/// The worker. It takes items, passes its own turnstile with the tag of each, and finishes the piece on that tag. It ends
-/// where a look at the queue that began after the disk was removed finds none, and gives its pass back.
+/// The worker. It takes items, passes its own turnstile with the tag of each, and finishes the piece on that tag. Where there
+/// is none it sleeps until a lane rings. It ends where a look at the queue that began after the disk was removed finds none, and
+/// gives its pass back.
 pub fn serve_completions<R: Wait, D: Desk, T: Turnstile>(
     rt: &R,
     desk: &D,
@@ -249,18 +262,21 @@ pub fn serve_completions<R: Wait, D: Desk, T: Turnstile>(
     ensures took { HasTaken pass.view result.view }
     ensures emptied { StoodAt 0 result.view }
 {
+    let mut woken = Woken {
+        heard: 0,
+        is_removed: false,
+    };
     for _ in rt.forever() {
-        let ended = desk.ended(rt);
         match completions.pop(rt, &mut pass.place) {
             Some(item) => {
                 turnstile.pass(rt, item.tag);
                 desk.finish(rt, item.tag);
             }
             None => {
-                if ended {
+                if woken.is_removed {
                     return pass;
                 }
-                thread::yield_now();
+                woken = desk.rest(rt, woken.heard);
             }
         }
     }

@@ -2,7 +2,9 @@ ghost use Rattle.std.specs.Prelude.{◌≡◌, ◌+◌, ◌<◌, ◌≤◌, IfOk
 ghost use Rattle.lanes.specs.Queue.{IsLane, fresh_lane, fresh_worker, standing};
 
 use crate::expect::same;
-use lanes::{Completions, Desk, NoMemory, Pass, Step, Turnstile, serve_completions, serve_lane};
+use lanes::{
+    Completions, Desk, NoMemory, Pass, Step, Turnstile, Woken, serve_completions, serve_lane,
+};
 use std::alloc::Global;
 use std::sync::{Mutex, Wait};
 use std::test::Fail;
@@ -144,8 +146,14 @@ impl Desk for Table {
         self.tags.lock(rt).finish(tag);
     }
 
-    fn ended<R: Wait>(&self, rt: &R) -> bool {
-        self.tags.lock(rt).is_over()
+    fn ring<R: Wait>(&self, _: &R) {}
+
+    fn rest<R: Wait>(&self, rt: &R, heard: u64) -> Woken {
+        thread::yield_now();
+        Woken {
+            heard,
+            is_removed: self.tags.lock(rt).is_over(),
+        }
     }
 }
 

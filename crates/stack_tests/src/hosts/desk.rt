@@ -100,7 +100,9 @@ fn serve<D: Desk, R: Wait + Abort>(rt: &R, desk: &D, tag: u8, want: Step) {
         desk.act(rt, tag);
         desk.finish(rt, tag);
     }
-    assert!(rt; desk.ended(rt) == (step == Step::Ended));
+    if step == Step::Ended {
+        assert!(rt; desk.rest(rt, 0).is_removed);
+    }
 }
 
 // The rows of a test one by one.
