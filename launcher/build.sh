@@ -5,7 +5,7 @@ crates_of_the_program() {
     awk -F: '
         /^[a-z]/ { split($1, head, " "); name = head[1]; order[++n] = name; below[name] = $2 }
         END {
-            wanted["stackrun"] = 1
+            wanted[ENVIRON["program_name"]] = 1
             for (k = n; k >= 1; k--) if (order[k] in wanted) {
                 count = split(below[order[k]], names, " ")
                 for (j = 1; j <= count; j++) wanted[names[j]] = 1
@@ -17,7 +17,7 @@ crates_of_the_program() {
 # Says of each crate that it is being proved, as rt's lines tell.
 tell_crates() {
     local names line all at
-    names=$(crates_of_the_program)
+    names=$(program_name=$name crates_of_the_program)
     all=$(wc -l <<< "$names")
     while IFS= read -r line; do
         case $line in
@@ -30,12 +30,12 @@ tell_crates() {
     done
 }
 
-# Proves and builds the program, and runs it on the settings and the script of its crate.
+# Proves and builds the program, and runs it on `first_words`, which ask for what its crate has.
 build() {
     local log status
     log=$(mktemp)
     set +e
-    (cd "$crate" && rt run -- trace "$crate/data/config.toml" "$crate/data/script") 2>&1 < /dev/null | tee "$log" | tell_crates
+    (cd "$crate" && rt run -- "${first_words[@]}") 2>&1 < /dev/null | tee "$log" | tell_crates
     status=${PIPESTATUS[0]}
     set -e
     if [ "$status" != 0 ]; then

@@ -1,6 +1,6 @@
 # What all parts of the launcher use.
 
-say() { echo "stackrun: $1" >&2; }
+say() { echo "$name: $1" >&2; }
 
 # The folder for this call's files, which goes with it.
 make_scratch() {

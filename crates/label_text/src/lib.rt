@@ -2,8 +2,8 @@
 //! read again.
 //!
 //! It promises to the crate above, by the contract of [`write_line`] (`text`, `spelled`), that a label is written as its
-//! line and nothing else; by that of [`read_line`] (`spelled`, `only`, `fault`), that a line is read as the one label whose
-//! line it is, and refused exactly where it is the line of none. So what is written is read as what it was, and what is
+//! line and nothing else; by that of [`read_line`] (`spelled`, `only`, `again`, `fault`), that a line is read as the one label
+//! whose line it is, and refused only where it is the line of none. So what is written is read as what it was, and what is
 //! read would be written as it stood.
 //!
 //! It does not promise that labels are a run of the machine, or that a writer takes all.

@@ -1,8 +1,9 @@
 //! Labels, read from their lines.
 
-ghost use Rattle.std.specs.Prelude.{◌≡◌, IfErr, IfOk, OnSome, Some, drop, option_map};
+ghost use Rattle.std.specs.Prelude.{◌≡◌, IfErr, IfOk, MatchResult, OnSome, Some, drop, option_map};
 ghost use Rattle.srb.specs.declared.Kind.TheVariants.{Flush};
 ghost use Rattle.machine.specs.declared.Label.{Label};
+ghost use Rattle.label_text.specs.declared.LineFault.TheVariants.{NoMemory};
 ghost use Rattle.label_text.specs.Faults.{IsFaultOf};
 ghost use Rattle.label_text.specs.Lines.{Spells, is_told};
 ghost use Rattle.label_text.specs.Reading.{act_at, answer_at, at_end, behind_extent, behind_head, block_at, block_in, bytes_at, call_at, cancel_at, class_at, completion_at, extent_at, fault_at, head_at, in_partition_at, kind_in, label_at, named, outcome_at, partition_in, place_of, return_at, sense_at, sense_behind, sense_from, short_by, start_at, status_in, tag_at, two_at};
@@ -63,6 +64,7 @@ pub fn is_told(line: &str) -> bool
 pub fn read_line(alloc: Global, line: &str) -> Result<Label, LineFault>
     ensures spelled { IfOk result (Spells line.now) }
     ensures only { IfOk result (λ label. (other : Label) → Spells line.now other → other ≡ label) }
+    ensures again { (label : Label) → Spells line.now label → MatchResult result (λ read. read ≡ label) (λ fault. fault ≡ NoMemory) }
     ensures fault { IfErr result (IsFaultOf line.now) }
 {
     let mut words = Words::new(b' ', line);

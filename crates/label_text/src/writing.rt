@@ -7,7 +7,7 @@ ghost use Rattle.ntstatus.specs.Codes.{name_of};
 ghost use Rattle.machine.specs.declared.Label.TheVariants.{Device};
 ghost use Rattle.srb.specs.declared.Class.TheVariants.{Bad};
 ghost use Rattle.label_text.specs.Runs.{digit_of, hex_bytes, hex_of};
-ghost use Rattle.label_text.specs.Lines.{block_words, class_words, extent_words, kind_word, line_end, line_of, partition_word, request_words, runs_words, sense_words, through_words, verb_of, words_behind};
+ghost use Rattle.label_text.specs.Lines.{Fits, Spells, block_words, class_words, extent_words, kind_word, line_end, line_of, partition_word, request_words, runs_words, sense_words, through_words, verb_of, words_behind};
 ghost use Rattle.label_text.specs.Spacing.{spaced, spaced_before};
 
 use crate::runs::write_runs;
@@ -22,6 +22,7 @@ use std::io::Write;
 #[tactic(auto, using(crate::proofs::Spaced::line_is))]
 pub fn write_line<W: Write>(out: &mut W, label: &Label) -> io::Result<()>
     ensures text { OnOk result (Appends (W.contents out.old) (W.contents out.new) (line_of label.now ++ line_end)) }
+    ensures spelled { Fits label.now → Spells (line_of label.now) label.now }
 {
     write_words(out, label)
 }

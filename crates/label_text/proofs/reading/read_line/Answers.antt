@@ -17,3 +17,13 @@ pub returns-in-None-clause-fault : goal.returns-in-None-clause-fault
 returns-in-None-clause-fault c =
     let told : c.in_ok-label.field-0 ≡ label_at (parted 32 c.args.line.now) = c.in_ok-label.ensures ∙ ap label_at c.new-words.ensures in
     none_spelled c.args.line.now (sym told ∙ c.in-None.is)
+
+pub returns-in-Some-clause-again : goal.returns-in-Some-clause-again
+returns-in-Some-clause-again c =
+    let told : c.in_ok-label.field-0 ≡ label_at (parted 32 c.args.line.now) = c.in_ok-label.ensures ∙ ap label_at c.new-words.ensures in
+    λ label is. sym (only_one c.args.line.now c.in-Some.label label (sym told ∙ c.in-Some.is) is)
+
+pub returns-in-None-clause-again : goal.returns-in-None-clause-again
+returns-in-None-clause-again c =
+    let told : c.in_ok-label.field-0 ≡ label_at (parted 32 c.args.line.now) = c.in_ok-label.ensures ∙ ap label_at c.new-words.ensures in
+    λ label is. absurd (none_spelled c.args.line.now (sym told ∙ c.in-None.is) label is)

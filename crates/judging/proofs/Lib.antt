@@ -1,0 +1,8 @@
+mod TellingLines
+mod Written
+mod RecordedLabels
+mod PlayedLines
+mod Flushed
+mod Emitted
+mod Blaming
+mod SaidOfTraces

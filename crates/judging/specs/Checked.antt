@@ -1,0 +1,116 @@
+-- What is said of a trace, and why nothing is.
+use Rattle.std.specs.Prelude.{◌≡◌, ◌⊎◌, ℕ, Bool, true, false, List, [], ◌∷◌, ◌++◌, Option, None, Some, codes, count_by, length, map, slice_get}
+use Rattle.std.specs.Fmt.{decimal}
+use Rattle.std.specs.Io.KnownBytes.{Appends}
+use Rattle.std.specs.Str.{is_utf8}
+use Rattle.std.specs.Str.Lines.{lines}
+use Rattle.srb.specs.declared.DeviceLabel.TheVariants.{Start}
+use Rattle.machine.specs.declared.Label.{Label}
+use Rattle.machine.specs.declared.Label.TheVariants.{Call, Device}
+use Rattle.machine.specs.State.{State, opening}
+use Rattle.judge.specs.Judging.{IsRun, StopsAt}
+use Rattle.settings.specs.declared.Config.{Config}
+use Rattle.settings.specs.Medium.{extents_of, zeros}
+use Rattle.startup.specs.Reading.{AreRead, HasFault, IsAllOf}
+use Rattle.startup.specs.Started.{rules_of}
+use Rattle.startup.specs.declared.ending.Verdict.{Verdict}
+use Rattle.startup.specs.declared.ending.Verdict.TheVariants.{Passed, Failed}
+use Rattle.label_text.specs.Lines.{Spells}
+use Rattle.judging.specs.Told.{AreTold, IsFirstBad}
+use Rattle.judging.specs.declared.told.Told.{Told}
+use Rattle.judging.specs.declared.faults.Fault.{Fault}
+use Rattle.judging.specs.declared.faults.Fault.TheVariants.{Usage, Startup, TraceUnreadable, ScriptUnreadable, BadLine, Script, OutputFailed, NoMemory}
+
+-- the sectors of each partition of the settings: zeros
+abbrev pub arrays_of : Config → List (List (List ℕ))
+arrays_of c = map (λ extent. zeros c extent.count) (extents_of c)
+
+-- the machine of the settings before its first label
+abbrev pub opening_of : Config → State
+opening_of c = opening (arrays_of c)
+
+abbrev pub is_call : Label → Bool
+is_call (Call number request) = true
+is_call _ = false
+
+-- the label is the start of a piece
+abbrev pub is_start : Label → Bool
+is_start (Device (Start piece tag block)) = true
+is_start _ = false
+
+-- the line that is said of labels that are a run
+abbrev pub legal_line : List Label → List ℕ
+legal_line labels =
+    codes "legal: " ++ (decimal (length labels) ++ (codes " labels, " ++ (decimal (count_by is_call labels)
+    ++ (codes " requests, " ++ (decimal (count_by is_start labels) ++ (codes " pieces" ++ 10 ∷ []))))))
+
+-- and that of the first line that no step allows
+abbrev pub refused_line : ℕ → List ℕ
+refused_line number = codes "line " ++ (decimal number ++ (codes ": no step of the machine allows this label" ++ 10 ∷ []))
+
+-- a line that says what the labels of a trace are: a run of the settings' machine, or none from this line on
+abbrev pub Says : Config → Told → Verdict → List ℕ → Type 0
+Says c told Passed line = IsRun (rules_of c) (opening_of c) told.labels.items × (line ≡ legal_line told.labels.items)
+Says c told Failed line =
+    (at : ℕ) × StopsAt (rules_of c) (opening_of c) told.labels.items at
+    × ((number : ℕ) × (slice_get told.lines.items at ≡ Some number) × (line ≡ refused_line number))
+
+-- the verdict on the trace that an input gives, over the settings that another gives, was printed
+pub record PrintsVerdict (config trace : Option (List ℕ)) (old new : Option (List ℕ)) (verdict : Verdict) : Type 0 where
+  pub settings : Config
+  pub are_read : AreRead config settings
+  pub text : List ℕ
+  pub all : IsAllOf trace text
+  pub told : Told
+  pub are_told : AreTold (lines text) told
+  pub line : List ℕ
+  pub says : Says settings told verdict line
+  pub appends : Appends old new line
+
+-- what labels are: a run, or none from the label of this place on
+abbrev pub IsJudged : Config → List Label → Option ℕ → Type 0
+IsJudged c labels None = IsRun (rules_of c) (opening_of c) labels
+IsJudged c labels (Some at) = StopsAt (rules_of c) (opening_of c) labels at
+
+-- a line that says what they are was printed
+pub record IsSaid (c : Config) (told : Told) (old new : Option (List ℕ)) (verdict : Verdict) : Type 0 where
+  pub line : List ℕ
+  pub says : Says c told verdict line
+  pub appends : Appends old new line
+
+-- WHY NOTHING IS SAID
+
+-- the line of this number spells no label, or memory was refused
+abbrev pub IsLineFault : List ℕ → ℕ → Fault → Type 0
+IsLineFault text number (BadLine line column) = (line ≡ number) × ((label : Label) → ¬ (Spells text label))
+IsLineFault text number NoMemory = Unit {0}
+IsLineFault text number _ = ⊥
+
+-- the first bad line of a text, or want of memory
+abbrev pub IsTextFault : List (List ℕ) → Fault → Type 0
+IsTextFault lines (BadLine line column) = IsFirstBad lines line
+IsTextFault lines NoMemory = Unit {0}
+IsTextFault lines _ = ⊥
+
+-- all bytes of a trace could not be had
+abbrev pub IsUnreadTrace : Fault → Type 0
+IsUnreadTrace fault = (fault ≡ TraceUnreadable) ⊎ (fault ≡ NoMemory)
+
+-- the output failed, or memory was refused
+abbrev pub IsOutputFault : Fault → Type 0
+IsOutputFault fault = (fault ≡ OutputFailed) ⊎ (fault ≡ NoMemory)
+
+-- the line of this number is blamed: the first bad one, or line 1 of a text that is not UTF-8
+abbrev pub IsBlamed : List ℕ → ℕ → Type 0
+IsBlamed text line = IsFirstBad (lines text) line ⊎ ((is_utf8 text ≡ false) × (line ≡ 1))
+
+-- why no verdict is printed. Settings are looked at first, then the trace
+abbrev pub IsCheckFault : Option (List ℕ) → Option (List ℕ) → Fault → Type 0
+IsCheckFault config trace Usage = ⊥
+IsCheckFault config trace (Startup fault) = HasFault config fault
+IsCheckFault config trace TraceUnreadable = (settings : Config) × AreRead config settings
+IsCheckFault config trace ScriptUnreadable = ⊥
+IsCheckFault config trace (BadLine line column) = (settings : Config) × AreRead config settings × ((text : List ℕ) × IsAllOf trace text × IsBlamed text line)
+IsCheckFault config trace (Script fault) = ⊥
+IsCheckFault config trace OutputFailed = (settings : Config) × AreRead config settings × ((text : List ℕ) × IsAllOf trace text × (told : Told) × AreTold (lines text) told)
+IsCheckFault config trace NoMemory = Unit {0}

@@ -1,0 +1,45 @@
+-- The command line that the program takes, in the words of its parser.
+use Rattle.std.specs.Prelude.{◌≡◌, true, List, Option, Some, codes}
+use Rattle.clap.specs.Words.{App, Row, Rule, Text, first_of, new_app, new_rule, subcommand_of, with_rule, with_subcommand}
+use Rattle.clap.specs.Takes.{takes}
+use Rattle.clap.specs.declared.builder.ArgAction.TheVariants.{Set}
+use Rattle.judging.specs.declared.words.asked.Command.{Command}
+use Rattle.judging.specs.declared.words.asked.Command.TheVariants.{Check, Record}
+
+-- a word that has to be there
+abbrev pub word_rule : Text → Rule
+word_rule name = record (new_rule name) { required = true; action = Some Set }
+
+-- check CONFIG TRACE
+abbrev pub check_words : App
+check_words = with_rule (with_rule (new_app (codes "check")) (word_rule (codes "CONFIG"))) (word_rule (codes "TRACE"))
+
+-- record CONFIG SCRIPT
+abbrev pub record_words : App
+record_words = with_rule (with_rule (new_app (codes "record")) (word_rule (codes "CONFIG"))) (word_rule (codes "SCRIPT"))
+
+-- the program, with its two subcommands
+abbrev pub program : App
+program = with_subcommand (with_subcommand (new_app (codes "stackjudge")) check_words.top) record_words.top
+
+-- a command has what the parser found under the names of its words
+abbrev pub HasWords : List Row → Command → Type 0
+HasWords rows (Check config trace) = (first_of (codes "CONFIG") rows ≡ Some config.now) × (first_of (codes "TRACE") rows ≡ Some trace.now)
+HasWords rows (Record config script) = (first_of (codes "CONFIG") rows ≡ Some config.now) × (first_of (codes "SCRIPT") rows ≡ Some script.now)
+
+-- the word that a command begins with
+abbrev pub name_of : Command → Text
+name_of (Check config trace) = codes "check"
+name_of (Record config script) = codes "record"
+
+-- the subcommand that was found is the command's, with its words
+abbrev pub IsFoundIn : Option (Text × List Row) → Command → Type 0
+IsFoundIn found command = (rows : List Row) × (found ≡ Some (name_of command, rows)) × HasWords rows command
+
+-- what these words ask for
+abbrev pub IsAsked : List Text → Command → Type 0
+IsAsked words = IsFoundIn (subcommand_of program words)
+
+-- the grammar takes these words for no command
+abbrev pub AsksForNothing : List Text → Type 0
+AsksForNothing words = takes program words ≡ true → (command : Command) → ¬ (IsAsked words command)

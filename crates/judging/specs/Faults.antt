@@ -1,0 +1,31 @@
+-- The line that the program says of a fault.
+use Rattle.std.specs.Prelude.{◌≡◌, ◌≢◌, ◌⊎◌, ℕ, ◌++◌, List, Bool, true, false, codes}
+use Rattle.std.specs.Fmt.{decimal}
+use Rattle.std.specs.declared.io.ErrorKind.{ErrorKind}
+use Rattle.std.specs.declared.io.ErrorKind.TheVariants.{OutOfMemory}
+use Rattle.script.specs.Faults.{text_of as script_text}
+use Rattle.startup.specs.Texts.{text_of as startup_text}
+use Rattle.judging.specs.declared.faults.Fault.{Fault}
+use Rattle.judging.specs.declared.faults.Fault.TheVariants.{Usage, Startup, TraceUnreadable, ScriptUnreadable, BadLine, Script, OutputFailed, NoMemory}
+
+-- the line of a fault, without its end
+abbrev pub line_of : Fault → List ℕ
+line_of Usage = codes "usage: stackjudge check CONFIG TRACE | stackjudge record CONFIG SCRIPT"
+line_of (Startup fault) = codes "stackjudge: " ++ startup_text fault
+line_of TraceUnreadable = codes "stackjudge: cannot read TRACE"
+line_of ScriptUnreadable = codes "stackjudge: cannot read SCRIPT"
+line_of (BadLine line column) = codes "stackjudge: trace line " ++ (decimal line ++ (codes ": bad word in column " ++ decimal column))
+line_of (Script fault) = codes "stackjudge: " ++ script_text fault
+line_of OutputFailed = codes "stackjudge: output failed"
+line_of NoMemory = codes "stackjudge: no memory"
+
+-- nothing was done, since the words of the command line ask for nothing that there is
+abbrev pub is_usage : Fault → Bool
+is_usage Usage = true
+is_usage _ = false
+
+-- the fault of a write that failed with an error of this kind: want of memory, or a failed output
+pub record IsOfWrite (kind : ErrorKind) (fault : Fault) : Type 0 where
+  pub memory : kind ≡ OutOfMemory → fault ≡ NoMemory
+  pub output : kind ≢ OutOfMemory → fault ≡ OutputFailed
+  pub either : (fault ≡ OutputFailed) ⊎ (fault ≡ NoMemory)

@@ -1,0 +1,31 @@
+-- What the lines of a trace tell.
+use Rattle.std.specs.Prelude.{◌≡◌, ℕ, ◌+◌, true, List, [], ◌∷◌, ◌++◌, All, filter, length, if◌then◌else◌}
+use Rattle.std.specs.List.{AllZip}
+use Rattle.machine.specs.declared.Label.{Label}
+use Rattle.label_text.specs.Lines.{Spells, is_told}
+use Rattle.judging.specs.declared.told.Told.{Told}
+
+-- the numbers of the lines that tell a label, the first of these lines having this number
+abbrev pub numbers_from : ℕ → List (List ℕ) → List ℕ
+numbers_from n [] = []
+numbers_from n (line ∷ lines) = (if is_told line then n ∷ [] else []) ++ numbers_from (n + 1) lines
+
+-- the labels of a trace's lines, each with the number of its line, from 1
+pub record AreTold (lines : List (List ℕ)) (told : Told) : Type 0 where
+  pub spelled : AllZip Spells (filter is_told lines) told.labels.items
+  pub numbers : told.lines.items ≡ numbers_from 1 lines
+  pub as_many : length told.lines.items ≡ length told.labels.items
+
+-- a line is bad: it is to tell a label, and spells none
+abbrev pub IsBad : List ℕ → Type 0
+IsBad line = (is_told line ≡ true) × ((label : Label) → ¬ (Spells line label))
+
+-- the first bad line has this number, from 1
+pub record IsFirstBad (lines : List (List ℕ)) (number : ℕ) : Type 0 where
+  pub before : List (List ℕ)
+  pub bad : List ℕ
+  pub after : List (List ℕ)
+  pub split : lines ≡ before ++ bad ∷ after
+  pub counted : number ≡ length before + 1
+  pub good : All (λ line. ¬ (IsBad line)) before
+  pub is_bad : IsBad bad

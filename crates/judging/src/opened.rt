@@ -1,0 +1,103 @@
+//! The machine that settings describe, before its first label.
+
+ghost use Rattle.std.specs.Prelude.{◌≡◌, IfOk, map, replicate};
+ghost use Rattle.judge.specs.Views.{rules_of};
+ghost use Rattle.settings.specs.Medium.{extent_of, extents_of, zeros};
+ghost use Rattle.startup.specs.Started.{rules_of as started_rules};
+ghost use Rattle.judging.specs.Checked.{arrays_of};
+
+use judge::{MachineRules, Sectors};
+use sector::{Bytes, Extent};
+use settings::{Config, Partition};
+use std::alloc::{AllocError, Global};
+
+/// Sectors of the longest request.
+const LONGEST: u64 = 65_536;
+
+/// So many busy returns end a request.
+const BUSY_LIMIT: u64 = 17;
+
+/// The rules of the stack that these settings start.
+pub fn rules_of(alloc: Global, config: &Config) -> Result<MachineRules, AllocError>
+    ensures { IfOk result (λ rules. rules_of rules ≡ started_rules config.now) }
+{
+    Ok(MachineRules {
+        sector_size: config.sector_size,
+        disk_sectors: config.sectors,
+        partitions: extents(alloc, config.partitions.as_slice())?,
+        longest: LONGEST,
+        max_transfer: config.max_transfer as u64,
+        depth: config.depth as u32,
+        open_requests: Some(config.open_requests as u64),
+        window: Some(config.window as u64),
+        one_piece: false,
+        busy_limit: BUSY_LIMIT,
+        faithful: true,
+    })
+}
+
+/// The sectors of each partition.
+fn extents(alloc: Global, partitions: &[Partition]) -> Result<Vec<Extent>, AllocError>
+    ensures { IfOk result (λ extents. extents.items ≡ map extent_of partitions.now) }
+{
+    let mut extents = Vec::new(alloc);
+    for partition in partitions {
+        let Ok(()) = extents.push(extent_of(partition)) else {
+            return Err(AllocError);
+        };
+    }
+    Ok(extents)
+}
+
+fn extent_of(partition: &Partition) -> Extent
+    ensures { result ≡ extent_of partition.now }
+{
+    Extent {
+        first: partition.first as u64,
+        count: partition.count as u64,
+    }
+}
+
+/// The sectors of all partitions before the first label: zeros.
+pub fn arrays_of(alloc: Global, config: &Config) -> Result<Vec<Sectors>, AllocError>
+    ensures { IfOk result (λ arrays. arrays.items ≡ arrays_of config.now) }
+{
+    arrays(alloc, config, config.partitions.as_slice())
+}
+
+fn arrays(
+    alloc: Global,
+    config: &Config,
+    partitions: &[Partition],
+) -> Result<Vec<Sectors>, AllocError>
+    ensures { IfOk result (λ arrays. arrays.items ≡ map (λ extent. zeros config.now extent.count) (map extent_of partitions.now)) }
+{
+    let mut arrays = Vec::new(alloc);
+    for partition in partitions {
+        let sectors = zeros(alloc, config, partition.count)?;
+        let Ok(()) = arrays.push(Sectors::new(sectors)) else {
+            return Err(AllocError);
+        };
+    }
+    Ok(arrays)
+}
+
+/// So many sectors of zeros.
+fn zeros(alloc: Global, config: &Config, count: u32) -> Result<Vec<Bytes>, AllocError>
+    ensures { IfOk result (λ sectors. sectors.items ≡ zeros config.now count) }
+{
+    let mut sectors = Vec::new(alloc);
+    for _ in 0..count {
+        let Ok(()) = sectors.push(zero_sector(alloc, config.sector_size)?) else {
+            return Err(AllocError);
+        };
+    }
+    Ok(sectors)
+}
+
+fn zero_sector(alloc: Global, size: u32) -> Result<Bytes, AllocError>
+    ensures { IfOk result (λ sector. sector ≡ replicate size 0) }
+{
+    let bytes = vec![in alloc; 0; size as usize]?;
+    Ok(Bytes::new(bytes))
+}

@@ -1,0 +1,73 @@
+//! The trace of a script, from the stack of its settings.
+
+ghost use Rattle.std.specs.Prelude.{ℕ, IfErr, IfOk, List, OnOk, Option};
+ghost use Rattle.script.specs.Trace.{Prints};
+ghost use Rattle.settings.specs.InRange.{AreInRange};
+ghost use Rattle.startup.specs.Reading.{IsAllOf};
+ghost use Rattle.judging.specs.Recorded.{AreGiven, IsRecordFault, IsRecordOf, IsUnreadScript};
+
+use crate::faults::Fault;
+use crate::recording::record_lines;
+use script::{Line, ScriptFault, lines};
+use settings::Config;
+use startup::{contents, fault_of, read_settings, start};
+use std::alloc::Global;
+use std::io::{Read, Write};
+
+/// Runs a script through a stack over a disk in memory, and writes the labels of each event, one a line.
+///
+/// # Errors
+///
+/// The first of these that fits: the settings can't be read, or are refused; the script can't be read, or has a bad
+/// line; no stack of the settings could be started; `out` failed, after a beginning of the text. [`Fault::NoMemory`], or
+/// that of the step, in place of any of them, where memory was refused.
+pub fn record_script<C: Read + Drop, S: Read + Drop, O: Write>(
+    alloc: Global,
+    config: C,
+    script: S,
+    out: &mut O,
+) -> Result<(), Fault>
+    ensures text { OnOk result (Prints (O.contents out.old) (O.contents out.new) (IsRecordOf (C.remaining config) (S.remaining script))) }
+    ensures fault { IfErr result (IsRecordFault (C.remaining config) (S.remaining script)) }
+{
+    let config = read_settings(alloc, config)?;
+    let script = bytes_of(alloc, script)?;
+    let Ok(text) = std::str::from_utf8(script.as_slice()) else {
+        return Err(Fault::Script(ScriptFault::BadLine { line: 1 }));
+    };
+    let lines = lines(alloc, text)?;
+    play_lines(alloc, config, lines.as_slice(), out)
+}
+
+/// Records the lines of a script on a stack of some settings, whichever inputs gave both.
+///
+/// # Errors
+///
+/// No stack of the settings could be started; `out` failed, after a beginning of the text; memory was refused.
+fn play_lines<O: Write>(
+    alloc: Global,
+    config: Config,
+    lines: &[Line<'_>],
+    out: &mut O,
+) -> Result<(), Fault>
+    requires { AreInRange config }
+    ensures text { (settings script : Option (List ℕ)) → AreGiven settings script config lines.now → OnOk result (Prints (O.contents out.old) (O.contents out.new) (IsRecordOf settings script)) }
+    ensures fault { (settings script : Option (List ℕ)) → AreGiven settings script config lines.now → IfErr result (IsRecordFault settings script) }
+{
+    let mut stack = start(alloc, config)?;
+    match record_lines(alloc, &mut stack, lines, out) {
+        Ok(()) => Ok(()),
+        Err(fault) => Err(fault),
+    }
+}
+
+/// All bytes of a script.
+fn bytes_of<R: Read + Drop>(alloc: Global, script: R) -> Result<Vec<u8>, Fault>
+    ensures all { IfOk result (λ bytes. IsAllOf (R.remaining script) bytes.items) }
+    ensures fault { IfErr result IsUnreadScript }
+{
+    match contents(alloc, script) {
+        Ok(bytes) => Ok(bytes),
+        Err(error) => Err(fault_of(&error, Fault::ScriptUnreadable)),
+    }
+}

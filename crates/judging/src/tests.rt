@@ -1,0 +1,105 @@
+//! Traces that are judged, and one that is recorded.
+
+use crate::Fault;
+use crate::checking::check;
+use crate::scripts::record_script;
+use crate::words::asked::Command;
+use crate::words::command;
+use startup::Verdict;
+use std::alloc::Global;
+use std::fmt::Debug;
+use std::process::Abort;
+use std::test::Fail;
+
+static CONFIG: &str =
+    "sector_size = 512\nsectors = 4096\nmax_transfer = 64\ndepth = 2\nwindow = 2\n[[partition]]\nfirst = 2048\ncount = 4\n";
+
+static SCRIPT: &str = "open 0\nwrite 1 0 512 a5\nact 0\nfinish 0\n";
+
+/// What comes of the script, and is legal.
+static TRACE: &str =
+    "call 1 write 0 512 in 0 a5*512\nstart 1 tag 0 2a000000080000000100\nact 1 a5*512\nreturn 1 good\nanswer 1 SUCCESS 512\n";
+
+/// An answer before its time, behind a remark and an empty line.
+static TOO_SOON: &str =
+    "# a remark\ncall 1 write 0 512 in 0 a5*512\n\nstart 1 tag 0 2a000000080000000100\nanswer 1 SUCCESS 512\n";
+
+static BAD: &str = "call 1 flush in 0\ncall 2 flush in  0\n";
+
+/// Ends the test, and names both, where what was got is not what was wanted.
+fn same<T: PartialEq + Debug>(rt: &impl Abort, got: &T, wanted: &T) {
+    assert_eq!(rt; got, wanted);
+}
+
+/// The verdict on a trace, and whether this is printed.
+fn judged(alloc: Global, trace: &str, wanted: &str) -> Option<(Verdict, bool)> {
+    let mut out = Vec::new(alloc);
+    let verdict = check(alloc, CONFIG.as_bytes(), trace.as_bytes(), &mut out).ok()?;
+    Some((verdict, out.as_slice() == wanted.as_bytes()))
+}
+
+#[test]
+fn a_run_is_legal(rt: HostRuntime) -> Result<(), Fail> {
+    let got = judged(rt.alloc(), TRACE, "legal: 5 labels, 1 requests, 1 pieces\n");
+    same(&rt, &got, &Some((Verdict::Passed, true)));
+    Ok(())
+}
+
+#[test]
+fn the_first_line_that_no_step_allows_is_named(rt: HostRuntime) -> Result<(), Fail> {
+    let got = judged(
+        rt.alloc(),
+        TOO_SOON,
+        "line 5: no step of the machine allows this label\n",
+    );
+    same(&rt, &got, &Some((Verdict::Failed, true)));
+    Ok(())
+}
+
+/// The fault of a trace.
+fn fault(alloc: Global, config: &str, trace: &str) -> Option<Fault> {
+    let mut out: Vec<u8> = Vec::new(alloc);
+    check(alloc, config.as_bytes(), trace.as_bytes(), &mut out).err()
+}
+
+#[test]
+fn a_bad_line_is_named(rt: HostRuntime) -> Result<(), Fail> {
+    let wanted = Fault::BadLine {
+        line: 2,
+        column: 17,
+    };
+    same(&rt, &fault(rt.alloc(), CONFIG, BAD), &Some(wanted));
+    Ok(())
+}
+
+/// Whether what is recorded of a script is this.
+fn is_recorded(alloc: Global, script: &str, wanted: &str) -> Option<bool> {
+    let mut out = Vec::new(alloc);
+    record_script(alloc, CONFIG.as_bytes(), script.as_bytes(), &mut out).ok()?;
+    Some(out.as_slice() == wanted.as_bytes())
+}
+
+#[test]
+fn a_script_is_recorded(rt: HostRuntime) -> Result<(), Fail> {
+    same(&rt, &is_recorded(rt.alloc(), SCRIPT, TRACE), &Some(true));
+    Ok(())
+}
+
+/// Whether the words ask for a check of these two paths.
+fn asks_for_check(alloc: Global, words: &[&str], paths: (&str, &str)) -> bool {
+    match command(alloc, words) {
+        Ok(Command::Check { config, trace }) => (config, trace) == paths,
+        _ => false,
+    }
+}
+
+#[test]
+fn words_ask_for_a_check(rt: HostRuntime) -> Result<(), Fail> {
+    let words = ["stackjudge", "check", "config.toml", "-"];
+    same(
+        &rt,
+        &asks_for_check(rt.alloc(), &words, ("config.toml", "-")),
+        &true,
+    );
+    Ok(())
+}

@@ -1,0 +1,112 @@
+//! The command line.
+
+pub mod asked;
+
+ghost use Rattle.std.specs.Prelude.{◌≡◌, ◌≢◌, ◌⊎◌, IfErr, IfOk, codes, false, map};
+ghost use Rattle.clap.specs.Words.{app_of, found_of, rule_of, subcommand_rows_of};
+ghost use Rattle.clap.specs.Walk.{rows_of};
+ghost use Rattle.clap.specs.declared.error.ErrorKind.TheVariants.{OutOfMemory};
+ghost use Rattle.judging.specs.declared.faults.Fault.TheVariants.{NoMemory, Usage};
+ghost use Rattle.judging.specs.declared.words.asked.Command.{Command};
+ghost use Rattle.judging.specs.CommandLine.{AsksForNothing, HasWords, IsAsked, IsFoundIn, name_of, program, word_rule};
+
+use crate::faults::Fault;
+use crate::words::asked::Command;
+use clap::error::ErrorKind;
+use clap::{Arg, ArgAction, ArgMatches};
+use std::alloc::{AllocError, Global};
+use std::convert::AsStr;
+
+/// Reads the words of a command line, of which the first is the program's name.
+///
+/// # Errors
+///
+/// [`Fault::NoMemory`] where memory was refused, else [`Fault::Usage`] where the words ask for nothing.
+pub fn command<'a, S: AsStr>(alloc: Global, words: &'a [S]) -> Result<Command<'a>, Fault>
+    ensures asked { IfOk result (IsAsked (map S.text words.now)) }
+    ensures fault { IfErr result (λ fault. (fault ≡ NoMemory) ⊎ ((fault ≡ Usage) × AsksForNothing (map S.text words.now))) }
+{
+    let Ok(grammar) = grammar(alloc) else {
+        return Err(Fault::NoMemory);
+    };
+    match grammar.try_get_matches_from(words) {
+        Ok(matches) => found_in(&matches),
+        Err(error) => Err(fault_of(error.kind())),
+    }
+}
+
+/// The words that the program takes.
+fn grammar<'a>(alloc: Global) -> Result<clap::Command<'a>, AllocError>
+    ensures { IfOk result (λ command. app_of command ≡ program) }
+{
+    let checks = clap::Command::new(alloc, "check")
+        .arg(word(alloc, "CONFIG"))?
+        .arg(word(alloc, "TRACE"))?;
+    let records = clap::Command::new(alloc, "record")
+        .arg(word(alloc, "CONFIG"))?
+        .arg(word(alloc, "SCRIPT"))?;
+    clap::Command::new(alloc, "stackjudge")
+        .subcommand(checks)?
+        .subcommand(records)
+}
+
+fn word<'a>(alloc: Global, name: &'a str) -> Arg<'a>
+    ensures rule { rule_of result ≡ word_rule name.entry.now }
+    ensures local { result.global ≡ false }
+{
+    Arg::new(alloc, name).required(true).action(ArgAction::Set)
+}
+
+fn found_in<'a>(matches: &ArgMatches<'a>) -> Result<Command<'a>, Fault>
+    ensures found { IfOk result (IsFoundIn (subcommand_rows_of matches.now)) }
+    ensures fault { IfErr result (λ fault. fault ≡ Usage) }
+    ensures none { IfErr result (λ _. (command : Command) → ¬ (IsFoundIn (subcommand_rows_of matches.now) command)) }
+{
+    if let Some(words) = matches.subcommand_matches("check") {
+        return check_of(words);
+    }
+    match matches.subcommand_matches("record") {
+        Some(words) => record_of(words),
+        None => Err(Fault::Usage),
+    }
+}
+
+fn check_of<'a>(words: &ArgMatches<'a>) -> Result<Command<'a>, Fault>
+    ensures words { IfOk result (λ command. (name_of command ≡ codes "check") × HasWords (rows_of (found_of words.now)) command) }
+    ensures fault { IfErr result (λ fault. fault ≡ Usage) }
+    ensures none { IfErr result (λ _. (command : Command) → name_of command ≡ codes "check" → ¬ (HasWords (rows_of (found_of words.now)) command)) }
+{
+    let Some(config) = words.get_str("CONFIG") else {
+        return Err(Fault::Usage);
+    };
+    let Some(trace) = words.get_str("TRACE") else {
+        return Err(Fault::Usage);
+    };
+    Ok(Command::Check { config, trace })
+}
+
+fn record_of<'a>(words: &ArgMatches<'a>) -> Result<Command<'a>, Fault>
+    ensures words { IfOk result (λ command. (name_of command ≡ codes "record") × HasWords (rows_of (found_of words.now)) command) }
+    ensures fault { IfErr result (λ fault. fault ≡ Usage) }
+    ensures none { IfErr result (λ _. (command : Command) → name_of command ≡ codes "record" → ¬ (HasWords (rows_of (found_of words.now)) command)) }
+{
+    let Some(config) = words.get_str("CONFIG") else {
+        return Err(Fault::Usage);
+    };
+    let Some(script) = words.get_str("SCRIPT") else {
+        return Err(Fault::Usage);
+    };
+    Ok(Command::Record { config, script })
+}
+
+/// What it means that the words were refused.
+fn fault_of(kind: ErrorKind) -> Fault
+    ensures memory { kind ≡ OutOfMemory → result ≡ NoMemory }
+    ensures usage { kind ≢ OutOfMemory → result ≡ Usage }
+    ensures either { (result ≡ NoMemory) ⊎ (result ≡ Usage) }
+{
+    match kind {
+        ErrorKind::OutOfMemory => Fault::NoMemory,
+        _ => Fault::Usage,
+    }
+}

@@ -1,0 +1,10 @@
+//! What a command line asks for.
+
+/// What the program is asked to do.
+#[derive(Debug, Clone, Copy, PartialEq, Eq)]
+pub enum Command<'a> {
+    /// Judge a trace, given the paths of the settings and of the trace.
+    Check { config: &'a str, trace: &'a str },
+    /// Write the trace of a script, given the paths of the settings and of the script.
+    Record { config: &'a str, script: &'a str },
+}

@@ -1,0 +1,61 @@
+//! The program: says whether a trace is a run of the machine that some settings describe, or writes the trace of a script.
+//!
+//! What its words ask for, what is printed and which line and exit status a fault has is promised by the crate `judging`
+//! ([`command`], [`check`], [`record_script`], [`Fault`]) and by `startup` ([`ended`]). Here are its arguments, files and
+//! output alone, of which nothing is promised: no contract says what a file holds.
+#![tactic(auto)]
+
+use judging::Fault;
+use judging::checking::check;
+use judging::input::open;
+use judging::scripts::record_script;
+use judging::words::asked::Command;
+use judging::words::command;
+use startup::{Verdict, ended, fault_of};
+use std::env;
+use std::io::BufWriter;
+use std::process::ExitCode;
+
+/// Bytes of output that are written at once.
+const BUFFER: usize = 65_536;
+
+/// Does what the command line asks for.
+fn run(rt: &HostRuntime) -> Result<Verdict, Fault> {
+    let alloc = rt.alloc();
+    let words = match env::args(rt) {
+        Ok(words) => words.collect::<Vec<String>>(alloc)?,
+        Err(error) => return Err(fault_of(&error, Fault::Usage)),
+    };
+    match command(alloc, words.as_slice())? {
+        Command::Check { config, trace } => judge(rt, config, trace),
+        Command::Record { config, script } => write_trace(rt, config, script),
+    }
+}
+
+/// Judges the trace at a path, or that of standard input.
+fn judge(rt: &HostRuntime, config: &str, trace: &str) -> Result<Verdict, Fault> {
+    let config = open(rt, config);
+    if trace == "-" {
+        return check(rt.alloc(), config, rt.stdin(), &mut rt.stdout());
+    }
+    check(rt.alloc(), config, open(rt, trace), &mut rt.stdout())
+}
+
+/// Writes the trace of the script at a path, or of that of standard input.
+fn write_trace(rt: &HostRuntime, config: &str, script: &str) -> Result<Verdict, Fault> {
+    let alloc = rt.alloc();
+    let config = open(rt, config);
+    let Ok(mut out) = BufWriter::with_capacity(alloc, BUFFER, rt.stdout()) else {
+        return Err(Fault::NoMemory);
+    };
+    if script == "-" {
+        record_script(alloc, config, rt.stdin(), &mut out)?;
+    } else {
+        record_script(alloc, config, open(rt, script), &mut out)?;
+    }
+    Ok(Verdict::Passed)
+}
+
+fn main(rt: HostRuntime) -> ExitCode {
+    ExitCode::from(ended(run(&rt), &mut rt.stderr()))
+}
