@@ -1,0 +1,4 @@
+pub mod Numbered
+pub mod Same
+pub mod Staying
+pub mod Telling

@@ -1,0 +1,29 @@
+-- The receipt of an arming, and the entry that is of it.
+use Rattle.std.specs.Prelude.{◌≡◌, ℕ, List, [], ◌∷◌, length, get_or, slice_get, Option, None, Some}
+use Rattle.adapter.specs.Booking.{IsOfSrb}
+use Rattle.sector_journal.specs.declared.acted.Entered.{Entered}
+use Rattle.sector_journal.specs.declared.slots.Armed.{Armed}
+use Rattle.sector_journal.specs.Journal.{JournalView}
+
+-- the one claim is of this number
+abbrev pub IsNumbered : ℕ → List (ℕ × Armed) → Type 0
+IsNumbered number claims = (armed : Armed) × (claims ≡ (number, armed) ∷ [])
+
+-- the entry of this number names the arming that is claimed, and is of what was armed there
+pub record IsOfThis (journal : JournalView) (claims : List (ℕ × Armed)) (number : ℕ) : Type 0 where
+  pub entered : Entered
+  pub there : slice_get journal.entered number ≡ Some entered
+  pub armed : Armed
+  pub claimed : claims ≡ (entered.arming, armed) ∷ []
+  pub is_piece : entered.entry.piece ≡ armed.piece
+  pub is_tag : entered.entry.tag ≡ armed.tag
+  pub of_srb : IsOfSrb journal.medium.sector_size (length journal.medium.sectors) armed.srb entered.entry
+
+-- what was armed on a tag
+abbrev pub claimed_at : List (Option (List (ℕ × Armed))) → ℕ → Option (List (ℕ × Armed))
+claimed_at tags tag = get_or tags tag None
+
+-- the entry of this number is of what was armed there
+abbrev pub IsOfTag : JournalView → Option (List (ℕ × Armed)) → ℕ → Type 0
+IsOfTag journal None number = ⊥
+IsOfTag journal (Some claims) number = IsOfThis journal claims number

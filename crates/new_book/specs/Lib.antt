@@ -1,0 +1,4 @@
+pub mod Acting
+pub mod Arming
+pub mod Staying
+pub mod Taken

@@ -1,0 +1,56 @@
+-- A piece of a request asks below for what the request has from its place on.
+use Rattle.std.proofs.Common.{◌≡◌, ◌<◌, ◌≤◌, ℕ, ◌+◌, ◌*◌, ◌/◌, Bool, false, List, refl, sym, ◌∙◌, ap, arith, length, replicate}
+use Rattle.std.specs.Prelude.{slice_range}
+use Rattle.std.proofs.lemmas.List.{length-replicate}
+use Rattle.sector.specs.declared.Extent.{Extent}
+use Rattle.split.specs.Pieces.{piece_of}
+use Rattle.srb.specs.declared.Kind.{Kind}
+use Rattle.srb.specs.declared.Kind.TheVariants.{Read, Write}
+use Rattle.machine.specs.declared.Request.{Request}
+use Rattle.machine.specs.Rules.{Rules, as_client}
+use Rattle.machine.specs.State.{State, Untouched}
+use Rattle.machine.specs.Calling.{new_request}
+use Rattle.new_class_disk.specs.inside.Blocks.{part_request_of}
+use Rattle.new_class_disk.specs.inside.Joint.{IsPartOf, below_rules}
+use Rattle.new_class_disk.proofs.Admitting.{sectors_are}
+
+-- these bytes are what those have from a place on, for so many places
+abbrev pub AreBytesFrom : (size at count : ℕ) (bytes whole : List ℕ) → Type 0
+AreBytesFrom size at count bytes whole = (a n : ℕ) → a + n ≤ count → slice_range bytes (a * size) ((a + n) * size) ≡ slice_range whole ((at + a) * size) ((at + a + n) * size)
+
+module _ (rules : Rules) (some : 0 < rules.sector_size) (volume : ℕ) (extent : Extent) (through : Bool) (s : State) (runs : s.paused ≡ false) (next k : ℕ) (bytes whole : List ℕ) where
+  abbrev asked : Kind → Request
+  asked kind = record { volume = volume; kind = kind; extent = extent; through = through }
+
+  abbrev piece : Extent
+  piece = piece_of extent rules.max_transfer k
+
+  long : length (replicate (piece.count * rules.sector_size / rules.sector_size) Untouched) ≡ piece.count
+  long = length-replicate _ Untouched ∙ sectors_are piece.count rules.sector_size some
+
+  from : piece.first * rules.sector_size / rules.sector_size ≡ extent.first * rules.sector_size / rules.sector_size + k * rules.max_transfer
+  from = sectors_are piece.first rules.sector_size some ∙ ap (λ n. n + k * rules.max_transfer) (sym (sectors_are extent.first rules.sector_size some))
+
+  pub read_part : AreBytesFrom rules.sector_size (k * rules.max_transfer) piece.count bytes whole
+      → IsPartOf rules (as_client rules (asked Read) whole) (k * rules.max_transfer) (new_request (below_rules rules) s next (as_client rules (part_request_of rules.max_transfer (asked Read) k) bytes))
+  read_part same = record {
+    kind = refl;
+    through = refl;
+    partition = refl;
+    from = from;
+    short = let l = long in omega (arith, l);
+    timely = runs;
+    bytes = λ a n fits. same a n (let l = long in omega (arith, l, fits));
+  }
+
+  pub write_part : AreBytesFrom rules.sector_size (k * rules.max_transfer) piece.count bytes whole
+      → IsPartOf rules (as_client rules (asked Write) whole) (k * rules.max_transfer) (new_request (below_rules rules) s next (as_client rules (part_request_of rules.max_transfer (asked Write) k) bytes))
+  write_part same = record {
+    kind = refl;
+    through = refl;
+    partition = refl;
+    from = from;
+    short = let l = long in omega (arith, l);
+    timely = runs;
+    bytes = λ a n fits. same a n (let l = long in omega (arith, l, fits));
+  }

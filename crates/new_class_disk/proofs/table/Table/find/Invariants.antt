@@ -1,0 +1,16 @@
+use Rattle.std.proofs.Common.{◌≡◌, ℕ, Some}
+use Rattle.std.specs.Prelude.{All, Contains}
+use Rattle.slab.specs.Slab.{get}
+use Rattle.new_class_disk.specs.declared.requests.Slot.{Slot}
+use Rattle.new_class_disk.specs.inside.Books.{open_from}
+use Rattle.new_class_disk.specs.inside.Turns.{CannotCancel}
+use Rattle.new_class_disk.proofs.Cancelling.{open_entries}
+use Rattle.new_class_disk.proofs.table.Table.find.Given as goal
+
+-- what is left are entries of the slots; where none of them can be cancelled, no open request can
+abbrev pub invariant-loop-key : goal.invariant-loop-key
+invariant-loop-key l =
+    (goal.iterator-loop-key).can_next l.key-iterator ×
+    (goal.iterator-loop-key).is_finite l.key-iterator ×
+    ((key : ℕ) (x : Slot) → Contains l.key-iterator (key, x) → get l.self.slots key ≡ Some x) ×
+    (All (CannotCancel l.number) (open_entries l.key-iterator) → All (CannotCancel l.number) (open_from 0 l.self.slots.slots))

@@ -1,0 +1,9 @@
+pub mod Joint
+pub mod Kept
+pub mod Blocks
+pub mod Parts
+pub mod Owners
+pub mod Books
+pub mod Turns
+pub mod Driver
+pub mod Midway

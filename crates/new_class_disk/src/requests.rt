@@ -1,0 +1,201 @@
+// A request, by its parts in the order of their places: reserved, open, or left behind by its packet.
+
+ghost use Rattle.std.specs.Prelude.{◌≡◌, ◌==◌, ◌<◌, ◌≤◌, ◌-◌, ◌*◌, ◌^◌, ℕ, List, Some, IfNone, IfSome};
+ghost use Rattle.std.specs.Prelude.{length as list_length, slice_get};
+ghost use Rattle.ntstatus.specs.declared.NtStatus.TheVariants.{Success, DeviceBusy};
+ghost use Rattle.irp.specs.declared.Payload.TheVariants.{Buffer};
+ghost use Rattle.srb.specs.declared.Kind.TheVariants.{Read};
+ghost use Rattle.new_class_disk.specs.declared.parts.Part.{Part};
+ghost use Rattle.new_class_disk.specs.declared.parts.Place.{Place};
+ghost use Rattle.new_class_disk.specs.declared.parts.Progress.TheVariants.{Ready};
+ghost use Rattle.new_class_disk.specs.inside.Parts.{EndsBack, HasReason, GoesAgain, joined_of, lowest_status};
+ghost use Rattle.new_class_disk.specs.inside.Books.{opened_of};
+ghost use Rattle.new_class_disk.specs.inside.Turns.{new_opened, IsReadyAt, SendsAs, SendsAgain, ended_at, Completes};
+
+use crate::Sizes;
+use crate::blocks::{byte_count, ready_packet, srb_for};
+use crate::buffers::{carried_up, data_of};
+use crate::parts::{Ended, Outcome, Part, Place, TransferPacket};
+use irp::{Irp, Payload};
+use new_device::{Climb, Kind, Request, complete, information};
+use ntstatus::NtStatus;
+use sector::Bytes;
+use std::mem;
+
+/// As often parts of one request are sent again.
+const RESTARTS: u8 = 16;
+
+/// The parts of a request that has no packet here.
+#[derive(Drop)]
+pub struct Places {
+    pub request: Request,
+    pub parts: Vec<Part>,
+}
+
+/// A request that is open, with its parts in the order of their places.
+#[derive(Drop)]
+pub struct Transfer {
+    pub irp: Box<Irp>,
+    pub request: Request,
+    pub parts: Vec<Part>,
+    /// How often a part was sent again.
+    pub restarts: u8,
+    /// Parts that have not ended.
+    pub unfinished: usize,
+}
+
+/// What a slot has.
+#[derive(Drop)]
+pub enum Slot {
+    /// A room: each part can be sent.
+    Reserved(Places),
+    /// A packet.
+    Open(Transfer),
+    /// What a packet left behind: each part has ended, and can only be given back.
+    Left(Places),
+}
+
+impl Transfer {
+    /// A packet that came with its room, of which no part is sent yet.
+    pub fn new(irp: Box<Irp>, places: Places) -> Transfer
+        ensures { opened_of result ≡ new_opened irp.value places.request places.parts.items }
+    {
+        let Places { request, parts } = places;
+        let unfinished = parts.len();
+        Transfer {
+            irp,
+            request,
+            parts,
+            restarts: 0,
+            unfinished,
+        }
+    }
+
+    /// Part k goes below for the first time, in a packet of this number.
+    pub fn send(&mut self, sizes: &Sizes, k: usize, number: u128) -> TransferPacket
+        requires { IsReadyAt sizes.now (opened_of self.old) k }
+        ensures { (part : Part) (place : Place) → slice_get self.old.parts.items k ≡ Some part → part.progress
+            ≡ Ready place
+            → SendsAs sizes.now (opened_of self.old) k number part place result (opened_of self.new) }
+    {
+        let request = self.parts[k].request;
+        let Place {
+            mut packet,
+            data,
+            for_label,
+        } = self.parts[k].send(number);
+        let data = match (&self.irp.payload, request.kind) {
+            (Payload::Buffer(bytes), Kind::Write) => {
+                let whole = bytes.as_slice();
+                let passed = request.extent.first - self.request.extent.first;
+                let at = passed as usize * sizes.sector_size as usize;
+                data_of(data, whole, at, byte_count(sizes, &request))
+            }
+            _ => Bytes::new(data),
+        };
+        let payload = Payload::Srb(srb_for(sizes.disk_sectors, &request, data, for_label));
+        ready_packet(&mut packet.irp, number, &request, payload);
+        packet
+    }
+
+    /// Part k goes below again in a packet of this number, with the packet and the SRB that came back busy.
+    pub fn send_again(
+        &mut self,
+        k: usize,
+        number: u128,
+        mut packet: TransferPacket,
+    ) -> TransferPacket
+        requires part { (part : Part) × ((slice_get self.old.parts.items k ≡ Some part) × (part.restarts < 255)) }
+        requires few { self.old.restarts < 255 }
+        ensures { (part : Part) → slice_get self.old.parts.items k ≡ Some part
+            → SendsAgain (opened_of self.old) k number packet part result (opened_of self.new) }
+    {
+        let request = self.parts[k].request;
+        self.restarts += 1;
+        self.parts[k].send_again(number, packet.room.spot);
+        let payload = mem::replace(&mut packet.irp.payload, Payload::Sent);
+        ready_packet(&mut packet.irp, number, &request, payload);
+        packet
+    }
+
+    /// Part k has ended; whether it was the last.
+    pub fn end(&mut self, k: usize, ended: Ended) -> bool
+        requires part { k < list_length self.old.parts.items }
+        requires unfinished { 0 < self.old.unfinished }
+        ensures ends { (part : Part) → slice_get self.old.parts.items k ≡ Some part
+            → opened_of self.new ≡ ended_at k ended part (opened_of self.old) }
+        ensures last { result ≡ (self.old.unfinished - 1 == 0) }
+    {
+        self.parts[k].end(ended);
+        self.unfinished -= 1;
+        self.unfinished == 0
+    }
+
+    /// How a part ends that came back busy; None where it is sent again.
+    fn busy_outcome(&self, removing: bool) -> Option<Outcome>
+        ensures again { IfNone result (GoesAgain self.now.irp.value.cancelled removing self.now.restarts DeviceBusy) }
+        ensures ends { IfSome result (λ outcome. EndsBack DeviceBusy outcome
+            × HasReason self.now.irp.value.cancelled removing self.now.restarts outcome) }
+    {
+        if self.irp.cancelled {
+            Some(Outcome::Busy(NtStatus::Cancelled))
+        } else if removing {
+            Some(Outcome::Busy(NtStatus::NoSuchDevice))
+        } else if self.restarts < RESTARTS {
+            None
+        } else {
+            Some(Outcome::Busy(NtStatus::DeviceBusy))
+        }
+    }
+
+    /// How a part ends that came back with this status; None where it is sent again.
+    pub fn outcome(&self, removing: bool, status: NtStatus) -> Option<Outcome>
+        ensures again { IfNone result (GoesAgain self.now.irp.value.cancelled removing self.now.restarts status) }
+        ensures ends { IfSome result (λ outcome. EndsBack status outcome
+            × HasReason self.now.irp.value.cancelled removing self.now.restarts outcome) }
+    {
+        if status == NtStatus::Success {
+            Some(Outcome::Good)
+        } else if status == NtStatus::DeviceBusy {
+            self.busy_outcome(removing)
+        } else {
+            Some(Outcome::Failed(status))
+        }
+    }
+
+    /// The status that the request ends with: that of the lowest part that did not succeed.
+    fn status(&self) -> NtStatus
+        ensures { result ≡ lowest_status self.now.parts.items }
+    {
+        for part in &self.parts {
+            if let Some(status) = part.failure() {
+                return status;
+            }
+        }
+        NtStatus::Success
+    }
+
+    /// The packet of a request all of whose parts have ended goes up, and leaves them behind.
+    pub fn complete(self, sizes: &Sizes) -> (Climb, Places)
+        requires small { self.request.extent.count * sizes.now.sector_size < 2 ^ 64 }
+        requires room { (bytes : List ℕ) → self.irp.value.payload ≡ Buffer bytes → self.request.kind ≡ Read
+            → lowest_status self.parts.items ≡ Success → list_length (joined_of self.parts.items) ≤ list_length bytes }
+        ensures { Completes sizes.now (opened_of self) result.0 result.1 }
+    {
+        let status = self.status();
+        let information = information(sizes.sector_size, &self.request, status);
+        let Transfer {
+            mut irp,
+            request,
+            parts,
+            ..
+        } = self;
+        let joins = request.kind == Kind::Read && status == NtStatus::Success;
+        let payload = mem::replace(&mut irp.payload, Payload::Sent);
+        irp.payload = carried_up(payload, joins, parts.as_slice());
+        (
+            complete(irp, status, information),
+            Places { request, parts },
+        )
+    }
+}

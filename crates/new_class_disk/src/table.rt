@@ -1,0 +1,195 @@
+// The requests, by their slots.
+
+ghost use Rattle.std.specs.Prelude.{◌≡◌, ◌<◌, ◌≤◌, ◌+◌, ◌^◌, ℕ, Some, IfOk, IfSome, IsOk, IsSome, OnOk, OnErr};
+ghost use Rattle.std.specs.Prelude.{MatchOption, Contains, length};
+ghost use Rattle.slab.specs.Slab.{get};
+ghost use Rattle.new_device.specs.View.{IsReady, IsReserved};
+ghost use Rattle.new_class_disk.specs.declared.requests.Transfer.{Transfer};
+ghost use Rattle.new_class_disk.specs.declared.requests.Slot.TheVariants.{Open as IsOpen};
+ghost use Rattle.new_class_disk.specs.inside.Owners.{owner_at, KeepsOwners, OwnsSpot};
+ghost use Rattle.new_class_disk.specs.inside.Books.{books_of, opened_of, open_at, held_as, left_as, HasRoomForMore};
+ghost use Rattle.new_class_disk.specs.inside.Books.{HasPlaceForMore, IsVacantFor, TakesOut, PutsBack};
+ghost use Rattle.new_class_disk.specs.inside.Turns.{empty_books, AddsSlot, AddsNoSlot, RemovesSlot, OpensAt};
+ghost use Rattle.new_class_disk.specs.inside.Turns.{TakesEnded, TakesNone};
+
+use crate::Sizes;
+use crate::parts::PartId;
+use crate::requests::{Places, Slot, Transfer};
+use irp::Irp;
+use slab::Slab;
+use std::alloc::{AllocError, Global};
+use std::collections::VecDeque;
+
+/// The requests that are reserved or open, and the slots for them, of which none is made but by `make_slot`.
+#[derive(Drop)]
+pub struct Table {
+    pub sizes: Sizes,
+    /// By the spots of the class driver's own.
+    pub slots: Slab<Slot>,
+    /// By the spots below: whose part the room there is.
+    pub owners: Vec<PartId>,
+    /// The slots of requests all of whose parts have ended, the first to end in front.
+    pub ended: VecDeque<usize>,
+    /// The last number submitted; 0 before the first.
+    pub last_request: u128,
+    /// How many packets were sent below, and one.
+    pub next_packet: u128,
+    pub submitted: u128,
+    pub removing: bool,
+}
+
+impl Table {
+    /// Nothing is reserved, and there are no slots. Packets below are counted from 1.
+    pub fn new(alloc: Global, sizes: Sizes) -> Table
+        ensures { books_of result ≡ empty_books sizes (books_of result).ended_places }
+    {
+        Table {
+            sizes,
+            slots: Slab::new(alloc),
+            owners: Vec::new(alloc),
+            ended: VecDeque::new(alloc),
+            last_request: 0,
+            next_packet: 1,
+            submitted: 0,
+            removing: false,
+        }
+    }
+
+    /// Makes a slot for one more request; the one that it will get.
+    ///
+    /// # Errors
+    ///
+    /// [`AllocError`] where memory was refused.
+    pub fn make_slot(&mut self) -> Result<usize, AllocError>
+        requires { length (books_of self.old).ended ≤ length (books_of self.old).opens }
+        ensures slot { IfOk result (λ slot. IsVacantFor self.new slot) }
+        ensures place { OnOk result (HasPlaceForMore self.new) }
+        ensures same { AddsNoSlot (books_of self.old) (books_of self.new) }
+        ensures succeeds { HasRoomForMore self.old → IsOk result }
+    {
+        let Some(count) = self.slots.len().checked_add(1) else {
+            return Err(AllocError);
+        };
+        self.ended.reserve(count - self.ended.len())?;
+        self.slots.reserve(1)?;
+        Ok(self.slots.vacant_key())
+    }
+
+    /// The slot that was made is reserved, with its parts.
+    pub fn fill(&mut self, slot: usize, places: Places)
+        requires vacant { IsVacantFor self.old slot }
+        requires place { HasPlaceForMore self.old }
+        ensures { AddsSlot (books_of self.old) (held_as slot places) (books_of self.new) }
+    {
+        let _slot = self.slots.insert_reserved(Slot::Reserved(places));
+    }
+
+    /// A packet that went leaves its parts behind in its slot.
+    pub fn leave(&mut self, slot: usize, places: Places)
+        requires { IsVacantFor self.old slot }
+        ensures { AddsSlot (books_of self.old) (left_as slot places) (books_of self.new) }
+    {
+        let _slot = self.slots.insert_reserved(Slot::Left(places));
+    }
+
+    /// Gives a slot up that has no packet.
+    pub fn give_up(&mut self, slot: usize) -> Places
+        requires { IsReserved (books_of self.old).rooms slot }
+        ensures { RemovesSlot (books_of self.old) slot result (books_of self.new) }
+    {
+        match self.slots.try_remove(slot) {
+            Some(Slot::Reserved(places)) => places,
+            Some(Slot::Left(places)) => places,
+            Some(Slot::Open(_)) => unreachable!(),
+            None => unreachable!(),
+        }
+    }
+
+    /// A packet comes to a slot that is reserved.
+    pub fn open(&mut self, slot: usize, irp: Box<Irp>)
+        requires ready { IsReady (books_of self.old).rooms slot }
+        requires few { (books_of self.old).submitted < 2 ^ 127 }
+        ensures { OpensAt (books_of self.old) slot irp.value (books_of self.new) }
+    {
+        let Some(Slot::Reserved(places)) = self.slots.try_remove(slot) else {
+            unreachable!()
+        };
+        self.last_request = irp.number;
+        self.submitted += 1;
+        let _slot = self
+            .slots
+            .insert_reserved(Slot::Open(Transfer::new(irp, places)));
+    }
+
+    /// Takes the open request out of its slot.
+    pub fn take_open(&mut self, slot: usize) -> Transfer
+        requires { (t : Transfer) × (get self.old.slots slot ≡ Some (IsOpen t)) }
+        ensures was { get self.old.slots slot ≡ Some (IsOpen result) }
+        ensures gone { TakesOut self.old slot self.new }
+    {
+        let Some(Slot::Open(transfer)) = self.slots.try_remove(slot) else {
+            unreachable!()
+        };
+        transfer
+    }
+
+    /// Puts it back.
+    pub fn put_open(&mut self, slot: usize, transfer: Transfer)
+        requires { IsVacantFor self.old slot }
+        ensures { PutsBack self.old slot transfer self.new }
+    {
+        let _slot = self.slots.insert_reserved(Slot::Open(transfer));
+    }
+
+    /// The request that ended first of those that were not taken, out of its slot.
+    pub fn take_ended(&mut self) -> Option<(usize, Transfer)>
+        requires { (slot : ℕ) → Contains (books_of self.old).ended slot → IsSome (open_at slot
+            (books_of self.old).opens) }
+        ensures takes { MatchOption result (TakesNone (books_of self.old) (books_of self.new))
+            (λ taken. TakesEnded (books_of self.old) taken.0 (opened_of taken.1) (books_of self.new)) }
+        ensures slot { IfSome result (λ taken. IsVacantFor self.new taken.0) }
+    {
+        let slot = self.ended.pop_front()?;
+        let transfer = self.take_open(slot);
+        Some((slot, transfer))
+    }
+
+    /// Makes a place for the owner of a spot below.
+    fn cover(&mut self, spot: usize) -> Result<(), AllocError>
+        ensures keeps { KeepsOwners self.old.owners.items self.new.owners.items }
+        ensures covers { OnOk result (spot < length self.new.owners.items) }
+        ensures same { self.new ≡ record self.old { owners = self.new.owners } }
+    {
+        if spot < self.owners.len() {
+            return Ok(());
+        }
+        let Some(count) = spot.checked_add(1) else {
+            return Err(AllocError);
+        };
+        self.owners.resize(count, PartId { slot: 0, part: 0 })?;
+        Ok(())
+    }
+
+    /// The room at a spot below is this part's from now on.
+    ///
+    /// # Errors
+    ///
+    /// [`AllocError`] where memory was refused; each spot has the owner that it had then.
+    pub fn own(&mut self, spot: usize, id: PartId) -> Result<(), AllocError>
+        ensures owns { OnOk result (OwnsSpot self.old.owners.items spot id self.new.owners.items) }
+        ensures keeps { OnErr result (KeepsOwners self.old.owners.items self.new.owners.items) }
+        ensures same { self.new ≡ record self.old { owners = self.new.owners } }
+    {
+        self.cover(spot)?;
+        self.owners[spot] = id;
+        Ok(())
+    }
+
+    /// Whose part the room at a spot below is.
+    pub fn owner(&self, spot: usize) -> PartId
+        requires { spot < length self.now.owners.items }
+        ensures { result ≡ owner_at self.now.owners.items spot }
+    {
+        self.owners[spot]
+    }
+}
