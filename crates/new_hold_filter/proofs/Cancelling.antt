@@ -4,6 +4,7 @@ use Rattle.std.proofs.Common.{sym}
 use Rattle.std.proofs.Common.{subst, ap, ◌∙◌, arith, map, get_or, eqb}
 use Rattle.std.specs.Prelude.{All, Any, Contains, IsTrue, MatchBool}
 use Rattle.std.specs.List.{IsDistinct}
+use Rattle.std.proofs.lemmas.List.{map-append}
 use Rattle.std.proofs.lemmas.List.Elements.{All-nil, All-cons, All-map, All-append, All-weaker, All-contains}
 use Rattle.std.proofs.lemmas.List.Elements.{Contains-append_right, Contains-append_cases, Contains-get_or}
 use Rattle.std.proofs.lemmas.List.Sorted.{IsPermutation-sym, IsPermutation-map, IsPermutation-append_left}
@@ -189,10 +190,16 @@ module _ (stack_size : ℕ) (v : DeviceView) (b : Books) (k : IsInHand stack_siz
   was_there = subst (λ es. Contains es (spot, w.held)) (sym w.was_held)
       (Contains-append_right w.before ((spot, w.held) ∷ w.behind) (spot, w.held) (0, omega arith, refl))
 
-  -- it stood in the queue that is shown
-  pub was_queued : Contains (map queued b.held) (record { spot = spot; number = number })
-  was_queued = subst (λ n. Contains (map queued b.held) (record { spot = spot; number = n })) w.is_number
-      (contains_map queued b.held (spot, w.held) was_there)
+  -- it stood in the queue that is shown, and left it
+  pub was_queued : map queued b.held ≡ map queued w.before ++ record { spot = spot; number = number } ∷ map queued
+      w.behind
+  was_queued =
+      ap (λ es. map queued es) w.was_held
+      ∙ map-append queued w.before ((spot, w.held) ∷ w.behind)
+      ∙ ap (λ n. map queued w.before ++ record { spot = spot; number = n } ∷ map queued w.behind) w.is_number
+
+  pub has_left : map queued b'.held ≡ map queued w.before ++ map queued w.behind
+  has_left = ap (λ (y : Books). map queued y.held) w.after ∙ map-append queued w.before w.behind
 
   -- some packet has that number
   pub not_gone : All (HasOtherNumber number) (packets_of v b) → ⊥
@@ -368,7 +375,10 @@ held_or_none stack_size v t t' old shown k spot number true w =
       withdrawn_hand stack_size v (books_of t) k spot number (books_of t') w,
       subst (λ (f : FilterView). CancelsHeld f spot number (shown_of v t')) shown
           (record {
+            before = map queued w.before;
+            behind = map queued w.behind;
             held = was_queued stack_size v (books_of t) k spot number (books_of t') w;
+            leaves = has_left stack_size v (books_of t) k spot number (books_of t') w;
             cancels = c.0;
             beside =
                 c.1;

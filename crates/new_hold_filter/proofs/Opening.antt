@@ -1,5 +1,5 @@
 -- A filter to which nothing was submitted yet is in order.
-use Rattle.std.proofs.Common.{◌≡◌, ◌<◌, ◌≤◌, inl, ℕ, false, List, [], ◌++◌, refl, sym, subst, ap, ◌∙◌}
+use Rattle.std.proofs.Common.{◌≡◌, ◌<◌, ◌≤◌, ◌^◌, inl, ℕ, false, List, [], ◌++◌, refl, sym, subst, ap, ◌∙◌}
 use Rattle.std.proofs.Common.{arith, map, length}
 use Rattle.std.specs.Prelude.{All}
 use Rattle.std.proofs.lemmas.List.Elements.{All-nil}
@@ -20,7 +20,7 @@ use Rattle.new_hold_filter.proofs.Moving.{in_hand}
 use Rattle.new_hold_filter.proofs.Rooms.{none_some}
 
 module _ (stack_size : ℕ) (v : DeviceView) (window : ℕ) (location : 0 < stack_size) (some : 0 < window)
-    (h : IsFreshBelow v) (ordered : IsOrderly v) where
+    (h : IsFreshBelow v) (ordered : IsOrderly v) (fits : v.most < 2 ^ 128) where
   abbrev b : Books
   b = empty window
 
@@ -31,7 +31,7 @@ module _ (stack_size : ℕ) (v : DeviceView) (window : ℕ) (location : 0 < stac
   pub hand_opening : IsInHand stack_size v (empty window)
   hand_opening =
       in_hand stack_size v b (record {
-        below = record { own_location = location; no_window = h.no_window; most = h.most };
+        below = record { own_location = location; no_window = h.no_window; most = fits };
         ordered = ordered;
         rooms = record {
           bounded = λ spot r is. absurd (none_some r (sym (h.rooms spot) ∙ is));

@@ -1,5 +1,5 @@
 -- A filter to which nothing was submitted yet.
-use Rattle.std.specs.Prelude.{◌≡◌, ◌<◌, ℕ, ◌^◌, [], Some, None}
+use Rattle.std.specs.Prelude.{◌≡◌, ℕ, [], Some, None}
 use Rattle.machine.specs.State.{opening}
 use Rattle.machine.specs.Frame.{with_window}
 use Rattle.new_device.specs.View.{DeviceView, room_at}
@@ -11,7 +11,6 @@ pub record IsFreshBelow (v : DeviceView) : Type 0 where
   pub state : v.state ≡ opening v.state.arrays
   pub packets : v.packets ≡ []
   pub submitted : v.submitted ≡ 0
-  pub most : v.most < 2 ^ 128
 
 -- what the filter shows over it: the same machine, with the window
 abbrev pub opening_over : ℕ → DeviceView → DeviceView

@@ -1,5 +1,5 @@
 -- What a filter shows beside its device view, and how a packet is cancelled that it holds.
-use Rattle.std.specs.Prelude.{◌≡◌, ℕ, List, length, Contains, if◌then◌else◌}
+use Rattle.std.specs.Prelude.{◌≡◌, ℕ, List, ◌∷◌, ◌++◌, length, Contains, if◌then◌else◌}
 use Rattle.machine.specs.Holding.{Cancels}
 use Rattle.new_device.specs.View.{DeviceView}
 use Rattle.new_device.specs.Served.{IsBeside}
@@ -21,9 +21,12 @@ pub record FilterView : Type 0 where
 abbrev pub held_count : FilterView → ℕ
 held_count f = if f.shown.state.removing then 0 else length f.queue
 
--- the packet with this spot and this number is held, and is cancelled
+-- the packet with this spot and this number is held; it leaves the queue, and is cancelled
 pub record CancelsHeld (old : FilterView) (spot number : ℕ) (new : FilterView) : Type 0 where
-  pub held : Contains old.queue (record { spot = spot; number = number })
+  pub before : List Queued
+  pub behind : List Queued
+  pub held : old.queue ≡ before ++ record { spot = spot; number = number } ∷ behind
+  pub leaves : new.queue ≡ before ++ behind
   pub cancels : Cancels old.shown.state number new.shown.state
   pub beside : IsBeside old.shown new.shown
 

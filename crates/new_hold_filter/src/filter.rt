@@ -1,5 +1,5 @@
 // The filter as its owner has it.
-ghost use Rattle.std.specs.Prelude.{◌≡◌, ◌<◌, [], IsFalse, MatchBool};
+ghost use Rattle.std.specs.Prelude.{◌≡◌, ◌<◌, ◌^◌, [], IsFalse, MatchBool};
 ghost use Rattle.new_linked.specs.Queue.{VisitsAtMost};
 ghost use Rattle.new_hold_filter.specs.Shown.{held_count, CancelsHeld, CancelsNone};
 ghost use Rattle.new_hold_filter.specs.Opening.{IsFreshBelow, opening_over};
@@ -12,7 +12,7 @@ use std::marker::Model;
 
 /// The filter over a device.
 pub struct Filter<D: Shown> {
-    pub parts: Parts<D>,
+    pub(crate) parts: Parts<D>,
 }
 
 // By hand, so that no crate above proves it again, as it would a derived one.
@@ -35,6 +35,13 @@ impl<D: Shown> Model for Filter<D> {
     ghost invariant = { λ s. IsFilter D.takes_srb D.stack_size (D.view s.parts.device) (books_of s.parts.table) };
 }
 
+/// The requests that a device takes in all fit a number.
+fn most_fits<D: Device>(device: &D)
+    ensures fits { (D.view device.now).most < 2 ^ 128 }
+{
+    let _most = device.most();
+}
+
 impl<D: Device> Filter<D> {
     /// The filter over a device to which nothing was submitted yet and that takes packets without an SRB, with at most
     /// `window` requests below, one at least. It takes no memory.
@@ -47,6 +54,7 @@ impl<D: Device> Filter<D> {
         ensures none_held { result.queue ≡ [] }
     {
         device.shows_order();
+        most_fits(&device);
         let table = Table::new(alloc, window);
         let parts = Parts { device, table };
         Filter { parts }

@@ -52,17 +52,17 @@ impl<D: Device> Device for Filter<D> {
     }
 
     fn reserve(&mut self, request: &Request) -> Result<Room, AllocError> {
-        let Ok(room) = self.parts.device.reserve(request) else {
+        let Ok(reserved) = self.parts.device.reserve(request) else {
             self.parts.device.shows_order();
             return Err(AllocError);
         };
         self.parts.device.shows_order();
-        let Ok(()) = self.parts.table.cover(room.spot) else {
-            self.parts.device.free(room);
+        let Ok(()) = self.parts.table.cover(reserved.spot) else {
+            self.parts.device.free(reserved);
             self.parts.device.shows_order();
             return Err(AllocError);
         };
-        Ok(room)
+        Ok(reserved)
     }
 
     fn submit(&mut self, irp: Box<Irp>, room: Room) {

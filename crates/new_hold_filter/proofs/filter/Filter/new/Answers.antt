@@ -12,7 +12,7 @@ invariant_of-result g c = record {
   in_hand = subst (λ (b : Books). IsInHand g.D.Shown.stack_size (g.D.Shown.view c.args.device) b)
       (sym c.new-table.ensures)
       (hand_opening g.D.Shown.stack_size (g.D.Shown.view c.args.device) c.args.window c.requires.locations
-      c.requires.some c.requires.device c.shows_order.ensures.order);
+      c.requires.some c.requires.device c.shows_order.ensures.order c.most_fits.ensures.fits);
 }
 
 pub returns-clause-opening : goal.returns-clause-opening
@@ -21,4 +21,4 @@ returns-clause-opening g c =
     (g.D.Shown.view c.args.device)) (sym c.new-table.ensures)
     (opening_is g.D.Shown.stack_size (g.D.Shown.view c.args.device) c.args.window c.requires.locations
     c.requires.some
-    c.requires.device c.shows_order.ensures.order)
+    c.requires.device c.shows_order.ensures.order c.most_fits.ensures.fits)

@@ -31,7 +31,7 @@ invariant_of-self-in_default-cover g c =
       buffers = c.self.invariant.buffers;
       in_hand =
           (given_back _ _ _ c.self.invariant.in_hand _ (ap (λ (f : FilterView). f.shown) c.self.view_is)
-          c.in-Ok.room.spot
+          c.in-Ok.reserved.spot
           c.args.request.now _ c.requires.bounded c.in-Ok.ensures.reserved (books_of c.cover.new.self)
           c.cover.ensures.places
           _ c.shows_order-in_default-cover.ensures.order c.free.ensures.frees).0;
@@ -39,7 +39,8 @@ invariant_of-self-in_default-cover g c =
 
 pub returns-in_default-cover-clause-refused : goal.returns-in_default-cover-clause-refused
 returns-in_default-cover-clause-refused g c =
-    (given_back _ _ _ c.self.invariant.in_hand _ (ap (λ (f : FilterView). f.shown) c.self.view_is) c.in-Ok.room.spot
+    (given_back _ _ _ c.self.invariant.in_hand _ (ap (λ (f : FilterView). f.shown) c.self.view_is)
+    c.in-Ok.reserved.spot
     c.args.request.now _ c.requires.bounded c.in-Ok.ensures.reserved (books_of c.cover.new.self)
     c.cover.ensures.places
     _ c.shows_order-in_default-cover.ensures.order c.free.ensures.frees).1
@@ -50,7 +51,7 @@ invariant_of-self-in-Ok-cover g c =
       buffers = c.self.invariant.buffers;
       in_hand =
           (reserved _ _ _ c.self.invariant.in_hand _ (ap (λ (f : FilterView). f.shown) c.self.view_is)
-          c.in-Ok.room.spot
+          c.in-Ok.reserved.spot
           c.args.request.now _ c.requires.bounded c.in-Ok.ensures.reserved (books_of c.cover.new.self)
           c.cover.ensures.places
           c.shows_order-2.ensures.order c.in-Ok-cover.ensures.covers).0;
@@ -58,7 +59,8 @@ invariant_of-self-in-Ok-cover g c =
 
 pub returns-clause-reserved : goal.returns-clause-reserved
 returns-clause-reserved g c =
-    (reserved _ _ _ c.self.invariant.in_hand _ (ap (λ (f : FilterView). f.shown) c.self.view_is) c.in-Ok.room.spot
+    (reserved _ _ _ c.self.invariant.in_hand _ (ap (λ (f : FilterView). f.shown) c.self.view_is)
+    c.in-Ok.reserved.spot
     c.args.request.now _ c.requires.bounded c.in-Ok.ensures.reserved (books_of c.cover.new.self)
     c.cover.ensures.places
     c.shows_order-2.ensures.order c.in-Ok-cover.ensures.covers).1

@@ -1,0 +1,91 @@
+//! A trace to look at: one SVG of it, or the same as Trace Event JSON.
+//!
+//! [`Picture::take`] is given the labels of a trace one after the other, legal or not, and keeps their numbers and no
+//! bytes. [`Picture::write_svg`] writes one self-contained SVG without scripts: labels run to the right, a row a tag
+//! with its pieces, a row a request with its call, pieces, cancel and answer, and bands for pauses and removals.
+//! [`Picture::write_events`] writes what Perfetto and Chrome's tracing page open.
+//!
+//! It promises to the crate above that each call returns, whatever the labels, and that want of memory is told. What is
+//! written is only tested. It does not promise that a writer takes all.
+#![tactic(auto)]
+
+mod bands;
+mod events;
+mod facts;
+mod layout;
+mod legend;
+mod marks;
+mod names;
+mod owners;
+mod rows;
+mod svg;
+#[cfg(test)]
+mod tests;
+mod titles;
+
+use facts::Facts;
+use layout::{Layout, Scene};
+use machine::Label;
+use std::alloc::{AllocError, Global};
+use std::io;
+use std::io::Write;
+
+/// What a picture shows, of the labels that it was given.
+#[derive(Drop)]
+pub struct Picture {
+    facts: Facts,
+}
+
+impl Picture {
+    /// A picture of no label.
+    pub fn new(alloc: Global) -> Picture {
+        Picture {
+            facts: Facts::new(alloc),
+        }
+    }
+
+    /// Adds the next label of the trace, which stands in this line of its text.
+    ///
+    /// # Errors
+    ///
+    /// [`AllocError`] where memory was refused; the label may be missing then.
+    pub fn take(&mut self, line: u64, label: &Label) -> Result<(), AllocError> {
+        self.facts.take(line, label)
+    }
+
+    /// Writes the SVG. The writer is not flushed.
+    ///
+    /// # Errors
+    ///
+    /// Those of the writer, and [`io::ErrorKind::OutOfMemory`].
+    pub fn write_svg<W: Write>(&mut self, out: &mut W) -> io::Result<()> {
+        owners::find_owners(&mut self.facts)?;
+        let facts = &self.facts;
+        let layout = Layout::of(facts)?;
+        svg::write_svg(
+            out,
+            Scene {
+                facts,
+                layout: &layout,
+            },
+        )
+    }
+
+    /// Writes the Trace Event JSON. The writer is not flushed.
+    ///
+    /// # Errors
+    ///
+    /// Those of the writer, and [`io::ErrorKind::OutOfMemory`].
+    pub fn write_events<W: Write>(&mut self, out: &mut W) -> io::Result<()> {
+        owners::find_owners(&mut self.facts)?;
+        let facts = &self.facts;
+        let layout = Layout::of(facts)?;
+        events::write_events(
+            out,
+            Scene {
+                facts,
+                layout: &layout,
+            },
+        )
+    }
+}

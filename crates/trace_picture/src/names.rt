@@ -1,0 +1,156 @@
+//! Words and texts of the picture.
+
+use crate::facts::{Phase, Request, Stray, Word};
+use cdb::Cdb;
+use itoa::Buffer;
+use machine::Kind;
+use srb::Class;
+use std::fmt;
+
+/// The name of a request: its number, and what it asks for.
+#[derive(Clone, Copy)]
+pub struct Name<'a>(pub &'a Request);
+
+impl fmt::Display for Name<'_> {
+    fn fmt<W: fmt::Write>(&self, f: &mut fmt::Formatter<W>) -> fmt::Result {
+        let request = self.0;
+        write!(f, "{} {}", request.number, kind_word(request.kind))?;
+        if request.kind == Kind::Flush {
+            return Ok(());
+        }
+        write!(f, " {} {}", request.offset, request.length)?;
+        f.write_str(if request.through { " through" } else { "" })
+    }
+}
+
+/// The width of a name.
+pub fn name_width(request: &Request) -> u64 {
+    let words = digits(request.number).saturating_add(kind_word(request.kind).len() as u64);
+    let place = match request.kind {
+        Kind::Flush => 0,
+        _ => digits(request.offset).saturating_add(digits(request.length)),
+    };
+    let through = if request.through { 8 } else { 0 };
+    text_width(
+        words
+            .saturating_add(place)
+            .saturating_add(through)
+            .saturating_add(3),
+    )
+}
+
+/// What a command asks for.
+#[derive(Clone, Copy)]
+pub struct Command(pub Option<Cdb>);
+
+impl fmt::Display for Command {
+    fn fmt<W: fmt::Write>(&self, f: &mut fmt::Formatter<W>) -> fmt::Result {
+        match self.0 {
+            None => f.write_str("no command"),
+            Some(Cdb::Read10 { lba, count, fua }) => write!(
+                f,
+                "READ(10) of {count} from {lba}{}",
+                fua_word(fua)
+            ),
+            Some(Cdb::Write10 { lba, count, fua }) => write!(
+                f,
+                "WRITE(10) of {count} from {lba}{}",
+                fua_word(fua)
+            ),
+            Some(Cdb::Read16 { lba, count, fua }) => write!(
+                f,
+                "READ(16) of {count} from {lba}{}",
+                fua_word(fua)
+            ),
+            Some(Cdb::Write16 { lba, count, fua }) => write!(
+                f,
+                "WRITE(16) of {count} from {lba}{}",
+                fua_word(fua)
+            ),
+            Some(Cdb::Sync10 { .. }) => f.write_str("SYNCHRONIZE CACHE(10)"),
+            Some(Cdb::Sync16 { .. }) => f.write_str("SYNCHRONIZE CACHE(16)"),
+            Some(Cdb::ReadCapacity10) => f.write_str("READ CAPACITY(10)"),
+            Some(Cdb::ReadCapacity16 { .. }) => f.write_str("READ CAPACITY(16)"),
+        }
+    }
+}
+
+fn fua_word(fua: bool) -> &'static str {
+    if fua { " FUA" } else { "" }
+}
+
+pub fn kind_word(kind: Kind) -> &'static str {
+    match kind {
+        Kind::Read => "read",
+        Kind::Write => "write",
+        Kind::Flush => "flush",
+    }
+}
+
+/// How a piece came back, if it did.
+pub fn class_word(back: Option<(u64, Class)>) -> &'static str {
+    match back {
+        Some((_, Class::Good)) => "good",
+        Some((_, Class::Busy)) => "busy",
+        Some((_, Class::Bad(_))) => "bad",
+        None => "out",
+    }
+}
+
+pub fn phase_word(phase: Phase) -> &'static str {
+    match phase {
+        Phase::Paused => "paused",
+        Phase::Removing => "removing",
+        Phase::Gone => "surprise",
+        Phase::Removed => "removed",
+    }
+}
+
+/// A label that fits nothing: its word, and the number that it names.
+#[derive(Clone, Copy)]
+pub struct Misfit<'a>(pub &'a Stray);
+
+impl fmt::Display for Misfit<'_> {
+    fn fmt<W: fmt::Write>(&self, f: &mut fmt::Formatter<W>) -> fmt::Result {
+        f.write_str(label_word(self.0.word))?;
+        match self.0.number {
+            Some(number) => write!(f, " {number}"),
+            None => Ok(()),
+        }
+    }
+}
+
+/// The word of a label.
+fn label_word(word: Word) -> &'static str {
+    match word {
+        Word::Act => "act",
+        Word::Fault => "fault",
+        Word::Return => "return",
+        Word::Cancel => "cancel",
+        Word::Answer => "answer",
+        Word::Resume => "resume",
+    }
+}
+
+/// How many digits a number has.
+pub fn digits(number: u64) -> u64 {
+    Buffer::new().format(number).len() as u64
+}
+
+/// How many digits the number of a piece has.
+pub fn piece_digits(number: u128) -> u64 {
+    match u64::try_from(number) {
+        Ok(short) => digits(short),
+        Err(_) => 39,
+    }
+}
+
+/// The width of so many letters of the larger size.
+pub fn text_width(letters: u64) -> u64 {
+    letters.saturating_mul(7).saturating_add(12)
+}
+
+/// The width of so many letters in a bar.
+pub fn bar_text_width(letters: u64) -> u64 {
+    letters.saturating_mul(6).saturating_add(6)
+}
