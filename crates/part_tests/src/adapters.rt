@@ -126,11 +126,11 @@ fn put<A: Adapter>(
     ensures accepted { OnOk result ((A.view adapter.new).accepted ≡ (A.view adapter.old).accepted + 1) }
     ensures labels { OnOk result (length (A.view adapter.new).labels ≡ length (A.view adapter.old).labels + 1) }
 {
-    let first = Extent {
+    let whole = Extent {
         first: 0,
-        count: adapter.sectors().min(4096),
+        count: adapter.sectors(),
     };
-    adapter.reserve(first).ok().ok_or("no memory")?;
+    adapter.reserve(whole).ok().ok_or("no memory")?;
     assert!(rt; tag < adapter.depth());
     assert!(rt; !adapter.in_use(tag));
     adapter.accept(tag, piece, srb);
@@ -295,8 +295,36 @@ fn all_else_is_carried_out(rt: HostRuntime) -> Result<(), Fail> {
     )
 }
 
-/// The data that a command brings from a disk of so many sectors of 512 bytes.
-fn brought(
+/// The data that a command brings, as this piece, on tag 1.
+fn brought<A: Adapter>(
+    rt: &impl Abort,
+    alloc: Global,
+    adapter: &mut A,
+    piece: u128,
+    block: &[u8],
+    count: usize,
+) -> Result<Srb, Fail>
+    requires few { (A.view adapter.old).accepted < 2 ^ 100 }
+    requires place { length (A.view adapter.old).labels ≡ 0 }
+    requires long { count < 2 ^ 40 }
+{
+    let srb = srb(alloc, SrbFunction::ExecuteScsi, 0x40, block, count, 0xA5)?;
+    put(rt, adapter, 1, piece, srb)?;
+    act(rt, adapter, 1);
+    let (srb, completion) = finish(adapter, 1)?;
+    same(rt, &completion, &GOOD);
+    Ok(srb)
+}
+
+fn same_sizes<A: Adapter>(rt: &impl Abort, adapter: &A, sectors: u64) {
+    same(rt, &adapter.sector_size(), &512);
+    same(rt, &adapter.sectors(), &sectors);
+    same(rt, &adapter.max_transfer(), &65_536);
+    same(rt, &adapter.depth(), &2);
+}
+
+/// The data that a command brings from a disk in memory of so many sectors of 512 bytes.
+fn brought_from_memory(
     rt: &impl Abort,
     alloc: Global,
     sectors: u64,
@@ -311,16 +339,54 @@ fn brought(
     let mut adapter = MemAdapter::new(alloc, disk, 65_536, 2, true)
         .ok()
         .ok_or("no memory")?;
-    same(rt, &adapter.sector_size(), &512);
-    same(rt, &adapter.sectors(), &sectors);
-    same(rt, &adapter.max_transfer(), &65_536);
-    same(rt, &adapter.depth(), &2);
-    let srb = srb(alloc, SrbFunction::ExecuteScsi, 0x40, block, count, 0xA5)?;
-    put(rt, &mut adapter, 1, 1, srb)?;
-    act(rt, &mut adapter, 1);
-    let (srb, completion) = finish(&mut adapter, 1)?;
-    same(rt, &completion, &GOOD);
-    Ok(srb)
+    same_sizes(rt, &adapter, sectors);
+    brought(rt, alloc, &mut adapter, 1, block, count)
+}
+
+/// An adapter of two tags for a disk of so many sectors, which stand elsewhere.
+fn elsewhere(alloc: Global, sectors: u64) -> Result<BookedAdapter, AllocError>
+    requires some { 1 ≤ sectors }
+    requires few { sectors ≤ 2 ^ 40 }
+    ensures accepted { IfOk result (λ a. a.shown.accepted ≡ 0) }
+    ensures labels { IfOk result (λ a. length a.shown.labels ≡ 0) }
+{
+    let first = Vec::from_slice(alloc, &[0; 512])?;
+    BookedAdapter::new(alloc, first, sectors, 65_536, 2).map_err(|_| AllocError)
+}
+
+/// That of a disk whose sectors stand elsewhere, as the piece by which a disk is looked at.
+fn brought_from_elsewhere(
+    rt: &impl Abort,
+    alloc: Global,
+    sectors: u64,
+    block: &[u8],
+    count: usize,
+) -> Result<Srb, Fail>
+    requires some { 1 ≤ sectors }
+    requires few { sectors ≤ 2 ^ 40 }
+    requires long { count < 2 ^ 40 }
+{
+    let mut adapter = elsewhere(alloc, sectors)?;
+    same_sizes(rt, &adapter, sectors);
+    brought(rt, alloc, &mut adapter, 0, block, count)
+}
+
+/// The data that a command brings from a disk of so many sectors, which stand in memory where they are few.
+fn brought_of(
+    rt: &impl Abort,
+    alloc: Global,
+    sectors: u64,
+    block: &[u8],
+    count: usize,
+) -> Result<Srb, Fail>
+    requires some { 1 ≤ sectors }
+    requires few { sectors ≤ 2 ^ 40 }
+    requires long { count < 2 ^ 40 }
+{
+    if sectors > 4096 {
+        return brought_from_elsewhere(rt, alloc, sectors, block, count);
+    }
+    brought_from_memory(rt, alloc, sectors, block, count)
 }
 
 /// For a number of sectors the data of READ CAPACITY(10), and how those of READ CAPACITY(16) begin.
@@ -346,15 +412,15 @@ const CAPACITIES: [(u64, [u8; 8], [u8; 12]); 3] = [
 #[test]
 fn tells_its_capacity(rt: HostRuntime) -> Result<(), Fail> {
     for (sectors, ten, sixteen) in CAPACITIES {
-        let short = brought(&rt, rt.alloc(), sectors, &CAPACITY, 8)?;
+        let short = brought_of(&rt, rt.alloc(), sectors, &CAPACITY, 8)?;
         same_at(&rt, &short.data.as_slice(), &ten.as_slice(), &sectors);
-        let long = brought(&rt, rt.alloc(), sectors, &LONG_CAPACITY, 32)?;
+        let long = brought_of(&rt, rt.alloc(), sectors, &LONG_CAPACITY, 32)?;
         let mut told = [0; 32];
         told[..12].copy_from_slice(&sixteen);
         same_at(&rt, &long.data.as_slice(), &told.as_slice(), &sectors);
         let mut cut = LONG_CAPACITY;
         cut[13] = 7;
-        let long = brought(&rt, rt.alloc(), sectors, &cut, 7)?;
+        let long = brought_of(&rt, rt.alloc(), sectors, &cut, 7)?;
         same_at(&rt, &long.data.as_slice(), &&told[..7], &sectors);
     }
     Ok(())
