@@ -35,8 +35,8 @@ use Rattle.new_class_disk.specs.inside.Kept.{IsSound, Keeps, AreParts, IsMadeUp,
 use Rattle.new_class_disk.specs.Shown.{class_rules, IsPort, divided_of, shown_state}
 use Rattle.new_class_disk.specs.inside.Driver.{knowns, view_of, AreKept, AreBelow, IsCoupled, IsInHand, AsksUnder, IsAskedBy, IsAsked, AreAsked, IsSpottedBy, IsSpotted, AreSpotted, tickets}
 use Rattle.new_class_disk.specs.Opening.{most_over}
-use Rattle.new_device.specs.Out.{AreOut}
-use Rattle.new_device.proofs.Out.{out_same}
+use Rattle.new_class_disk.specs.inside.Rooms.{AllOut}
+use Rattle.new_class_disk.proofs.Rooms.{out_same}
 use Rattle.new_class_disk.proofs.CoupledRun.{Ran, run_coupled, Contains-map}
 use Rattle.new_class_disk.proofs.Showing.{shown_is}
 use Rattle.new_class_disk.proofs.Orderly.{on_tags, orderly_above, All-from_map}
@@ -258,7 +258,7 @@ module _ (v : DeviceView) (books : Books) (h : IsInHand v books) where
   label_place n few = let e = same_pieces in omega arith
 
   pub hand_ran : (labels : List DeviceLabel) (v' : DeviceView) → v'.rules ≡ v.rules → IsCoupled v' books → IsSound v'.state
-      → Run (class_rules v.rules) (view_of v books).state (map as_label labels) (view_of v' books).state → IsOrderly v' → AreOut v' (tickets books)
+      → Run (class_rules v.rules) (view_of v books).state (map as_label labels) (view_of v' books).state → IsOrderly v' → AllOut v' (tickets books)
       → All (IsUnfinished v.rules v'.state) v'.state.requests → Settled v.rules v'.state → AreCounted v.rules v'.state → AreBelow v' books → IsInHand v' books
   hand_ran labels v' same_rules coupled sound run ordered rooms_out unfinished settled counted below =
       let to : (P : Rules → Type 0) → P v.rules → P v'.rules = λ P x. subst P (sym same_rules) x in
@@ -290,7 +290,7 @@ module _ (v : DeviceView) (books : Books) (h : IsInHand v books) where
             books.rooms h.orderly.spots h.orderly.vacant books.submitted (most_over v'.most);
       }
 
-  pub hand_moved : (labels : List DeviceLabel) (v' : DeviceView) → MovesAbove v books labels v' → IsOrderly v' → AreOut v' (tickets books)
+  pub hand_moved : (labels : List DeviceLabel) (v' : DeviceView) → MovesAbove v books labels v' → IsOrderly v' → AllOut v' (tickets books)
       → All (IsUnfinished v.rules v'.state) v'.state.requests → Settled v.rules v'.state → AreCounted v.rules v'.state → AreBelow v' books → IsInHand v' books
   hand_moved labels v' m = hand_ran labels v' m.same_rules m.coupled m.sound m.moves.run
 
@@ -356,7 +356,7 @@ module _ (v : DeviceView) (books : Books) (h : IsInHand v books) where
     sound = h.sound;
     counted = h.counted;
     coupled = record { j = h.coupled.j; same = h.coupled.same; knows = h.coupled.knows; next_above = h.coupled.next_above; keeps = h.coupled.keeps };
-    rooms_out = record { orderly = ordered; good = h.rooms_out.good; apart = h.rooms_out.apart };
+    rooms_out = record { orderly = ordered; good = h.rooms_out.good; apart = h.rooms_out.apart; all = h.rooms_out.all };
     unfinished = h.unfinished;
     settled = h.settled;
     kept = h.kept;

@@ -27,8 +27,8 @@ use Rattle.new_class_disk.specs.inside.Books.{Opened, Books, opened, all_open, p
 use Rattle.new_class_disk.specs.inside.Turns.{cancelled_one}
 use Rattle.new_class_disk.specs.inside.Driver.{note, known, knowns, view_of, packet_above, tickets_held, tickets_open, IsAsked, IsAskedBy, AreAsked, AreSpotted, IsOpen, AreKept, AreBelow, IsInHand, HaveCauses, tickets}
 use Rattle.new_class_disk.specs.Opening.{most_over}
-use Rattle.new_device.specs.Out.{AreOut}
-use Rattle.new_device.proofs.Out.{out_same}
+use Rattle.new_class_disk.specs.inside.Rooms.{AllOut}
+use Rattle.new_class_disk.proofs.Rooms.{out_same}
 use Rattle.new_class_disk.proofs.Standing.{IsApart}
 use Rattle.new_class_disk.specs.inside.Midway.{IsTaking, IsMidway, CancelsAll, packet_of_part, WithdrawsAll}
 use Rattle.new_class_disk.proofs.Focus as focus
@@ -361,8 +361,8 @@ module _ (v : DeviceView) (b : Books) (h : IsInHand v b) (slot : ℕ) (o : Opene
         subst (λ (r : Rules). IsMidway NeverSent (above joint_cancelled) [] (record v1 { rules = r }) books_cancelled) (sym m.beside.same_rules) (record {
           port = h.port;
           taking = taking;
-          rooms_out = subst (λ (r : Rules). AreOut (record v1 { rules = r }) (tickets books_cancelled)) m.beside.same_rules
-              (subst (λ rs. AreOut v1 (tickets_held b.held ++ rs)) (sym same_rooms) (out_same v v1 (tickets b) ordered1 m.beside.same_rooms h.rooms_out));
+          rooms_out = subst (λ (r : Rules). AllOut (record v1 { rules = r }) (tickets books_cancelled)) m.beside.same_rules
+              (subst (λ rs. AllOut v1 (tickets_held b.held ++ rs)) (sym same_rooms) (out_same v v1 (tickets b) ordered1 m.beside.same_rooms h.rooms_out));
           kept = kept_cancelled;
           below = below_cancelled;
           ended = never_sent v.rules v1.state m.unsent;

@@ -17,8 +17,8 @@ use Rattle.new_class_disk.specs.Shown.{class_rules}
 use Rattle.new_class_disk.specs.inside.Books.{Books, all_open}
 use Rattle.new_class_disk.specs.inside.Driver.{knowns, view_of, packet_above, AreAsked, AreSpotted, AreBelow, IsInHand, HaveCauses, note, tickets}
 use Rattle.new_class_disk.specs.Opening.{most_over}
-use Rattle.new_device.specs.Out.{AreOut}
-use Rattle.new_device.proofs.Out.{out_same}
+use Rattle.new_class_disk.specs.inside.Rooms.{AllOut}
+use Rattle.new_class_disk.proofs.Rooms.{out_same}
 use Rattle.new_class_disk.proofs.Standing.{IsApart}
 use Rattle.new_class_disk.specs.inside.Midway.{IsTaking, IsMidway, WithdrawsAll}
 use Rattle.new_class_disk.proofs.CoupledRun.{sound_same}
@@ -120,7 +120,7 @@ module _ (v : DeviceView) (b : Books) (h : IsInHand v b) (v1 : DeviceView) (d : 
       subst (λ (r : Rules). IsMidway NeverSent (above joint_drained) [] (record v1 { rules = r }) books_drained) (sym d.beside.same_rules) (record {
         port = h.port;
         taking = taking;
-        rooms_out = subst (λ (r : Rules). AreOut (record v1 { rules = r }) (tickets books_drained)) d.beside.same_rules (out_same v v1 (tickets b) ordered1 d.beside.same_rooms h.rooms_out);
+        rooms_out = subst (λ (r : Rules). AllOut (record v1 { rules = r }) (tickets books_drained)) d.beside.same_rules (out_same v v1 (tickets b) ordered1 d.beside.same_rooms h.rooms_out);
         kept = record {
           sizes = h.kept.sizes;
           in_hand = h.kept.in_hand;

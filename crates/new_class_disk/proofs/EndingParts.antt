@@ -23,8 +23,9 @@ use Rattle.new_class_disk.specs.inside.Driver.{busy_left, note, note_by, known, 
 use Rattle.new_class_disk.specs.Opening.{most_over}
 use Rattle.new_class_disk.specs.inside.Owners.{slot_at, place_at}
 use Rattle.new_class_disk.specs.inside.Parts.{payload_in, ticket_for}
-use Rattle.new_device.specs.Out.{Ticket, AreOut}
-use Rattle.new_device.proofs.Out.{out_any_order}
+use Rattle.new_device.specs.Out.{Ticket}
+use Rattle.new_class_disk.specs.inside.Rooms.{AllOut}
+use Rattle.new_class_disk.proofs.Rooms.{out_any_order}
 use Rattle.new_class_disk.specs.declared.parts.TransferPacket.{TransferPacket}
 use Rattle.new_class_disk.specs.inside.Midway.{IsTaking, IsMidway, TakesOne}
 use Rattle.new_class_disk.proofs.Retaking.{known_at}
@@ -63,7 +64,7 @@ ended_middle before slot o o' after ended some h =
 
 module _ {takes : Bool} (v : DeviceView) (b : Books) (climb : Climb) (spot : ℕ) (v' : DeviceView)
     (h : HandsUp takes v climb spot v') (ordered : IsOrderly v) (packet : TransferPacket) (payload_is : payload_in packet ≡ h.payload)
-    (rooms_step : (others : List Ticket) → AreOut v others → AreOut v' (ticket_for h.request packet ∷ others))
+    (rooms_step : (others : List Ticket) → AllOut v others → AllOut v' (ticket_for h.request packet ∷ others))
     (d : Handed b h.packet.number h.packet.spot) (some : 0 < d.o.unfinished) (outcome : Outcome) (ends : EndsBack h.status outcome)
     (reason : HasReason d.o.irp.cancelled b.removing d.o.restarts outcome) where
   abbrev slot : ℕ
@@ -205,12 +206,12 @@ module _ {takes : Bool} (v : DeviceView) (b : Books) (climb : Climb) (spot : ℕ
         (sym h.moves.same_rules) (record {
           port = m.port;
           taking = taking_then;
-          rooms_out = subst (λ (u : Rules). AreOut (record v' { rules = u }) (tickets b')) h.moves.same_rules (out_any_order v' _ _ (IsPermutation-trans _ _ _ (IsPermutation-sym _ _
+          rooms_out = subst (λ (u : Rules). AllOut (record v' { rules = u }) (tickets b')) h.moves.same_rules (out_any_order v' _ _ (IsPermutation-trans _ _ _ (IsPermutation-sym _ _
               (IsPermutation-middle (tickets_held b.held) (ticket_for d.part.request packet) (tickets_open (all_open b))))
               (IsPermutation-append_right (tickets_held b.held) _ _
               (subst (λ (x : Books). IsPermutation (ticket_for d.part.request packet ∷ tickets_open (all_open b)) (tickets_open (all_open x))) books_are
               (rooms_now rules b slot place d.o d.part h.packet.number h.packet.spot s ended))))
-              (subst (λ q. AreOut v' (ticket_for q packet ∷ tickets b)) (sym (same_request h ordered d m)) (rooms_step _ m.rooms_out)));
+              (subst (λ q. AllOut v' (ticket_for q packet ∷ tickets b)) (sym (same_request h ordered d m)) (rooms_step _ m.rooms_out)));
           kept = kept_then;
           below = below_then;
           ended = taken.1;

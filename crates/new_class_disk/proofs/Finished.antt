@@ -13,7 +13,7 @@ use Rattle.machine.specs.Step.{Run, as_label}
 use Rattle.new_device.specs.View.{DeviceView, OnTag, piece_on_tag, IsOrderly}
 use Rattle.new_device.specs.Served.{Finishes, FinishesNot}
 use Rattle.new_class_disk.specs.inside.Books.{Opened, Books, all_open}
-use Rattle.new_device.proofs.Out.{out_same}
+use Rattle.new_class_disk.proofs.Rooms.{out_same}
 use Rattle.new_class_disk.proofs.Standing.{IsApart}
 use Rattle.new_class_disk.specs.declared.parts.Part.{Part}
 use Rattle.new_class_disk.specs.declared.parts.Progress.{Progress}

@@ -33,7 +33,7 @@ use Rattle.new_class_disk.proofs.Restarting.{noted_back}
 use Rattle.new_class_disk.specs.Shown.{class_rules, IsPort, shown_state}
 use Rattle.new_class_disk.specs.inside.Driver.{places_of, note, known, knowns, tickets, view_of, packet_above, AreKept, AreBelow, IsCoupled, IsInHand}
 use Rattle.new_class_disk.specs.Opening.{most_over}
-use Rattle.new_device.specs.Out.{AreOut}
+use Rattle.new_class_disk.specs.inside.Rooms.{AllOut}
 use Rattle.new_class_disk.proofs.Standing.{IsApart}
 use Rattle.new_class_disk.specs.inside.Parts.{EndsBack, payload_in}
 use Rattle.new_class_disk.specs.inside.Midway.{IsTaking}
@@ -178,7 +178,7 @@ packets_known rules (e ∷ es) = ap (λ ns. e.1.irp.number ∷ ns) (packets_know
 -- what the class driver itself owes of its table, rooms and parts
 pub record IsKeptInTable (v : DeviceView) (books : Books) : Type 0 where
   pub port : IsPort v.rules
-  pub rooms_out : AreOut v (tickets books)
+  pub rooms_out : AllOut v (tickets books)
   pub kept : AreKept (class_rules v.rules) books
   pub below : AreBelow v books
   pub apart : IsApart books

@@ -14,7 +14,8 @@ use Rattle.machine.proofs.Placed.{ArePlaced-opening}
 use Rattle.machine.proofs.Same.{IsSame-refl}
 use Rattle.machine.specs.Numbers.{HasPlaces}
 use Rattle.new_device.specs.View.{DeviceView, Packet, IsOffRooms, IsOrderly, WaitsForTag, IsTopmost}
-use Rattle.new_device.specs.Out.{IsGood}
+use Rattle.std.specs.Prelude.{IsPermutation}
+use Rattle.new_device.specs.Out.{IsGood, tickets_of}
 use Rattle.new_device.specs.Served.{IsUnfinished}
 use Rattle.new_class_disk.specs.declared.Sizes.{Sizes}
 use Rattle.new_class_disk.specs.inside.Kept.{IsMadeUp, AgreesOnCancel, IsInTurn, IsInPieces, IsOver, HasSome}
@@ -40,10 +41,10 @@ whole_disk : (rules : Rules) (partitions : List Extent) → partitions ≡ recor
     → sectors_of (record rules { partitions = partitions }) (Some 0) ≡ rules.disk_sectors
 whole_disk rules partitions is = ap (λ (ps : List Extent). sectors_of (record rules { partitions = ps }) (Some 0)) is
 
-hand_fresh : (v : DeviceView) (sizes : Sizes) (places : ℕ) → IsPort v.rules → IsOrderly (fresh v)
+hand_fresh : (v : DeviceView) (sizes : Sizes) (places : ℕ) → v.rooms ≡ [] → IsPort v.rules → IsOrderly (fresh v)
     → sizes.sector_size ≡ v.rules.sector_size → sizes.max_transfer ≡ v.rules.longest → sizes.disk_sectors ≡ sectors_of v.rules (Some 0)
     → IsInHand (fresh v) (empty_books sizes places)
-hand_fresh v sizes places port orderly size longest sectors =
+hand_fresh v sizes places none port orderly size longest sectors =
     let s : State = opening v.state.arrays in
     let rules : Rules = class_rules v.rules in
     let some_bytes : 0 < v.rules.sector_size = elim orderly.adapter.sector_size [
@@ -71,7 +72,12 @@ hand_fresh v sizes places port orderly size longest sectors =
           in_pieces = All-nil (IsInPieces rules);
         };
       };
-      rooms_out = record { orderly = orderly; good = All-nil (IsGood (fresh v)); apart = apart_none };
+      rooms_out = record {
+        orderly = orderly;
+        good = All-nil (IsGood (fresh v));
+        apart = apart_none;
+        all = subst (λ rs. IsPermutation (tickets_of rs) []) (sym none) (IsPermutation-refl []);
+      };
       unfinished = All-nil (IsUnfinished v.rules s);
       settled = record {
         none_owed = refl;
@@ -146,4 +152,4 @@ opens_in_hand v sizes places b f orderly empty size longest sectors =
     let v_is : v ≡ fresh v = fresh_is v f.state f.packets f.submitted in
     subst (λ (x : Books). IsInHand v x) (sym empty)
     (subst (λ (x : DeviceView). IsInHand x (empty_books sizes places)) (sym v_is)
-    (hand_fresh v sizes places f.port (subst IsOrderly v_is orderly) size longest sectors))
+    (hand_fresh v sizes places f.rooms f.port (subst IsOrderly v_is orderly) size longest sectors))

@@ -12,8 +12,8 @@ use Rattle.machine.proofs.Numbers.{AreDistinct-Run}
 use Rattle.machine.proofs.Permuting.{IsPermutation-uncons}
 use Rattle.new_device.specs.View.{DeviceView, IsOrderly}
 use Rattle.new_device.specs.declared.climbing.Climb.{Climb}
-use Rattle.new_device.specs.Out.{AreOut}
-use Rattle.new_device.proofs.Out.{out_any_order}
+use Rattle.new_class_disk.specs.inside.Rooms.{AllOut}
+use Rattle.new_class_disk.proofs.Rooms.{out_any_order}
 use Rattle.new_class_disk.specs.inside.Owners.{IsOwnedBy, AreOwnedFrom}
 use Rattle.new_class_disk.specs.declared.parts.Part.{Part}
 use Rattle.new_class_disk.specs.declared.requests.Places.{Places}
@@ -108,7 +108,7 @@ module _ (v : DeviceView) (b : Books) (h : IsInHand v b) (ordered : IsOrderly v)
         over = All-tail (IsOver 17 v.state.removing) (known rules o) (knowns rules left) (All-permutation (IsOver 17 v.state.removing) _ _ ks h.below.over);
       }
 
-  rooms_left : AreOut v (tickets left)
+  rooms_left : AllOut v (tickets left)
   rooms_left =
       out_any_order v _ _ (IsPermutation-trans _ _ _ (IsPermutation-append_right (tickets_held b.held) _ _ (rooms_same _ _ open_others))
       (IsPermutation-trans _ _ _ (second_first (tickets_held b.held) (tickets_of o.parts) (tickets_open (all_open left)))

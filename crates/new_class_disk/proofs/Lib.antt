@@ -60,6 +60,7 @@ pub mod Restarting
 pub mod Resting
 pub mod Retaking
 pub mod Returning
+pub mod Rooms
 pub mod Sending
 pub mod SendingOn
 pub mod SentData

@@ -5,9 +5,10 @@ use Rattle.std.proofs.lemmas.List.{map-append}
 use Rattle.std.proofs.lemmas.List.Elements.{All-nil, All-cons, All-head, All-tail, All-weaker}
 use Rattle.machine.specs.declared.Request.{Request}
 use Rattle.new_device.specs.View.{DeviceView, Packet, Reserved, room_at, whole_for, packet_spot, IsOffRooms, IsOrderly}
-use Rattle.new_device.specs.Out.{Ticket, AreOut, IsGood, ticket_spot}
-use Rattle.new_device.specs.Served.{ReservesSpot}
-use Rattle.new_device.proofs.Out.{out_more}
+use Rattle.new_device.specs.Out.{Ticket, IsGood, ticket_spot}
+use Rattle.new_class_disk.specs.inside.Rooms.{AllOut}
+use Rattle.new_device.specs.Served.{ReservesSpot, ReservesNone, Frees}
+use Rattle.new_class_disk.proofs.Rooms.{out_more, out_less, out_same}
 use Rattle.new_class_disk.specs.declared.parts.Part.{Part}
 use Rattle.new_class_disk.specs.declared.parts.PartId.{PartId}
 use Rattle.new_class_disk.specs.inside.Parts.{IsHere, ticket_for, ticket_by, tickets_of}
@@ -17,7 +18,7 @@ use Rattle.new_class_disk.specs.declared.parts.Progress.TheVariants.{Ready}
 use Rattle.new_class_disk.specs.inside.Owners.{IsOwner, IsOwnedBy, AreOwnedFrom, KeepsOwners, OwnsSpot}
 use Rattle.new_class_disk.specs.inside.Driver.{IsSpotted}
 use Rattle.new_class_disk.specs.inside.Midway.{StaysOwned, StaysTaken, MakesNone, MakesRoom, MakesParts}
-use Rattle.new_class_disk.proofs.Owned.{owned_joined, apart_none}
+use Rattle.new_class_disk.proofs.Owned.{owned_joined}
 use Rattle.new_class_disk.proofs.PartRooms.{put_behind}
 use Rattle.new_class_disk.proofs.Reserving.{reserves_same, reserves_joined, reserves_freed, owned_stays, here_spotted, all_both}
 
@@ -75,6 +76,19 @@ module _ (v v1 : DeviceView) (owners owners' : List PartId) (r : Request) (spot 
     owned = (ap (λ (x : PartId). x.slot) owns.is, ap (λ (x : PartId). x.part) owns.is, owns.inside);
   }
 
+  -- it is given back
+  pub room_refused : (v2 : DeviceView) → KeepsOwners owners owners' → Frees v1 spot v2 → IsOrderly v2 → MakesNone v owners v2 owners'
+  room_refused v2 keeps frees ordered' = record {
+    stays = record {
+      reserves = reserves_joined v v1 v2 reserves.reserves (reserves_freed v1 v2 frees.same);
+      longer = keeps.longer;
+      held = λ others out. all_stay owners owners' keeps (map ticket_spot others);
+      below = all_stay owners owners' keeps (map packet_spot v.packets);
+    };
+    out = λ others out. out_less v1 v2 (record { spot = spot; reserved = whole_for r }) (Some frees.reserved) others ordered' frees.room
+        (out_more v v1 spot (whole_for r) others ordered reserves.room out);
+  }
+
 -- nothing changed
 pub none_asked : (v : DeviceView) (owners : List PartId) → MakesNone v owners v owners
 none_asked v owners = record {
@@ -87,6 +101,18 @@ none_asked v owners = record {
   out = λ others out. out;
 }
 
+-- the layer below had no room
+pub none_there : (v v1 : DeviceView) (owners : List PartId) → ReservesNone v v1 → IsOrderly v1 → MakesNone v owners v1 owners
+none_there v v1 owners none ordered = record {
+  stays = record {
+    reserves = none.reserves;
+    longer = omega arith;
+    held = λ others out. all_stay owners owners (keeps_itself owners) (map ticket_spot others);
+    below = all_stay owners owners (keeps_itself owners) (map packet_spot v.packets);
+  };
+  out = λ others out. out_same v v1 others ordered none.room out;
+}
+
 -- PARTS
 
 -- a part with that room
@@ -95,7 +121,7 @@ pub part_made : (v : DeviceView) (owners : List PartId) (id : PartId) (r : Reque
     → MakesParts v owners id.slot id.part (part ∷ []) v' owners'
 part_made v owners id r packet v' owners' part is place ready same m = record {
   stays = m.stays;
-  out = λ others out. subst (λ ts. AreOut v' (ts ++ others)) (sym tickets) (m.out others out);
+  out = λ others out. subst (λ ts. AllOut v' (ts ++ others)) (sym tickets) (m.out others out);
   owned = (subst (IsOwnedBy owners' id.slot id.part) (sym ready) (subst (λ (p : TransferPacket). IsOwner owners' p.room.spot id.slot id.part) (sym same) m.owned), tt);
 }
   where
@@ -104,9 +130,6 @@ part_made v owners id r packet v' owners' part is place ready same m = record {
 
 pub no_parts : (v : DeviceView) (owners : List PartId) (slot : ℕ) → MakesParts v owners slot 0 [] v owners
 no_parts v owners slot = record { stays = (none_asked v owners).stays; out = λ others out. out; owned = tt }
-
-pub none_out : (v : DeviceView) → IsOrderly v → AreOut v []
-none_out v ordered = record { orderly = ordered; good = All-nil (IsGood v); apart = apart_none }
 
 module _ (v v1 v2 : DeviceView) (o o1 o2 : List PartId) (slot : ℕ) (front : List Part) (m : MakesParts v o slot 0 front v1 o1) (next : StaysTaken v1 o1 v2 o2) where
   both_stay : StaysTaken v o v2 o2
@@ -120,36 +143,36 @@ module _ (v v1 v2 : DeviceView) (o o1 o2 : List PartId) (slot : ℕ) (front : Li
         (subst (λ ps. All (StaysOwned o1 o2) (map packet_spot ps)) (ap (λ (x : DeviceView). x.packets) m.stays.reserves.same) next.below);
   }
 
-  front_owned : IsOrderly v → All IsHere front → AreOwnedFrom o2 slot 0 front
-  front_owned ordered here =
-      let all = all_both (StaysOwned o1 o2) _ _ (subst (All (StaysOwned o1 o2)) (map-append ticket_spot (tickets_of front) []) (next.held (tickets_of front ++ []) (m.out [] (none_out v ordered)))) in
+  front_owned : (others : List Ticket) → AllOut v others → All IsHere front → AreOwnedFrom o2 slot 0 front
+  front_owned others out here =
+      let all = all_both (StaysOwned o1 o2) _ _ (subst (All (StaysOwned o1 o2)) (map-append ticket_spot (tickets_of front) others) (next.held (tickets_of front ++ others) (m.out others out))) in
       owned_stays o1 o2 next.longer v1.packets next.below slot 0 front all.0 (All-weaker IsHere (IsSpotted v1.packets) (here_spotted v1.packets) front here) m.owned
 
 zero_more : (n : ℕ) → n ≡ 0 + n
 zero_more n = omega arith
 
 -- one part more
-pub one_more : (v v1 v2 : DeviceView) (o o1 o2 : List PartId) (slot k : ℕ) (items front : List Part) (part : Part) → IsOrderly v → All IsHere front → items ≡ front ++ part ∷ [] → k ≡ length front
+pub one_more : (v v1 v2 : DeviceView) (o o1 o2 : List PartId) (slot k : ℕ) (items front : List Part) (part : Part) (known : List Ticket) → AllOut v known → All IsHere front → items ≡ front ++ part ∷ [] → k ≡ length front
     → MakesParts v o slot 0 front v1 o1 → MakesParts v1 o1 slot k (part ∷ []) v2 o2 → MakesParts v o slot 0 items v2 o2
-one_more v v1 v2 o o1 o2 slot k items front part ordered here is at m next = record {
+one_more v v1 v2 o o1 o2 slot k items front part known out_known here is at m next = record {
   stays = both_stay v v1 v2 o o1 o2 slot front m next.stays;
   out = λ others out. put_behind v2 items front part is others (next.out (tickets_of front ++ others) (m.out others out));
   owned = subst (AreOwnedFrom o2 slot 0) (sym is)
-      (owned_joined o2 slot 0 front (part ∷ []) (front_owned v v1 v2 o o1 o2 slot front m next.stays ordered here) (subst (λ n. AreOwnedFrom o2 slot n (part ∷ [])) (at ∙ zero_more (length front)) next.owned));
+      (owned_joined o2 slot 0 front (part ∷ []) (front_owned v v1 v2 o o1 o2 slot front m next.stays known out_known here) (subst (λ n. AreOwnedFrom o2 slot n (part ∷ [])) (at ∙ zero_more (length front)) next.owned));
 }
 
 -- no part more
-pub no_more : (v v1 v2 : DeviceView) (o o1 o2 : List PartId) (slot : ℕ) (front : List Part) → IsOrderly v → All IsHere front
+pub no_more : (v v1 v2 : DeviceView) (o o1 o2 : List PartId) (slot : ℕ) (front : List Part) (known : List Ticket) → AllOut v known → All IsHere front
     → MakesParts v o slot 0 front v1 o1 → MakesNone v1 o1 v2 o2 → MakesParts v o slot 0 front v2 o2
-no_more v v1 v2 o o1 o2 slot front ordered here m next = record {
+no_more v v1 v2 o o1 o2 slot front known out_known here m next = record {
   stays = both_stay v v1 v2 o o1 o2 slot front m next.stays;
   out = λ others out. next.out (tickets_of front ++ others) (m.out others out);
-  owned = front_owned v v1 v2 o o1 o2 slot front m next.stays ordered here;
+  owned = front_owned v v1 v2 o o1 o2 slot front m next.stays known out_known here;
 }
 
 -- all are given back
 pub all_back : (v v1 v2 : DeviceView) (o o1 : List PartId) (slot : ℕ) (parts : List Part) → MakesParts v o slot 0 parts v1 o1 → v2 ≡ record v1 { rooms = v2.rooms }
-    → ((others : List Ticket) → AreOut v1 (tickets_of parts ++ others) → AreOut v2 others) → MakesNone v o v2 o1
+    → ((others : List Ticket) → AllOut v1 (tickets_of parts ++ others) → AllOut v2 others) → MakesNone v o v2 o1
 all_back v v1 v2 o o1 slot parts m same back = record {
   stays = record {
     reserves = reserves_joined v v1 v2 m.stays.reserves (reserves_freed v1 v2 same);

@@ -12,8 +12,8 @@ use Rattle.new_device.specs.Served.{IsUnfinished}
 use Rattle.new_class_disk.specs.declared.parts.Part.{Part}
 use Rattle.new_class_disk.specs.declared.parts.Progress.{Progress}
 use Rattle.new_class_disk.specs.declared.parts.Progress.TheVariants.{Ready, Below, Ended as HasEnded}
-use Rattle.new_device.specs.Out.{AreOut}
-use Rattle.new_device.proofs.Out.{out_any_order}
+use Rattle.new_class_disk.specs.inside.Rooms.{AllOut}
+use Rattle.new_class_disk.proofs.Rooms.{out_any_order}
 use Rattle.new_class_disk.specs.inside.Owners.{AreOwnedFrom}
 use Rattle.new_class_disk.proofs.NewRequest.{held_there}
 use Rattle.new_class_disk.specs.inside.Blocks.{part_count_of, part_request_of}
@@ -99,7 +99,7 @@ module _ (v : DeviceView) (b : Books) (h : IsInHand v b) (slot : ℕ) (irp : Irp
   some_part : 0 < length parts
   some_part = let e = long in let n = parts_some rules.max_transfer opens.held.request h.port.some_transfer is_room.cut.bounded.some in omega arith
 
-  rooms_open : AreOut v (tickets b_new)
+  rooms_open : AllOut v (tickets b_new)
   rooms_open =
       out_any_order v _ _ (IsPermutation-trans _ _ _ (IsPermutation-append_left (tickets_open (all_open b)) _ _ (held_same _ _ opens.fewer))
       (IsPermutation-trans _ _ _ (IsPermutation-append_left (tickets_open (all_open b)) _ _ (IsPermutation-append_comm (tickets_of parts) (tickets_held b1.held)))

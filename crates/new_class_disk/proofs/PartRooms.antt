@@ -3,8 +3,9 @@ use Rattle.std.proofs.Common.{◌≡◌, List, [], ◌∷◌, ◌++◌, Some, re
 use Rattle.std.specs.Prelude.{IsPermutation}
 use Rattle.std.proofs.lemmas.List.Sorted.{IsPermutation-sym, IsPermutation-append_left, IsPermutation-append_comm}
 use Rattle.new_device.specs.View.{DeviceView}
-use Rattle.new_device.specs.Out.{Ticket, AreOut}
-use Rattle.new_device.proofs.Out.{out_any_order}
+use Rattle.new_device.specs.Out.{Ticket}
+use Rattle.new_class_disk.specs.inside.Rooms.{AllOut}
+use Rattle.new_class_disk.proofs.Rooms.{out_any_order}
 use Rattle.new_class_disk.specs.declared.parts.Part.{Part}
 use Rattle.new_class_disk.specs.declared.parts.Progress.{Progress}
 use Rattle.new_class_disk.specs.declared.parts.Progress.TheVariants.{Ready, Below, Ended}
@@ -28,17 +29,17 @@ last_first front part others =
 module _ (v : DeviceView) where
   -- the room of a part that is taken off the end comes first
   pub taken_off : (items front : List Part) (part : Part) (ticket : Ticket) → items ≡ front ++ part ∷ []
-      → ticket_by part.request part.progress ≡ ticket ∷ [] → (others : List Ticket) → AreOut v (tickets_of items ++ others) → AreOut v (ticket ∷ (tickets_of front ++ others))
+      → ticket_by part.request part.progress ≡ ticket ∷ [] → (others : List Ticket) → AllOut v (tickets_of items ++ others) → AllOut v (ticket ∷ (tickets_of front ++ others))
   taken_off items front part ticket is has others h =
-      let first : AreOut v (tickets_of (part ∷ []) ++ (tickets_of front ++ others)) =
-      out_any_order v _ _ (last_first front part others) (subst (λ xs. AreOut v (tickets_of xs ++ others)) is h) in
-      subst (λ own. AreOut v ((own ++ []) ++ (tickets_of front ++ others))) has first
+      let first : AllOut v (tickets_of (part ∷ []) ++ (tickets_of front ++ others)) =
+      out_any_order v _ _ (last_first front part others) (subst (λ xs. AllOut v (tickets_of xs ++ others)) is h) in
+      subst (λ own. AllOut v ((own ++ []) ++ (tickets_of front ++ others))) has first
 
   -- those of a part that is put behind
   pub put_behind : (items front : List Part) (part : Part) → items ≡ front ++ part ∷ []
-      → (others : List Ticket) → AreOut v (tickets_of (part ∷ []) ++ (tickets_of front ++ others)) → AreOut v (tickets_of items ++ others)
+      → (others : List Ticket) → AllOut v (tickets_of (part ∷ []) ++ (tickets_of front ++ others)) → AllOut v (tickets_of items ++ others)
   put_behind items front part is others h =
-      subst (λ xs. AreOut v (tickets_of xs ++ others)) (sym is) (out_any_order v _ _ (IsPermutation-sym _ _ (last_first front part others)) h)
+      subst (λ xs. AllOut v (tickets_of xs ++ others)) (sym is) (out_any_order v _ _ (IsPermutation-sym _ _ (last_first front part others)) h)
 
 -- the room of a part that is not below
 pub part_ticket : (part : Part) (packet : TransferPacket) → packet_by part.progress ≡ Some packet → ticket_by part.request part.progress ≡ ticket_for part.request packet ∷ []

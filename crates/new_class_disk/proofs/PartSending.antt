@@ -5,7 +5,7 @@ use Rattle.machine.specs.declared.Request.{Request}
 use Rattle.new_device.specs.View.{DeviceView, Carries, IsReady, AsksInLocation, request_at, request_of, room_at, whole_for, packet_of, IsOrderly}
 use Rattle.new_device.specs.Served.{Submits}
 use Rattle.new_device.specs.Out.{Ticket}
-use Rattle.new_device.proofs.Out.{out_first}
+use Rattle.new_class_disk.proofs.Rooms.{out_first}
 use Rattle.new_device.specs.declared.layer.Room.{Room}
 use Rattle.new_class_disk.specs.declared.parts.Part.{Part}
 use Rattle.new_class_disk.specs.declared.parts.Place.{Place}

@@ -16,8 +16,9 @@ use Rattle.new_class_disk.specs.declared.parts.Progress.TheVariants.{Ready, Belo
 use Rattle.new_class_disk.specs.inside.Blocks.{FitsBlock, data_length, part_count_of, part_request_of}
 use Rattle.new_class_disk.specs.inside.Books.{Opened, Books, opened, all_open, restarts_left}
 use Rattle.new_class_disk.specs.inside.Driver.{IsReadyBy, IsReadyPart, IsBuffered, IsBufferedBy, tickets, tickets_held, tickets_open}
-use Rattle.new_device.specs.Out.{Ticket, AreOut}
-use Rattle.new_device.proofs.Out.{out_any_order}
+use Rattle.new_device.specs.Out.{Ticket}
+use Rattle.new_class_disk.specs.inside.Rooms.{AllOut}
+use Rattle.new_class_disk.proofs.Rooms.{out_any_order}
 use Rattle.new_class_disk.specs.inside.Midway.{CanCut, CanSendPart, IsOpening}
 use Rattle.new_class_disk.specs.inside.Parts.{HasBuffers, ticket_for, tickets_of, ticket_by}
 use Rattle.new_class_disk.specs.Shown.{class_rules}
@@ -192,7 +193,7 @@ module _ {v : DeviceView}
 
   -- THE PART CAN BE SENT
 
-  pub room_out : AreOut v (ticket ∷ rooms_left)
+  pub room_out : AllOut v (ticket ∷ rooms_left)
   room_out = out_any_order v _ _ rooms_here h.rooms_out
 
   pub can_send_part : CanSendPart v b slot k rooms_left h.o part place

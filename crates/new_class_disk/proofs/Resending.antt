@@ -35,8 +35,9 @@ use Rattle.new_class_disk.specs.inside.Turns.{again_part}
 use Rattle.new_class_disk.specs.inside.Driver.{note, note_by, known, knowns, tickets_held, tickets_open, IsAsked, IsAskedBy, IsSpotted, IsSpottedBy, IsOpen, AreKept, AreBelow, tickets}
 use Rattle.new_class_disk.specs.Opening.{most_over}
 use Rattle.new_class_disk.specs.inside.Owners.{slot_at, place_at, IsOwnedBy, AreOwnedFrom}
-use Rattle.new_device.specs.Out.{Ticket, AreOut}
-use Rattle.new_device.proofs.Out.{out_less}
+use Rattle.new_device.specs.Out.{Ticket}
+use Rattle.new_class_disk.specs.inside.Rooms.{AllOut}
+use Rattle.new_class_disk.proofs.Rooms.{out_less}
 use Rattle.new_class_disk.specs.declared.parts.TransferPacket.{TransferPacket}
 use Rattle.new_class_disk.specs.inside.Midway.{IsTaking, IsMidway, TakesOne, CanSendAgain, SendsDownAgain}
 use Rattle.new_class_disk.proofs.Restarting.{noted_back}
@@ -92,7 +93,7 @@ sizes_below sizes rules h = record {
 
 module _ {takes : Bool} (v : DeviceView) (b : Books) (brought : TransferPacket) (climb : Climb) (v' : DeviceView)
     (h : HandsUp takes v climb brought.room.spot v') (ordered : IsOrderly v) (takes_srb : takes ≡ true) (payload_is : payload_in brought ≡ h.payload)
-    (rooms_step : (others : List Ticket) → AreOut v others → AreOut v' (ticket_for h.request brought ∷ others))
+    (rooms_step : (others : List Ticket) → AllOut v others → AllOut v' (ticket_for h.request brought ∷ others))
     (d : Handed b h.packet.number h.packet.spot) (g : GoesAgain d.o.irp.cancelled b.removing d.o.restarts h.status) where
   abbrev slot : ℕ
   slot = slot_at b.owners h.packet.spot
@@ -136,7 +137,7 @@ module _ {takes : Bool} (v : DeviceView) (b : Books) (brought : TransferPacket) 
         (let a = w.restarts in let e = ap restarts_of s.parts_are ∙ restarts-append s.front (d.part ∷ s.back) in omega arith) in
         record {
           submit = record {
-            rooms_out = subst (λ q. AreOut v' (ticket_for q brought ∷ tickets b)) (sym asks) (rooms_step _ m.rooms_out);
+            rooms_out = subst (λ q. AllOut v' (ticket_for q brought ∷ tickets b)) (sym asks) (rooms_step _ m.rooms_out);
             not_removing = removing ∙ (sym m.below.removing ∙ g.not_removing);
             number = let a = m.below.next_number in omega arith;
             few = let a = h.moves.same_submitted in let c = h.moves.same_most in let e = enough.0 in omega arith;
@@ -394,11 +395,11 @@ module _ {takes : Bool} (v : DeviceView) (b : Books) (brought : TransferPacket) 
                 (subst (λ t. All (IsOver 17 t) (knowns rules b)) (sym removing) m.below.over);
           }
 
-      rooms_again : AreOut (record v'' { rules = v.rules }) (tickets b_again)
+      rooms_again : AllOut (record v'' { rules = v.rules }) (tickets b_again)
       rooms_again =
-          let before : AreOut v' (ticket_for d.part.request brought ∷ tickets b) = subst (λ q. AreOut v' (ticket_for q brought ∷ tickets b)) (sym asks) (rooms_step _ m.rooms_out) in
+          let before : AllOut v' (ticket_for d.part.request brought ∷ tickets b) = subst (λ q. AllOut v' (ticket_for q brought ∷ tickets b)) (sym asks) (rooms_step _ m.rooms_out) in
           let r = out_less v' v'' (ticket_for d.part.request brought) (Some (whole_for d.part.request)) (tickets b) x.ordered x.submits.room before in
-          subst (λ (u : Rules). AreOut (record v'' { rules = u }) (tickets b_again)) same_rules (subst (λ zs. AreOut v'' (tickets_held b.held ++ zs)) (sym rooms_stay) r)
+          subst (λ (u : Rules). AllOut (record v'' { rules = u }) (tickets b_again)) same_rules (subst (λ zs. AllOut v'' (tickets_held b.held ++ zs)) (sym rooms_stay) r)
 
       midway_then : IsMidway WasSent first (labels ++ (h.starts ++ down.starts)) v'' b_again
       midway_then =

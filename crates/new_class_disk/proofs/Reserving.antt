@@ -4,7 +4,7 @@ use Rattle.std.specs.Prelude.{IsPermutation, All, Any, OnErr}
 use Rattle.std.proofs.lemmas.List.{map-append}
 use Rattle.std.proofs.lemmas.List.Elements.{All-nil, All-cons, All-head, All-tail, All-weaker}
 use Rattle.std.proofs.lemmas.List.Sorted.{IsPermutation-sym, IsPermutation-append_left, All-permutation, length_permutation}
-use Rattle.new_device.proofs.Out.{out_any_order}
+use Rattle.new_class_disk.proofs.Rooms.{out_any_order}
 use Rattle.new_class_disk.proofs.AnyOrder.{held_same}
 use Rattle.new_class_disk.proofs.Standing.{IsApart}
 use Rattle.sector.specs.declared.Extent.{Extent}
@@ -13,7 +13,8 @@ use Rattle.machine.specs.Rules.{Rules}
 use Rattle.adapter.specs.View.{AdapterView}
 use Rattle.adapter.proofs.Joining.{reserves_none}
 use Rattle.new_device.specs.View.{DeviceView, Packet, Reserved, packet_spot}
-use Rattle.new_device.specs.Out.{AreOut, ticket_spot}
+use Rattle.new_device.specs.Out.{ticket_spot}
+use Rattle.new_class_disk.specs.inside.Rooms.{AllOut}
 use Rattle.new_device.specs.Served.{Reserves, Frees, IsAt}
 use Rattle.new_class_disk.specs.declared.parts.Part.{Part}
 use Rattle.new_class_disk.specs.declared.parts.PartId.{PartId}
@@ -147,7 +148,7 @@ module _ (v : DeviceView) (below : List (Option Reserved)) (reserved : List Exte
   abbrev b_now : Books
   b_now = with_held b held rooms owners places
 
-  in_hand_with : AreOut v_now (tickets b_now) → All (IsHeld (class_rules v.rules) owners) held → All (IsOpen (class_rules v.rules) owners) b.opens
+  in_hand_with : AllOut v_now (tickets b_now) → All (IsHeld (class_rules v.rules) owners) held → All (IsOpen (class_rules v.rules) owners) b.opens
       → length held + length b.opens ≤ places → IsApart b_now → IsInHand v b → IsInHand v_now b_now
   in_hand_with out are_held opens few apart h = record {
     port = h.port;
@@ -218,11 +219,11 @@ module _ (v v' : DeviceView) (b b' : Books) (h : IsInHand v b) (stays : StaysTak
   refused_books = with_held b b.held b.rooms b'.owners b'.ended_places
 
   -- no room is made
-  pub in_hand_refused : b' ≡ record b { owners = b'.owners; ended_places = b'.ended_places } → b.ended_places ≤ b'.ended_places → AreOut v' (tickets b) → IsInHand v' b'
+  pub in_hand_refused : b' ≡ record b { owners = b'.owners; ended_places = b'.ended_places } → b.ended_places ≤ b'.ended_places → AllOut v' (tickets b) → IsInHand v' b'
   in_hand_refused same places out =
       hand_now refused_books same
       (in_hand_with v v'.rooms v'.adapter.reserved b b.held b.rooms b'.owners b'.ended_places
-      (subst (λ x. AreOut x (tickets b)) stays.reserves.same out) still_held still_open
+      (subst (λ x. AllOut x (tickets b)) stays.reserves.same out) still_held still_open
       (let p = h.kept.places in omega arith)
       (record { spots = h.orderly.spots; vacant = h.orderly.vacant }) h)
 
@@ -232,14 +233,14 @@ module _ (v v' : DeviceView) (b b' : Books) (h : IsInHand v b) (stays : StaysTak
   -- a room is made
   pub in_hand_made : (new : Held) → b' ≡ record b { owners = b'.owners; ended_places = b'.ended_places; held = b'.held; rooms = b'.rooms }
       → IsPermutation b'.held (new ∷ b.held) → length b.held + length b.opens + 1 ≤ b'.ended_places → IsHeld (class_rules v.rules) b'.owners new → IsApart b'
-      → AreOut v' (tickets_of new.parts ++ tickets b) → IsInHand v' b'
+      → AllOut v' (tickets_of new.parts ++ tickets b) → IsInHand v' b'
   in_hand_made new same more places is_held apart out =
-      let all_out : AreOut v' (tickets_held b'.held ++ tickets_open (all_open b)) =
+      let all_out : AllOut v' (tickets_held b'.held ++ tickets_open (all_open b)) =
       out_any_order v' _ _ (IsPermutation-append_left (tickets_open (all_open b)) _ _ (IsPermutation-sym _ _ (held_same _ _ more)))
-      (subst (AreOut v') (sym (append_assoc (tickets_of new.parts) (tickets_held b.held) (tickets_open (all_open b)))) out) in
+      (subst (AllOut v') (sym (append_assoc (tickets_of new.parts) (tickets_held b.held) (tickets_open (all_open b)))) out) in
       hand_now made_books same
       (in_hand_with v v'.rooms v'.adapter.reserved b b'.held b'.rooms b'.owners b'.ended_places
-      (subst (λ x. AreOut x (tickets_held b'.held ++ tickets_open (all_open b))) stays.reserves.same all_out)
+      (subst (λ x. AllOut x (tickets_held b'.held ++ tickets_open (all_open b))) stays.reserves.same all_out)
       (All-permutation (IsHeld (class_rules v.rules) b'.owners) _ _ (IsPermutation-sym _ _ more) (All-cons (IsHeld (class_rules v.rules) b'.owners) new b.held is_held still_held))
       still_open
       (let p = length_permutation _ _ more in omega arith)
@@ -247,27 +248,27 @@ module _ (v v' : DeviceView) (b b' : Books) (h : IsInHand v b) (stays : StaysTak
 
 -- a room is given back
 pub in_hand_freed : (v v' : DeviceView) (b b' : Books) (slot : ℕ) (places : Places) → v' ≡ record v { rooms = v'.rooms } → RemovesSlot b slot places b' → IsApart b'
-    → AreOut v' (tickets b') → IsInHand v b → IsInHand v' b'
+    → AllOut v' (tickets b') → IsInHand v b → IsInHand v' b'
 in_hand_freed v v' b b' slot places same removes apart out h =
     let after : b' ≡ with_held b b'.held b'.rooms b.owners b.ended_places = removes.after in
     subst (λ x. IsInHand x b') (sym same)
     (subst (IsInHand (with_below v v'.rooms v.adapter.reserved)) (sym after)
     (in_hand_with v v'.rooms v.adapter.reserved b b'.held b'.rooms b.owners b.ended_places
-    (subst (λ x. AreOut x (tickets (with_held b b'.held b'.rooms b.owners b.ended_places))) same (subst (λ x. AreOut v' (tickets x)) after out))
+    (subst (λ x. AllOut x (tickets (with_held b b'.held b'.rooms b.owners b.ended_places))) same (subst (λ x. AllOut v' (tickets x)) after out))
     (All-tail (IsHeld (class_rules v.rules) b.owners) removes.held b'.held (All-permutation (IsHeld (class_rules v.rules) b.owners) _ _ removes.fewer h.kept.in_hand))
     h.kept.opens
     (let p = length_permutation _ _ removes.fewer in let q = h.kept.places in omega arith)
     (subst IsApart after apart) h))
 
 -- the rooms of a slot that is given up come first
-pub freed_first : (v : DeviceView) (b b' : Books) (slot : ℕ) (places : Places) → RemovesSlot b slot places b' → AreOut v (tickets b) → AreOut v (tickets_of places.parts.items ++ tickets b')
+pub freed_first : (v : DeviceView) (b b' : Books) (slot : ℕ) (places : Places) → RemovesSlot b slot places b' → AllOut v (tickets b) → AllOut v (tickets_of places.parts.items ++ tickets b')
 freed_first v b b' slot places removes out =
     let same_opens : all_open b' ≡ all_open b = ap all_open removes.after in
-    let moved : AreOut v ((tickets_of removes.held.parts ++ tickets_held b'.held) ++ tickets_open (all_open b)) =
+    let moved : AllOut v ((tickets_of removes.held.parts ++ tickets_held b'.held) ++ tickets_open (all_open b)) =
     out_any_order v _ _ (IsPermutation-append_left (tickets_open (all_open b)) _ _ (held_same _ _ removes.fewer)) out in
-    subst (λ ps. AreOut v (tickets_of ps ++ tickets b')) (sym removes.parts)
-    (subst (λ os. AreOut v (tickets_of removes.held.parts ++ (tickets_held b'.held ++ tickets_open os))) (sym same_opens)
-    (subst (AreOut v) (append_assoc (tickets_of removes.held.parts) (tickets_held b'.held) (tickets_open (all_open b))) moved))
+    subst (λ ps. AllOut v (tickets_of ps ++ tickets b')) (sym removes.parts)
+    (subst (λ os. AllOut v (tickets_of removes.held.parts ++ (tickets_held b'.held ++ tickets_open os))) (sym same_opens)
+    (subst (AllOut v) (append_assoc (tickets_of removes.held.parts) (tickets_held b'.held) (tickets_open (all_open b))) moved))
 
 -- none of its parts is below
 pub freed_here : (rules : Rules) (b b' : Books) (slot : ℕ) (places : Places) → RemovesSlot b slot places b' → AreKept rules b → All IsHere places.parts.items

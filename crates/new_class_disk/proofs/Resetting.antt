@@ -19,7 +19,7 @@ use Rattle.new_device.specs.Served.{Moves, Resets, is_fresh_piece, fault_of, pie
 use Rattle.new_class_disk.specs.inside.Books.{Books, all_open}
 use Rattle.new_class_disk.specs.Shown.{class_rules}
 use Rattle.new_class_disk.specs.inside.Driver.{view_of, tickets, IsInHand, AreAsked, AreBelow}
-use Rattle.new_device.proofs.Out.{out_same}
+use Rattle.new_class_disk.proofs.Rooms.{out_same}
 use Rattle.new_class_disk.proofs.Showing.{IsPermutation-filter, split_at}
 use Rattle.new_class_disk.proofs.Acting.{IsStill, nil_from_length, still_run, unfinished_still, settled_still, asked_still, map_there, MovesAbove, moves_above, below_moved, hand_ran, same_tags}
 

@@ -27,8 +27,8 @@ use Rattle.new_class_disk.specs.inside.Books.{Opened, Books, opened, all_open, e
 use Rattle.new_class_disk.specs.inside.Driver.{note, note_by, known, knowns, tickets, tickets_held, tickets_open, packet_above, request_of_part, IsReadyPart, IsAsked, IsAskedBy, IsSpotted, IsSpottedBy, IsBuffered, IsWritten}
 use Rattle.new_class_disk.specs.Opening.{most_over}
 use Rattle.new_class_disk.specs.inside.Owners.{IsOwnedBy, AreOwnedFrom}
-use Rattle.new_device.specs.Out.{AreOut}
-use Rattle.new_device.proofs.Out.{out_less}
+use Rattle.new_class_disk.specs.inside.Rooms.{AllOut}
+use Rattle.new_class_disk.proofs.Rooms.{out_less}
 use Rattle.new_class_disk.specs.inside.Joint.{IsPartOf, Note, Sent, Kept, Known, below_rules}
 use Rattle.new_class_disk.specs.inside.Kept.{IsNothing, IsOver, HasSome}
 use Rattle.new_class_disk.specs.inside.Midway.{IsTaking, GoesOn, IsOpening, OpeningSoFar, SendsDown}
@@ -483,8 +483,8 @@ module _ {v : DeviceView}
       }))
     where
       -- the room of the packet is spent, and no start changes another
-      rooms_on : AreOut (record v' { rules = v.rules }) (tickets b_next)
+      rooms_on : AllOut (record v' { rules = v.rules }) (tickets b_next)
       rooms_on =
           let r = out_less v v' (ticket h ordered rise low) (Some (whole_for old_part.request)) (rooms_left h ordered rise low) ordered'
           below.room (room_out h ordered rise low) in
-          subst (λ (u : Rules). AreOut (record v' { rules = u }) (tickets b_next)) same_rules (subst (AreOut v') (sym rooms_next) r)
+          subst (λ (u : Rules). AllOut (record v' { rules = u }) (tickets b_next)) same_rules (subst (AllOut v') (sym rooms_next) r)

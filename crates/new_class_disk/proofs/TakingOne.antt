@@ -20,8 +20,9 @@ use Rattle.new_class_disk.proofs.Handed.{Handed, handed, ends_there, has_place, 
 use Rattle.new_class_disk.proofs.Withdrawing.{takes_withdrawn}
 use Rattle.new_device.specs.Climbing.{Climbs, FinishesPacket}
 use Rattle.new_device.specs.View.{whole_for}
-use Rattle.new_device.specs.Out.{Ticket, AreOut}
-use Rattle.new_device.proofs.Out.{out_more}
+use Rattle.new_device.specs.Out.{Ticket}
+use Rattle.new_class_disk.specs.inside.Rooms.{AllOut}
+use Rattle.new_class_disk.proofs.Rooms.{out_more}
 use Rattle.machine.specs.State.{OpenRequest}
 use Rattle.new_class_disk.specs.declared.parts.TransferPacket.{TransferPacket}
 use Rattle.new_class_disk.specs.declared.parts.Outcome.{Outcome}
@@ -30,7 +31,7 @@ use Rattle.new_class_disk.specs.inside.Parts.{ticket_for}
 
 -- THE ROOM OF A PACKET THAT IS HANDED UP is out again
 pub out_handed : {takes : Bool} (v : DeviceView) (climb : Climb) (packet : TransferPacket) (v' : DeviceView) (h : HandsUp takes v climb packet.room.spot v')
-    → takes ≡ true → IsOrderly v' → (others : List Ticket) → AreOut v others → AreOut v' (ticket_for h.request packet ∷ others)
+    → takes ≡ true → IsOrderly v' → (others : List Ticket) → AllOut v others → AllOut v' (ticket_for h.request packet ∷ others)
 out_handed v climb packet v' h takes_srb ordered others out =
     out_more v v' packet.room.spot (whole_for h.request) others ordered
     (subst (λ w. SetsRoom v.rooms packet.room.spot None (Some (record { request = h.request; whole = w })) v'.rooms) (h.is_whole takes_srb) h.room) out

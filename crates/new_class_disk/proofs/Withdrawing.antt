@@ -29,8 +29,9 @@ use Rattle.new_class_disk.specs.inside.Driver.{places_of, note, note_by, known, 
 use Rattle.new_class_disk.specs.Opening.{most_over}
 use Rattle.new_class_disk.specs.inside.Owners.{slot_at, place_at, IsOwnedBy, AreOwnedFrom}
 use Rattle.new_class_disk.specs.inside.Parts.{payload_in, ticket_for}
-use Rattle.new_device.specs.Out.{Ticket, AreOut}
-use Rattle.new_device.proofs.Out.{out_any_order}
+use Rattle.new_device.specs.Out.{Ticket}
+use Rattle.new_class_disk.specs.inside.Rooms.{AllOut}
+use Rattle.new_class_disk.proofs.Rooms.{out_any_order}
 use Rattle.new_class_disk.specs.declared.parts.TransferPacket.{TransferPacket}
 use Rattle.new_class_disk.specs.declared.parts.PartId.{PartId}
 use Rattle.new_class_disk.specs.inside.Midway.{IsTaking, IsMidway, WithdrawsOne}
@@ -115,7 +116,7 @@ busy_middle (Kept ms n ∷ front) x y back e = let r = busy_middle front x y bac
 
 module _ {takes : Bool} (v : DeviceView) (b : Books) (climb : Climb) (spot : ℕ) (v' : DeviceView)
     (h : HandsUp takes v climb spot v') (ordered : IsOrderly v) (packet : TransferPacket) (payload_is : payload_in packet ≡ h.payload)
-    (rooms_step : (others : List Ticket) → AreOut v others → AreOut v' (ticket_for h.request packet ∷ others)) (told : NtStatus) (told_is : told ≡ h.status)
+    (rooms_step : (others : List Ticket) → AllOut v others → AllOut v' (ticket_for h.request packet ∷ others)) (told : NtStatus) (told_is : told ≡ h.status)
     (d : Handed b h.packet.number h.packet.spot) where
   abbrev withdrawn : Ended
   withdrawn = record { packet = packet; outcome = Withdrawn told }
@@ -357,9 +358,9 @@ module _ {takes : Bool} (v : DeviceView) (b : Books) (climb : Climb) (spot : ℕ
         subst (λ (r : Rules). IsMidway NeverSent first (labels ++ h.starts) (record v' { rules = r }) books_then) (sym h.moves.same_rules) (record {
           port = m.port;
           taking = taking_then;
-          rooms_out = subst (λ (u : Rules). AreOut (record v' { rules = u }) (tickets books_then)) h.moves.same_rules (out_any_order v' _ _ (IsPermutation-trans _ _ _ (IsPermutation-sym _ _ (IsPermutation-middle (tickets_held b.held) (ticket_for d.part.request packet) (tickets_open (all_open b))))
+          rooms_out = subst (λ (u : Rules). AllOut (record v' { rules = u }) (tickets books_then)) h.moves.same_rules (out_any_order v' _ _ (IsPermutation-trans _ _ _ (IsPermutation-sym _ _ (IsPermutation-middle (tickets_held b.held) (ticket_for d.part.request packet) (tickets_open (all_open b))))
               (IsPermutation-append_right (tickets_held b.held) _ _ (rooms_now rules b slot place d.o d.part h.packet.number h.packet.spot s withdrawn)))
-              (subst (λ q. AreOut v' (ticket_for q packet ∷ tickets b)) (sym same_request) (rooms_step _ m.rooms_out)));
+              (subst (λ q. AllOut v' (ticket_for q packet ∷ tickets b)) (sym same_request) (rooms_step _ m.rooms_out)));
           kept = kept_now rules b slot place d.o d.part h.packet.number h.packet.spot s withdrawn m.kept (λ good. absurd (cc (good))) (λ good. absurd (cc (good)))
               (let e = same_notes in omega arith) cause_then;
           below = below_then;

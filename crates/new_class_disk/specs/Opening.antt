@@ -18,6 +18,7 @@ pub record IsFreshPort (v : DeviceView) : Type 0 where
   pub port : IsPort v.rules
   pub state : v.state ≡ opening v.state.arrays
   pub packets : v.packets ≡ []
+  pub rooms : v.rooms ≡ []
   pub submitted : v.submitted ≡ 0
 
 -- what the class driver shows over it: the same machine by its own rules, with nothing reserved

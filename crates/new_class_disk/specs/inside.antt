@@ -2,6 +2,7 @@ pub mod Joint
 pub mod Kept
 pub mod Blocks
 pub mod Parts
+pub mod Rooms
 pub mod Owners
 pub mod Books
 pub mod Turns

@@ -9,7 +9,8 @@ ghost use Rattle.srb.specs.declared.Kind.TheVariants.{Write};
 ghost use Rattle.machine.specs.State.{State};
 ghost use Rattle.srb.specs.declared.DeviceLabel.{DeviceLabel};
 ghost use Rattle.new_device.specs.View.{IsBounded, IsOrderly, IsReserved};
-ghost use Rattle.new_device.specs.Out.{Ticket, AreOut};
+ghost use Rattle.new_device.specs.Out.{Ticket};
+ghost use Rattle.new_class_disk.specs.inside.Rooms.{AllOut};
 ghost use Rattle.new_device.specs.Served.{Frees};
 ghost use Rattle.new_class_disk.specs.declared.parts.Part.{Part};
 ghost use Rattle.new_class_disk.specs.declared.parts.Place.{Place};
@@ -119,11 +120,11 @@ impl<D: Device> Extension<D> {
 
     /// Gives the rooms of parts back.
     pub fn free_parts(&mut self, mut parts: Vec<Part>)
-        requires out { (others : List Ticket) × AreOut (D.view self.old.device) (tickets_of parts.items ++ others) }
+        requires out { (others : List Ticket) × AllOut (D.view self.old.device) (tickets_of parts.items ++ others) }
         requires here { All IsHere parts.items }
         ensures table { self.new.table ≡ self.old.table }
-        ensures out { (others : List Ticket) → AreOut (D.view self.old.device) (tickets_of parts.items ++ others)
-            → AreOut (D.view self.new.device) others }
+        ensures out { (others : List Ticket) → AllOut (D.view self.old.device) (tickets_of parts.items ++ others)
+            → AllOut (D.view self.new.device) others }
         ensures same { ChangesRooms (D.view self.old.device) (D.view self.new.device) }
     {
         while let Some(part) = parts.pop() {
@@ -138,7 +139,7 @@ impl<D: Device> Extension<D> {
         slot: usize,
         parts: &mut Vec<Part>,
     ) -> Result<(), AllocError>
-        requires in_order { IsOrderly (D.view self.old.device) }
+        requires in_order { (others : List Ticket) × AllOut (D.view self.old.device) others }
         requires cuts { CanCut self.old.table.sizes (D.view self.old.device).rules request.now }
         requires none { parts.old.items ≡ [] }
         requires places { part_count_of self.old.table.sizes.max_transfer request.now ≤ vec_capacity parts.old }
@@ -167,7 +168,7 @@ impl<D: Device> Extension<D> {
 
     /// Places for all parts of the request in a slot.
     pub fn reserve_parts(&mut self, request: &Request, slot: usize) -> Result<Vec<Part>, AllocError>
-        requires in_order { IsOrderly (D.view self.old.device) }
+        requires in_order { (others : List Ticket) × AllOut (D.view self.old.device) others }
         requires cuts { CanCut self.old.table.sizes (D.view self.old.device).rules request.now }
         ensures table { self.new.table ≡ record self.old.table { owners = self.new.table.owners } }
         ensures parts { IfOk result (λ parts. AreNewParts self.old.table.sizes request.now

@@ -11,7 +11,8 @@ use Rattle.machine.specs.Marks.{AreCounted}
 use Rattle.machine.specs.Settled.{Settled}
 use Rattle.new_device.specs.View.{DeviceView, IsTopmost, Packet, Carries, packet_of, payload_bytes, sent_bytes}
 use Rattle.new_device.specs.View.{transfer_length, IsOrderly, IsBounded}
-use Rattle.new_device.specs.Out.{Ticket, AreOut}
+use Rattle.new_device.specs.Out.{Ticket}
+use Rattle.new_class_disk.specs.inside.Rooms.{AllOut}
 use Rattle.new_class_disk.specs.inside.Owners.{AreOwnedFrom}
 use Rattle.new_device.specs.Served.{sectors_moved, IsUnfinished, IsAt}
 use Rattle.new_class_disk.specs.declared.parts.Part.{Part}
@@ -287,7 +288,7 @@ pub record IsInHand (v : DeviceView) (b : Books) : Type 0 where
   pub sound : IsSound v.state
   pub counted : AreCounted v.rules v.state
   pub coupled : IsCoupled v b
-  pub rooms_out : AreOut v (tickets b)
+  pub rooms_out : AllOut v (tickets b)
   -- nothing that has ended waits below
   pub unfinished : All (IsUnfinished v.rules v.state) v.state.requests
   pub settled : Settled v.rules v.state

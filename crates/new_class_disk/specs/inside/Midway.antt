@@ -11,7 +11,8 @@ use Rattle.machine.specs.Sending.{IsStart}
 use Rattle.machine.specs.Step.{Run, as_label}
 use Rattle.new_device.specs.View.{DeviceView, Carries, IsBounded, packet_of, packet_spot, IsTopmost, IsOrderly}
 use Rattle.new_device.specs.View.{whole_for}
-use Rattle.new_device.specs.Out.{Ticket, AreOut, ticket_spot}
+use Rattle.new_device.specs.Out.{Ticket, ticket_spot}
+use Rattle.new_class_disk.specs.inside.Rooms.{AllOut}
 use Rattle.new_device.specs.Served.{Reserves, Submits, StaysOpen, HandsUpNone, CancelsAt}
 use Rattle.new_class_disk.specs.declared.parts.Part.{Part}
 use Rattle.new_class_disk.specs.declared.parts.Place.{Place}
@@ -65,7 +66,7 @@ pub record IsMidway (Is : OpenRequest → Type 0) (first : State) (labels : List
     (v : DeviceView) (b : Books) : Type 0 where
   pub port : IsPort v.rules
   pub taking : IsTaking (class_rules v.rules) first labels v.state (knowns (class_rules v.rules) b)
-  pub rooms_out : AreOut v (tickets b)
+  pub rooms_out : AllOut v (tickets b)
   pub kept : AreKept (class_rules v.rules) b
   pub below : AreBelow v b
   pub ended : EndedAre Is v.rules v.state
@@ -177,21 +178,21 @@ StaysOwned old new spot = spot < length old → owner_at new spot ≡ owner_at o
 pub record StaysTaken (v : DeviceView) (owners : List PartId) (v' : DeviceView) (owners' : List PartId) : Type 0 where
   pub reserves : Reserves v v'
   pub longer : length owners ≤ length owners'
-  pub held : (others : List Ticket) → AreOut v others → All (StaysOwned owners owners') (map ticket_spot others)
+  pub held : (others : List Ticket) → AllOut v others → All (StaysOwned owners owners') (map ticket_spot others)
   pub below : All (StaysOwned owners owners') (map packet_spot v.packets)
 
 -- no room is made
 pub record MakesNone (v : DeviceView) (owners : List PartId) (v' : DeviceView) (owners' : List PartId) : Type 0 where
   pub stays : StaysTaken v owners v' owners'
-  pub out : (others : List Ticket) → AreOut v others → AreOut v' others
+  pub out : (others : List Ticket) → AllOut v others → AllOut v' others
 
 -- a room is made for this request, and it is this part's
 pub record MakesRoom
     (v : DeviceView) (owners : List PartId) (id : PartId) (request : Request) (spot : ℕ)
     (v' : DeviceView) (owners' : List PartId) : Type 0 where
   pub stays : StaysTaken v owners v' owners'
-  pub out : (others : List Ticket) → AreOut v others
-      → AreOut v' (record { spot = spot; reserved = whole_for request } ∷ others)
+  pub out : (others : List Ticket) → AllOut v others
+      → AllOut v' (record { spot = spot; reserved = whole_for request } ∷ others)
   pub owned : IsOwner owners' spot id.slot id.part
 
 -- parts are made for a request in a slot, of which the first is at this place: their rooms are out below, beside the
@@ -199,7 +200,7 @@ pub record MakesRoom
 pub record MakesParts (v : DeviceView) (owners : List PartId) (slot k : ℕ) (parts : List Part)
     (v' : DeviceView) (owners' : List PartId) : Type 0 where
   pub stays : StaysTaken v owners v' owners'
-  pub out : (others : List Ticket) → AreOut v others → AreOut v' (tickets_of parts ++ others)
+  pub out : (others : List Ticket) → AllOut v others → AllOut v' (tickets_of parts ++ others)
   pub owned : AreOwnedFrom owners' slot k parts
 
 -- WHAT A CALL BELOW ASKS FOR
@@ -207,7 +208,7 @@ pub record MakesParts (v : DeviceView) (owners : List PartId) (slot k : ℕ) (pa
 -- a packet can be submitted below, with this room
 pub record CanSubmit (v : DeviceView) (b : Books)
     (packet : TransferPacket) (others : List Ticket) (request : Request) : Type 0 where
-  pub rooms_out : AreOut v (ticket_for request packet ∷ others)
+  pub rooms_out : AllOut v (ticket_for request packet ∷ others)
   pub not_removing : IsFalse v.state.removing
   pub number : v.state.next_request ≤ b.next_packet
   pub few : v.submitted < v.most
@@ -265,7 +266,7 @@ pub record IsOpening (v : DeviceView) (b : Books) (slot k : ℕ) : Type 0 where
   pub others_are : IsPermutation b.opens ((slot, o) ∷ others)
   pub not_cancelled : IsFalse o.irp.cancelled
   pub staying : IsFalse b.removing
-  pub rooms_out : AreOut v (tickets b)
+  pub rooms_out : AllOut v (tickets b)
   pub ready_from : AreReady (drop k o.parts)
   pub sent : All IsDown (take k o.parts)
   -- what is kept but that all parts of this request were sent

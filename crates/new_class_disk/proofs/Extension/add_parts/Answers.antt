@@ -20,7 +20,7 @@ loop-k-init g c = record {
 
 pub returns-in_err-part-clause-makes : goal.returns-in_err-part-clause-makes
 returns-in_err-part-clause-makes g c =
-    no_more _ _ _ _ _ _ c.args.slot c.loop-k.parts.items c.requires.in_order
+    no_more _ _ _ _ _ _ c.args.slot c.loop-k.parts.items c.requires.in_order.0 c.requires.in_order.1
     (new_here c.args.self.now.table.sizes c.args.request.now _ c.loop-k.parts.items c.loop-k.invariant.parts) c.loop-k.invariant.makes c.in_err-part.ensures.refused
 
 pub loop-k-preserved : goal.loop-k-preserved
@@ -39,7 +39,7 @@ loop-k-preserved g c = record {
       (ap (λ (t : Table). t.sizes) c.loop-k.invariant.table) c.part_request-below.ensures c.in_ok-part.ensures.part);
   places = subst (λ n. c.part_count-k-end.result ≤ n) (sym c.push_reserved.ensures.capacity) c.loop-k.invariant.places;
   makes =
-      one_more _ _ _ _ _ _ c.args.slot c.loop-k.k c.push_reserved.new.self.items c.loop-k.parts.items c.in_ok-part.part c.requires.in_order
+      one_more _ _ _ _ _ _ c.args.slot c.loop-k.k c.push_reserved.new.self.items c.loop-k.parts.items c.in_ok-part.part c.requires.in_order.0 c.requires.in_order.1
       (new_here c.args.self.now.table.sizes c.args.request.now _ c.loop-k.parts.items c.loop-k.invariant.parts) c.push_reserved.ensures.items
       (sym c.loop-k.invariant.parts.long) c.loop-k.invariant.makes c.in_ok-part.ensures.makes;
 }

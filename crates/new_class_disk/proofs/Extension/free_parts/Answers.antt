@@ -2,7 +2,7 @@
 use Rattle.std.proofs.Common.{◌∙◌, Some, refl, ap}
 use Rattle.std.proofs.lemmas.List.Elements.{All-pop}
 use Rattle.new_device.specs.View.{DeviceView, whole_for}
-use Rattle.new_device.proofs.Out.{out_less, out_first}
+use Rattle.new_class_disk.proofs.Rooms.{out_less, out_first}
 use Rattle.new_class_disk.specs.inside.Parts.{IsHere, ticket_for}
 use Rattle.new_class_disk.proofs.PartRooms.{part_ticket, taken_off}
 use Rattle.new_class_disk.proofs.Extension.free_parts.Goals as goal

@@ -1,8 +1,8 @@
-use Rattle.std.proofs.Common.{[], sym, subst}
+use Rattle.std.proofs.Common.{sym, subst}
 use Rattle.new_class_disk.specs.declared.table.Table.{Table}
 use Rattle.new_class_disk.specs.inside.Midway.{MakesNone}
 use Rattle.new_class_disk.proofs.NewParts.{new_here}
-use Rattle.new_class_disk.proofs.Making.{none_asked, none_out, all_back}
+use Rattle.new_class_disk.proofs.Making.{none_asked, all_back}
 use Rattle.new_class_disk.proofs.Reserving.{on_err}
 use Rattle.new_class_disk.proofs.Extension.reserve_parts.Goals as goal
 
@@ -10,7 +10,7 @@ pub returns-in_err-parts-clause-refused : goal.returns-in_err-parts-clause-refus
 returns-in_err-parts-clause-refused g c = on_err _ (none_asked _ _)
 
 pub free_parts-requires-clause-out : goal.free_parts-requires-clause-out
-free_parts-requires-clause-out g c = ([], c.add_parts-added.ensures.makes.out [] (none_out _ c.requires.in_order))
+free_parts-requires-clause-out g c = (c.requires.in_order.0, c.add_parts-added.ensures.makes.out c.requires.in_order.0 c.requires.in_order.1)
 
 pub free_parts-requires-clause-here : goal.free_parts-requires-clause-here
 free_parts-requires-clause-here g c = new_here c.args.self.now.table.sizes c.args.request.now _ _ c.add_parts-added.ensures.parts

@@ -34,7 +34,7 @@ returns-in_err-slot-clause-refused g c =
     on_err _ h
 
 pub reserve_parts-requires-clause-in_order : goal.reserve_parts-requires-clause-in_order
-reserve_parts-requires-clause-in_order g c = c.self.invariant.in_hand.rooms_out.orderly
+reserve_parts-requires-clause-in_order g c = (_, c.self.invariant.in_hand.rooms_out)
 
 pub reserve_parts-requires-clause-cuts : goal.reserve_parts-requires-clause-cuts
 reserve_parts-requires-clause-cuts g c =
