@@ -16,7 +16,7 @@ use Rattle.judge.specs.Next.{AreNext}
 use Rattle.judge.specs.Judging.{AreReached, IsRun}
 use Rattle.judge.specs.declared.label_rules.Rule.{Rule}
 use Rattle.judge.specs.Breaking.{HasStep, IsReached, Breaks}
-use Rattle.judge.specs.Following.{JudgeView, HasTaken, Takes, IsRefused, Refuses, AllReached, HasNoStep, BreaksThere, StopsAll, Goes, SomeGoes}
+use Rattle.judge.specs.Following.{JudgeView, HasTaken, Takes, GoesTo, AreAlike, IsRefused, Refuses, AllReached, HasNoStep, BreaksThere, StopsAll, Goes, SomeGoes}
 use Rattle.judge.specs.LabelRuling.{IsReadOf, label_rule, goes_by, rule_of_first, rule_of_all}
 use Rattle.judge.proofs.Named.{none_any}
 use Rattle.judge.proofs.Broken.{exactly, breaks}
@@ -43,15 +43,24 @@ module _ (j : JudgeView) where
       let run : Run j.rules (opening arrays) labels goes.1 = All-contains (Run j.rules (opening arrays) labels) j.states goes.1 h.reached.each (goes.0, goes.2, goes.3) in
       (goes.4.0, Run-append j.rules (opening arrays) labels goes.1 (label ∷ []) goes.4.0 run (goes.4.0, goes.4.1, IsSame-refl goes.4.0))
 
-  pub goes_on : (label : Label) (new : JudgeView) → new.rules ≡ j.rules → AreNext j.rules label j.states new.states → (arrays : List (List (List ℕ))) (labels : List Label) → HasTaken j arrays labels
+  pub goes_on : (label : Label) (new : JudgeView) → new.rules ≡ j.rules → GoesTo j label new → (arrays : List (List (List ℕ))) (labels : List Label) → HasTaken j arrays labels
       → SomeGoes j.rules j.states label → HasTaken new arrays (labels ++ label ∷ [])
-  goes_on label new same (command, means, e) arrays labels h goes = record {
+  goes_on label new same (all, (command, means, e), alike) arrays labels h goes = record {
     reached = subst (λ r. AreReached r (opening arrays) (labels ++ label ∷ []) new.states) (sym same) after;
     some = more (after.all last.0 last.1);
   }
     where
+      reached_once : AreReached j.rules (opening arrays) (labels ++ label ∷ []) all → AreReached j.rules (opening arrays) (labels ++ label ∷ []) new.states
+      reached_once r = record {
+        each = λ k d low. All-contains (Run j.rules (opening arrays) (labels ++ label ∷ [])) all (get_or new.states k d) r.each (alike.given (get_or new.states k d) (Contains-get_or new.states k d low));
+        all = λ s' run. there s' (r.all s' run);
+      }
+        where
+          there : (s' : State) → Any (IsSame s') all → Any (IsSame s') new.states
+          there s' any = let c : Contains new.states any.1 = alike.kept any.1 (any.0, any.2, any.3) in (c.0, any.1, c.1, c.2, any.4)
+
       after : AreReached j.rules (opening arrays) (labels ++ label ∷ []) new.states
-      after = subst (λ ss. AreReached j.rules (opening arrays) (labels ++ label ∷ []) ss) (sym e) (reached_more j.rules arrays labels label command means j.states h.reached)
+      after = reached_once (subst (λ ss. AreReached j.rules (opening arrays) (labels ++ label ∷ []) ss) (sym e) (reached_more j.rules arrays labels label command means j.states h.reached))
 
       last : IsRun j.rules (opening arrays) (labels ++ label ∷ [])
       last = some_run arrays labels label h goes

@@ -23,3 +23,4 @@ pub mod Broken
 pub mod Followed
 pub mod Differing
 pub mod Leaving
+pub mod Alike

@@ -1,10 +1,11 @@
 -- Labels that are judged one by one.
-use Rattle.std.specs.Prelude.{◌≡◌, ◌<◌, ℕ, List, [], ◌∷◌, ◌++◌, length, All, Any}
+use Rattle.std.specs.Prelude.{◌≡◌, ◌<◌, ◌⊎◌, ℕ, List, [], ◌∷◌, ◌++◌, length, All, Any, Contains}
 use Rattle.machine.specs.declared.Label.{Label}
 use Rattle.machine.specs.Rules.{Rules}
 use Rattle.machine.specs.State.{State, opening}
 use Rattle.machine.specs.Step.{Run}
 use Rattle.judge.specs.Judging.{AreReached, IsRun}
+use Rattle.judge.specs.Next.{AreNext}
 use Rattle.judge.specs.declared.label_rules.Rule.{Rule}
 use Rattle.judge.specs.Breaking.{HasStep, IsReached, Breaks}
 
@@ -17,6 +18,22 @@ pub record JudgeView : Type 0 where
 pub record HasTaken (j : JudgeView) (arrays : List (List (List ℕ))) (labels : List Label) : Type 0 where
   pub reached : AreReached j.rules (opening arrays) labels j.states
   pub some : 0 < length j.states
+
+-- the same states, each as often as may be
+pub record AreAlike (states once : List State) : Type 0 where
+  pub kept : (s : State) → Contains states s → Contains once s
+  pub given : (s : State) → Contains once s → Contains states s
+
+-- a state is added, or was there
+abbrev pub AddsOnce : List State → State → List State → Type 0
+AddsOnce old s new = (new ≡ old ++ s ∷ []) ⊎ (Contains old s × (new ≡ old))
+
+-- the states that the label leads to, or as many as differ
+abbrev pub GoesOnceTo : Rules → Label → List State → List State → Type 0
+GoesOnceTo rules label states once = (all : List State) × AreNext rules label states all × AreAlike all once
+
+abbrev pub GoesTo : JudgeView → Label → JudgeView → Type 0
+GoesTo old label new = GoesOnceTo old.rules label old.states new.states
 
 -- one label more is taken
 abbrev pub Takes : JudgeView → Label → JudgeView → Type 0

@@ -70,7 +70,7 @@ fn broken_tag(depth: u32, pieces: &[Started], tag: u8) -> Option<StartRule>
 }
 
 /// Whether two kinds are the same.
-fn same_kind(a: Kind, b: Kind) -> bool
+pub(crate) fn same_kind(a: Kind, b: Kind) -> bool
     ensures { result ≡ same_kind a b }
 {
     match (a, b) {

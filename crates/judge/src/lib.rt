@@ -7,6 +7,13 @@
 //! Most labels lead to one state at most. A start may lead to several, one for each request that may make it: the blocks of
 //! two flushes, or of two reads of one sector, are the same. The checker follows each of them.
 //!
+//! `Machine::broken` names a rule that a label breaks: none exactly where some step goes by it (`exact`), else one that it
+//! breaks there (`breaks`), which refutes each step (`breaking_refutes`). [`stepwise::Judge`] takes labels one by one
+//! (`taken`, `refused`). `Machine::undone` names what a state that isn't settled leaves undone (`exact`, `left`).
+//!
+//! Requests are cut as this stack cuts them: pieces begin at multiples of the longest transfer, and what came back busy
+//! restarts as often as the busy limit allows. A stack that cuts elsewhere is refused for it.
+//!
 //! It doesn't promise to be fast, and `NoVerdict` meets any contract: tests show verdicts.
 #![tactic(auto)]
 
@@ -31,6 +38,7 @@ mod piece_rules;
 mod pieces;
 mod places;
 mod rules;
+mod sameness;
 mod sectors;
 mod settling;
 mod start_rules;

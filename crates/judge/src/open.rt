@@ -19,6 +19,7 @@ use crate::copies::{Copied, all_copied, request_copied};
 use crate::lists::{part, spliced};
 use crate::places::Place;
 use crate::rules::MachineRules;
+use crate::sameness::{Compared, all_same, are_same_requests};
 use machine::{ClientRequest, Kind};
 use ntstatus::NtStatus;
 use sector::Extent;
@@ -433,5 +434,18 @@ impl Copied for Open {
             busy_returns: self.busy_returns,
             marks: all_copied(alloc, self.marks.as_slice())?,
         })
+    }
+}
+
+impl Compared for Open {
+    fn is_same(&self, other: &Open) -> bool {
+        if self.number != other.number || self.busy_returns != other.busy_returns {
+            return false;
+        }
+        if self.cancelled != other.cancelled || self.late != other.late {
+            return false;
+        }
+        are_same_requests(&self.request, &other.request)
+            && all_same(self.marks.as_slice(), other.marks.as_slice())
     }
 }

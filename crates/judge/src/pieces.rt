@@ -1,6 +1,7 @@
 //! Pieces at the adapter.
 
 ghost use Rattle.std.specs.Prelude.{◌≡◌, IfOk, map, option_map};
+ghost use Rattle.std.specs.Bool.{OnTrue};
 ghost use Rattle.machine.specs.State.{Done};
 ghost use Rattle.srb.specs.Fate.{Acted, Faulted, is_fresh, class_of};
 ghost use Rattle.machine.specs.Sending.{with_fate, status_of_completion};
@@ -13,6 +14,7 @@ ghost use Rattle.judge.specs.Views.{fresh_piece, fate_of};
 use crate::copies::{Copied, all_copied};
 use crate::open::alike;
 use crate::places::Place;
+use crate::sameness::{Compared, all_same};
 use ntstatus::NtStatus;
 use sector::{Bytes, Extent};
 use srb::{Class, Completion};
@@ -223,5 +225,29 @@ impl Copied for Started {
             places: self.places,
             deed,
         })
+    }
+}
+
+/// Whether two deeds are the same.
+fn are_same_deeds(a: &Deed, b: &Deed) -> bool
+    ensures { OnTrue result (fate_of a.now ≡ fate_of b.now) }
+{
+    match (a, b) {
+        (Deed::Fresh, Deed::Fresh) => true,
+        (Deed::Acted(a), Deed::Acted(b)) => all_same(a.as_slice(), b.as_slice()),
+        (Deed::Faulted, Deed::Faulted) => true,
+        _ => false,
+    }
+}
+
+impl Compared for Started {
+    fn is_same(&self, other: &Started) -> bool {
+        if self.number != other.number || self.tag != other.tag || self.owner != other.owner {
+            return false;
+        }
+        if self.places.first != other.places.first || self.places.count != other.places.count {
+            return false;
+        }
+        are_same_deeds(&self.deed, &other.deed)
     }
 }

@@ -12,6 +12,7 @@ ghost use Rattle.judge.specs.StartRuling.{sent_as};
 ghost use Rattle.judge.specs.Deciding.{ended_by, cause_by, same_status};
 
 use crate::copies::Copied;
+use crate::sameness::Compared;
 use crate::start_rules::Hindrance;
 use ntstatus::NtStatus;
 use sector::Bytes;
@@ -221,5 +222,18 @@ impl Copied for Place {
             Marked::Back => Marked::Back,
         };
         Ok(Place { marked })
+    }
+}
+
+impl Compared for Place {
+    fn is_same(&self, other: &Place) -> bool {
+        match (&self.marked, &other.marked) {
+            (Marked::Untouched, Marked::Untouched) => true,
+            (Marked::Out, Marked::Out) => true,
+            (Marked::Done(a), Marked::Done(b)) => a.is_same(b),
+            (Marked::Failed(a), Marked::Failed(b)) => are_same(*a, *b),
+            (Marked::Back, Marked::Back) => true,
+            _ => false,
+        }
     }
 }

@@ -1,14 +1,13 @@
 //! Labels judged one by one.
 //!
-//! A [`Judge`] follows each reading of the labels, as [`crate::judge`] does, and keeps what is open, what is at the adapter and
-//! the sectors: a trace of any length needs no more.
+//! A [`Judge`] follows each reading of the labels, as [`crate::judge`] does. Readings that came to the same machine go on as
+//! one. It keeps what is open, what is at the adapter and the sectors: a longer trace needs no more.
 
 ghost use Rattle.std.specs.Prelude.{◌≡◌, ◌<◌, IfOk, OnOk, IfErr, MatchOption, Result, [], length, ◌↔◌, None, Any, IfSome};
-ghost use Rattle.judge.specs.Following.{HasTaken, Takes, AllReached, SomeGoes, StopsAll};
+ghost use Rattle.judge.specs.Following.{HasTaken, Takes, GoesTo, GoesOnceTo, AllReached, SomeGoes, StopsAll};
 ghost use Rattle.std.specs.List.{list_any};
 ghost use Rattle.judge.specs.LabelRuling.{goes_by, rule_of_all};
 ghost use Rattle.judge.specs.LeftUndone.{IsSettled, Leaves};
-ghost use Rattle.judge.specs.Next.{AreNext};
 ghost use Rattle.judge.specs.Settling.{is_settled};
 ghost use Rattle.judge.specs.Undoing.{undone_at_all};
 ghost use Rattle.judge.specs.Refusals.{IsRefusal, Keeps};
@@ -19,6 +18,7 @@ use crate::breaking::read_of;
 use crate::label_rules::Rule;
 use crate::machine_state::{Machine, Sectors};
 use crate::rules::MachineRules;
+use crate::sameness::distinct;
 use crate::steps::all_next;
 use crate::undone_rules::Undone;
 use cdb::{Cdb, CdbFault};
@@ -86,6 +86,20 @@ fn broken_at_all(
         Some(machine) => machine.broken_by(rules, read, label),
         None => None,
     }
+}
+
+/// The machines that the label leads to from these; readings that came to the same machine go on as one.
+fn next_once(
+    alloc: Global,
+    rules: &MachineRules,
+    label: &Label,
+    machines: Vec<Machine>,
+) -> Result<Vec<Machine>, NoVerdict>
+    ensures { IfOk result (λ once. GoesOnceTo (rules_of rules.now) label.now machines.items once.items) }
+{
+    let all = all_next(alloc, rules, label, machines)?;
+    let once = distinct(alloc, all)?;
+    Ok(once)
 }
 
 /// Whether some of the machines is settled.
@@ -169,10 +183,10 @@ impl Judge {
     /// Goes on by a label; nothing is left where there is no memory.
     fn go(&mut self, alloc: Global, label: &Label) -> Result<(), NoVerdict>
         ensures rules { self.new.rules ≡ self.old.rules }
-        ensures next { OnOk result (AreNext self.old.rules label.now self.old.states self.new.states) }
+        ensures next { OnOk result (GoesTo self.old label.now self.new) }
     {
         let machines = mem::replace(&mut self.machines, Vec::new(alloc));
-        self.machines = all_next(alloc, &self.rules, label, machines)?;
+        self.machines = next_once(alloc, &self.rules, label, machines)?;
         Ok(())
     }
 

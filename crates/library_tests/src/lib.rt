@@ -4,6 +4,8 @@
 #![tactic(auto)]
 
 #[cfg(test)]
+mod broken_rules;
+#[cfg(test)]
 mod documents;
 #[cfg(test)]
 mod expect;

@@ -3,7 +3,7 @@ use Rattle.std.proofs.Common.{◌≡◌, ◌≤◌, ◌<◌, ◌+◌, ◌-◌, i
 use Rattle.std.specs.Prelude.{codes, IsPermutation}
 use Rattle.std.proofs.lemmas.List.{append_assoc, append-nil, drop_all, length-drop, take_more}
 use Rattle.std.proofs.lemmas.List.Sorted.{length_permutation}
-use Rattle.std.specs.Io.KnownBytes.{Appends, Keeps as KeepsBytes, append_known}
+use Rattle.std.specs.Io.KnownBytes.{Keeps as KeepsBytes, append_known}
 use Rattle.machine.specs.declared.Label.{Label}
 use Rattle.machine.specs.declared.Label.TheVariants.{Call, Device, Answer as AnswerLabel, Cancel, Pause, Resume, Remove, Surprise, Removed}
 use Rattle.machine.specs.Step.{as_label}

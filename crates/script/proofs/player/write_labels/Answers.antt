@@ -1,4 +1,4 @@
-use Rattle.script.proofs.PrintedLabels.{all_taken, all_written, none_written, step_written}
+use Rattle.script.proofs.PrintedLabels.{none_written, step_written}
 use Rattle.script.proofs.player.write_labels.Goals as goal
 
 pub loop-label-init : goal.loop-label-init

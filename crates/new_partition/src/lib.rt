@@ -1,0 +1,77 @@
+//! The partition driver: one volume for each partition of a disk, over the layer that has the whole disk as its one
+//! volume.
+//!
+//! Promises to the layer above, by the contract of [`Device`]: the machine of the layer below, with one array a
+//! partition (`shown_of`), which [`Partitions::new`] opens (`opening`). Sector i of a partition is the disk's sector
+//! `first + i` (`on_disk`); requests keep their numbers and their spots. No act changes a sector of another partition
+//! (`acts`) or one of none (`outside`). Each call passes on to the layer below with no search. What a spot is reserved
+//! for stands in an array by spots, which `reserve` lengthens; no other call takes memory. Over a layer that holds
+//! requests it is one too ([`new_device::Hold`]).
+//!
+//! Doesn't promise more than the layer below: that a packet comes back, and in which order.
+#![tactic(auto)]
+
+ghost use Rattle.std.specs.Prelude.{◌≡◌, ◌<◌};
+ghost use Rattle.new_partition.specs.Opening.{IsFreshDisk, opening_view};
+
+mod layer;
+mod locations;
+mod wanted;
+
+use arrayvec::ArrayVec;
+use new_device::{Device, Request, Shown};
+use sector::Extent;
+use std::alloc::Global;
+use std::marker::Model;
+
+/// The layer below with its partitions, which are in order between two calls and not within one.
+#[derive(Drop)]
+struct Parts<D: Shown> {
+    device: D,
+    /// In table order.
+    table: ArrayVec<Extent, 4>,
+    /// By spots, the request that the spot was last reserved for.
+    wanted: Vec<Option<Request>>,
+}
+
+/// The partitions of a disk.
+pub struct Partitions<D: Shown> {
+    parts: Parts<D>,
+}
+
+// By hand, so that no crate above proves it again, as it would a derived one.
+impl<D: Shown> Drop for Partitions<D> {
+    fn drop(self) {
+        let Partitions { parts: _ } = self;
+    }
+}
+
+impl<D: Shown> Model for Partitions<D> {
+    ghost use Rattle.new_device.specs.View.{DeviceView};
+    ghost use Rattle.new_partition.specs.Shown.{shown_of};
+    ghost use Rattle.new_partition.specs.Kept.{IsKept};
+
+    ghost Value = { DeviceView };
+
+    ghost view = { λ s. shown_of s.parts.table.items s.parts.wanted.items (D.view s.parts.device) };
+
+    ghost invariant = { λ s. IsKept D.stack_size s.parts.table.items s.parts.wanted.items (D.view s.parts.device) };
+}
+
+impl<D: Device> Partitions<D> {
+    /// The partitions of a table, each a volume by its number in the table, over a disk of which nothing was asked yet.
+    /// The extents lie in the disk, behind its first sector, and share no sector.
+    pub fn new(alloc: Global, device: D, table: ArrayVec<Extent, 4>) -> Partitions<D>
+        requires locations { 0 < D.stack_size }
+        requires fresh { IsFreshDisk table.items (D.view device) }
+        ensures opening { result ≡ opening_view table.items (D.view device) }
+    {
+        device.shows_order();
+        let parts = Parts {
+            device,
+            table,
+            wanted: Vec::new(alloc),
+        };
+        Partitions { parts }
+    }
+}
