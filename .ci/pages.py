@@ -1,7 +1,7 @@
 #!/usr/bin/env python3
 """Runs each example of the pages: the indented lines that begin with `./` or `$ `, from the top of the repository.
 
-A command has to end with status 0. What stands behind it in its block is all that it prints; so is the next block where
+A command has to end with status 0, or with that of the text behind its block ('status 1'). What stands behind it in its block is all that it prints; so is the next block where
 the text before that ends with 'It prints:', and 'It begins:' gives the first lines alone. Lines with a word in capitals
 show a form and are not run; nor are `./stackrun build` and `./stackrun test`, which the gate runs by itself."""
 
@@ -12,24 +12,26 @@ import subprocess
 import sys
 
 TOP = os.path.dirname(os.path.dirname(os.path.realpath(__file__)))
-PAGES = ["*.md", "docs/*.md", "clients/*.md", "examples/*.md", "examples/rows/*.md"]
+PAGES = ["*.md", "docs/*.md", "clients/*.md", "examples/*.md", "examples/*/*.md"]
 FORM = re.compile(r"\b[A-Z]{3,}\b|\[")
+STATUS = re.compile(r"\bstatus (\d)\b")
 LEFT_OUT = re.compile(r"\./stackrun (build|test)\b")
 
 
 def blocks(page):
-    """Returns the page's indented blocks, each as the text before it and its lines."""
-    found, before, lines = [], "", []
+    """Returns the page's indented blocks, each as the last line before it, its lines and the paragraph behind it."""
+    parts, blank = [], True
     with open(page, encoding="utf-8") as it:
-        for line in [*it.read().split("\n"), ""]:
-            if line.startswith("    "):
-                lines.append(line[4:])
-            elif lines:
-                found.append((before, lines))
-                before, lines = line.strip(), []
-            elif line.strip():
-                before = line.strip()
-    return found
+        for line in it.read().split("\n"):
+            is_code = line.startswith("    ")
+            text = line[4:] if is_code else line.strip()
+            if text and (blank or not parts or parts[-1][0] != is_code):
+                parts.append((is_code, [text]))
+            elif text:
+                parts[-1][1].append(text)
+            blank = not text
+    text_at = lambda k: parts[k][1] if 0 <= k < len(parts) and not parts[k][0] else [""]
+    return [(text_at(k - 1)[-1], lines, " ".join(text_at(k + 1))) for k, (is_code, lines) in enumerate(parts) if is_code]
 
 
 def command_of(line):
@@ -40,29 +42,30 @@ def command_of(line):
 
 
 def examples(page):
-    """Returns the page's examples: a command, what it prints as far as the page says, and whether that is all."""
+    """Returns the page's examples: a command, what it prints as far as the page says, whether that is all, and the status."""
     found, open_command = [], None
-    for before, lines in blocks(page):
+    for before, lines, behind in blocks(page):
         if open_command and before.endswith(("It begins:", "It prints:")):
-            found.append((open_command, lines, before.endswith("It prints:")))
+            found.append((*open_command, lines, before.endswith("It prints:")))
             open_command = None
             continue
+        status = int((STATUS.search(behind) or [0, 0])[1])
         starts = [k for k, line in enumerate(lines) if command_of(line)]
         open_command = None
         for k, after in zip(starts, [*starts[1:], len(lines)]):
             command, printed = command_of(lines[k]), lines[k + 1 : after]
             if FORM.search(re.sub(r"\$\w+", "", command)) or LEFT_OUT.search(command):
                 continue
-            found.append((command, printed, bool(printed)))
-            open_command = command
+            found.append((command, status, printed, bool(printed)))
+            open_command = (command, status)
     return found
 
 
-def tries(command, printed, is_all):
+def tries(command, status, printed, is_all):
     """Returns what is wrong with an example, or None."""
     ran = subprocess.run(["bash", "-c", command], cwd=TOP, capture_output=True, text=True, check=False)
     lines = ran.stdout.split("\n")[:-1]
-    if ran.returncode != 0:
+    if ran.returncode != status:
         return f"status {ran.returncode}: {ran.stderr.strip()}"
     if is_all and lines != printed or lines[: len(printed)] != printed:
         return "it prints otherwise"
@@ -72,8 +75,8 @@ def tries(command, printed, is_all):
 def main():
     passed = failed = 0
     for page in sorted(path for form in PAGES for path in glob.glob(f"{TOP}/{form}")):
-        for command, printed, is_all in examples(page):
-            fault = tries(command, printed, is_all)
+        for command, status, printed, is_all in examples(page):
+            fault = tries(command, status, printed, is_all)
             passed, failed = passed + (not fault), failed + bool(fault)
             if fault:
                 print(f"FAILED {os.path.relpath(page, TOP)}: {command}: {fault}", file=sys.stderr)
