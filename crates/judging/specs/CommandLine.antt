@@ -2,9 +2,9 @@
 use Rattle.std.specs.Prelude.{◌≡◌, true, List, Option, Some, codes}
 use Rattle.clap.specs.Words.{App, Row, Rule, Text, first_of, new_app, new_rule, subcommand_of, with_rule, with_subcommand}
 use Rattle.clap.specs.Takes.{takes}
-use Rattle.clap.specs.declared.builder.ArgAction.TheVariants.{Set}
+use Rattle.clap.specs.declared.builder.ArgAction.TheVariants.{Set, SetTrue}
 use Rattle.judging.specs.declared.words.asked.Command.{Command}
-use Rattle.judging.specs.declared.words.asked.Command.TheVariants.{Check, Record}
+use Rattle.judging.specs.declared.words.asked.Command.TheVariants.{Check, Picture, Record}
 
 -- a word that has to be there
 abbrev pub word_rule : Text → Rule
@@ -18,19 +18,29 @@ check_words = with_rule (with_rule (new_app (codes "check")) (word_rule (codes "
 abbrev pub record_words : App
 record_words = with_rule (with_rule (new_app (codes "record")) (word_rule (codes "CONFIG"))) (word_rule (codes "SCRIPT"))
 
--- the program, with its two subcommands
-abbrev pub program : App
-program = with_subcommand (with_subcommand (new_app (codes "stackjudge")) check_words.top) record_words.top
+-- --events, which may be there
+abbrev pub events_rule : Rule
+events_rule = record (new_rule (codes "events")) { long = Some (codes "events"); action = Some SetTrue }
 
--- a command has what the parser found under the names of its words
+-- picture [--events] TRACE
+abbrev pub picture_words : App
+picture_words = with_rule (with_rule (new_app (codes "picture")) (word_rule (codes "TRACE"))) events_rule
+
+-- the program, with its three subcommands
+abbrev pub program : App
+program = with_subcommand (with_subcommand (with_subcommand (new_app (codes "stackjudge")) check_words.top) record_words.top) picture_words.top
+
+-- a command has what the parser found under the names of its words; of --events nothing is said
 abbrev pub HasWords : List Row → Command → Type 0
 HasWords rows (Check config trace) = (first_of (codes "CONFIG") rows ≡ Some config.now) × (first_of (codes "TRACE") rows ≡ Some trace.now)
 HasWords rows (Record config script) = (first_of (codes "CONFIG") rows ≡ Some config.now) × (first_of (codes "SCRIPT") rows ≡ Some script.now)
+HasWords rows (Picture trace events) = first_of (codes "TRACE") rows ≡ Some trace.now
 
 -- the word that a command begins with
 abbrev pub name_of : Command → Text
 name_of (Check config trace) = codes "check"
 name_of (Record config script) = codes "record"
+name_of (Picture trace events) = codes "picture"
 
 -- the subcommand that was found is the command's, with its words
 abbrev pub IsFoundIn : Option (Text × List Row) → Command → Type 0

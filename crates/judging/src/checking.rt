@@ -44,7 +44,7 @@ pub fn check<C: Read + Drop, T: Read + Drop, O: Write>(
 }
 
 /// All bytes of a trace.
-fn bytes_of<R: Read + Drop>(alloc: Global, trace: R) -> Result<Vec<u8>, Fault>
+pub(crate) fn bytes_of<R: Read + Drop>(alloc: Global, trace: R) -> Result<Vec<u8>, Fault>
     ensures all { IfOk result (λ bytes. IsAllOf (R.remaining trace) bytes.items) }
     ensures fault { IfErr result IsUnreadTrace }
 {

@@ -52,7 +52,8 @@ impl fmt::Display for Fault {
     fn fmt<W: fmt::Write>(&self, f: &mut fmt::Formatter<W>) -> fmt::Result {
         match self {
             Fault::Usage => f.write_str(
-                "usage: stackjudge check CONFIG TRACE | stackjudge record CONFIG SCRIPT",
+                "usage: stackjudge check CONFIG TRACE | stackjudge record CONFIG SCRIPT \
+                | stackjudge picture [--events] TRACE",
             ),
             Fault::Startup(fault) => write!(f, "stackjudge: {fault}"),
             Fault::TraceUnreadable => f.write_str("stackjudge: cannot read TRACE"),

@@ -1,16 +1,18 @@
 //! What the program `stackjudge` can be asked to do, but for its files and its output: whether a trace that was recorded is a
-//! run of the machine that some settings describe, and the trace of a script.
+//! run of the machine that some settings describe, the trace of a script, and a picture of a trace.
 //!
 //! It promises to the program, by the contract of [`checking::check`] (`printed`, `fault`), that `legal` is printed exactly
 //! where the lines of a trace spell labels that are a run of the settings' machine, and else the number of the first line that
 //! no step of it allows, and that settings or a line are blamed only where that fault is there; by that of
 //! [`scripts::record_script`] (`text`, `fault`), that what is written of a script is just the lines of the labels of its steps,
-//! from the stack that its settings start; by [`words::command`] (`asked`, `fault`), that the two paths are those that the
-//! parser of the command line found under their names, and that only words which ask for nothing are refused. It does not
-//! promise what a file holds, nor that there is memory.
+//! from the stack that its settings start; by [`words::command`] (`asked`, `fault`), that the paths are those that the
+//! parser of the command line found under their names, and that only words which ask for nothing are refused. What
+//! [`drawing::draw`] draws, and whether `--events` asks for events, is only tested. It does not promise what a file holds,
+//! nor that there is memory.
 #![tactic(auto)]
 
 pub mod checking;
+pub mod drawing;
 mod faults;
 pub mod input;
 mod opened;

@@ -8,7 +8,7 @@ ghost use Rattle.clap.specs.Walk.{rows_of};
 ghost use Rattle.clap.specs.declared.error.ErrorKind.TheVariants.{OutOfMemory};
 ghost use Rattle.judging.specs.declared.faults.Fault.TheVariants.{NoMemory, Usage};
 ghost use Rattle.judging.specs.declared.words.asked.Command.{Command};
-ghost use Rattle.judging.specs.CommandLine.{AsksForNothing, HasWords, IsAsked, IsFoundIn, name_of, program, word_rule};
+ghost use Rattle.judging.specs.CommandLine.{AsksForNothing, HasWords, IsAsked, IsFoundIn, events_rule, name_of, program, word_rule};
 
 use crate::faults::Fault;
 use crate::words::asked::Command;
@@ -45,9 +45,22 @@ fn grammar<'a>(alloc: Global) -> Result<clap::Command<'a>, AllocError>
     let records = clap::Command::new(alloc, "record")
         .arg(word(alloc, "CONFIG"))?
         .arg(word(alloc, "SCRIPT"))?;
+    let pictures = clap::Command::new(alloc, "picture")
+        .arg(word(alloc, "TRACE"))?
+        .arg(events_flag(alloc))?;
     clap::Command::new(alloc, "stackjudge")
         .subcommand(checks)?
-        .subcommand(records)
+        .subcommand(records)?
+        .subcommand(pictures)
+}
+
+fn events_flag<'a>(alloc: Global) -> Arg<'a>
+    ensures rule { rule_of result ≡ events_rule }
+    ensures local { result.global ≡ false }
+{
+    Arg::new(alloc, "events")
+        .long("events")
+        .action(ArgAction::SetTrue)
 }
 
 fn word<'a>(alloc: Global, name: &'a str) -> Arg<'a>
@@ -65,8 +78,11 @@ fn found_in<'a>(matches: &ArgMatches<'a>) -> Result<Command<'a>, Fault>
     if let Some(words) = matches.subcommand_matches("check") {
         return check_of(words);
     }
-    match matches.subcommand_matches("record") {
-        Some(words) => record_of(words),
+    if let Some(words) = matches.subcommand_matches("record") {
+        return record_of(words);
+    }
+    match matches.subcommand_matches("picture") {
+        Some(words) => picture_of(words),
         None => Err(Fault::Usage),
     }
 }
@@ -97,6 +113,18 @@ fn record_of<'a>(words: &ArgMatches<'a>) -> Result<Command<'a>, Fault>
         return Err(Fault::Usage);
     };
     Ok(Command::Record { config, script })
+}
+
+fn picture_of<'a>(matches: &ArgMatches<'a>) -> Result<Command<'a>, Fault>
+    ensures words { IfOk result (λ command. (name_of command ≡ codes "picture") × HasWords (rows_of (found_of matches.now)) command) }
+    ensures fault { IfErr result (λ fault. fault ≡ Usage) }
+    ensures none { IfErr result (λ _. (command : Command) → name_of command ≡ codes "picture" → ¬ (HasWords (rows_of (found_of matches.now)) command)) }
+{
+    let events = matches.get_flag("events");
+    match matches.get_str("TRACE") {
+        Some(trace) => Ok(Command::Picture { trace, events }),
+        None => Err(Fault::Usage),
+    }
 }
 
 /// What it means that the words were refused.

@@ -1,4 +1,5 @@
-//! The program: says whether a trace is a run of the machine that some settings describe, or writes the trace of a script.
+//! The program: says whether a trace is a run of the machine that some settings describe, writes the trace of a script,
+//! or draws a trace.
 //!
 //! What its words ask for, what is printed and which line and exit status a fault has is promised by the crate `judging`
 //! ([`command`], [`check`], [`record_script`], [`Fault`]) and by `startup` ([`ended`]). Here are its arguments, files and
@@ -7,6 +8,7 @@
 
 use judging::Fault;
 use judging::checking::check;
+use judging::drawing::draw;
 use judging::input::open;
 use judging::scripts::record_script;
 use judging::words::asked::Command;
@@ -29,6 +31,7 @@ fn run(rt: &HostRuntime) -> Result<Verdict, Fault> {
     match command(alloc, words.as_slice())? {
         Command::Check { config, trace } => judge(rt, config, trace),
         Command::Record { config, script } => write_trace(rt, config, script),
+        Command::Picture { trace, events } => draw_trace(rt, trace, events),
     }
 }
 
@@ -54,6 +57,18 @@ fn write_trace(rt: &HostRuntime, config: &str, script: &str) -> Result<Verdict, 
         record_script(alloc, config, open(rt, script), &mut out)?;
     }
     Ok(Verdict::Passed)
+}
+
+/// Draws the trace at a path, or that of standard input.
+fn draw_trace(rt: &HostRuntime, trace: &str, events: bool) -> Result<Verdict, Fault> {
+    let alloc = rt.alloc();
+    let Ok(mut out) = BufWriter::with_capacity(alloc, BUFFER, rt.stdout()) else {
+        return Err(Fault::NoMemory);
+    };
+    if trace == "-" {
+        return draw(alloc, rt.stdin(), events, &mut out);
+    }
+    draw(alloc, open(rt, trace), events, &mut out)
 }
 
 fn main(rt: HostRuntime) -> ExitCode {

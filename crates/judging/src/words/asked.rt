@@ -7,4 +7,6 @@ pub enum Command<'a> {
     Check { config: &'a str, trace: &'a str },
     /// Write the trace of a script, given the paths of the settings and of the script.
     Record { config: &'a str, script: &'a str },
+    /// Draw the trace at a path: as an SVG, or as Trace Event JSON where `events` are asked for.
+    Picture { trace: &'a str, events: bool },
 }

@@ -35,6 +35,12 @@ returns-in-Some-subcommand_matches-clause-found c =
     of_found (subcommand_rows_of c.args.matches.now) _ rows c.record_of.result
     (whole _ _ _ _ rows (c.in-Some-subcommand_matches.ensures.found.0 refl) c.in-Some-subcommand_matches.ensures.rows) c.record_of.ensures.words
 
+pub returns-in-Some-subcommand_matches-2-clause-found : goal.returns-in-Some-subcommand_matches-2-clause-found
+returns-in-Some-subcommand_matches-2-clause-found c =
+    let rows = rows_of (found_of c.in-Some-subcommand_matches-2.words.now) in
+    of_found (subcommand_rows_of c.args.matches.now) _ rows c.picture_of.result
+    (whole _ _ _ _ rows (c.in-Some-subcommand_matches-2.ensures.found.0 refl) c.in-Some-subcommand_matches-2.ensures.rows) c.picture_of.ensures.words
+
 -- no command of the subcommand that was found
 not_of_found : (found : Option (Text × List Row)) (name : Text) (rows : List Row) (result : Result Command Fault) → found ≡ Some (name, rows)
     → IfErr result (λ _. (command : Command) → name_of command ≡ name → ¬ (HasWords rows command)) → IfErr result (λ _. (command : Command) → ¬ (IsFoundIn found command))
@@ -54,3 +60,9 @@ returns-in-Some-subcommand_matches-clause-none c =
     let rows = rows_of (found_of c.in-Some-subcommand_matches.words.now) in
     not_of_found (subcommand_rows_of c.args.matches.now) _ rows c.record_of.result
     (whole _ _ _ _ rows (c.in-Some-subcommand_matches.ensures.found.0 refl) c.in-Some-subcommand_matches.ensures.rows) c.record_of.ensures.none
+
+pub returns-in-Some-subcommand_matches-2-clause-none : goal.returns-in-Some-subcommand_matches-2-clause-none
+returns-in-Some-subcommand_matches-2-clause-none c =
+    let rows = rows_of (found_of c.in-Some-subcommand_matches-2.words.now) in
+    not_of_found (subcommand_rows_of c.args.matches.now) _ rows c.picture_of.result
+    (whole _ _ _ _ rows (c.in-Some-subcommand_matches-2.ensures.found.0 refl) c.in-Some-subcommand_matches-2.ensures.rows) c.picture_of.ensures.none

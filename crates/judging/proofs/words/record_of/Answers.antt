@@ -4,7 +4,7 @@ use Rattle.clap.specs.Walk.{first_of, rows_of}
 use Rattle.clap.proofs.WalkLemmas.{first_value-rows}
 use Rattle.judging.specs.CommandLine.{HasWords, name_of}
 use Rattle.judging.specs.declared.words.asked.Command.{Command}
-use Rattle.judging.specs.declared.words.asked.Command.TheVariants.{Check, Record}
+use Rattle.judging.specs.declared.words.asked.Command.TheVariants.{Check, Picture, Record}
 use Rattle.judging.proofs.words.record_of.Goals as goal
 
 pub returns-clause-words : goal.returns-clause-words
@@ -14,24 +14,26 @@ returns-clause-words c =
       (sym (c.in-Some.ensures ∙ first_value-rows found (codes "CONFIG")), sym (c.in-Some-get_str.ensures ∙ first_value-rows found (codes "SCRIPT"))),
     )
 
-no_config : (rows : List Row) (command : Command) → ◌≡◌ {A = Option Text} None (first_of (codes "CONFIG") rows) → HasWords rows command → ⊥
-no_config rows (Check config trace) none has =
+no_config : (rows : List Row) (command : Command) → name_of command ≡ codes "record" → ◌≡◌ {A = Option Text} None (first_of (codes "CONFIG") rows) → HasWords rows command → ⊥
+no_config rows (Check config trace) name none has =
     let both : ◌≡◌ {A = Option Text} None (Some config.now) = none ∙ has.0 in
     absurd (cc)
-no_config rows (Record config script) none has =
+no_config rows (Record config script) name none has =
     let both : ◌≡◌ {A = Option Text} None (Some config.now) = none ∙ has.0 in
     absurd (cc)
+no_config rows (Picture trace events) name none has = absurd (cc (name))
 
 no_script : (rows : List Row) (command : Command) → name_of command ≡ codes "record" → ◌≡◌ {A = Option Text} None (first_of (codes "SCRIPT") rows) → HasWords rows command → ⊥
 no_script rows (Check config other) name none has = absurd (cc (name))
+no_script rows (Picture other events) name none has = absurd (cc (name))
 no_script rows (Record config script) name none has =
     let both : ◌≡◌ {A = Option Text} None (Some script.now) = none ∙ has.1 in
     absurd (cc)
 
 pub returns-in_default-clause-none : goal.returns-in_default-clause-none
-returns-in_default-clause-none c = λ command _ has.
+returns-in_default-clause-none c = λ command name has.
     let found = found_of c.args.words.now in
-    no_config (rows_of found) command (c.in_default.ensures ∙ first_value-rows found (codes "CONFIG")) has
+    no_config (rows_of found) command name (c.in_default.ensures ∙ first_value-rows found (codes "CONFIG")) has
 
 pub returns-in_default-get_str-clause-none : goal.returns-in_default-get_str-clause-none
 returns-in_default-get_str-clause-none c = λ command name has.
