@@ -4,8 +4,6 @@
 #![tactic(auto)]
 
 #[cfg(test)]
-mod broken_rules;
-#[cfg(test)]
 mod documents;
 #[cfg(test)]
 mod expect;

@@ -81,28 +81,10 @@ pub(crate) fn adapter<M: Medium>(
     ensures idle { IfOk result (λ a. IsIdle a.shown) }
     ensures unasked { IfOk result (λ a. a.shown.accepted ≡ 0) }
 {
-    adapter_of(rt, alloc, medium, max_transfer, 2)
-}
-
-/// An adapter of so many tags.
-pub(crate) fn adapter_of<M: Medium>(
-    rt: &impl Abort,
-    alloc: Global,
-    medium: M,
-    max_transfer: u32,
-    depth: u8,
-) -> Result<MemAdapter<M>, AllocError>
-    requires some { 1 ≤ max_transfer }
-    requires short { max_transfer ≤ 2 ^ 16 }
-    requires deep { 1 ≤ depth }
-    requires shallow { depth ≤ 32 }
-    ensures idle { IfOk result (λ a. IsIdle a.shown) }
-    ensures unasked { IfOk result (λ a. a.shown.accepted ≡ 0) }
-{
     let sectors = medium.sectors();
     assert!(rt; 1 <= sectors && sectors <= 1 << 40);
     assert!(rt; medium.sector_size() == 512 && medium.failures() == 0);
-    MemAdapter::new(alloc, medium, max_transfer, depth, false).map_err(no_memory)
+    MemAdapter::new(alloc, medium, max_transfer, 2, false).map_err(no_memory)
 }
 
 /// A medium that refuses to reserve, so many times.
@@ -159,31 +141,15 @@ pub(crate) fn start<A: Adapter>(
     ensures sizes { IfOk result (λ r. (r.1 ≡ sizes_of r.0.rules) × AreSizes r.1) }
     ensures slots { IfOk result (λ r. r.0.rules.open_requests ≡ Some open_requests) }
 {
-    let settings = Settings {
-        window: 2,
-        open_requests,
-    };
-    start_with(rt, alloc, adapter, settings)
-}
-
-/// A stack of these settings, and its sizes.
-pub(crate) fn start_with<A: Adapter>(
-    rt: &impl Abort,
-    alloc: Global,
-    adapter: A,
-    settings: Settings,
-) -> Result<(Stack<A>, Sizes), AllocError>
-    requires idle { IsIdle (A.view adapter) }
-    requires unasked { (A.view adapter).accepted ≡ 0 }
-    ensures new { IfOk result (λ r. IsNew r.0) }
-    ensures sizes { IfOk result (λ r. (r.1 ≡ sizes_of r.0.rules) × AreSizes r.1) }
-    ensures slots { IfOk result (λ r. r.0.rules.open_requests ≡ Some settings.open_requests) }
-{
     let sizes = Sizes {
         sector_size: adapter.sector_size(),
         longest: 65_536,
         max_transfer: adapter.max_transfer(),
         busy_limit: 17,
+    };
+    let settings = Settings {
+        window: 2,
+        open_requests,
     };
     match Stack::start(alloc, adapter, settings) {
         Ok(stack) => Ok((stack, sizes)),

@@ -1,7 +1,6 @@
 //! A host in one thread, and one with lanes of their own.
 
 mod desk;
-mod full_queue;
 mod rows;
 mod told;
 mod two_lanes;
