@@ -1,5 +1,5 @@
 """Runs the programs, and prints what it took: `trace STACKRUN` on scripts that it makes, `clients STACKRUN` with threads,
-`layers LAYER_BENCH` on both layers."""
+`layers LAYER_BENCH` on both layers, `labels STACKJUDGE` on a long trace."""
 import os
 import statistics
 import subprocess
@@ -192,8 +192,37 @@ def trace(program):
     measure(program, 'long request', disk, long(65_535 * 4096), 3)
 
 
+def used_by(words, path):
+    """Writes what a run prints to a path; its processor time, and the most memory that it had, in bytes."""
+    with open(path, 'wb') as out:
+        child = subprocess.Popen(words, stdout=out)
+        _, status, used = os.wait4(child.pid, 0)
+    if status != 0:
+        sys.exit('%s: status %d' % (' '.join(words), os.waitstatus_to_exitcode(status)))
+    return used.ru_utime + used.ru_stime, used.ru_maxrss * 1024
+
+
+def labels(judge):
+    """A trace of a million labels, recorded and judged: 200,000 writes and reads of one sector, of which two are out."""
+    with tempfile.TemporaryDirectory() as folder:
+        config, script, told, said = (os.path.join(folder, name) for name in ('config.toml', 'script', 'trace', 'out'))
+        with open(config, 'w') as f:
+            f.write(SETTINGS.format(size=512, sectors=4096, transfer=64, depth=2, window=2, count=1024))
+        with open(script, 'w') as f:
+            f.writelines(line + '\n' for line in small(200_000, 2))
+        seconds, memory = used_by([judge, 'record', config, script], told)
+        print('%-13s %.3f s of processor time; %.0f MB at most; %.1f MB of text' % (
+            'recorded', seconds, memory / 1e6, os.path.getsize(told) / 1e6))
+        runs = [used_by([judge, 'check', config, told], said) for _ in range(3)]
+        seconds, memory = min(seconds for seconds, _ in runs), max(memory for _, memory in runs)
+        with open(said) as f:
+            line = f.read().strip()
+        print('%-13s %s: %.3f s of processor time, the least of 3; a second %.0f labels; %.0f MB at most' % (
+            'judged', line, seconds, int(line.split()[1]) / seconds, memory / 1e6))
+
+
 def main():
-    {'trace': trace, 'clients': clients, 'layers': layers}[sys.argv[1]](sys.argv[2])
+    {'trace': trace, 'clients': clients, 'layers': layers, 'labels': labels}[sys.argv[1]](sys.argv[2])
 
 
 if __name__ == '__main__':

@@ -1,26 +1,53 @@
-# What words ask of the judge, and its answers by an unproved build.
+# What words ask of the judge, the answers that take no program, and its answers by an unproved build.
 
 judge_usage='usage: stackjudge check CONFIG TRACE | stackjudge record CONFIG SCRIPT | stackjudge picture [--events] TRACE'
 
-# Whether one of some words is an option.
-is_option() {
-    local word
-    for word in "$@"; do [[ $word != -?* ]] || return 0; done
-    return 1
+# Whether the word `asked` has the words behind it that it takes.
+has_judge_words() {
+    case $asked in
+        check | record) [ ${#values[@]} = 2 ] ;;
+        picture) [ ${#values[@]} = 1 ] && [ ${#events[@]} -le 1 ] ;;
+        *) false ;;
+    esac
 }
 
-# Sets `asked`, `events` and `values`. Words that ask for nothing are answered at once.
+# Sets `asked` to check, record, picture or nothing, `values` to its paths, and `events` to its option. Behind `--` no word is
+# an option.
 read_judge_words() {
+    local word plain=
     asked=${1-} events=() values=()
-    local word count=2
     for word in "${@:2}"; do
-        if [[ $asked = picture && $word = --events ]]; then events+=("$word"); else values+=("$word"); fi
+        if [ -z "$plain" ] && [ "$word" = -- ]; then
+            plain=yes
+        elif [ -z "$plain" ] && [ "$asked $word" = 'picture --events' ]; then
+            events+=("$word")
+        elif [ -z "$plain" ] && [[ $word = -?* ]]; then
+            asked=nothing
+        else
+            values+=("$word")
+        fi
     done
-    [ "$asked" != picture ] || count=1
-    if [[ ! $asked =~ ^(check|record|picture)$ ]] || [ ${#values[@]} != $count ] || [ ${#events[@]} -gt 1 ] ||
-        is_option "${values[@]}" || ! are_utf8 "$@"; then
+    are_utf8 "$@" && has_judge_words || asked=nothing
+}
+
+# Whether the trace or the script at a path can be read: - is standard input.
+is_told() { [ "$1" = - ] || is_readable "$1"; }
+
+# Answers words that ask for nothing, and says which file can't be read. Returns where that takes the program.
+answer_judge_at_once() {
+    local told=TRACE
+    read_judge_words "$@"
+    if [ "$asked" = nothing ]; then
         echo "$judge_usage" >&2
         exit 2
+    fi
+    [ "$asked" != record ] || told=SCRIPT
+    [ "$asked" = picture ] || is_readable "${values[0]}" || { say "cannot read CONFIG" && exit 1; }
+    is_told "${values[-1]}" && return
+    # Settings are blamed before what stands behind them.
+    if [ "$asked" = picture ] || are_plain_settings "${values[0]}"; then
+        say "cannot read $told"
+        exit 1
     fi
 }
 

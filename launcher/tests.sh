@@ -1,8 +1,9 @@
 # Runs the tests by unproved builds, several crates at once.
 
-# The crates with tests, and the program, whose cases are tests too: those that stand on most come first, since they take longest.
+# The crates with tests, and both programs, whose cases are tests too: those that stand on most come first, since they take
+# longest.
 test_crates() {
-    echo stackrun
+    printf '%s\n' stackrun stackjudge
     awk '!/^#/ { print NF, $1 }' "$top/crates.txt" | sort -rn | tr -d : | while read -r _ name; do
         ! grep -rqF '#[test]' "$top/crates/$name/src" || echo "$name"
     done
@@ -38,7 +39,14 @@ try_tests() {
 
 # Tests a crate, and notes that this came to an end.
 test_crate() {
-    if [ "$1" = stackrun ]; then try_cases; else try_tests "$1"; fi
+    case $1 in
+        stackrun) try_cases make_cases count_all_cases ;;
+        stackjudge) (
+            be_judge
+            try_cases make_judge_cases count_judge_cases
+        ) ;;
+        *) try_tests "$1" ;;
+    esac
     : > "$scratch/$1.ended"
 }
 
@@ -48,11 +56,15 @@ stop_jobs() {
     for job in $(jobs -p); do kill -- "-$job" 2> /dev/null || true; done
 }
 
-# Runs the program's cases by the program that was built.
+# Runs the cases of both programs by those that were built.
 test_built() {
-    [ -x "$program" ] || { say "it is not built" && exit 1; }
+    [ -x "$program" ] && [ -x "$top/crates/stackjudge/out/stackjudge" ] || { say "it is not built, or stackjudge isn't" && exit 1; }
     make_scratch
-    run_built_cases
+    run_built_cases make_cases count_all_cases
+    (
+        be_judge
+        run_built_cases make_judge_cases count_judge_cases
+    )
     tally
 }
 

@@ -6,3 +6,4 @@ mod Flushed
 mod Emitted
 mod Blaming
 mod SaidOfTraces
+mod Stopping

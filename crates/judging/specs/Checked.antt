@@ -1,5 +1,5 @@
 -- What is said of a trace, and why nothing is.
-use Rattle.std.specs.Prelude.{◌≡◌, ◌⊎◌, ℕ, Bool, true, false, List, [], ◌∷◌, ◌++◌, Option, None, Some, codes, count_by, length, map, slice_get}
+use Rattle.std.specs.Prelude.{◌≡◌, ◌⊎◌, ℕ, Bool, true, false, List, [], ◌∷◌, ◌++◌, Option, None, Some, codes, count_by, length, map, slice_get, take}
 use Rattle.std.specs.Fmt.{decimal}
 use Rattle.std.specs.Io.KnownBytes.{Appends}
 use Rattle.std.specs.Str.{is_utf8}
@@ -8,7 +8,12 @@ use Rattle.srb.specs.declared.DeviceLabel.TheVariants.{Start}
 use Rattle.machine.specs.declared.Label.{Label}
 use Rattle.machine.specs.declared.Label.TheVariants.{Call, Device}
 use Rattle.machine.specs.State.{State, opening}
+use Rattle.machine.specs.Rules.{Rules}
+use Rattle.machine.specs.Step.{Run}
 use Rattle.judge.specs.Judging.{IsRun, StopsAt}
+use Rattle.judge.specs.Breaking.{Breaks}
+use Rattle.judge.specs.Following.{HasTaken, JudgeView}
+use Rattle.judge.specs.declared.label_rules.Rule.{Rule}
 use Rattle.settings.specs.declared.Config.{Config}
 use Rattle.settings.specs.Medium.{extents_of, zeros}
 use Rattle.startup.specs.Reading.{AreRead, HasFault, IsAllOf}
@@ -18,6 +23,7 @@ use Rattle.startup.specs.declared.ending.Verdict.TheVariants.{Passed, Failed}
 use Rattle.label_text.specs.Lines.{Spells}
 use Rattle.judging.specs.Told.{AreTold, IsFirstBad}
 use Rattle.judging.specs.declared.told.Told.{Told}
+use Rattle.judging.specs.declared.checking.Stop.{Stop}
 use Rattle.judging.specs.declared.faults.Fault.{Fault}
 use Rattle.judging.specs.declared.faults.Fault.TheVariants.{Usage, Startup, TraceUnreadable, ScriptUnreadable, BadLine, Script, OutputFailed, NoMemory}
 
@@ -44,16 +50,34 @@ legal_line labels =
     codes "legal: " ++ (decimal (length labels) ++ (codes " labels, " ++ (decimal (count_by is_call labels)
     ++ (codes " requests, " ++ (decimal (count_by is_start labels) ++ (codes " pieces" ++ 10 ∷ []))))))
 
--- and that of the first line that no step allows
-abbrev pub refused_line : ℕ → List ℕ
-refused_line number = codes "line " ++ (decimal number ++ (codes ": no step of the machine allows this label" ++ 10 ∷ []))
+-- and that of the first line that no step allows, with the rule in words
+abbrev pub refused_line : ℕ → List ℕ → List ℕ
+refused_line number sentence = codes "line " ++ (decimal number ++ (codes ": " ++ (sentence ++ 10 ∷ [])))
+
+-- no step allows the label of this place, after those before it, and at a state that those lead to it breaks the rule
+pub record IsFirstBroken (rules : Rules) (arrays : List (List (List ℕ))) (labels : List Label) (at : ℕ) (rule : Rule) : Type 0 where
+  pub stops : StopsAt rules (opening arrays) labels at
+  pub label : Label
+  pub there : slice_get labels at ≡ Some label
+  pub state : State
+  pub reached : Run rules (opening arrays) (take at labels) state
+  pub broken : Breaks rules state label rule
+
+-- labels are a run, or these are the first that is broken and its rule
+abbrev pub AreJudged : Rules → List (List (List ℕ)) → List Label → Option (ℕ × Rule) → Type 0
+AreJudged rules arrays labels None = IsRun rules (opening arrays) labels
+AreJudged rules arrays labels (Some found) = IsFirstBroken rules arrays labels found.0 found.1
+
+-- the same of a judge that has taken no label, whatever its sectors
+abbrev pub IsFound : JudgeView → List Label → Option (ℕ × Rule) → Type 0
+IsFound judge labels found = (arrays : List (List (List ℕ))) → HasTaken judge arrays [] → AreJudged judge.rules arrays labels found
 
 -- a line that says what the labels of a trace are: a run of the settings' machine, or none from this line on
 abbrev pub Says : Config → Told → Verdict → List ℕ → Type 0
 Says c told Passed line = IsRun (rules_of c) (opening_of c) told.labels.items × (line ≡ legal_line told.labels.items)
 Says c told Failed line =
-    (at : ℕ) × StopsAt (rules_of c) (opening_of c) told.labels.items at
-    × ((number : ℕ) × (slice_get told.lines.items at ≡ Some number) × (line ≡ refused_line number))
+    (at : ℕ) × (rule : Rule) × IsFirstBroken (rules_of c) (arrays_of c) told.labels.items at rule
+    × ((number : ℕ) × (slice_get told.lines.items at ≡ Some number) × ((sentence : List ℕ) × (line ≡ refused_line number sentence)))
 
 -- the verdict on the trace that an input gives, over the settings that another gives, was printed
 pub record PrintsVerdict (config trace : Option (List ℕ)) (old new : Option (List ℕ)) (verdict : Verdict) : Type 0 where
@@ -67,10 +91,10 @@ pub record PrintsVerdict (config trace : Option (List ℕ)) (old new : Option (L
   pub says : Says settings told verdict line
   pub appends : Appends old new line
 
--- what labels are: a run, or none from the label of this place on
-abbrev pub IsJudged : Config → List Label → Option ℕ → Type 0
+-- what labels are: a run, or none from the label of this place on, which breaks this rule
+abbrev pub IsJudged : Config → List Label → Option Stop → Type 0
 IsJudged c labels None = IsRun (rules_of c) (opening_of c) labels
-IsJudged c labels (Some at) = StopsAt (rules_of c) (opening_of c) labels at
+IsJudged c labels (Some stop) = IsFirstBroken (rules_of c) (arrays_of c) labels stop.at stop.rule
 
 -- a line that says what they are was printed
 pub record IsSaid (c : Config) (told : Told) (old new : Option (List ℕ)) (verdict : Verdict) : Type 0 where

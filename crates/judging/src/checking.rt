@@ -1,25 +1,26 @@
 //! A trace, judged.
 
-ghost use Rattle.std.specs.Prelude.{◌≡◌, IfErr, IfOk, OnOk, count_by, length};
+ghost use Rattle.std.specs.Prelude.{◌≡◌, IfErr, IfOk, OnOk, count_by, length, string_bytes};
 ghost use Rattle.std.specs.Io.KnownBytes.{Appends};
 ghost use Rattle.startup.specs.Reading.{IsAllOf};
-ghost use Rattle.judging.specs.Checked.{IsCheckFault, IsJudged, IsOutputFault, IsSaid, IsUnreadTrace, PrintsVerdict, is_call, is_start, legal_line, refused_line};
+ghost use Rattle.judging.specs.Checked.{IsCheckFault, IsFound, IsJudged, IsOutputFault, IsSaid, IsUnreadTrace, PrintsVerdict, is_call, is_start, legal_line, refused_line};
 ghost use Rattle.judging.specs.declared.faults.Fault.TheVariants.{NoMemory};
 
 use crate::Fault;
 use crate::opened::{arrays_of, rules_of};
 use crate::told::{Told, told_by};
-use judge::judge;
+use judge::stepwise::{Judge, Refusal};
+use judge::{Machine, Rule};
 use machine::Label;
 use settings::Config;
 use srb::DeviceLabel;
 use startup::{Verdict, contents, fault_of, read_settings};
-use std::alloc::Global;
+use std::alloc::{AllocError, Global};
 use std::io;
 use std::io::{Read, Write};
 
 /// Judges a trace by the machine of some settings, and writes what it is: `legal` with its numbers, or the number of the first
-/// line that no step of the machine allows.
+/// line that no step of the machine allows, a rule that it breaks, and what was open and at the adapter there.
 ///
 /// # Errors
 ///
@@ -55,6 +56,7 @@ pub(crate) fn bytes_of<R: Read + Drop>(alloc: Global, trace: R) -> Result<Vec<u8
 }
 
 /// Judges labels, and writes what they are.
+#[tactic(auto, using(crate::proofs::Stopping::is_within, crate::proofs::Stopping::said_broken))]
 fn say_verdict<O: Write>(
     alloc: Global,
     config: &Config,
@@ -70,25 +72,91 @@ fn say_verdict<O: Write>(
             say_legal(out, told.labels.as_slice())?;
             Ok(Verdict::Passed)
         }
-        Some(at) => {
-            say_refused(out, told.lines[at])?;
+        Some(stop) => {
+            say_refused(out, told.lines[stop.at], &stop.sentence)?;
             Ok(Verdict::Failed)
         }
     }
 }
 
-/// The place of the first label that no step of the machine of some settings allows, if there is one.
-fn judged(alloc: Global, config: &Config, labels: &[Label]) -> Result<Option<usize>, Fault>
+/// The first label that no step of the machine allows.
+#[derive(Debug, Drop)]
+struct Stop {
+    /// Its place, from 0.
+    at: usize,
+    /// The rule that it breaks.
+    rule: Rule,
+    /// The rule in words, and what was open and out there.
+    sentence: String,
+}
+
+/// The first label that no step of the machine of some settings allows, if there is one, and a rule that it breaks.
+fn judged(alloc: Global, config: &Config, labels: &[Label]) -> Result<Option<Stop>, Fault>
     ensures judged { IfOk result (IsJudged config.now labels.now) }
     ensures fault { IfErr result (λ fault. fault ≡ NoMemory) }
 {
     let rules = rules_of(alloc, config)?;
     let arrays = arrays_of(alloc, config)?;
-    match judge(alloc, &rules, arrays, labels) {
-        Ok(judge::Verdict::Run(_)) => Ok(None),
-        Ok(judge::Verdict::Stops(at)) => Ok(Some(at)),
-        Err(_) => Err(Fault::NoMemory),
+    let Ok(mut judge) = Judge::new(alloc, rules, arrays) else {
+        return Err(Fault::NoMemory);
+    };
+    match first_broken(alloc, &mut judge, labels)? {
+        None => Ok(None),
+        Some((at, rule)) => {
+            let sentence = sentence_of(alloc, &judge, rule)?;
+            Ok(Some(Stop { at, rule, sentence }))
+        }
     }
+}
+
+/// The place of the first of some labels that a judge does not take, if there is one, and a rule that it breaks.
+fn first_broken(
+    alloc: Global,
+    judge: &mut Judge,
+    labels: &[Label],
+) -> Result<Option<(usize, Rule)>, Fault>
+    ensures found { IfOk result (IsFound judge.old labels.now) }
+    ensures fault { IfErr result (λ fault. fault ≡ NoMemory) }
+{
+    for (at, label) in labels.iter().enumerate() {
+        match judge.take(alloc, label) {
+            Ok(()) => {}
+            Err(Refusal::Breaks(rule)) => return Ok(Some((at, rule))),
+            Err(Refusal::NoVerdict(_)) => return Err(Fault::NoMemory),
+        }
+    }
+    Ok(None)
+}
+
+/// A rule in words, and what is open and out.
+fn sentence_of(alloc: Global, judge: &Judge, rule: Rule) -> Result<String, AllocError> {
+    let mut sentence = format!(in alloc; "{rule}")?;
+    if let Some(machine) = judge.machines().first() {
+        tell_open(alloc, machine, &mut sentence)?;
+    }
+    Ok(sentence)
+}
+
+/// Adds what is open and out, a line each.
+fn tell_open(alloc: Global, machine: &Machine, sentence: &mut String) -> Result<(), AllocError> {
+    for request in machine.requests() {
+        let number = request.number();
+        let state = if request.is_started() {
+            "begun"
+        } else {
+            "waiting"
+        };
+        let line = format!(in alloc; "\nopen: request {number}, {state}")?;
+        sentence.push_str(line.as_str())?;
+    }
+    for piece in machine.pieces() {
+        let number = piece.number();
+        let tag = piece.tag();
+        let owner = piece.owner();
+        let line = format!(in alloc; "\nout: piece {number} of request {owner}, on tag {tag}")?;
+        sentence.push_str(line.as_str())?;
+    }
+    Ok(())
 }
 
 /// Writes the line of labels that are a run.
@@ -104,14 +172,12 @@ fn say_legal<O: Write>(out: &mut O, labels: &[Label]) -> io::Result<()>
     )
 }
 
-/// Writes the line of the first label that no step allows.
-fn say_refused<O: Write>(out: &mut O, number: u64) -> io::Result<()>
-    ensures { OnOk result (Appends (O.contents out.old) (O.contents out.new) (refused_line number)) }
+/// Writes of the first label that no step allows.
+fn say_refused<O: Write>(out: &mut O, number: u64, sentence: &String) -> io::Result<()>
+    ensures { OnOk result (Appends (O.contents out.old) (O.contents out.new) (refused_line number (string_bytes sentence.now))) }
 {
-    writeln!(
-        out,
-        "line {number}: no step of the machine allows this label"
-    )
+    let sentence = sentence.as_str();
+    writeln!(out, "line {number}: {sentence}")
 }
 
 /// How many labels are calls.

@@ -3,12 +3,12 @@
 //!
 //! It promises to the program, by the contract of [`checking::check`] (`printed`, `fault`), that `legal` is printed exactly
 //! where the lines of a trace spell labels that are a run of the settings' machine, and else the number of the first line that
-//! no step of it allows, and that settings or a line are blamed only where that fault is there; by that of
-//! [`scripts::record_script`] (`text`, `fault`), that what is written of a script is just the lines of the labels of its steps,
-//! from the stack that its settings start; by [`words::command`] (`asked`, `fault`), that the paths are those that the
-//! parser of the command line found under their names, and that only words which ask for nothing are refused. What
-//! [`drawing::draw`] draws, and whether `--events` asks for events, is only tested. It does not promise what a file holds,
-//! nor that there is memory.
+//! no step of it allows, where the label breaks a rule of it, and that settings or a line are blamed only where that fault is
+//! there; by that of [`scripts::record_script`] (`text`, `fault`), that what is written of a script is just the lines of the
+//! labels of its steps, from the stack that its settings start; by [`words::command`] (`asked`, `fault`), that the paths are
+//! those that the parser of the command line found under their names, and that only words which ask for nothing are refused.
+//! The words of the rule, and of what was open and at the adapter, are only tested, and so is what [`drawing::draw`] draws, and
+//! whether `--events` asks for events. It does not promise what a file holds, nor that there is memory.
 #![tactic(auto)]
 
 pub mod checking;

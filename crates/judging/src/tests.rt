@@ -1,7 +1,8 @@
-//! Traces that are judged, and one that is recorded.
+//! Traces that are judged, and one that is recorded and drawn.
 
 use crate::Fault;
 use crate::checking::check;
+use crate::drawing::draw;
 use crate::scripts::record_script;
 use crate::words::asked::Command;
 use crate::words::command;
@@ -46,11 +47,11 @@ fn a_run_is_legal(rt: HostRuntime) -> Result<(), Fail> {
 }
 
 #[test]
-fn the_first_line_that_no_step_allows_is_named(rt: HostRuntime) -> Result<(), Fail> {
+fn the_first_line_that_no_step_allows_is_named_with_its_rule(rt: HostRuntime) -> Result<(), Fail> {
     let got = judged(
         rt.alloc(),
         TOO_SOON,
-        "line 5: no step of the machine allows this label\n",
+        "line 5: its sector 0 is at the adapter\nopen: request 1, begun\nout: piece 1 of request 1, on tag 0\n",
     );
     same(&rt, &got, &Some((Verdict::Failed, true)));
     Ok(())
@@ -82,6 +83,23 @@ fn is_recorded(alloc: Global, script: &str, wanted: &str) -> Option<bool> {
 #[test]
 fn a_script_is_recorded(rt: HostRuntime) -> Result<(), Fail> {
     same(&rt, &is_recorded(rt.alloc(), SCRIPT, TRACE), &Some(true));
+    Ok(())
+}
+
+/// Whether what is drawn of the trace begins so.
+fn is_drawn(alloc: Global, events: bool, beginning: &str) -> Option<bool> {
+    let mut out = Vec::new(alloc);
+    draw(alloc, TRACE.as_bytes(), events, &mut out).ok()?;
+    let text = std::str::from_utf8(out.as_slice()).ok()?;
+    Some(text.starts_with(beginning))
+}
+
+#[test]
+fn a_trace_is_drawn(rt: HostRuntime) -> Result<(), Fail> {
+    let picture = is_drawn(rt.alloc(), false, "<svg ");
+    same(&rt, &picture, &Some(true));
+    let events = is_drawn(rt.alloc(), true, "{\"displayTimeUnit\"");
+    same(&rt, &events, &Some(true));
     Ok(())
 }
 
