@@ -1,0 +1,54 @@
+-- Steps in which the device below does nothing: what is told of them, and how the tables stay sound.
+use Rattle.std.proofs.Common.{◌≡◌, ℕ, false, List, [], ◌++◌, Option, Some, None, refl, sym, ◌∙◌, ap, subst}
+use Rattle.std.specs.Prelude.{IsPermutation}
+use Rattle.std.proofs.lemmas.List.{append-nil}
+use Rattle.std.proofs.lemmas.List.Sorted.{IsPermutation-refl}
+use Rattle.sector.specs.declared.Extent.{Extent}
+use Rattle.adapter.specs.View.{ReservesMore}
+use Rattle.adapter.proofs.Joining.{reserves_none}
+use Rattle.machine.specs.declared.Label.{Label}
+use Rattle.machine.specs.State.{State}
+use Rattle.machine.specs.Step.{Run}
+use Rattle.new_device.specs.View.{DeviceView}
+use Rattle.new_device.specs.Served.{Reserves}
+use Rattle.machine.proofs.Same.{IsSame-refl}
+use Rattle.new_io_manager.specs.declared.Answer.{Answer}
+use Rattle.new_io_manager.specs.declared.OpenHandle.{OpenHandle}
+use Rattle.new_io_manager.specs.Shown.{ManagerView, Holder}
+use Rattle.new_io_manager.specs.Right.{Told, tells_nothing, unless_answered, IsRightBy}
+
+pub none_answered : (holder : Option Holder) → holder ≡ unless_answered [] holder
+none_answered None = refl
+none_answered (Some holder) = refl
+
+-- what a step tells that only has labels of its own
+abbrev pub tells_own : ManagerView → List Label → Told
+tells_own v own = record (tells_nothing v) { own = own }
+
+-- the machine, the labels and the handles may change, and more may be reserved
+pub right_alone : (v : ManagerView) (own : List Label) (s : State) (reserved : List Extent) (handles : List (Option OpenHandle)) (next_handle : ℕ) (labels : List Label) (answers : List Answer)
+    → Run v.rules v.state own s → ReservesMore v.adapter (record v.adapter { reserved = reserved }) → v.adapter.labels ≡ [] → labels ≡ own → answers ≡ v.answers
+    → IsRightBy false (tells_own v own) v
+    (record v { state = s; adapter = record v.adapter { reserved = reserved }; handles = handles; next_handle = next_handle; labels = labels; answers = answers })
+right_alone v own s reserved handles next_handle labels answers run moves none_recorded told waits = record {
+  in_order = told ∙ sym (append-nil own) ∙ sym (append-nil (own ++ [])) ∙ sym (append-nil ((own ++ []) ++ []));
+  rising = tt;
+  same_rules = refl;
+  run = subst (λ told. Run v.rules v.state told s) (sym told) run;
+  adapter = record {
+    moved = record v.adapter { reserved = reserved };
+    moves = moves;
+    taken = ap (λ recorded. record v.adapter { reserved = reserved; labels = recorded }) none_recorded;
+  };
+  outside = λ sector apart. refl;
+  holders = λ slot. none_answered _;
+  untaken = subst (λ now. IsPermutation now v.answers) (sym waits) (IsPermutation-refl v.answers);
+}
+
+-- nothing is told, and nothing changes
+pub IsRightBy-unmoved : (v : ManagerView) → v.labels ≡ [] → v.adapter.labels ≡ [] → IsRightBy false (tells_nothing v) v v
+IsRightBy-unmoved v none_told none_recorded =
+    right_alone v [] v.state v.adapter.reserved v.handles v.next_handle v.labels v.answers (IsSame-refl v.state) (reserves_none v.adapter) none_recorded none_told refl
+
+pub none_reserved : (v : DeviceView) → Reserves v v
+none_reserved v = record { same = refl; adapter = reserves_none v.adapter }

@@ -1,0 +1,342 @@
+-- Plug and play calls as steps of the manager.
+use Rattle.pnp.specs.declared.InvalidDeviceRequest.{InvalidDeviceRequest as InvalidDeviceRequestFault}
+use Rattle.std.specs.Result.{result_ok}
+use Rattle.std.proofs.Common.{◌≡◌, ◌⊎◌, ◌≤◌, Result, Ok, Err, inl, inr, ℕ, Bool, true, false, List, [], ◌∷◌, ◌++◌, Option, Some, None, refl, sym, ◌∙◌, ap, subst, map}
+use Rattle.std.specs.Prelude.{IsPermutation, IsTrue, IsFalse, All, if◌then◌else◌}
+use Rattle.std.specs.VecDeque.{deque_capacity}
+use Rattle.std.proofs.lemmas.List.Sorted.{IsPermutation-sym, IsPermutation-refl, IsPermutation-map, All-permutation}
+use Rattle.std.proofs.lemmas.List.Elements.{All-head, All-append}
+use Rattle.slab.specs.Slab.{Slab}
+use Rattle.srb.specs.declared.DeviceLabel.{DeviceLabel}
+use Rattle.srb.specs.declared.DeviceLabel.TheVariants.{Start, Act, Fault, Return}
+use Rattle.adapter.specs.View.{AdapterView, MovesByAll}
+use Rattle.adapter.proofs.Joining.{reserves_none}
+use Rattle.machine.specs.declared.Label.{Label}
+use Rattle.machine.specs.declared.Label.TheVariants.{Pause, Resume, Remove, Surprise}
+use Rattle.machine.specs.Rules.{Rules}
+use Rattle.machine.specs.State.{OpenRequest, State, IsSame}
+use Rattle.machine.specs.Sending.{IsStart}
+use Rattle.machine.specs.Holding.{beyond, held_back, as_timely}
+use Rattle.machine.specs.Step.{FreeStep, Run, as_label}
+use Rattle.machine.proofs.Same.{IsSame-refl}
+use Rattle.new_device.specs.View.{DeviceView, IsTopmost}
+use Rattle.new_device.specs.Served.{IsBeside, PausesAll, ResumesAll, DrainsAll}
+use Rattle.pnp.specs.declared.State.{State as PnpState}
+use Rattle.pnp.specs.declared.State.TheVariants.{Started, RemovePending, Removing, Removed}
+use Rattle.pnp.specs.Table.{Event, QueryRemove, CancelRemove, Remove as RemoveDevice, SurpriseRemove, next}
+use Rattle.new_io_manager.specs.declared.OpenHandle.{OpenHandle}
+use Rattle.new_io_manager.specs.declared.Limits.{Limits}
+use Rattle.new_io_manager.specs.declared.Refusal.TheVariants.{InvalidDeviceRequest}
+use Rattle.new_io_manager.specs.declared.Reply.{Reply}
+use Rattle.new_io_manager.specs.declared.Reply.TheVariants.{Ok as OkReply, Refused}
+use Rattle.new_io_manager.specs.declared.tables.Tables.{Tables}
+use Rattle.new_io_manager.specs.Shown.{ManagerView}
+use Rattle.new_io_manager.specs.Right.{Told, SameHandles, tells_nothing, TellsOne, pnp_state, IsInvalid, IsRecalled, PnpReplies, RecallReplies, IsRight}
+use Rattle.new_io_manager.specs.Sound.{rules_of, shown_state, is_gone, view_of, IsSpotted, IsInState, IsSound, HasNoneToStart, Collects, ManagerKept}
+use Rattle.new_io_manager.proofs.AdapterJoins.{labels_moved}
+use Rattle.new_io_manager.proofs.Askings.{AsksSame, asked, AreHeld-along}
+use Rattle.new_io_manager.proofs.Fitted.{FitsBelow-same}
+use Rattle.new_io_manager.proofs.KeptBack.{paused_none}
+use Rattle.new_io_manager.proofs.Over.{shown_same}
+use Rattle.new_io_manager.proofs.Quiet.{IsRightBy-unmoved}
+use Rattle.new_io_manager.proofs.Righting.{IsServed, have_partitions, IsSound-moves}
+use Rattle.new_io_manager.proofs.Telling.{step_kept}
+
+-- THE STATE
+
+-- the state is what the machine's flags show
+pub state_is : (p : PnpState) (s : State) → IsInState p s → pnp_state (record s { removed = is_gone p }) ≡ p
+state_is Started s h = rw (h.0, h.1) refl
+state_is RemovePending s h = rw (h.0, h.1) refl
+state_is Removing s h = rw (h.0, h.1) refl
+state_is Removed s h = rw (h.0, h.1) refl
+
+-- WHAT IS ASKED STAYS, WHATEVER IS LATE
+
+map_same : {X Y : Type 0} (f : X → Y) (g : X → X) (xs : List X) → ((x : X) → f (g x) ≡ f x) → map f (map g xs) ≡ map f xs
+map_same f g [] same = refl
+map_same f g (x ∷ xs) same = ap (λ y. y ∷ map f (map g xs)) (same x) ∙ ap (λ ys. f x ∷ ys) (map_same f g xs same)
+
+held_back_asked : (window : Option ℕ) (xs : List OpenRequest) → map asked (held_back window xs) ≡ map asked xs
+held_back_asked None xs = refl
+held_back_asked (Some window) xs = map_same asked (beyond window xs) xs (λ o. refl)
+
+timely_asked : (xs : List OpenRequest) → map asked (map as_timely xs) ≡ map asked xs
+timely_asked xs = map_same asked as_timely xs (λ o. refl)
+
+asks_as : (s s' : State) (requests : List OpenRequest) → IsPermutation s'.requests requests → map asked requests ≡ map asked s.requests → s'.next_request ≡ s.next_request → AsksSame s s'
+asks_as s s' requests p same next_request = record {
+  requests = subst (λ xs. IsPermutation (map asked s'.requests) xs) same (IsPermutation-map asked _ _ p);
+  next_request = next_request;
+}
+
+drained_asked : (paused : Bool) (window : Option ℕ) (xs : List OpenRequest) → map asked (if paused then xs else held_back window xs) ≡ map asked xs
+drained_asked true window xs = refl
+drained_asked false window xs = held_back_asked window xs
+
+-- NOTHING STARTS WHILE REMOVING
+
+no_starts : (rules : Rules) (starts : List DeviceLabel) (more : List Label) (s s' : State) → IsTrue s.removing → All IsStart starts → Run rules s (map as_label starts ++ more) s' → starts ≡ []
+no_starts rules [] more s s' removing only run = refl
+no_starts rules (Start piece tag block ∷ starts) more s s' removing only (mid, inl (free, step), run) = absurd (both s.removing removing step.may_start.not_removing)
+  where
+    both : (b : Bool) → IsTrue b → IsFalse b → ⊥
+    both true going staying = cc (staying)
+    both false going staying = cc (going)
+no_starts rules (Start piece tag block ∷ starts) more s s' removing only (mid, inr none, run) = absurd none
+no_starts rules (Act piece bytes ∷ starts) more s s' removing only run = absurd (All-head IsStart _ starts only)
+no_starts rules (Fault piece ∷ starts) more s s' removing only run = absurd (All-head IsStart _ starts only)
+no_starts rules (Return piece class ∷ starts) more s s' removing only run = absurd (All-head IsStart _ starts only)
+
+-- THE TABLES WITH ANOTHER STATE
+
+-- the state moved on, and that is told
+pub record MovedTo (old : Tables) (p : PnpState) (label : Label) (new : Tables) : Type 0 where
+  pub tells : new.labels.items ≡ old.labels.items ++ label ∷ []
+  pub label_places : deque_capacity new.labels ≡ deque_capacity old.labels
+  pub after : new ≡ record old { state = p; labels = new.labels }
+
+beside_sound : (limits : Limits) (below below' : DeviceView) (tables tables1 : Tables) (p : PnpState) (label : Label) → IsSound limits below tables → IsBeside below below' → AsksSame below.state below'.state → IsInState p below'.state
+    → MovedTo tables p label tables1 → IsSound limits below' tables1
+beside_sound limits below below' tables tables1 p label h beside asks in_state moved =
+    subst (IsSound limits below') (sym moved.after) (record {
+      fits = FitsBelow-same limits below below' beside.same_rules beside.same_most h.fits;
+      numbers = record {
+        requests = h.numbers.requests;
+        handles = h.numbers.handles;
+        rising = rw asks.next_request h.numbers.rising;
+        submitted = rw beside.same_submitted h.numbers.submitted;
+      };
+      held = AreHeld-along tables.requests below.state below'.state asks h.held;
+      few = h.few;
+      places = record {
+        labels = subst (λ n. 256 ≤ n) (sym moved.label_places) h.places.labels;
+        answered = h.places.answered;
+        untaken = h.places.untaken;
+        handles = h.places.handles;
+        requests = h.places.requests;
+      };
+      on_map = rw beside.same_rules h.on_map;
+      topmost = All-permutation IsTopmost _ _ (IsPermutation-sym _ _ beside.same_packets) h.topmost;
+      spots = All-permutation (IsSpotted tables.next_request tables.requests) _ _ (IsPermutation-sym _ _ beside.same_packets) h.spots;
+      in_state = in_state;
+      none_put_by = h.none_put_by;
+      rising = h.rising;
+      given = h.given;
+      apart = h.apart;
+      chained = h.chained;
+      numbered = h.numbered;
+      counted = h.counted;
+    })
+
+module _ (limits : Limits) (below : DeviceView) (tables : Tables) (old : ManagerView) (kept : ManagerKept limits below tables) (shown : view_of limits below tables ≡ old) (taken : old.labels ≡ []) where
+  none_told : tables.labels.items ≡ []
+  none_told = ap (λ (v : ManagerView). v.labels) shown ∙ taken
+
+  abbrev over : Rules
+  over = rules_of limits below.rules
+
+  -- what is shown of a state before the removal has ended
+  abbrev seen : State → State
+  seen s = shown_state tables.next_request false s
+
+  -- a call in a wrong state changes nothing
+  pub invalid_right : (event : Event) → next event tables.state ≡ None → (Row : Reply → ManagerView → ManagerView → Told → Type 0)
+      → ((new : ManagerView) (told : Told) → IsInvalid (view_of limits below tables) event InvalidDeviceRequest [] new told → Row (Refused InvalidDeviceRequest []) (view_of limits below tables) new told)
+      → IsRight (Row (Refused InvalidDeviceRequest []) old old) old old
+  invalid_right event none Row row =
+      subst (λ v. IsRight (Row (Refused InvalidDeviceRequest []) v v) v v) shown (record {
+        told = tells_nothing (view_of limits below tables);
+        replies = row (view_of limits below tables) (tells_nothing (view_of limits below tables)) (record {
+          invalid = ap (next event) (state_is tables.state below.state kept.sound.in_state) ∙ none;
+          refuses = record {
+            is_reason = refl;
+            no_bytes = refl;
+            unmoved = record { nothing = refl; same_state = refl; same_adapter = refl };
+            same_handles = record { handles = refl; next_handle = refl };
+          };
+        });
+        by = IsRightBy-unmoved (view_of limits below tables) none_told kept.none_recorded;
+      })
+
+  module _ (p : PnpState) (label : Label) (tables1 : Tables) (moved : MovedTo tables p label tables1) (not_gone : is_gone tables.state ≡ false) (not_yet : is_gone p ≡ false) where
+    same_handles : (below1 below2 : DeviceView) (tables2 : Tables) → Collects below1 tables1 below2 tables2 → SameHandles (view_of limits below tables) (view_of limits below2 tables2)
+    same_handles below1 below2 tables2 c = record {
+      handles = ap (λ (handles : Slab OpenHandle). handles.slots) (c.same_handles ∙ ap (λ (t : Tables). t.handles) moved.after);
+      next_handle = c.same_next_handle ∙ ap (λ (t : Tables). t.next_handle) moved.after;
+    }
+
+    -- the label leads the manager's machine to where the device below changed its flags
+    pub served : (opened : State) (labels : List DeviceLabel) (below1 : DeviceView) → FreeStep over (seen below.state) label (seen opened) → AsksSame below.state opened → below1.rules ≡ below.rules
+        → Run below.rules opened (map as_label labels) below1.state → below1.adapter.labels ≡ labels → IsServed limits below tables (label ∷ []) labels below1 tables1
+    served opened labels below1 step asks same_rules device recorded = record {
+      opened = opened;
+      given = have_partitions tables.requests opened.requests (AreHeld-along tables.requests below.state opened asks kept.sound.held);
+      none_untaken = kept.none_recorded;
+      run =
+          subst (λ b. Run over (shown_state tables.next_request b below.state) (label ∷ []) (shown_state tables1.next_request (is_gone tables1.state) opened)) (sym not_gone)
+          (subst (λ n. Run over (seen below.state) (label ∷ []) (shown_state n (is_gone tables1.state) opened)) (sym (ap (λ (t : Tables). t.next_request) moved.after))
+          (subst (λ b. Run over (seen below.state) (label ∷ []) (shown_state tables.next_request b opened)) (sym (ap (λ (t : Tables). is_gone t.state) moved.after ∙ not_yet))
+          (seen opened, inl (kept.settled.none_owed, step), IsSame-refl _)));
+      same_rules = same_rules;
+      device = device;
+      recorded = recorded;
+      own_labels = moved.tells ∙ ap (λ before. before ++ label ∷ []) none_told;
+      same_untaken = ap (λ (t : Tables). t.untaken.items) moved.after;
+    }
+
+    pub still : (below1 : DeviceView) → IsBeside below below1 → MovesByAll below.adapter [] below1.adapter
+    still below1 beside = subst (MovesByAll below.adapter []) (sym beside.same_adapter) (reserves_none below.adapter)
+
+    -- the device's labels come only where something has ended or may start
+    pub valid_kept : (event : Event) (below1 : DeviceView) (limits' : Limits) (below2 : DeviceView) (tables2 : Tables) → next event tables.state ≡ Some p → IsBeside below below1
+        → FreeStep over (seen below.state) label (seen below1.state) → AsksSame below.state below1.state → limits' ≡ limits → IsSound limits' below2 tables2 → (c : Collects below1 tables1 below2 tables2) → c.starts ≡ []
+        → IsRight (PnpReplies old event p label OkReply (view_of limits' below2 tables2)) old (view_of limits' below2 tables2) × ManagerKept limits' below2 tables2
+    valid_kept event below1 limits' below2 tables2 valid beside step asks same sound c none =
+        step_kept limits below tables old kept shown (λ v new told. PnpReplies v event p label OkReply new told) (label ∷ []) [] below1 tables1
+        (served below1.state [] below1 step asks beside.same_rules (IsSame-refl _) (ap (λ (a : AdapterView). a.labels) beside.same_adapter ∙ kept.none_recorded))
+        limits' below2 tables2 (still below1 beside) same sound c (record {
+          valid = ap (next event) (state_is tables.state below.state kept.sound.in_state) ∙ valid;
+          tells = record { own = refl; holders = ap (λ (t : Tables). (view_of limits below t).holders) moved.after };
+          no_device = none;
+          handles = same_handles below1 below2 tables2 c;
+        })
+
+  -- QUERY
+
+  module _ (below1 : DeviceView) (tables1 : Tables) (pauses : PausesAll below below1) (was : tables.state ≡ Started) (moved : MovedTo tables RemovePending Pause tables1) where
+    paused_asks : AsksSame below.state below1.state
+    paused_asks = asks_as below.state below1.state (held_back below.rules.window below.state.requests) pauses.pauses.after.requests (held_back_asked below.rules.window below.state.requests) pauses.pauses.after.next_request
+
+    pub query_sound : IsSound limits below1 tables1
+    query_sound = beside_sound limits below below1 tables tables1 RemovePending Pause kept.sound pauses.beside paused_asks (pauses.pauses.after.paused, subst IsFalse (sym pauses.pauses.after.removing) pauses.pauses.not_removing) moved
+
+    none_to_start : HasNoneToStart below1.rules below1.state
+    none_to_start = subst (λ r. HasNoneToStart r below1.state) (sym pauses.beside.same_rules) (paused_none below.rules below.state below1.state pauses.pauses kept.settled)
+
+    pub query_kept : (limits' : Limits) (below2 : DeviceView) (tables2 : Tables) → limits' ≡ limits → IsSound limits' below2 tables2 → Collects below1 tables1 below2 tables2
+        → IsRight (PnpReplies old QueryRemove RemovePending Pause OkReply (view_of limits' below2 tables2)) old (view_of limits' below2 tables2) × ManagerKept limits' below2 tables2
+    query_kept limits' below2 tables2 same sound c =
+        valid_kept RemovePending Pause tables1 moved (ap is_gone was) refl QueryRemove below1 limits' below2 tables2 (ap (next QueryRemove) was) pauses.beside
+        (record { not_paused = pauses.pauses.not_paused; not_removing = pauses.pauses.not_removing; after = shown_same tables.next_request false below1.state _ pauses.pauses.after })
+        paused_asks same sound c (c.quiet none_to_start)
+
+  -- REMOVE
+
+  module _ (below1 : DeviceView) (tables1 : Tables) (drains : DrainsAll below below1) where
+    drained_asks : AsksSame below.state below1.state
+    drained_asks = asks_as below.state below1.state _ drains.drains.requests (drained_asked below.state.paused below.rules.window below.state.requests) drains.drains.next_request
+
+    pub drained_sound : (label : Label) → MovedTo tables Removing label tables1 → IsSound limits below1 tables1
+    drained_sound label moved = beside_sound limits below below1 tables tables1 Removing label kept.sound drains.beside drained_asks (drains.drains.paused, drains.drains.removing) moved
+
+    removed_kept : (event : Event) (label : Label) → MovedTo tables Removing label tables1 → is_gone tables.state ≡ false → next event tables.state ≡ Some Removing → FreeStep over (seen below.state) label (seen below1.state)
+        → (limits' : Limits) (below2 : DeviceView) (tables2 : Tables) → limits' ≡ limits → IsSound limits' below2 tables2 → Collects below1 tables1 below2 tables2
+        → IsRight (PnpReplies old event Removing label OkReply (view_of limits' below2 tables2)) old (view_of limits' below2 tables2) × ManagerKept limits' below2 tables2
+    removed_kept event label moved not_gone valid step limits' below2 tables2 same sound c =
+        valid_kept Removing label tables1 moved not_gone refl event below1 limits' below2 tables2 valid drains.beside step drained_asks same sound c
+        (no_starts below1.rules c.starts _ below1.state below2.state drains.drains.removing c.only_starts c.run)
+
+    pub remove_kept : tables.state ≡ RemovePending → MovedTo tables Removing Remove tables1
+        → (limits' : Limits) (below2 : DeviceView) (tables2 : Tables) → limits' ≡ limits → IsSound limits' below2 tables2 → Collects below1 tables1 below2 tables2
+        → IsRight (PnpReplies old RemoveDevice Removing Remove OkReply (view_of limits' below2 tables2)) old (view_of limits' below2 tables2) × ManagerKept limits' below2 tables2
+    remove_kept was moved limits' below2 tables2 same sound c =
+        removed_kept RemoveDevice Remove moved (ap is_gone was) (ap (next RemoveDevice) was) (record { is_paused = paused; after = shown_same tables.next_request false below1.state _ after }) limits' below2 tables2 same sound c
+      where
+        paused : IsTrue below.state.paused
+        paused = (subst (λ p. IsInState p below.state) was kept.sound.in_state).0
+
+        -- it was paused, so none is held back
+        after : IsSame below1.state (record below.state { paused = false; removing = true })
+        after = subst (λ b. IsSame below1.state (record below.state { paused = false; removing = true; requests = if b then below.state.requests else held_back below.rules.window below.state.requests })) paused drains.drains
+
+    pub surprise_kept : IsFalse below.state.removing → is_gone tables.state ≡ false → next SurpriseRemove tables.state ≡ Some Removing → MovedTo tables Removing Surprise tables1
+        → (limits' : Limits) (below2 : DeviceView) (tables2 : Tables) → limits' ≡ limits → IsSound limits' below2 tables2 → Collects below1 tables1 below2 tables2
+        → IsRight (PnpReplies old SurpriseRemove Removing Surprise OkReply (view_of limits' below2 tables2)) old (view_of limits' below2 tables2) × ManagerKept limits' below2 tables2
+    surprise_kept not_removing not_gone valid moved limits' below2 tables2 same sound c =
+        removed_kept SurpriseRemove Surprise moved not_gone valid (record { not_removing = not_removing; drains = shown_same tables.next_request false below1.state _ drains.drains }) limits' below2 tables2 same sound c
+
+  -- A QUERY TAKEN BACK
+
+  module _ (below1 : DeviceView) (tables1 : Tables) (resumes : ResumesAll below below1) (was : tables.state ≡ RemovePending) (moved : MovedTo tables Started Resume tables1) where
+    resumed_asks : AsksSame below.state resumes.resumed
+    resumed_asks = asks_as below.state resumes.resumed (map as_timely below.state.requests) resumes.resumes.after.requests (timely_asked below.state.requests) resumes.resumes.after.next_request
+
+    recalled : (new : ManagerView) (told : Told) → TellsOne (view_of limits below tables) Resume told → All IsStart told.device → IsRecalled (pnp_state (view_of limits below tables).state) (view_of limits below tables) new told
+    recalled new told one only = subst (λ p. IsRecalled p (view_of limits below tables) new told) (sym (state_is tables.state below.state kept.sound.in_state ∙ was)) (one, only)
+
+    pub resume_sound : IsSound limits below1 tables1
+    resume_sound =
+        IsSound-moves limits (record below { state = resumes.resumed }) tables1 resumes.starts below1
+        (beside_sound limits below (record below { state = resumes.resumed }) tables tables1 Started Resume kept.sound
+        (record { same_rules = refl; same_packets = IsPermutation-refl _; same_rooms = λ spot. refl; same_submitted = refl; same_most = refl; same_adapter = refl })
+        resumed_asks (resumes.resumes.after.paused, subst IsFalse (sym resumes.resumes.after.removing) (subst (λ p. IsInState p below.state) was kept.sound.in_state).1) moved)
+        resumes.moves
+
+    pub resume_kept : (limits' : Limits) (below2 : DeviceView) (tables2 : Tables) → limits' ≡ limits → IsSound limits' below2 tables2 → Collects below1 tables1 below2 tables2
+        → IsRight (RecallReplies old OkReply (view_of limits' below2 tables2)) old (view_of limits' below2 tables2) × ManagerKept limits' below2 tables2
+    resume_kept limits' below2 tables2 same sound c =
+        step_kept limits below tables old kept shown (λ v new told. RecallReplies v OkReply new told) (Resume ∷ []) resumes.starts below1 tables1
+        (served Started Resume tables1 moved (ap is_gone was) refl resumes.resumed resumes.starts below1
+        (record { is_paused = resumes.resumes.is_paused; after = shown_same tables.next_request false resumes.resumed _ resumes.resumes.after }) resumed_asks resumes.moves.same_rules resumes.moves.run
+        (labels_moved below.adapter resumes.starts below1.adapter resumes.moves.adapter ∙ ap (λ before. before ++ resumes.starts) kept.none_recorded))
+        limits' below2 tables2 resumes.moves.adapter same sound c (
+          recalled (view_of limits below2 tables2) _ (record { own = refl; holders = ap (λ (t : Tables). (view_of limits below t).holders) moved.after }) (All-append IsStart resumes.starts c.starts resumes.only_starts c.only_starts),
+          same_handles Started Resume tables1 moved (ap is_gone was) refl below1 below2 tables2 c,
+        )
+
+  -- with no query pending nothing happens
+  pub recall_unmoved : tables.state ≡ Started → IsRight (RecallReplies old OkReply old) old old
+  recall_unmoved was =
+      subst (λ v. IsRight (RecallReplies v OkReply v) v v) shown (record {
+        told = tells_nothing (view_of limits below tables);
+        replies = (
+          subst (λ p. IsRecalled p (view_of limits below tables) (view_of limits below tables) (tells_nothing (view_of limits below tables))) (sym (state_is tables.state below.state kept.sound.in_state ∙ was))
+              (record { nothing = refl; same_state = refl; same_adapter = refl }),
+          record { handles = refl; next_handle = refl },
+        );
+        by = IsRightBy-unmoved (view_of limits below tables) none_told kept.none_recorded;
+      })
+
+-- THE TABLE'S ROWS
+
+pub valid_of : (r : Result PnpState InvalidDeviceRequestFault) (x : Option PnpState) (p : PnpState) → result_ok r ≡ x → r ≡ Ok p → x ≡ Some p
+valid_of r x p e is = sym e ∙ ap result_ok is
+
+pub invalid_of : (r : Result PnpState InvalidDeviceRequestFault) (x : Option PnpState) (fault : InvalidDeviceRequestFault) → result_ok r ≡ x → r ≡ Err fault → x ≡ None
+invalid_of r x fault e is = sym e ∙ ap result_ok is
+
+pub query_is : (p q : PnpState) → next QueryRemove p ≡ Some q → (p ≡ Started) × (q ≡ RemovePending)
+query_is Started q h = (refl, cc (h))
+query_is RemovePending q h = cc (h)
+query_is Removing q h = cc (h)
+query_is Removed q h = cc (h)
+
+pub recall_is : (p q : PnpState) → next CancelRemove p ≡ Some q → (q ≡ Started) × ((p ≡ Started) ⊎ (p ≡ RemovePending))
+recall_is Started q h = (cc (h), inl refl)
+recall_is RemovePending q h = (cc (h), inr refl)
+recall_is Removing q h = cc (h)
+recall_is Removed q h = cc (h)
+
+pub pending_of : (p q : PnpState) → next CancelRemove p ≡ Some q → (p ≡ Started → ⊥) → p ≡ RemovePending
+pending_of p q h other = elim (recall_is p q h).1 [ inl started ↦ absurd (other started) | inr pending ↦ pending ]
+
+pub remove_is : (p q : PnpState) → next RemoveDevice p ≡ Some q → (p ≡ RemovePending) × (q ≡ Removing)
+remove_is Started q h = cc (h)
+remove_is RemovePending q h = (refl, cc (h))
+remove_is Removing q h = cc (h)
+remove_is Removed q h = cc (h)
+
+pub surprise_is : (p q : PnpState) (s : State) → next SurpriseRemove p ≡ Some q → IsInState p s → (q ≡ Removing) × (is_gone p ≡ false) × IsFalse s.removing
+surprise_is Started q s h k = (cc (h), refl, k.1)
+surprise_is RemovePending q s h k = (cc (h), refl, k.1)
+surprise_is Removing q s h k = cc (h)
+surprise_is Removed q s h k = cc (h)
+
+pub moved_to : (old : Tables) (q p : PnpState) (label : Label) (new : Tables) → q ≡ p → new.labels.items ≡ old.labels.items ++ label ∷ [] → deque_capacity new.labels ≡ deque_capacity old.labels
+    → new ≡ record old { state = q; labels = new.labels } → MovedTo old p label new
+moved_to old q p label new same tells places after = record {
+  tells = tells;
+  label_places = places;
+  after = after ∙ ap (λ x. record old { state = x; labels = new.labels }) same;
+}

@@ -1,0 +1,79 @@
+-- One of the answers that wait is taken out.
+use Rattle.std.proofs.Common.{◌≡◌, ◌≤◌, ℕ, zero, suc, List, [], ◌∷◌, sym, subst, arith, map}
+use Rattle.std.specs.Prelude.{All, Option, Some, OnSome, remove}
+use Rattle.std.specs.VecDeque.{deque_len, deque_capacity}
+use Rattle.std.proofs.lemmas.List.Elements.{All-head, All-tail, All-cons, All-nil}
+use Rattle.slab.specs.Slab.{Slab}
+use Rattle.new_device.specs.View.{DeviceView}
+use Rattle.new_io_manager.specs.declared.Answer.{Answer}
+use Rattle.new_io_manager.specs.declared.Limits.{Limits}
+use Rattle.new_io_manager.specs.declared.tables.OpenRequest.{OpenRequest}
+use Rattle.new_io_manager.specs.declared.tables.Tables.{Tables}
+use Rattle.new_io_manager.specs.Ordering.{HasOtherNumber}
+use Rattle.new_io_manager.specs.Right.{AreRising, IsAbove, answer_number}
+use Rattle.new_io_manager.specs.Sound.{WasGiven, AreApart, ManagerKept}
+
+all_but : {X : Type 0} (P : X → Type 0) (xs : List X) (at : ℕ) → All P xs → All P (remove xs at)
+all_but P [] zero all = All-nil _
+all_but P [] (suc at) all = All-nil _
+all_but P (x ∷ xs) zero all = All-tail P x xs all
+all_but P (x ∷ xs) (suc at) all = All-cons P x (remove xs at) (All-head P x xs all) (all_but P xs at (All-tail P x xs all))
+
+above_all_but : (number : ℕ) (answers : List Answer) (at : ℕ) → All (IsAbove number) (map answer_number answers) → All (IsAbove number) (map answer_number (remove answers at))
+above_all_but number [] zero all = All-nil _
+above_all_but number [] (suc at) all = All-nil _
+above_all_but number (a ∷ more) zero all = All-tail (IsAbove number) a.number (map answer_number more) all
+above_all_but number (a ∷ more) (suc at) all =
+    All-cons (IsAbove number) a.number (map answer_number (remove more at)) (All-head (IsAbove number) a.number (map answer_number more) all)
+    (above_all_but number more at (All-tail (IsAbove number) a.number (map answer_number more) all))
+
+rising_but : (answers : List Answer) (at : ℕ) → AreRising (map answer_number answers) → AreRising (map answer_number (remove answers at))
+rising_but [] zero all = tt
+rising_but [] (suc at) all = tt
+rising_but (a ∷ more) zero all = all.1
+rising_but (a ∷ more) (suc at) all = (above_all_but a.number more at all.0, rising_but more at all.1)
+
+apart_but : (requests : Slab OpenRequest) (answers : List Answer) (at : ℕ) → AreApart requests answers → AreApart requests (remove answers at)
+apart_but requests answers at all slot request there = all_but (HasOtherNumber request.number) answers at (all slot request there)
+
+-- the tables with the answers of others, of which there is one less
+pub with_fewer : (limits : Limits) (below : DeviceView) (tables other : Tables) (at : ℕ) → ManagerKept limits below tables
+    → other.untaken.items ≡ remove tables.untaken.items at → deque_len other.untaken ≤ deque_len tables.untaken
+    → deque_capacity other.untaken ≡ deque_capacity tables.untaken → ManagerKept limits below (record tables { untaken = other.untaken })
+with_fewer limits below tables other at kept items shorter same =
+    let k = kept.sound in
+    record {
+      sound = record {
+        fits = k.fits;
+        numbers = record { requests = k.numbers.requests; handles = k.numbers.handles; rising = k.numbers.rising; submitted = k.numbers.submitted };
+        held = k.held;
+        few = k.few;
+        places = record {
+          labels = k.places.labels;
+          answered = k.places.answered;
+          untaken = (let room = k.places.untaken in omega arith);
+          handles = k.places.handles;
+          requests = k.places.requests;
+        };
+        on_map = k.on_map;
+        topmost = k.topmost;
+        spots = k.spots;
+        in_state = k.in_state;
+        none_put_by = k.none_put_by;
+        rising = subst (λ (as' : List Answer). AreRising (map answer_number as')) (sym items) (rising_but tables.untaken.items at k.rising);
+        given = subst (All (WasGiven tables.next_request)) (sym items) (all_but (WasGiven tables.next_request) tables.untaken.items at k.given);
+        apart = subst (AreApart tables.requests) (sym items) (apart_but tables.requests tables.untaken.items at k.apart);
+        chained = k.chained;
+        numbered = k.numbered;
+        counted = k.counted;
+      };
+      inside = kept.inside;
+      settled = kept.settled;
+      going = kept.going;
+      none_recorded = kept.none_recorded;
+      reached = kept.reached;
+    }
+
+-- what is said of an answer that is there
+pub of_some : {X : Type 0} (found : Option X) (x : X) (P : Type 0) → found ≡ Some x → OnSome found P → P
+of_some found x P is h = subst (λ (o : Option _). OnSome o P) is h

@@ -1,0 +1,24 @@
+-- The place is within the queue, and an answer that goes in at the front between two turns stands there.
+use Rattle.std.proofs.Common.{◌≡◌, ◌≤◌, ◌+◌, ◌∙◌, ap, arith, length}
+use Rattle.std.specs.VecDeque.{deque_len}
+use Rattle.new_io_manager.specs.Ordering.{lower_first}
+use Rattle.new_io_manager.proofs.Inserting.{lower_first_within, turned_in}
+use Rattle.new_io_manager.proofs.rising.insert_rising.Goals as goal
+
+pub rotate_left-requires : goal.rotate_left-requires
+rotate_left-requires c =
+    let within : lower_first c.args.answer.number c.args.answers.now.items ≤ length c.args.answers.now.items = lower_first_within c.args.answer.number c.args.answers.now.items in
+    let counted : c.args.answers.now.len ≡ length c.args.answers.now.items = c.args.answers.now.ok.0 in
+    omega (arith, c.place_of-place.ensures)
+
+pub rotate_right-requires : goal.rotate_right-requires
+rotate_right-requires c =
+    let within : lower_first c.args.answer.number c.args.answers.now.items ≤ length c.args.answers.now.items = lower_first_within c.args.answer.number c.args.answers.now.items in
+    let counted : c.args.answers.now.len ≡ length c.args.answers.now.items = c.args.answers.now.ok.0 in
+    omega (arith, c.place_of-place.ensures, c.rotate_left.ensures.len, c.push_front_reserved.ensures.len)
+
+pub returns-clause-items : goal.returns-clause-items
+returns-clause-items c =
+    turned_in c.args.answer c.args.answers.now.items c.place_of-place.result c.rotate_left.new.self.items c.push_front_reserved.new.self.items c.rotate_right.new.self.items (deque_len c.push_front_reserved.new.self)
+    c.place_of-place.ensures (c.push_front_reserved.ensures.len ∙ ap (λ n. n + 1) (c.rotate_left.ensures.len ∙ c.args.answers.now.ok.0))
+    c.rotate_left.ensures.items c.push_front_reserved.ensures.items c.rotate_right.ensures.items

@@ -1,0 +1,262 @@
+//! What a call is answered at once, and what one that is admitted opens: its packet, its pieces, its extent on the
+//! disk.
+
+ghost use Rattle.std.specs.Prelude.{◌≡◌, ◌<◌, ℕ, Option, false, length, option_map, IfOk};
+ghost use Rattle.machine.specs.Rules.{Rules, home, is_transfer, is_in_bounds, place_count};
+ghost use Rattle.machine.specs.State.{State};
+ghost use Rattle.machine.specs.Calling.{refusal};
+ghost use Rattle.irp.specs.declared.Payload.TheVariants.{Buffer};
+ghost use Rattle.new_io_manager.specs.Calls.{status_of_refusal};
+ghost use Rattle.new_io_manager.specs.Sound.{AreFirsts};
+ghost use Rattle.new_io_manager.specs.Admitting.{asked_for, status_at_once, AreBoundsOf, IsKnown, request_of};
+ghost use Rattle.new_io_manager.specs.Admitting.{HasCopies, first_location, IsOnTop};
+
+use crate::{Limits, Refusal};
+use irp::{Control, Driver, Irp, LocationFlags, Payload, StackLocation};
+use new_device::{ClientRequest, Kind, Request, major_for};
+use ntstatus::NtStatus;
+use sector::{Bytes, Extent};
+use std::alloc::{AllocError, Global};
+
+/// What a call asks of a partition, but for its bytes.
+#[derive(Debug, Clone, Copy, PartialEq, Eq)]
+pub(crate) struct Asked {
+    pub(crate) kind: Kind,
+    /// In bytes, from the start of the partition.
+    pub(crate) offset: u64,
+    /// In bytes.
+    pub(crate) length: u64,
+    pub(crate) through: bool,
+}
+
+/// What bounds a request.
+#[derive(Debug, Clone, Copy, PartialEq, Eq)]
+pub(crate) struct Bounds {
+    /// Bytes.
+    pub(crate) sector_size: u64,
+    /// The sectors of its partition.
+    pub(crate) sectors: u64,
+    /// Sectors of the longest request.
+    pub(crate) longest: u64,
+    /// Requests that may be open at once.
+    pub(crate) open_requests: u32,
+    /// Requests that are.
+    pub(crate) open_count: usize,
+    /// Whether the device is being removed, or is gone.
+    pub(crate) removing: bool,
+}
+
+/// A call that ends where it begins.
+#[derive(Debug, Clone, Copy, PartialEq, Eq)]
+pub(crate) enum AtOnce {
+    /// It asks for no bytes, and succeeds.
+    Empty,
+    Refused(Refusal),
+}
+
+/// What is decided of a call before anything changes.
+#[derive(Debug, Clone, Copy, PartialEq, Eq)]
+pub(crate) enum Decision {
+    /// There is no number left for it.
+    UsedUp,
+    /// It ends where it begins.
+    Ends(AtOnce),
+    /// It opens a request.
+    Opens,
+}
+
+impl AtOnce {
+    pub(crate) fn status(self) -> NtStatus
+        ensures { result ≡ status_at_once self }
+    {
+        match self {
+            AtOnce::Empty => NtStatus::Success,
+            AtOnce::Refused(refusal) => refusal.status(),
+        }
+    }
+}
+
+impl Refusal {
+    /// The status of the answer's label.
+    pub fn status(self) -> NtStatus
+        ensures { result ≡ status_of_refusal self }
+    {
+        match self {
+            Refusal::InvalidHandle => NtStatus::InvalidHandle,
+            Refusal::InvalidParameter => NtStatus::InvalidParameter,
+            Refusal::DeletePending => NtStatus::DeletePending,
+            Refusal::DeviceBusy => NtStatus::DeviceBusy,
+            Refusal::InsufficientResources => NtStatus::InsufficientResources,
+            Refusal::InvalidDeviceRequest => NtStatus::InvalidDeviceRequest,
+            Refusal::NotFound => NtStatus::NotFound,
+        }
+    }
+}
+
+impl Asked {
+    /// The places of the request: one for each of its sectors; a flush has one, of no sector.
+    pub(crate) fn place_count(self, sector_size: u64) -> u64
+        requires { 0 < sector_size }
+        ensures { (rules : Rules) (partition : Option ℕ) → rules.sector_size ≡ sector_size
+            → result ≡ place_count rules (asked_for partition self) }
+    {
+        match self.kind {
+            Kind::Read | Kind::Write => self.length / sector_size,
+            Kind::Flush => 1,
+        }
+    }
+}
+
+impl Limits {
+    /// The sector of the disk where a partition begins, if there is one of this number.
+    pub(crate) fn first_sector(&self, partition: Option<u8>) -> u64
+        ensures { (rules : Rules) → AreFirsts self.now.first_sectors rules.partitions
+            → IsKnown (length rules.partitions) partition
+            → result ≡ home rules partition 0 }
+    {
+        let Some(volume) = partition else { return 0 };
+        match self.first_sectors.get(volume as usize) {
+            Some(first) => *first,
+            None => 0,
+        }
+    }
+}
+
+impl Bounds {
+    /// Whether a request asks for whole sectors of its partition, no more than the longest may.
+    fn holds(&self, asked: Asked) -> bool
+        requires some_bytes { 0 < self.now.sector_size }
+        ensures { (rules : Rules) (s : State) (partition : Option ℕ) → AreBoundsOf self.now partition rules s
+            → result ≡ is_in_bounds rules (asked_for partition asked) }
+    {
+        let first = asked.offset / self.sector_size;
+        let count = asked.length / self.sector_size;
+        asked.offset % self.sector_size == 0
+            && asked.length % self.sector_size == 0
+            && first <= self.sectors
+            && count <= self.sectors - first
+            && count <= self.longest
+    }
+}
+
+/// Whether a request moves bytes.
+fn moves_bytes(kind: Kind) -> bool
+    ensures { result ≡ is_transfer kind }
+{
+    match kind {
+        Kind::Read | Kind::Write => true,
+        Kind::Flush => false,
+    }
+}
+
+/// What a read, a write or a flush of a partition is answered at once, if anything.
+pub(crate) fn refusal_of(bounds: &Bounds, partition: Option<u8>, asked: Asked) -> Option<AtOnce>
+    requires some_bytes { 0 < bounds.now.sector_size }
+    ensures exact { (rules : Rules) (s : State) → AreBoundsOf bounds.now partition rules s
+        → refusal rules s (asked_for partition asked) ≡ option_map status_at_once result }
+{
+    let transfer = moves_bytes(asked.kind);
+    if partition.is_none() {
+        Some(AtOnce::Refused(Refusal::InvalidHandle))
+    } else if bounds.removing {
+        Some(AtOnce::Refused(Refusal::DeletePending))
+    } else if transfer && !bounds.holds(asked) {
+        Some(AtOnce::Refused(Refusal::InvalidParameter))
+    } else if transfer && asked.length == 0 {
+        Some(AtOnce::Empty)
+    } else if bounds.open_count >= bounds.open_requests as usize {
+        Some(AtOnce::Refused(Refusal::DeviceBusy))
+    } else {
+        None
+    }
+}
+
+/// The request of a call, without its bytes.
+pub(crate) fn request_for(alloc: Global, partition: Option<u8>, asked: Asked) -> ClientRequest
+    ensures { result ≡ asked_for partition asked }
+{
+    ClientRequest {
+        partition,
+        kind: asked.kind,
+        offset: asked.offset,
+        length: asked.length,
+        through: asked.through,
+        bytes: Bytes::new(Vec::new(alloc)),
+    }
+}
+
+/// The sectors of its partition that a request asks for.
+pub(crate) fn request_below(sector_size: u64, request: &ClientRequest) -> Request
+    requires some_bytes { 0 < sector_size }
+    ensures { result ≡ request_of sector_size request.now }
+{
+    Request {
+        volume: request.partition.unwrap_or(0),
+        kind: request.kind,
+        extent: Extent {
+            first: request.offset / sector_size,
+            count: request.length / sector_size,
+        },
+        through: request.through,
+    }
+}
+
+/// The buffers that a request needs for the manager's own labels.
+#[derive(Drop)]
+pub(crate) struct Copies {
+    /// The bytes of a write, for the label of its call.
+    pub(crate) call_bytes: Bytes,
+    /// For the label of a read's answer.
+    pub(crate) label_bytes: Bytes,
+}
+
+/// A copy of a write's buffer, and one as long as a read's.
+///
+/// # Errors
+///
+/// [`AllocError`] where memory for one was refused.
+pub(crate) fn copies_for(alloc: Global, kind: Kind, buffer: &Bytes) -> Result<Copies, AllocError>
+    ensures { IfOk result (λ copies. HasCopies kind buffer.now copies) }
+{
+    let none = Vec::new(alloc);
+    let (call_bytes, label_bytes) = match kind {
+        Kind::Write => (Vec::from_slice(alloc, buffer.as_slice())?, none),
+        // No label tells what the buffer of a read holds at its call.
+        Kind::Read => (none, vec![in alloc; 0u8; buffer.len()]?),
+        Kind::Flush => (none, Vec::new(alloc)),
+    };
+    Ok(Copies {
+        call_bytes: Bytes::new(call_bytes),
+        label_bytes: Bytes::new(label_bytes),
+    })
+}
+
+/// The first location of a request, which asks for no completion routine.
+fn location_of(request: &Request) -> StackLocation
+    ensures { result ≡ first_location request.now }
+{
+    let flags = if request.through {
+        LocationFlags::WRITE_THROUGH
+    } else {
+        LocationFlags(0)
+    };
+    StackLocation {
+        driver: Driver::Partition,
+        major: major_for(false, request.kind),
+        minor: None,
+        control: Control(0),
+        flags,
+        volume: request.volume,
+        extent: request.extent,
+    }
+}
+
+/// A packet becomes that of a request, with its caller's buffer and the first location alone (WDK:
+/// IoGetNextIrpStackLocation).
+pub(crate) fn ready_packet(irp: &mut Irp, number: u64, request: &Request, buffer: Bytes)
+    ensures top { IsOnTop number request.now irp.new }
+    ensures payload { irp.new.payload ≡ Buffer buffer }
+{
+    *irp = Irp::new(number as u128, Payload::Buffer(buffer));
+    irp.next_location(location_of(request));
+}

@@ -1,0 +1,112 @@
+//! The I/O manager of a disk's device stack: handles on its partitions, the requests that are open on them, and the
+//! plug and play calls of its removal. Calls and adapter steps go in; answers, bytes and labels come out.
+//!
+//! Each call promises, by its clause `right`, that what it tells is a run of the sector machine of the topmost device,
+//! with open requests counted; that the adapter moved by just the device labels among them; and that the call's row of
+//! the table (`specs/Right`) holds. [`IoManager::shows_whole`] says what holds between two calls: what is shown is
+//! settled, and fits together. It is proved over any device that holds (`Hold`) and takes packets with a buffer. All
+//! that a request needs is made before it is admitted: its packet (WDK: IoAllocateIrp), its room in the device below,
+//! and the buffers and places of its labels and its answer. It does not promise that a request completes, nor an order
+//! between requests that overlap.
+#![tactic(auto)]
+
+mod admission;
+mod cancelling;
+mod chains;
+mod collecting;
+mod manager;
+mod opening;
+mod parts;
+mod removal;
+mod rising;
+mod tables;
+mod taking;
+
+pub use manager::IoManager;
+use ntstatus::NtStatus;
+use sector::Bytes;
+
+/// An open handle: its slot in the manager's table, and its number. Numbers rise from 1 to 2^62 - 1 and are never given
+/// twice; a slot is.
+#[derive(Debug, Clone, Copy, PartialEq, Eq)]
+pub struct Handle {
+    pub slot: u32,
+    pub number: u64,
+}
+
+/// An open request: its slot in the manager's table, and its number. Numbers rise from 1 to 2^62 - 1 and are never
+/// given twice; a slot is.
+#[derive(Debug, Clone, Copy, PartialEq, Eq)]
+pub struct Id {
+    pub slot: u32,
+    pub number: u64,
+}
+
+/// An open handle at its slot: its number, and the partition that it is open on, counted from 0.
+#[derive(Debug, Clone, Copy, PartialEq, Eq)]
+pub struct OpenHandle {
+    pub number: u64,
+    pub partition: u8,
+}
+
+/// The sizes that a manager keeps, and where its partitions begin.
+#[derive(Debug, Clone, Copy, PartialEq, Eq)]
+pub struct Limits {
+    /// Bytes of a sector of the disk.
+    pub sector_size: u64,
+    /// Sectors of the longest piece, from 1 on.
+    pub max_transfer: u32,
+    /// Requests open at once, 1 to 64.
+    pub open_requests: u32,
+    /// The sector of the disk where each partition begins, by the partition's number.
+    pub first_sectors: [u64; 4],
+}
+
+/// Why a call was refused.
+#[derive(Debug, Clone, Copy, PartialEq, Eq)]
+pub enum Refusal {
+    /// The handle isn't open.
+    InvalidHandle,
+    /// Offset or length is no multiple of the sector size, the end is past the partition, or the length is above the
+    /// longest that the device takes; or there is no such partition to open.
+    InvalidParameter,
+    /// The device is being removed, or is gone.
+    DeletePending,
+    /// As many requests are open as the limits allow, or 64 handles; or the numbers are used up.
+    DeviceBusy,
+    /// Memory for the call was refused.
+    InsufficientResources,
+    /// A plug and play call in the wrong state.
+    InvalidDeviceRequest,
+    /// There is no open request to cancel.
+    NotFound,
+}
+
+/// How a request ended.
+#[derive(Debug, Drop)]
+pub struct Answer {
+    /// The request's.
+    pub number: u64,
+    pub status: NtStatus,
+    /// The number of bytes transferred (WDK: IO_STATUS_BLOCK): the length of a read or write that succeeded, else 0.
+    pub information: u64,
+    /// Those of a read that succeeded, else none.
+    pub bytes: Bytes,
+}
+
+/// What a call is answered.
+#[derive(Debug, Drop)]
+pub enum Reply {
+    /// To `open`.
+    Handle(Handle),
+    /// It was done.
+    Ok,
+    /// The request is open; its answer comes later.
+    Request(Id),
+    /// The answer to a request of no bytes, which is no open request and has no other answer.
+    Answered(Answer),
+    /// With the caller's bytes, unchanged.
+    Refused { refusal: Refusal, bytes: Bytes },
+    /// There is nothing to act on, to hand back or to mark.
+    Ignored,
+}

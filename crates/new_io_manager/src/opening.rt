@@ -1,0 +1,87 @@
+//! A manager before its first call: its tables, empty, over a device of which nothing was asked yet.
+
+ghost use Rattle.std.specs.Prelude.{◌≡◌, ◌≤◌, [], IfOk, IsFalse};
+ghost use Rattle.new_io_manager.specs.Sound.{HasPlaces};
+ghost use Rattle.new_io_manager.specs.Opening.{IsUnasked, AreFor, AreEmpty, IsFirstView};
+
+use crate::Limits;
+use crate::chains::Chains;
+use crate::manager::IoManager;
+use crate::parts::Parts;
+use crate::tables::{HANDLE_LIMIT, LABEL_PLACES, Tables};
+use new_device::{Device, Shown};
+use pnp::State;
+use slab::Slab;
+use std::alloc::{AllocError, Global};
+use std::collections::VecDeque;
+
+/// Places for answers: as many as a step tells.
+const ANSWER_PLACES: usize = 64;
+
+/// A table of so many slots.
+///
+/// # Errors
+///
+/// [`AllocError`] where memory was refused.
+fn slots<T: Drop>(alloc: Global, places: usize) -> Result<Slab<T>, AllocError>
+    ensures empty { IfOk result (λ slab. slab.slots ≡ []) }
+    ensures places { IfOk result (λ slab. slab.capacity ≡ places) }
+{
+    let slab = Slab::with_capacity(alloc, places)?;
+    // A slab may have more places than it was asked for, and then slots past these.
+    if slab.capacity() != places {
+        return Err(AllocError);
+    }
+    Ok(slab)
+}
+
+impl Tables {
+    /// Empty tables, with places for all that a step may add.
+    ///
+    /// # Errors
+    ///
+    /// [`AllocError`] where memory for the places was refused.
+    pub(crate) fn new(alloc: Global, limits: &Limits) -> Result<Tables, AllocError>
+        ensures empty { IfOk result AreEmpty }
+        ensures places { IfOk result (HasPlaces limits.now) }
+    {
+        Ok(Tables {
+            next_request: 1,
+            next_handle: 1,
+            state: State::Started,
+            handles: slots(alloc, HANDLE_LIMIT)?,
+            requests: slots(alloc, limits.open_requests as usize)?,
+            chains: Chains::new(),
+            by_number: Chains::new(),
+            open_counts: [0; HANDLE_LIMIT],
+            labels: VecDeque::with_capacity(alloc, LABEL_PLACES)?,
+            answered: VecDeque::with_capacity(alloc, ANSWER_PLACES)?,
+            untaken: VecDeque::new(alloc),
+        })
+    }
+}
+
+impl<D: Device> IoManager<D> {
+    /// A manager over a device of which nothing was asked yet, with places for its 64 handles, its open requests and
+    /// the labels and answers of a step.
+    ///
+    /// # Errors
+    ///
+    /// [`AllocError`] where memory for these was refused.
+    pub fn new(alloc: Global, device: D, limits: Limits) -> Result<IoManager<D>, AllocError>
+        requires takes_buffers { IsFalse D.takes_srb }
+        requires locations { D.stack_size ≤ 4 }
+        requires unasked { IsUnasked (D.view device) }
+        requires limits { AreFor (D.view device) limits }
+        ensures view { IfOk result (IsFirstView limits (D.view device)) }
+    {
+        device.shows_order();
+        let tables = Tables::new(alloc, &limits)?;
+        let parts = Parts {
+            device,
+            limits,
+            tables,
+        };
+        Ok(IoManager { parts })
+    }
+}

@@ -1,0 +1,37 @@
+//! Queues of answers by rising numbers.
+
+ghost use Rattle.std.specs.Prelude.{◌≡◌, ◌<◌, ◌+◌, map};
+ghost use Rattle.std.specs.VecDeque.{deque_len, deque_capacity};
+ghost use Rattle.new_io_manager.specs.Ordering.{inserted, lower_first};
+ghost use Rattle.new_io_manager.specs.Right.{AreRising, answer_number};
+
+use crate::Answer;
+use std::collections::VecDeque;
+
+/// How many of the answers, by rising numbers, have lower ones. It looks from the back, at those that don't alone.
+fn place_of(answers: &VecDeque<Answer>, number: u64) -> usize
+    requires { AreRising (map answer_number answers.now.items) }
+    ensures { result ≡ lower_first number answers.now.items }
+{
+    let mut place = answers.len();
+    while place > 0 && answers[place - 1].number >= number {
+        place -= 1;
+    }
+    place
+}
+
+/// Puts an answer behind those with lower numbers, in a queue by rising numbers that has a place for it. Only those
+/// with higher numbers are moved.
+pub(crate) fn insert_rising(answers: &mut VecDeque<Answer>, answer: Answer)
+    requires place { deque_len answers.old < deque_capacity answers.old }
+    requires rising { AreRising (map answer_number answers.old.items) }
+    ensures items { answers.new.items ≡ inserted answer answers.old.items }
+    ensures len { deque_len answers.new ≡ deque_len answers.old + 1 }
+    ensures capacity { deque_capacity answers.new ≡ deque_capacity answers.old }
+{
+    // `insert` may take memory. These never do, and they turn the queue by the shorter way.
+    let place = place_of(answers, answer.number);
+    answers.rotate_left(place);
+    answers.push_front_reserved(answer);
+    answers.rotate_right(place);
+}

@@ -1,0 +1,284 @@
+//! What the manager keeps beside the device: handles, open requests, the plug and play state, labels and answers.
+
+ghost use Rattle.std.specs.Prelude.{◌≡◌, ◌≤◌, ◌<◌, ◌+◌, ◌^◌, ◌++◌, ◌∷◌, [], true, false, is_some, OnOk, MatchBool};
+ghost use Rattle.std.specs.VecDeque.{deque_len, deque_capacity};
+ghost use Rattle.slab.specs.Slab.{HasRoomFor, slab_len};
+ghost use Rattle.new_io_manager.specs.declared.Reply.TheVariants.{Refused as RefusedReply};
+ghost use Rattle.new_io_manager.specs.Calls.{partition_of, are_used_up, handle_limit};
+ghost use Rattle.new_io_manager.specs.Chains.{AreChained, AreNumbered, AreCounted, remainder_of};
+ghost use Rattle.new_io_manager.specs.Cancelling.{ClosesSlot, HasSome, HasNoneOf, IsOpenAt, IsNotOpenAt};
+ghost use Rattle.new_io_manager.specs.Admitting.{AnswersAtOnce, KeepsAnswers, Admits, OpensHandle, status_at_once};
+ghost use Rattle.new_io_manager.specs.Admitting.{reply_at_once, is_going};
+
+use crate::admission::{AtOnce, Copies};
+use crate::chains::{CHAIN_LIMIT, Chains, REQUEST_LIMIT};
+use crate::{Answer, Handle, Id, OpenHandle, Refusal, Reply};
+use new_device::{ClientRequest, Kind, Label};
+use ntstatus::NtStatus;
+use pnp::State;
+use sector::Bytes;
+use slab::Slab;
+use std::alloc::{AllocError, Global};
+use std::collections::VecDeque;
+
+/// Numbers of requests and of handles are below this one.
+pub(crate) const NUMBER_LIMIT: u64 = 1 << 62;
+
+/// Handles open at once.
+pub(crate) const HANDLE_LIMIT: usize = CHAIN_LIMIT;
+
+/// Places for labels: more than a step tells.
+pub(crate) const LABEL_PLACES: usize = 256;
+
+/// An open request, at its slot.
+#[derive(Debug, Drop)]
+pub(crate) struct OpenRequest {
+    pub(crate) number: u64,
+    /// The number of its call's handle.
+    pub(crate) handle: u64,
+    /// And its slot.
+    pub(crate) handle_slot: u32,
+    pub(crate) kind: Kind,
+    /// Where the device below has its packet.
+    pub(crate) spot: usize,
+    pub(crate) cancelled: bool,
+    /// As many bytes as a read brings, for its answer's label; another has none here.
+    pub(crate) label_bytes: Bytes,
+}
+
+/// All that the manager keeps itself. The places for what a step may add are there before it.
+#[derive(Drop)]
+pub(crate) struct Tables {
+    /// The number of the next request, from 1.
+    pub(crate) next_request: u64,
+    /// The number of the next handle, from 1.
+    pub(crate) next_handle: u64,
+    pub(crate) state: State,
+    pub(crate) handles: Slab<OpenHandle>,
+    pub(crate) requests: Slab<OpenRequest>,
+    /// The requests that are not cancelled yet, by handle.
+    pub(crate) chains: Chains,
+    /// All open requests, by their number modulo 64.
+    pub(crate) by_number: Chains,
+    /// How many requests are open on the handle in each slot.
+    pub(crate) open_counts: [u8; HANDLE_LIMIT],
+    /// Not yet taken, in order.
+    pub(crate) labels: VecDeque<Label>,
+    /// The labels of the answers of this step, by rising numbers.
+    pub(crate) answered: VecDeque<Answer>,
+    /// Answers not yet taken, by rising numbers.
+    pub(crate) untaken: VecDeque<Answer>,
+}
+
+/// The chain that a request of this number stands in.
+pub(crate) fn remainder_of(number: u64) -> usize
+    ensures is { result ≡ remainder_of number }
+    ensures in_range { result < 64 }
+{
+    number as usize % CHAIN_LIMIT
+}
+
+/// A refusal, with the caller's bytes.
+pub(crate) fn refused(refusal: Refusal, bytes: Bytes) -> Reply
+    ensures { result ≡ RefusedReply refusal bytes }
+{
+    Reply::Refused { refusal, bytes }
+}
+
+/// A refusal of a call that brought no bytes.
+pub(crate) fn refused_alone(alloc: Global, refusal: Refusal) -> Reply
+    ensures { result ≡ RefusedReply refusal [] }
+{
+    refused(refusal, Bytes::new(Vec::new(alloc)))
+}
+
+impl Tables {
+    /// Whether the device is being removed, or is gone.
+    pub(crate) fn is_going(&self) -> bool
+        ensures { result ≡ is_going self.now.state }
+    {
+        match self.state {
+            State::Started | State::RemovePending => false,
+            State::Removing | State::Removed => true,
+        }
+    }
+
+    /// The device has another state from now on, and its label tells so.
+    pub(crate) fn move_to(&mut self, state: State, label: Label)
+        requires label_place { deque_len self.old.labels < deque_capacity self.old.labels }
+        ensures tells { self.new.labels.items ≡ self.old.labels.items ++ label ∷ [] }
+        ensures one_more { deque_len self.new.labels ≡ deque_len self.old.labels + 1 }
+        ensures label_places { deque_capacity self.new.labels ≡ deque_capacity self.old.labels }
+        ensures after { self.new ≡ record self.old { state = state; labels = self.new.labels } }
+    {
+        self.state = state;
+        self.labels.push_back_reserved(label);
+    }
+
+    /// The partition that a handle is open on.
+    pub(crate) fn partition_of(&self, handle: Handle) -> Option<u8>
+        ensures { result ≡ partition_of self.now.handles.slots handle }
+    {
+        let open = self.handles.get(handle.slot as usize)?;
+        if open.number == handle.number {
+            Some(open.partition)
+        } else {
+            None
+        }
+    }
+
+    /// Gives a handle on a partition.
+    pub(crate) fn open(&mut self, alloc: Global, partition: u8, partitions: usize) -> Reply
+        requires { self.old.handles.capacity ≡ handle_limit }
+        ensures { OpensHandle self.old partition partitions result self.new }
+    {
+        if self.next_handle >= NUMBER_LIMIT {
+            return refused_alone(alloc, Refusal::DeviceBusy);
+        }
+        if self.is_going() {
+            return refused_alone(alloc, Refusal::DeletePending);
+        }
+        if partition as usize >= partitions {
+            return refused_alone(alloc, Refusal::InvalidParameter);
+        }
+        if self.handles.len() >= HANDLE_LIMIT {
+            return refused_alone(alloc, Refusal::DeviceBusy);
+        }
+        let number = self.next_handle;
+        self.next_handle += 1;
+        let slot = self
+            .handles
+            .insert_reserved(OpenHandle { number, partition });
+        self.open_counts[slot] = 0;
+        Reply::Handle(Handle {
+            slot: slot as u32,
+            number,
+        })
+    }
+
+    /// Closes the handle in a slot, where there is one.
+    pub(crate) fn close_handle(&mut self, slot: u32)
+        ensures { ClosesSlot self.old slot self.new }
+    {
+        let _ = self.handles.try_remove(slot as usize);
+    }
+
+    /// Whether an open handle has an open request.
+    pub(crate) fn has_open(&self, handle: Handle) -> bool
+        requires open { is_some (partition_of self.now.handles.slots handle) ≡ true }
+        requires chained { AreChained self.now.handles self.now.requests self.now.next_handle self.now.chains }
+        requires counted { AreCounted self.now.handles self.now.requests self.now.open_counts }
+        ensures { MatchBool result (HasSome self.now.requests handle.number)
+            (HasNoneOf self.now.requests handle.number) }
+    {
+        self.open_counts[handle.slot as usize] > 0
+    }
+
+    /// Whether this request is open, on a handle of this number.
+    pub(crate) fn holds_at(&self, id: Id, handle: u64) -> bool
+        ensures { MatchBool result (IsOpenAt self.now.requests id handle) (IsNotOpenAt self.now.requests id handle) }
+    {
+        match self.requests.get(id.slot as usize) {
+            Some(request) => request.number == id.number && request.handle == handle,
+            None => false,
+        }
+    }
+
+    /// Tells a call that is refused or of no bytes, and its answer.
+    pub(crate) fn answer_at_once(
+        &mut self,
+        alloc: Global,
+        request: ClientRequest,
+        at_once: AtOnce,
+        buffer: Bytes,
+    ) -> Reply
+        requires numbers_last { are_used_up self.old.next_request ≡ false }
+        requires places { deque_len self.old.labels + 2 ≤ deque_capacity self.old.labels }
+        requires no_bytes { request.bytes ≡ [] }
+        ensures tells { AnswersAtOnce self.old request (status_at_once at_once) self.new }
+        ensures replies { result ≡ reply_at_once self.old.next_request buffer at_once }
+    {
+        let number = self.next_request;
+        self.next_request += 1;
+        self.labels
+            .push_back_reserved(Label::Call { number, request });
+        self.labels.push_back_reserved(Label::Answer {
+            number,
+            status: at_once.status(),
+            information: 0,
+            bytes: Bytes::new(Vec::new(alloc)),
+        });
+        match at_once {
+            AtOnce::Empty => Reply::Answered(Answer {
+                number,
+                status: NtStatus::Success,
+                information: 0,
+                bytes: buffer.emptied(),
+            }),
+            AtOnce::Refused(refusal) => refused(refusal, buffer),
+        }
+    }
+
+    /// Makes places for the answers of all open requests and of one more, and for 64 at most.
+    ///
+    /// # Errors
+    ///
+    /// [`AllocError`] where a place lacks and memory for it was refused.
+    pub(crate) fn cover_answers(&mut self) -> Result<(), AllocError>
+        requires few { slab_len self.old.requests < 64 }
+        ensures keeps { KeepsAnswers self.old self.new }
+        ensures places { OnOk result (deque_len self.new.untaken + (slab_len self.new.requests + 1)
+            ≤ deque_capacity self.new.untaken) }
+    {
+        if self.requests.len() < self.untaken.capacity() - self.untaken.len() {
+            return Ok(());
+        }
+        self.untaken.reserve_exact(REQUEST_LIMIT)?;
+        Ok(())
+    }
+
+    /// Opens a request under the next number, whose packet is at this spot below, tells its call, and gives its slot.
+    pub(crate) fn admit(
+        &mut self,
+        handle: Handle,
+        request: ClientRequest,
+        spot: usize,
+        copies: Copies,
+    ) -> u32
+        requires numbers_last { are_used_up self.old.next_request ≡ false }
+        requires label_place { deque_len self.old.labels < deque_capacity self.old.labels }
+        requires free_slot { HasRoomFor self.old.requests 1 }
+        requires slots { self.old.requests.capacity ≤ 64 }
+        requires chained { AreChained self.old.handles self.old.requests self.old.next_handle self.old.chains }
+        requires numbered { AreNumbered self.old.requests self.old.by_number }
+        requires counted { AreCounted self.old.handles self.old.requests self.old.open_counts }
+        requires open { is_some (partition_of self.old.handles.slots handle) ≡ true }
+        ensures { Admits self.old handle request copies spot result self.new }
+    {
+        let Copies {
+            call_bytes,
+            label_bytes,
+        } = copies;
+        let number = self.next_request;
+        self.next_request = number + 1;
+        let slot = self.requests.insert_reserved(OpenRequest {
+            number,
+            handle: handle.number,
+            handle_slot: handle.slot,
+            kind: request.kind,
+            spot,
+            cancelled: false,
+            label_bytes,
+        });
+        self.chains.put_last(handle.slot as usize, slot);
+        self.by_number.put_last(remainder_of(number), slot);
+        self.open_counts[handle.slot as usize] += 1;
+        let request = ClientRequest {
+            bytes: call_bytes,
+            ..request
+        };
+        self.labels
+            .push_back_reserved(Label::Call { number, request });
+        slot as u32
+    }
+}
