@@ -1,4 +1,12 @@
+pub mod Beginning
+pub mod Booked
+pub mod Failures
+pub mod Going
+pub mod Keeping
+pub mod Noted
 pub mod Numbered
 pub mod Same
+pub mod Settled
 pub mod Staying
+pub mod Stepping
 pub mod Telling

@@ -1,5 +1,5 @@
 -- A tag's piece stays as it is, until a label tells of it.
-use Rattle.std.proofs.Common.{◌≡◌, ◌≢◌, ◌⊎◌, inl, inr, ℕ, zero, suc, Bool, true, false, List, [], ◌∷◌, ◌++◌, map, IsPermutation, sym, ap, subst, ◌∙◌, arith}
+use Rattle.std.proofs.Common.{◌≡◌, ◌≢◌, ◌<◌, ◌⊎◌, inl, inr, ℕ, zero, suc, Bool, true, false, List, [], ◌∷◌, ◌++◌, map, length, get_or, IsPermutation, refl, sym, ap, subst, ◌∙◌, arith}
 use Rattle.std.specs.Prelude.{All, Contains}
 use Rattle.std.specs.List.{remove}
 use Rattle.std.proofs.lemmas.List.Elements.{All-head, All-tail, All-weaker, All-contains, All-contains_itself, Contains-append_left, Contains-append_right}
@@ -8,13 +8,17 @@ use Rattle.srb.specs.declared.Srb.{Srb}
 use Rattle.srb.specs.declared.DeviceLabel.{DeviceLabel}
 use Rattle.srb.specs.declared.DeviceLabel.TheVariants.{Start, Act, Fault, Return}
 use Rattle.srb.specs.Fate.{Fresh}
-use Rattle.adapter.specs.View.{TagInUse, AdapterView, ReservesMore, MovesOn, MovesByAll, acted, faulted, met_by_reset, in_use_from}
+use Rattle.adapter.specs.View.{TagInUse, AdapterView, ReservesMore, MovesOn, MovesByAll, NotesReset, acted, faulted, met_by_reset, in_use_from}
 use Rattle.adapter.specs.Booking.{IsArmed}
 use Rattle.adapter.proofs.Booked.{is_there}
 use Rattle.machine.specs.declared.Label.{Label}
+use Rattle.machine.specs.declared.Label.TheVariants.{Device}
 use Rattle.machine.specs.Step.{as_label}
+use Rattle.io_manager.specs.declared.Reply.{Reply}
 use Rattle.io_manager.specs.Shown.{ManagerView}
 use Rattle.io_manager.specs.Right.{Told, IsRightBy, MovesWith, labels_of, end_labels, as_answer}
+use Rattle.compose.specs.declared.Event.{Event}
+use Rattle.compose.specs.Right.{IsRight}
 use Rattle.compose.proofs.JournaledStep.{there_mapped}
 use Rattle.compose.proofs.JournaledKept.{IsLed, led}
 use Rattle.new_book.specs.Staying.{LeavesPiece, Leaves, ArmedStays}
@@ -67,18 +71,18 @@ all_stays old (label ∷ labels) new u leave (before, after, reserves, (tag, mov
 -- THE VIEW
 
 -- the same in a form without the other tags
-record IsIn (view : AdapterView) (tag piece : ℕ) (srb : Srb) : Type 0 where
-  use' : TagInUse
-  there : Contains view.tags use'
-  has_tag : use'.tag ≡ tag
-  is_piece : use'.piece ≡ piece
-  is_fresh : use'.fate ≡ Fresh
-  is_srb : use'.srb ≡ srb
+pub record IsIn (view : AdapterView) (tag piece : ℕ) (srb : Srb) : Type 0 where
+  pub use' : TagInUse
+  pub there : Contains view.tags use'
+  pub has_tag : use'.tag ≡ tag
+  pub is_piece : use'.piece ≡ piece
+  pub is_fresh : use'.fate ≡ Fresh
+  pub is_srb : use'.srb ≡ srb
 
-is_in : (view : AdapterView) (tag piece : ℕ) (srb : Srb) → IsArmed view tag piece srb → IsIn view tag piece srb
+pub is_in : (view : AdapterView) (tag piece : ℕ) (srb : Srb) → IsArmed view tag piece srb → IsIn view tag piece srb
 is_in view tag piece srb h = record { use' = h.use'; there = is_there view tag h.use' h.others h.is_on; has_tag = h.is_on.has_tag; is_piece = h.is_piece; is_fresh = h.is_fresh; is_srb = h.is_srb }
 
-is_armed : (view : AdapterView) (tag piece : ℕ) (srb : Srb) → IsIn view tag piece srb → IsArmed view tag piece srb
+pub is_armed : (view : AdapterView) (tag piece : ℕ) (srb : Srb) → IsIn view tag piece srb → IsArmed view tag piece srb
 is_armed view tag piece srb h = record {
   use' = h.use';
   others = remove view.tags h.there.0;

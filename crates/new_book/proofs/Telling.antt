@@ -1,112 +1,182 @@
--- The act of an entry goes on with what was told.
-use Rattle.std.proofs.Common.{◌≡◌, ℕ, Bool, true, false, List, ◌++◌, length, Some, Ok, Result, IsFalse, refl, sym, ap, subst, ◌∙◌, if◌then◌else◌}
+-- The act of an entry that was booked goes on with what was told.
+use Rattle.std.proofs.Common.{◌≡◌, inl, inr, ℕ, Bool, true, false, List, [], ◌∷◌, ◌++◌, length, Option, Some, None, Ok, Err, Result, IsFalse, refl, sym, ap, subst, ◌∙◌, if◌then◌else◌}
 use Rattle.std.specs.Prelude.{slice_get}
+use Rattle.std.proofs.lemmas.List.{map_push}
+use Rattle.srb.specs.declared.Srb.{Srb}
 use Rattle.srb.specs.declared.Entry.{Entry}
 use Rattle.srb.specs.declared.Completion.{Completion}
+use Rattle.srb.specs.declared.DeviceLabel.TheVariants.{Act as ActLabel}
 use Rattle.adapter.specs.View.{AdapterView, IsInOrder}
 use Rattle.adapter.specs.Booking.{IsOfSrb, IsBookable, Books, with_booking}
 use Rattle.machine.specs.declared.Label.{Label}
+use Rattle.machine.specs.declared.Label.TheVariants.{Device}
 use Rattle.machine.specs.Rules.{Rules}
 use Rattle.machine.specs.State.{State, opening}
 use Rattle.machine.specs.Step.{Run}
 use Rattle.machine.proofs.Numbers.{AreDistinct-Run, AreDistinct-opening}
-use Rattle.machine.proofs.Same.{Run-append}
-use Rattle.machine_laws.specs.Reached.{AreWhole, IsReached}
+use Rattle.machine_laws.specs.Reached.{IsReached}
+use Rattle.io_manager.specs.declared.OpenHandle.{OpenHandle}
 use Rattle.io_manager.specs.declared.Reply.{Reply}
+use Rattle.io_manager.specs.declared.Reply.TheVariants.{Ok as OkReply}
 use Rattle.io_manager.specs.Shown.{ManagerView}
 use Rattle.io_manager.specs.Right.{BooksPiece, FitsTogether}
 use Rattle.compose.specs.declared.Event.TheVariants.{Act}
 use Rattle.compose.specs.Right.{IsRight}
-use Rattle.compose.specs.Journaled.{ArmedMayBeBooked, BookedActsAddEntries, StepsStayApart}
-use Rattle.compose.proofs.JournaledKept.{IsLed, led}
+use Rattle.compose.specs.Journaled.{ArmedMayBeBooked, BookedActsAddEntries, StepsStayApart, IsJournaled}
 use Rattle.compose.proofs.JournaledStep.{ActsAsBooked, booked_step}
 use Rattle.sector_journal.specs.declared.acted.Entered.{Entered}
-use Rattle.sector_journal.specs.Journal.{JournalView}
+use Rattle.sector_journal.specs.declared.slots.Armed.{Armed}
+use Rattle.sector_journal.specs.Journal.{JournalView, entries_in}
 use Rattle.sector_journal.proofs.Bookable.{of_srb}
-use Rattle.new_book.specs.Acting.{StandsIn, IsOnTag, MayBook, ActsEntry, IsTold, TellsEntry}
+use Rattle.traced.specs.Entries.{labels_of}
+use Rattle.traced.specs.Traced.{TracedView, IsCarried, IsServed, IsTraced}
+use Rattle.new_book.specs.Acting.{IsAsLarge, MayBook, HoldsBooked, ActsEntry}
+use Rattle.new_book.specs.Arming.{IsOfThis, IsOfTag, claimed_at}
+use Rattle.new_book.specs.Book.{BookView, BooksOne, IsKept, book_of}
+use Rattle.new_book.specs.Staying.{Claimed, IsClaimed, IsOnTag, AreOnTags, HaveNotedAll, ArmedStays}
+use Rattle.new_book.specs.Taken.{TakesNext}
+use Rattle.new_book.proofs.Going.{labels_carried, act_carried, tags_booked, tags_kept}
 
 some_entered : {x y : Entered} → Some x ≡ Some y → x ≡ y
 some_entered {x} {y} e = cc
 
-apart_still : (old new : AdapterView) (tag piece : ℕ) (what : Result Entry Completion) → Books old tag piece what new → IsFalse old.faithful → IsFalse new.faithful
+pub apart_still : (old new : AdapterView) (tag piece : ℕ) (what : Result Entry Completion) → Books old tag piece what new → IsFalse old.faithful → IsFalse new.faithful
 apart_still old new tag piece what books apart = subst (λ (v : AdapterView). IsFalse v.faithful) (sym books.after) (by_choice books.booked)
   where
     by_choice : (booked : Bool) → IsFalse (if booked then with_booking tag what old else old).faithful
     by_choice true = apart
     by_choice false = apart
 
-module _ (armed : ArmedMayBeBooked) (adds : BookedActsAddEntries) (apart : StepsStayApart) (old booked new : ManagerView) (journal : JournalView) (number : ℕ) (entered : Entered) (reply : Reply)
-    (there : slice_get journal.entered number ≡ Some entered) (stands : StandsIn old journal) (may : MayBook old journal number) (books : BooksPiece old entered.entry.tag entered.entry.piece (Ok entered.entry) booked)
-    (read : FitsTogether old) (order : IsInOrder booked.adapter) (fits : FitsTogether booked) (reached : IsReached booked.rules booked.state) (right : IsRight booked (Act entered.entry.tag) reply new) where
-  entry : Entry
-  entry = entered.entry
+-- what the entry was armed as, which is the piece on its tag
+record IsArmedThere (journal : JournalView) (view : AdapterView) (number : ℕ) (entered : Entered) : Type 0 where
+  armed : Armed
+  on_tag : IsOnTag view entered.entry.tag armed
+  piece_is : entered.entry.piece ≡ armed.piece
+  of_srb : IsOfSrb journal.medium.sector_size (length journal.medium.sectors) armed.srb entered.entry
 
-  same : may.of_this.entered ≡ entered
-  same = some_entered (sym may.of_this.there ∙ there)
+there_of : (journal : JournalView) (view : AdapterView) (claims : List (ℕ × Armed)) (number : ℕ) (entered : Entered) → slice_get journal.entered number ≡ Some entered
+    → (of_this : IsOfThis journal claims number) → ((n : ℕ) (armed : Armed) → claims ≡ (n, armed) ∷ [] → IsOnTag view entered.entry.tag armed) → IsArmedThere journal view number entered
+there_of journal view claims number entered there of_this on =
+    let same : of_this.entered ≡ entered = some_entered (sym of_this.there ∙ there) in
+    record {
+      armed = of_this.armed;
+      on_tag = on of_this.entered.arming of_this.armed of_this.claimed;
+      piece_is = ap (λ (e : Entered). e.entry.piece) (sym same) ∙ of_this.is_piece;
+      of_srb = subst (λ (e : Entered). IsOfSrb journal.medium.sector_size (length journal.medium.sectors) of_this.armed.srb e.entry) same of_this.of_srb;
+    }
 
-  on_tag : IsOnTag old.adapter entered.entry.tag may.of_this.armed
-  on_tag = subst (λ (e : Entered). IsOnTag old.adapter e.entry.tag may.of_this.armed) same may.on_tag
+armed_there : (journal : JournalView) (view : AdapterView) (tags : Claimed) (claimed : Option (List (ℕ × Armed))) (number : ℕ) (entered : Entered) → slice_get journal.entered number ≡ Some entered → AreOnTags view tags
+    → claimed_at tags entered.entry.tag ≡ claimed → IsOfTag journal claimed number → IsArmedThere journal view number entered
+armed_there journal view tags (Some claims) number entered there on at of =
+    there_of journal view claims number entered there of (λ n armed e. on entered.entry.tag n armed (at ∙ ap Some e))
+armed_there journal view tags None number entered there on at of = absurd of
 
-  piece_is : entered.entry.piece ≡ may.of_this.armed.piece
-  piece_is = ap (λ (e : Entered). e.entry.piece) (sym same) ∙ may.of_this.is_piece
+module _ (armed : ArmedMayBeBooked) (adds : BookedActsAddEntries) (apart : StepsStayApart) (stays : ArmedStays) (rules : Rules) (start : State) (partitions : List ℕ) (handles : List (Option OpenHandle))
+    (old held new : TracedView) (taken taken' : List Entered) (tags tags' : Claimed) (journal : JournalView) (entered : Entered) (reply : Reply)
+    (kept : IsKept rules start old taken tags) (is : IsTraced rules start partitions handles old) (fits : FitsTogether old.stack) (may : MayBook rules journal tags (length taken))
+    (there : slice_get journal.entered (length taken) ≡ Some entered) (holds : HoldsBooked old entered.entry.tag entered.entry.piece (Ok entered.entry) held)
+    (order : IsInOrder held.stack.adapter) (fits' : FitsTogether held.stack) (reached : IsReached held.stack.rules held.stack.state)
+    (served : IsServed 0 held (Act entered.entry.tag) reply new)
+    (noted : (labels : List Label) → labels_of new.entries ≡ labels_of held.entries ++ labels → HaveNotedAll labels tags tags') (takes : TakesNext journal.entered taken taken') where
+  abbrev trace : List Label
+  trace = labels_of old.entries
 
-  suits : IsOfSrb old.adapter.sector_size (length old.adapter.sectors) on_tag.srb entered.entry
+  abbrev carried : IsCarried 0 held (Act entered.entry.tag) reply new
+  carried = act_carried 0 held entered.entry.tag reply new served
+
+  abbrev stepped : ManagerView
+  stepped = carried.stepped
+
+  same : may.entered ≡ entered
+  same = some_entered (sym may.there ∙ there)
+
+  here : IsArmedThere journal old.stack.adapter (length taken) entered
+  here =
+      armed_there journal old.stack.adapter tags (claimed_at tags entered.entry.tag) (length taken) entered there kept.on_tags refl
+      (subst (λ (e : Entered). IsOfTag journal (claimed_at tags e.entry.tag) (length taken)) same may.of_tag)
+
+  suits : IsOfSrb old.stack.adapter.sector_size (length old.stack.adapter.sectors) here.on_tag.srb entered.entry
   suits =
-      let own : IsOfSrb journal.medium.sector_size (length journal.medium.sectors) may.of_this.armed.srb entered.entry =
-      subst (λ (e : Entered). IsOfSrb journal.medium.sector_size (length journal.medium.sectors) may.of_this.armed.srb e.entry) same may.of_this.of_srb in
-      let stack's : IsOfSrb journal.medium.sector_size (length journal.medium.sectors) on_tag.srb entered.entry =
-      of_srb journal.medium.sector_size (length journal.medium.sectors) may.of_this.armed.srb on_tag.srb entered.entry on_tag.same own in
-      subst (λ (n : ℕ). IsOfSrb n (length old.adapter.sectors) on_tag.srb entered.entry) (stands.sector_size ∙ read.read.same_size)
-      (subst (λ (n : ℕ). IsOfSrb journal.medium.sector_size n on_tag.srb entered.entry) (stands.sectors ∙ read.read.same_sectors) stack's)
+      let stack's : IsOfSrb journal.medium.sector_size (length journal.medium.sectors) here.on_tag.srb entered.entry =
+      of_srb journal.medium.sector_size (length journal.medium.sectors) here.armed.srb here.on_tag.srb entered.entry here.on_tag.same here.of_srb in
+      subst (λ (n : ℕ). IsOfSrb n (length old.stack.adapter.sectors) here.on_tag.srb entered.entry) (may.large.sector_size ∙ ap (λ (r : Rules). r.sector_size) (sym is.same_rules) ∙ fits.read.same_size)
+      (subst (λ (n : ℕ). IsOfSrb journal.medium.sector_size n here.on_tag.srb entered.entry) (may.large.sectors ∙ ap (λ (r : Rules). r.disk_sectors) (sym is.same_rules) ∙ fits.read.same_sectors) stack's)
 
-  same_rules : booked.rules ≡ old.rules
-  same_rules = ap (λ (v : ManagerView). v.rules) books.same
+  run : Run old.stack.rules (opening kept.arrays) trace old.stack.state
+  run = subst (λ (r : Rules). Run r (opening kept.arrays) trace old.stack.state) (sym is.same_rules) (subst (λ (s : State). Run rules s trace old.stack.state) kept.starts is.run)
 
-  same_state : booked.state ≡ old.state
-  same_state = ap (λ (v : ManagerView). v.state) books.same
+  bookable : IsBookable old.stack.adapter entered.entry.tag entered.entry.piece (Ok entered.entry)
+  bookable =
+      subst (λ (k : ℕ). IsBookable old.stack.adapter entered.entry.tag k (Ok entered.entry)) (sym here.piece_is)
+      (armed kept.arrays trace (entries_in taken) old.stack entered.entry.tag here.armed.piece here.on_tag.srb (Ok entered.entry) run kept.journaled kept.apart here.on_tag.is_armed suits)
 
-  by : IsLed booked new
-  by = led booked (Act entered.entry.tag) reply new right
+  as_booked : ActsAsBooked trace entered.entry.piece entered.entry reply stepped
+  as_booked =
+      booked_step trace old.stack held.stack stepped entered.entry.tag entered.entry.piece entered.entry holds.books bookable order fits'.read
+      (AreDistinct-Run _ _ _ _ (AreDistinct-opening reached.arrays) reached.run) kept.journaled.started refl refl reply carried.right
 
-  pub rules_stay : new.rules ≡ old.rules
-  rules_stay = by.by.same_rules ∙ same_rules
+  same_trace : labels_of held.entries ≡ trace
+  same_trace = ap (λ (v : TracedView). labels_of v.entries) holds.same
 
-  bookable : (arrays : List (List (List ℕ))) (trace : List Label) (entries : List Entry) → IsTold arrays trace entries old → IsBookable old.adapter entered.entry.tag entered.entry.piece (Ok entered.entry)
-  bookable arrays trace entries told =
-      subst (λ (k : ℕ). IsBookable old.adapter entered.entry.tag k (Ok entered.entry)) (sym piece_is)
-      (armed arrays trace entries old entered.entry.tag may.of_this.armed.piece on_tag.srb (Ok entered.entry) told.run told.journaled stands.apart on_tag.is_armed suits)
+  longer : labels_of new.entries ≡ trace ++ stepped.labels
+  longer = labels_carried 0 held (Act entered.entry.tag) reply new carried ∙ ap (λ (ls : List Label). ls ++ stepped.labels) same_trace
 
-  run_on : (arrays : List (List (List ℕ))) (trace : List Label) → Run old.rules (opening arrays) trace old.state → Run new.rules (opening arrays) (trace ++ new.labels) new.state
-  run_on arrays trace run =
-      let step : Run old.rules booked.state new.labels new.state = subst (λ (r : Rules). Run r booked.state new.labels new.state) same_rules by.by.run in
-      let step' : Run old.rules old.state new.labels new.state = subst (λ (s : State). Run old.rules s new.labels new.state) same_state step in
-      let all : Run old.rules (opening arrays) (trace ++ new.labels) new.state = Run-append old.rules (opening arrays) trace old.state new.labels new.state run step' in
-      subst (λ (r : Rules). Run r (opening arrays) (trace ++ new.labels) new.state) (sym rules_stay) all
+  more : entries_in taken' ≡ entries_in taken ++ entered.entry ∷ []
+  more =
+      let next : takes.next ≡ entered = some_entered (sym takes.there ∙ there) in
+      ap entries_in takes.after ∙ map_push (λ (e : Entered). e.entry) taken takes.next ∙ ap (λ (e : Entered). entries_in taken ++ e.entry ∷ []) next
 
-  acts_as_booked : (arrays : List (List (List ℕ))) (trace : List Label) (entries : List Entry) → IsTold arrays trace entries old → ActsAsBooked trace entered.entry.piece entered.entry reply new
-  acts_as_booked arrays trace entries told =
-      booked_step trace old booked new entered.entry.tag entered.entry.piece entered.entry books (bookable arrays trace entries told) order fits.read
-      (AreDistinct-Run _ _ _ _ (AreDistinct-opening reached.arrays) reached.run) told.journaled.started refl refl reply right
+  journaled : IsJournaled (trace ++ stepped.labels) (entries_in taken ++ entered.entry ∷ []) stepped
+  journaled =
+      adds trace (entries_in taken) old.stack held.stack stepped entered.entry.tag entered.entry.piece (Ok entered.entry) reply bookable (refl, refl) holds.books order fits' reached carried.right kept.journaled
 
-  pub tells : TellsEntry old entered.entry reply new
-  tells arrays trace entries told =
-      let as_booked : ActsAsBooked trace entered.entry.piece entered.entry reply new = acts_as_booked arrays trace entries told in
-      record {
-        replies = as_booked.replies;
-        labels = as_booked.labels;
-        told = record {
-          whole = subst (λ (r : Rules). AreWhole r arrays) (sym rules_stay) told.whole;
-          run = run_on arrays trace told.run;
-          journaled = adds trace entries old booked new entered.entry.tag entered.entry.piece (Ok entered.entry) reply (bookable arrays trace entries told) (refl, refl) books order fits reached right told.journaled;
-        };
-      }
+  journaled_taken : IsJournaled (labels_of new.entries) (entries_in taken') (record stepped { labels = [] })
+  journaled_taken = subst (λ (es : List Entry). IsJournaled (labels_of new.entries) es (record stepped { labels = [] })) (sym more)
+      (subst (λ (ls : List Label). IsJournaled ls (entries_in taken ++ entered.entry ∷ []) (record stepped { labels = [] })) (sym longer)
+      (record { of_acts = journaled.of_acts; started = journaled.started }))
 
-  pub acts : ActsEntry old entered.entry reply new
-  acts = record { booked = booked; books = books; right = right }
+  on_tags : AreOnTags stepped.adapter tags'
+  on_tags =
+      tags_kept stays held.stack (Act entered.entry.tag) reply stepped tags tags' carried.right (noted stepped.labels (labels_carried 0 held (Act entered.entry.tag) reply new carried))
+      (tags_booked old.stack.adapter entered.entry.tag entered.entry.piece (Ok entered.entry) held.stack.adapter tags holds.books.adapter kept.on_tags)
 
-  pub stands_still : StandsIn new journal
-  stands_still = record {
-    apart = apart booked (Act entered.entry.tag) reply new right (apart_still old.adapter booked.adapter entered.entry.tag entered.entry.piece (Ok entered.entry) books.adapter stands.apart);
-    sector_size = stands.sector_size ∙ ap (λ (r : Rules). r.sector_size) (sym rules_stay);
-    sectors = stands.sectors ∙ ap (λ (r : Rules). r.disk_sectors) (sym rules_stay);
+  still_apart : IsFalse stepped.adapter.faithful
+  still_apart =
+      apart held.stack (Act entered.entry.tag) reply stepped carried.right (apart_still old.stack.adapter held.stack.adapter entered.entry.tag entered.entry.piece (Ok entered.entry) holds.books.adapter kept.apart)
+
+  pub kept_on : IsKept rules start new taken' tags'
+  kept_on = record {
+    arrays = kept.arrays;
+    starts = kept.starts;
+    whole = kept.whole;
+    journaled = subst (λ (v : ManagerView). IsJournaled (labels_of new.entries) (entries_in taken') v) (sym carried.stack) journaled_taken;
+    apart = subst (λ (v : ManagerView). IsFalse v.adapter.faithful) (sym carried.stack) still_apart;
+    on_tags = subst (λ (v : ManagerView). AreOnTags v.adapter tags') (sym carried.stack) on_tags;
+  }
+
+  -- its reply is OK
+  answered_ok : (ok : Reply) → reply ≡ ok → IsCarried 0 held (Act entered.entry.tag) ok new
+  answered_ok ok is = record {
+    stepped = carried.stepped;
+    right = subst (λ (r : Reply). IsRight held.stack (Act entered.entry.tag) r stepped) is carried.right;
+    stack = carried.stack;
+    entries = carried.entries;
+    owners = carried.owners;
+    looks = carried.looks;
+  }
+
+  pub books_one : (tag : ℕ) → tag ≡ entered.entry.tag → BooksOne tag (book_of old taken) (book_of new taken')
+  unfolding answered_ok
+  books_one tag tag_is = record {
+    next = entered;
+    is_tag = sym tag_is;
+    acts = record {
+      held = held;
+      holds = holds;
+      carried = answered_ok OkReply as_booked.replies;
+      tells = as_booked.labels;
+    };
+    taken =
+        let next : takes.next ≡ entered = some_entered (sym takes.there ∙ there) in
+        takes.after ∙ ap (λ (e : Entered). taken ++ e ∷ []) next;
   }

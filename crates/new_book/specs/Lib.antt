@@ -1,4 +1,5 @@
 pub mod Acting
 pub mod Arming
+pub mod Book
 pub mod Staying
 pub mod Taken

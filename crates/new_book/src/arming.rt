@@ -1,10 +1,10 @@
 //! The receipt of an arming.
 
-ghost use Rattle.std.specs.Prelude.{◌≡◌, ◌<◌, ◌∷◌, [], None, Some, MatchOption, length, slice_get, true};
+ghost use Rattle.std.specs.Prelude.{◌≡◌, ◌<◌, ◌∷◌, [], None, Some, MatchBool, MatchOption, length, slice_get, true};
 ghost use Rattle.sector_journal.specs.declared.acted.Entered.{Entered};
 ghost use Rattle.sector_journal.specs.declared.slots.Armed.{Armed};
 ghost use Rattle.sector_journal.specs.Slots.{armed_at};
-ghost use Rattle.new_book.specs.Arming.{IsOfThis};
+ghost use Rattle.new_book.specs.Arming.{IsOfOther, IsOfPiece, IsOfThis};
 
 use chronicle::Claims;
 use disk::Medium;
@@ -18,6 +18,7 @@ where
     OfArmings<N>: chronicle::Naming,
 {
     number: u64,
+    piece: u128,
     receipt: Claims<Armed, OfArmings<N>>,
 }
 
@@ -27,13 +28,13 @@ where
 {
     ghost use Rattle.std.specs.Prelude.{List, ℕ};
     ghost use Rattle.sector_journal.specs.declared.slots.Armed.{Armed};
-    ghost use Rattle.new_book.specs.Arming.{IsNumbered};
+    ghost use Rattle.new_book.specs.Arming.{IsReceipt};
 
     ghost Value = { List (ℕ × Armed) };
 
     ghost view = { λ a. a.receipt };
 
-    ghost invariant = { λ a. IsNumbered a.number a.receipt };
+    ghost invariant = { λ a. IsReceipt a.number a.piece a.receipt };
 }
 
 /// The number of the arming that an entry names.
@@ -54,9 +55,22 @@ impl<N: Naming> Arming<N> {
         ensures same { journal.new ≡ journal.old }
         ensures arming { MatchOption result (armed_at journal.old.slots tag ≡ None) (λ a. (armed : Armed) × (armed_at journal.old.slots tag ≡ Some armed) × (a ≡ (armed.number, armed) ∷ [])) }
     {
-        let number = journal.armed(tag)?.number;
+        let armed = journal.armed(tag)?;
+        let number = armed.number;
+        let piece = armed.piece;
         let receipt = journal.arming_receipt(words, tag)?;
-        Some(Arming { number, receipt })
+        Some(Arming {
+            number,
+            piece,
+            receipt,
+        })
+    }
+
+    /// Whether it is of this piece.
+    pub fn is_of_piece(&self, piece: u128) -> bool
+        ensures { MatchBool result (IsOfPiece piece self.now) (IsOfOther piece self.now) }
+    {
+        self.piece == piece
     }
 
     /// Whether the entry of a number is of this arming, for who holds both locks: then it is of what was armed here.

@@ -1,0 +1,12 @@
+use Rattle.std.proofs.Common.{refl}
+use Rattle.new_book.proofs.book.Book.call.Goals as goal
+
+pub returns-then-not-would_open : goal.returns-then-not-would_open
+returns-then-not-would_open g c = record {
+  count = 0;
+  booked = c.args.self.now;
+  books = refl;
+  served = c.call_alone.ensures.served;
+  counted = c.call_alone.ensures.counted;
+  taken = c.call_alone.ensures.taken;
+}

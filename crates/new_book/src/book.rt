@@ -1,0 +1,569 @@
+//! The book: what its threads call while they hold its lock.
+
+ghost use Rattle.std.specs.Prelude.{◌≡◌, ◌<◌, ◌∷◌, ℕ, List, [], All, Contains, IfOk, IfSome, MatchOption, Some, None, false, true, length, slice_get};
+ghost use Rattle.chronicle.specs.Claims.{AllStand};
+ghost use Rattle.machine.specs.Step.{Run};
+ghost use Rattle.io_manager.specs.declared.Refusal.TheVariants.{InsufficientResources};
+ghost use Rattle.io_manager.specs.declared.Reply.TheVariants.{Refused as RefusedReply};
+ghost use Rattle.io_manager.specs.Right.{TakesAnswerOf, as_answer};
+ghost use Rattle.srb.specs.declared.Class.TheVariants.{Bad};
+ghost use Rattle.srb.specs.Fate.{class_of};
+ghost use Rattle.compose.specs.declared.Event.TheVariants.{Act};
+ghost use Rattle.compose.specs.Journaled.{IsNoAct};
+ghost use Rattle.traced.specs.declared.Entry.{Entry as EntryView};
+ghost use Rattle.traced.specs.Entries.{IsAnswerAt, IsNoAnswerTo, calls, labels_of, places};
+ghost use Rattle.traced.specs.Serving.{is_call_event, is_handle_event};
+ghost use Rattle.traced.specs.Traced.{AreLooked, AreRowsOf, HasCounted, IsServed, IsTraced, TracedView, may_want};
+ghost use Rattle.new_book.specs.Book.{AreBooked, CallsAfter, FitsHandle, HasBooked, HoldsFailure, IsBlank, IsStepped, ServesAfter, ActsAreOf, book_of, call_handle};
+ghost use Rattle.new_book.specs.Taken.{BeginsWith, numbered_from};
+
+use crate::asking::{give_back, next_request, refused, reserve};
+use crate::booking::book_all;
+use crate::failing::{fail, failure, transfer};
+use crate::name::Naming;
+use crate::noting;
+use crate::settling::{arm_all, arm_tag, release_all};
+use crate::tags::Tags;
+use crate::taken::Taken;
+use cancel_marks::Marks;
+use chronicle::{Claims, History};
+use compose::{Answer, Event, Reply};
+use disk::Medium;
+use miniport::BookedAdapter;
+use sector_journal::{Entered, Journal, OfArmings, OfEntries};
+use srb::Completion;
+use std::alloc::{AllocError, Global};
+use std::marker::Model;
+use std::sync::{Mutex, Wait, ledger};
+use traced::{Entry, Row, Share, Traced};
+
+/// A stack that many threads share under a lock, with its trace, and what was booked of the journal's entries.
+#[derive(Drop)]
+pub struct Book<N: Naming>
+where
+    OfArmings<N>: chronicle::Naming,
+    OfEntries<N>: chronicle::Naming,
+{
+    traced: Traced<BookedAdapter, N>,
+    taken: Taken<N>,
+    tags: Tags<N>,
+    /// So many labels of the trace were looked at for answers.
+    seen: usize,
+}
+
+impl<N: Naming> Model for Book<N>
+where
+    OfArmings<N>: chronicle::Naming,
+    OfEntries<N>: chronicle::Naming,
+{
+    ghost use Rattle.new_book.specs.Book.{BookView, IsKept, book_of};
+
+    ghost Value = { BookView };
+
+    ghost view = { λ b. book_of b.traced b.taken };
+
+    ghost invariant = { λ b. IsKept N.rules N.start b.traced b.taken b.tags };
+}
+
+/// Whether an event may start or end a piece.
+fn moves_pieces(event: &Event) -> bool {
+    match event {
+        Event::CancelIoEx { .. } | Event::Mark { .. } => false,
+        Event::QueryRemove | Event::SurpriseRemove => false,
+        _ => true,
+    }
+}
+
+impl<N: Naming> Book<N> {
+    /// A book of a stack of which nothing was told yet, beside a journal. `depth` is the number of tags.
+    ///
+    /// # Errors
+    ///
+    /// Where memory for the tags was refused.
+    pub fn new<M: Medium>(
+        alloc: Global,
+        traced: Traced<BookedAdapter, N>,
+        journal: &mut Journal<M, N>,
+        words: &sector_journal::History<N>,
+    ) -> Result<Book<N>, AllocError>
+        requires blank { IsBlank N.start traced }
+        ensures book { IfOk result (λ b. (b.traced ≡ traced) × (b.taken ≡ [])) }
+        ensures same { journal.new ≡ journal.old }
+    {
+        machine_laws::keeps_lengths();
+        traced.shows_whole();
+        traced.shows_stack();
+        let taken = Taken::new(journal, words);
+        let tags = Tags::new(alloc, journal.depth())?;
+        Ok(Book {
+            traced,
+            taken,
+            tags,
+            seen: 0,
+        })
+    }
+
+    /// How many labels the trace has.
+    pub fn len(&self) -> usize
+        ensures { result ≡ length self.now.traced.entries }
+    {
+        self.traced.len()
+    }
+
+    /// What stands at a place of the trace.
+    pub fn entry(&self, place: usize) -> &Entry
+        requires { place < length self.now.traced.entries }
+        ensures { slice_get self.now.traced.entries place ≡ Some result.now }
+    {
+        self.traced.entry(place)
+    }
+
+    /// The places of a client's calls and of their answers so far, rising.
+    pub fn row(&self, client: usize) -> &[usize]
+        requires { client < length N.partitions }
+        ensures { result.now ≡ places client 0 self.now.traced.entries }
+    {
+        self.traced.row(client)
+    }
+
+    /// Where the answer to a request stands in the trace, if it has come.
+    pub fn answer_place(&self, number: u64) -> Option<usize>
+        ensures { MatchOption result (All (IsNoAnswerTo number) (labels_of self.now.traced.entries)) (IsAnswerAt number self.now.traced.entries) }
+    {
+        self.traced.answer_place(number)
+    }
+
+    /// A claim on a place of the trace, by the entry there.
+    pub fn claim(&mut self, history: &History<Entry, N>, place: usize) -> Claims<Entry, N>
+        requires { place < length self.old.traced.entries }
+        ensures same { self.new ≡ self.old }
+        ensures claim { (e : EntryView) × (slice_get self.old.traced.entries place ≡ Some e) × (result ≡ (place, e) ∷ []) }
+    {
+        self.traced.claim(history, place)
+    }
+
+    /// What was claimed stands in the trace.
+    pub fn check(&mut self, history: &History<Entry, N>, claims: &mut Claims<Entry, N>)
+        ensures same { (self.new ≡ self.old) × (claims.new ≡ claims.old) }
+        ensures stand { AllStand self.old.traced.entries claims.old }
+    {
+        self.traced.check(history, claims)
+    }
+
+    /// Where every part of the ledger has come back, the parts have the number of calls.
+    pub fn audit(&mut self, all: &mut ledger::Share<N>)
+        requires { all.old.parts ≡ N.parts }
+        ensures same { self.new ≡ self.old }
+        ensures calls { all.new.amount ≡ calls self.old.traced.entries }
+        ensures kept { all.new.amount ≡ all.old.amount }
+    {
+        self.traced.audit(all);
+    }
+
+    /// Takes the waiting answer of a request, whose label stands in the trace. It takes no memory.
+    pub fn take_answer(&mut self, number: u64) -> Option<Answer>
+        ensures takes { TakesAnswerOf self.old.traced.stack number result self.new.traced.stack }
+        ensures entries { self.new.traced.entries ≡ self.old.traced.entries }
+        ensures taken { self.new.taken ≡ self.old.taken }
+        ensures stands { IfSome result (λ answer. Contains (labels_of self.old.traced.entries) (as_answer answer)) }
+    {
+        self.traced.take_answer(number)
+    }
+
+    /// Whenever a book is at rest, its trace is a run from the state that it was opened with to the state that the stack
+    /// shows, each label in its row, for who calls this.
+    pub fn shows_whole(&self)
+        ensures { IsTraced N.rules N.start N.partitions N.handles self.now.traced }
+    {
+        self.traced.shows_whole();
+    }
+}
+
+// Steps. Each of these is called with the book's lock held, and those that are handed a journal with its lock too.
+impl<N: Naming> Book<N> {
+    fn look(&mut self, alloc: Global, history: &History<Entry, N>, marks: &Marks)
+        requires marks { marks.now ≡ (N.marks, N.slots) }
+        ensures looked { AreLooked N.slots self.old.traced self.new.traced }
+        ensures taken { self.new.taken ≡ self.old.taken }
+    {
+        noting::look(&mut self.traced, &mut self.tags, alloc, history, marks);
+    }
+
+    // Books all entries that are there: the tag of the last, if there was one.
+    fn book_entries<M: Medium>(
+        &mut self,
+        alloc: Global,
+        history: &History<Entry, N>,
+        marks: &Marks,
+        journal: &mut Journal<M, N>,
+        words: &sector_journal::History<N>,
+    ) -> Option<u8>
+        requires marks { marks.now ≡ (N.marks, N.slots) }
+        ensures books { (count : ℕ) × HasBooked result count self.old self.new }
+    {
+        book_all(
+            &mut self.traced,
+            &mut self.taken,
+            &mut self.tags,
+            alloc,
+            history,
+            marks,
+            journal,
+            words,
+        )
+    }
+
+    // The journal is told which pieces may act, and which requests were answered.
+    fn settle<M: Medium>(&mut self, journal: &mut Journal<M, N>, words: &sector_journal::History<N>)
+        ensures { self.new ≡ self.old }
+    {
+        arm_all(&self.traced, &mut self.tags, journal, words);
+        release_all(&self.traced, journal, self.seen);
+        self.seen = self.traced.len();
+    }
+
+    // How the piece of a tag fails if no entry of it is booked: as it failed in the journal, where it acts now unless it did.
+    fn failure_of<M: Medium>(
+        &mut self,
+        journal: &mut Journal<M, N>,
+        words: &sector_journal::History<N>,
+        tag: u8,
+        failed: Option<Completion>,
+    ) -> Completion
+        requires bad { IfSome failed (λ completion. class_of completion ≡ Bad completion) }
+        ensures same { self.new ≡ self.old }
+        ensures bad { class_of result ≡ Bad result }
+    {
+        if let Some(completion) = failed {
+            return completion;
+        }
+        arm_tag(&self.traced, &mut self.tags, journal, words, tag);
+        failure(transfer(&self.traced, journal, words, tag))
+    }
+
+    fn call_alone(
+        &mut self,
+        alloc: Global,
+        history: &History<Entry, N>,
+        marks: &Marks,
+        share: &mut Share<N>,
+        event: Event,
+    ) -> Reply
+        requires marks { marks.now ≡ (N.marks, N.slots) }
+        requires call { is_call_event event ≡ true }
+        ensures served { IsServed share.old.client self.old.traced event result self.new.traced }
+        ensures counted { HasCounted self.old.traced share.old share.new self.new.traced }
+        ensures taken { self.new.taken ≡ self.old.taken }
+    {
+        noting::call(
+            &mut self.traced,
+            &mut self.tags,
+            alloc,
+            history,
+            marks,
+            share,
+            event,
+        )
+    }
+
+    // A call for whose acts the journal has room first.
+    fn call_reserved<M: Medium>(
+        &mut self,
+        alloc: Global,
+        history: &History<Entry, N>,
+        marks: &Marks,
+        journal: &mut Journal<M, N>,
+        share: &mut Share<N>,
+        event: Event,
+    ) -> Reply
+        requires marks { marks.now ≡ (N.marks, N.slots) }
+        requires call { is_call_event event ≡ true }
+        ensures served { IsServed share.old.client self.old.traced event result self.new.traced }
+        ensures counted { HasCounted self.old.traced share.old share.new self.new.traced }
+        ensures taken { self.new.taken ≡ self.old.taken }
+    {
+        if reserve(&self.traced, journal, &event).is_err() {
+            return refused(alloc, event);
+        }
+        let number = next_request(&self.traced);
+        let reply = self.call_alone(alloc, history, marks, share, event);
+        give_back(journal, number, &reply);
+        reply
+    }
+
+    fn call_in<M: Medium>(
+        &mut self,
+        alloc: Global,
+        history: &History<Entry, N>,
+        marks: &Marks,
+        journal: &mut Journal<M, N>,
+        words: &sector_journal::History<N>,
+        share: &mut Share<N>,
+        event: Event,
+    ) -> Reply
+        requires marks { marks.now ≡ (N.marks, N.slots) }
+        requires call { is_call_event event ≡ true }
+        ensures { CallsAfter share.old share.new self.old event result self.new }
+    {
+        self.book_entries(alloc, history, marks, journal, words);
+        let reply = self.call_reserved(alloc, history, marks, journal, share, event);
+        self.settle(journal, words);
+        reply
+    }
+
+    // Whether an event would open a request now.
+    fn would_open(&self, event: &Event) -> bool {
+        self.traced.admits(event).is_some()
+    }
+
+    // A read, a write or a flush: it takes the journal's lock where it would open a request.
+    fn call<M: Medium, R: Wait>(
+        &mut self,
+        rt: &R,
+        alloc: Global,
+        history: &History<Entry, N>,
+        marks: &Marks,
+        journal: &Mutex<Journal<M, N>>,
+        words: &sector_journal::History<N>,
+        share: &mut Share<N>,
+        event: Event,
+    ) -> Reply
+        requires marks { marks.now ≡ (N.marks, N.slots) }
+        requires call { is_call_event event ≡ true }
+        ensures { CallsAfter share.old share.new self.old event result self.new }
+    {
+        if !self.would_open(&event) {
+            return self.call_alone(alloc, history, marks, share, event);
+        }
+        let mut journal = journal.lock(rt);
+        self.call_in(alloc, history, marks, &mut journal, words, share, event)
+    }
+
+    fn serve_alone(
+        &mut self,
+        alloc: Global,
+        history: &History<Entry, N>,
+        marks: &Marks,
+        event: Event,
+    ) -> Reply
+        requires marks { marks.now ≡ (N.marks, N.slots) }
+        requires no_handle { is_handle_event event ≡ false }
+        requires no_call { is_call_event event ≡ false }
+        requires no_act { IsNoAct event }
+        ensures served { IsServed 0 self.old.traced event result self.new.traced }
+        ensures taken { self.new.taken ≡ self.old.taken }
+    {
+        noting::serve(
+            &mut self.traced,
+            &mut self.tags,
+            alloc,
+            history,
+            marks,
+            event,
+        )
+    }
+
+    fn fail(
+        &mut self,
+        alloc: Global,
+        history: &History<Entry, N>,
+        marks: &Marks,
+        tag: u8,
+        completion: Completion,
+    ) -> Reply
+        requires marks { marks.now ≡ (N.marks, N.slots) }
+        requires bad { class_of completion ≡ Bad completion }
+        ensures serves { (held : TracedView) × HoldsFailure self.old.traced (Act tag) held × IsServed 0 held (Act tag) result self.new.traced }
+        ensures taken { self.new.taken ≡ self.old.taken }
+    {
+        fail(
+            &mut self.traced,
+            &mut self.tags,
+            alloc,
+            history,
+            marks,
+            tag,
+            completion,
+        )
+    }
+
+    // The act of a tag: its piece acts in the journal, unless it failed there before, and what is entered is booked.
+    fn act_in<M: Medium>(
+        &mut self,
+        alloc: Global,
+        history: &History<Entry, N>,
+        marks: &Marks,
+        journal: &mut Journal<M, N>,
+        words: &sector_journal::History<N>,
+        tag: u8,
+        failed: Option<Completion>,
+    ) -> Reply
+        requires marks { marks.now ≡ (N.marks, N.slots) }
+        requires bad { IfSome failed (λ completion. class_of completion ≡ Bad completion) }
+        ensures { ServesAfter self.old (Act tag) result self.new }
+    {
+        let completion = self.failure_of(journal, words, tag, failed);
+        let last = self.book_entries(alloc, history, marks, journal, words);
+        if last == Some(tag) {
+            self.settle(journal, words);
+            return Reply::Ok;
+        }
+        let reply = self.fail(alloc, history, marks, tag, completion);
+        self.settle(journal, words);
+        reply
+    }
+
+    fn serve_in<M: Medium>(
+        &mut self,
+        alloc: Global,
+        history: &History<Entry, N>,
+        marks: &Marks,
+        journal: &mut Journal<M, N>,
+        words: &sector_journal::History<N>,
+        event: Event,
+    ) -> Reply
+        requires marks { marks.now ≡ (N.marks, N.slots) }
+        requires no_handle { is_handle_event event ≡ false }
+        requires no_call { is_call_event event ≡ false }
+        requires no_act { IsNoAct event }
+        ensures { ServesAfter self.old event result self.new }
+    {
+        self.book_entries(alloc, history, marks, journal, words);
+        let reply = self.serve_alone(alloc, history, marks, event);
+        self.settle(journal, words);
+        reply
+    }
+
+    // Any event but a call: it takes the journal's lock where it may start or end a piece.
+    fn serve<M: Medium, R: Wait>(
+        &mut self,
+        rt: &R,
+        alloc: Global,
+        history: &History<Entry, N>,
+        marks: &Marks,
+        journal: &Mutex<Journal<M, N>>,
+        words: &sector_journal::History<N>,
+        event: Event,
+    ) -> Reply
+        requires marks { marks.now ≡ (N.marks, N.slots) }
+        requires no_handle { is_handle_event event ≡ false }
+        requires no_call { is_call_event event ≡ false }
+        ensures { ServesAfter self.old event result self.new }
+    {
+        if let Event::Act { tag } = event {
+            let mut journal = journal.lock(rt);
+            return self.act_in(alloc, history, marks, &mut journal, words, tag, None);
+        }
+        if !moves_pieces(&event) {
+            return self.serve_alone(alloc, history, marks, event);
+        }
+        let mut journal = journal.lock(rt);
+        self.serve_in(alloc, history, marks, &mut journal, words, event)
+    }
+
+    /// Carries an event out, any but an open and a close. First it looks, once at each slot that has an open request, and
+    /// carries out each mark that it sees there. Where the event may start or end a piece it takes the journal's lock then,
+    /// and books all entries that are there, in the order of their numbers: an act of a tag that is armed has its piece act
+    /// in the journal before. A read, a write or a flush comes with the share of its handle's client, any other event with
+    /// none.
+    ///
+    /// Reads, writes, flushes and query-remove are refused as `InsufficientResources`, before any step of theirs, where
+    /// memory for the labels that they may bring, or in the journal for their acts, is refused.
+    pub fn step<M: Medium, R: Wait>(
+        &mut self,
+        rt: &R,
+        alloc: Global,
+        history: &History<Entry, N>,
+        marks: &Marks,
+        journal: &Mutex<Journal<M, N>>,
+        words: &sector_journal::History<N>,
+        share: Option<&mut Share<N>>,
+        event: Event,
+    ) -> Reply
+        requires marks { marks.now ≡ (N.marks, N.slots) }
+        requires no_handle { is_handle_event event ≡ false }
+        requires share { FitsHandle (call_handle event) share }
+        ensures stepped { IsStepped N.slots share.entry share.exit self.old event result self.new }
+        ensures memory { (bytes : List ℕ) → result ≡ RefusedReply InsufficientResources bytes → may_want event ≡ true }
+    {
+        compose::steps_take_no_memory();
+        self.look(alloc, history, marks);
+        match share {
+            Some(share) => self.call(rt, alloc, history, marks, journal, words, share, event),
+            None => self.serve(rt, alloc, history, marks, journal, words, event),
+        }
+    }
+
+    /// The act of a tag whose piece failed in the journal, where a lane had it act: as [`Book::step`] of an `Act`.
+    pub fn act_failed<M: Medium, R: Wait>(
+        &mut self,
+        rt: &R,
+        alloc: Global,
+        history: &History<Entry, N>,
+        marks: &Marks,
+        journal: &Mutex<Journal<M, N>>,
+        words: &sector_journal::History<N>,
+        tag: u8,
+        completion: Completion,
+    ) -> Reply
+        requires marks { marks.now ≡ (N.marks, N.slots) }
+        requires bad { class_of completion ≡ Bad completion }
+        ensures { (marked : TracedView) × AreLooked N.slots self.old.traced marked × ServesAfter (book_of marked self.old.taken) (Act tag) result self.new }
+    {
+        self.look(alloc, history, marks);
+        let mut journal = journal.lock(rt);
+        self.act_in(
+            alloc,
+            history,
+            marks,
+            &mut journal,
+            words,
+            tag,
+            Some(completion),
+        )
+    }
+
+    /// Books all entries that are there, for who holds both locks: what was booked is then the front of the journal's.
+    pub fn book_rest<M: Medium>(
+        &mut self,
+        alloc: Global,
+        history: &History<Entry, N>,
+        marks: &Marks,
+        journal: &mut Journal<M, N>,
+        words: &sector_journal::History<N>,
+    )
+        requires marks { marks.now ≡ (N.marks, N.slots) }
+        ensures books { (count : ℕ) × AreBooked count self.old self.new }
+        ensures front { BeginsWith journal.old.entered self.new.taken }
+        ensures same { journal.new ≡ journal.old }
+    {
+        book_all(
+            &mut self.traced,
+            &mut self.taken,
+            &mut self.tags,
+            alloc,
+            history,
+            marks,
+            journal,
+            words,
+        );
+        self.taken.check(journal, words);
+    }
+
+    /// The trace, the rows of all clients, and the receipts of the entries of its acts, numbered from 0.
+    pub fn into_rows(self) -> (Vec<Entry>, Vec<Row>, Claims<Entered, OfEntries<N>>)
+        ensures rows { AreRowsOf (length N.partitions) self.traced result.0.items result.1.items }
+        ensures run { Run N.rules N.start (labels_of result.0.items) self.traced.stack.state }
+        ensures receipts { result.2 ≡ numbered_from 0 self.taken }
+        ensures acts { ActsAreOf N.rules N.start (labels_of result.0.items) self.taken }
+    {
+        let Book {
+            traced,
+            taken,
+            tags: _,
+            seen: _,
+        } = self;
+        let (trace, rows) = traced.into_rows();
+        (trace, rows, taken.into_receipts())
+    }
+}

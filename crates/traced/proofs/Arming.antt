@@ -1,0 +1,34 @@
+-- Slots retired one after another.
+use Rattle.std.proofs.Common.{◌≡◌, ◌≢◌, ℕ, ◌<◌, ◌≤◌, ◌==◌, if◌then◌else◌, true, false, List, length, set, Option, None, sym, ap, ◌∙◌, arith, get_or-set_same, get_or-set_other}
+use Rattle.std.proofs.lemmas.Bool.Decides.{nat_tests}
+use mathlib.Core.Logic.{dite}
+use native.Mathlib.Decide.{ℕ_discrete}
+use Rattle.cancel_marks.specs.declared.rule.View.{View}
+use Rattle.traced.specs.Slots.{SlotsView, number_at, ArmedBelow, LooksNowhere, unless_number}
+
+-- the slots below this one were gone through
+pub record HasRetired (number slot : ℕ) (old new : SlotsView) : Type 0 where
+  pub passed : (k : ℕ) → k < slot → number_at new.numbers k ≡ unless_number number (number_at old.numbers k)
+  pub ahead : (k : ℕ) → slot ≤ k → number_at new.numbers k ≡ number_at old.numbers k
+  pub looks : LooksNowhere old.owner new.owner
+  pub below : (next : ℕ) → ArmedBelow next old.owner → ArmedBelow next new.owner
+
+pub nowhere_joined : (a b c : View) → LooksNowhere a b → LooksNowhere b c → LooksNowhere a c
+nowhere_joined a b c one two = record {
+  looks = λ k. two.looks k ∙ one.looks k;
+  seen = two.seen ∙ one.seen;
+  marks = two.marks ∙ one.marks;
+}
+
+same : (c d : ℕ) → c ≡ d → (c == d) ≡ true
+same c d e = grind (arith, nat_tests)
+
+other : (c d : ℕ) → c ≢ d → (c == d) ≡ false
+other c d ne = grind (arith, nat_tests)
+
+pub number_set : (numbers : List (Option ℕ)) (slot : ℕ) (n : Option ℕ) (k : ℕ) → slot < length numbers → number_at (set numbers slot n) k ≡ (if slot == k then n else number_at numbers k)
+number_set numbers slot n k inside =
+    dite
+    (ℕ_discrete slot k)
+    (λ (e : slot ≡ k). ap (number_at (set numbers slot n)) (sym e) ∙ get_or-set_same numbers slot n None inside ∙ sym (ap (λ b. if b then n else number_at numbers k) (same slot k e)))
+    (λ (ne : slot ≢ k). get_or-set_other numbers slot k n None (λ e. ne (sym e)) ∙ sym (ap (λ b. if b then n else number_at numbers k) (other slot k ne)))

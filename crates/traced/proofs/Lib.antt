@@ -1,0 +1,7 @@
+pub mod Arming
+pub mod Noting
+pub mod Finding
+pub mod Telling
+pub mod Booking
+pub mod FromRight
+pub mod Clients

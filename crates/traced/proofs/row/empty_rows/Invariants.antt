@@ -1,0 +1,6 @@
+use Rattle.std.proofs.Common.{◌≡◌, replicate}
+use Rattle.traced.specs.Rows.{blank}
+use Rattle.traced.proofs.row.empty_rows.Given as goal
+
+abbrev pub invariant-loop : goal.invariant-loop
+invariant-loop l = l.rows.items ≡ replicate l.counter blank

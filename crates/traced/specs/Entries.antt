@@ -1,0 +1,89 @@
+-- The trace: its labels, each with the row that it stands in. There is a row for each client, and a label's row is a function of the number of its request.
+use Rattle.std.specs.Prelude.{◌≡◌, ◌<◌, ◌≤◌, ℕ, suc, ◌-◌, ◌==◌, ◌&&◌, Bool, true, false, List, [], ◌∷◌, Option, Some, None, length, map, slice_get, if◌then◌else◌}
+use Rattle.machine.specs.declared.Label.{Label}
+use Rattle.machine.specs.declared.Label.TheVariants.{Call, Answer}
+use Rattle.traced.specs.declared.Entry.{Entry}
+
+abbrev pub entry : Label → Option ℕ → Entry
+entry label row = record { label = label; row = row }
+
+-- whose request a number is of: its client, in a list of the clients of all requests by their numbers, which begin at 1
+abbrev pub owner_of : List ℕ → ℕ → Option ℕ
+owner_of owners number = slice_get owners (number - 1)
+
+-- a call of that number is in the trace
+abbrev pub WasCalled : List ℕ → ℕ → Type 0
+WasCalled owners number = (0 < number) × (number ≤ length owners)
+
+-- a call and an answer stand in the row of the request's client, any other label in none
+abbrev pub row_of : List ℕ → Label → Option ℕ
+row_of owners (Call number q) = owner_of owners number
+row_of owners (Answer number status informed bytes) = owner_of owners number
+row_of owners _ = None
+
+-- what a label tells of a request, it tells of one that was called
+abbrev pub HasOwner : List ℕ → Label → Type 0
+HasOwner owners (Call number q) = WasCalled owners number
+HasOwner owners (Answer number status informed bytes) = WasCalled owners number
+HasOwner owners _ = Unit {0}
+
+-- each entry stands in its label's row
+abbrev pub AreRowed : List ℕ → List Entry → Type 0
+AreRowed owners [] = Unit {0}
+AreRowed owners (e ∷ es) = (HasOwner owners e.label × (e.row ≡ row_of owners e.label)) × AreRowed owners es
+
+-- the row is this one
+abbrev pub is_row : ℕ → Option ℕ → Bool
+is_row c None = false
+is_row c (Some d) = c == d
+
+abbrev pub is_call : Label → Bool
+is_call (Call number q) = true
+is_call _ = false
+
+abbrev pub is_answer : Label → Bool
+is_answer (Answer number status informed bytes) = true
+is_answer _ = false
+
+-- the places of a row, where the entries begin at this one
+abbrev pub places : ℕ → ℕ → List Entry → List ℕ
+places c from [] = []
+places c from (e ∷ es) = if is_row c e.row then from ∷ places c (suc from) es else places c (suc from) es
+
+-- how many entries pass a test
+abbrev pub count_of : (Entry → Bool) → List Entry → ℕ
+count_of test [] = 0
+count_of test (e ∷ es) = if test e then suc (count_of test es) else count_of test es
+
+abbrev pub is_call_of : ℕ → Entry → Bool
+is_call_of c e = is_call e.label && is_row c e.row
+
+abbrev pub is_answer_of : ℕ → Entry → Bool
+is_answer_of c e = is_answer e.label && is_row c e.row
+
+-- how many calls the trace has
+abbrev pub calls : List Entry → ℕ
+calls es = count_of (λ e. is_call e.label) es
+
+abbrev pub labels_of : List Entry → List Label
+labels_of es = map (λ e. e.label) es
+
+-- the label answers the request of this number
+abbrev pub IsAnswerTo : ℕ → Label → Type 0
+IsAnswerTo number (Answer answered status informed bytes) = answered ≡ number
+IsAnswerTo number _ = ⊥
+
+-- it answers another, or none
+abbrev pub IsNoAnswerTo : ℕ → Label → Type 0
+IsNoAnswerTo number label = IsAnswerTo number label → ⊥
+
+-- at this place stands the answer to the request
+pub record IsAnswerAt (number : ℕ) (entries : List Entry) (place : ℕ) : Type 0 where
+  pub entry : Entry
+  pub there : slice_get entries place ≡ Some entry
+  pub answers : IsAnswerTo number entry.label
+
+-- at none of a row's places, from the k-th of them on, stands the answer to the request
+abbrev pub HasNoAnswer : ℕ → List Entry → List ℕ → ℕ → Type 0
+HasNoAnswer number entries row from =
+    (k place : ℕ) (e : Entry) → from ≤ k → slice_get row k ≡ Some place → slice_get entries place ≡ Some e → IsNoAnswerTo number e.label

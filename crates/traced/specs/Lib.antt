@@ -1,0 +1,12 @@
+pub mod Entries
+pub mod Rows
+pub mod Pages
+pub mod Told
+pub mod Shares
+pub mod Slots
+pub mod Naming
+pub mod Sizes
+pub mod Serving
+pub mod Opening
+pub mod Traced
+pub mod Sound

@@ -1,0 +1,19 @@
+-- The names of no book, for a type that names one.
+use Rattle.std.specs.Prelude.{true, [], None}
+use Rattle.machine.specs.Rules.{Rules}
+
+-- the rules of no stack
+abbrev pub no_rules : Rules
+no_rules = record {
+  sector_size = 0;
+  disk_sectors = 0;
+  partitions = [];
+  longest = 0;
+  max_transfer = 0;
+  depth = 0;
+  open_requests = None;
+  window = None;
+  one_piece = true;
+  busy_limit = 0;
+  faithful = true;
+}

@@ -1,0 +1,555 @@
+ghost use Rattle.std.specs.Prelude.{◌≡◌, ◌<◌, ◌≤◌, ◌+◌, ◌∷◌, ℕ, List, [], max, slice_get, All, Contains, IfOk, IfSome, MatchOption, OnOk, Some, None, false, true, length, replicate};
+ghost use Rattle.cancel_marks.specs.Marks.{standing, starting};
+ghost use Rattle.chronicle.specs.Claims.{AllStand};
+ghost use Rattle.machine.specs.Step.{Run};
+ghost use Rattle.machine_laws.specs.LabelsLeft.{labels_left, RunsUseUp};
+ghost use Rattle.machine_laws.specs.NumberLaws.{CallsAwait, CallsCount, CallsRise};
+ghost use Rattle.io_manager.specs.declared.Refusal.TheVariants.{InsufficientResources};
+ghost use Rattle.io_manager.specs.declared.Reply.TheVariants.{Refused as RefusedReply};
+ghost use Rattle.io_manager.specs.Right.{BooksPiece, FitsTogether, TakesAnswerOf, as_answer};
+ghost use Rattle.adapter.specs.View.{IsInOrder};
+ghost use Rattle.adapter.specs.Calls.{HasNoneFresh};
+ghost use Rattle.adapter.specs.Booking.{IsArmed, handed};
+ghost use Rattle.machine_laws.specs.Reached.{IsReached};
+ghost use Rattle.compose.specs.Right.{IsRight, opened_by};
+ghost use Rattle.traced.specs.Opening.{AreClientsOf, IsFirst};
+ghost use Rattle.traced.specs.Traced.{AreLooked, AreRowsOf, IsTraced, IsCarried, IsLooked, IsServed, IsWanting, HasCounted, bytes_of, may_want};
+ghost use Rattle.traced.specs.declared.Entry.{Entry as EntryView};
+ghost use Rattle.traced.specs.Entries.{IsAnswerAt, IsNoAnswerTo, calls, labels_of, places};
+ghost use Rattle.traced.specs.Pages.{MayNote, noted_all};
+ghost use Rattle.traced.specs.Sizes.{AreSizes, brought_by, sizes_of};
+ghost use Rattle.traced.specs.Serving.{Serves, admitted_at, is_call_event, is_handle_event, open_at, unless_told};
+ghost use Rattle.traced.specs.Slots.{ArmedBelow, LooksNowhere, number_at};
+ghost use Rattle.traced.specs.Told.{AreTold, MayCall, MayNoteAll};
+ghost use Rattle.traced.specs.Sound.{IsNamed, IsSound, MayArm, IsGivenBelow, shown, unless_label};
+
+use crate::Entry;
+use crate::name::Naming;
+use crate::pages::Pages;
+use crate::row::Row;
+use crate::share::Share;
+use crate::sizes::Sizes;
+use crate::slots::Slots;
+use adapter::Adapter;
+use cancel_marks::{Marks, Seat};
+use chronicle::{Claims, History, Whole};
+use compose::{Answer, Event, Refusal, Reply, Stack};
+use machine::Label;
+use sector::{Bytes, Extent};
+use srb::{Completion, Srb};
+use std::alloc::{AllocError, Global};
+use std::marker::Model;
+use std::sync::ledger;
+
+/// A stack that many threads share under a lock, the trace of all its labels, and the marks on its open requests.
+pub struct Traced<A: Adapter, N: Naming> {
+    stack: Stack<A>,
+    pages: Pages<N>,
+    slots: Slots<N>,
+    tally: ledger::Book<N>,
+    sizes: Sizes,
+}
+
+// By hand, so that no crate above proves it again, as it would a derived one.
+impl<A: Adapter, N: Naming> Drop for Traced<A, N> {
+    fn drop(self) {
+        let Traced {
+            stack: _,
+            pages: _,
+            slots: _,
+            tally: _,
+            sizes: _,
+        } = self;
+    }
+}
+
+impl<A: Adapter, N: Naming> Model for Traced<A, N> {
+    ghost use Rattle.std.specs.Prelude.{◌≡◌, ◌≤◌, length};
+    ghost use Rattle.traced.specs.Traced.{TracedView};
+    ghost use Rattle.traced.specs.Opening.{AreClientsOf};
+    ghost use Rattle.traced.specs.Sizes.{AreSizes, sizes_of};
+    ghost use Rattle.traced.specs.Sound.{IsSound, shown};
+
+    ghost Value = { TracedView };
+
+    ghost view = { λ b. shown b.stack b.pages b.slots };
+
+    ghost invariant = { λ b. record {
+      sound : IsSound N.rules N.start N.handles N.slots b.stack b.pages b.slots;
+      tally : b.tally.total ≡ length b.pages.owners;
+      clients : AreClientsOf N.partitions N.handles;
+      same_sizes : b.sizes ≡ sizes_of N.rules;
+      sizes : AreSizes b.sizes;
+    } };
+}
+
+// A removal and its end may always come.
+const REMOVAL_LABELS: usize = 2;
+
+// Pages with room for a removal, and slots, all empty.
+fn make_rows<N: Naming>(
+    alloc: Global,
+    whole: Whole<Entry, N>,
+    seat: Seat,
+    clients: usize,
+    slots: usize,
+) -> Result<(Pages<N>, Slots<N>), AllocError>
+    requires clients { clients ≡ length N.partitions }
+    requires whole { whole ≡ [] }
+    requires slots { slots ≡ N.slots }
+    requires seat { seat ≡ standing N.marks 0 (starting (max slots 1)) }
+    ensures pages { IfOk result (λ r. (r.0.entries ≡ []) × (r.0.owners ≡ []) × (2 ≤ r.0.room)) }
+    ensures numbers { IfOk result (λ r. r.1.numbers ≡ replicate slots None) }
+    ensures owner { IfOk result (λ r. r.1.owner ≡ starting (max slots 1)) }
+{
+    let mut pages = Pages::new(alloc, whole, clients)?;
+    pages.reserve(REMOVAL_LABELS)?;
+    let slots = Slots::new(alloc, seat, slots)?;
+    Ok((pages, slots))
+}
+
+// The laws on the numbers of a run, for who calls it.
+fn laws_of_numbers()
+    ensures rise { CallsRise }
+    ensures count { CallsCount }
+    ensures waiting { CallsAwait }
+{
+    machine_laws::numbers_rise();
+    machine_laws::calls_await_answers();
+}
+
+// A right step of the stack, and what the trace, its rows and the slots go by.
+fn serve_right<A: Adapter>(stack: &mut Stack<A>, alloc: Global, event: Event) -> Reply
+    requires taken { stack.old.labels ≡ [] }
+    requires given { (k number : ℕ) → open_at stack.old k ≡ Some number → number < stack.old.state.next_request }
+    ensures right { IsRight stack.old event result stack.new }
+    ensures serves { Serves stack.old event result stack.new }
+{
+    machine_laws::numbers_rise();
+    machine_laws::labels_run_out();
+    machine_laws::goes_on();
+    stack.shows_whole();
+    stack.step(alloc, event)
+}
+
+// An answer takes its request out of its slot.
+fn retire_if_answered<N: Naming>(slots: &mut Slots<N>, marks: &Marks, label: &Label)
+    requires marks { marks.now ≡ (N.marks, N.slots) }
+    ensures numbers { (k : ℕ) → number_at slots.new.numbers k ≡ unless_label label.now (number_at slots.old.numbers k) }
+    ensures looks { LooksNowhere slots.old.owner slots.new.owner }
+    ensures below { (next : ℕ) → ArmedBelow next slots.old.owner → ArmedBelow next slots.new.owner }
+{
+    if let Label::Answer { number, .. } = label {
+        slots.retire(marks, *number);
+    }
+}
+
+// A request that was opened arms its slot.
+fn arm_if_opened<N: Naming>(slots: &mut Slots<N>, marks: &Marks, reply: &Reply)
+    requires marks { marks.now ≡ (N.marks, N.slots) }
+    requires may { MayArm N.slots slots.old.owner reply.now }
+    ensures numbers { (k : ℕ) → number_at slots.new.numbers k ≡ admitted_at reply.now k (number_at slots.old.numbers k) }
+    ensures looks { LooksNowhere slots.old.owner slots.new.owner }
+    ensures below { (next : ℕ) → IsGivenBelow next reply.now → ArmedBelow next slots.old.owner → ArmedBelow next slots.new.owner }
+{
+    if let Reply::Request(id) = reply {
+        slots.arm(marks, id.slot as usize, id.number);
+    }
+}
+
+// Takes all labels of a step, and notes them.
+fn note_all<A: Adapter, N: Naming>(
+    stack: &mut Stack<A>,
+    pages: &mut Pages<N>,
+    slots: &mut Slots<N>,
+    history: &History<Entry, N>,
+    marks: &Marks,
+    client: usize,
+)
+    requires marks { marks.now ≡ (N.marks, N.slots) }
+    requires may { MayNoteAll (length N.partitions) client pages.old stack.old.labels }
+    requires room { length stack.old.labels ≤ pages.old.room }
+    ensures stack { stack.new ≡ record stack.old { labels = [] } }
+    ensures pages { pages.new ≡ noted_all client pages.old stack.old.labels }
+    ensures numbers { (k : ℕ) → number_at slots.new.numbers k ≡ unless_told stack.old.labels (number_at slots.old.numbers k) }
+    ensures looks { LooksNowhere slots.old.owner slots.new.owner }
+    ensures below { (next : ℕ) → ArmedBelow next slots.old.owner → ArmedBelow next slots.new.owner }
+{
+    while let Some(label) = stack.take_label() {
+        retire_if_answered(slots, marks, &label);
+        pages.note(history, label, client);
+    }
+}
+
+// Carries an event out, and notes its labels.
+fn carry<A: Adapter, N: Naming>(
+    stack: &mut Stack<A>,
+    pages: &mut Pages<N>,
+    slots: &mut Slots<N>,
+    alloc: Global,
+    history: &History<Entry, N>,
+    marks: &Marks,
+    client: usize,
+    event: Event,
+) -> Reply
+    requires marks { marks.now ≡ (N.marks, N.slots) }
+    requires sound { IsSound N.rules N.start N.handles N.slots stack.old pages.old slots.old }
+    requires no_handle { is_handle_event event ≡ false }
+    requires client { is_call_event event ≡ true → (client < length N.partitions) × (pages.old.ready ≡ Some client) }
+    requires room { labels_left N.rules stack.old.state + brought_by (sizes_of N.rules) event ≤ pages.old.room }
+    ensures sound { IsSound N.rules N.start N.handles N.slots stack.new pages.new slots.new }
+    ensures carried { IsCarried client (shown stack.old pages.old slots.old) event result (shown stack.new pages.new slots.new) }
+    ensures no_call { is_call_event event ≡ false → pages.new.owners ≡ pages.old.owners }
+    ensures more { length pages.old.owners ≤ length pages.new.owners }
+{
+    laws_of_numbers();
+    slots.shows_armed();
+    let reply = serve_right(stack, alloc, event);
+    arm_if_opened(slots, marks, &reply);
+    note_all(stack, pages, slots, history, marks, client);
+    reply
+}
+
+// Looks at a slot, and carries a mark out that it sees there.
+fn look_at<A: Adapter, N: Naming>(
+    stack: &mut Stack<A>,
+    pages: &mut Pages<N>,
+    slots: &mut Slots<N>,
+    alloc: Global,
+    history: &History<Entry, N>,
+    marks: &Marks,
+    slot: usize,
+)
+    requires marks { marks.now ≡ (N.marks, N.slots) }
+    requires sound { IsSound N.rules N.start N.handles N.slots stack.old pages.old slots.old }
+    requires slot { slot < N.slots }
+    ensures sound { IsSound N.rules N.start N.handles N.slots stack.new pages.new slots.new }
+    ensures looked { IsLooked slot (shown stack.old pages.old slots.old) (shown stack.new pages.new slots.new) }
+    ensures no_call { pages.new.owners ≡ pages.old.owners }
+{
+    if let Some(number) = slots.look(marks, slot) {
+        carry(
+            stack,
+            pages,
+            slots,
+            alloc,
+            history,
+            marks,
+            0,
+            Event::Mark { number },
+        );
+    }
+}
+
+// Looks once at each slot that has an open request, and carries each mark out that it sees.
+fn look_all<A: Adapter, N: Naming>(
+    stack: &mut Stack<A>,
+    pages: &mut Pages<N>,
+    slots: &mut Slots<N>,
+    alloc: Global,
+    history: &History<Entry, N>,
+    marks: &Marks,
+)
+    requires marks { marks.now ≡ (N.marks, N.slots) }
+    requires sound { IsSound N.rules N.start N.handles N.slots stack.old pages.old slots.old }
+    ensures sound { IsSound N.rules N.start N.handles N.slots stack.new pages.new slots.new }
+    ensures looked { AreLooked N.slots (shown stack.old pages.old slots.old) (shown stack.new pages.new slots.new) }
+    ensures no_call { pages.new.owners ≡ pages.old.owners }
+{
+    for slot in 0..slots.len() {
+        look_at(stack, pages, slots, alloc, history, marks, slot);
+    }
+}
+
+// Makes the places for all labels that an event may bring.
+fn make_room<N: Naming>(
+    sizes: &Sizes,
+    pages: &mut Pages<N>,
+    event: &Event,
+) -> Result<(), AllocError>
+    requires sizes { AreSizes sizes.now }
+    ensures kept { pages.new ≡ record pages.old { room = pages.new.room } }
+    ensures no_less { pages.old.room ≤ pages.new.room }
+    ensures room { OnOk result (pages.old.room + brought_by sizes.now event.now ≤ pages.new.room) }
+{
+    let Some(room) = pages.room().checked_add(sizes.labels_for(event)) else {
+        return Err(AllocError);
+    };
+    pages.reserve(room)
+}
+
+// The refusal of an event for want of memory, with the caller's bytes.
+fn refused(alloc: Global, event: Event) -> Reply
+    ensures { result ≡ RefusedReply InsufficientResources (bytes_of event) }
+{
+    let bytes = match event {
+        Event::Read { buffer, .. } => buffer,
+        Event::Write { bytes, .. } => bytes,
+        _ => Bytes::new(Vec::new(alloc)),
+    };
+    Reply::Refused {
+        refusal: Refusal::InsufficientResources,
+        bytes,
+    }
+}
+
+impl<A: Adapter, N: Naming> Traced<A, N> {
+    /// A book of a stack on which the clients' handles are open, and nothing else.
+    ///
+    /// # Errors
+    ///
+    /// Where memory for its rows, its slots or the labels of a removal was refused.
+    pub fn new(
+        alloc: Global,
+        stack: Stack<A>,
+        whole: Whole<Entry, N>,
+        seat: Seat,
+        tally: ledger::Book<N>,
+        clients: usize,
+        slots: usize,
+        sizes: Sizes,
+    ) -> Result<Traced<A, N>, AllocError>
+        requires named { IsNamed N.rules N.start N.handles N.slots stack }
+        requires first { IsFirst stack }
+        requires handles { AreClientsOf N.partitions N.handles }
+        requires whole { whole ≡ [] }
+        requires seat { seat ≡ standing N.marks 0 (starting (max slots 1)) }
+        requires tally { tally.total ≡ 0 }
+        requires count { (clients ≡ length N.partitions) × (slots ≡ N.slots) }
+        requires sizes { (sizes ≡ sizes_of N.rules) × AreSizes sizes }
+        ensures { IfOk result (λ b. (b.stack ≡ stack) × (b.entries ≡ []) × (b.owners ≡ [])) }
+    {
+        let (pages, slots) = make_rows(alloc, whole, seat, clients, slots)?;
+        Ok(Traced {
+            stack,
+            pages,
+            slots,
+            tally,
+            sizes,
+        })
+    }
+
+    /// How many labels the trace has.
+    pub fn len(&self) -> usize
+        ensures { result ≡ length self.now.entries }
+    {
+        self.pages.len()
+    }
+
+    /// What stands at a place of the trace.
+    pub fn entry(&self, place: usize) -> &Entry
+        requires { place < length self.now.entries }
+        ensures { slice_get self.now.entries place ≡ Some result.now }
+    {
+        self.pages.entry(place)
+    }
+
+    /// The places of a client's calls and of their answers so far, rising.
+    pub fn row(&self, client: usize) -> &[usize]
+        requires { client < length N.partitions }
+        ensures { result.now ≡ places client 0 self.now.entries }
+    {
+        self.pages.row(client)
+    }
+
+    /// Where the answer to a request stands in the trace, if it has come. It looks through the row of the request's client
+    /// from its end back.
+    pub fn answer_place(&self, number: u64) -> Option<usize>
+        ensures { MatchOption result (All (IsNoAnswerTo number) (labels_of self.now.entries)) (IsAnswerAt number self.now.entries) }
+    {
+        self.pages.answer_place(number)
+    }
+
+    /// A claim on a place of the trace, by the entry there.
+    pub fn claim(&mut self, history: &History<Entry, N>, place: usize) -> Claims<Entry, N>
+        requires { place < length self.old.entries }
+        ensures same { self.new ≡ self.old }
+        ensures claim { (e : EntryView) × (slice_get self.old.entries place ≡ Some e) × (result ≡ (place, e) ∷ []) }
+    {
+        self.pages.claim(history, place)
+    }
+
+    /// What was claimed stands in the trace.
+    pub fn check(&mut self, history: &History<Entry, N>, claims: &mut Claims<Entry, N>)
+        ensures same { (self.new ≡ self.old) × (claims.new ≡ claims.old) }
+        ensures stand { AllStand self.old.entries claims.old }
+    {
+        self.pages.check(history, claims)
+    }
+
+    /// Where every part of the ledger has come back, the parts have the number of calls.
+    pub fn audit(&mut self, all: &mut ledger::Share<N>)
+        requires { all.old.parts ≡ N.parts }
+        ensures same { self.new ≡ self.old }
+        ensures calls { all.new.amount ≡ calls self.old.entries }
+        ensures kept { all.new.amount ≡ all.old.amount }
+    {
+        self.tally.audit(all);
+    }
+
+    /// The trace and the rows of all clients.
+    pub fn into_rows(self) -> (Vec<Entry>, Vec<Row>)
+        ensures rows { AreRowsOf (length N.partitions) self result.0.items result.1.items }
+        ensures run { Run N.rules N.start (labels_of result.0.items) self.stack.state }
+    {
+        let Traced {
+            stack: _,
+            pages,
+            slots: _,
+            tally: _,
+            sizes: _,
+        } = self;
+        pages.into_rows()
+    }
+
+    /// Looks once at each slot that has an open request, and carries out each mark that it sees there.
+    pub fn look(&mut self, alloc: Global, history: &History<Entry, N>, marks: &Marks)
+        requires marks { marks.now ≡ (N.marks, N.slots) }
+        ensures looked { AreLooked N.slots self.old self.new }
+        ensures no_call { self.new.owners ≡ self.old.owners }
+    {
+        look_all(
+            &mut self.stack,
+            &mut self.pages,
+            &mut self.slots,
+            alloc,
+            history,
+            marks,
+        );
+    }
+
+    /// The piece on a tag that could act, with its SRB.
+    pub fn armed(&self, tag: u8) -> Option<(u128, &Srb)>
+        ensures { MatchOption result (HasNoneFresh self.now.stack.adapter tag) (λ found. IsArmed self.now.stack.adapter tag found.0 found.1.now) }
+    {
+        self.stack.armed(tag)
+    }
+
+    /// What a read, a write or a flush would open if it were the next event, as [`Stack::admits`].
+    pub fn admits(&self, event: &Event) -> Option<(u64, Extent)>
+        ensures { result ≡ opened_by self.now.stack event.now }
+    {
+        self.stack.admits(event)
+    }
+
+    /// Books what the act of a tag's piece did, or how it failed, as [`Stack::book`].
+    pub fn book(&mut self, tag: u8, piece: u128, what: Result<&srb::Entry, Completion>)
+        ensures books { BooksPiece self.old.stack tag piece (handed what.entry) self.new.stack }
+        ensures same { self.new ≡ record self.old { stack = self.new.stack } }
+    {
+        self.stack.book(tag, piece, what);
+    }
+
+    /// The sizes of the stack.
+    pub fn sizes(&self) -> Sizes
+        ensures sizes { result ≡ sizes_of N.rules }
+        ensures some { AreSizes result }
+    {
+        self.sizes
+    }
+
+    /// How many requests were called.
+    pub fn calls(&self) -> u64
+        ensures { result ≡ length self.now.owners }
+    {
+        self.pages.calls()
+    }
+
+    /// What the stack shows is settled and fits together, a run leads to it, and its adapter is in order, for who calls this.
+    pub fn shows_stack(&self)
+        ensures whole { FitsTogether self.now.stack }
+        ensures reached { IsReached self.now.stack.rules self.now.stack.state }
+        ensures in_order { IsInOrder self.now.stack.adapter }
+    {
+        self.stack.shows_whole();
+    }
+
+    /// Carries out a read, a write or a flush, with the share of its handle's client. It is refused as
+    /// `InsufficientResources`, before any step, where memory for the labels that it may bring is refused.
+    pub fn call(
+        &mut self,
+        alloc: Global,
+        history: &History<Entry, N>,
+        marks: &Marks,
+        share: &mut Share<N>,
+        event: Event,
+    ) -> Reply
+        requires marks { marks.now ≡ (N.marks, N.slots) }
+        requires call { is_call_event event ≡ true }
+        ensures served { IsServed share.old.client self.old event result self.new }
+        ensures counted { HasCounted self.old share.old share.new self.new }
+    {
+        let client = share.client();
+        if make_room(&self.sizes, &mut self.pages, &event).is_err() {
+            return refused(alloc, event);
+        }
+        if self.pages.make_ready(client).is_err() {
+            return refused(alloc, event);
+        }
+        let before = self.pages.calls();
+        let reply = carry(
+            &mut self.stack,
+            &mut self.pages,
+            &mut self.slots,
+            alloc,
+            history,
+            marks,
+            client,
+            event,
+        );
+        let after = self.pages.calls();
+        share.count(&mut self.tally, after - before);
+        reply
+    }
+
+    /// Carries out any event but a call, an open and a close. A query-remove is refused as `InsufficientResources`, before
+    /// any step, where memory for its labels is refused.
+    pub fn serve(
+        &mut self,
+        alloc: Global,
+        history: &History<Entry, N>,
+        marks: &Marks,
+        event: Event,
+    ) -> Reply
+        requires marks { marks.now ≡ (N.marks, N.slots) }
+        requires no_handle { is_handle_event event ≡ false }
+        requires no_call { is_call_event event ≡ false }
+        ensures served { IsServed 0 self.old event result self.new }
+    {
+        if matches!(event, Event::QueryRemove)
+            && make_room(&self.sizes, &mut self.pages, &event).is_err()
+        {
+            return refused(alloc, event);
+        }
+        carry(
+            &mut self.stack,
+            &mut self.pages,
+            &mut self.slots,
+            alloc,
+            history,
+            marks,
+            0,
+            event,
+        )
+    }
+
+    /// Takes the waiting answer of a request, whose label stands in the trace. It takes no memory.
+    pub fn take_answer(&mut self, number: u64) -> Option<Answer>
+        ensures takes { TakesAnswerOf self.old.stack number result self.new.stack }
+        ensures same { self.new ≡ record self.old { stack = self.new.stack } }
+        ensures stands { IfSome result (λ answer. Contains (labels_of self.old.entries) (as_answer answer)) }
+    {
+        self.stack.take_answer_of(number)
+    }
+
+    /// Whenever a book is at rest, its trace is a run from the state that it was opened with to the state that the stack
+    /// shows, each label in its row; the handles are those that it was opened with; and a slot is armed exactly with the
+    /// open request there. For who calls this.
+    pub fn shows_whole(&self)
+        ensures { IsTraced N.rules N.start N.partitions N.handles self.now }
+    {
+        self.stack.shows_whole();
+        self.pages.shows_rows();
+        self.slots.shows_armed();
+    }
+}
