@@ -1,0 +1,3 @@
+pub mod CallByCall
+pub mod Doing
+pub mod Booking

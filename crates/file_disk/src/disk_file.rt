@@ -1,0 +1,119 @@
+//! A file of the system as a storage. Each method makes a call of the system, and then notes it with what it gave.
+
+ghost use Rattle.std.specs.Prelude.{◌≡◌, ◌≤◌, [], length, IfOk};
+
+use crate::record::{DONE, Record, code_of, read_numbers, sync_numbers, write_numbers};
+use crate::storage::{Failure, Storage};
+use std::fs::File;
+use std::io;
+use std::io::ErrorKind;
+use std::os::unix::fs::FileExt;
+
+/// A call that a signal interrupts is made again, so often at most.
+const TRIES: u32 = 16;
+
+/// Linux: a descriptor that isn't open for it.
+const EBADF: i32 = 9;
+
+/// An open file, which is its own to read and write.
+#[derive(Drop)]
+pub struct DiskFile {
+    file: File,
+    noted: Record,
+}
+
+impl DiskFile {
+    /// The storage of an open file, of which nothing was asked yet.
+    pub fn new(file: File) -> DiskFile {
+        DiskFile {
+            file,
+            noted: Record::new(),
+        }
+    }
+}
+
+/// What a failed call means.
+fn failure_of(error: &io::Error) -> Failure {
+    if error.raw_os_error() == Some(EBADF) {
+        return Failure::Protected;
+    }
+    match error.kind() {
+        ErrorKind::PermissionDenied | ErrorKind::ReadOnlyFilesystem => Failure::Protected,
+        _ => Failure::Failed,
+    }
+}
+
+fn read(file: &File, offset: u64, buffer: &mut [u8]) -> Result<usize, Failure>
+    ensures { IfOk result (λ n. n ≤ length buffer.old) }
+{
+    for _ in 0..TRIES {
+        match file.read_at(buffer, offset) {
+            Ok(count) => return Ok(count),
+            Err(error) if error.kind() == ErrorKind::Interrupted => {}
+            Err(error) => return Err(failure_of(&error)),
+        }
+    }
+    Err(Failure::Failed)
+}
+
+fn write(file: &File, offset: u64, bytes: &[u8]) -> Result<usize, Failure>
+    ensures { IfOk result (λ n. n ≤ length bytes.now) }
+{
+    for _ in 0..TRIES {
+        match file.write_at(bytes, offset) {
+            Ok(count) => return Ok(count),
+            Err(error) if error.kind() == ErrorKind::Interrupted => {}
+            Err(error) => return Err(failure_of(&error)),
+        }
+    }
+    Err(Failure::Failed)
+}
+
+impl Storage for DiskFile {
+    ghost calls = { λ f. f.noted.calls };
+
+    fn read_at(&mut self, offset: u64, buffer: &mut [u8]) -> Result<usize, Failure> {
+        let count = buffer.len() as u64;
+        match read(&self.file, offset, buffer) {
+            Ok(came) => {
+                self.noted
+                    .note(&read_numbers(offset, count, DONE), &buffer[..came]);
+                Ok(came)
+            }
+            Err(why) => {
+                self.noted
+                    .note(&read_numbers(offset, count, code_of(why)), &[]);
+                Err(why)
+            }
+        }
+    }
+
+    fn write_at(&mut self, offset: u64, bytes: &[u8]) -> Result<usize, Failure> {
+        match write(&self.file, offset, bytes) {
+            Ok(took) => {
+                self.noted
+                    .note(&write_numbers(offset, took as u64, DONE), bytes);
+                Ok(took)
+            }
+            Err(why) => {
+                self.noted
+                    .note(&write_numbers(offset, 0, code_of(why)), bytes);
+                Err(why)
+            }
+        }
+    }
+
+    fn sync(&mut self) -> Result<(), Failure> {
+        match self.file.sync_data() {
+            Ok(()) => {
+                self.noted.note(&sync_numbers(DONE), &[]);
+                Ok(())
+            }
+            Err(error) => {
+                let why = failure_of(&error);
+                self.noted.note(&sync_numbers(code_of(why)), &[]);
+                Err(why)
+            }
+        }
+    }
+}

@@ -1,0 +1,305 @@
+//! The pieces of a stack, moved by the calls of a storage.
+
+ghost use Rattle.std.specs.Prelude.{◌≡◌, ◌⊎◌, ◌≤◌, ◌<◌, ◌*◌, ◌+◌, ◌^◌, length, IsTrue, MatchResult};
+ghost use Rattle.std.specs.Result.{result_map_both};
+ghost use Rattle.adapter.specs.Booking.{Suits};
+ghost use Rattle.miniport.specs.Faults.{invalid_request};
+ghost use Rattle.file_disk.specs.Calls.{Since};
+ghost use Rattle.file_disk.specs.Transfers.{Carries, Does, IsOfPiece, Syncs, Transfers, WritesBytes, hardware_fault, kind_of, read_fault, sends, task_in, write_fault};
+
+use crate::moving::{read_all, write_all};
+use crate::storage::{Failure, Storage};
+use cdb::Cdb;
+use disk::{Medium, SparseDisk};
+use miniport::{MEDIUM_ERROR, check_on, failed_with};
+use sector::{Bytes, Extent};
+use srb::{Completion, Entry, Kind, Srb};
+use std::alloc::Global;
+use std::marker::Model;
+use std::mem;
+
+/// Sense keys (SPC).
+const HARDWARE_ERROR: u8 = 4;
+
+const DATA_PROTECT: u8 = 7;
+
+/// The sizes of a disk.
+#[derive(Debug, Clone, Copy, PartialEq, Eq)]
+pub struct Sizes {
+    /// Bytes of a sector, 512 or 4096.
+    pub sector_size: u32,
+    /// From 1 to 2^40.
+    pub sectors: u64,
+    /// It takes no writes.
+    pub write_protected: bool,
+}
+
+/// What a command asks of a file.
+#[derive(Debug, Clone, Copy, PartialEq, Eq)]
+pub(crate) enum Task {
+    Read,
+    /// With `through`, past volatile caches.
+    Write { through: bool },
+    Flush,
+}
+
+impl Task {
+    fn kind(self) -> Kind
+        ensures { result ≡ kind_of self }
+    {
+        match self {
+            Task::Read => Kind::Read,
+            Task::Write { .. } => Kind::Write,
+            Task::Flush => Kind::Flush,
+        }
+    }
+}
+
+fn extent(first: u64, count: u32) -> Extent
+    ensures { result ≡ record { first = first; count = count } }
+{
+    Extent {
+        first,
+        count: count as u64,
+    }
+}
+
+/// What a command asks of a file, and of which sectors: of a read capacity nothing.
+fn task_in(command: Cdb) -> Option<(Task, Extent)>
+    ensures { result ≡ task_in command }
+{
+    match command {
+        Cdb::Read10 { lba, count, .. } => Some((Task::Read, extent(lba as u64, count as u32))),
+        Cdb::Write10 { lba, count, fua } => Some((
+            Task::Write { through: fua },
+            extent(lba as u64, count as u32),
+        )),
+        Cdb::Sync10 { lba, blocks } => Some((Task::Flush, extent(lba as u64, blocks as u32))),
+        Cdb::Read16 { lba, count, .. } => Some((Task::Read, extent(lba, count))),
+        Cdb::Write16 { lba, count, fua } => {
+            Some((Task::Write { through: fua }, extent(lba, count)))
+        }
+        Cdb::Sync16 { lba, blocks } => Some((Task::Flush, extent(lba, blocks))),
+        Cdb::ReadCapacity10 => None,
+        Cdb::ReadCapacity16 { .. } => None,
+    }
+}
+
+/// How a read fails.
+fn read_fault() -> Completion
+    ensures { result ≡ read_fault }
+{
+    failed_with(MEDIUM_ERROR, 0x11)
+}
+
+/// How a write fails.
+fn write_fault(why: Failure) -> Completion
+    ensures { result ≡ write_fault why }
+{
+    match why {
+        Failure::Protected => failed_with(DATA_PROTECT, 0x27),
+        Failure::Failed => failed_with(MEDIUM_ERROR, 0x0C),
+    }
+}
+
+/// How a sync fails, and a piece for whose bytes there is no memory.
+fn hardware_fault() -> Completion
+    ensures { result ≡ hardware_fault }
+{
+    failed_with(HARDWARE_ERROR, 0x00)
+}
+
+/// How an SRB fails that asks nothing of a file.
+fn invalid_request() -> Completion
+    ensures { result ≡ invalid_request }
+{
+    Completion {
+        srb_status: 0x06,
+        scsi_status: 0x00,
+        sense: None,
+    }
+}
+
+/// Syncs.
+///
+/// # Errors
+///
+/// A hardware error where the storage failed.
+fn flush<S: Storage>(storage: &mut S) -> Result<(), Completion>
+    ensures { Since (S.calls storage.old) (S.calls storage.new) (Syncs result) }
+{
+    match storage.sync() {
+        Ok(()) => Ok(()),
+        Err(_) => Err(hardware_fault()),
+    }
+}
+
+/// Writes these bytes; with `through` it syncs then.
+///
+/// # Errors
+///
+/// As the calls failed.
+fn write<S: Storage>(
+    storage: &mut S,
+    offset: u64,
+    bytes: &[u8],
+    through: bool,
+) -> Result<(), Completion>
+    requires { offset + length bytes.now < 2 ^ 64 }
+    ensures { Since (S.calls storage.old) (S.calls storage.new) (WritesBytes through offset bytes.now result) }
+{
+    match write_all(storage, offset, bytes) {
+        Err(why) => Err(write_fault(why)),
+        Ok(()) if through => flush(storage),
+        Ok(()) => Ok(()),
+    }
+}
+
+/// Carries a task out on as many bytes from byte `offset` on; the bytes that it moved. A flush has none.
+///
+/// # Errors
+///
+/// As the calls failed.
+fn perform<S: Storage>(
+    storage: &mut S,
+    offset: u64,
+    task: Task,
+    bytes: Vec<u8>,
+) -> Result<Vec<u8>, Completion>
+    requires fits { offset + length bytes.items < 2 ^ 64 }
+    ensures { Since (S.calls storage.old) (S.calls storage.new) (Does offset bytes.items task (result_map_both (λ v. v.items) (λ e. e) result)) }
+{
+    let mut bytes = bytes;
+    match task {
+        Task::Read => match read_all(storage, offset, bytes.as_mut_slice()) {
+            Ok(()) => Ok(bytes),
+            Err(_) => Err(read_fault()),
+        },
+        Task::Write { through } => {
+            write(storage, offset, bytes.as_slice(), through)?;
+            Ok(bytes)
+        }
+        Task::Flush => {
+            flush(storage)?;
+            Ok(bytes)
+        }
+    }
+}
+
+/// Room with the bytes that a task sends in it.
+fn filled(task: Task, room: Vec<u8>, sent: &[u8]) -> Vec<u8>
+    requires { length room.items ≡ length sent.now }
+    ensures long { length result.items ≡ length sent.now }
+    ensures sent { IsTrue (sends task) → result.items ≡ sent.now }
+{
+    let mut room = room;
+    if matches!(task, Task::Write { .. }) {
+        room.as_mut_slice().copy_from_slice(sent);
+    }
+    room
+}
+
+/// A disk whose sectors stand in a storage, one after the other.
+#[derive(Drop)]
+pub struct FileDisk<S: Storage + Drop> {
+    storage: S,
+    /// A blank disk of these sizes, by which commands are checked.
+    shape: SparseDisk,
+    write_protected: bool,
+    /// For the bytes of the next piece.
+    room: Vec<u8>,
+}
+
+impl<S: Storage + Drop> Model for FileDisk<S> {
+    ghost use Rattle.disk.specs.SparseDisk.{shown};
+    ghost use Rattle.file_disk.specs.Transfers.{DiskView, IsDiskSize, disk_over};
+
+    ghost Value = { DiskView };
+
+    ghost view = { λ d. disk_over (shown d.shape) d.write_protected (S.calls d.storage) };
+
+    ghost invariant = { λ d. IsDiskSize (shown d.shape) };
+}
+
+impl<S: Storage + Drop> FileDisk<S> {
+    /// The disk of these sizes in a storage that has as many bytes.
+    pub fn new(alloc: Global, storage: S, sizes: Sizes) -> FileDisk<S>
+        requires size { (sizes.sector_size ≡ 512) ⊎ (sizes.sector_size ≡ 4096) }
+        requires few { sizes.sectors ≤ 2 ^ 40 }
+        ensures { result ≡ record { sector_size = sizes.sector_size; sectors = sizes.sectors; write_protected = sizes.write_protected; calls = S.calls storage } }
+    {
+        FileDisk {
+            storage,
+            shape: SparseDisk::new(alloc, sizes.sector_size, sizes.sectors, Vec::new(alloc)),
+            write_protected: sizes.write_protected,
+            room: Vec::new(alloc),
+        }
+    }
+
+    /// Room for so many bytes. It takes no memory where as much was taken back.
+    ///
+    /// # Errors
+    ///
+    /// A hardware error where memory was refused.
+    fn take_room(&mut self, count: usize) -> Result<Vec<u8>, Completion>
+        ensures room { MatchResult result (λ room. length room.items ≡ count) (λ why. why ≡ hardware_fault) }
+        ensures same { self.new ≡ self.old }
+    {
+        let alloc = *self.room.allocator();
+        let mut room = mem::replace(&mut self.room, Vec::new(alloc));
+        match room.resize(count, 0) {
+            Ok(()) => Ok(room),
+            Err(_) => Err(hardware_fault()),
+        }
+    }
+
+    /// Carries out a task of these sectors, sent with these bytes.
+    ///
+    /// # Errors
+    ///
+    /// As the calls failed; a hardware error where memory was refused.
+    fn carry_out(&mut self, task: Task, extent: Extent, sent: &[u8]) -> Result<Bytes, Completion>
+        requires inside { extent.first + extent.count ≤ self.old.sectors }
+        requires long { length sent.now ≤ extent.count * self.old.sector_size }
+        ensures does { Carries self.old task extent sent.now result self.new }
+        ensures after { self.new ≡ record self.old { calls = self.new.calls } }
+    {
+        let room = self.take_room(sent.len())?;
+        let bytes = filled(task, room, sent);
+        let offset = extent.first * self.shape.sector_size() as u64;
+        let moved = perform(&mut self.storage, offset, task, bytes)?;
+        Ok(Bytes::new(moved))
+    }
+
+    /// Carries out what the SRB of a piece asks for: its entry, or how it failed.
+    ///
+    /// # Errors
+    ///
+    /// By the table of the adapter in memory: ILLEGAL REQUEST and the like where the SRB is none that a disk carries out,
+    /// WRITE PROTECTED; MEDIUM ERROR where a read or a write failed, HARDWARE ERROR where a sync did or memory was refused.
+    pub fn transfer(&mut self, tag: u8, piece: u128, srb: &Srb) -> Result<Entry, Completion>
+        ensures transfers { Transfers self.old tag piece srb.now result self.new }
+        ensures suits { Suits self.old.sector_size self.old.sectors srb.now result }
+        ensures of_piece { IsOfPiece tag piece result }
+    {
+        let command = check_on(&self.shape, self.write_protected, srb)?;
+        let Some((task, extent)) = task_in(command) else {
+            return Err(invalid_request());
+        };
+        let bytes = self.carry_out(task, extent, srb.data.as_slice())?;
+        Ok(Entry {
+            piece,
+            tag,
+            extent,
+            kind: task.kind(),
+            bytes,
+        })
+    }
+
+    /// Takes the memory of an entry back, for the next.
+    pub fn take_back(&mut self, entry: Entry)
+        ensures { self.new ≡ self.old }
+    {
+        self.room = entry.bytes.into_vec();
+    }
+}

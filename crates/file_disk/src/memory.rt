@@ -1,0 +1,137 @@
+//! A storage in memory.
+
+ghost use Rattle.std.specs.Prelude.{◌≡◌, ◌≤◌, length};
+
+use crate::record::{DONE, FAILED, Record, code_of, read_numbers, sync_numbers, write_numbers};
+use crate::storage::{Failure, Storage};
+
+/// Bytes in memory, as many as there are at its start. For tests: a call moves no more bytes than it is told to, and one call
+/// can fail.
+#[derive(Drop)]
+pub struct MemoryFile {
+    bytes: Vec<u8>,
+    /// The most bytes that a call moves.
+    longest: usize,
+    /// As many calls go well before one fails.
+    before: Option<u64>,
+    protected: bool,
+    noted: Record,
+}
+
+impl MemoryFile {
+    /// A storage of these bytes.
+    pub fn new(bytes: Vec<u8>) -> MemoryFile {
+        MemoryFile {
+            bytes,
+            longest: usize::MAX,
+            before: None,
+            protected: false,
+            noted: Record::new(),
+        }
+    }
+
+    /// The same, of which a call moves so many bytes at most.
+    pub fn in_steps(self, longest: usize) -> MemoryFile {
+        MemoryFile { longest, ..self }
+    }
+
+    /// The same, whose call number `before` fails, counted from 0.
+    pub fn failing(self, before: u64) -> MemoryFile {
+        MemoryFile {
+            before: Some(before),
+            ..self
+        }
+    }
+
+    /// The same, which can't be written.
+    pub fn write_protected(self) -> MemoryFile {
+        MemoryFile {
+            protected: true,
+            ..self
+        }
+    }
+
+    /// Its bytes.
+    pub fn bytes(&self) -> &[u8] {
+        self.bytes.as_slice()
+    }
+
+    /// Why the next write fails, if it does.
+    fn refuses(&mut self) -> Option<Failure>
+        ensures { self.new.noted ≡ self.old.noted }
+    {
+        if self.protected {
+            return Some(Failure::Protected);
+        }
+        match self.fails() {
+            true => Some(Failure::Failed),
+            false => None,
+        }
+    }
+
+    /// Whether the next call fails; it is counted.
+    fn fails(&mut self) -> bool
+        ensures { self.new.noted ≡ self.old.noted }
+    {
+        let fails = self.before == Some(0);
+        self.before = self.before.and_then(|before| before.checked_sub(1));
+        fails
+    }
+}
+
+/// Copies the bytes from `offset` on into the buffer, so many at most: how many.
+fn copy_from(bytes: &[u8], offset: u64, longest: usize, buffer: &mut [u8]) -> usize
+    ensures { result ≤ length buffer.old }
+{
+    let first = offset.min(bytes.len() as u64) as usize;
+    let count = (bytes.len() - first).min(buffer.len()).min(longest);
+    buffer[..count].copy_from_slice(&bytes[first..first + count]);
+    count
+}
+
+/// Copies the first of these over the bytes from `offset` on, so many at most: how many.
+fn copy_to(bytes: &mut [u8], offset: u64, longest: usize, told: &[u8]) -> usize
+    ensures { result ≤ length told.now }
+{
+    let first = offset.min(bytes.len() as u64) as usize;
+    let count = (bytes.len() - first).min(told.len()).min(longest);
+    bytes[first..first + count].copy_from_slice(&told[..count]);
+    count
+}
+
+impl Storage for MemoryFile {
+    ghost calls = { λ f. f.noted.calls };
+
+    fn read_at(&mut self, offset: u64, buffer: &mut [u8]) -> Result<usize, Failure> {
+        let count = buffer.len() as u64;
+        if self.fails() {
+            self.noted.note(&read_numbers(offset, count, FAILED), &[]);
+            return Err(Failure::Failed);
+        }
+        let came = copy_from(self.bytes.as_slice(), offset, self.longest, buffer);
+        self.noted
+            .note(&read_numbers(offset, count, DONE), &buffer[..came]);
+        Ok(came)
+    }
+
+    fn write_at(&mut self, offset: u64, bytes: &[u8]) -> Result<usize, Failure> {
+        if let Some(why) = self.refuses() {
+            self.noted
+                .note(&write_numbers(offset, 0, code_of(why)), bytes);
+            return Err(why);
+        }
+        let took = copy_to(self.bytes.as_mut_slice(), offset, self.longest, bytes);
+        self.noted
+            .note(&write_numbers(offset, took as u64, DONE), bytes);
+        Ok(took)
+    }
+
+    fn sync(&mut self) -> Result<(), Failure> {
+        if self.fails() {
+            self.noted.note(&sync_numbers(FAILED), &[]);
+            return Err(Failure::Failed);
+        }
+        self.noted.note(&sync_numbers(DONE), &[]);
+        Ok(())
+    }
+}

@@ -1,0 +1,52 @@
+//! What is asked of a file.
+
+use thiserror::Error;
+
+/// Why a call failed.
+#[derive(Debug, Clone, Copy, PartialEq, Eq, Error)]
+pub enum Failure {
+    /// It can't be written.
+    #[error("write protected")]
+    Protected,
+    /// Anything else; also where there is no room.
+    #[error("failed")]
+    Failed,
+}
+
+/// Bytes that are read and written by offset, with a record of the calls so far.
+pub trait Storage {
+    ghost use Rattle.std.specs.Prelude.{◌≡◌, ◌<◌, ◌≤◌, ◌∷◌, List, IfOk, length};
+    ghost use Rattle.std.specs.Result.{result_err};
+    ghost use Rattle.file_disk.specs.Calls.{Call, ReadAt, WriteAt, Sync, given};
+
+    /// Each call so far with what it gave, the newest first.
+    ghost calls: { Self → List Call };
+
+    /// Reads into the first bytes of the buffer, from byte `offset` on: how many. None are left there where it gives 0.
+    ///
+    /// # Errors
+    ///
+    /// As [`Failure`] says.
+    fn read_at(&mut self, offset: u64, buffer: &mut [u8]) -> Result<usize, Failure>
+        requires some { 0 < length buffer.old }
+        ensures count { IfOk result (λ n. n ≤ length buffer.old) }
+        ensures noted { calls self.new ≡ ReadAt offset (length buffer.old) (given result buffer.new) ∷ calls self.old };
+
+    /// Writes the first of these bytes from byte `offset` on: how many. It takes no more where it gives 0.
+    ///
+    /// # Errors
+    ///
+    /// As [`Failure`] says.
+    fn write_at(&mut self, offset: u64, bytes: &[u8]) -> Result<usize, Failure>
+        requires some { 0 < length bytes.now }
+        ensures count { IfOk result (λ n. n ≤ length bytes.now) }
+        ensures noted { calls self.new ≡ WriteAt offset bytes.now result ∷ calls self.old };
+
+    /// Brings what was written past volatile caches.
+    ///
+    /// # Errors
+    ///
+    /// As [`Failure`] says.
+    fn sync(&mut self) -> Result<(), Failure>
+        ensures noted { calls self.new ≡ Sync (result_err result) ∷ calls self.old };
+}

@@ -1,0 +1,177 @@
+//! What comes of pieces over a storage in memory, and over a file.
+
+ghost use Rattle.std.specs.Prelude.{◌<◌, ◌^◌};
+
+use crate::{DiskFile, FileDisk, MemoryFile, Sizes, Storage, read_all, write_all};
+use arrayvec::ArrayVec;
+use ntstatus::Sense;
+use sector::Bytes;
+use srb::{CommandBlock, Completion, Entry, Kind, Srb, SrbFlags, SrbFunction};
+use std::alloc::Global;
+use std::fmt::Debug;
+use std::fs;
+use std::fs::OpenOptions;
+use std::process::Abort;
+use std::test::Fail;
+
+/// READ(10), WRITE(10) and SYNCHRONIZE CACHE(10) of sector 1; with FUA in the second of the writes.
+const READ: [u8; 10] = [0x28, 0, 0, 0, 0, 1, 0, 0, 1, 0];
+
+const WRITE: [u8; 10] = [0x2A, 0, 0, 0, 0, 1, 0, 0, 1, 0];
+
+const WRITE_THROUGH: [u8; 10] = [0x2A, 8, 0, 0, 0, 1, 0, 0, 1, 0];
+
+const SYNC: [u8; 10] = [0x35, 0, 0, 0, 0, 1, 0, 0, 1, 0];
+
+const CAPACITY: [u8; 10] = [0x25, 0, 0, 0, 0, 0, 0, 0, 0, 0];
+
+const INVALID: Completion = Completion {
+    srb_status: 0x06,
+    scsi_status: 0x00,
+    sense: None,
+};
+
+const SIZES: Sizes = Sizes {
+    sector_size: 512,
+    sectors: 4,
+    write_protected: false,
+};
+
+const fn checked(key: u8, asc: u8) -> Completion {
+    Completion {
+        srb_status: 0x84,
+        scsi_status: 0x02,
+        sense: Some(Sense { key, asc, ascq: 0 }),
+    }
+}
+
+fn same<T: PartialEq + Debug>(rt: &impl Abort, got: &T, wanted: &T) {
+    assert_eq!(rt; got, wanted);
+}
+
+/// An SRB with so many bytes of 9.
+fn srb(alloc: Global, block: &[u8; 10], flags: u8, count: usize) -> Result<Srb, Fail>
+    requires { count < 2 ^ 20 }
+{
+    let mut bytes = ArrayVec::new();
+    bytes
+        .try_extend_from_slice(block)
+        .ok()
+        .ok_or("a long block")?;
+    Ok(Srb {
+        function: SrbFunction::ExecuteScsi,
+        flags: SrbFlags(flags),
+        block: CommandBlock::new(bytes),
+        data: Bytes::new(vec![in alloc; 9; count]?),
+        for_label: Bytes::new(vec![in alloc; 0; count]?),
+        sense: None,
+    })
+}
+
+/// Four sectors of 7, moved by 100 bytes at most.
+fn sevens(alloc: Global) -> Result<MemoryFile, Fail> {
+    Ok(MemoryFile::new(vec![in alloc; 7; 2048]?).in_steps(100))
+}
+
+/// What a piece comes to: the first of its bytes, and how many, or how it failed.
+fn told(outcome: &Result<Entry, Completion>) -> Result<(Kind, u64, usize, Option<u8>), Completion> {
+    match outcome {
+        Ok(entry) => Ok((
+            entry.kind,
+            entry.extent.first,
+            entry.bytes.len(),
+            entry.bytes.as_slice().first().copied(),
+        )),
+        Err(completion) => Err(*completion),
+    }
+}
+
+#[test]
+fn each_command_is_carried_out(rt: HostRuntime) -> Result<(), Fail> {
+    let alloc = rt.alloc();
+    let mut disk = FileDisk::new(alloc, sevens(alloc)?, SIZES);
+    let read = disk.transfer(0, 1, &srb(alloc, &READ, 64, 512)?);
+    same(&rt, &told(&read), &Ok((Kind::Read, 1, 512, Some(7))));
+    let written = disk.transfer(0, 2, &srb(alloc, &WRITE, 128, 512)?);
+    same(&rt, &told(&written), &Ok((Kind::Write, 1, 512, Some(9))));
+    if let Ok(entry) = written {
+        disk.take_back(entry);
+    }
+    let read = disk.transfer(0, 3, &srb(alloc, &READ, 64, 512)?);
+    same(&rt, &told(&read), &Ok((Kind::Read, 1, 512, Some(9))));
+    let through = disk.transfer(0, 4, &srb(alloc, &WRITE_THROUGH, 128, 512)?);
+    same(&rt, &told(&through), &Ok((Kind::Write, 1, 512, Some(9))));
+    let synced = disk.transfer(0, 5, &srb(alloc, &SYNC, 0, 0)?);
+    same(&rt, &told(&synced), &Ok((Kind::Flush, 1, 0, None)));
+    let capacity = disk.transfer(0, 6, &srb(alloc, &CAPACITY, 64, 8)?);
+    same(&rt, &told(&capacity), &Err(INVALID));
+    let long = disk.transfer(0, 7, &srb(alloc, &READ, 64, 1024)?);
+    same(&rt, &told(&long), &Err(INVALID));
+    Ok(())
+}
+
+/// A piece on a storage of which a call fails.
+fn fails_with(
+    rt: &HostRuntime,
+    file: MemoryFile,
+    block: &[u8; 10],
+    flags: u8,
+    count: usize,
+) -> Result<Result<(Kind, u64, usize, Option<u8>), Completion>, Fail>
+    requires { count < 2 ^ 20 }
+{
+    let alloc = rt.alloc();
+    let mut disk = FileDisk::new(alloc, file, SIZES);
+    let outcome = disk.transfer(0, 1, &srb(alloc, block, flags, count)?);
+    Ok(told(&outcome))
+}
+
+#[test]
+fn each_failure_has_its_completion(rt: HostRuntime) -> Result<(), Fail> {
+    let alloc = rt.alloc();
+    let medium = checked(3, 0x11);
+    let read = fails_with(&rt, sevens(alloc)?.failing(3), &READ, 64, 512)?;
+    same(&rt, &read, &Err(medium));
+    let short = MemoryFile::new(vec![in alloc; 7; 700]?);
+    let read = fails_with(&rt, short, &READ, 64, 512)?;
+    same(&rt, &read, &Err(medium));
+    let written = fails_with(&rt, sevens(alloc)?.failing(5), &WRITE, 128, 512)?;
+    same(&rt, &written, &Err(checked(3, 0x0C)));
+    let written = fails_with(&rt, sevens(alloc)?.write_protected(), &WRITE, 128, 512)?;
+    same(&rt, &written, &Err(checked(7, 0x27)));
+    // Six calls write it, and the seventh syncs.
+    let through = fails_with(&rt, sevens(alloc)?.failing(6), &WRITE_THROUGH, 128, 512)?;
+    same(&rt, &through, &Err(checked(4, 0x00)));
+    let synced = fails_with(&rt, sevens(alloc)?.failing(0), &SYNC, 0, 0)?;
+    same(&rt, &synced, &Err(checked(4, 0x00)));
+    Ok(())
+}
+
+#[test]
+fn a_file_has_what_was_written(rt: HostRuntime) -> Result<(), Fail> {
+    fs::write(&rt, "disk.img", vec![in rt.alloc(); 7; 2048]?.as_slice())?;
+    let mut file = DiskFile::new(
+        OpenOptions::new()
+            .read(true)
+            .write(true)
+            .open(&rt, "disk.img")?,
+    );
+    same(&rt, &write_all(&mut file, 512, &[9; 512]), &Ok(()));
+    same(&rt, &file.sync(), &Ok(()));
+    let mut back = [0; 600];
+    same(&rt, &read_all(&mut file, 500, &mut back), &Ok(()));
+    same(
+        &rt,
+        &[back[11], back[12], back[523], back[524]],
+        &[7, 9, 9, 7],
+    );
+    same(&rt, &read_all(&mut file, 1500, &mut back).is_err(), &true);
+    let mut protected = DiskFile::new(fs::open(&rt, "disk.img")?);
+    same(
+        &rt,
+        &write_all(&mut protected, 0, &[1]),
+        &Err(crate::Failure::Protected),
+    );
+    fs::remove_file(&rt, "disk.img")?;
+    Ok(())
+}
