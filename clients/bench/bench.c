@@ -1,4 +1,5 @@
-/* A test bench over the static library: it places cancels, a reset and a removal between the steps of an adapter. */
+/* A test bench over the static library: it places cancels, a reset and a removal between the steps of an adapter, and tells
+ * wrong things of commands that it moves by itself. */
 #include <inttypes.h>
 #include <stdio.h>
 #include <string.h>
@@ -39,6 +40,90 @@ answered(const char *what, uint64_t number, uint32_t status, uint64_t count)
 	expect(what, answer.number, number);
 	expect(what, answer.status, status);
 	expect(what, answer.information, count);
+}
+
+/* Over storage of the program's own: two sectors, of which the second is the partition. */
+static uint8_t sectors[2][512];
+
+static void
+misuse(const struct saddlemug_armed *armed, struct saddlemug_booking booking)
+{
+	struct saddlemug_armed other;
+	expect("no stack", saddlemug_stack_book(NULL, &booking), SADDLEMUG_INVALID_PARAMETER);
+	expect("no booking", saddlemug_stack_book(&stack, NULL), SADDLEMUG_INVALID_PARAMETER);
+	expect("nothing to tell it in", saddlemug_stack_armed(&stack, 0, NULL), SADDLEMUG_INVALID_PARAMETER);
+	expect("a tag without a command", saddlemug_stack_armed(&stack, 1, &other), SADDLEMUG_NOT_FOUND);
+	expect("a tag that the adapter lacks", saddlemug_stack_armed(&stack, 255, &other), SADDLEMUG_NOT_FOUND);
+	booking.length = 511;
+	expect("another length", saddlemug_stack_book(&stack, &booking), SADDLEMUG_INVALID_PARAMETER);
+	booking.length = 512;
+	booking.tag = 255;
+	expect("another tag", saddlemug_stack_book(&stack, &booking), SADDLEMUG_NOT_FOUND);
+	booking.tag = 0;
+	booking.piece_high++;
+	expect("another command", saddlemug_stack_book(&stack, &booking), SADDLEMUG_NOT_FOUND);
+	booking.piece_high--;
+	booking.failed = true;
+	booking.completion.srb_status = 1;
+	expect("a failure that is none", saddlemug_stack_book(&stack, &booking), SADDLEMUG_INVALID_PARAMETER);
+	booking.failed = false;
+	armed->bytes[0] ^= 1;
+	expect("changed bytes", saddlemug_stack_book(&stack, &booking), SADDLEMUG_INVALID_PARAMETER);
+	armed->bytes[0] ^= 1;
+}
+
+/* The command that is out is moved and booked. */
+static void
+serve(uint32_t kind, bool misused)
+{
+	struct saddlemug_armed armed;
+	expect("armed", saddlemug_stack_armed(&stack, 0, &armed), SADDLEMUG_SUCCESS);
+	expect("its kind", armed.asked.kind, kind);
+	expect("its sector", armed.asked.first, 1);
+	expect("its length", armed.length, 512);
+	struct saddlemug_booking booking = {.piece_low = armed.piece_low, .piece_high = armed.piece_high, .length = armed.length};
+	if (misused)
+		misuse(&armed, booking);
+	if (kind == SADDLEMUG_ASKS_TO_READ)
+		memcpy(armed.bytes, sectors[armed.asked.first], 512);
+	else
+		memcpy(sectors[armed.asked.first], armed.bytes, 512);
+	expect("booked", saddlemug_stack_book(&stack, &booking), SADDLEMUG_SUCCESS);
+	expect("booked twice", saddlemug_stack_book(&stack, &booking), SADDLEMUG_NOT_FOUND);
+	step("act", (struct saddlemug_event){.kind = SADDLEMUG_ACT}, 0, SADDLEMUG_IS_DONE);
+	expect("booked late", saddlemug_stack_book(&stack, &booking), SADDLEMUG_NOT_FOUND);
+	step("finish", (struct saddlemug_event){.kind = SADDLEMUG_FINISH}, 0, SADDLEMUG_IS_DONE);
+}
+
+static void
+over(void)
+{
+	struct saddlemug_disk disk = {.sectors = 2, .max_transfer = 8, .depth = 2, .window = 2, .open_requests = 2};
+	struct saddlemug_armed armed;
+	sectors[0][450] = 0x83;
+	sectors[0][454] = sectors[0][458] = 1;
+	expect("no table", saddlemug_stack_open_over(&stack, &disk, sectors[0], 512), SADDLEMUG_INVALID_PARAMETER);
+	sectors[0][510] = 0x55;
+	sectors[0][511] = 0xAA;
+	expect("no disk", saddlemug_stack_open_over(&stack, NULL, sectors[0], 512), SADDLEMUG_INVALID_PARAMETER);
+	expect("an empty room", saddlemug_stack_armed(&stack, 0, &armed), SADDLEMUG_INVALID_HANDLE);
+	expect("open", saddlemug_stack_open_over(&stack, &disk, sectors[0], 512), SADDLEMUG_SUCCESS);
+	if (failed)
+		return;
+	expect("a room that is full", saddlemug_stack_open_over(&stack, &disk, sectors[0], 512), SADDLEMUG_INVALID_PARAMETER);
+	step("open", (struct saddlemug_event){.kind = SADDLEMUG_OPEN}, 0, SADDLEMUG_IS_HANDLE);
+	struct saddlemug_id handle = reply.id;
+	memset(bytes, 0x5A, 512);
+	step("write", (struct saddlemug_event){.kind = SADDLEMUG_WRITE, .handle = handle}, 512, SADDLEMUG_IS_REQUEST);
+	serve(SADDLEMUG_ASKS_TO_WRITE, true);
+	answered("write", 1, SADDLEMUG_SUCCESS, 512);
+	expect("what was written", memcmp(sectors[1], bytes, 512), 0);
+	sectors[1][7] = 7;
+	step("read", (struct saddlemug_event){.kind = SADDLEMUG_READ, .handle = handle, .length = 512}, 0, SADDLEMUG_IS_REQUEST);
+	serve(SADDLEMUG_ASKS_TO_READ, false);
+	answered("read", 2, SADDLEMUG_SUCCESS, 512);
+	expect("what was read", memcmp(got, sectors[1], 512), 0);
+	saddlemug_stack_close(&stack);
 }
 
 int
@@ -108,7 +193,10 @@ main(void)
 
 	struct saddlemug_event unknown = {.kind = SADDLEMUG_RESET + 1};
 	expect("no event", saddlemug_stack_step(&stack, &unknown, bytes, 0, &reply), SADDLEMUG_INVALID_PARAMETER);
+	struct saddlemug_armed armed;
+	expect("a disk in memory", saddlemug_stack_armed(&stack, 0, &armed), SADDLEMUG_INVALID_DEVICE_REQUEST);
 	saddlemug_stack_close(&stack);
+	over();
 	if (!failed)
 		puts("the bench found what it expected");
 	return failed;

@@ -1,5 +1,6 @@
 /* An nbdkit plugin over the static library: nbdkit ./saddlemug.so size=256M [sector=512] [transfer=128], or
- * nbdkit ./saddlemug.so settings=FILE [partition=0] */
+ * nbdkit ./saddlemug.so settings=FILE [partition=0], for a disk in memory; or
+ * nbdkit ./saddlemug.so file=IMAGE [partition=0] [sector=512] [transfer=2048], for a raw image file. */
 #include <errno.h>
 #include <inttypes.h>
 #include <malloc.h>
@@ -10,7 +11,7 @@
 #define NBDKIT_API_VERSION 2
 #include <nbdkit-plugin.h>
 
-#include "saddlemug.h"
+#include "own_disk.h"
 
 #define THREAD_MODEL NBDKIT_THREAD_MODEL_SERIALIZE_ALL_REQUESTS
 
@@ -18,11 +19,15 @@
 #define LONGEST 65536
 
 static int64_t size = 64 << 20;
-static uint32_t sector = 512, transfer = 128;
-static char *settings_file;
+static uint32_t sector = 512, transfer;
+static char *settings_file, *image_file;
 static uint8_t partition;
+static bool has_partition;
 
+/* The one or the other. */
 static struct saddlemug volume;
+static struct own_disk image = {.file = -1};
+
 static struct saddlemug_sizes sizes;
 
 /* A request takes memory for copies of its bytes, and gives it back: keep that memory in the process. */
@@ -50,8 +55,15 @@ config(const char *key, const char *value)
 		settings_file = nbdkit_realpath(value);
 		return settings_file == NULL ? -1 : 0;
 	}
-	if (strcmp(key, "partition") == 0)
+	if (strcmp(key, "file") == 0) {
+		free(image_file);
+		image_file = nbdkit_realpath(value);
+		return image_file == NULL ? -1 : 0;
+	}
+	if (strcmp(key, "partition") == 0) {
+		has_partition = true;
 		return nbdkit_parse_uint8_t(key, value, &partition);
+	}
 	nbdkit_error("unknown parameter '%s'", key);
 	return -1;
 }
@@ -87,14 +99,33 @@ open_with_file(void)
 	return open_with(text, length);
 }
 
+/* A file without a partition is one as a whole. */
+static int
+open_image(void)
+{
+	struct own_disk_options options = {.sector_size = sector, .transfer = transfer != 0 ? transfer : 2048, .depth = 16,
+		.partition = has_partition ? partition : -1};
+	const char *why = own_disk_open(&image, image_file, &options);
+	if (why != NULL) {
+		nbdkit_error("%s: %s", image_file, why);
+		return -1;
+	}
+	sizes = (struct saddlemug_sizes){.sector_size = sector, .sectors = image.size / sector};
+	return 0;
+}
+
 /* The disk is one sector longer: its first sector has the partition table. */
 static int
 get_ready(void)
 {
 	char text[256];
 
+	if (image_file != NULL)
+		return open_image();
 	if (settings_file != NULL)
 		return open_with_file();
+	if (transfer == 0)
+		transfer = 128;
 	if (sector == 0 || size % sector != 0 || size / sector > UINT32_MAX) {
 		nbdkit_error("size %" PRIi64 " is no number of sectors that a partition has", size);
 		return -1;
@@ -111,7 +142,9 @@ unload(void)
 {
 	if (volume.at != NULL)
 		saddlemug_close(&volume);
+	own_disk_close(&image);
 	free(settings_file);
+	free(image_file);
 }
 
 static void *
@@ -190,7 +223,8 @@ pread_(void *handle, void *buffer, uint32_t count, uint64_t offset, uint32_t fla
 	(void) flags;
 	for (uint8_t *at = buffer; count > 0;) {
 		uint32_t piece = piece_of(count);
-		if (answered("saddlemug_read", saddlemug_read(&volume, offset, at, piece)) != 0)
+		uint32_t status = image_file != NULL ? own_disk_read(&image, offset, at, piece) : saddlemug_read(&volume, offset, at, piece);
+		if (answered("read", status) != 0)
 			return -1;
 		at += piece;
 		offset += piece;
@@ -206,7 +240,9 @@ pwrite_(void *handle, const void *buffer, uint32_t count, uint64_t offset, uint3
 	bool through = (flags & NBDKIT_FLAG_FUA) != 0;
 	for (const uint8_t *at = buffer; count > 0;) {
 		uint32_t piece = piece_of(count);
-		if (answered("saddlemug_write", saddlemug_write(&volume, offset, at, piece, through)) != 0)
+		uint32_t status = image_file != NULL ? own_disk_write(&image, offset, at, piece, through)
+			: saddlemug_write(&volume, offset, at, piece, through);
+		if (answered("write", status) != 0)
 			return -1;
 		at += piece;
 		offset += piece;
@@ -220,15 +256,16 @@ flush_(void *handle, uint32_t flags)
 {
 	(void) handle;
 	(void) flags;
-	return answered("saddlemug_flush", saddlemug_flush(&volume));
+	return answered("flush", image_file != NULL ? own_disk_flush(&image) : saddlemug_flush(&volume));
 }
 
 static struct nbdkit_plugin plugin = {
 	.name = "saddlemug",
-	.description = "a disk in memory behind a proved storage stack",
+	.description = "a disk in memory, or a raw image file, behind a proved storage stack",
 	.load = load,
 	.config = config,
-	.config_help = "size=SIZE [sector=512|4096] [transfer=SECTORS], or settings=FILE [partition=NUMBER]",
+	.config_help = "size=SIZE [sector=512|4096] [transfer=SECTORS], or settings=FILE [partition=NUMBER], or\n"
+		"file=IMAGE [partition=NUMBER] [sector=512|4096] [transfer=SECTORS]",
 	.magic_config_key = "size",
 	.get_ready = get_ready,
 	.unload = unload,

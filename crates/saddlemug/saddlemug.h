@@ -1,4 +1,5 @@
-/* The static library of the crate `saddlemug`: a disk in memory behind the proved storage stack, for C.
+/* The static library of the crate `saddlemug`: a disk behind the proved storage stack, for C, in memory or over storage of
+ * the program's own.
  *
  * Link libsaddlemug.a, and behind it the toolchain's c/liblibc_c.a, through which the library calls `malloc`, `realloc` and
  * `free`. The library has no state of its own: what it keeps stands behind a room that the caller owns. One room is used by
@@ -79,10 +80,12 @@ uint32_t saddlemug_flush(struct saddlemug *volume);
 /* Ends the volume, and its disk with all bytes. The room is empty then. */
 void saddlemug_close(struct saddlemug *volume);
 
-/* STACKS, for test benches: calls, adapter steps, cancels, resets and removals one by one. The disk's adapter does nothing by
- * itself: a command acts when it is told to, and its request is answered once its commands were handed back. */
+/* STACKS, for test benches and for storage of one's own: calls, adapter steps, cancels, resets and removals one by one. The
+ * disk's adapter does nothing by itself: a command acts when it is told to, and its request is answered once its commands
+ * were handed back. */
 
-/* Room for a stack, as for a volume: between `saddlemug_stack_open` and `saddlemug_stack_close`. */
+/* Room for a stack, as for a volume: between `saddlemug_stack_open`, or `saddlemug_stack_open_over`, and
+ * `saddlemug_stack_close`. All calls below serve both kinds, but for the two that say so. */
 struct saddlemug_stack {
 	void *at;
 };
@@ -196,8 +199,126 @@ struct saddlemug_answer {
 /* Takes the waiting answer of the lowest number, in the same way. Answers wait from step to step. */
 bool saddlemug_stack_take_answer(struct saddlemug_stack *stack, struct saddlemug_answer *answer, uint8_t *buffer, size_t length);
 
-/* Ends the stack, and its disk with all bytes. The room is empty then. */
+/* Ends the stack, and its disk in memory with all bytes. The room is empty then. */
 void saddlemug_stack_close(struct saddlemug_stack *stack);
+
+/* STACKS OVER STORAGE OF ONE'S OWN: the sectors stand where the program keeps them, and the library has none of them but a
+ * copy of the first. For each command at the adapter the program asks what it is (`saddlemug_stack_armed`), moves the bytes
+ * by itself, and tells what became of it (`saddlemug_stack_book`). The command then acts (SADDLEMUG_ACT), which does just
+ * that, and is handed back (SADDLEMUG_FINISH). A command that acts with nothing booked fails with HARDWARE ERROR.
+ *
+ * The bytes may be moved in any order, and on any threads of the program's own, while no call on that stack runs. The calls
+ * themselves are made as all others: one at a time on a room.
+ *
+ * The three calls that are only here look at their pointers: where one is null they answer INVALID_PARAMETER, and
+ * INVALID_HANDLE where the room is empty. Where they call the library, it is by `saddlemug_over_open`, `saddlemug_over_armed`
+ * and `saddlemug_over_book`, for which the rules at the head of this file hold. */
+
+struct saddlemug_disk {
+	uint64_t sectors;       /* of the disk, 1 to 2^40 */
+	uint32_t max_transfer;  /* sectors of the longest command, 1 to 65,536 */
+	uint32_t depth;         /* tags, 1 to 32: the commands that can be out at once */
+	uint32_t window;        /* requests at work at once, 1 to 64 */
+	uint32_t open_requests; /* requests open at once, 1 to 64 */
+};
+
+/* Opens a stack over a disk of the program's into an empty room. `first` is sector 0 of that disk, with its partition table
+ * (an MBR); its `length` is that of a sector, 512 or 4096. Neither is kept. Nothing of the disk is read or written, now or
+ * later: whether it has these sectors is the program's to know. The caller ends the stack by `saddlemug_stack_close`.
+ *
+ * INVALID_PARAMETER where a number is out of its range, sector 0 has no partition table of such a disk, or the room isn't
+ * empty; INSUFFICIENT_RESOURCES. The room is then as it was. */
+uint32_t saddlemug_over_open(struct saddlemug_stack *room, const struct saddlemug_disk *disk, const uint8_t *first, size_t length);
+
+static inline uint32_t
+saddlemug_stack_open_over(struct saddlemug_stack *room, const struct saddlemug_disk *disk, const uint8_t *first, size_t length)
+{
+	if (room == NULL || room->at != NULL || disk == NULL || first == NULL)
+		return SADDLEMUG_INVALID_PARAMETER;
+	return saddlemug_over_open(room, disk, first, length);
+}
+
+enum saddlemug_asked_kind {
+	SADDLEMUG_ASKS_TO_READ,
+	SADDLEMUG_ASKS_TO_WRITE,
+	SADDLEMUG_ASKS_TO_FLUSH,
+	SADDLEMUG_ASKS_OTHERWISE /* no command that a stack sends once it was opened */
+};
+
+/* What a command block asks for. */
+struct saddlemug_asked {
+	uint32_t kind;
+	uint32_t through; /* 1 where it goes past volatile caches (SBC: FUA) */
+	uint64_t first;   /* its first sector, of the disk and not of a partition */
+	uint64_t count;   /* how many sectors; of a flush 0 is all from the first on */
+};
+
+/* A command at the adapter that could act. */
+struct saddlemug_armed {
+	uint64_t piece_low; /* its number has 128 bits; no number is given twice */
+	uint64_t piece_high;
+	struct saddlemug_asked asked;
+	uint8_t *bytes;     /* where its bytes stand: those that a write sends, or the room for those that a read brings */
+	uint64_t length;    /* how many; 0 of a flush, whose `bytes` are not to be followed */
+	uint32_t block_length;
+	uint8_t block[16];  /* its command block, of ten or sixteen bytes, and zeros */
+};
+
+/* Tells the command on `tag`, counted from 0, that could act.
+ *
+ * The bytes stand in memory of the library. The program reads those of a write there, and writes those of a read there, until
+ * they are booked; told again before that, the command has the same bytes at the same place. They are the library's again
+ * once the command was booked, its tag has another command that was told, or the stack is closed. No call but these changes
+ * or moves them.
+ *
+ * NOT_FOUND where no command on the tag could act; INSUFFICIENT_RESOURCES where memory for the bytes was refused;
+ * INVALID_DEVICE_REQUEST on a stack of `saddlemug_stack_open`. `armed` is then as it was, and nothing has changed. */
+uint32_t saddlemug_over_armed(struct saddlemug_stack *stack, uint8_t tag, struct saddlemug_armed *armed);
+
+static inline uint32_t
+saddlemug_stack_armed(struct saddlemug_stack *stack, uint8_t tag, struct saddlemug_armed *armed)
+{
+	if (stack == NULL || armed == NULL)
+		return SADDLEMUG_INVALID_PARAMETER;
+	return stack->at == NULL ? SADDLEMUG_INVALID_HANDLE : saddlemug_over_armed(stack, tag, armed);
+}
+
+/* How a command failed. */
+struct saddlemug_completion {
+	uint8_t srb_status;  /* WDK: SRB_STATUS. 0x84 for an error with sense data; neither success (1) nor busy (5) */
+	uint8_t scsi_status; /* SAM: STATUS. 2, CHECK CONDITION, where there are sense data */
+	bool has_sense;
+	uint8_t key;         /* SPC: the sense key, the additional sense code and its qualifier */
+	uint8_t asc;
+	uint8_t ascq;
+};
+
+/* What became of a command. A bool is 0 or 1 in each case. */
+struct saddlemug_booking {
+	uint64_t piece_low; /* as it was told */
+	uint64_t piece_high;
+	uint64_t length;    /* how many bytes were moved, all of them; not read of a failure */
+	uint8_t tag;
+	bool failed;
+	struct saddlemug_completion completion; /* of a failure; not read otherwise */
+};
+
+/* Books what became of a command that was told: its bytes were moved, those of a read stand in its place; or it failed. Its
+ * next act is just that. It takes no memory. Where the tag's command never acts, as after a reset, nothing comes of it.
+ *
+ * NOT_FOUND where the command on the tag is another or could not act, or was not told since it was last booked, so that a
+ * command is booked once each time that it is told; INVALID_PARAMETER where `length` is not that of the command, the bytes
+ * of a write are no more those that it sends, or the completion is good or busy; INVALID_DEVICE_REQUEST on a stack of
+ * `saddlemug_stack_open`. Nothing has changed then. */
+uint32_t saddlemug_over_book(struct saddlemug_stack *stack, const struct saddlemug_booking *booking);
+
+static inline uint32_t
+saddlemug_stack_book(struct saddlemug_stack *stack, const struct saddlemug_booking *booking)
+{
+	if (stack == NULL || booking == NULL)
+		return SADDLEMUG_INVALID_PARAMETER;
+	return stack->at == NULL ? SADDLEMUG_INVALID_HANDLE : saddlemug_over_book(stack, booking);
+}
 
 #ifdef __cplusplus
 }

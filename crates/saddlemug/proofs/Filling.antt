@@ -6,8 +6,9 @@ use Rattle.ntstatus.specs.declared.NtStatus.TheVariants.{InsufficientResources}
 use Rattle.io_manager.specs.Shown.{ManagerView}
 use Rattle.saddlemug.specs.declared.held.Held.{Held}
 use Rattle.volume.specs.Shown.{VolumeView}
-use Rattle.saddlemug.specs.declared.held.Held.TheVariants.{Stack, Volume}
-use Rattle.saddlemug.specs.Holding.{HoldsStack, HoldsVolume}
+use Rattle.saddlemug.specs.declared.held.Held.TheVariants.{Over, Stack, Volume}
+use Rattle.saddlemug.specs.Holding.{HoldsOver, HoldsStack, HoldsVolume}
+use Rattle.saddlemug.specs.Over.{OverView}
 use Rattle.saddlemug.specs.Statuses.{IsNumberOfStatus}
 
 pub holds_stack : (P : ManagerView → Type 0) (filled : Bool) (held : Option Held) (v : ManagerView)
@@ -19,6 +20,11 @@ pub holds_volume : (P : VolumeView → Type 0) (filled : Bool) (held : Option He
     → P v → MatchBool filled (held ≡ Some (Volume v)) (held ≡ None) → MatchBool filled (HoldsVolume P held) (held ≡ None)
 holds_volume P true held v new is = subst (HoldsVolume P) (sym is) new
 holds_volume P false held v new is = is
+
+pub holds_over : (P : OverView → Type 0) (filled : Bool) (held : Option Held) (v : OverView)
+    → P v → MatchBool filled (held ≡ Some (Over v)) (held ≡ None) → MatchBool filled (HoldsOver P held) (held ≡ None)
+holds_over P true held v new is = subst (HoldsOver P) (sym is) new
+holds_over P false held v new is = is
 
 -- its status, where want of memory may be told
 pub filled_status : (IsWhy : NtStatus → Type 0) (number : ℕ) → IsWhy InsufficientResources → (number ≡ 0) ⊎ (number ≡ value_of InsufficientResources)

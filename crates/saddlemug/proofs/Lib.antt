@@ -1,4 +1,7 @@
+mod Booked
 mod Failing
 mod Filling
+mod FirstOver
+mod Standing
 mod Texts
 pub mod Values

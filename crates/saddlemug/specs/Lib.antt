@@ -1,7 +1,11 @@
+pub mod Asking
 pub mod Calls
 pub mod Holding
 pub mod Opened
+pub mod Over
+pub mod Places
 pub mod Slot
 pub mod Stacks
 pub mod Statuses
 pub mod Stepping
+pub mod Suiting

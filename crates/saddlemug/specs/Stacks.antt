@@ -1,5 +1,6 @@
 -- Events, replies, labels and answers of a stack as C tells them and is told them.
 use Rattle.std.specs.Prelude.{◌≡◌, ℕ, ◌+◌, ◌%◌, ◌/◌, ◌^◌, List, [], ◌∷◌, length, min, replicate, slice_get, take, if◌then◌else◌, Option, Some, None}
+use Rattle.std.specs.Option.{option_map}
 use Rattle.ntstatus.specs.Codes.{value_of}
 use Rattle.srb.specs.declared.Class.{Class}
 use Rattle.srb.specs.declared.Class.TheVariants.{Good, Busy, Bad}
@@ -17,6 +18,8 @@ use Rattle.io_manager.specs.declared.Reply.{Reply}
 use Rattle.io_manager.specs.declared.Reply.TheVariants.{Handle as HandleReply, Ok as OkReply, Request, Answered, Refused, Ignored}
 use Rattle.compose.specs.declared.Event.{Event}
 use Rattle.compose.specs.declared.Event.TheVariants.{Open, Close, Read, Write, Flush, CancelIoEx, Mark, QueryRemove, CancelRemove, Remove, SurpriseRemove, Act, Finish, Reset}
+use Rattle.saddlemug.specs.declared.events.EventKind.{EventKind}
+use Rattle.saddlemug.specs.declared.events.EventKind.TheVariants as which
 use Rattle.saddlemug.specs.declared.events.StackId.{StackId}
 use Rattle.saddlemug.specs.declared.events.StackEvent.{StackEvent}
 use Rattle.saddlemug.specs.declared.events.StackReply.{StackReply}
@@ -32,28 +35,44 @@ handle_of id = record { slot = id.slot; number = id.number }
 abbrev pub id_of : StackId → Id
 id_of id = record { slot = id.slot; number = id.number }
 
--- the events that may be told, in the order of their kinds
-abbrev pub events : StackEvent → List ℕ → List Event
-events e bytes =
-    Open e.partition
-    ∷ Close (handle_of e.handle)
-    ∷ Read (handle_of e.handle) e.offset (replicate e.length 0)
-    ∷ Write (handle_of e.handle) e.offset bytes e.through
-    ∷ Flush (handle_of e.handle)
-    ∷ CancelIoEx (handle_of e.handle) (if e.one then Some (id_of e.request) else None)
-    ∷ Mark e.request.number
-    ∷ QueryRemove
-    ∷ CancelRemove
-    ∷ Remove
-    ∷ SurpriseRemove
-    ∷ Act e.tag
-    ∷ Finish e.tag
-    ∷ Reset
+-- the kinds, in the order of their numbers
+abbrev pub kinds : List EventKind
+kinds =
+    which.Open
+    ∷ which.Close
+    ∷ which.Read
+    ∷ which.Write
+    ∷ which.Flush
+    ∷ which.CancelIoEx
+    ∷ which.Mark
+    ∷ which.QueryRemove
+    ∷ which.CancelRemove
+    ∷ which.Remove
+    ∷ which.SurpriseRemove
+    ∷ which.Act
+    ∷ which.Finish
+    ∷ which.Reset
     ∷ []
 
--- the one that is told, with the bytes of a write
+-- the event of a kind that is told, with the bytes of a write
+abbrev pub event_by : StackEvent → List ℕ → EventKind → Event
+event_by e bytes which.Open = Open e.partition
+event_by e bytes which.Close = Close (handle_of e.handle)
+event_by e bytes which.Read = Read (handle_of e.handle) e.offset (replicate e.length 0)
+event_by e bytes which.Write = Write (handle_of e.handle) e.offset bytes e.through
+event_by e bytes which.Flush = Flush (handle_of e.handle)
+event_by e bytes which.CancelIoEx = CancelIoEx (handle_of e.handle) (if e.one then Some (id_of e.request) else None)
+event_by e bytes which.Mark = Mark e.request.number
+event_by e bytes which.QueryRemove = QueryRemove
+event_by e bytes which.CancelRemove = CancelRemove
+event_by e bytes which.Remove = Remove
+event_by e bytes which.SurpriseRemove = SurpriseRemove
+event_by e bytes which.Act = Act e.tag
+event_by e bytes which.Finish = Finish e.tag
+event_by e bytes which.Reset = Reset
+
 abbrev pub asked_event : StackEvent → List ℕ → Option Event
-asked_event e bytes = slice_get (events e bytes) e.kind
+asked_event e bytes = option_map (event_by e bytes) (slice_get kinds e.kind)
 
 -- REPLIES
 

@@ -1,5 +1,5 @@
 -- What a stack did, as C is told it.
-use Rattle.std.specs.Prelude.{◌≡◌, ◌⊎◌, ℕ, Bool, true, false, List, [], Option, Some, None, MatchOption}
+use Rattle.std.specs.Prelude.{◌≡◌, ◌⊎◌, ℕ, Bool, true, false, List, [], Option, Some, None, MatchOption, slice_get}
 use Rattle.std.specs.Option.{option_map}
 use Rattle.ntstatus.specs.declared.NtStatus.{NtStatus}
 use Rattle.ntstatus.specs.declared.NtStatus.TheVariants.{InsufficientResources, InvalidParameter}
@@ -10,11 +10,12 @@ use Rattle.io_manager.specs.Right.{TakesAnswer, TakesLabel}
 use Rattle.io_manager.specs.Shown.{ManagerView}
 use Rattle.compose.specs.declared.Event.{Event}
 use Rattle.compose.specs.Right.{IsRight}
+use Rattle.saddlemug.specs.declared.events.EventKind.TheVariants as which
 use Rattle.saddlemug.specs.declared.events.StackEvent.{StackEvent}
 use Rattle.saddlemug.specs.declared.events.StackReply.{StackReply}
 use Rattle.saddlemug.specs.declared.labels.StackAnswer.{StackAnswer}
 use Rattle.saddlemug.specs.declared.labels.StackLabel.{StackLabel}
-use Rattle.saddlemug.specs.Stacks.{AreToldIn, asked_event, label_bytes, shown_answer, shown_label, shown_reply}
+use Rattle.saddlemug.specs.Stacks.{AreToldIn, asked_event, kinds, label_bytes, shown_answer, shown_label, shown_reply}
 
 -- the same with all labels taken
 abbrev pub quiet : ManagerView → ManagerView
@@ -34,7 +35,7 @@ IsNotStepped old new = new ≡ old
 
 -- a read or a write, for whose bytes memory is taken
 abbrev pub HasBytes : StackEvent → Type 0
-HasBytes e = (e.kind ≡ 2) ⊎ (e.kind ≡ 3)
+HasBytes e = (slice_get kinds e.kind ≡ Some which.Read) ⊎ (slice_get kinds e.kind ≡ Some which.Write)
 
 -- why: there is no such event, or memory for its bytes was refused
 abbrev pub IsStepStatus : StackEvent → List ℕ → NtStatus → Type 0

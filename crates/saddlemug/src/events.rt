@@ -1,9 +1,9 @@
 //! The events of a stack as C tells them, and the replies as C is told them.
 
-ghost use Rattle.std.specs.Prelude.{◌≡◌, ◌≢◌, Some, IfErr, IfOk};
+ghost use Rattle.std.specs.Prelude.{◌≡◌, ◌≢◌, Some, IfErr, IfOk, slice_get};
 ghost use Rattle.ntstatus.specs.declared.NtStatus.TheVariants.{Success};
 ghost use Rattle.saddlemug.specs.Stepping.{IsStepStatus};
-ghost use Rattle.saddlemug.specs.Stacks.{asked_event, replied, shown_reply};
+ghost use Rattle.saddlemug.specs.Stacks.{asked_event, kinds, replied, shown_reply};
 
 use crate::bytes::{copied, zeros};
 use crate::status::refusal_status;
@@ -19,11 +19,55 @@ pub struct StackId {
     pub slot: u32,
 }
 
+/// Which event. C tells it by its number here, from 0.
+#[derive(Debug, Clone, Copy, PartialEq, Eq)]
+pub enum EventKind {
+    Open,
+    Close,
+    Read,
+    Write,
+    Flush,
+    CancelIoEx,
+    Mark,
+    QueryRemove,
+    CancelRemove,
+    Remove,
+    SurpriseRemove,
+    Act,
+    Finish,
+    Reset,
+}
+
+impl EventKind {
+    /// The kind of a number.
+    fn of(number: u32) -> Option<EventKind>
+        ensures { result ≡ slice_get kinds number }
+    {
+        match number {
+            0 => Some(EventKind::Open),
+            1 => Some(EventKind::Close),
+            2 => Some(EventKind::Read),
+            3 => Some(EventKind::Write),
+            4 => Some(EventKind::Flush),
+            5 => Some(EventKind::CancelIoEx),
+            6 => Some(EventKind::Mark),
+            7 => Some(EventKind::QueryRemove),
+            8 => Some(EventKind::CancelRemove),
+            9 => Some(EventKind::Remove),
+            10 => Some(EventKind::SurpriseRemove),
+            11 => Some(EventKind::Act),
+            12 => Some(EventKind::Finish),
+            13 => Some(EventKind::Reset),
+            _ => None,
+        }
+    }
+}
+
 /// An event. What its kind doesn't ask for is not read.
 #[repr(C)]
 #[derive(Debug, Clone, Copy)]
 pub struct StackEvent {
-    /// Which of the fourteen, in the order of [`Event`], from 0.
+    /// The number of its [`EventKind`].
     pub kind: u32,
     /// Of an open.
     pub partition: u8,
@@ -68,12 +112,15 @@ pub fn event_of(alloc: Global, event: &StackEvent, bytes: &[u8]) -> Result<Event
     let handle = handle_of(event.handle);
     let offset = event.offset;
     let tag = event.tag;
-    match event.kind {
-        0 => Ok(Event::Open {
+    let Some(kind) = EventKind::of(event.kind) else {
+        return Err(NtStatus::InvalidParameter);
+    };
+    match kind {
+        EventKind::Open => Ok(Event::Open {
             partition: event.partition,
         }),
-        1 => Ok(Event::Close { handle }),
-        2 => match zeros(alloc, event.length) {
+        EventKind::Close => Ok(Event::Close { handle }),
+        EventKind::Read => match zeros(alloc, event.length) {
             Ok(buffer) => Ok(Event::Read {
                 handle,
                 offset,
@@ -81,7 +128,7 @@ pub fn event_of(alloc: Global, event: &StackEvent, bytes: &[u8]) -> Result<Event
             }),
             Err(_) => Err(NtStatus::InsufficientResources),
         },
-        3 => match copied(alloc, bytes) {
+        EventKind::Write => match copied(alloc, bytes) {
             Ok(bytes) => Ok(Event::Write {
                 handle,
                 offset,
@@ -90,22 +137,21 @@ pub fn event_of(alloc: Global, event: &StackEvent, bytes: &[u8]) -> Result<Event
             }),
             Err(_) => Err(NtStatus::InsufficientResources),
         },
-        4 => Ok(Event::Flush { handle }),
-        5 => Ok(Event::CancelIoEx {
+        EventKind::Flush => Ok(Event::Flush { handle }),
+        EventKind::CancelIoEx => Ok(Event::CancelIoEx {
             handle,
             target: event.one.then_some(id_of(event.request)),
         }),
-        6 => Ok(Event::Mark {
+        EventKind::Mark => Ok(Event::Mark {
             number: event.request.number,
         }),
-        7 => Ok(Event::QueryRemove),
-        8 => Ok(Event::CancelRemove),
-        9 => Ok(Event::Remove),
-        10 => Ok(Event::SurpriseRemove),
-        11 => Ok(Event::Act { tag }),
-        12 => Ok(Event::Finish { tag }),
-        13 => Ok(Event::Reset),
-        _ => Err(NtStatus::InvalidParameter),
+        EventKind::QueryRemove => Ok(Event::QueryRemove),
+        EventKind::CancelRemove => Ok(Event::CancelRemove),
+        EventKind::Remove => Ok(Event::Remove),
+        EventKind::SurpriseRemove => Ok(Event::SurpriseRemove),
+        EventKind::Act => Ok(Event::Act { tag }),
+        EventKind::Finish => Ok(Event::Finish { tag }),
+        EventKind::Reset => Ok(Event::Reset),
     }
 }
 

@@ -1,15 +1,20 @@
 //! What C holds, and the calls on it.
 
-ghost use Rattle.std.specs.Prelude.{◌≡◌, ◌≢◌, ◌*◌, ⊤, length, IfErr, IfOk, MatchResult};
+ghost use Rattle.std.specs.Prelude.{◌≡◌, ◌≢◌, ◌*◌, ⊤, Err, length, IfErr, IfOk, MatchResult};
 ghost use Rattle.volume.specs.Calls.{AreInBounds, IsFault, IsSameDisk, Reads, Writes};
 ghost use Rattle.saddlemug.specs.Calls.{IsReadFault, IsWriteFault};
-ghost use Rattle.ntstatus.specs.declared.NtStatus.TheVariants.{Success};
-ghost use Rattle.saddlemug.specs.Holding.{IsAnyStack, IsAnyVolume, IsStack, IsVolume};
-ghost use Rattle.saddlemug.specs.Stepping.{IsNotStepped, IsStepStatus, Steps, TellsAnswer, TellsLabel, quiet};
+ghost use Rattle.ntstatus.specs.declared.NtStatus.TheVariants.{InvalidDeviceRequest, Success};
+ghost use Rattle.saddlemug.specs.Holding.{IfInMemory, IfOver, IsAnyStack, IsAnyVolume, IsOver, IsStack, IsVolume, places_in};
+ghost use Rattle.saddlemug.specs.Over.{BooksTold, IsArmedStatus, IsBookStatus, TellsArmed};
+ghost use Rattle.saddlemug.specs.Stepping.{IsNotStepped, IsStepStatus, Steps, TellsAnswer, TellsLabel};
 
+use crate::asked::StackArmed;
+use crate::booking::StackBooking;
 use crate::bytes::{copied, zeros};
-use crate::events::{StackEvent, StackReply, event_of, told_reply};
-use crate::labels::{StackAnswer, StackLabel, told_answer, told_label};
+use crate::events::{StackEvent, StackReply};
+use crate::labels::{StackAnswer, StackLabel};
+use crate::over::Over;
+use crate::stepping::{step_as_told, tell_answer, tell_label};
 use adapter::Adapter;
 use compose::{Refusal, Stack};
 use disk::SparseDisk;
@@ -25,6 +30,8 @@ pub enum Held {
     Volume(Volume<MemAdapter<SparseDisk>>),
     /// A whole stack, event by event.
     Stack(Stack<MemAdapter<SparseDisk>>),
+    /// The same over storage of C's own.
+    Over(Over),
 }
 
 impl Held {
@@ -36,7 +43,7 @@ impl Held {
     {
         match self {
             Held::Volume(volume) => volume.sizes(),
-            Held::Stack(_) => unreachable!(),
+            Held::Stack(_) | Held::Over(_) => unreachable!(),
         }
     }
 
@@ -54,7 +61,7 @@ impl Held {
     {
         match self {
             Held::Volume(volume) => read_into(volume, alloc, offset, buffer),
-            Held::Stack(_) => unreachable!(),
+            Held::Stack(_) | Held::Over(_) => unreachable!(),
         }
     }
 
@@ -77,7 +84,7 @@ impl Held {
     {
         match self {
             Held::Volume(volume) => write_from(volume, alloc, offset, bytes, through),
-            Held::Stack(_) => unreachable!(),
+            Held::Stack(_) | Held::Over(_) => unreachable!(),
         }
     }
 
@@ -94,7 +101,7 @@ impl Held {
     {
         match self {
             Held::Volume(volume) => volume.flush(alloc),
-            Held::Stack(_) => unreachable!(),
+            Held::Stack(_) | Held::Over(_) => unreachable!(),
         }
     }
 
@@ -112,11 +119,13 @@ impl Held {
         requires { IsAnyStack self.old }
         ensures held { IsAnyStack self.new }
         ensures steps { IsStack (λ old. IsStack (λ new. MatchResult result (λ told. Steps old event.now bytes.now told new) (λ _. IsNotStepped old new)) self.new) self.old }
+        ensures places { places_in self.new ≡ places_in self.old }
         ensures fault { IfErr result (λ status. status ≢ Success) }
         ensures why { IfErr result (IsStepStatus event.now bytes.now) }
     {
         match self {
             Held::Stack(stack) => step_as_told(stack, alloc, event, bytes),
+            Held::Over(over) => over.step(alloc, event, bytes),
             Held::Volume(_) => unreachable!(),
         }
     }
@@ -126,9 +135,11 @@ impl Held {
         requires { IsAnyStack self.old }
         ensures held { IsAnyStack self.new }
         ensures told { IsStack (λ old. IsStack (TellsLabel old buffer.old result buffer.new) self.new) self.old }
+        ensures places { places_in self.new ≡ places_in self.old }
     {
         match self {
             Held::Stack(stack) => tell_label(stack, buffer),
+            Held::Over(over) => over.next_label(buffer),
             Held::Volume(_) => unreachable!(),
         }
     }
@@ -138,9 +149,49 @@ impl Held {
         requires { IsAnyStack self.old }
         ensures held { IsAnyStack self.new }
         ensures told { IsStack (λ old. IsStack (TellsAnswer old buffer.old result buffer.new) self.new) self.old }
+        ensures places { places_in self.new ≡ places_in self.old }
     {
         match self {
             Held::Stack(stack) => tell_answer(stack, buffer),
+            Held::Over(over) => over.next_answer(buffer),
+            Held::Volume(_) => unreachable!(),
+        }
+    }
+
+    /// Tells the piece on a tag that could act, as [`Over::armed`].
+    ///
+    /// # Errors
+    ///
+    /// As [`Over::armed`]; [`NtStatus::InvalidDeviceRequest`] where the sectors are not C's.
+    pub fn armed(&mut self, alloc: Global, tag: u8) -> Result<StackArmed, NtStatus>
+        requires { IsAnyStack self.old }
+        ensures held { IsAnyStack self.new }
+        ensures tells { IfOver (λ old. IsOver (λ new. MatchResult result (λ told. TellsArmed old tag told new) (λ status. (new ≡ old) × IsArmedStatus old tag status)) self.new) self.old }
+        ensures refused { IfInMemory ((result ≡ Err InvalidDeviceRequest) × (self.new ≡ self.old)) self.old }
+        ensures fault { IfErr result (λ status. status ≢ Success) }
+    {
+        match self {
+            Held::Over(over) => over.armed(alloc, tag),
+            Held::Stack(_) => Err(NtStatus::InvalidDeviceRequest),
+            Held::Volume(_) => unreachable!(),
+        }
+    }
+
+    /// Books what became of a piece, as [`Over::book`].
+    ///
+    /// # Errors
+    ///
+    /// As [`Over::book`]; [`NtStatus::InvalidDeviceRequest`] where the sectors are not C's.
+    pub fn book(&mut self, booking: &StackBooking) -> Result<(), NtStatus>
+        requires { IsAnyStack self.old }
+        ensures held { IsAnyStack self.new }
+        ensures books { IfOver (λ old. IsOver (λ new. MatchResult result (λ _. BooksTold old booking.now new) (λ status. (new ≡ old) × IsBookStatus old booking.now status)) self.new) self.old }
+        ensures refused { IfInMemory ((result ≡ Err InvalidDeviceRequest) × (self.new ≡ self.old)) self.old }
+        ensures fault { IfErr result (λ status. status ≢ Success) }
+    {
+        match self {
+            Held::Over(over) => over.book(booking),
+            Held::Stack(_) => Err(NtStatus::InvalidDeviceRequest),
             Held::Volume(_) => unreachable!(),
         }
     }
@@ -193,59 +244,5 @@ fn write_from<A: Adapter>(
     match copied(alloc, bytes) {
         Ok(copy) => volume.write(alloc, offset, copy, through),
         Err(_) => Err(Fault::Refused(Refusal::InsufficientResources)),
-    }
-}
-
-/// Carries an event out, with the bytes of a write. Labels that were not taken are let go.
-///
-/// # Errors
-///
-/// As [`event_of`]. Nothing has changed.
-fn step_as_told<A: Adapter>(
-    stack: &mut Stack<A>,
-    alloc: Global,
-    event: &StackEvent,
-    bytes: &[u8],
-) -> Result<StackReply, NtStatus>
-    ensures steps { MatchResult result (λ told. Steps stack.old event.now bytes.now told stack.new) (λ _. IsNotStepped stack.old stack.new) }
-    ensures fault { IfErr result (λ status. status ≢ Success) }
-    ensures why { IfErr result (IsStepStatus event.now bytes.now) }
-{
-    match event_of(alloc, event, bytes) {
-        Ok(event) => {
-            drop_labels(stack);
-            let reply = stack.step(alloc, event);
-            Ok(told_reply(reply))
-        }
-        Err(status) => Err(status),
-    }
-}
-
-/// Takes all labels that wait.
-fn drop_labels<A: Adapter>(stack: &mut Stack<A>)
-    ensures { stack.new ≡ quiet stack.old }
-{
-    while let Some(label) = stack.take_label() {
-        drop(label);
-    }
-}
-
-/// Takes the earliest label that waits, and tells it.
-fn tell_label<A: Adapter>(stack: &mut Stack<A>, buffer: &mut [u8]) -> Option<StackLabel>
-    ensures { TellsLabel stack.old buffer.old result buffer.new stack.new }
-{
-    match stack.take_label() {
-        Some(label) => Some(told_label(label, buffer)),
-        None => None,
-    }
-}
-
-/// Takes the waiting answer with the lowest number, and tells it.
-fn tell_answer<A: Adapter>(stack: &mut Stack<A>, buffer: &mut [u8]) -> Option<StackAnswer>
-    ensures { TellsAnswer stack.old buffer.old result buffer.new stack.new }
-{
-    match stack.take_answer() {
-        Some(answer) => Some(told_answer(answer, buffer)),
-        None => None,
     }
 }

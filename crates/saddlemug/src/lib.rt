@@ -11,15 +11,24 @@
 //! that no two arguments share memory.
 #![tactic(auto)]
 
+mod asked;
+mod booking;
 mod bytes;
 mod events;
 mod held;
 mod labels;
 mod loose;
 mod opening;
+mod opening_over;
+mod over;
+mod over_calls;
+#[cfg(test)]
+mod over_tests;
+mod places;
 mod slot;
 mod stack_calls;
 mod status;
+mod stepping;
 #[cfg(test)]
 mod tests;
 mod volume_calls;

@@ -8,7 +8,7 @@ ghost use Rattle.startup.specs.Started.{IsFirstOf, IsVolumeOf};
 ghost use Rattle.saddlemug.specs.Opened.{IsConfigStatus, IsNewStack, IsNewVolume, IsOpenStatus, IsStackStatus, IsStartStatus, IsVolumeStatus};
 ghost use Rattle.saddlemug.specs.Statuses.{start_status};
 
-use crate::status::refusal_status;
+use crate::status::{refusal_status, start_status};
 use compose::{Stack, StartFault};
 use disk::SparseDisk;
 use miniport::MemAdapter;
@@ -104,17 +104,5 @@ fn stack_of(alloc: Global, config: Config) -> Result<Stack<MemAdapter<SparseDisk
     match start(alloc, config) {
         Ok(stack) => Ok(stack),
         Err(fault) => Err(start_status(fault)),
-    }
-}
-
-/// The status of a start that failed: that of the command that the device failed; [`NtStatus::InsufficientResources`];
-/// or [`NtStatus::InvalidParameter`], where the settings have partitions that a disk can't have.
-fn start_status(fault: StartFault) -> NtStatus
-    ensures { result ≡ start_status fault }
-{
-    match fault {
-        StartFault::Device(status) => status,
-        StartFault::NoMemory => NtStatus::InsufficientResources,
-        StartFault::Settings | StartFault::Mbr(_) => NtStatus::InvalidParameter,
     }
 }

@@ -1,7 +1,7 @@
 //! What C calls on a whole stack.
 
 ghost use Rattle.std.specs.Prelude.{◌≡◌, ◌⊎◌, None, Some, MatchBool, nat_eq};
-ghost use Rattle.saddlemug.specs.Holding.{HoldsAnyStack, HoldsStack};
+ghost use Rattle.saddlemug.specs.Holding.{HoldsAnyStack, HoldsStack, places_held};
 ghost use Rattle.saddlemug.specs.Opened.{IsNewStack, IsStackStatus};
 ghost use Rattle.saddlemug.specs.Statuses.{IsNumberOfStatus};
 ghost use Rattle.saddlemug.specs.Stepping.{IsNotStepped, IsStepStatus, Steps, TellsAnswer, TellsLabel, told_if};
@@ -42,6 +42,7 @@ pub extern "C" fn saddlemug_stack_step(
     ensures held { HoldsAnyStack slot.new.held }
     ensures steps { HoldsStack (λ old. HoldsStack (λ new. MatchBool (nat_eq result 0) (Steps old event.now bytes.now reply.new new) (IsNotStepped old new)) slot.new.held) slot.old.held }
     ensures status { (result ≡ 0) ⊎ IsNumberOfStatus (IsStepStatus event.now bytes.now) result }
+    ensures places { places_held slot.new.held ≡ places_held slot.old.held }
 {
     let mut held = slot.take(alloc);
     let outcome = held.step(alloc, event, bytes);
@@ -67,6 +68,7 @@ pub extern "C" fn saddlemug_stack_take_label(
     requires { HoldsAnyStack slot.old.held }
     ensures held { HoldsAnyStack slot.new.held }
     ensures told { HoldsStack (λ old. HoldsStack (TellsLabel old buffer.old (told_if result label.new) buffer.new) slot.new.held) slot.old.held }
+    ensures places { places_held slot.new.held ≡ places_held slot.old.held }
 {
     let mut held = slot.take(alloc);
     let found = held.next_label(buffer);
@@ -91,6 +93,7 @@ pub extern "C" fn saddlemug_stack_take_answer(
     requires { HoldsAnyStack slot.old.held }
     ensures held { HoldsAnyStack slot.new.held }
     ensures told { HoldsStack (λ old. HoldsStack (TellsAnswer old buffer.old (told_if result answer.new) buffer.new) slot.new.held) slot.old.held }
+    ensures places { places_held slot.new.held ≡ places_held slot.old.held }
 {
     let mut held = slot.take(alloc);
     let found = held.next_answer(buffer);

@@ -2,9 +2,9 @@
 
 ghost use Rattle.std.specs.Prelude.{◌≡◌, MatchResult};
 ghost use Rattle.ntstatus.specs.Codes.{value_of};
-ghost use Rattle.saddlemug.specs.Statuses.{fault_status, refusal_status};
+ghost use Rattle.saddlemug.specs.Statuses.{fault_status, refusal_status, start_status};
 
-use compose::Refusal;
+use compose::{Refusal, StartFault};
 use ntstatus::NtStatus;
 use volume::Fault;
 
@@ -40,5 +40,17 @@ pub fn number_of(outcome: Result<(), Fault>) -> u32
     match outcome {
         Ok(()) => NtStatus::Success.value(),
         Err(fault) => fault_status(fault).value(),
+    }
+}
+
+/// The status of a start that failed: that of the command that the device failed; [`NtStatus::InsufficientResources`];
+/// or [`NtStatus::InvalidParameter`], where the settings have partitions that a disk can't have.
+pub fn start_status(fault: StartFault) -> NtStatus
+    ensures { result ≡ start_status fault }
+{
+    match fault {
+        StartFault::Device(status) => status,
+        StartFault::NoMemory => NtStatus::InsufficientResources,
+        StartFault::Settings | StartFault::Mbr(_) => NtStatus::InvalidParameter,
     }
 }

@@ -15,11 +15,11 @@ use std::fmt::Debug;
 use std::process::Abort;
 
 /// A partition of the sectors 1 to 8, of which the last is bad, in transfers of two.
-const SETTINGS: &[u8] =
+pub(crate) const SETTINGS: &[u8] =
     b"sector_size = 512\nsectors = 9\nmax_transfer = 2\ndepth = 1\nwindow = 1\nbad_sectors = [8]\n[[partition]]\nfirst = 1\ncount = 8\n";
 
 /// Ends the test, and names both, where what was got is not what was wanted.
-fn same<T: PartialEq + Debug>(rt: &impl Abort, got: &T, wanted: &T) {
+pub(crate) fn same<T: PartialEq + Debug>(rt: &impl Abort, got: &T, wanted: &T) {
     assert_eq!(rt; got, wanted);
 }
 
@@ -65,7 +65,7 @@ fn refuses_what_it_cannot_open(rt: HostRuntime) {
 }
 
 /// An event of a kind.
-fn event(kind: u32, handle: StackId) -> StackEvent {
+pub(crate) fn event(kind: u32, handle: StackId) -> StackEvent {
     StackEvent {
         kind,
         partition: 0,

@@ -1,0 +1,163 @@
+-- A stack whose sectors C keeps.
+use Rattle.std.specs.Prelude.{◌≡◌, ◌≢◌, ◌⊎◌, ◌≤◌, ℕ, ◌+◌, ◌*◌, ◌^◌, Bool, true, false, List, length, replicate, slice_set, Option, Some, None, Result, Ok, Err, IsFalse, if◌then◌else◌}
+use Rattle.ntstatus.specs.declared.NtStatus.{NtStatus}
+use Rattle.ntstatus.specs.declared.NtStatus.TheVariants.{InsufficientResources, InvalidParameter, NotFound}
+use Rattle.srb.specs.declared.Srb.{Srb}
+use Rattle.srb.specs.declared.Entry.{Entry}
+use Rattle.srb.specs.declared.Completion.{Completion}
+use Rattle.adapter.specs.View.{AdapterView}
+use Rattle.adapter.specs.Calls.{HasNoneFresh}
+use Rattle.adapter.specs.Booking.{IsArmed, IsBookable, IsOfSrb, Suits}
+use Rattle.miniport.specs.Memory.{MemView}
+use Rattle.miniport.specs.Apart.{IsNewBooked, apart}
+use Rattle.io_manager.specs.Shown.{ManagerView}
+use Rattle.io_manager.specs.Right.{BooksPiece}
+use Rattle.compose.specs.declared.Settings.{Settings}
+use Rattle.compose.specs.declared.StartFault.{StartFault}
+use Rattle.compose.specs.Opening.{IsFirstView, IsSpent}
+use Rattle.saddlemug.specs.declared.booking.DiskOf.{DiskOf}
+use Rattle.saddlemug.specs.declared.booking.StackBooking.{StackBooking}
+use Rattle.saddlemug.specs.declared.booking.StackCompletion.{StackCompletion}
+use Rattle.saddlemug.specs.declared.asked.Asked.{Asked}
+use Rattle.saddlemug.specs.declared.asked.StackArmed.{StackArmed}
+use Rattle.saddlemug.specs.declared.opening_over.StackDisk.{StackDisk}
+use Rattle.saddlemug.specs.declared.places.Place.{Place}
+use Rattle.saddlemug.specs.Asking.{IsToldOf}
+use Rattle.saddlemug.specs.Places.{HasPiece, StandsAt, place_of}
+use Rattle.saddlemug.specs.Statuses.{start_status}
+
+pub record OverView : Type 0 where
+  pub stack : ManagerView
+  -- by tag, the bytes of the pieces that C was told of
+  pub places : List (Option Place)
+
+abbrev pub over : ManagerView → List (Option Place) → OverView
+over stack places = record { stack = stack; places = places }
+
+-- what holds between two calls: the stack's adapter moves no sectors, and the disk has these sizes
+pub record OverKept (stack : ManagerView) (places : List (Option Place)) (disk : DiskOf) : Type 0 where
+  pub apart : IsFalse stack.adapter.faithful
+  pub sector_size : stack.rules.sector_size ≡ disk.sector_size
+  pub sectors : stack.rules.disk_sectors ≡ disk.sectors
+  pub many : length places ≡ 256
+
+-- OPENING
+
+-- sizes that a disk with this first sector can have
+pub record IsDisk (disk : StackDisk) (first : List ℕ) : Type 0 where
+  pub long : (length first ≡ 512) ⊎ (length first ≡ 4096)
+  pub sectors : (1 ≤ disk.sectors) × (disk.sectors ≤ 2 ^ 40)
+  pub max_transfer : (1 ≤ disk.max_transfer) × (disk.max_transfer ≤ 2 ^ 16)
+  pub depth : (1 ≤ disk.depth) × (disk.depth ≤ 32)
+
+abbrev pub limits_of : StackDisk → Settings
+limits_of disk = record { window = disk.window; open_requests = disk.open_requests }
+
+-- a stack over such a disk before its first event, with nothing told of any piece
+pub record IsNewOver (disk : StackDisk) (first : List ℕ) (v : OverView) : Type 0 where
+  pub is_disk : IsDisk disk first
+  pub adapter : MemView
+  pub new : IsNewBooked first disk.sectors disk.max_transfer disk.depth adapter
+  pub start : IsFirstView (apart adapter.shown) (limits_of disk) v.stack
+  pub none_told : v.places ≡ replicate 256 None
+
+-- over such a disk no stack could be started
+pub record StartsNone (disk : StackDisk) (first : List ℕ) (status : NtStatus) : Type 0 where
+  pub is_disk : IsDisk disk first
+  pub adapter : MemView
+  pub new : IsNewBooked first disk.sectors disk.max_transfer disk.depth adapter
+  pub fault : StartFault
+  pub spent : AdapterView
+  pub why : IsSpent (apart adapter.shown) (limits_of disk) fault spent
+  pub is_status : status ≡ start_status fault
+
+-- memory was refused, there is no such disk, or no stack could be started over it
+abbrev pub IsOverStatus : StackDisk → List ℕ → NtStatus → Type 0
+IsOverStatus disk first status =
+    (status ≡ InsufficientResources) ⊎ (((status ≡ InvalidParameter) × (¬ IsDisk disk first)) ⊎ StartsNone disk first status)
+
+-- TELLING
+
+-- the tag's fresh piece was told, and its bytes stand in the tag's place
+pub record TellsArmed (old : OverView) (tag : ℕ) (told : StackArmed) (new : OverView) : Type 0 where
+  pub piece : ℕ
+  pub srb : Srb
+  pub armed : IsArmed old.stack.adapter tag piece srb
+  pub is_told : IsToldOf piece srb told
+  pub place : Option Place
+  pub stands : StandsAt (place_of old.places tag) piece srb.data told.bytes place
+  pub after : new ≡ record old { places = slice_set old.places tag place }
+
+-- no piece of the tag could act, or memory for its bytes was refused
+abbrev pub IsArmedStatus : OverView → ℕ → NtStatus → Type 0
+IsArmedStatus old tag status = ((status ≡ NotFound) × HasNoneFresh old.stack.adapter tag) ⊎ (status ≡ InsufficientResources)
+
+-- BOOKING
+
+abbrev pub piece_of : StackBooking → ℕ
+piece_of b = b.piece_high * 2 ^ 64 + b.piece_low
+
+abbrev pub completion_of : StackCompletion → Completion
+completion_of c = record {
+  srb_status = c.srb_status;
+  scsi_status = c.scsi_status;
+  sense = if c.has_sense then Some (record { key = c.key; asc = c.asc; ascq = c.ascq }) else None;
+}
+
+-- an entry of a piece and of all bytes that stand in a place, which are so many
+pub record IsEntryOf (tag piece count : ℕ) (own : Place) (entry : Entry) : Type 0 where
+  pub is_piece : entry.piece ≡ piece
+  pub is_tag : entry.tag ≡ tag
+  pub bytes : entry.bytes ≡ own.bytes.items
+  pub many : count ≡ length own.bytes.items
+
+-- what C tells of a piece whose bytes stand in this place: that they were moved, or how it failed
+abbrev pub IsBookingOf : StackBooking → Place → Result Entry Completion → Type 0
+IsBookingOf b own (Ok entry) = (b.failed ≡ false) × IsEntryOf b.tag (piece_of b) b.length own entry
+IsBookingOf b own (Err completion) = (b.failed ≡ true) × (completion ≡ completion_of b.completion)
+
+-- a piece that could act, and of which C was told
+pub record IsTold (v : OverView) (tag piece : ℕ) (srb : Srb) (own : Place) : Type 0 where
+  pub armed : IsArmed v.stack.adapter tag piece srb
+  pub there : place_of v.places tag ≡ Some own
+  pub is_piece : own.piece ≡ piece
+  pub not_first : piece ≢ 0
+
+-- no piece of the tag could act, or only another, or the one by which the disk was looked at
+abbrev pub IsNotArmed : OverView → ℕ → ℕ → Type 0
+IsNotArmed v tag piece =
+    HasNoneFresh v.stack.adapter tag ⊎ ((other : ℕ) × (srb : Srb) × IsArmed v.stack.adapter tag other srb × ((other ≢ piece) ⊎ (piece ≡ 0)))
+
+-- or C was not told of it since it was last booked
+abbrev pub IsNotTold : OverView → ℕ → ℕ → Type 0
+IsNotTold v tag piece = IsNotArmed v tag piece ⊎ (¬ HasPiece (place_of v.places tag) piece)
+
+-- what a piece asks for that was told, and of which all bytes in its place were moved
+pub record IsSuited (v : OverView) (b : StackBooking) (a : Asked) : Type 0 where
+  pub srb : Srb
+  pub own : Place
+  pub told : IsTold v b.tag (piece_of b) srb own
+  pub many : b.length ≡ length own.bytes.items
+  pub suits : (entry : Entry) → entry.kind ≡ a.kind → entry.extent ≡ a.extent → entry.bytes ≡ own.bytes.items
+      → IsOfSrb v.stack.adapter.sector_size (length v.stack.adapter.sectors) srb entry
+
+-- just what C tells was booked of the piece, which may be, and its place was given up
+pub record BooksTold (old : OverView) (b : StackBooking) (new : OverView) : Type 0 where
+  pub srb : Srb
+  pub own : Place
+  pub told : IsTold old b.tag (piece_of b) srb own
+  pub what : Result Entry Completion
+  pub is_what : IsBookingOf b own what
+  pub may : IsBookable old.stack.adapter b.tag (piece_of b) what
+  pub books : BooksPiece old.stack b.tag (piece_of b) what new.stack
+  pub given_up : new.places ≡ slice_set old.places b.tag None
+
+-- nothing that C tells of the piece suits it
+pub record HasNoneToBook (old : OverView) (b : StackBooking) : Type 0 where
+  pub srb : Srb
+  pub own : Place
+  pub told : IsTold old b.tag (piece_of b) srb own
+  pub none : (what : Result Entry Completion) → IsBookingOf b own what → ¬ Suits old.stack.adapter.sector_size (length old.stack.adapter.sectors) srb what
+
+abbrev pub IsBookStatus : OverView → StackBooking → NtStatus → Type 0
+IsBookStatus old b status = ((status ≡ NotFound) × IsNotTold old b.tag (piece_of b)) ⊎ ((status ≡ InvalidParameter) × HasNoneToBook old b)

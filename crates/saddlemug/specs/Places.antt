@@ -1,0 +1,22 @@
+-- Where the bytes of the pieces stand that C was told of.
+use Rattle.std.specs.Prelude.{◌≡◌, ◌≢◌, ℕ, List, Option, Some, None, slice_index_or}
+use Rattle.std.specs.Vec.{vec_ptr}
+use denote.RawPtr.{Ptr}
+use Rattle.saddlemug.specs.declared.places.Place.{Place}
+
+-- the place of a tag
+abbrev pub place_of : List (Option Place) → ℕ → Option Place
+place_of places tag = slice_index_or places tag None
+
+-- this piece stands in the place
+abbrev pub HasPiece : Option Place → ℕ → Type 0
+HasPiece place piece = (own : Place) × (place ≡ Some own) × (own.piece ≡ piece)
+
+-- a piece with these bytes was put into a place, unless it stood there: then the place is left as it was
+pub record StandsAt (old : Option Place) (piece : ℕ) (srb_data : List ℕ) (at : Ptr) (new : Option Place) : Type 0 where
+  pub own : Place
+  pub there : new ≡ Some own
+  pub is_piece : own.piece ≡ piece
+  pub address : vec_ptr own.bytes ≡ at
+  pub told_before : HasPiece old piece → new ≡ old
+  pub told_first : ¬ HasPiece old piece → own.bytes.items ≡ srb_data
