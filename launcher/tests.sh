@@ -70,14 +70,14 @@ test_built() {
 
 # Tests these crates, or all.
 run_tests() {
-    local name all most
+    local tested all most
     if [ "$*" = --built ]; then
         test_built
         return
     fi
     mapfile -t all < <(test_crates)
-    for name; do
-        [[ " ${all[*]} " = *" $name "* ]] || { say "there are no tests of '$name', but of ${all[*]}" && exit 1; }
+    for tested; do
+        [[ " ${all[*]} " = *" $tested "* ]] || { say "there are no tests of '$tested', but of ${all[*]}" && exit 1; }
     done
     [ $# != 0 ] || set -- "${all[@]}"
     make_scratch
@@ -87,9 +87,9 @@ run_tests() {
     export RT_SECONDS=300
     trap 'stop_jobs; rm -rf "$scratch"' EXIT
     most=$(room)
-    for name; do
+    for tested; do
         while [ "$(jobs -rp | wc -l)" -ge "$most" ]; do wait -n || true; done
-        test_crate "$name" &
+        test_crate "$tested" &
     done
     wait
     tally "$@"
@@ -98,7 +98,7 @@ run_tests() {
 # Tells how many passed and failed, and whether all did. A crate whose tests came to no end failed.
 tally() {
     local passed failed name
-    for name; do
+    for tested; do
         [ -e "$scratch/$name.ended" ] || count "$name, which came to no end" 0 1
     done
     read -r passed failed < <(cat "$scratch"/*.counts | awk '{ passed += $1; failed += $2 } END { print passed + 0, failed + 0 }')
