@@ -98,7 +98,7 @@ run_tests() {
 # Tells how many passed and failed, and whether all did. A crate whose tests came to no end failed.
 tally() {
     local passed failed name
-    for tested; do
+    for name; do
         [ -e "$scratch/$name.ended" ] || count "$name, which came to no end" 0 1
     done
     read -r passed failed < <(cat "$scratch"/*.counts | awk '{ passed += $1; failed += $2 } END { print passed + 0, failed + 0 }')
