@@ -1,11 +1,16 @@
 -- Moves of an adapter, one after another, join.
 use Rattle.std.proofs.Common.{ℕ, List, [], ◌∷◌, ◌++◌, refl, ap, ◌∙◌}
 use Rattle.srb.specs.declared.DeviceLabel.{DeviceLabel}
-use Rattle.adapter.specs.View.{AdapterView, ReservesMore, MovesOn, MovesByAll}
+use Rattle.srb.specs.declared.Srb.{Srb}
+use Rattle.adapter.specs.View.{AdapterView, ReservesMore, MovesOn, MovesByAll, IsSpoiled}
 
 -- an adapter that stays as it is
 pub reserves_none : (v : AdapterView) → ReservesMore v v
 reserves_none v = record { reserved = v.reserved; after = refl; lasts = λ extent h. h }
+
+-- an SRB that stays as it is
+pub unspoiled : (srb : Srb) → IsSpoiled srb srb
+unspoiled srb = record { same = refl; as_many = refl; of_write = λ lba count fua asks. refl }
 
 reserves_joined : (old mid new : AdapterView) → ReservesMore old mid → ReservesMore mid new → ReservesMore old new
 reserves_joined old mid new a b = record {

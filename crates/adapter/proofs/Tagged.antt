@@ -3,6 +3,7 @@ use Rattle.std.proofs.Common.{◌≡◌, inl, inr, ℕ, ◌==◌, Bool, true, fa
 use Rattle.std.specs.Prelude.{All}
 use Rattle.std.proofs.lemmas.List.Elements.{All-head, All-tail, All-cons, All-map}
 use Rattle.std.proofs.lemmas.List.Sorted.{IsPermutation-sym, All-permutation}
+use Rattle.srb.specs.declared.Srb.{Srb}
 use Rattle.srb.specs.declared.Entry.{Entry}
 use Rattle.srb.specs.declared.Completion.{Completion}
 use Rattle.srb.specs.declared.DeviceLabel.{DeviceLabel}
@@ -38,7 +39,9 @@ module _ (P : ℕ → ℕ → List ℕ → Type 0) where
       let first : IsTagged (in_use_from old tag piece h.srb) = subst (λ b. P piece tag b) (sym h.has_block) (subst (λ t. P piece t block) same so) in
       subst AllTagged (sym h.accepts.after) (All-permutation IsTagged _ _ (IsPermutation-sym _ _ h.accepts.in_use) (All-cons IsTagged (in_use_from old tag piece h.srb) old.tags first all))
   moved_so old new tag (Act piece bytes) so h all = subst AllTagged (sym h.after) (one_so old new h.use' (acted h.moved h.left h.use') h.others h.tags h.is_on.in_use h.in_use (λ k. k) all)
-  moved_so old new tag (Fault piece) so h all = subst AllTagged (sym h.after) (one_so old new h.use' (faulted h.use') h.others h.tags h.is_on.in_use h.in_use (λ k. k) all)
+  moved_so old new tag (Fault piece) so h all =
+      subst AllTagged (sym h.after) (one_so old new h.use' (faulted h.left h.use') h.others h.tags h.is_on.in_use h.in_use
+      (λ k. subst (λ (b : List ℕ). P h.use'.piece h.use'.tag b) (sym (ap (λ (srb : Srb). srb.block) h.spoiled.same)) k) all)
   moved_so old new tag (Return piece class) so h all =
       subst AllTagged (sym h.after) (All-permutation IsTagged _ _ (IsPermutation-sym _ _ h.in_use) (All-tail IsTagged h.use' h.others (All-permutation IsTagged _ _ h.is_on.in_use all)))
 

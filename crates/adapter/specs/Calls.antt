@@ -1,5 +1,5 @@
 -- What each call of an adapter does to what the adapter shows.
-use Rattle.std.specs.Prelude.{◌≡◌, ◌≢◌, ◌⊎◌, ℕ, Bool, true, IsTrue, IsFalse, List, [], ◌∷◌, ◌++◌, map, filter, IsPermutation}
+use Rattle.std.specs.Prelude.{◌≡◌, ◌≢◌, ◌⊎◌, ℕ, Bool, true, IsTrue, IsFalse, List, [], ◌∷◌, ◌++◌, map, filter, All, IsPermutation}
 use Rattle.std.specs.List.Sorted.{IsStrictlyIncreasing}
 use Rattle.std.specs.List.{concat}
 use Rattle.srb.specs.declared.Srb.{Srb}
@@ -7,7 +7,7 @@ use Rattle.srb.specs.declared.Completion.{Completion}
 use Rattle.srb.specs.declared.DeviceLabel.{DeviceLabel}
 use Rattle.srb.specs.declared.DeviceLabel.TheVariants.{Fault}
 use Rattle.srb.specs.Fate.{Fate, Fresh, Acted, Faulted, is_fresh, class_of}
-use Rattle.adapter.specs.View.{TagInUse, AdapterView, IsFree, IsOn, ActsOn, FaultsOn, ReturnsOn, MovesByAll, NotesReset}
+use Rattle.adapter.specs.View.{TagInUse, AdapterView, IsFree, IsOn, ActsOn, FaultsOn, ReturnsOn, MovesByAll, NotesReset, IsSpoiled}
 
 -- the piece on the tag was booked to act, by an adapter whose sectors stand elsewhere
 pub record IsBooked (view : AdapterView) (tag : ℕ) : Type 0 where
@@ -48,8 +48,23 @@ fate_after_reset Fresh = Faulted
 fate_after_reset (Acted moved) = Acted moved
 fate_after_reset Faulted = Faulted
 
-abbrev pub after_reset : TagInUse → TagInUse
-after_reset use' = record use' { fate = fate_after_reset use'.fate; was_reset = true }
+-- and its SRB is left so; that of any other stays
+abbrev pub srb_after_reset : Fate → Srb → Srb → Srb
+srb_after_reset Fresh left srb = left
+srb_after_reset (Acted moved) left srb = srb
+srb_after_reset Faulted left srb = srb
+
+-- by the SRBs that are left
+abbrev pub after_reset : (TagInUse → Srb) → TagInUse → TagInUse
+after_reset left use' = record use' {
+  fate = fate_after_reset use'.fate;
+  srb = srb_after_reset use'.fate (left use') use'.srb;
+  was_reset = true;
+}
+
+-- the SRB that is left is the piece's, but for its buffers
+abbrev pub IsLeftSo : (TagInUse → Srb) → TagInUse → Type 0
+IsLeftSo left use' = IsSpoiled use'.srb (left use')
 
 -- the tag's piece has done nothing yet
 abbrev pub is_fresh_use : TagInUse → Bool
@@ -66,9 +81,11 @@ pub record Resets (old new : AdapterView) : Type 0 where
   pub fresh : List TagInUse
   pub tags : List TagInUse
   pub failures : ℕ
+  pub left : TagInUse → Srb
   pub are_fresh : IsPermutation (filter is_fresh_use old.tags) fresh
   pub rising : IsStrictlyIncreasing (map tag_of fresh)
-  pub in_use : IsPermutation tags (map after_reset old.tags)
+  pub spoiled : All (IsLeftSo left) fresh
+  pub in_use : IsPermutation tags (map (after_reset left) old.tags)
   pub after : new ≡ record old { tags = tags; failures = failures; labels = old.labels ++ map fault_of fresh }
   pub all_faulted : AdapterView
   pub moves : MovesByAll old (map fault_of fresh) all_faulted

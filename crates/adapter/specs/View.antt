@@ -2,7 +2,7 @@
 use Rattle.std.specs.Prelude.{◌≡◌, ◌≢◌, ◌<◌, ◌≤◌, ◌^◌, ◌⊎◌, ℕ, ◌+◌, ◌*◌, ◌==◌, Bool, true, false, IsTrue, IsFalse, List, [], ◌∷◌, ◌++◌, map, length, All, AllPairs, IsPermutation, bit_and}
 use Rattle.std.specs.List.{concat}
 use Rattle.sector.specs.declared.Extent.{Extent}
-use Rattle.sector.specs.Extents.{IsCovered, IsSector}
+use Rattle.sector.specs.Extents.{CoversMoreNear, IsCovered, IsSector}
 use Rattle.cdb.specs.declared.Cdb.{Cdb}
 use Rattle.cdb.specs.Meaning.{Means, AsksToWrite}
 use Rattle.srb.specs.declared.Srb.{Srb}
@@ -45,6 +45,8 @@ pub record AdapterView : Type 0 where
   pub failures : ℕ
   -- the extents whose writing was reserved
   pub reserved : List Extent
+  -- sectors are reserved in runs of so many, counted from sector 0
+  pub run : ℕ
   -- recorded and not yet taken, the earliest first
   pub labels : List DeviceLabel
 
@@ -89,9 +91,15 @@ pub record IsOn (view : AdapterView) (tag : ℕ) (use' : TagInUse) (others : Lis
   pub in_use : IsPermutation view.tags (use' ∷ others)
   pub has_tag : use'.tag ≡ tag
 
--- its piece never acts
-abbrev pub faulted : TagInUse → TagInUse
-faulted use' = record use' { fate = Faulted }
+-- an SRB after its command failed: the bytes of its buffers may be others, but for a write's data, and it has as many data
+pub record IsSpoiled (before after : Srb) : Type 0 where
+  pub same : after ≡ record before { «data» = after.data; for_label = after.for_label }
+  pub as_many : length after.data ≡ length before.data
+  pub of_write : (lba count : ℕ) (fua : Bool) → AsksToWrite before.block lba count fua → after.data ≡ before.data
+
+-- its piece never acts, and has this SRB from now on
+abbrev pub faulted : Srb → TagInUse → TagInUse
+faulted srb use' = record use' { fate = Faulted; srb = srb }
 
 -- its piece acted: the SRB's data are what it moved; of the second buffer, in which they go out, this is left
 abbrev pub acted : List (List ℕ) → List ℕ → TagInUse → TagInUse
@@ -105,6 +113,10 @@ acted moved left use' = record use' {
 -- each sector of the extent is one of a reserved extent
 abbrev pub IsReserved : AdapterView → Extent → Type 0
 IsReserved view extent = IsCovered view.reserved extent
+
+-- what is reserved now was before, or is in a run with a sector of the extent
+abbrev pub ReservesNear : AdapterView → Extent → AdapterView → Type 0
+ReservesNear old extent new = CoversMoreNear old.run extent old.reserved new.reserved
 
 -- a write that lies in the disk has its extent reserved
 abbrev pub IsWritable : AdapterView → Srb → Type 0
@@ -174,36 +186,40 @@ pub record FaultsOn (old : AdapterView) (tag piece : ℕ) (new : AdapterView) : 
   pub others : List TagInUse
   pub tags : List TagInUse
   pub failures : ℕ
+  pub left : Srb
   pub is_on : IsOn old tag use' others
   pub is_piece : use'.piece ≡ piece
   pub is_fresh : use'.fate ≡ Fresh
   pub counted : old.failures < failures
-  pub in_use : IsPermutation tags (faulted use' ∷ others)
+  pub spoiled : IsSpoiled use'.srb left
+  pub in_use : IsPermutation tags (faulted left use' ∷ others)
   pub after : new ≡ record old { tags = tags; failures = failures; labels = old.labels ++ Fault piece ∷ [] }
 
 -- the low six bits of BUS_RESET
 abbrev pub IsBusReset : Completion → Type 0
 IsBusReset completion = bit_and completion.srb_status 63 ≡ 14
 
--- how a piece may come back: good where it acted and met no reset, busy where it did nothing, bad where failures were
--- counted since it was accepted; after a reset as BUS_RESET
-abbrev pub MayReturn : AdapterView → TagInUse → Class → Type 0
-MayReturn view use' Good = ((moved : List (List ℕ)) × (use'.fate ≡ Acted moved)) × IsFalse use'.was_reset
-MayReturn view use' Busy = (use'.fate ≡ Fresh) × IsFalse use'.was_reset
-MayReturn view use' (Bad completion) =
-    (use'.failures_before < view.failures) × (class_of completion ≡ Bad completion)
+-- how a piece may come back with so many failures counted: good where it acted and met no reset, busy where it did nothing, bad
+-- where failures were counted since it was accepted; after a reset as BUS_RESET
+abbrev pub MayReturn : ℕ → TagInUse → Class → Type 0
+MayReturn failures use' Good = ((moved : List (List ℕ)) × (use'.fate ≡ Acted moved)) × IsFalse use'.was_reset
+MayReturn failures use' Busy = (use'.fate ≡ Fresh) × IsFalse use'.was_reset
+MayReturn failures use' (Bad completion) =
+    (use'.failures_before < failures) × (class_of completion ≡ Bad completion)
     × (IsTrue use'.was_reset → IsBusReset completion)
 
--- the tag's piece comes back, and the tag is free
+-- the tag's piece comes back, and the tag is free; more failures may be counted, before the piece comes back
 pub record ReturnsOn (old : AdapterView) (tag piece : ℕ) (class : Class) (new : AdapterView) : Type 0 where
   pub use' : TagInUse
   pub others : List TagInUse
   pub tags : List TagInUse
+  pub failures : ℕ
   pub is_on : IsOn old tag use' others
   pub is_piece : use'.piece ≡ piece
-  pub may : MayReturn old use' class
+  pub counted : old.failures ≤ failures
+  pub may : MayReturn failures use' class
   pub in_use : IsPermutation tags others
-  pub after : new ≡ record old { tags = tags; labels = old.labels ++ Return piece class ∷ [] }
+  pub after : new ≡ record old { tags = tags; failures = failures; labels = old.labels ++ Return piece class ∷ [] }
 
 -- the view moves by a label of the tag's piece
 abbrev pub MovesOn : AdapterView → ℕ → DeviceLabel → AdapterView → Type 0

@@ -9,8 +9,8 @@ use std::alloc::AllocError;
 /// A label that isn't taken yet has a place in the record of labels, which has 64; callers keep the places that a call
 /// asks for.
 pub trait Adapter: Drop {
-    ghost use Rattle.std.specs.Prelude.{◌≡◌, ◌⊎◌, ◌<◌, ◌≤◌, ◌^◌, ◌+◌, ℕ, length, Any, OnOk, MatchBool, MatchOption};
-    ghost use Rattle.adapter.specs.View.{AdapterView, HasTag, IsFree, IsInOrder, IsReserved, IsWritable, ReservesMore, Accepts};
+    ghost use Rattle.std.specs.Prelude.{◌≡◌, ◌⊎◌, ◌<◌, ◌≤◌, ◌^◌, ◌+◌, ℕ, length, Any, IsOk, OnOk, MatchBool, MatchOption};
+    ghost use Rattle.adapter.specs.View.{AdapterView, HasTag, IsFree, IsInOrder, IsReserved, IsWritable, ReservesMore, ReservesNear, Accepts};
     ghost use Rattle.adapter.specs.Calls.{ActsOrFaults, ActsNot, Finishes, FinishesNot, Resets, LeavesFirst, HasNoLabel, HasNoneFresh};
     ghost use Rattle.adapter.specs.Booking.{IsArmed, Books, handed};
 
@@ -45,15 +45,19 @@ pub trait Adapter: Drop {
         ensures exact { result ≡ (view self.now).failures }
         ensures order { IsInOrder (view self.now) };
 
-    /// Makes room for writes of an extent of the disk, for good.
+    /// Makes room for writes of an extent of the disk, for good: for the runs of sectors that the extent has a part in, and
+    /// no others. An adapter that needs no room has all of its disk reserved from the start.
     ///
     /// # Errors
     ///
-    /// [`AllocError`] where memory was refused; room may then have been made for a part.
+    /// [`AllocError`] where memory was refused; room may then have been made for a part. Never where the extent was reserved
+    /// before.
     fn reserve(&mut self, extent: Extent) -> Result<(), AllocError>
         requires { extent.first + extent.count ≤ length (view self.old).sectors }
         ensures reserved { OnOk result (IsReserved (view self.new) extent) }
+        ensures ready { IsReserved (view self.old) extent → IsOk result }
         ensures reserves { ReservesMore (view self.old) (view self.new) }
+        ensures near { ReservesNear (view self.old) extent (view self.new) }
         ensures order { IsInOrder (view self.new) };
 
     /// Whether a piece is on the tag.

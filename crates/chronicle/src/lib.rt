@@ -199,7 +199,7 @@ impl<E, N: Naming> Claims<E, N> {
             .join_seat::<Gather>(&mut self.place, place);
     }
 
-    /// The same claims once more.
+    /// Copies the claims.
     #[tactic(auto, using(crate::proofs::Steps::copies))]
     pub fn again(&mut self, history: &History<E, N>) -> Claims<E, N>
         ensures same { self.new ≡ self.old }

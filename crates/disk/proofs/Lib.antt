@@ -3,5 +3,6 @@ pub mod Cutting
 pub mod Laws
 mod Looking
 mod Overwriting
+mod Reserving
 mod Shown
 mod SparseShown

@@ -1,5 +1,5 @@
 -- What a sparse disk shows, and what its calls do to that.
-use Rattle.std.proofs.Common.{◌≡◌, ℕ, zero, suc, ◌+◌, ◌-◌, ◌*◌, ◌/◌, ◌%◌, ◌≤◌, ◌<◌, min, List, ◌++◌, length, get_or, map, take, drop, replicate, slice_range, Contains, None, IsSome, unwrap_or, mul-le-mul_right, arith, refl, sym, ap, ◌∙◌, subst}
+use Rattle.std.proofs.Common.{◌≡◌, ℕ, zero, suc, ◌+◌, ◌-◌, ◌*◌, ◌/◌, ◌%◌, ◌≤◌, ◌<◌, ◌⊎◌, inl, inr, min, List, [], ◌++◌, length, get_or, map, take, drop, replicate, slice_range, Contains, None, IsSome, unwrap_or, mul-le-mul_right, arith, refl, sym, ap, ◌∙◌, subst}
 use Rattle.std.proofs.lemmas.List.{length-map, get_or-map, drop_at, drop-drop, take-replicate, drop-replicate, length-replicate}
 use Rattle.std.proofs.lemmas.List.Elements.{Contains-get_or}
 use Rattle.std.proofs.lemmas.List.Folds.{concat-append}
@@ -8,18 +8,19 @@ use Rattle.std.proofs.lemmas.Map.Views.{btree_map_contains_key_iff}
 use Rattle.std.proofs.lemmas.Map.Lookups.{exact_unsigned}
 use Rattle.std.specs.Cmp.{nat_cmp_total}
 use Rattle.std.specs.List.{concat, range_with_len}
+use Rattle.std.specs.Map.{keys_of}
 use Rattle.std.specs.Simd.{first_chunks}
 use Rattle.std.specs.BTreeMap.{IsEmpty, get, keys}
 use Rattle.std.specs.Ordering.{nat_cmp}
 use Rattle.sector.specs.declared.Extent.{Extent}
-use Rattle.sector.specs.Extents.{IsIn}
+use Rattle.sector.specs.Extents.{IsIn, IsInSome, IsNear}
 use Rattle.sector.specs.Splice.{splice}
 use Rattle.disk.specs.declared.chunks.Chunks.{Chunks}
 use Rattle.disk.specs.declared.sparse_disk.SparseDisk.{SparseDisk}
-use Rattle.disk.specs.Medium.{IsReserved, IsWithin, Reserves, StartsWith, bytes_at}
+use Rattle.disk.specs.Medium.{IsReserved, IsWithin, Reserves, ReservesNear, ReservesOnly, StartsWith, bytes_at}
 use Rattle.disk.specs.Sparse.{ByNumber, chunk_length, chunk_of, held}
 use Rattle.disk.specs.declared.bad_list.BadList.{BadList}
-use Rattle.disk.specs.SparseDisk.{AreThere, HasSameSizes, IsThere, Makes, Overwrites, bytes_of, sector_of, sectors_of, shown}
+use Rattle.disk.specs.SparseDisk.{AreThere, HasPartOf, HasSameSizes, IsThere, Makes, MakesOf, Overwrites, bytes_of, sector_of, sectors_of, shown}
 use Rattle.disk.proofs.Chunked.{held-empty, map_range-append}
 use Rattle.disk.proofs.Cutting.{length-first_chunks, concat-first_chunks, first_chunks-zeros}
 use Rattle.disk.proofs.Overwriting.{some_found, some_mapped}
@@ -206,6 +207,28 @@ shown_made disk chunks makes =
       after = ap (λ k. record (shown new) { sector_size = k }) makes.sizes.sector_size
           ∙ ap (λ xs. record (shown new) { sector_size = disk.chunks.sector_size; sectors = xs }) (same_when_made disk.chunks chunks makes);
     }
+
+-- what is reserved of those is near the extent
+pub reserved_near : (disk : SparseDisk) (chunks : Chunks) (extent : Extent) → HasSameSizes disk.chunks chunks → MakesOf extent disk.chunks chunks
+    → ReservesNear (shown disk) extent (shown (record { chunks = chunks; bad = disk.bad }))
+reserved_near disk chunks extent sizes makes sector (other, has, inside) =
+    by (makes (sector / 64) is.there)
+  where
+    is : IsOfChunk (record { chunks = chunks; bad = disk.bad }) sector
+    is = of_chunk (record { chunks = chunks; bad = disk.bad }) sector other has inside
+
+    by : IsThere disk.chunks (sector / 64) ⊎ HasPartOf extent (sector / 64) → IsInSome (shown disk).reserved sector ⊎ IsNear 64 extent sector
+    by (inl was) = inl (covered disk sector (subst (λ n. sector < n) sizes.sectors is.within) was)
+    by (inr part) = inr part
+
+-- none is reserved where no chunk is there
+pub none_reserved : (disk : SparseDisk) → IsEmpty disk.chunks.by_number → (shown disk).reserved ≡ []
+none_reserved disk none = ap (λ entries. map (chunk_of disk.chunks.sectors) (keys_of entries)) none
+
+-- nothing else is reserved where no chunk but those of the extent is there
+pub reserved_only : (disk : SparseDisk) (extent : Extent) → ((number : ℕ) → IsThere disk.chunks number → HasPartOf extent number)
+    → ReservesOnly (shown disk) extent
+reserved_only disk extent of_extent sector (other, has, inside) = of_extent (sector / 64) (of_chunk disk sector other has inside).there
 
 -- THE START
 

@@ -2,7 +2,7 @@
 use Rattle.std.specs.Prelude.{◌≡◌, ◌≤◌, ℕ, ◌+◌, ◌-◌, ◌*◌, List, ◌++◌, length, All, Contains, replicate, slice_range}
 use Rattle.std.specs.List.{concat}
 use Rattle.sector.specs.declared.Extent.{Extent}
-use Rattle.sector.specs.Extents.{IsCovered, IsIn, IsSector}
+use Rattle.sector.specs.Extents.{CoversMoreNear, IsCovered, IsIn, IsInSome, IsNear, IsSector}
 use Rattle.sector.specs.Splice.{splice}
 
 -- what a medium shows
@@ -15,6 +15,8 @@ pub record MediumView : Type 0 where
   pub bad : List ℕ
   -- the extents whose writing was reserved
   pub reserved : List Extent
+  -- sectors are reserved in runs of so many, counted from sector 0
+  pub run : ℕ
   -- the calls that failed
   pub failures : ℕ
 
@@ -37,6 +39,14 @@ IsReserved view extent = IsCovered view.reserved extent
 -- the bytes of an extent's sectors, one sector after the other
 abbrev pub bytes_at : MediumView → Extent → List ℕ
 bytes_at view extent = concat (slice_range view.sectors extent.first (extent.first + extent.count))
+
+-- what is reserved now was before, or is in a run with a sector of the extent
+abbrev pub ReservesNear : MediumView → Extent → MediumView → Type 0
+ReservesNear old extent new = CoversMoreNear old.run extent old.reserved new.reserved
+
+-- nothing is reserved but the runs that the extent has a part in
+abbrev pub ReservesOnly : MediumView → Extent → Type 0
+ReservesOnly view extent = (sector : ℕ) → IsInSome view.reserved sector → IsNear view.run extent sector
 
 -- nothing but what is reserved may differ, and what was reserved still is
 pub record Reserves (old new : MediumView) : Type 0 where

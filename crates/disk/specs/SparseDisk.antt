@@ -1,5 +1,5 @@
 -- What a sparse disk shows, and what becomes of its chunks.
-use Rattle.std.specs.Prelude.{◌≡◌, ℕ, ◌-◌, ◌*◌, ◌/◌, List, map, take, drop, IsSome}
+use Rattle.std.specs.Prelude.{◌≡◌, ◌⊎◌, ℕ, ◌-◌, ◌*◌, ◌/◌, List, map, take, drop, IsSome}
 use Rattle.std.specs.List.{range_with_len}
 use Rattle.std.specs.BTreeMap.{keys}
 use Rattle.sector.specs.declared.Extent.{Extent}
@@ -28,6 +28,7 @@ shown disk = record {
   sectors = sectors_of disk.chunks (record { first = 0; count = disk.chunks.sectors });
   bad = disk.bad.sectors.items;
   reserved = map (chunk_of disk.chunks.sectors) (keys disk.chunks.by_number);
+  run = 64;
   failures = disk.bad.failures;
 }
 
@@ -38,6 +39,18 @@ IsThere chunks number = IsSome (held chunks.by_number number)
 -- the chunk of each sector of the extent is there
 abbrev pub AreThere : Chunks → Extent → Type 0
 AreThere chunks extent = (sector : ℕ) → IsIn sector extent → IsThere chunks (sector / 64)
+
+-- a sector of the extent is in the chunk of this number
+abbrev pub HasPartOf : Extent → ℕ → Type 0
+HasPartOf extent number = (sector : ℕ) × IsIn sector extent × (sector / 64 ≡ number)
+
+-- the chunk of this number is the only one that may have come
+abbrev pub MakesOne : ℕ → Chunks → Chunks → Type 0
+MakesOne number old new = (other : ℕ) → IsThere new other → IsThere old other ⊎ (other ≡ number)
+
+-- only chunks may have come in which the extent has a part
+abbrev pub MakesOf : Extent → Chunks → Chunks → Type 0
+MakesOf extent old new = (number : ℕ) → IsThere new number → IsThere old number ⊎ HasPartOf extent number
 
 -- the disk is as large as before
 pub record HasSameSizes (old new : Chunks) : Type 0 where

@@ -11,5 +11,6 @@ shown disk = record {
   sectors = first_chunks disk.sector_size disk.sectors disk.bytes.items;
   bad = disk.bad.sectors.items;
   reserved = (record { first = 0; count = disk.sectors }) ∷ [];
+  run = 1;
   failures = disk.bad.failures;
 }

@@ -1,6 +1,6 @@
 //! The sectors of a disk in chunks, of which only those are in memory that were reserved.
 
-ghost use Rattle.std.specs.Prelude.{◌≡◌, ℕ, ◌+◌, ◌*◌, ◌/◌, ◌%◌, ◌≤◌, ◌<◌, ◌^◌, length, take, drop, replicate, IsSome, IfSome, OnOk, OnErr, MatchOption};
+ghost use Rattle.std.specs.Prelude.{◌≡◌, ℕ, ◌+◌, ◌*◌, ◌/◌, ◌%◌, ◌≤◌, ◌<◌, ◌^◌, length, take, drop, replicate, IsSome, IfSome, IsOk, OnOk, OnErr, MatchOption};
 ghost use Rattle.std.specs.Option.{ForSome};
 ghost use Rattle.std.specs.Ordering.{nat_cmp};
 ghost use Rattle.std.specs.BTreeMap.{get, IsEmpty};
@@ -26,7 +26,7 @@ pub(crate) struct Chunks {
 
 impl Chunks {
     ghost use Rattle.std.specs.List.{concat};
-    ghost use Rattle.disk.specs.SparseDisk.{AreThere, IsThere, Makes, Overwrites, sectors_of};
+    ghost use Rattle.disk.specs.SparseDisk.{AreThere, IsThere, Makes, MakesOf, MakesOne, Overwrites, sectors_of};
 
     /// A disk of which no chunk is there.
     pub fn new(alloc: Global, sector_size: u32, sectors: u64) -> Chunks
@@ -61,7 +61,9 @@ impl Chunks {
     pub fn reserve(&mut self, extent: Extent) -> Result<(), AllocError>
         requires { extent.first + extent.count ≤ self.old.sectors }
         ensures there { OnOk result (AreThere self.new extent) }
+        ensures ready { AreThere self.old extent → IsOk result }
         ensures makes { Makes self.old self.new }
+        ensures only { MakesOf extent self.old self.new }
     {
         let _sectors = self.sectors;
         let mut rest = extent;
@@ -77,7 +79,9 @@ impl Chunks {
     fn make(&mut self, number: u64) -> Result<(), AllocError>
         requires { number * 64 < self.old.sectors }
         ensures there { OnOk result (IsThere self.new number) }
+        ensures ready { IsThere self.old number → IsOk result }
         ensures makes { Makes self.old self.new }
+        ensures only { MakesOne number self.old self.new }
     {
         let length = self.extent_of(number).count * self.sector_size as u64;
         put_zeros(self.alloc, &mut self.by_number, number, length as usize)?;
@@ -153,6 +157,7 @@ fn put_zeros(
     length: usize,
 ) -> Result<(), AllocError>
     ensures made { OnOk result (PutsZeros length number chunks.old chunks.new) }
+    ensures ready { IsSome (held chunks.old number) → IsOk result }
     ensures err { OnErr result (chunks.new.entries ≡ chunks.old.entries) }
 {
     chunks

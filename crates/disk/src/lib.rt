@@ -38,8 +38,8 @@ pub struct BadSector;
 
 /// The sectors of a disk.
 pub trait Medium: Drop {
-    ghost use Rattle.std.specs.Prelude.{◌≡◌, ◌<◌, ◌^◌, ◌*◌, ◌↔◌, ℕ, length, IsErr, OnOk, OnErr};
-    ghost use Rattle.disk.specs.Medium.{MediumView, HasWholeSectors, IsWithin, IsReserved, HasBad, Reserves, Reads, Writes, failed};
+    ghost use Rattle.std.specs.Prelude.{◌≡◌, ◌<◌, ◌^◌, ◌*◌, ◌↔◌, ℕ, length, IsOk, IsErr, OnOk, OnErr};
+    ghost use Rattle.disk.specs.Medium.{MediumView, HasWholeSectors, IsWithin, IsReserved, HasBad, Reserves, ReservesNear, Reads, Writes, failed};
 
     ghost view: { Self → MediumView };
 
@@ -55,15 +55,18 @@ pub trait Medium: Drop {
     fn failures(&self) -> u128
         ensures { result ≡ (view self.now).failures };
 
-    /// Makes room for writes of an extent, for good.
+    /// Makes room for writes of an extent, for good: for the runs of sectors that the extent has a part in, and no others.
     ///
     /// # Errors
     ///
-    /// [`NoMemory`] where a growth was refused; room may then have been made for a part of the extent.
+    /// [`NoMemory`] where a growth was refused; room may then have been made for a part of the extent. Never where the
+    /// extent was reserved before.
     fn reserve(&mut self, extent: Extent) -> Result<(), NoMemory>
         requires { IsWithin (view self.old) extent }
         ensures reserved { OnOk result (IsReserved (view self.new) extent) }
-        ensures reserves { Reserves (view self.old) (view self.new) };
+        ensures ready { IsReserved (view self.old) extent → IsOk result }
+        ensures reserves { Reserves (view self.old) (view self.new) }
+        ensures near { ReservesNear (view self.old) extent (view self.new) };
 
     /// Reads the bytes of an extent within the medium into a buffer of just as many bytes.
     ///

@@ -1,6 +1,6 @@
 //! A medium in memory that takes room only for what may be written.
 
-ghost use Rattle.std.specs.Prelude.{◌≡◌, ℕ, ◌*◌, ◌%◌, ◌<◌, ◌≤◌, ◌↔◌, length, IfOk, Contains};
+ghost use Rattle.std.specs.Prelude.{◌≡◌, ℕ, ◌*◌, ◌/◌, ◌%◌, ◌<◌, ◌≤◌, ◌↔◌, [], length, IfOk, Contains};
 
 use crate::bad_list::BadList;
 use crate::chunks::Chunks;
@@ -24,7 +24,7 @@ impl Drop for SparseDisk {
 }
 
 impl SparseDisk {
-    ghost use Rattle.disk.specs.Medium.{IsBlank, StartsWith};
+    ghost use Rattle.disk.specs.Medium.{IsBlank, ReservesOnly, StartsWith};
     ghost use Rattle.disk.specs.SparseDisk.{shown};
 
     /// A disk of so many sectors of zeros, each of `sector_size` bytes, in which the sectors of the list are bad. Numbers that
@@ -32,6 +32,8 @@ impl SparseDisk {
     pub fn new(alloc: Global, sector_size: u32, sectors: u64, bad: Vec<u64>) -> SparseDisk
         ensures blank { IsBlank (shown result) sector_size sectors }
         ensures bad { (sector : ℕ) → Contains (shown result).bad sector ↔ Contains bad.items sector }
+        ensures run { (shown result).run ≡ 64 }
+        ensures unreserved { (shown result).reserved ≡ [] }
     {
         SparseDisk {
             chunks: Chunks::new(alloc, sector_size, sectors),
@@ -57,6 +59,8 @@ impl SparseDisk {
         requires fits { length first.now ≤ sectors * sector_size }
         ensures starts { IfOk result (λ disk. StartsWith (shown disk) sector_size sectors first.now) }
         ensures bad { IfOk result (λ disk. (sector : ℕ) → Contains (shown disk).bad sector ↔ Contains bad.items sector) }
+        ensures run { IfOk result (λ disk. (shown disk).run ≡ 64) }
+        ensures only { IfOk result (λ disk. ReservesOnly (shown disk) (record { first = 0; count = length first.now / sector_size })) }
     {
         let extent = Extent {
             first: 0,

@@ -90,7 +90,7 @@ impl VecDisk {
 }
 
 impl Medium for VecDisk {
-    ghost use Rattle.disk.specs.Medium.{IsWithin, IsReserved, Reserves};
+    ghost use Rattle.disk.specs.Medium.{IsWithin, IsReserved, Reserves, ReservesNear};
     ghost use Rattle.disk.specs.VecDisk.{shown};
     ghost use Rattle.disk.specs.Chunks.{All-first_chunks};
 
@@ -113,7 +113,9 @@ impl Medium for VecDisk {
     fn reserve(&mut self, _extent: Extent) -> Result<(), NoMemory>
         requires { IsWithin (shown self.old) _extent }
         ensures reserved { OnOk result (IsReserved (shown self.new) _extent) }
+        ensures ready { IsReserved (shown self.old) _extent → IsOk result }
         ensures reserves { Reserves (shown self.old) (shown self.new) }
+        ensures near { ReservesNear (shown self.old) _extent (shown self.new) }
         ensures takes_none { IsOk result }
     {
         // The block was taken whole.

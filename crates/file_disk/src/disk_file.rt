@@ -2,7 +2,7 @@
 
 ghost use Rattle.std.specs.Prelude.{◌≡◌, ◌≤◌, [], length, IfOk};
 
-use crate::record::{DONE, Record, code_of, read_numbers, sync_numbers, write_numbers};
+use crate::record::Record;
 use crate::storage::{Failure, Storage};
 use std::fs::File;
 use std::io;
@@ -32,7 +32,7 @@ impl DiskFile {
     }
 }
 
-/// What a failed call means.
+/// Returns what a failed call means.
 fn failure_of(error: &io::Error) -> Failure {
     if error.raw_os_error() == Some(EBADF) {
         return Failure::Protected;
@@ -76,13 +76,11 @@ impl Storage for DiskFile {
         let count = buffer.len() as u64;
         match read(&self.file, offset, buffer) {
             Ok(came) => {
-                self.noted
-                    .note(&read_numbers(offset, count, DONE), &buffer[..came]);
+                self.noted.note_read(offset, count, &buffer[..came]);
                 Ok(came)
             }
             Err(why) => {
-                self.noted
-                    .note(&read_numbers(offset, count, code_of(why)), &[]);
+                self.noted.note_failed_read(offset, count, why);
                 Err(why)
             }
         }
@@ -91,13 +89,11 @@ impl Storage for DiskFile {
     fn write_at(&mut self, offset: u64, bytes: &[u8]) -> Result<usize, Failure> {
         match write(&self.file, offset, bytes) {
             Ok(took) => {
-                self.noted
-                    .note(&write_numbers(offset, took as u64, DONE), bytes);
+                self.noted.note_write(offset, bytes, took as u64);
                 Ok(took)
             }
             Err(why) => {
-                self.noted
-                    .note(&write_numbers(offset, 0, code_of(why)), bytes);
+                self.noted.note_failed_write(offset, bytes, why);
                 Err(why)
             }
         }
@@ -106,12 +102,12 @@ impl Storage for DiskFile {
     fn sync(&mut self) -> Result<(), Failure> {
         match self.file.sync_data() {
             Ok(()) => {
-                self.noted.note(&sync_numbers(DONE), &[]);
+                self.noted.note_sync();
                 Ok(())
             }
             Err(error) => {
                 let why = failure_of(&error);
-                self.noted.note(&sync_numbers(code_of(why)), &[]);
+                self.noted.note_failed_sync(why);
                 Err(why)
             }
         }

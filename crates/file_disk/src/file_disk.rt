@@ -64,7 +64,7 @@ fn extent(first: u64, count: u32) -> Extent
     }
 }
 
-/// What a command asks of a file, and of which sectors: of a read capacity nothing.
+/// Returns what a command asks of a file, and of which sectors: of a read capacity nothing.
 fn task_in(command: Cdb) -> Option<(Task, Extent)>
     ensures { result ≡ task_in command }
 {
@@ -85,14 +85,14 @@ fn task_in(command: Cdb) -> Option<(Task, Extent)>
     }
 }
 
-/// How a read fails.
+/// Returns how a read fails.
 fn read_fault() -> Completion
     ensures { result ≡ read_fault }
 {
     failed_with(MEDIUM_ERROR, 0x11)
 }
 
-/// How a write fails.
+/// Returns how a write fails.
 fn write_fault(why: Failure) -> Completion
     ensures { result ≡ write_fault why }
 {
@@ -102,14 +102,14 @@ fn write_fault(why: Failure) -> Completion
     }
 }
 
-/// How a sync fails, and a piece for whose bytes there is no memory.
+/// Returns how a sync fails, and a piece for whose bytes there is no memory.
 fn hardware_fault() -> Completion
     ensures { result ≡ hardware_fault }
 {
     failed_with(HARDWARE_ERROR, 0x00)
 }
 
-/// How an SRB fails that asks nothing of a file.
+/// Returns how an SRB fails that asks nothing of a file.
 fn invalid_request() -> Completion
     ensures { result ≡ invalid_request }
 {

@@ -6,8 +6,8 @@
 //! a write with FUA is synced before it is done; a flush is a sync; and a call that fails fails its piece, with the completion
 //! of the adapter's table. What comes of a piece may be booked with an adapter that holds no sectors (`suits`).
 //!
-//! [`MemoryFile`] is such a storage in memory, and [`DiskFile`] a file of the system. It does not promise what a file does: the
-//! calls and what they gave are all that is told of it.
+//! [`MemoryFile`] is such a storage in memory, and [`DiskFile`] a file of the system. Each keeps its calls in a [`Record`], as a
+//! storage of one's own does. It does not promise what a file does: the calls and what they gave are all that is told of it.
 #![tactic(auto)]
 
 mod disk_file;
@@ -23,4 +23,5 @@ pub use disk_file::DiskFile;
 pub use file_disk::{FileDisk, Sizes};
 pub use memory::MemoryFile;
 pub use moving::{read_all, write_all};
+pub use record::Record;
 pub use storage::{Failure, Storage};

@@ -2,7 +2,7 @@
 
 ghost use Rattle.std.specs.Prelude.{◌≡◌, ◌≤◌, length};
 
-use crate::record::{DONE, FAILED, Record, code_of, read_numbers, sync_numbers, write_numbers};
+use crate::record::Record;
 use crate::storage::{Failure, Storage};
 
 /// Bytes in memory, as many as there are at its start. For tests: a call moves no more bytes than it is told to, and one call
@@ -12,7 +12,7 @@ pub struct MemoryFile {
     bytes: Vec<u8>,
     /// The most bytes that a call moves.
     longest: usize,
-    /// As many calls go well before one fails.
+    /// The calls that succeed before one fails.
     before: Option<u64>,
     protected: bool,
     noted: Record,
@@ -105,33 +105,30 @@ impl Storage for MemoryFile {
     fn read_at(&mut self, offset: u64, buffer: &mut [u8]) -> Result<usize, Failure> {
         let count = buffer.len() as u64;
         if self.fails() {
-            self.noted.note(&read_numbers(offset, count, FAILED), &[]);
+            self.noted.note_failed_read(offset, count, Failure::Failed);
             return Err(Failure::Failed);
         }
         let came = copy_from(self.bytes.as_slice(), offset, self.longest, buffer);
-        self.noted
-            .note(&read_numbers(offset, count, DONE), &buffer[..came]);
+        self.noted.note_read(offset, count, &buffer[..came]);
         Ok(came)
     }
 
     fn write_at(&mut self, offset: u64, bytes: &[u8]) -> Result<usize, Failure> {
         if let Some(why) = self.refuses() {
-            self.noted
-                .note(&write_numbers(offset, 0, code_of(why)), bytes);
+            self.noted.note_failed_write(offset, bytes, why);
             return Err(why);
         }
         let took = copy_to(self.bytes.as_mut_slice(), offset, self.longest, bytes);
-        self.noted
-            .note(&write_numbers(offset, took as u64, DONE), bytes);
+        self.noted.note_write(offset, bytes, took as u64);
         Ok(took)
     }
 
     fn sync(&mut self) -> Result<(), Failure> {
         if self.fails() {
-            self.noted.note(&sync_numbers(FAILED), &[]);
+            self.noted.note_failed_sync(Failure::Failed);
             return Err(Failure::Failed);
         }
-        self.noted.note(&sync_numbers(DONE), &[]);
+        self.noted.note_sync();
         Ok(())
     }
 }

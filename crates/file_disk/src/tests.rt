@@ -73,7 +73,7 @@ fn sevens(alloc: Global) -> Result<MemoryFile, Fail> {
     Ok(MemoryFile::new(vec![in alloc; 7; 2048]?).in_steps(100))
 }
 
-/// What a piece comes to: the first of its bytes, and how many, or how it failed.
+/// Returns what a piece comes to: the first of its bytes, and how many, or how it failed.
 fn told(outcome: &Result<Entry, Completion>) -> Result<(Kind, u64, usize, Option<u8>), Completion> {
     match outcome {
         Ok(entry) => Ok((

@@ -22,7 +22,7 @@ invoke_flags on_success on_error on_cancel =
 abbrev pub with_routine : Bool → Bool → Bool → StackLocation → StackLocation
 with_routine on_success on_error on_cancel own = record own { control = record { 0 = invoke_flags on_success on_error on_cancel } }
 
--- whom a cancellation is to tell, if anybody
+-- the packet's cancel routine, if it has one
 abbrev pub cancel_routine_of : Irp → Option CancelRoutine
 cancel_routine_of irp = irp.cancel_routine
 

@@ -92,7 +92,7 @@ pub struct StackLocation {
     pub extent: Extent,
 }
 
-/// Whom a cancellation is to tell: the driver that holds the packet.
+/// The cancel routine's driver, which holds the packet.
 #[derive(Debug, Clone, Copy, PartialEq, Eq)]
 pub struct CancelRoutine {
     pub driver: Driver,

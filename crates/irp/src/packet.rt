@@ -87,7 +87,7 @@ impl Irp {
         self.put_own(own.with_routine(on_success, on_error, on_cancel));
     }
 
-    /// From now on a cancellation is to tell this driver, and nobody that was told before (WDK: IoSetCancelRoutine).
+    /// Installs this driver's cancel routine in place of any other (WDK: IoSetCancelRoutine).
     pub fn set_cancel_routine(&mut self, routine: CancelRoutine)
         ensures { self.new ≡ with_cancel_routine (Some routine) self.old }
     {

@@ -30,7 +30,7 @@ use Rattle.judge.specs.declared.start_rules.Misfit.TheVariants as misfit
 use Rattle.judge.specs.declared.start_rules.Hindrance.{Hindrance}
 use Rattle.judge.specs.declared.start_rules.Hindrance.TheVariants as hindrance
 use Rattle.judge.specs.Breaking.{Asks, NoneAsks, IsMisfit, IsAmong, Hinders, AllHeld, HoldsOne, BreaksStartOf}
-use Rattle.judge.specs.StartRuling.{lowest_free, used_rule, lower_rule, tag_rule, is_inside, asked_inside, asked, flag_hindrance, is_before, turn_hindrance, is_sent, sent_as, sent_hindrance, cut_hindrance, places_hindrance, hindrance_of, same_kind, has_kind, kind_of, is_in_form, span_of, is_in_range, has_blocks, blocks_misfit, kind_misfit, misfit_of, may_go, is_asked, held_by_one, held_rule, asked_rule, command_rule, block_rule, starting_rule}
+use Rattle.judge.specs.StartRuling.{lowest_free, used_rule, lower_rule, tag_rule, is_inside, asked_inside, asked, flag_hindrance, is_before, turn_hindrance, is_sent, sent_as, sent_hindrance, grid_hindrance, whole_hindrance, cut_hindrance, places_hindrance, hindrance_of, same_kind, has_kind, kind_of, is_in_form, span_of, is_in_range, has_blocks, blocks_misfit, kind_misfit, misfit_of, may_go, is_asked, held_by_one, held_rule, asked_rule, command_rule, block_rule, starting_rule}
 use Rattle.judge.proofs.AllPlaces.{HasAllPlaces, HaveAllPlaces}
 use Rattle.judge.proofs.Deciding.{decides_tag, decides_turn, decides_true, decides_may_start, decides_sendable}
 use Rattle.judge.proofs.Asking.{places_ask, places_found}
@@ -156,13 +156,18 @@ module _ (rules : Rules) (s : State) where
             as_it_is (places.first + k) (omega arith, omega arith) (mark_at o (places.first + k)) refl (subst (λ m. is_sent m ≡ true) there at.1)
 
     -- how a request is cut
-    record IsCut : Type 0 where
-      begins : places.first % rules.max_transfer ≡ 0
-      spare : IsTrue (is_back (mark_at o places.first)) → 0 < restarts_left rules o
-      whole : IsTrue rules.one_piece → IsWholeRequest o places
+    record IsOnGrid : Type 0 where
+      begins : IsFalse rules.any_cut → places.first % rules.max_transfer ≡ 0
+      spare : IsFalse rules.any_cut → IsTrue (is_back (mark_at o places.first)) → 0 < restarts_left rules o
 
-    cut_named : MatchOption (cut_hindrance rules o places) IsCut Held
-    cut_named = by (places.first % rules.max_transfer == 0) refl (is_back (mark_at o places.first)) refl (nat_lt 0 (restarts_left rules o)) refl rules.one_piece refl (places.count == length o.marks) refl (is_started o) refl
+    abbrev IsWholeIfOne : Type 0
+    IsWholeIfOne = IsTrue rules.one_piece → IsWholeRequest o places
+
+    abbrev IsCut : Type 0
+    IsCut = IsOnGrid × IsWholeIfOne
+
+    grid_named : MatchOption (grid_hindrance rules o places.first) IsOnGrid Held
+    grid_named = by rules.any_cut refl (places.first % rules.max_transfer == 0) refl (is_back (mark_at o places.first)) refl (nat_lt 0 (restarts_left rules o)) refl
       where
         none_left : nat_lt 0 (restarts_left rules o) ≡ false → restarts_left rules o ≡ 0
         none_left e = let h : restarts_left rules o ≤ 0 = ltb-false _ _ e in omega arith
@@ -172,29 +177,35 @@ module _ (rules : Rules) (s : State) where
         spare_by true e false f h t = cc (h)
         spare_by false e false f h t = absurd (both_ways _ e t)
 
-        by : (g : Bool) → (places.first % rules.max_transfer == 0) ≡ g → (b : Bool) → is_back (mark_at o places.first) ≡ b → (l : Bool) → nat_lt 0 (restarts_left rules o) ≡ l
-            → (w : Bool) → rules.one_piece ≡ w → (c : Bool) → (places.count == length o.marks) ≡ c → (t : Bool) → is_started o ≡ t
-            → MatchOption (if not g then Some (hindrance.OffGrid places.first rules.max_transfer)
-            else (if b && not l then Some (hindrance.Worn places.first)
-            else (if w && not c then Some (hindrance.NotWhole (length o.marks) places.count)
-            else (if w && t then Some hindrance.Again else None)))) IsCut Held
-        by false e b f l h w i c j t k = (refl, refl, λ zero_is. eqb-false _ _ e zero_is)
-        by true e true f false h w i c j t k = (refl, f, none_left h)
-        by true e true f true h true i false j t k = (i, refl, refl, λ same. eqb-false _ _ j same)
-        by true e true f true h true i true j true k = (i, k)
-        by true e true f true h true i true j false k = record { begins = eqb-true _ _ e; spare = spare_by true f true h refl; whole = λ one. record { all_places = eqb-true _ _ j; not_before = k } }
-        by true e true f true h false i c j t k = record { begins = eqb-true _ _ e; spare = spare_by true f true h refl; whole = λ one. cc (i, one) }
-        by true e false f l h true i false j t k = (i, refl, refl, λ same. eqb-false _ _ j same)
-        by true e false f l h true i true j true k = (i, k)
-        by true e false f l h true i true j false k = record { begins = eqb-true _ _ e; spare = spare_by false f l h refl; whole = λ one. record { all_places = eqb-true _ _ j; not_before = k } }
-        by true e false f l h false i c j t k = record { begins = eqb-true _ _ e; spare = spare_by false f l h refl; whole = λ one. cc (i, one) }
+        by : (a : Bool) → rules.any_cut ≡ a → (g : Bool) → (places.first % rules.max_transfer == 0) ≡ g → (b : Bool) → is_back (mark_at o places.first) ≡ b → (l : Bool) → nat_lt 0 (restarts_left rules o) ≡ l
+            → MatchOption (if a then None else (if not g then Some (hindrance.OffGrid places.first rules.max_transfer)
+            else (if b && not l then Some (hindrance.Worn places.first) else None))) IsOnGrid Held
+        by true any g e b f l h = record { begins = λ grid. absurd (both_ways _ grid any); spare = λ grid. absurd (both_ways _ grid any) }
+        by false any false e b f l h = (any, refl, refl, λ zero_is. eqb-false _ _ e zero_is)
+        by false any true e true f false h = (any, refl, f, none_left h)
+        by false any true e true f true h = record { begins = λ grid. eqb-true _ _ e; spare = λ grid. spare_by true f true h refl }
+        by false any true e false f l h = record { begins = λ grid. eqb-true _ _ e; spare = λ grid. spare_by false f l h refl }
+
+    whole_named : MatchOption (whole_hindrance rules o places.count) IsWholeIfOne Held
+    whole_named = by rules.one_piece refl (places.count == length o.marks) refl (is_started o) refl
+      where
+        by : (w : Bool) → rules.one_piece ≡ w → (c : Bool) → (places.count == length o.marks) ≡ c → (t : Bool) → is_started o ≡ t
+            → MatchOption (if w && not c then Some (hindrance.NotWhole (length o.marks) places.count)
+            else (if w && t then Some hindrance.Again else None)) IsWholeIfOne Held
+        by true i false j t k = (i, refl, refl, λ same. eqb-false _ _ j same)
+        by true i true j true k = (i, k)
+        by true i true j false k = λ one. record { all_places = eqb-true _ _ j; not_before = k }
+        by false i c j t k = λ one. cc (i, one)
+
+    cut_named : MatchOption (cut_hindrance rules o places) IsCut Held
+    cut_named = either IsOnGrid IsWholeIfOne Held (grid_hindrance rules o places.first) (whole_hindrance rules o places.count) grid_named (λ grid. whole_named)
 
     places_named : MatchOption (places_hindrance rules o places) (IsSendable rules o places) Held
     places_named = by (nat_lt rules.max_transfer places.count) refl
       where
         ready : (found : Option Hindrance) → MatchOption found (All IsUnsent (slice_range o.marks places.first (places.first + places.count)) × IsCut) Held → places.count ≤ rules.max_transfer
             → MatchOption found (IsSendable rules o places) Held
-        ready None h short = record { some = some; short = short; inside = within; unsent = h.0; begins = h.1.begins; spare = h.1.spare; whole = h.1.whole }
+        ready None h short = record { some = some; short = short; inside = within; unsent = h.0; begins = h.1.0.begins; spare = h.1.0.spare; whole = h.1.1 }
         ready (Some x) h short = h
 
         by : (b : Bool) → nat_lt rules.max_transfer places.count ≡ b

@@ -76,11 +76,11 @@ module _ (rules : Rules) (s : State) where
   hinders o places (hindrance.Failed place) h may send =
       let waits : is_unsent (mark_at o place) ≡ true = unsent_at o.marks places.first places.count place send.inside send.unsent h.0.0 h.0.1 in
       let no : is_unsent (Failed h.1) ≡ true = subst (λ m. is_unsent m ≡ true) h.2 waits in cc (no)
-  hinders o places (hindrance.OffGrid place grid) h may send = h.2 (ap (λ n. n % grid) h.0 ∙ ap (λ n. places.first % n) h.1 ∙ send.begins)
+  hinders o places (hindrance.OffGrid place grid) h may send = h.3 (ap (λ n. n % grid) h.1 ∙ ap (λ n. places.first % n) h.2 ∙ send.begins h.0)
   hinders o places (hindrance.Worn place) h may send =
-      let back : IsTrue (is_back (mark_at o places.first)) = subst (λ n. IsTrue (is_back (mark_at o n))) h.0 h.1 in
-      let some : 0 < restarts_left rules o = send.spare back in
-      omega (arith, h.2, some)
+      let back : IsTrue (is_back (mark_at o places.first)) = subst (λ n. IsTrue (is_back (mark_at o n))) h.1 h.2 in
+      let some : 0 < restarts_left rules o = send.spare h.0 back in
+      omega (arith, h.3, some)
   hinders o places (hindrance.NotWhole due count) h may send = let whole = send.whole h.0 in h.3 (h.2 ∙ whole.all_places ∙ sym h.1)
   hinders o places hindrance.Again h may send = let whole = send.whole h.0 in both_ways (is_started o) whole.not_before h.1
 

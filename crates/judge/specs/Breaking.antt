@@ -208,8 +208,9 @@ Hinders rules s o places (hindrance.Long longest count) = (longest ≡ rules.max
 Hinders rules s o places (hindrance.Out place) = IsAmong places place × (mark_at o place ≡ Out)
 Hinders rules s o places (hindrance.Done place) = IsAmong places place × IsTrue (is_done (mark_at o place))
 Hinders rules s o places (hindrance.Failed place) = IsAmong places place × (status : NtStatus) × (mark_at o place ≡ Failed status)
-Hinders rules s o places (hindrance.OffGrid place grid) = (place ≡ places.first) × (grid ≡ rules.max_transfer) × (place % grid ≢ 0)
-Hinders rules s o places (hindrance.Worn place) = (place ≡ places.first) × IsTrue (is_back (mark_at o place)) × (restarts_left rules o ≡ 0)
+Hinders rules s o places (hindrance.OffGrid place grid) = IsFalse rules.any_cut × (place ≡ places.first) × (grid ≡ rules.max_transfer) × (place % grid ≢ 0)
+Hinders rules s o places (hindrance.Worn place) =
+    IsFalse rules.any_cut × (place ≡ places.first) × IsTrue (is_back (mark_at o place)) × (restarts_left rules o ≡ 0)
 Hinders rules s o places (hindrance.NotWhole due count) = IsTrue rules.one_piece × (due ≡ length o.marks) × (count ≡ places.count) × (count ≢ due)
 Hinders rules s o places hindrance.Again = IsTrue rules.one_piece × IsTrue (is_started o)
 

@@ -121,9 +121,10 @@ may_start s o =
 abbrev pub is_whole : Rules → OpenRequest → Extent → Bool
 is_whole rules o places = not rules.one_piece || ((places.count == length o.marks) && not (is_started o))
 
--- a piece begins at the place, and if it came back a restart is left
+-- a piece begins at the place, and if it came back a restart is left; or any cut will do
 abbrev pub begins_piece : Rules → OpenRequest → ℕ → Bool
-begins_piece rules o place = (place % rules.max_transfer == 0) && (not (is_back (mark_at o place)) || nat_lt 0 (restarts_left rules o))
+begins_piece rules o place =
+    rules.any_cut || ((place % rules.max_transfer == 0) && (not (is_back (mark_at o place)) || nat_lt 0 (restarts_left rules o)))
 
 abbrev pub is_sendable : Rules → OpenRequest → Extent → Bool
 is_sendable rules o places =

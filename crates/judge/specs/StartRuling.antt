@@ -83,12 +83,21 @@ abbrev pub sent_hindrance : OpenRequest → ℕ → Option ℕ → Option Hindra
 sent_hindrance o first None = None
 sent_hindrance o first (Some place) = Some (sent_as (first + place) (mark_at o (first + place)))
 
+-- of where a piece begins, and of restarts, unless any cut will do
+abbrev pub grid_hindrance : Rules → OpenRequest → ℕ → Option Hindrance
+grid_hindrance rules o place =
+    if rules.any_cut then None
+    else (if not (place % rules.max_transfer == 0) then Some (hindrance.OffGrid place rules.max_transfer)
+    else (if is_back (mark_at o place) && not (nat_lt 0 (restarts_left rules o)) then Some (hindrance.Worn place) else None))
+
+-- of a request that goes as one piece
+abbrev pub whole_hindrance : Rules → OpenRequest → ℕ → Option Hindrance
+whole_hindrance rules o count =
+    if rules.one_piece && not (count == length o.marks) then Some (hindrance.NotWhole (length o.marks) count)
+    else (if rules.one_piece && is_started o then Some hindrance.Again else None)
+
 abbrev pub cut_hindrance : Rules → OpenRequest → Extent → Option Hindrance
-cut_hindrance rules o places =
-    if not (places.first % rules.max_transfer == 0) then Some (hindrance.OffGrid places.first rules.max_transfer)
-    else (if is_back (mark_at o places.first) && not (nat_lt 0 (restarts_left rules o)) then Some (hindrance.Worn places.first)
-    else (if rules.one_piece && not (places.count == length o.marks) then Some (hindrance.NotWhole (length o.marks) places.count)
-    else (if rules.one_piece && is_started o then Some hindrance.Again else None)))
+cut_hindrance rules o places = option_or (grid_hindrance rules o places.first) (whole_hindrance rules o places.count)
 
 abbrev pub places_hindrance : Rules → OpenRequest → Extent → Option Hindrance
 places_hindrance rules o places =

@@ -27,6 +27,7 @@ rules_of r = record {
   window = r.window;
   one_piece = r.one_piece;
   busy_limit = r.busy_limit;
+  any_cut = r.any_cut;
   faithful = r.faithful;
 }
 

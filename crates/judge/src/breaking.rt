@@ -18,14 +18,14 @@ pub fn breaking_refutes()
     ensures { BreakingRefutes }
 {}
 
-/// What a block is read as.
+/// Returns what a block is read as.
 fn read_as(block: &CommandBlock) -> Result<Cdb, CdbFault>
     ensures { IsReadAs block.now result }
 {
     decode(block.as_slice())
 }
 
-/// What the block of a start is read as.
+/// Returns what the block of a start is read as.
 pub(crate) fn read_of(label: &Label) -> Result<Cdb, CdbFault>
     ensures { IsReadOf label.now result }
 {
@@ -36,7 +36,7 @@ pub(crate) fn read_of(label: &Label) -> Result<Cdb, CdbFault>
 }
 
 impl Machine {
-    /// What is wrong with a label of the adapter, where the block of a start was read so.
+    /// Returns what is wrong with a label of the adapter, where the block of a start was read so.
     fn broken_device(
         &self,
         rules: &MachineRules,
@@ -61,7 +61,7 @@ impl Machine {
         }
     }
 
-    /// What is wrong with a label where no answer is owed.
+    /// Returns what is wrong with a label where no answer is owed.
     fn broken_free(
         &self,
         rules: &MachineRules,
@@ -96,7 +96,7 @@ impl Machine {
         }
     }
 
-    /// What is wrong with a label, where the block of a start was read so.
+    /// Returns what is wrong with a label, where the block of a start was read so.
     pub(crate) fn broken_by(
         &self,
         rules: &MachineRules,

@@ -105,7 +105,7 @@ fn first_undone(marks: &[Place]) -> Option<usize>
     marks.iter().position(|place| !place.is_done())
 }
 
-/// What is wrong with the number of bytes that an answer tells.
+/// Returns what is wrong with the number of bytes that an answer tells.
 fn broken_information(q: &ClientRequest, status: NtStatus, information: u64) -> Option<AnswerRule>
     ensures { result ≡ information_rule q.now status information }
 {
@@ -120,7 +120,7 @@ fn broken_information(q: &ClientRequest, status: NtStatus, information: u64) -> 
     }
 }
 
-/// What is wrong with the bytes that an answer hands back.
+/// Returns what is wrong with the bytes that an answer hands back.
 fn broken_bytes(entry: &Open, bytes: &[u8]) -> Option<AnswerRule>
     ensures { result ≡ bytes_rule entry.now bytes.now }
 {
@@ -131,7 +131,7 @@ fn broken_bytes(entry: &Open, bytes: &[u8]) -> Option<AnswerRule>
     Some(AnswerRule::Bytes(found?))
 }
 
-/// What is wrong with the first place that has not ended, if there is one.
+/// Returns what is wrong with the first place that has not ended, if there is one.
 fn broken_place(entry: &Open, first: Option<usize>) -> Option<AnswerRule>
     ensures { result ≡ unended_rule entry.now first }
 {
@@ -165,7 +165,7 @@ impl Machine {
         }
     }
 
-    /// What is wrong with a status, by the first place that isn't done.
+    /// Returns what is wrong with a status, by the first place that isn't done.
     fn broken_status(
         &self,
         rules: &MachineRules,
@@ -207,7 +207,7 @@ impl Machine {
         entry.is_cancelled() || self.removing
     }
 
-    /// What is wrong with the answer of an open request.
+    /// Returns what is wrong with the answer of an open request.
     fn broken_ending(
         &self,
         rules: &MachineRules,
@@ -226,7 +226,7 @@ impl Machine {
         unended.or(wrong.or(informed.or(broken_bytes(entry, bytes))))
     }
 
-    /// What is wrong with an answer.
+    /// Returns what is wrong with an answer.
     pub(crate) fn broken_answer(
         &self,
         rules: &MachineRules,

@@ -17,7 +17,7 @@ use machine::{ClientRequest, Label};
 use ntstatus::NtStatus;
 
 impl Debt {
-    /// What is wrong with an answer, where this one is owed.
+    /// Returns what is wrong with an answer, where this one is owed.
     fn broken_by(
         self,
         number: u64,
@@ -55,7 +55,7 @@ impl Debt {
         }
     }
 
-    /// What is wrong with a label, where this answer is owed.
+    /// Returns what is wrong with a label, where this answer is owed.
     pub(crate) fn broken(self, label: &Label) -> Option<OwedRule>
         ensures { result ≡ owing_rule (owed_of self) label.now }
     {
@@ -74,7 +74,7 @@ impl Debt {
     }
 }
 
-/// What is wrong with the bytes that a call brings, which is refused so, or isn't.
+/// Returns what is wrong with the bytes that a call brings, which is refused so, or isn't.
 fn broken_bytes(q: &ClientRequest, refused: Option<NtStatus>) -> Option<CallRule>
     ensures { result ≡ carried_rule q.now refused }
 {
@@ -98,7 +98,7 @@ fn broken_bytes(q: &ClientRequest, refused: Option<NtStatus>) -> Option<CallRule
     }
 }
 
-/// What is wrong with the cancel of the open request of a number, if there is one.
+/// Returns what is wrong with the cancel of the open request of a number, if there is one.
 fn broken_cancel_of(number: u64, entry: Option<&Open>) -> Option<CancelRule>
     ensures { result ≡ cancelling_rule_of number (option_copied entry.entry) }
 {
@@ -120,7 +120,7 @@ impl Machine {
         self.requests.iter().find(|entry| entry.has_number(number))
     }
 
-    /// What is wrong with a call.
+    /// Returns what is wrong with a call.
     pub(crate) fn broken_call(
         &self,
         rules: &MachineRules,
@@ -136,14 +136,14 @@ impl Machine {
         broken_bytes(q, self.refusal(rules, q))
     }
 
-    /// What is wrong with a cancel.
+    /// Returns what is wrong with a cancel.
     pub(crate) fn broken_cancel(&self, number: u64) -> Option<CancelRule>
         ensures { result ≡ cancelling_rule self.now number }
     {
         broken_cancel_of(number, self.open(number))
     }
 
-    /// What is wrong with a pause.
+    /// Returns what is wrong with a pause.
     pub(crate) fn broken_pause(&self) -> Option<RemovalRule>
         ensures { result ≡ pausing_rule self.now }
     {
@@ -156,7 +156,7 @@ impl Machine {
         }
     }
 
-    /// What is wrong with the end of a pause, and with a removal.
+    /// Returns what is wrong with the end of a pause, and with a removal.
     pub(crate) fn broken_resume(&self) -> Option<RemovalRule>
         ensures { result ≡ paused_rule self.now }
     {
@@ -167,7 +167,7 @@ impl Machine {
         }
     }
 
-    /// What is wrong with a surprise removal.
+    /// Returns what is wrong with a surprise removal.
     pub(crate) fn broken_surprise(&self) -> Option<RemovalRule>
         ensures { result ≡ surprising_rule self.now }
     {
@@ -178,7 +178,7 @@ impl Machine {
         }
     }
 
-    /// What is wrong with the end of a removal.
+    /// Returns what is wrong with the end of a removal.
     pub(crate) fn broken_end(&self) -> Option<RemovalRule>
         ensures { result ≡ removed_rule self.now }
     {

@@ -56,7 +56,7 @@ fn are_whole(sectors: &[Bytes], count: u64, size: u32) -> bool
     sectors.len() as u64 == count && have_size(sectors, size)
 }
 
-/// As many bytes move with an act.
+/// Returns how many bytes move with an act.
 fn length_moved(kind: Kind, count: u64, size: u32) -> u128
     ensures { result ≡ length_moved kind count size }
 {
@@ -67,7 +67,7 @@ fn length_moved(kind: Kind, count: u64, size: u32) -> u128
     }
 }
 
-/// What is wrong with the bytes of a read, where these sectors stand on the disk.
+/// Returns what is wrong with the bytes of a read, where these sectors stand on the disk.
 fn broken_read(piece: u128, count: u64, size: u32, there: &[Bytes], bytes: &[u8]) -> Option<ActRule>
     ensures { result ≡ disk_rule piece count size there.now bytes.now }
 {
@@ -77,7 +77,7 @@ fn broken_read(piece: u128, count: u64, size: u32, there: &[Bytes], bytes: &[u8]
     Some(ActRule::Disk(sectors_difference(there, bytes)?))
 }
 
-/// What is wrong with the bytes of a write, where these are sent.
+/// Returns what is wrong with the bytes of a write, where these are sent.
 fn broken_write(sent: &[u8], bytes: &[u8]) -> Option<ActRule>
     ensures { result ≡ sent_rule sent.now bytes.now }
 {
@@ -92,7 +92,7 @@ impl Machine {
         self.pieces.iter().find(|piece| piece.has_number(number))
     }
 
-    /// What is wrong with the bytes of an act on those places of the request.
+    /// Returns what is wrong with the bytes of an act on those places of the request.
     fn broken_move(
         &self,
         rules: &MachineRules,
@@ -124,7 +124,7 @@ impl Machine {
         }
     }
 
-    /// What is wrong with an act of a piece that is fresh.
+    /// Returns what is wrong with an act of a piece that is fresh.
     fn broken_act_of(&self, rules: &MachineRules, piece: &Started, bytes: &[u8]) -> Option<ActRule>
         ensures { result ≡ fresh_rule (rules_of rules.now) self.now piece.now bytes.now }
     {
@@ -137,7 +137,7 @@ impl Machine {
         self.broken_move(rules, piece.number(), q, piece.places(), bytes)
     }
 
-    /// What is wrong with an act.
+    /// Returns what is wrong with an act.
     pub(crate) fn broken_act(
         &self,
         rules: &MachineRules,
@@ -155,7 +155,7 @@ impl Machine {
         self.broken_act_of(rules, piece, bytes)
     }
 
-    /// What is wrong with a fault.
+    /// Returns what is wrong with a fault.
     pub(crate) fn broken_fault(&self, number: u128) -> Option<ActRule>
         ensures { result ≡ faulting_rule self.now number }
     {
@@ -169,7 +169,7 @@ impl Machine {
         }
     }
 
-    /// What is wrong with a return.
+    /// Returns what is wrong with a return.
     pub(crate) fn broken_return(&self, number: u128, class: &Class) -> Option<ReturnRule>
         ensures { result ≡ returning_rule self.now number class.now }
     {
@@ -180,7 +180,7 @@ impl Machine {
     }
 }
 
-/// What is wrong with a completion that is told to be bad.
+/// Returns what is wrong with a completion that is told to be bad.
 fn broken_completion(number: u128, completion: &Completion) -> Option<ReturnRule>
     ensures { result ≡ bad_rule number completion.now }
 {
@@ -193,7 +193,7 @@ fn broken_completion(number: u128, completion: &Completion) -> Option<ReturnRule
     }
 }
 
-/// What is wrong with the return of this piece.
+/// Returns what is wrong with the return of this piece.
 fn broken_return_of(number: u128, piece: &Started, class: &Class) -> Option<ReturnRule>
     ensures { result ≡ returning_rule_of number class.now piece.now.fate }
 {

@@ -39,7 +39,7 @@ fn on_tag(pieces: &[Started], tag: u8) -> Option<&Started>
     pieces.iter().find(|piece| piece.has_tag(tag))
 }
 
-/// What is wrong with a tag on which this piece is, if one is.
+/// Returns what is wrong with a tag on which this piece is, if one is.
 fn broken_use(tag: u8, piece: Option<&Started>) -> Option<StartRule>
     ensures { result ≡ used_rule tag (option_copied piece.entry) }
 {
@@ -49,7 +49,7 @@ fn broken_use(tag: u8, piece: Option<&Started>) -> Option<StartRule>
     })
 }
 
-/// What is wrong with a tag, where this one is free and lower.
+/// Returns what is wrong with a tag, where this one is free and lower.
 fn broken_order(told: u8, lower: Option<u8>) -> Option<StartRule>
     ensures { result ≡ lower_rule told lower }
 {
@@ -59,7 +59,7 @@ fn broken_order(told: u8, lower: Option<u8>) -> Option<StartRule>
     })
 }
 
-/// What is wrong with a tag.
+/// Returns what is wrong with a tag.
 fn broken_tag(depth: u32, pieces: &[Started], tag: u8) -> Option<StartRule>
     ensures { result ≡ tag_rule depth pieces.now tag }
 {
@@ -225,7 +225,7 @@ fn first_before(requests: &[Open], number: u64) -> Option<&Open>
 }
 
 impl Machine {
-    /// What the flags of the request and of the machine hold back.
+    /// Returns what the flags of the request and of the machine hold back.
     fn flag_hindrance(&self, entry: &Open) -> Option<Hindrance>
         ensures { result ≡ flag_hindrance self.now entry.now }
     {
@@ -240,7 +240,7 @@ impl Machine {
         }
     }
 
-    /// What holds those places of the request back.
+    /// Returns what holds those places of the request back.
     fn hindrance_of(&self, rules: &MachineRules, entry: &Open, places: Extent) -> Option<Hindrance>
         requires { IsTrue (is_inside entry.now places) }
         ensures { result ≡ hindrance_of (rules_of rules.now) self.now entry.now places }
@@ -257,7 +257,7 @@ impl Machine {
         entry.places_hindrance(rules, places)
     }
 
-    /// What holds a request back that asks for those places, if it does.
+    /// Returns what holds a request back that asks for those places, if it does.
     fn held(&self, rules: &MachineRules, entry: &Open, places: Option<Extent>) -> Option<StartRule>
         requires { IfSome places (λ inside. IsTrue (is_inside entry.now inside)) }
         ensures { result ≡ held_rule (rules_of rules.now) self.now entry.now places }
@@ -276,7 +276,7 @@ impl Machine {
         self.requests.iter().any(|entry| self.startable(rules, Some(command), entry).is_some())
     }
 
-    /// What is wrong with a start with this command.
+    /// Returns what is wrong with a start with this command.
     fn broken_command(&self, rules: &MachineRules, command: Cdb) -> Option<StartRule>
         ensures { result ≡ command_rule (rules_of rules.now) self.now command }
     {
@@ -290,7 +290,7 @@ impl Machine {
         }
     }
 
-    /// What is wrong with a start with a block that was read so.
+    /// Returns what is wrong with a start with a block that was read so.
     fn broken_block(&self, rules: &MachineRules, block: Result<Cdb, CdbFault>) -> Option<StartRule>
         ensures { result ≡ block_rule (rules_of rules.now) self.now block }
     {
@@ -300,7 +300,7 @@ impl Machine {
         }
     }
 
-    /// What is wrong with a start, whose block was read so.
+    /// Returns what is wrong with a start, whose block was read so.
     pub(crate) fn broken_start(
         &self,
         rules: &MachineRules,

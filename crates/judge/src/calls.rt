@@ -28,7 +28,7 @@ pub(crate) fn is_full(most: Option<u64>, count: usize) -> bool
     }
 }
 
-/// As many bytes come with a call.
+/// Returns how many bytes come with a call.
 pub(crate) fn bytes_carried(kind: Kind, length: u64) -> u64
     ensures { result ≡ bytes_carried kind length }
 {
@@ -49,7 +49,7 @@ pub(crate) fn information_of(q: &ClientRequest, status: NtStatus) -> u64
 }
 
 impl Machine {
-    /// What a call is answered at once, if anything.
+    /// Returns what a call is answered at once, if anything.
     pub(crate) fn refusal(&self, rules: &MachineRules, q: &ClientRequest) -> Option<NtStatus>
         ensures { result ≡ refusal (rules_of rules.now) self.now q.now }
     {

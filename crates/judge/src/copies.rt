@@ -6,9 +6,9 @@ use machine::ClientRequest;
 use sector::Bytes;
 use std::alloc::{AllocError, Global};
 
-/// What can be copied, where memory allows.
+/// A value that can be copied, where memory allows.
 pub(crate) trait Copied: Sized {
-    /// The same once more.
+    /// Makes a copy.
     fn copied(&self, alloc: Global) -> Result<Self, AllocError>
         ensures { IfOk result (λ copy. copy ≡ self.now) };
 }
@@ -19,7 +19,7 @@ impl Copied for Bytes {
     }
 }
 
-/// All items of a list once more.
+/// Copies all items of a list.
 pub(crate) fn all_copied<T: Copied + Drop>(alloc: Global, items: &[T]) -> Result<Vec<T>, AllocError>
     ensures { IfOk result (λ copy. copy.items ≡ items.now) }
 {
@@ -30,7 +30,7 @@ pub(crate) fn all_copied<T: Copied + Drop>(alloc: Global, items: &[T]) -> Result
     Ok(copy)
 }
 
-/// A request of a client once more.
+/// Copies a client's request.
 pub(crate) fn request_copied(
     alloc: Global,
     request: &ClientRequest,

@@ -1,10 +1,10 @@
 //! What holds places of a request back.
 
-ghost use Rattle.std.specs.Prelude.{◌≡◌, ◌<◌, ◌+◌, List, IfSome, IsTrue, slice_range};
+ghost use Rattle.std.specs.Prelude.{◌≡◌, ◌<◌, ◌+◌, List, length, IfSome, IsTrue, slice_range};
 ghost use Rattle.std.specs.List.{position};
 ghost use Rattle.machine.specs.State.{Mark};
 ghost use Rattle.machine.specs.Cutting.{mark_at};
-ghost use Rattle.judge.specs.StartRuling.{is_inside, asked_inside, asked, is_sent, sent_as, sent_hindrance, cut_hindrance, places_hindrance};
+ghost use Rattle.judge.specs.StartRuling.{is_inside, asked_inside, asked, is_sent, sent_as, sent_hindrance, grid_hindrance, whole_hindrance, cut_hindrance, places_hindrance};
 ghost use Rattle.judge.specs.Views.{rules_of};
 
 use crate::commands::places_for;
@@ -64,7 +64,7 @@ impl Open {
         Some(self.sent_as(place))
     }
 
-    /// What a place is that doesn't wait to be sent.
+    /// Returns what a place is that doesn't wait to be sent.
     fn sent_as(&self, place: u64) -> Hindrance
         ensures { result ≡ sent_as place (mark_at self.now place) }
     {
@@ -74,24 +74,31 @@ impl Open {
         }
     }
 
-    /// Why the request isn't cut so, if it isn't.
-    fn cut_hindrance(&self, rules: &MachineRules, places: Extent) -> Option<Hindrance>
+    /// Why no piece begins at the place, if none does.
+    fn grid_hindrance(&self, rules: &MachineRules, place: u64) -> Option<Hindrance>
         requires some { 0 < rules.now.max_transfer }
-        requires inside { IsTrue (is_inside self.now places) }
-        ensures { result ≡ cut_hindrance (rules_of rules.now) self.now places }
+        requires there { place < length self.now.marks }
+        ensures { result ≡ grid_hindrance (rules_of rules.now) self.now place }
     {
         let grid = rules.max_transfer;
-        let place = places.first;
-        let due = self.marks().len() as u64;
-        if place % grid != 0 {
+        if rules.any_cut {
+            None
+        } else if place % grid != 0 {
             Some(Hindrance::OffGrid { place, grid })
         } else if self.marks()[place as usize].is_back() && self.restarts_left(rules) == 0 {
             Some(Hindrance::Worn { place })
-        } else if rules.one_piece && places.count != due {
-            Some(Hindrance::NotWhole {
-                due,
-                count: places.count,
-            })
+        } else {
+            None
+        }
+    }
+
+    /// Why a request that goes as one piece doesn't go as one of so many places, if it doesn't.
+    fn whole_hindrance(&self, rules: &MachineRules, count: u64) -> Option<Hindrance>
+        ensures { result ≡ whole_hindrance (rules_of rules.now) self.now count }
+    {
+        let due = self.marks().len() as u64;
+        if rules.one_piece && count != due {
+            Some(Hindrance::NotWhole { due, count })
         } else if rules.one_piece && self.is_started() {
             Some(Hindrance::Again)
         } else {
@@ -99,7 +106,20 @@ impl Open {
         }
     }
 
-    /// What holds those places back, whatever the machine does.
+    /// Why the request isn't cut so, if it isn't.
+    fn cut_hindrance(&self, rules: &MachineRules, places: Extent) -> Option<Hindrance>
+        requires some { 0 < rules.now.max_transfer }
+        requires inside { IsTrue (is_inside self.now places) }
+        ensures { result ≡ cut_hindrance (rules_of rules.now) self.now places }
+    {
+        let off_grid = self.grid_hindrance(rules, places.first);
+        if off_grid.is_some() {
+            return off_grid;
+        }
+        self.whole_hindrance(rules, places.count)
+    }
+
+    /// Returns what holds those places back, whatever the machine does.
     pub(crate) fn places_hindrance(&self, rules: &MachineRules, places: Extent) -> Option<Hindrance>
         requires { IsTrue (is_inside self.now places) }
         ensures { result ≡ places_hindrance (rules_of rules.now) self.now places }

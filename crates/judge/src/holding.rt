@@ -12,7 +12,7 @@ use crate::open::Open;
 use crate::rules::MachineRules;
 use std::alloc::{AllocError, Global};
 
-/// How many of the numbers are below one.
+/// Returns how many of the numbers are below one.
 fn count_below(numbers: &[u64], number: u64) -> u64
     ensures { result ≡ count_by (is_less number) numbers.now }
 {

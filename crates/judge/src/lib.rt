@@ -12,7 +12,8 @@
 //! (`taken`, `refused`). `Machine::undone` names what a state that isn't settled leaves undone (`exact`, `left`).
 //!
 //! Requests are cut as this stack cuts them: pieces begin at multiples of the longest transfer, and what came back busy
-//! restarts as often as the busy limit allows. A stack that cuts elsewhere is refused for it.
+//! restarts as often as the busy limit allows. A stack that cuts elsewhere is refused for it, unless the rules say that any
+//! cut will do (`any_cut`): a piece then begins at any place that waits to be sent, and restarts are not counted.
 //!
 //! It doesn't promise to be fast, and `NoVerdict` meets any contract: tests show verdicts.
 #![tactic(auto)]

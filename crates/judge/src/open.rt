@@ -175,7 +175,7 @@ impl Open {
         self.number == number
     }
 
-    /// What its client asks for.
+    /// Returns what its client asks for.
     pub fn request(&self) -> &ClientRequest
         ensures { result.now ≡ self.now.request }
     {
@@ -196,7 +196,7 @@ impl Open {
         self.late
     }
 
-    /// How often a piece of it came back busy.
+    /// Returns how often a piece of it came back busy.
     pub fn busy_returns(&self) -> u64
         ensures { result ≡ self.now.busy_returns }
     {
@@ -342,17 +342,18 @@ impl Open {
             && self.begins_piece(rules, places.first)
     }
 
-    /// Whether a piece begins at this place, and a restart is left if the place came back.
+    /// Whether a piece begins at this place, and a restart is left if the place came back, or any cut will do.
     fn begins_piece(&self, rules: &MachineRules, place: u64) -> bool
         requires some { 0 < rules.now.max_transfer }
         requires there { place < length self.now.marks }
         ensures { result ≡ begins_piece (rules_of rules.now) self.now place }
     {
-        place % rules.max_transfer == 0
-            && (!self.marks[place as usize].is_back() || self.restarts_left(rules) > 0)
+        rules.any_cut
+            || (place % rules.max_transfer == 0
+                && (!self.marks[place as usize].is_back() || self.restarts_left(rules) > 0))
     }
 
-    /// How many pieces begin with a place that came back.
+    /// Returns how many pieces begin with a place that came back.
     fn pieces_back(&self, rules: &MachineRules) -> u128
         requires some { 0 < rules.now.max_transfer }
         ensures counts { result ≡ pieces_with (rules_of rules.now) is_back self.now }
@@ -371,7 +372,7 @@ impl Open {
         back
     }
 
-    /// How often pieces of it may start again.
+    /// Returns how often pieces of it may start again.
     pub(crate) fn restarts_left(&self, rules: &MachineRules) -> u128
         requires some { 0 < rules.now.max_transfer }
         ensures { result ≡ restarts_left (rules_of rules.now) self.now }

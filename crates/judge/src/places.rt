@@ -190,7 +190,7 @@ impl Place {
         }
     }
 
-    /// What the place of this number is, where it doesn't wait to be sent.
+    /// Returns what the place of this number is, where it doesn't wait to be sent.
     pub(crate) fn sent_as(&self, place: u64) -> Hindrance
         ensures { result ≡ sent_as place self.now }
     {

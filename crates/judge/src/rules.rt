@@ -28,8 +28,11 @@ pub struct MachineRules {
     pub window: Option<u64>,
     /// Whether a request goes as one piece, once.
     pub one_piece: bool,
-    /// As many busy returns end a request.
+    /// Busy returns that end a request.
     pub busy_limit: u64,
+    /// Whether a piece may begin at any place of its request, and start again without end. Else pieces begin at multiples
+    /// of the longest, and restarts are counted.
+    pub any_cut: bool,
     /// Whether acts read and write the arrays; else the sectors stand elsewhere, and the arrays never change.
     pub faithful: bool,
 }
@@ -89,7 +92,7 @@ impl MachineRules {
         quotient(q.offset, self.sector_size as u64)
     }
 
-    /// How many places it has.
+    /// Returns how many places it has.
     pub(crate) fn place_count(&self, q: &ClientRequest) -> u64
         ensures { result ≡ place_count (rules_of self.now) q.now }
     {

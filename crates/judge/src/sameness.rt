@@ -12,7 +12,7 @@ use machine::ClientRequest;
 use sector::Bytes;
 use std::alloc::{AllocError, Global};
 
-/// What can be compared: what is found the same is.
+/// A value that can be compared: what is found the same is the same.
 pub(crate) trait Compared: Sized {
     /// Whether it is the same.
     fn is_same(&self, other: &Self) -> bool

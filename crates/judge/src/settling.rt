@@ -12,7 +12,7 @@ use crate::machine_state::Machine;
 use crate::open::Open;
 use crate::rules::MachineRules;
 
-/// How many of the requests are started.
+/// Returns how many of the requests are started.
 pub(crate) fn count_started(requests: &[Open]) -> usize
     ensures { result ≡ count_by is_started requests.now }
 {

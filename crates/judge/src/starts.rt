@@ -37,7 +37,7 @@ fn let_start(requests: &[Open], number: u64) -> bool
 }
 
 impl Machine {
-    /// How many requests are open.
+    /// Returns how many requests are open.
     fn open_count(&self) -> usize
         ensures { result ≡ length self.now.requests }
     {

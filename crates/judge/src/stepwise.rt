@@ -109,7 +109,7 @@ fn any_settled(rules: &MachineRules, machines: &[Machine]) -> bool
     machines.iter().any(|machine| machine.settled(rules))
 }
 
-/// What the first of the machines leaves undone, if none is settled.
+/// Returns what the first of the machines leaves undone, if none is settled.
 fn undone_at_all(rules: &MachineRules, machines: &[Machine]) -> Option<Undone>
     ensures { result ≡ undone_at_all (rules_of rules.now) machines.now }
 {
@@ -152,8 +152,8 @@ impl Judge {
         self.machines.as_slice()
     }
 
-    /// What is left undone by the labels that were taken, which are to be all of an event: nothing where some machine that they
-    /// lead to is settled.
+    /// Returns what is left undone by the labels that were taken, which are to be all of an event: nothing where some
+    /// machine that they lead to is settled.
     pub fn undone(&self) -> Option<Undone>
         ensures exact { 0 < length self.now.states → (result ≡ None) ↔ Any (IsSettled self.now.rules) self.now.states }
         ensures left { IfSome result (λ what. Any (Leaves self.now.rules what) self.now.states) }
@@ -162,7 +162,7 @@ impl Judge {
         left
     }
 
-    /// What the first of the machines leaves undone, if none is settled.
+    /// Returns what the first of the machines leaves undone, if none is settled.
     fn left(&self) -> Option<Undone>
         ensures { result ≡ undone_at_all self.now.rules self.now.states }
     {

@@ -233,7 +233,7 @@ impl Machine {
         told.or(self.waiting_undone().or(kept))
     }
 
-    /// What is left undone here; nothing exactly where the machine is settled.
+    /// Returns what is left undone here; nothing exactly where the machine is settled.
     pub fn undone(&self, rules: &MachineRules) -> Option<Undone>
         ensures exact { (result ≡ None) ↔ Settled (rules_of rules.now) self.now }
         ensures left { IfSome result (λ what. IsUndone (rules_of rules.now) self.now what) }

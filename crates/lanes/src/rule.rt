@@ -10,7 +10,7 @@ use std::collections::LinkedList;
 #[derive(Clone, Copy)]
 pub struct Item {
     pub tag: u8,
-    /// How many items its lane had put before it.
+    /// The items that its lane had put before it.
     pub count: u64,
 }
 
@@ -18,9 +18,9 @@ pub struct Item {
 pub struct View {
     /// Whether it is the worker's, the one pass that takes.
     pub takes: bool,
-    /// Of a lane, its tag.
+    /// The tag of a lane.
     pub tag: u64,
-    /// Of the worker, how many lanes there are.
+    /// The number of lanes, for the worker.
     pub lanes: u64,
     /// What it put, the oldest first.
     pub put: LinkedList<Item>,

@@ -28,6 +28,8 @@ pub record Rules : Type 0 where
   pub one_piece : Bool
   -- as many busy returns end a request
   pub busy_limit : ℕ
+  -- a piece begins at any place of its request, and starts again without end
+  pub any_cut : Bool
   -- acts read and write the arrays; else the sectors stand elsewhere, and the arrays never change
   pub faithful : Bool
 

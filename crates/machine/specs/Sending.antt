@@ -73,15 +73,15 @@ pub record IsWholeRequest (o : OpenRequest) (places : Extent) : Type 0 where
   pub all_places : places.count ≡ length o.marks
   pub not_before : IsFalse (is_started o)
 
--- places of a request, next to each other, which all wait to be sent: a piece begins with them, and has no more. What came back is sent
--- again while a restart is left
+-- places of a request, next to each other, which all wait to be sent: a piece begins with them, and has no more. Unless any cut will do,
+-- pieces begin at multiples of the longest, and what came back is sent again while a restart is left
 pub record IsSendable (rules : Rules) (o : OpenRequest) (places : Extent) : Type 0 where
   pub some : 0 < places.count
   pub short : places.count ≤ rules.max_transfer
   pub inside : places.first + places.count ≤ length o.marks
   pub unsent : All IsUnsent (slice_range o.marks places.first (places.first + places.count))
-  pub begins : places.first % rules.max_transfer ≡ 0
-  pub spare : IsTrue (is_back (mark_at o places.first)) → 0 < restarts_left rules o
+  pub begins : IsFalse rules.any_cut → places.first % rules.max_transfer ≡ 0
+  pub spare : IsFalse rules.any_cut → IsTrue (is_back (mark_at o places.first)) → 0 < restarts_left rules o
   pub whole : IsTrue rules.one_piece → IsWholeRequest o places
 
 -- an address and a number of blocks that a block of ten bytes has room for

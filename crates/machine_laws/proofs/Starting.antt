@@ -1,6 +1,6 @@
 -- How a start and a return change what may still start of a request.
 use Rattle.std.proofs.Common.{◌≡◌, ◌≢◌, ◌<◌, ◌≤◌, inl, inr, ℕ, zero, suc, ◌+◌, ◌-◌, ◌*◌, ◌/◌, ◌%◌, ◌==◌, Bool, true, false, List, refl, sym, ◌∙◌, ap, subst, arith, length, get_or, replicate, min}
-use Rattle.std.specs.Prelude.{All, IsTrue, slice_range, if◌then◌else◌}
+use Rattle.std.specs.Prelude.{All, IsTrue, IsFalse, slice_range, if◌then◌else◌}
 use Rattle.std.proofs.lemmas.Bool.{cases_lt}
 use Rattle.std.proofs.lemmas.Bool.Decides.{nat_tests}
 use Rattle.std.proofs.lemmas.List.{length-replicate, get_or-replicate}
@@ -226,15 +226,15 @@ unsent_first o places some inside unsent =
     get_or-between o.marks places.first (places.first + places.count) 0 Untouched (omega arith) ∙ ap (λ i. mark_at o i) none in
     subst IsUnsent same (unsent 0 Untouched (omega arith))
 
--- a start takes three labels
-pub start_taken : (rules : Rules) (o : OpenRequest) (places : Extent) → IsSendable rules o places
+-- a start takes three labels, where pieces begin at multiples of the longest
+pub start_taken : (rules : Rules) (o : OpenRequest) (places : Extent) → IsFalse rules.any_cut → IsSendable rules o places
     → labels_of_starts rules (sent places o) + 3 ≤ labels_of_starts rules o
-start_taken rules o places sendable =
+start_taken rules o places on_grid sendable =
     let n : length outs ≡ places.count = length-replicate places.count Out in
     let some : 0 < places.count = sendable.some in
     let short : places.count ≤ rules.max_transfer = sendable.short in
     let inside : places.first + places.count ≤ length o.marks = sendable.inside in
-    let begins' : places.first % rules.max_transfer ≡ 0 = sendable.begins in
+    let begins' : places.first % rules.max_transfer ≡ 0 = sendable.begins on_grid in
     let is : places.first ≡ places.first / rules.max_transfer * rules.max_transfer = omega arith in
     let out : get_or outs 0 Untouched ≡ Out = get_or-replicate places.count 0 Out Untouched some in
     let untouched : pieces_with rules is_untouched (sent places o) + one_if (is_untouched (mark_at o places.first))
@@ -245,7 +245,7 @@ start_taken rules o places sendable =
     pieces_fall rules o places.first outs (omega arith) (omega arith) (omega arith) is_back (places.first / rules.max_transfer) is
     (omega arith) (ap is_back out) in
     by_mark (mark_at o places.first) _ _ _ _ o.busy_returns (restarts rules) untouched back
-    (unsent_first o places some inside sendable.unsent) sendable.spare
+    (unsent_first o places some inside sendable.unsent) (sendable.spare on_grid)
   where
     outs : List Mark
     outs = replicate places.count Out

@@ -110,7 +110,7 @@ met ps piece others fate one p fresh =
 
 -- EACH LABEL
 
-module _ (rules : Rules) where
+module _ (rules : Rules) (on_grid : IsFalse rules.any_cut) where
   abbrev of_one : Bool → OpenRequest → ℕ
   of_one removing o = labels_of_request rules removing o
 
@@ -159,7 +159,7 @@ module _ (rules : Rules) where
       → labels_left rules s' + 1 ≤ labels_left rules s
   DeviceStep-uses s (Start number tag block) s' k h =
       let starts : labels_of_starts rules (sent h.places h.owner) + 3 ≤ labels_of_starts rules h.owner =
-      start_taken rules h.owner h.places h.sendable in
+      start_taken rules h.owner h.places on_grid h.sendable in
       let mine : of_one s.removing (sent h.places h.owner) + 3 ≤ of_one s.removing h.owner =
       start_lowers h.owner.cancelled s.removing _ _ h.may_start.not_cancelled h.may_start.not_removing starts in
       let all : of_requests s.removing (sent h.places h.owner ∷ h.others) + 3 ≤ of_requests s.removing s.requests + 0 =
@@ -291,14 +291,14 @@ module _ (rules : Rules) where
 -- THE LAWS
 
 pub steps_use_up : StepsUseUp
-steps_use_up rules s label s' reached step = Step-uses rules s label s' (IsTidy-reached rules s reached) step
+steps_use_up rules on_grid s label s' reached step = Step-uses rules on_grid s label s' (IsTidy-reached rules s reached) step
 
 pub runs_use_up : RunsUseUp
-runs_use_up rules s labels s' reached run = Run-uses rules s labels s' (IsTidy-reached rules s reached) run
+runs_use_up rules on_grid s labels s' reached run = Run-uses rules on_grid s labels s' (IsTidy-reached rules s reached) run
 
 pub no_more_are_left : NoMoreAreLeft
-no_more_are_left rules s labels s' reached run quiet =
-    let none : brought_along rules s labels s' run ≡ 0 = none_brought rules s labels s' run quiet in
+no_more_are_left rules on_grid s labels s' reached run quiet =
+    let none : brought_along rules s labels s' run ≡ 0 = none_brought rules on_grid s labels s' run quiet in
     let all : labels_left rules s' + length labels ≤ labels_left rules s + brought_along rules s labels s' run =
-    runs_use_up rules s labels s' reached run in
+    runs_use_up rules on_grid s labels s' reached run in
     omega arith

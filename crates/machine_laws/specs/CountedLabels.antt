@@ -22,6 +22,7 @@ small = record {
   window = None;
   one_piece = false;
   busy_limit = 3;
+  any_cut = false;
   faithful = true;
 }
 

@@ -1,5 +1,5 @@
--- How many labels may still come, where no call and no pause does: a trace needs so many places.
-use Rattle.std.specs.Prelude.{◌≤◌, ℕ, ◌+◌, ◌*◌, ◌||◌, Bool, List, [], ◌∷◌, All, length, min, sum_by, is_none, if◌then◌else◌}
+-- The labels that may still come where no call and no pause does: a trace needs as many places.
+use Rattle.std.specs.Prelude.{◌≤◌, ℕ, ◌+◌, ◌*◌, ◌||◌, Bool, List, [], ◌∷◌, All, IsFalse, length, min, sum_by, is_none, if◌then◌else◌}
 use Rattle.srb.specs.Fate.{Fate, Fresh, Acted, Faulted}
 use Rattle.machine.specs.declared.Label.{Label}
 use Rattle.machine.specs.declared.Label.TheVariants.{Call, Pause}
@@ -47,10 +47,11 @@ labels_brought rules s _ = 0
 
 -- THE LAWS
 
--- a label uses up one of those that were left and of those that it brings
+-- a label uses up one of those that were left and of those that it brings. It doesn't where any cut will do: a request then starts again
+-- without end
 abbrev pub StepsUseUp : Type 0
 StepsUseUp =
-    (rules : Rules) (s : State) (label : Label) (s' : State) → IsReached rules s → Step rules s label s'
+    (rules : Rules) → IsFalse rules.any_cut → (s : State) (label : Label) (s' : State) → IsReached rules s → Step rules s label s'
     → labels_left rules s' + 1 ≤ labels_left rules s + labels_brought rules s label
 
 -- what the labels of a run bring, together
@@ -59,7 +60,7 @@ brought_along rules s [] s' run = 0
 brought_along rules s (label ∷ labels) s' run = labels_brought rules s label + brought_along rules run.0 labels s' run.2
 
 abbrev pub RunsUseUp : Type 0
-RunsUseUp = (rules : Rules) (s : State) (labels : List Label) (s' : State) → IsReached rules s → (run : Run rules s labels s')
+RunsUseUp = (rules : Rules) → IsFalse rules.any_cut → (s : State) (labels : List Label) (s' : State) → IsReached rules s → (run : Run rules s labels s')
     → labels_left rules s' + length labels ≤ labels_left rules s + brought_along rules s labels s' run
 
 -- neither a call nor a pause
@@ -71,5 +72,6 @@ BringsNone _ = Unit {0}
 -- so with no call and no pause no more labels come than were left
 abbrev pub NoMoreAreLeft : Type 0
 NoMoreAreLeft =
-    (rules : Rules) (s : State) (labels : List Label) (s' : State) → IsReached rules s → Run rules s labels s' → All BringsNone labels
+    (rules : Rules) → IsFalse rules.any_cut → (s : State) (labels : List Label) (s' : State) → IsReached rules s → Run rules s labels s'
+    → All BringsNone labels
     → labels_left rules s' + length labels ≤ labels_left rules s

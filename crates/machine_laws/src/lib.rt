@@ -1,5 +1,5 @@
-//! The laws of the sector machine over whole runs, each the contract of a function with an empty body: who calls it
-//! has the law.
+//! The laws of the sector machine over whole runs. Each is the contract of a function with an empty body, and a call of
+//! it gives the law to the caller.
 //!
 //! They hold at each state that a run reaches from an opening state whose arrays have the sectors of their
 //! partitions (`goes_on`), whoever made the run: the whole stack or one layer of it. `removed_is_last` holds whatever
@@ -123,14 +123,15 @@ pub fn calls_await_answers()
 {}
 
 /// Each label uses up one of those that are left and of those that it brings. Only a call and a pause bring any: a call
-/// the labels of its pieces and restarts, and a pause its end. So with neither no more labels come than were left.
+/// the labels of its pieces and restarts, and a pause its end. So with neither no more labels come than were left. That is
+/// so where pieces begin at multiples of the longest and restarts are counted: not where any cut will do.
 pub fn labels_run_out()
     ensures step { StepsUseUp }
     ensures run { RunsUseUp }
     ensures none_brought { NoMoreAreLeft }
 {}
 
-/// How many labels are left of small states, by hand: of a read of two pieces from its call on, returned and busy.
+/// The labels left of small states, counted by hand: of a read of two pieces from its call on, returned and busy.
 pub fn counts_labels_left()
     ensures { AreCountedByHand }
 {}

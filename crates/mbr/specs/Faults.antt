@@ -1,5 +1,6 @@
 -- What is wrong with a partition table, and what one without a fault says.
-use Rattle.std.specs.Prelude.{ℕ, ◌+◌, ◌==◌, ◌||◌, Bool, false, not, nat_lt, min, max, List, [], ◌∷◌, length, map, Option, Some, None, Result, Ok, Err}
+use Rattle.std.specs.Prelude.{ℕ, ◌+◌, ◌==◌, ◌||◌, Bool, false, not, nat_lt, min, max, List, [], ◌∷◌, length, map}
+use Rattle.std.specs.Prelude.{Option, Some, None, Result, Ok, Err}
 use Rattle.std.specs.List.{list_any}
 use Rattle.ntstatus.specs.First.{when, first_some}
 use Rattle.sector.specs.declared.Extent.{Extent}
@@ -24,7 +25,8 @@ abbrev pub any_share : List Extent → Bool
 any_share [] = false
 any_share (extent ∷ extents) = list_any (share extent) extents || any_share extents
 
--- what is wrong with partitions on a disk of so many sectors: the first with a fault by itself, then two that share a sector
+-- what is wrong with partitions on a disk of so many sectors: the first with a fault by itself, then two that share a
+-- sector
 abbrev pub partitions_fault : ℕ → List Extent → Option MbrFault
 partitions_fault sectors partitions = first_some (
     first_some (map (extent_fault sectors) partitions)

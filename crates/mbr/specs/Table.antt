@@ -1,5 +1,6 @@
 -- The partition table in the first 512 bytes of sector 0, and the bytes that give it.
-use Rattle.std.specs.Prelude.{ℕ, ◌+◌, ◌-◌, ◌*◌, ◌^◌, ◌<◌, ◌==◌, ◌&&◌, Bool, not, List, [], ◌∷◌, ◌++◌, length, map, drop, replicate, slice_index}
+use Rattle.std.specs.Prelude.{ℕ, ◌+◌, ◌-◌, ◌*◌, ◌^◌, ◌<◌, ◌==◌, ◌&&◌, Bool, not, List, [], ◌∷◌, ◌++◌, length, map, drop}
+use Rattle.std.specs.Prelude.{replicate, slice_index}
 use Rattle.std.specs.List.{filter, flat_map}
 use Rattle.byteorder.specs.Endian.{little_from, little_bytes}
 use Rattle.sector.specs.declared.Extent.{Extent}
@@ -8,7 +9,8 @@ use Rattle.sector.specs.declared.Extent.{Extent}
 abbrev pub Entry : Type 0
 Entry = ℕ × Extent
 
--- what an entry's bytes say: the type in byte 4, the first sector in bytes 8 to 11, the number of sectors in 12 to 15, lowest byte first
+-- what an entry's bytes say: the type in byte 4, the first sector in bytes 8 to 11, the number of sectors in 12 to 15,
+-- lowest byte first
 abbrev pub entry_of : List ℕ → Entry
 entry_of bytes = (slice_index bytes 4, record { first = little_from 8 4 bytes; count = little_from 12 4 bytes })
 
@@ -37,7 +39,8 @@ pub record FitsEntry (entry : Entry) : Type 0 where
 abbrev pub entry_bytes : Entry → List ℕ
 entry_bytes entry = 0 ∷ 0 ∷ 0 ∷ 0 ∷ entry.0 ∷ 0 ∷ 0 ∷ 0 ∷ (little_bytes 4 entry.1.first ++ little_bytes 4 entry.1.count)
 
--- the 512 bytes of a table of at most four entries: they stand from the first place on, then comes the signature, and 0 is elsewhere
+-- the 512 bytes of a table of at most four entries: they stand from the first place on, then comes the signature, and 0
+-- is elsewhere
 abbrev pub table_bytes : List Entry → List ℕ
 table_bytes entries =
     replicate 446 0 ++ (flat_map entry_bytes entries ++ (replicate (64 - 16 * length entries) 0 ++ 0x55 ∷ 0xAA ∷ []))

@@ -18,7 +18,8 @@ pub fn render(entries: &[(u8, Extent)]) -> ArrayVec<u8, 512>
     ensures bytes { result.items ≡ table_bytes entries.now }
     ensures whole { array_vec_len result ≡ 512 }
     ensures read_back { (sectors : ℕ) → told_by sectors result.items ≡ said_of sectors entries.now }
-    ensures followed { (sectors : ℕ) (more : List ℕ) → told_by sectors (result.items ++ more) ≡ said_of sectors entries.now }
+    ensures followed { (sectors : ℕ) (more : List ℕ)
+        → told_by sectors (result.items ++ more) ≡ said_of sectors entries.now }
 {
     let mut sector = ArrayVec::from([0; 512]);
     sector.truncate(ENTRIES);

@@ -191,10 +191,12 @@ faults_apart old new tag piece h = record {
   others = h.others;
   tags = h.tags;
   failures = h.failures;
+  left = h.left;
   is_on = record { in_use = h.is_on.in_use; has_tag = h.is_on.has_tag };
   is_piece = h.is_piece;
   is_fresh = h.is_fresh;
   counted = h.counted;
+  spoiled = h.spoiled;
   in_use = h.in_use;
   after = ap apart h.after;
 }

@@ -18,6 +18,7 @@ disk_of size sectors first failures = record {
   sectors = sectors_from size sectors first;
   bad = range_with_len 1 (sectors - 1);
   reserved = (record { first = 0; count = sectors }) ∷ [];
+  run = 1;
   failures = failures;
 }
 

@@ -4,9 +4,9 @@ use Rattle.std.specs.Prelude.{Any}
 use Rattle.srb.specs.declared.Srb.{Srb}
 use Rattle.srb.specs.declared.Completion.{Completion}
 use Rattle.srb.specs.declared.DeviceLabel.{DeviceLabel}
-use Rattle.adapter.specs.View.{AdapterView, IsInOrder, IsFree, HasTag, HasNotTag, IsWritable, ReservesMore, Accepts}
+use Rattle.adapter.specs.View.{AdapterView, IsInOrder, IsFree, HasTag, HasNotTag, IsReserved, IsWritable, ReservesMore, ReservesNear, Accepts}
 use Rattle.sector.specs.declared.Extent.{Extent}
-use Rattle.disk.specs.Medium.{MediumView, HasWholeSectors, Reserves as MediumReserves, IsReserved as MediumReserved}
+use Rattle.disk.specs.Medium.{MediumView, HasWholeSectors, Reserves as MediumReserves, IsReserved as MediumReserved, ReservesNear as MediumReservesNear}
 use Rattle.miniport.specs.declared.on_tag.OnTag.{OnTag}
 use Rattle.adapter.specs.Calls.{ActsOrFaults, ActsNot, Finishes, FinishesNot, Resets}
 use Rattle.miniport.specs.Faults.{busy}
@@ -230,6 +230,15 @@ after_reserve m m' longest p t v e reserves whole kept =
     subst (λ (u : MemView). After m' longest p t (ReservesMore u.shown) (SameDues u)) e
     (subst (λ (n : MediumView). After n longest p t (ReservesMore (shown_of m longest t)) (SameDues (view_of m longest p t))) (sym reserves.after)
     (reserved_along m longest p t m'.reserved lasts whole kept))
+
+-- what is reserved more is near the extent, as in the medium
+pub near_seen : (m m' : MediumView) (longest : ℕ) (p : Bool) (t : Table) (v : MemView) (extent : Extent) → view_of m longest p t ≡ v → MediumReservesNear m extent m'
+    → ReservesNear v.shown extent (shown_of m' longest t)
+near_seen m m' longest p t v extent e near = subst (λ (u : MemView). ReservesNear u.shown extent (shown_of m' longest t)) e near
+
+-- and what is reserved is so in the medium
+pub reserved_below : (m : MediumView) (longest : ℕ) (p : Bool) (t : Table) (v : MemView) (extent : Extent) → view_of m longest p t ≡ v → IsReserved v.shown extent → MediumReserved m extent
+reserved_below m longest p t v extent e reserved = subst (λ (u : MemView). IsReserved u.shown extent) (sym e) reserved
 
 -- TAKE A LABEL
 

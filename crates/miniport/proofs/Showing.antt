@@ -12,6 +12,7 @@ use Rattle.srb.specs.declared.Class.TheVariants.{Bad}
 use Rattle.srb.specs.Fate.{Fresh, Acted, class_of}
 use Rattle.adapter.specs.Performing.{Performs}
 use Rattle.adapter.specs.View.{TagInUse, AdapterView, IsFree, Accepts, ActsOn, FaultsOn, ReturnsOn, MayReturn, acted}
+use Rattle.adapter.proofs.Joining.{unspoiled}
 use Rattle.disk.specs.Medium.{MediumView}
 use Rattle.miniport.specs.declared.on_tag.OnTag.{OnTag}
 use Rattle.miniport.specs.declared.on_tag.Progress.{Progress}
@@ -116,10 +117,12 @@ faults m longest t tag on completion k below there untouched = record {
   others = tags_of m.sector_size 0 (slice_set t.slots tag None);
   tags = tags_of m.sector_size 0 (slice_set t.slots tag (Some (failed_piece on completion)));
   failures = t.failures + 1;
+  left = on.srb;
   is_on = record { in_use = taken_first m.sector_size t.slots tag on there; has_tag = refl };
   is_piece = refl;
   is_fresh = untouched_is_fresh m.sector_size tag on untouched;
   counted = omega arith;
+  spoiled = unspoiled on.srb;
   in_use = filled m.sector_size t.slots tag (failed_piece on completion) below;
   after = depth_stays (record m { failures = k }) longest (with_failed tag (failed_piece on completion) t) (length t.slots) (length-set t.slots tag (Some (failed_piece on completion)));
 }
@@ -176,14 +179,14 @@ faults_by_table m longest p t tag on completion k decoded right there untouched 
 
 -- FINISH
 
-may_return : (size : ℕ) (m : MediumView) (view : AdapterView) (tag : ℕ) (on : OnTag) (b : Bool) (p : Progress) → IsPieceRight m view.failures on → on.was_reset ≡ b → on.progress ≡ p
-    → MayReturn view (in_use_of size tag on) (class_of (if b then bus_reset else completion_by p))
-may_return size m view tag on true p right e f = ((right.met e).0, refl, λ h. refl)
-may_return size m view tag on false Untouched right e f = (untouched_is_fresh size tag on f, e)
-may_return size m view tag on false Moved right e f = ((moved_by size on.srb.block on.srb.data, ap (λ (q : Progress). fate_of size on.srb q) f), e)
-may_return size m view tag on false (Failed c) right e f =
+may_return : (size : ℕ) (m : MediumView) (failures : ℕ) (tag : ℕ) (on : OnTag) (b : Bool) (p : Progress) → IsPieceRight m failures on → on.was_reset ≡ b → on.progress ≡ p
+    → MayReturn failures (in_use_of size tag on) (class_of (if b then bus_reset else completion_by p))
+may_return size m failures tag on true p right e f = ((right.met e).0, refl, λ h. refl)
+may_return size m failures tag on false Untouched right e f = (untouched_is_fresh size tag on f, e)
+may_return size m failures tag on false Moved right e f = ((moved_by size on.srb.block on.srb.data, ap (λ (q : Progress). fate_of size on.srb q) f), e)
+may_return size m failures tag on false (Failed c) right e f =
     let bad : class_of c ≡ Bad c = (right.failed c f).0 in
-    let known : MayReturn view (in_use_of size tag on) (Bad c) = ((right.failed c f).1, bad, λ h. absurd cc) in
+    let known : MayReturn failures (in_use_of size tag on) (Bad c) = ((right.failed c f).1, bad, λ h. absurd cc) in
     rw bad known
 
 holds_moved : (size : ℕ) (m : MediumView) (f : ℕ) (on : OnTag) (p : Progress) (moved : List (List ℕ)) → m.sector_size ≡ size → IsPieceRight m f on → on.progress ≡ p
@@ -204,8 +207,10 @@ finishes m longest t tag on right there =
       others = tags_of m.sector_size 0 (slice_set t.slots tag None);
       tags = tags_of m.sector_size 0 (slice_set t.slots tag None);
       is_on = record { in_use = taken_first m.sector_size t.slots tag on there; has_tag = refl };
+      failures = t.failures;
       is_piece = refl;
-      may = may_return m.sector_size m (shown_of m longest t) tag on on.was_reset on.progress right refl refl;
+      counted = omega arith;
+      may = may_return m.sector_size m t.failures tag on on.was_reset on.progress right refl refl;
       in_use = IsPermutation-refl _;
       after = depth_stays m longest (with_returned tag on t) (length t.slots) (length-set t.slots tag None);
     } in

@@ -3,11 +3,10 @@ use Rattle.std.proofs.Common.{◌≡◌, ℕ, List, [], ◌∷◌, ◌++◌, map
 use denote.Ref.{Bor}
 use Rattle.srb.specs.declared.Srb.{Srb}
 use Rattle.srb.specs.declared.Class.{Class}
-use Rattle.srb.specs.declared.Class.TheVariants.{Good, Busy, Bad}
 use Rattle.srb.specs.declared.Completion.{Completion}
 use Rattle.srb.specs.declared.DeviceLabel.{DeviceLabel}
 use Rattle.srb.specs.Fate.{class_of}
-use Rattle.adapter.specs.View.{TagInUse, AdapterView, IsInOrder, IsOn, Accepts, ReturnsOn, MayReturn, ReservesMore, NotesReset, MovesByAll}
+use Rattle.adapter.specs.View.{TagInUse, AdapterView, IsInOrder, IsOn, Accepts, ReturnsOn, ReservesMore, NotesReset, MovesByAll}
 use Rattle.adapter.specs.Calls.{HasNoneFresh, Finishes, FinishesNot, Resets, LeavesFirst, HasNoLabel, fault_of}
 use Rattle.adapter.specs.Booking.{IsArmed}
 use Rattle.miniport.specs.Apart.{apart}
@@ -38,19 +37,16 @@ accepts_apart old tag piece srb new h = record { tags = h.tags; is_free = h.is_f
 pub reserves_apart : (old new : AdapterView) → ReservesMore old new → ReservesMore (apart old) (apart new)
 reserves_apart old new h = record { reserved = h.reserved; after = ap apart h.after; lasts = h.lasts }
 
-may_apart : (v : AdapterView) (u : TagInUse) (class : Class) → MayReturn v u class → MayReturn (apart v) u class
-may_apart v u Good h = h
-may_apart v u Busy h = h
-may_apart v u (Bad completion) h = h
-
 abbrev returns_apart : (old : AdapterView) (tag piece : ℕ) (class : Class) (new : AdapterView) → ReturnsOn old tag piece class new → ReturnsOn (apart old) tag piece class (apart new)
 returns_apart old tag piece class new h = record {
   use' = h.use';
   others = h.others;
   tags = h.tags;
+  failures = h.failures;
   is_on = on_apart old tag h.use' h.others h.is_on;
   is_piece = h.is_piece;
-  may = may_apart old h.use' class h.may;
+  counted = h.counted;
+  may = h.may;
   in_use = h.in_use;
   after = ap apart h.after;
 }
@@ -78,8 +74,10 @@ resets_apart old new h = record {
   fresh = h.fresh;
   tags = h.tags;
   failures = h.failures;
+  left = h.left;
   are_fresh = h.are_fresh;
   rising = h.rising;
+  spoiled = h.spoiled;
   in_use = h.in_use;
   after = ap apart h.after;
   all_faulted = apart h.all_faulted;

@@ -19,6 +19,7 @@ shown disk = record {
   sectors = sectors_from disk.sector_size disk.sectors disk.first.items;
   bad = range_with_len 1 (disk.sectors - 1);
   reserved = (record { first = 0; count = disk.sectors }) ∷ [];
+  run = 1;
   failures = disk.failures;
 }
 

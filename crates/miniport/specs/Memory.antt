@@ -51,6 +51,7 @@ shown_of medium max_transfer table = record {
   accepted = table.accepted;
   failures = table.failures;
   reserved = medium.reserved;
+  run = medium.run;
   labels = table.labels;
 }
 
@@ -75,6 +76,7 @@ new_view medium max_transfer depth write_protected = record {
     accepted = 0;
     failures = 0;
     reserved = medium.reserved;
+    run = medium.run;
     labels = [];
   };
   bad = medium.bad;

@@ -122,7 +122,7 @@ fn put_cut(bytes: &mut [u8], told: &[u8])
     bytes[..count].copy_from_slice(&told[..count]);
 }
 
-/// What READ CAPACITY(16) tells first: the number of the last sector, and the bytes of a sector.
+/// Returns what READ CAPACITY(16) tells first: the number of the last sector, and the bytes of a sector.
 pub(crate) fn long_capacity(last: u64, sector_size: u32) -> [u8; 12]
     ensures { result ≡ big_bytes 8 last ++ big_bytes 4 sector_size }
 {

@@ -29,7 +29,7 @@ fn first_sector(command: Cdb) -> u64
     }
 }
 
-/// How many sectors a command names.
+/// Returns how many sectors a command names.
 fn sector_count(command: Cdb) -> u32
     ensures { result ≡ blocks_of command }
 {
@@ -54,7 +54,7 @@ fn direction(command: Cdb) -> SrbFlags
     }
 }
 
-/// How many bytes go with a command.
+/// Returns how many bytes go with a command.
 fn data_length(sector_size: u32, command: Cdb) -> u64
     ensures { result ≡ bytes_of sector_size command }
 {

@@ -131,8 +131,8 @@ impl<M: Medium> MemAdapter<M> {
 }
 
 impl<M: Medium> Adapter for MemAdapter<M> {
-    ghost use Rattle.std.specs.Prelude.{◌+◌, ◌*◌, None, IfSome, get_or, Any, OnOk, MatchOption};
-    ghost use Rattle.adapter.specs.View.{HasTag, IsFree, IsInOrder, IsReserved, IsWritable, ReservesMore, Accepts};
+    ghost use Rattle.std.specs.Prelude.{◌+◌, ◌*◌, None, IfSome, get_or, Any, IsOk, OnOk, MatchOption};
+    ghost use Rattle.adapter.specs.View.{HasTag, IsFree, IsInOrder, IsReserved, IsWritable, ReservesMore, ReservesNear, Accepts};
     ghost use Rattle.adapter.specs.Calls.{ActsOrFaults, ActsNot, Finishes, FinishesNot, Resets, LeavesFirst, HasNoLabel};
     ghost use Rattle.adapter.specs.Booking.{Books, handed};
     ghost use Rattle.miniport.specs.Faults.{busy};
@@ -173,7 +173,9 @@ impl<M: Medium> Adapter for MemAdapter<M> {
     fn reserve(&mut self, extent: Extent) -> Result<(), AllocError>
         requires { extent.first + extent.count ≤ length self.old.shown.sectors }
         ensures reserved { OnOk result (IsReserved self.new.shown extent) }
+        ensures ready { IsReserved self.old.shown extent → IsOk result }
         ensures reserves { ReservesMore self.old.shown self.new.shown }
+        ensures near { ReservesNear self.old.shown extent self.new.shown }
         ensures order { IsInOrder self.new.shown }
         ensures due { SameDues self.old self.new }
     {

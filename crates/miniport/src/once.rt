@@ -1,6 +1,6 @@
 //! An adapter in memory that fails one act, whatever it asks for.
 
-ghost use Rattle.std.specs.Prelude.{◌≡◌, ◌≤◌, ◌<◌, ◌^◌, ◌+◌, ◌*◌, length, Some, None, Any, OnOk, IfSome, MatchBool, MatchOption, get_or};
+ghost use Rattle.std.specs.Prelude.{◌≡◌, ◌≤◌, ◌<◌, ◌^◌, ◌+◌, ◌*◌, length, Some, None, Any, IsOk, OnOk, IfSome, MatchBool, MatchOption, get_or};
 ghost use Rattle.miniport.specs.Once.{OnceView};
 
 use crate::completion::{HARDWARE_ERROR, failed_with};
@@ -49,7 +49,7 @@ impl<M: Medium> OnceAdapter<M> {
 }
 
 impl<M: Medium> Adapter for OnceAdapter<M> {
-    ghost use Rattle.adapter.specs.View.{HasTag, IsFree, IsInOrder, IsReserved, IsWritable, ReservesMore, Accepts};
+    ghost use Rattle.adapter.specs.View.{HasTag, IsFree, IsInOrder, IsReserved, IsWritable, ReservesMore, ReservesNear, Accepts};
     ghost use Rattle.adapter.specs.Calls.{ActsOrFaults, ActsNot, Finishes, FinishesNot, Resets, LeavesFirst, HasNoLabel};
     ghost use Rattle.adapter.specs.Booking.{Books, handed};
     ghost use Rattle.miniport.specs.Faults.{busy};
@@ -90,7 +90,9 @@ impl<M: Medium> Adapter for OnceAdapter<M> {
     fn reserve(&mut self, extent: Extent) -> Result<(), AllocError>
         requires { extent.first + extent.count ≤ length self.old.inner.shown.sectors }
         ensures reserved { OnOk result (IsReserved self.new.inner.shown extent) }
+        ensures ready { IsReserved self.old.inner.shown extent → IsOk result }
         ensures reserves { ReservesMore self.old.inner.shown self.new.inner.shown }
+        ensures near { ReservesNear self.old.inner.shown extent self.new.inner.shown }
         ensures order { IsInOrder self.new.inner.shown }
         ensures due { SameDues self.old.inner self.new.inner }
         ensures before { self.new.before ≡ self.old.before }

@@ -296,7 +296,7 @@ impl TagTable {
         }
     }
 
-    /// What a piece has done after a reset; one that had done nothing faults.
+    /// Returns what a piece has done after a reset; one that had done nothing faults.
     fn fault_by(&mut self, piece: u128, progress: Progress) -> Progress
         requires { length self.old.labels < 64 }
         ensures progress { result ≡ progress_after_reset progress }

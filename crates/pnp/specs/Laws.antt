@@ -13,7 +13,8 @@ is_going Removed = true
 
 -- what goes never comes back
 abbrev pub RemovalIsForGood : Type 0
-RemovalIsForGood = (event : Event) (before after : State) → IsTrue (is_going before) → next event before ≡ Some after → IsTrue (is_going after)
+RemovalIsForGood = (event : Event) (before after : State) → IsTrue (is_going before) → next event before ≡ Some after
+    → IsTrue (is_going after)
 
 -- in the last state nothing is valid
 abbrev pub RemovedIsLast : Type 0

@@ -3,7 +3,8 @@ use Rattle.std.specs.Prelude.{Option, Some, None}
 use Rattle.pnp.specs.declared.State.{State}
 use Rattle.pnp.specs.declared.State.TheVariants.{Started, RemovePending, Removing, Removed}
 
--- what moves it: four requests of the PnP manager (WDK: minor functions of IRP_MJ_PNP), and the end of its last open request
+-- what moves it: four requests of the PnP manager (WDK: minor functions of IRP_MJ_PNP), and the end of its last open
+-- request
 pub data Event : Type 0 where
   QueryRemove : Event
   CancelRemove : Event

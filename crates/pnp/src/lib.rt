@@ -3,8 +3,8 @@
 //!
 //! The crate above is promised that each call answers exactly by one table, `next` of `specs/Table`; and, by
 //! `removal_is_for_good`, that a removal never ends but in `Removed`, which no request leaves. No call takes memory.
-//! Nothing is said of what a device does in a state: who keeps one tells the device, and says by [`State::drained`] that
-//! nothing is open any more.
+//! Nothing is said of what a device does in a state: who keeps one tells the device, and says by [`State::drained`]
+//! that nothing is open any more.
 #![tactic(auto)]
 
 ghost use Rattle.std.specs.Prelude.{◌≡◌};
@@ -44,8 +44,8 @@ impl State {
         }
     }
 
-    /// Takes the query back (WDK: IRP_MN_CANCEL_REMOVE_DEVICE). With no query pending it changes nothing and is no fault,
-    /// since the PnP manager may send it to a driver that never saw the query. Refused once the device goes.
+    /// Takes the query back (WDK: IRP_MN_CANCEL_REMOVE_DEVICE). With no query pending it changes nothing and is no
+    /// fault, since the PnP manager may send it to a driver that never saw the query. Refused once the device goes.
     pub fn cancel_remove(self) -> Result<State, InvalidDeviceRequest>
         ensures { result_ok result ≡ next CancelRemove self }
     {
@@ -98,7 +98,8 @@ impl From<InvalidDeviceRequest> for NtStatus {
     }
 }
 
-/// A device that goes never comes back, and from `Removed` nothing leads on. An orderly removal comes only after a query.
+/// A device that goes never comes back, and from `Removed` nothing leads on. An orderly removal comes only after a
+/// query.
 pub fn removal_is_for_good()
     ensures for_good { RemovalIsForGood }
     ensures last { RemovedIsLast }

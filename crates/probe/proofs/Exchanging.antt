@@ -67,12 +67,12 @@ looked_at false view bytes (Sync16 lba blocks) moved after looks h = (h.1, ap co
 looked_at false view bytes (ReadCapacity16 allocation) moved after looks h = (h.1, ap concat h.0 ∙ append-nil _)
 
 -- what a class of return says of a piece that acted or faulted
-brings_by : (old new : AdapterView) (command : Cdb) (use' : TagInUse) (bytes : List ℕ) (last : AdapterView) (class : Class)
+brings_by : (old : AdapterView) (failures : ℕ) (command : Cdb) (use' : TagInUse) (bytes : List ℕ) (last : AdapterView) (class : Class)
     → (use'.fate ≡ Fresh → ⊥) → ((moved : List (List ℕ)) → use'.fate ≡ Acted moved → bytes ≡ bytes_brought old command)
-    → use'.failures_before ≡ old.failures → last.failures ≡ new.failures → MayReturn new use' class → Brings old command bytes class last
-brings_by old new command use' bytes last Good acts good before after may = good may.0.0 may.0.1
-brings_by old new command use' bytes last Busy acts good before after may = acts may.0
-brings_by old new command use' bytes last (Bad completion) acts good before after may = let h = may.0 in omega (arith, before, after, h)
+    → use'.failures_before ≡ old.failures → last.failures ≡ failures → MayReturn failures use' class → Brings old command bytes class last
+brings_by old failures command use' bytes last Good acts good before after may = good may.0.0 may.0.1
+brings_by old failures command use' bytes last Busy acts good before after may = acts may.0
+brings_by old failures command use' bytes last (Bad completion) acts good before after may = let h = may.0 in omega (arith, before, after, h)
 
 -- WHAT WAS SENT, AND HOW IT CAME BACK
 
@@ -121,11 +121,11 @@ exchanged_once old first second last command sent srb completion idle looks acce
       | inr (h, unbooked) ↦
           let alone = just_one (in_use_from old 0 0 sent) h.use' first.tags h.others (one_tag old first sent idle accepts) h.is_on.in_use in
           let none : acts.piece ≡ 0 = sym h.is_piece ∙ sym (ap (λ (u : TagInUse). u.piece) alone.0) in
-          let one : IsPermutation second.tags (faulted h.use' ∷ []) =
-          subst (λ (v : AdapterView). IsPermutation v.tags (faulted h.use' ∷ [])) (sym h.after)
-          (subst (λ (os : List TagInUse). IsPermutation h.tags (faulted h.use' ∷ os)) alone.1 h.in_use) in
+          let one : IsPermutation second.tags (faulted h.left h.use' ∷ []) =
+          subst (λ (v : AdapterView). IsPermutation v.tags (faulted h.left h.use' ∷ [])) (sym h.after)
+          (subst (λ (os : List TagInUse). IsPermutation h.tags (faulted h.left h.use' ∷ os)) alone.1 h.in_use) in
           exchanges old first second last command sent (class_of completion) (Fault 0) looks accepts refl (subst (λ (n : ℕ). FaultsOn first 0 n second) none h)
-          (returned second last (faulted h.use') srb completion one (sym (ap (λ (u : TagInUse). u.piece) alone.0)) finishes)
+          (returned second last (faulted h.left h.use') srb completion one (sym (ap (λ (u : TagInUse). u.piece) alone.0)) finishes)
     ]
 
 -- the piece on the only tag comes back
@@ -141,7 +141,8 @@ came_back old view command use' srb completion last one acts good before size se
     let alone = just_one use' h.returns.use' view.tags h.returns.others one h.returns.is_on.in_use in
     let tags : h.returns.tags ≡ [] = none_left _ (subst (λ (os : List TagInUse). IsPermutation h.returns.tags os) alone.1 h.returns.in_use) in
     let after = h.returns.after in
-    let failures : last.failures ≡ view.failures = ap (λ (v : AdapterView). v.failures) after in
+    let failures : last.failures ≡ h.returns.failures = ap (λ (v : AdapterView). v.failures) after in
+    let counted' : view.failures ≤ h.returns.failures = h.returns.counted in
     record {
       same = record {
         sector_size = ap (λ (v : AdapterView). v.sector_size) after ∙ size;
@@ -151,9 +152,9 @@ came_back old view command use' srb completion last one acts good before size se
         depth = ap (λ (v : AdapterView). v.depth) after ∙ depth;
         idle = record { no_tags = ap (λ (v : AdapterView). v.tags) after ∙ tags; no_labels = refl };
         accepted = let e : last.accepted ≡ view.accepted = ap (λ (v : AdapterView). v.accepted) after in omega (arith, e, counted);
-        failures = omega (arith, failures, fails);
+        failures = omega (arith, failures, counted', fails);
       };
-      brings = brings_by old view command h.returns.use' srb.data last (class_of completion)
+      brings = brings_by old h.returns.failures command h.returns.use' srb.data last (class_of completion)
           (λ fresh. acts (ap (λ (u : TagInUse). u.fate) alone.0 ∙ fresh))
           (λ moved e. h.holds_moved moved e ∙ good moved (ap (λ (u : TagInUse). u.fate) alone.0 ∙ e))
           (sym (ap (λ (u : TagInUse). u.failures_before) alone.0) ∙ before)
@@ -195,8 +196,8 @@ asks_once old first second last command sent srb completion idle by looks accept
           let alone = just_one (in_use_from old 0 0 sent) h.use' accepts.tags h.others one h.is_on.in_use in
           let finishes' = subst (λ (v : AdapterView). Finishes v 0 srb completion last) h.after finishes in
           let counted = h.counted in
-          came_back old _ command (faulted h.use') srb completion last
-          (subst (λ (os : List TagInUse). IsPermutation h.tags (faulted h.use' ∷ os)) alone.1 h.in_use)
+          came_back old _ command (faulted h.left h.use') srb completion last
+          (subst (λ (os : List TagInUse). IsPermutation h.tags (faulted h.left h.use' ∷ os)) alone.1 h.in_use)
           (λ fresh. cc (fresh))
           (λ moved e. cc (e))
           (sym (ap (λ (u : TagInUse). u.failures_before) alone.0))
@@ -221,7 +222,7 @@ finishes_after first second last acts not =
           All-head (HasNotTag 0) (acted h.1.moved h.1.left h.1.use') h.1.others (All-permutation (HasNotTag 0) _ _ h.1.in_use free) h.1.is_on.has_tag
       | inr (h, unbooked) ↦
           let free : All (HasNotTag 0) h.tags = subst (λ (v : AdapterView). IsFree v 0) h.after not.is_free in
-          All-head (HasNotTag 0) (faulted h.use') h.others (All-permutation (HasNotTag 0) _ _ h.in_use free) h.is_on.has_tag
+          All-head (HasNotTag 0) (faulted h.left h.use') h.others (All-permutation (HasNotTag 0) _ _ h.in_use free) h.is_on.has_tag
     ]
 
 -- A COMMAND THAT FAILED

@@ -1,5 +1,6 @@
 -- The sizes of a disk, and the commands that ask for them.
-use Rattle.std.specs.Prelude.{◌≡◌, ◌<◌, ◌⊎◌, ℕ, ◌+◌, ◌-◌, ◌^◌, Bool, true, false, nat_le, min, IsTrue, if◌then◌else◌, length}
+use Rattle.std.specs.Prelude.{◌≡◌, ◌<◌, ◌⊎◌, ℕ, ◌+◌, ◌-◌, ◌^◌, Bool, true, false, nat_le, min, IsTrue, if◌then◌else◌}
+use Rattle.std.specs.Prelude.{length}
 use Rattle.ntstatus.specs.declared.NtStatus.{NtStatus}
 use Rattle.cdb.specs.declared.Cdb.{Cdb}
 use Rattle.cdb.specs.declared.Cdb.TheVariants.{ReadCapacity10, ReadCapacity16}
@@ -42,7 +43,8 @@ TellsCapacity true disk after =
 -- the first of them was good, and the second came back bad
 abbrev pub MissesLong : AdapterView → Completion → AdapterView → Type 0
 MissesLong disk completion after =
-    (between : AdapterView) × Exchanges disk ReadCapacity10 Good between × Exchanges between long_capacity (Bad completion) after
+    (between : AdapterView) × Exchanges disk ReadCapacity10 Good between
+    × Exchanges between long_capacity (Bad completion) after
 
 -- one of them came back bad: the first, or the second, which only a long disk is asked
 abbrev pub MissesCapacity : AdapterView → Completion → AdapterView → Type 0

@@ -1,11 +1,12 @@
 -- A command sent to an adapter that has no other, what it brings, and its way back.
-use Rattle.std.specs.Prelude.{◌≡◌, ◌<◌, ◌≤◌, ℕ, ◌+◌, ◌*◌, List, [], ◌∷◌, length, slice_range}
+use Rattle.std.specs.Prelude.{◌≡◌, ◌<◌, ◌≤◌, ℕ, ◌+◌, ◌*◌, List, [], ◌∷◌, None, length, slice_range}
 use Rattle.std.specs.List.{concat}
 use Rattle.ntstatus.specs.declared.NtStatus.{NtStatus}
 use Rattle.ntstatus.specs.Table.{status_of}
 use Rattle.cdb.specs.declared.Cdb.{Cdb}
-use Rattle.cdb.specs.declared.Cdb.TheVariants.{Read10, Write10, Sync10, ReadCapacity10, Read16, Write16, Sync16, ReadCapacity16}
-use Rattle.cdb.specs.Meaning.{Means}
+use Rattle.cdb.specs.declared.Cdb.TheVariants.{Read10, Write10, Sync10, ReadCapacity10, Read16, Write16, Sync16}
+use Rattle.cdb.specs.declared.Cdb.TheVariants.{ReadCapacity16}
+use Rattle.cdb.specs.Meaning.{IsPlain, Means}
 use Rattle.srb.specs.declared.Srb.{Srb}
 use Rattle.srb.specs.declared.SrbFunction.TheVariants.{ExecuteScsi}
 use Rattle.srb.specs.declared.DeviceLabel.{DeviceLabel}
@@ -61,11 +62,14 @@ brought_length disk (ReadCapacity16 allocation) = allocation
 
 -- ITS WAY
 
--- an SRB that asks for a command whose data come in: EXECUTE_SCSI with DATA_IN
+-- an SRB with no sense that asks for a command whose data come in, in the one block that is spelled so: EXECUTE_SCSI
+-- with DATA_IN
 pub record IsReading (command : Cdb) (srb : Srb) : Type 0 where
   pub function : srb.function ≡ ExecuteScsi
   pub flags : srb.flags.0 ≡ 0x40
   pub asks : Means srb.block command
+  pub plain : IsPlain srb.block command
+  pub sense : srb.sense ≡ None
 
 -- such an SRB with two buffers of the length that the command brings
 pub record LooksBy (disk : AdapterView) (command : Cdb) (srb : Srb) : Type 0 where
@@ -114,7 +118,8 @@ Brings old command bytes Busy new = ⊥
 Brings old command bytes (Bad completion) new = old.failures < new.failures
 
 -- a command was sent to an idle adapter, and came back
-pub record AsksOnce (old : AdapterView) (command : Cdb) (srb : Srb) (completion : Completion) (new : AdapterView) : Type 0 where
+pub record AsksOnce (old : AdapterView) (command : Cdb) (srb : Srb) (completion : Completion)
+    (new : AdapterView) : Type 0 where
   pub same : IsSameDisk 1 old (record new { labels = [] })
   pub brings : Brings old command srb.data (class_of completion) new
   pub exchanged : Exchanges old command (class_of completion) (record new { labels = [] })

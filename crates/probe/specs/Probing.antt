@@ -52,7 +52,8 @@ pub record IsProbed (disk : AdapterView) (probed : Probed) : Type 0 where
 -- the last command came back bad, after those that ask for the capacity were good
 abbrev pub MissesTable : AdapterView → Completion → AdapterView → Type 0
 MissesTable disk completion after =
-    (between : AdapterView) × TellsCapacity (is_long disk) disk between × Exchanges between table_read (Bad completion) after
+    (between : AdapterView) × TellsCapacity (is_long disk) disk between
+    × Exchanges between table_read (Bad completion) after
 
 -- a command of a probe failed with this status: one that asks for the capacity, or the last
 pub record FailsOne (disk : AdapterView) (status : NtStatus) (after : AdapterView) : Type 0 where

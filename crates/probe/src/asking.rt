@@ -4,7 +4,8 @@ ghost use Rattle.std.specs.Prelude.{◌≡◌, ◌<◌, ◌^◌, [], IfOk, IfErr
 ghost use Rattle.srb.specs.declared.Class.TheVariants.{Good};
 ghost use Rattle.adapter.specs.View.{IsInOrder};
 ghost use Rattle.probe.specs.declared.ProbeFault.TheVariants.{NoMemory};
-ghost use Rattle.probe.specs.Exchange.{IsIdle, Looks, IsReading, AsksOnce, bytes_brought, brought_length, Exchanges, IsSameDisk, IsAskFault};
+ghost use Rattle.probe.specs.Exchange.{IsIdle, Looks, IsReading, AsksOnce, bytes_brought, brought_length, Exchanges};
+ghost use Rattle.probe.specs.Exchange.{IsSameDisk, IsAskFault};
 
 use crate::ProbeFault;
 use adapter::Adapter;
@@ -88,8 +89,8 @@ fn buffers(alloc: Global, count: usize) -> Result<(Bytes, Bytes), AllocError>
 ///
 /// # Errors
 ///
-/// [`ProbeFault::NoMemory`], where it was not sent, and [`ProbeFault::Device`] with the status of a command that the adapter
-/// failed.
+/// [`ProbeFault::NoMemory`], where it was not sent, and [`ProbeFault::Device`] with the status of a command that the
+/// adapter failed.
 pub(crate) fn ask<A: Adapter>(
     alloc: Global,
     adapter: &mut A,

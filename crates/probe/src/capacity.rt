@@ -6,7 +6,8 @@ ghost use Rattle.cdb.specs.declared.Cdb.TheVariants.{ReadCapacity10};
 ghost use Rattle.srb.specs.declared.Class.TheVariants.{Good};
 ghost use Rattle.adapter.specs.View.{IsInOrder};
 ghost use Rattle.probe.specs.Exchange.{IsIdle, IsSameDisk, Exchanges, IsAskFault};
-ghost use Rattle.probe.specs.Capacity.{IsToldShort, IsCapacityOf, IsCapacityFault, TellsCapacity, is_long, long_capacity, asked_for_capacity};
+ghost use Rattle.probe.specs.Capacity.{IsToldShort, IsCapacityOf, IsCapacityFault, TellsCapacity, is_long};
+ghost use Rattle.probe.specs.Capacity.{long_capacity, asked_for_capacity};
 
 use crate::ProbeFault;
 use crate::asking::ask;
@@ -29,7 +30,8 @@ pub(crate) struct Capacity {
     pub sector_size: u32,
 }
 
-/// The number of sectors and the bytes of one, from the data of READ CAPACITY(10), which begin with the number of the last.
+/// The number of sectors and the bytes of one, from the data of READ CAPACITY(10), which begin with the number of the
+/// last.
 fn capacity_of(told: &[u8]) -> Capacity
     requires { 8 ≤ length told.now }
     ensures sectors { result.sectors ≡ big_number 4 told.now + 1 }
@@ -41,7 +43,8 @@ fn capacity_of(told: &[u8]) -> Capacity
     }
 }
 
-/// The number of sectors and the bytes of one, from the data of READ CAPACITY(16), which begin with the number of the last.
+/// The number of sectors and the bytes of one, from the data of READ CAPACITY(16), which begin with the number of the
+/// last.
 fn long_capacity_of(told: &[u8]) -> Capacity
     requires long { 12 ≤ length told.now }
     requires small { big_number 8 told.now < 2 ^ 40 }
@@ -54,7 +57,7 @@ fn long_capacity_of(told: &[u8]) -> Capacity
     }
 }
 
-/// What READ CAPACITY(10) tells of an adapter's disk.
+/// Returns what READ CAPACITY(10) tells of an adapter's disk.
 ///
 /// # Errors
 ///
@@ -110,7 +113,8 @@ pub(crate) fn read_capacity<A: Adapter>(
     ensures same { IsSameDisk (asked_for_capacity (A.view adapter.old)) (A.view adapter.old) (A.view adapter.new) }
     ensures order { IsInOrder (A.view adapter.new) }
     ensures capacity { IfOk result (IsCapacityOf (A.view adapter.old)) }
-    ensures tells { OnOk result (TellsCapacity (is_long (A.view adapter.old)) (A.view adapter.old) (A.view adapter.new)) }
+    ensures tells { OnOk result (TellsCapacity (is_long (A.view adapter.old)) (A.view adapter.old)
+        (A.view adapter.new)) }
     ensures fault { IfErr result (λ fault. IsCapacityFault (A.view adapter.old) fault (A.view adapter.new)) }
 {
     let short = read_short_capacity(alloc, adapter)?;

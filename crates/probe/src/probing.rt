@@ -5,7 +5,8 @@ ghost use Rattle.srb.specs.declared.Class.TheVariants.{Good};
 ghost use Rattle.adapter.specs.View.{IsInOrder};
 ghost use Rattle.probe.specs.Exchange.{IsIdle, IsSameDisk, Exchanges};
 ghost use Rattle.probe.specs.Capacity.{IsCapacityOf};
-ghost use Rattle.probe.specs.Probing.{HasPartitions, IsProbed, IsReadBy, IsTableFault, IsProbeFault, asked_by_probe, table_read};
+ghost use Rattle.probe.specs.Probing.{HasPartitions, IsProbed, IsReadBy, IsTableFault, IsProbeFault, asked_by_probe};
+ghost use Rattle.probe.specs.Probing.{table_read};
 
 use crate::asking::ask;
 use crate::capacity::{Capacity, read_capacity};
@@ -49,14 +50,15 @@ fn read_partitions<A: Adapter>(
     }
 }
 
-/// The sizes of a disk and its partitions, asked of an adapter that has accepted nothing: by READ CAPACITY(10), where that
-/// can't tell the number of sectors by READ CAPACITY(16) as well, and by READ(10) of sector 0. Their labels are taken.
+/// The sizes of a disk and its partitions, asked of an adapter that has accepted nothing: by READ CAPACITY(10), where
+/// that can't tell the number of sectors by READ CAPACITY(16) as well, and by READ(10) of sector 0. Their labels are
+/// taken.
 ///
 /// # Errors
 ///
-/// [`ProbeFault::Device`] with the status of a command that the adapter failed, [`ProbeFault::Mbr`] where sector 0 was read
-/// and its table is wrong, [`ProbeFault::NoMemory`] where memory for a command was refused. No more are sent then, and the
-/// disk is as it was.
+/// [`ProbeFault::Device`] with the status of a command that the adapter failed, [`ProbeFault::Mbr`] where sector 0 was
+/// read and its table is wrong, [`ProbeFault::NoMemory`] where memory for a command was refused. No more are sent then,
+/// and the disk is as it was.
 pub fn probe<A: Adapter>(alloc: Global, adapter: &mut A) -> Result<Probed, ProbeFault>
     requires idle { IsIdle (A.view adapter.old) }
     requires unasked { (A.view adapter.old).accepted ≡ 0 }

@@ -1,16 +1,30 @@
 -- A journal with more room.
-use Rattle.std.proofs.Common.{◌≡◌, ◌≤◌, ◌<◌, ℕ, ◌+◌, ◌-◌, List, [], ◌∷◌, ◌++◌, length, get_or, slice_index_or, Result, Ok, Err, OnErr, refl, ap, subst, ◌∙◌, arith}
+use Rattle.std.proofs.Common.{◌≡◌, ◌≤◌, ◌<◌, ℕ, ◌+◌, ◌-◌, List, [], ◌∷◌, ◌++◌, length, get_or, slice_index_or, Result, Ok, Err, OnErr, inl, refl, ap, subst, ◌∙◌, arith}
 use Rattle.std.specs.List.{sum_by, remove}
 use Rattle.std.proofs.lemmas.List.Sums.{sum_by_push, sum_by-remove}
+use Rattle.srb.specs.declared.Kind.{Kind}
+use Rattle.srb.specs.declared.Kind.TheVariants.{Read, Write, Flush}
+use Rattle.sector.specs.declared.Extent.{Extent}
 use Rattle.disk.specs.Medium.{MediumView, Reserves}
 use Rattle.sector_journal.specs.declared.acted.Entered.{Entered}
 use Rattle.sector_journal.specs.declared.reservation.Reservation.{Reservation}
 use Rattle.sector_journal.specs.Reserving.{pieces_of}
 use Rattle.sector_journal.specs.Stocking.{Room, pieces_at}
-use Rattle.sector_journal.specs.Journal.{JournalView, GainsRoom}
+use Rattle.sector_journal.specs.Journal.{JournalView, GainsRoom, HoldsNear}
 
 pub reserves_none : (medium : MediumView) → Reserves medium medium
 reserves_none medium = record { lasts = λ extent h. h; after = refl }
+
+-- a medium in which nothing was reserved more
+pub none_near : (medium : MediumView) (kind : Kind) (extent : Extent) → HoldsNear medium kind extent medium
+none_near medium Read extent = refl
+none_near medium Flush extent = refl
+none_near medium Write extent = λ sector h. inl h
+
+-- seen in the journal
+pub near_seen : (shown old : JournalView) (kind : Kind) (extent : Extent) (medium' : MediumView) → shown ≡ old → HoldsNear shown.medium kind extent medium'
+    → HoldsNear old.medium kind extent medium'
+near_seen shown old kind extent medium' is near = subst (λ (j : JournalView). HoldsNear j.medium kind extent medium') is near
 
 pub on_err : {A B P : Type 0} (result : Result A B) → P → OnErr result P
 on_err (Ok x) p = tt

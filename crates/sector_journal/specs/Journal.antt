@@ -5,13 +5,13 @@ use Rattle.cdb.specs.declared.Cdb.{Cdb}
 use Rattle.cdb.specs.Meaning.{Means}
 use Rattle.srb.specs.declared.Srb.{Srb}
 use Rattle.srb.specs.declared.Kind.{Kind}
-use Rattle.srb.specs.declared.Kind.TheVariants.{Write}
+use Rattle.srb.specs.declared.Kind.TheVariants.{Read, Write, Flush}
 use Rattle.srb.specs.declared.Entry.{Entry}
 use Rattle.srb.specs.declared.Completion.{Completion}
 use Rattle.srb.specs.Replaying.{Replays}
 use Rattle.adapter.specs.Booking.{IsOfSrb}
 use Rattle.sector.specs.declared.Extent.{Extent}
-use Rattle.disk.specs.Medium.{MediumView, IsReserved, Reserves}
+use Rattle.disk.specs.Medium.{MediumView, IsReserved, Reserves, ReservesNear}
 use Rattle.miniport.specs.Carrying.{IsReady}
 use Rattle.sector_journal.specs.declared.acted.Entered.{Entered}
 use Rattle.sector_journal.specs.declared.slots.Armed.{Armed}
@@ -75,6 +75,12 @@ AreOfArmings medium armings entered = All (IsOfArming medium.sector_size (length
 pub record IsHeld (medium : MediumView) (reservation : Reservation) : Type 0 where
   pub some : 1 ≤ reservation.max_transfer
   pub reserved : reservation.kind ≡ Write → IsReserved medium reservation.extent
+
+-- of the medium a write may reserve what is near its extent, and no other request anything
+abbrev pub HoldsNear : MediumView → Kind → Extent → MediumView → Type 0
+HoldsNear old Write extent new = ReservesNear old extent new
+HoldsNear old Read extent new = new ≡ old
+HoldsNear old Flush extent new = new ≡ old
 
 -- the entries give the sectors, replayed from those that the journal was opened with; and whatever is armed can act
 pub record JournalKept (opening : List (List ℕ)) (medium : MediumView) (entered : List Entered) (places : ℕ) (slots : List (Option Armed)) (armings : List Armed) (reservations : List Reservation) : Type 0 where

@@ -25,7 +25,7 @@ fn extent(first: u64, count: u32) -> Extent
     }
 }
 
-/// What a command names: of a read capacity nothing.
+/// Returns what a command names: of a read capacity nothing.
 fn named_by(command: Cdb) -> Option<(Kind, Extent)>
     ensures { result ≡ named command }
 {
@@ -41,7 +41,7 @@ fn named_by(command: Cdb) -> Option<(Kind, Extent)>
     }
 }
 
-/// What a block names, where it asks for a transfer or a flush.
+/// Returns what a block names, where it asks for a transfer or a flush.
 pub(crate) fn named_in(block: &[u8]) -> Option<(Kind, Extent)>
     ensures by_meaning { (command : Cdb) → Means block.now command → result ≡ named command }
     ensures names { IfSome result (λ what. Names block.now what) }

@@ -12,7 +12,7 @@ ghost use Rattle.srb.specs.Replaying.{Replays};
 ghost use Rattle.sector_journal.specs.declared.reservation.Reservation.{Reservation};
 ghost use Rattle.sector_journal.specs.declared.slots.Armed.{Armed};
 ghost use Rattle.sector_journal.specs.Arming.{IsCopy};
-ghost use Rattle.sector_journal.specs.Journal.{Acts, Admits, AreOfArmings, Arms, Disarms, GainsRoom, IsNew, MayArm, Releases, entries_in, entries_of};
+ghost use Rattle.sector_journal.specs.Journal.{Acts, Admits, AreOfArmings, Arms, Disarms, GainsRoom, HoldsNear, IsNew, MayArm, Releases, entries_in, entries_of};
 ghost use Rattle.sector_journal.specs.Reserving.{covers, is_of, of_length};
 ghost use Rattle.sector_journal.specs.Slots.{HasNone, armed_at};
 ghost use Rattle.sector_journal.specs.Stocking.{IsOfLength, pieces_at};
@@ -41,7 +41,7 @@ pub struct Journal<M: Medium, N: Naming> {
     /// The pieces of all open requests, those that acted among them.
     promised: usize,
     slots: Slots,
-    /// How many armings there were.
+    /// The armings so far.
     armings: u64,
     reservations: Vec<Reservation>,
     stock: Stock,
@@ -116,6 +116,7 @@ fn hold<M: Medium>(medium: &mut M, kind: Kind, extent: Extent) -> Result<(), All
     requires { IsWithin (M.view medium.old) extent }
     ensures held { OnOk result (kind ≡ Kind.Write → IsReserved (M.view medium.new) extent) }
     ensures reserves { Reserves (M.view medium.old) (M.view medium.new) }
+    ensures near { HoldsNear (M.view medium.old) kind extent (M.view medium.new) }
 {
     if !is_write(kind) {
         return Ok(());
@@ -261,6 +262,7 @@ impl<M: Medium, N: Naming> Journal<M, N> {
         requires some { 1 ≤ max_transfer }
         ensures admits { OnOk result (Admits self.old (record { request = request; kind = kind; extent = extent; max_transfer = max_transfer }) self.new) }
         ensures refused { OnErr result (GainsRoom self.old self.new) }
+        ensures near { HoldsNear self.old.medium kind extent self.new.medium }
     {
         let reservation = Reservation {
             request,

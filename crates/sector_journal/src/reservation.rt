@@ -18,7 +18,7 @@ pub struct Reservation {
     pub max_transfer: u32,
 }
 
-/// So many pieces of one length.
+/// A number of pieces of one length.
 #[derive(Debug, Clone, Copy, PartialEq, Eq)]
 pub(crate) struct Batch {
     pub pieces: usize,

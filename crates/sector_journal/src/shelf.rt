@@ -10,10 +10,10 @@ use std::marker::Model;
 /// The buffers of one length that are there. Contracts see the length, and for how many pieces they are.
 #[derive(Debug, Drop)]
 pub(crate) struct Shelf {
-    /// Of each buffer, in bytes.
+    /// The length of each buffer, in bytes.
     bytes: usize,
     free: Vec<Bytes>,
-    /// How many pieces of this length the open requests have.
+    /// The pieces of this length that the open requests have.
     promised: usize,
 }
 
@@ -103,7 +103,7 @@ impl Shelf {
         self.free.truncate(self.promised.saturating_sub(out));
     }
 
-    /// So many pieces won't come any more.
+    /// Counts pieces that won't come any more.
     pub fn withdraw(&mut self, pieces: usize, out: usize)
         ensures { self.new.bytes ≡ self.old.bytes }
     {

@@ -56,14 +56,14 @@ impl Slots {
         self.tags.len() as u8
     }
 
-    /// How many pieces may act.
+    /// Returns how many pieces may act.
     pub fn armed(&self) -> usize
         ensures { result ≡ armed_count self.now }
     {
         self.armed
     }
 
-    /// How many pieces with so many bytes may act.
+    /// Returns how many pieces with so many bytes may act.
     pub fn armed_with(&self, length: usize) -> usize {
         let mut count = 0;
         for slot in self.tags.as_slice() {

@@ -85,6 +85,7 @@ new_adapter c medium view settings disk same = subst (IsNewAdapter c) (sym same)
   none_accepted = refl;
   bad = disk.bad;
   write_protected = refl;
+  none_due = refl;
 })
 
 -- an adapter over the disk of the settings is theirs

@@ -1,5 +1,5 @@
 -- The disk in memory and the adapter that settings give, before anything was asked of them.
-use Rattle.std.specs.Prelude.{◌≡◌, ◌↔◌, ℕ, ◌-◌, true, Contains, List, [], ◌∷◌, ◌++◌, length, map, replicate}
+use Rattle.std.specs.Prelude.{◌≡◌, ◌↔◌, ℕ, ◌-◌, true, Contains, None, List, [], ◌∷◌, ◌++◌, length, map, replicate}
 use Rattle.sector.specs.declared.Extent.{Extent}
 use Rattle.disk.specs.Medium.{MediumView}
 use Rattle.miniport.specs.Memory.{MemView}
@@ -61,3 +61,5 @@ pub record IsNewAdapter (c : Config) (view : MemView) : Type 0 where
   pub none_accepted : view.shown.accepted ≡ 0
   pub bad : (sector : ℕ) → Contains view.bad sector ↔ Contains c.bad_sectors.items sector
   pub write_protected : view.write_protected ≡ c.write_protected
+  -- no piece would come back of any tag
+  pub none_due : view.due ≡ replicate c.depth None

@@ -7,5 +7,6 @@ pub mod Refuting
 pub mod Early
 pub mod TooEarly
 pub mod Starting
+pub mod Cutting
 pub mod Losing
 pub mod Long

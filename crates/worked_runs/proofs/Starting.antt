@@ -117,7 +117,7 @@ starts_not_again piece tag block =
     never_started small worn_out piece tag block (
       (λ places may h asks.
           let from : places.first ≡ 0 = omega (arith, h.inside, h.some) in
-          let left : 0 < restarts_left small r = h.spare (ap (λ first. is_back (mark_at r first)) from) in
+          let left : 0 < restarts_left small r = h.spare refl (ap (λ first. is_back (mark_at r first)) from) in
           absurd (omega arith)),
       tt,
     )

@@ -4,4 +4,5 @@ pub mod Failed
 pub mod Held
 pub mod Refused
 pub mod Impossible
+pub mod Cut
 pub mod Long

@@ -21,6 +21,7 @@ small = record {
   window = Some 2;
   one_piece = false;
   busy_limit = 2;
+  any_cut = false;
   faithful = true;
 }
 

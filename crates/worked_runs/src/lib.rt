@@ -11,8 +11,10 @@
 
 pub mod impossible;
 
+ghost use Rattle.worked_runs.specs.Cut.{wide, three_wait, ReachesThreeWait, StartsAnywhere, StartsAgain};
 ghost use Rattle.worked_runs.specs.Failed.{IsCutShort, StaysBusy, IsResetBeforeAct, IsResetAfterAct, AnswersLowestFailure};
 ghost use Rattle.worked_runs.specs.Held.{HoldsThenResumes, RemovesAll, SurprisesAll};
+ghost use Rattle.worked_runs.specs.Impossible.{NeverWritesAt};
 ghost use Rattle.worked_runs.specs.Long.{StartsInEachForm, FlushesFar};
 ghost use Rattle.worked_runs.specs.Refused.{RefusesClosedHandle, RefusesRemoved, RefusesOutOfBounds, RefusesTooLong, ReadsNothing, RefusesOneMore};
 ghost use Rattle.worked_runs.specs.Served.{WritesThenReads, JoinsInOrder, Flushes, WritesThrough, SendsAgain, SucceedsThoughCancelled};
@@ -40,6 +42,16 @@ pub fn reach_the_medium()
 #[tactic(auto, using(crate::proofs::Serving::sends_again))]
 pub fn send_again()
     ensures { SendsAgain }
+{}
+
+/// Pieces begin at multiples of the longest alone. Where any cut will do they begin at any place that waits, and what came
+/// back busy starts again without end.
+#[tactic(auto, using(crate::proofs::Cutting::reaches_three_wait, crate::proofs::Cutting::starts_anywhere, crate::proofs::Cutting::starts_again))]
+pub fn cut_anywhere()
+    ensures reached { ReachesThreeWait }
+    ensures on_grid { NeverWritesAt wide three_wait 3 }
+    ensures anywhere { StartsAnywhere }
+    ensures again { StartsAgain }
 {}
 
 /// A request may succeed after its cancel.

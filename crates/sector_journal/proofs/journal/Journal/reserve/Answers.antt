@@ -3,7 +3,7 @@ use Rattle.std.specs.List.{sum_by}
 use Rattle.sector_journal.specs.Reserving.{pieces_of}
 use Rattle.sector_journal.specs.Journal.{IsHeld}
 use Rattle.sector_journal.proofs.Kept.{roomier_kept, admitted_kept}
-use Rattle.sector_journal.proofs.Reserved.{reserves_none, on_err, gains, admitted}
+use Rattle.sector_journal.proofs.Reserved.{reserves_none, near_seen, none_near, on_err, gains, admitted}
 use Rattle.sector_journal.proofs.journal.Journal.reserve.Goals as goal
 
 pub returns-in_err-reserve-clause-refused : goal.returns-in_err-reserve-clause-refused
@@ -46,3 +46,21 @@ invariant_of-self-2 g c =
 
 pub returns-in_default-clause-refused : goal.returns-in_default-clause-refused
 returns-in_default-clause-refused g c = gains _ _ _ _ _ _ _ c.self.view_is (reserves_none _) (le_refl _) refl c.reserve.ensures.items (λ long. refl)
+
+pub returns-in_err-reserve-clause-near : goal.returns-in_err-reserve-clause-near
+returns-in_err-reserve-clause-near g c = near_seen _ _ c.args.kind c.args.extent _ c.self.view_is (none_near _ c.args.kind c.args.extent)
+
+pub returns-in_err-reserve-2-clause-near : goal.returns-in_err-reserve-2-clause-near
+returns-in_err-reserve-2-clause-near g c = near_seen _ _ c.args.kind c.args.extent _ c.self.view_is (none_near _ c.args.kind c.args.extent)
+
+pub returns-in_default-clause-near : goal.returns-in_default-clause-near
+returns-in_default-clause-near g c = near_seen _ _ c.args.kind c.args.extent _ c.self.view_is (none_near _ c.args.kind c.args.extent)
+
+pub returns-in_err-hold-clause-near : goal.returns-in_err-hold-clause-near
+returns-in_err-hold-clause-near g c = near_seen _ _ c.args.kind c.args.extent _ c.self.view_is c.hold.ensures.near
+
+pub returns-in_err-promise-clause-near : goal.returns-in_err-promise-clause-near
+returns-in_err-promise-clause-near g c = near_seen _ _ c.args.kind c.args.extent _ c.self.view_is c.hold.ensures.near
+
+pub returns-clause-near : goal.returns-clause-near
+returns-clause-near g c = near_seen _ _ c.args.kind c.args.extent _ c.self.view_is c.hold.ensures.near
