@@ -1,5 +1,5 @@
 -- The calls that move both machines by the same labels: act and reset, and the taking of a label.
-use Rattle.std.proofs.Common.{◌≡◌, ◌<◌, ◌≤◌, ◌⊎◌, inl, inr, ℕ, zero, suc, ◌+◌, Bool, true, false, List, [], ◌∷◌, ◌++◌, refl, sym, ◌∙◌, ap, subst, arith, map, length, cond, Option, Some, None, Result, Ok, Err, MatchBool, length-append}
+use Rattle.std.proofs.Common.{◌≡◌, ◌<◌, ◌≤◌, ◌⊎◌, inl, inr, ℕ, zero, suc, ◌+◌, Bool, true, false, List, [], ◌∷◌, refl, sym, ◌∙◌, ap, subst, arith, map, length, cond, Option, Some, None, Result, Ok, Err, MatchBool, length-append}
 use Rattle.std.specs.Prelude.{IsPermutation, All, Any, Contains, IsTrue, IsFalse}
 use Rattle.std.proofs.lemmas.List.{length-map}
 use Rattle.std.proofs.lemmas.List.Sorted.{IsPermutation-refl, IsPermutation-sym, IsPermutation-trans, IsPermutation-map, All-permutation, Contains-permutation, length_permutation, sum_by-IsPermutation}
@@ -27,14 +27,16 @@ use Rattle.sector.specs.Extents.{sectors_in}
 use Rattle.device.specs.Served.{BooksPiece, Moves, IsUnfinished, IsFreshOn, IsActOrFault, ActsOrFaults, ActsNot, TakesLabel, IsAt}
 use Rattle.machine.proofs.Same.{Run-same, none_there}
 use Rattle.machine.proofs.Numbers.{AreDistinct-Run, AreDistinct-same}
-use Rattle.class_disk.specs.Books.{Opened, Books, all_open}
+use Rattle.class_disk.specs.inside.Books.{Opened, Books, all_open}
 use Rattle.class_disk.specs.declared.parts.Progress.{Progress}
 use Rattle.class_disk.specs.declared.parts.Progress.TheVariants.{Ready, Below as SentBelow, Ended as PartEnded}
-use Rattle.class_disk.specs.declared.requests.DiskRoom.{DiskRoom}
-use Rattle.class_disk.specs.Joint.{Part, Below, Here, Known, known_of, Master, Joint, parts_marks, pieces_below, pieces_above, shown, above}
-use Rattle.class_disk.specs.Kept.{IsSound, Keeps, AreParts, IsMadeUp, HasSome, IsOver}
-use Rattle.class_disk.specs.Shown.{class_rules, IsPort, master_of, shown_state}
-use Rattle.class_disk.specs.Driver.{knowns, view_of, rooms_in, rooms_kept, most_over, AreKept, AreBelow, IsCoupled, IsInHand, AsksUnder, IsAskedBy, IsAsked, AreAsked, IsSpottedBy, IsSpotted, AreSpotted}
+use Rattle.class_disk.specs.inside.Joint.{Part, Below, Here, Known, known_of, Divided, Joint, parts_marks, pieces_below, pieces_above, shown, above}
+use Rattle.class_disk.specs.inside.Kept.{IsSound, Keeps, AreParts, IsMadeUp, HasSome, IsOver}
+use Rattle.class_disk.specs.Shown.{class_rules, IsPort, divided_of, shown_state}
+use Rattle.class_disk.specs.inside.Driver.{knowns, view_of, AreKept, AreBelow, IsCoupled, IsInHand, AsksUnder, IsAskedBy, IsAsked, AreAsked, IsSpottedBy, IsSpotted, AreSpotted, tickets}
+use Rattle.class_disk.specs.Opening.{most_over}
+use Rattle.class_disk.specs.inside.Rooms.{AllOut}
+use Rattle.class_disk.proofs.Rooms.{out_same}
 use Rattle.class_disk.proofs.CoupledRun.{Ran, run_coupled, Contains-map}
 use Rattle.class_disk.proofs.Showing.{shown_is}
 use Rattle.class_disk.proofs.Orderly.{on_tags, orderly_above, All-from_map}
@@ -122,12 +124,12 @@ still_run rules s s' (Act piece bytes) number told (mid, inr owing, end) = absur
 still_run rules s s' (Fault piece) number told (mid, inr owing, end) = absurd owing
 
 -- what the parts below ask for is as it was
-part_asked : {R : Type 0} (rules : Rules) (r : Request) (os os' : List OpenRequest) → IsPermutation os os' → (p : Progress R) → IsAskedBy rules os r p → IsAskedBy rules os' r p
+part_asked : (rules : Rules) (r : Request) (os os' : List OpenRequest) → IsPermutation os os' → (p : Progress) → IsAskedBy rules os r p → IsAskedBy rules os' r p
 part_asked rules r os os' same (Ready place) h = tt
 part_asked rules r os os' same (SentBelow number spot) h = All-permutation (AsksUnder rules r number) _ _ same h
 part_asked rules r os os' same (PartEnded ended) h = tt
 
-pub asked_still : {R : Type 0} (rules : Rules) (os os' : List OpenRequest) → IsPermutation os os' → (o : Opened R) → AreAsked rules os o → AreAsked rules os' o
+pub asked_still : (rules : Rules) (os os' : List OpenRequest) → IsPermutation os os' → (o : Opened) → AreAsked rules os o → AreAsked rules os' o
 asked_still rules os os' same o h = All-weaker (IsAsked rules os) (IsAsked rules os') (λ p. part_asked rules p.request os os' same p.progress) o.parts h
 
 -- and where it stands there
@@ -136,12 +138,12 @@ any_permuted P xs ys same (i, x, low, is, h) =
     let c = Contains-permutation _ _ x same (i, low, is) in
     (c.0, x, c.1, c.2, h)
 
-part_spotted : {R : Type 0} (ps ps' : List Packet) → IsPermutation ps ps' → (p : Progress R) → IsSpottedBy ps p → IsSpottedBy ps' p
+part_spotted : (ps ps' : List Packet) → IsPermutation ps ps' → (p : Progress) → IsSpottedBy ps p → IsSpottedBy ps' p
 part_spotted ps ps' same (Ready place) h = tt
 part_spotted ps ps' same (SentBelow number spot) h = any_permuted (IsAt spot number) ps ps' same h
 part_spotted ps ps' same (PartEnded ended) h = tt
 
-pub spotted_still : {R : Type 0} (ps ps' : List Packet) → IsPermutation ps ps' → (o : Opened R) → AreSpotted ps o → AreSpotted ps' o
+pub spotted_still : (ps ps' : List Packet) → IsPermutation ps ps' → (o : Opened) → AreSpotted ps o → AreSpotted ps' o
 spotted_still ps ps' same o h = All-weaker (IsSpotted ps) (IsSpotted ps') (λ p. part_spotted ps ps' same p.progress) o.parts h
 
 -- PLACES
@@ -155,11 +157,11 @@ parts_long rules q first (Here marks busy ∷ parts) h =
     let r = parts_long rules q (first + length marks) parts h in
     simp length-append (omega (arith, r))
 
-pub have_places : (rules : Rules) (j : Joint) (ks : List Known) → Keeps rules j → IsPermutation (map known_of j.masters) ks → All (HasSome rules) ks → HavePlaces (above j)
+pub have_places : (rules : Rules) (j : Joint) (ks : List Known) → Keeps rules j → IsPermutation (map known_of j.divided) ks → All (HasSome rules) ks → HavePlaces (above j)
 have_places rules j ks k same some =
-    All-map HasPlaces shown j.masters (both j.masters k.made_up (All-from_map (HasSome rules) known_of j.masters (All-permutation (HasSome rules) _ _ (IsPermutation-sym _ _ same) some)))
+    All-map HasPlaces shown j.divided (both j.divided k.made_up (All-from_map (HasSome rules) known_of j.divided (All-permutation (HasSome rules) _ _ (IsPermutation-sym _ _ same) some)))
   where
-    both : (es : List Master) → All (IsMadeUp rules) es → All (λ e. HasSome rules (known_of e)) es → All (λ e. HasPlaces (shown e)) es
+    both : (es : List Divided) → All (IsMadeUp rules) es → All (λ e. HasSome rules (known_of e)) es → All (λ e. HasPlaces (shown e)) es
     both [] made some = All-nil (λ e. HasPlaces (shown e))
     both (e ∷ es) made some =
         let long = parts_long rules e.request 0 e.parts (All-head (IsMadeUp rules) e es made) in
@@ -169,7 +171,7 @@ have_places rules j ks k same some =
 -- BOTH LAYERS MOVE
 
 -- a run of the machine below by labels of the adapter, told of the class driver
-pub record MovesAbove {R : Type 0} (v : DeviceView) (books : Books R) (labels : List DeviceLabel) (v' : DeviceView) : Type 0 where
+pub record MovesAbove (v : DeviceView) (books : Books) (labels : List DeviceLabel) (v' : DeviceView) : Type 0 where
   pub moves : Moves (view_of v books) labels (view_of v' books)
   pub coupled : IsCoupled v' books
   pub sound : IsSound v'.state
@@ -180,13 +182,13 @@ pub record MovesAbove {R : Type 0} (v : DeviceView) (books : Books R) (labels : 
   pub same_submitted : v'.submitted ≡ v.submitted
   pub same_most : v'.most ≡ v.most
 
-module _ {R : Type 0} (v : DeviceView) (books : Books R) (port : IsPort v.rules) (sound : IsSound v.state) (coupled : IsCoupled v books) where
+module _ (v : DeviceView) (books : Books) (port : IsPort v.rules) (sound : IsSound v.state) (coupled : IsCoupled v books) where
   pub moves_above : (labels : List DeviceLabel) (v' : DeviceView) → Moves v labels v' → MovesAbove v books labels v'
   moves_above labels v' m =
       let rules : Rules = class_rules v.rules in
       let ran : Ran rules coupled.j labels v'.state = run_coupled rules refl labels coupled.j v.state v'.state coupled.same sound coupled.keeps (subst (λ r. Run r v.state (map as_label labels) v'.state) port.below m.run) in
       let same_rules : class_rules v'.rules ≡ rules = ap class_rules m.same_rules in
-      let ks : IsPermutation (map known_of ran.next.masters) (knowns rules books) = IsPermutation-trans _ _ _ ran.like.transfers coupled.knows in
+      let ks : IsPermutation (map known_of ran.next.divided) (knowns rules books) = IsPermutation-trans _ _ _ ran.like.transfers coupled.knows in
       let here : IsSame (above coupled.j) (shown_state v.state (books.last_request + 1) (knowns rules books)) =
       subst (λ n. IsSame (above coupled.j) (shown_state v.state n (knowns rules books))) coupled.next_above (shown_is rules coupled.j v.state (knowns rules books) coupled.same sound.distinct coupled.keeps coupled.knows) in
       let there : IsSame (above ran.next) (shown_state v'.state (books.last_request + 1) (knowns rules books)) =
@@ -195,6 +197,7 @@ module _ {R : Type 0} (v : DeviceView) (books : Books R) (port : IsPort v.rules)
         moves = record {
           same_rules = same_rules;
           same_packets = IsPermutation-refl _;
+          same_rooms = λ spot. refl;
           same_submitted = refl;
           same_most = ap most_over m.same_most;
           run = subst (λ r. Run rules (shown_state v.state (books.last_request + 1) (knowns rules books)) (map as_label labels) (shown_state v'.state (books.last_request + 1) (knowns r books))) (sym same_rules)
@@ -204,7 +207,7 @@ module _ {R : Type 0} (v : DeviceView) (books : Books R) (port : IsPort v.rules)
         coupled = record {
           j = ran.next;
           same = ran.same;
-          knows = subst (λ r. IsPermutation (map known_of ran.next.masters) (knowns r books)) (sym same_rules) ks;
+          knows = subst (λ r. IsPermutation (map known_of ran.next.divided) (knowns r books)) (sym same_rules) ks;
           next_above = ran.like.next_above ∙ coupled.next_above;
           keeps = subst (λ r. Keeps r ran.next) (sym same_rules) ran.keeps;
         };
@@ -233,31 +236,31 @@ module _ {R : Type 0} (v : DeviceView) (books : Books R) (port : IsPort v.rules)
         over = subst (λ b. All (IsOver 17 b) (knowns (class_rules v'.rules) books)) m.same_removing (to (λ r. All (IsOver 17 v.state.removing) (knowns (class_rules r) books)) h.over);
       }
 
-pub numbers_known : (s : State) (ks : List Known) → map request_number (map shown (map (master_of s) ks)) ≡ map (λ k. k.number) ks
+pub numbers_known : (s : State) (ks : List Known) → map request_number (map shown (map (divided_of s) ks)) ≡ map (λ k. k.number) ks
 numbers_known s [] = refl
 numbers_known s (k ∷ ks) = ap (λ zs. k.number ∷ zs) (numbers_known s ks)
 
-as_many : (es : List Master) → length (pieces_above es) ≡ length (pieces_below es)
+as_many : (es : List Divided) → length (pieces_above es) ≡ length (pieces_below es)
 as_many es = sym (length-map (pieces_above es) piece_on_tag) ∙ ap length (on_tags es) ∙ length-map (pieces_below es) piece_on_tag
 
 -- IN HAND AGAIN
 
-module _ {R : Type 0} (out : List R → Type 0) (takes : Bool) (stack : ℕ) (v : DeviceView) (books : Books R) (rooms : List (DiskRoom R)) (h : IsInHand out takes stack v books rooms) where
+module _ (v : DeviceView) (books : Books) (h : IsInHand v books) where
   -- the coupled machine is the one shown
   pub shows : IsSame (above h.coupled.j) (view_of v books).state
   shows = subst (λ n. IsSame (above h.coupled.j) (shown_state v.state n (knowns (class_rules v.rules) books))) h.coupled.next_above
       (shown_is (class_rules v.rules) h.coupled.j v.state (knowns (class_rules v.rules) books) h.coupled.same h.sound.distinct h.coupled.keeps h.coupled.knows)
 
   pub same_pieces : length (view_of v books).state.pieces ≡ length v.state.pieces
-  same_pieces = length_permutation _ _ shows.pieces ∙ as_many h.coupled.j.masters ∙ sym (length_permutation _ _ h.coupled.same.pieces)
+  same_pieces = length_permutation _ _ shows.pieces ∙ as_many h.coupled.j.divided ∙ sym (length_permutation _ _ h.coupled.same.pieces)
 
   pub label_place : (n : ℕ) → label_places (view_of v books) + n ≤ 64 → label_places v + n ≤ 64
   label_place n few = let e = same_pieces in omega arith
 
-  pub hand_ran : (out' : List R → Type 0) (labels : List DeviceLabel) (v' : DeviceView) → v'.rules ≡ v.rules → IsCoupled v' books → IsSound v'.state
-      → Run (class_rules v.rules) (view_of v books).state (map as_label labels) (view_of v' books).state → IsOrderly v' → out' (rooms_in rooms ++ rooms_kept (all_open books))
-      → All (IsUnfinished v.rules v'.state) v'.state.requests → Settled v.rules v'.state → AreCounted v.rules v'.state → AreBelow v' books → IsInHand out' takes stack v' books rooms
-  hand_ran out' labels v' same_rules coupled sound run ordered rooms_out unfinished settled counted below =
+  pub hand_ran : (labels : List DeviceLabel) (v' : DeviceView) → v'.rules ≡ v.rules → IsCoupled v' books → IsSound v'.state
+      → Run (class_rules v.rules) (view_of v books).state (map as_label labels) (view_of v' books).state → IsOrderly v' → AllOut v' (tickets books)
+      → All (IsUnfinished v.rules v'.state) v'.state.requests → Settled v.rules v'.state → AreCounted v.rules v'.state → AreBelow v' books → IsInHand v' books
+  hand_ran labels v' same_rules coupled sound run ordered rooms_out unfinished settled counted below =
       let to : (P : Rules → Type 0) → P v.rules → P v'.rules = λ P x. subst P (sym same_rules) x in
       let port : IsPort v'.rules = to IsPort h.port in
       let ks : List Known = knowns (class_rules v'.rules) books in
@@ -267,11 +270,10 @@ module _ {R : Type 0} (out : List R → Type 0) (takes : Bool) (stack : ℕ) (v 
       let distinct : AreDistinct (view_of v' books).state = AreDistinct-Run (class_rules v.rules) (view_of v books).state (map as_label labels) (view_of v' books).state h.orderly.distinct run in
       let unfinished' : All (IsUnfinished v'.rules v'.state) v'.state.requests = to (λ r. All (IsUnfinished r v'.state) v'.state.requests) unfinished in
       let settled' : Settled v'.rules v'.state = to (λ r. Settled r v'.state) settled in
-      let over_j : All (IsOver 17 j.removing) (map known_of j.masters) = subst (λ b. All (IsOver 17 b) (map known_of j.masters)) (sym coupled.same.removing) (All-permutation (IsOver 17 v'.state.removing) _ _ (IsPermutation-sym _ _ coupled.knows) below.over) in
+      let over_j : All (IsOver 17 j.removing) (map known_of j.divided) = subst (λ b. All (IsOver 17 b) (map known_of j.divided)) (sym coupled.same.removing) (All-permutation (IsOver 17 v'.state.removing) _ _ (IsPermutation-sym _ _ coupled.knows) below.over) in
       let numbers : map request_number (view_of v books).state.requests ≡ map request_number (view_of v' books).state.requests =
       numbers_known v.state (knowns (class_rules v.rules) books) ∙ subst (λ r. map (λ k. k.number) (knowns (class_rules v.rules) books) ≡ map (λ k. k.number) (knowns (class_rules r) books)) (sym same_rules) refl ∙ sym (numbers_known v'.state ks) in
       record {
-        takes = h.takes;
         port = port;
         sound = sound;
         counted = to (λ r. AreCounted r v'.state) counted;
@@ -279,35 +281,22 @@ module _ {R : Type 0} (out : List R → Type 0) (takes : Bool) (stack : ℕ) (v 
         rooms_out = rooms_out;
         unfinished = unfinished';
         settled = settled';
-        kept = to (λ r. AreKept (class_rules r) books rooms) h.kept;
+        kept = to (λ r. AreKept (class_rules r) books) h.kept;
         below = below;
         orderly = orderly_above v' port ordered sound j coupled.same coupled.keeps unfinished' settled'
             (AreDistinct-same (above j) (view_of v' books).state same_shown distinct)
             (have_places (class_rules v'.rules) j ks coupled.keeps coupled.knows below.some) over_j
             (view_of v' books).state same_shown (view_of v' books).packets (subst (IsPermutation (map packet_number (view_of v books).packets)) numbers h.orderly.packets)
-            books.submitted (most_over v'.most);
+            books.rooms h.orderly.spots h.orderly.vacant books.submitted (most_over v'.most);
       }
 
-  pub hand_moved : (out' : List R → Type 0) (labels : List DeviceLabel) (v' : DeviceView) → MovesAbove v books labels v' → IsOrderly v' → out' (rooms_in rooms ++ rooms_kept (all_open books))
-      → All (IsUnfinished v.rules v'.state) v'.state.requests → Settled v.rules v'.state → AreCounted v.rules v'.state → AreBelow v' books → IsInHand out' takes stack v' books rooms
-  hand_moved out' labels v' m = hand_ran out' labels v' m.same_rules m.coupled m.sound m.moves.run
+  pub hand_moved : (labels : List DeviceLabel) (v' : DeviceView) → MovesAbove v books labels v' → IsOrderly v' → AllOut v' (tickets books)
+      → All (IsUnfinished v.rules v'.state) v'.state.requests → Settled v.rules v'.state → AreCounted v.rules v'.state → AreBelow v' books → IsInHand v' books
+  hand_moved labels v' m = hand_ran labels v' m.same_rules m.coupled m.sound m.moves.run
 
 -- nothing changed that is shown
-pub hand_same : {R : Type 0} (out : List R → Type 0) (takes : Bool) (stack : ℕ) (v : DeviceView) (books : Books R) (rooms : List (DiskRoom R)) → IsInHand out takes stack v books rooms → (out' : List R → Type 0) (v' : DeviceView) → v' ≡ v
-    → out' (rooms_in rooms ++ rooms_kept (all_open books)) → IsInHand out' takes stack v' books rooms
-hand_same out takes stack v books rooms h out' v' same rooms_out = subst (λ x. IsInHand out' takes stack x books rooms) (sym same) (record {
-  takes = h.takes;
-  port = h.port;
-  sound = h.sound;
-  counted = h.counted;
-  coupled = h.coupled;
-  rooms_out = rooms_out;
-  unfinished = h.unfinished;
-  settled = h.settled;
-  kept = h.kept;
-  below = h.below;
-  orderly = h.orderly;
-})
+pub hand_same : (v : DeviceView) (books : Books) → IsInHand v books → (v' : DeviceView) → v' ≡ v → IsInHand v' books
+hand_same v books h v' same = subst (λ x. IsInHand x books) (sym same) h
 
 -- ACT
 
@@ -317,25 +306,25 @@ map_there f (x ∷ xs) y (zero, low, is) = (x, (0, omega arith, refl), is)
 map_there f (x ∷ xs) y (suc k, low, is) =
     let r = map_there f xs y (k, omega arith, is) in (r.0, (suc r.1.0, let w = r.1.1 in omega arith, r.1.2), r.2)
 
-module _ {R : Type 0} (out : List R → Type 0) (takes : Bool) (stack : ℕ) (v : DeviceView) (books : Books R) (rooms : List (DiskRoom R)) (h : IsInHand out takes stack v books rooms) (tag : ℕ) where
+module _ (v : DeviceView) (books : Books) (h : IsInHand v books) (tag : ℕ) where
   -- each machine has a fresh piece on the tag where the other has
   pub same_tags : IsPermutation (map piece_on_tag v.state.pieces) (map piece_on_tag (view_of v books).state.pieces)
   same_tags =
       IsPermutation-trans _ _ _ (IsPermutation-map piece_on_tag _ _ (IsPermutation-sym _ _ h.coupled.same.pieces))
-      (subst (λ zs. IsPermutation zs (map piece_on_tag (view_of v books).state.pieces)) (on_tags h.coupled.j.masters) (IsPermutation-map piece_on_tag _ _ (shows out takes stack v books rooms h).pieces))
+      (subst (λ zs. IsPermutation zs (map piece_on_tag (view_of v books).state.pieces)) (on_tags h.coupled.j.divided) (IsPermutation-map piece_on_tag _ _ (shows v books h).pieces))
 
   carried : (s t : State) → IsPermutation (map piece_on_tag s.pieces) (map piece_on_tag t.pieces) → (p : Piece) → IsFreshOn s tag p → (q : Piece) × IsFreshOn t tag q × (q.number ≡ p.number)
   carried s t same p f =
       let r = map_there piece_on_tag t.pieces (piece_on_tag p) (Contains-permutation _ _ _ same (Contains-map piece_on_tag s.pieces p f.is_out)) in
       (r.0, record { is_out = r.1; is_tag = ap (λ (x : OnTag). x.tag) r.2 ∙ f.is_tag; is_fresh = ap (λ (x : OnTag). x.fate) r.2 ∙ f.is_fresh }, ap (λ (x : OnTag). x.number) r.2)
 
-  pub acts_above : (out' : List R → Type 0) (v' : DeviceView) → ActsOrFaults v tag v' → IsOrderly v' → out' (rooms_in rooms ++ rooms_kept (all_open books)) → ActsOrFaults (view_of v books) tag (view_of v' books) × IsInHand out' takes stack v' books rooms
-  acts_above out' v' a ordered rooms_out =
+  pub acts_above : (v' : DeviceView) → ActsOrFaults v tag v' → IsOrderly v' → ActsOrFaults (view_of v books) tag (view_of v' books) × IsInHand v' books
+  acts_above v' a ordered =
       let m = moves_above v books h.port h.sound h.coupled (a.label ∷ []) v' a.moves in
       let still = still_run v.rules v.state v'.state a.label a.piece.number a.told a.moves.run in
       let c = carried v.state (view_of v books).state same_tags a.piece a.fresh in (
         record { piece = c.0; label = a.label; fresh = c.1; told = subst (λ n. IsActOrFault n a.label) (sym c.2) a.told; if_booked = a.if_booked; moves = m.moves },
-        hand_moved out takes stack v books rooms h out' (a.label ∷ []) v' m ordered rooms_out (unfinished_still v.rules v.state v'.state still h.unfinished) (settled_still v.rules v.state v'.state still h.settled)
+        hand_moved v books h (a.label ∷ []) v' m ordered (out_same v v' (tickets books) ordered a.moves.same_rooms h.rooms_out) (unfinished_still v.rules v.state v'.state still h.unfinished) (settled_still v.rules v.state v'.state still h.settled)
             (All-permutation (IsCounted v.rules) _ _ still.requests h.counted)
             (below_moved v books h.port h.sound h.coupled (a.label ∷ []) v' m
             (All-weaker (AreAsked (class_rules v.rules) v.state.requests) (AreAsked (class_rules v.rules) v'.state.requests) (asked_still (class_rules v.rules) v.state.requests v'.state.requests still.requests) (all_open books) h.below.asked)
@@ -348,27 +337,26 @@ module _ {R : Type 0} (out : List R → Type 0) (takes : Bool) (stack : ℕ) (v 
     same = ap (λ (x : DeviceView). view_of x books) a.same;
   }
 
-  pub either_acts : (out' : List R → Type 0) (v' : DeviceView) (result : Bool) → MatchBool result (ActsOrFaults v tag v') (ActsNot v tag v') → IsOrderly v' → out' (rooms_in rooms ++ rooms_kept (all_open books))
-      → MatchBool result (ActsOrFaults (view_of v books) tag (view_of v' books)) (ActsNot (view_of v books) tag (view_of v' books)) × IsInHand out' takes stack v' books rooms
-  either_acts out' v' true a ordered rooms_out = acts_above out' v' a ordered rooms_out
-  either_acts out' v' false a ordered rooms_out = (acts_not_above v' a, hand_same out takes stack v books rooms h out' v' a.same rooms_out)
+  pub either_acts : (v' : DeviceView) (result : Bool) → MatchBool result (ActsOrFaults v tag v') (ActsNot v tag v') → IsOrderly v'
+      → MatchBool result (ActsOrFaults (view_of v books) tag (view_of v' books)) (ActsNot (view_of v books) tag (view_of v' books)) × IsInHand v' books
+  either_acts v' true a ordered = acts_above v' a ordered
+  either_acts v' false a ordered = (acts_not_above v' a, hand_same v books h v' a.same)
 
 -- A LABEL TAKEN
 
-module _ {R : Type 0} (out : List R → Type 0) (takes : Bool) (stack : ℕ) (v : DeviceView) (books : Books R) (rooms : List (DiskRoom R)) (h : IsInHand out takes stack v books rooms) where
+module _ (v : DeviceView) (books : Books) (h : IsInHand v books) where
   abbrev with_adapter : AdapterView → DeviceView
   with_adapter adapter = record v { adapter = adapter }
 
   -- the adapter shows the same sectors, and the same pieces on the same tags
-  hand_beside : (out' : List R → Type 0) (adapter : AdapterView) → IsOrderly (with_adapter adapter) → adapter.sectors ≡ v.adapter.sectors → map use_on_tag adapter.tags ≡ map use_on_tag v.adapter.tags
-      → out' (rooms_in rooms ++ rooms_kept (all_open books)) → IsInHand out' takes stack (with_adapter adapter) books rooms
-  hand_beside out' adapter ordered same_sectors same_uses rooms_out = record {
-    takes = h.takes;
+  hand_beside : (adapter : AdapterView) → IsOrderly (with_adapter adapter) → adapter.sectors ≡ v.adapter.sectors → map use_on_tag adapter.tags ≡ map use_on_tag v.adapter.tags
+      → IsInHand (with_adapter adapter) books
+  hand_beside adapter ordered same_sectors same_uses = record {
     port = h.port;
     sound = h.sound;
     counted = h.counted;
     coupled = record { j = h.coupled.j; same = h.coupled.same; knows = h.coupled.knows; next_above = h.coupled.next_above; keeps = h.coupled.keeps };
-    rooms_out = rooms_out;
+    rooms_out = record { orderly = ordered; good = h.rooms_out.good; apart = h.rooms_out.apart; all = h.rooms_out.all };
     unfinished = h.unfinished;
     settled = h.settled;
     kept = h.kept;
@@ -395,30 +383,32 @@ module _ {R : Type 0} (out : List R → Type 0) (takes : Bool) (stack : ℕ) (v 
       distinct = h.orderly.distinct;
       places = h.orderly.places;
       packets = h.orderly.packets;
+      spots = h.orderly.spots;
+      vacant = h.orderly.vacant;
       sending = h.orderly.sending;
-      labels = let l = ordered.labels in let e = same_pieces out takes stack v books rooms h in omega arith;
+      labels = let l = ordered.labels in let e = same_pieces v books h in omega arith;
       uncounted = h.orderly.uncounted;
       none_owed = h.orderly.none_owed;
       not_removed = h.orderly.not_removed;
     };
   }
 
-  pub takes_above : (out' : List R → Type 0) (v' : DeviceView) (label : Option DeviceLabel) → TakesLabel v label v' → IsOrderly v' → out' (rooms_in rooms ++ rooms_kept (all_open books))
-      → TakesLabel (view_of v books) label (view_of v' books) × IsInHand out' takes stack v' books rooms
-  takes_above out' v' None a ordered rooms_out = ((a.0, ap (λ (x : DeviceView). view_of x books) a.1), hand_same out takes stack v books rooms h out' v' a.1 rooms_out)
-  takes_above out' v' (Some label) (labels, is, same) ordered rooms_out = (
+  pub takes_above : (v' : DeviceView) (label : Option DeviceLabel) → TakesLabel v label v' → IsOrderly v'
+      → TakesLabel (view_of v books) label (view_of v' books) × IsInHand v' books
+  takes_above v' None a ordered = ((a.0, ap (λ (x : DeviceView). view_of x books) a.1), hand_same v books h v' a.1)
+  takes_above v' (Some label) (labels, is, same) ordered = (
     (labels, is, ap (λ (x : DeviceView). view_of x books) same),
-    subst (λ x. IsInHand out' takes stack x books rooms) (sym same) (hand_beside out' (record v.adapter { labels = labels }) (subst IsOrderly same ordered) refl refl rooms_out),
+    subst (λ x. IsInHand x books) (sym same) (hand_beside (record v.adapter { labels = labels }) (subst IsOrderly same ordered) refl refl),
   )
 
   -- WHAT IS BOOKED
 
-  pub books_above : (out' : List R → Type 0) (v' : DeviceView) (tag piece : ℕ) (what : Result Entry Completion) → BooksPiece v tag piece what v' → IsOrderly v' → out' (rooms_in rooms ++ rooms_kept (all_open books))
-      → BooksPiece (view_of v books) tag piece what (view_of v' books) × IsInHand out' takes stack v' books rooms
-  books_above out' v' tag piece what b ordered rooms_out = (
+  pub books_above : (v' : DeviceView) (tag piece : ℕ) (what : Result Entry Completion) → BooksPiece v tag piece what v' → IsOrderly v'
+      → BooksPiece (view_of v books) tag piece what (view_of v' books) × IsInHand v' books
+  books_above v' tag piece what b ordered = (
     record { adapter = b.adapter; same = ap (λ (x : DeviceView). view_of x books) b.same },
-    subst (λ x. IsInHand out' takes stack x books rooms) (sym b.same)
-        (hand_beside out' v'.adapter (subst IsOrderly b.same ordered) (books_sectors v.adapter tag piece what v'.adapter b.adapter) (books_tags use_on_tag v.adapter tag piece what v'.adapter b.adapter (use_same what)) rooms_out),
+    subst (λ x. IsInHand x books) (sym b.same)
+        (hand_beside v'.adapter (subst IsOrderly b.same ordered) (books_sectors v.adapter tag piece what v'.adapter b.adapter) (books_tags use_on_tag v.adapter tag piece what v'.adapter b.adapter (use_same what))),
   )
     where
       use_same : (what : Result Entry Completion) (u : TagInUse) → use_on_tag (with_booked what u) ≡ use_on_tag u

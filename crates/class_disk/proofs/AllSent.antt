@@ -1,13 +1,13 @@
 -- All parts of a request that is being opened are sent, one by one: then the class driver is midway in its call.
-use Rattle.std.proofs.Common.{◌≡◌, ◌≢◌, ◌<◌, ℕ, suc, ◌+◌, Bool, List, [], ◌∷◌, ◌++◌, Some, refl, sym, ◌∙◌, ap, subst, arith, length, map, drop, take, get_or, append_assoc}
+use Rattle.std.proofs.Common.{◌≡◌, ◌≢◌, ◌<◌, ℕ, ◌+◌, Bool, List, [], ◌∷◌, ◌++◌, Some, refl, sym, ◌∙◌, ap, subst, arith, length, map, drop, take, get_or, append_assoc}
 use Rattle.std.specs.Prelude.{IsPermutation, All, Contains, slice_get}
 use Rattle.std.proofs.lemmas.List.{append-nil, length-take-le}
 use Rattle.std.proofs.lemmas.List.Sorted.{IsPermutation-sym, IsPermutation-map, All-permutation, Contains-permutation}
 use Rattle.std.proofs.lemmas.List.Elements.{All-nil, All-cons, All-head, All-tail, All-append, All-contains, All-weaker, Contains-get_or}
 use Rattle.adapter.proofs.Joining.{moves_joined, reserves_none}
 use Rattle.srb.specs.declared.DeviceLabel.{DeviceLabel}
-use Rattle.irp.specs.declared.Climb.{Climb}
-use Rattle.machine.specs.declared.Request.{Request}
+use Rattle.device.specs.inside.Out.{Ticket}
+use Rattle.device.specs.declared.climbing.Climb.{Climb}
 use Rattle.machine.specs.Rules.{Rules}
 use Rattle.machine.specs.Sending.{IsStart}
 use Rattle.machine.specs.State.{State}
@@ -17,12 +17,11 @@ use Rattle.class_disk.specs.declared.parts.Part.{Part}
 use Rattle.class_disk.specs.declared.parts.Place.{Place}
 use Rattle.class_disk.specs.declared.parts.Progress.{Progress}
 use Rattle.class_disk.specs.declared.parts.Progress.TheVariants.{Ready, Below, Ended as HasEnded}
-use Rattle.class_disk.specs.declared.requests.DiskRoom.{DiskRoom}
-use Rattle.class_disk.specs.Books.{Opened, Books, opened, number_below, open_at}
-use Rattle.class_disk.specs.Driver.{note, note_by, known, knowns, IsCauseBy, HaveCauses, IsOpen, WentAs, WentInTurn}
-use Rattle.class_disk.specs.Kept.{IsNothing, IsIfEnded, EndedAre, IsOver, IsOverNote}
-use Rattle.class_disk.specs.Midway.{GoesOn, IsMidway, IsOpening, OpeningSoFar, SendsAll, SendsDown, CanSendPart}
-use Rattle.class_disk.specs.Parts.{IsDown, IsDownBy, WasSent, WasSentBy, unfinished_of, unfinished_by}
+use Rattle.class_disk.specs.inside.Books.{Opened, Books, opened, open_at}
+use Rattle.class_disk.specs.inside.Driver.{note, note_by, known, knowns, IsCauseBy, HaveCauses, IsOpen, WentAs, WentInTurn}
+use Rattle.class_disk.specs.inside.Kept.{IsNothing, IsIfEnded, EndedAre, IsOver, IsOverNote}
+use Rattle.class_disk.specs.inside.Midway.{GoesOn, IsMidway, IsOpening, OpeningSoFar, SendsAll, SendsDown, CanSendPart}
+use Rattle.class_disk.specs.inside.Parts.{IsDown, IsDownBy, WasSent, WasSentBy, unfinished_of, unfinished_by}
 use Rattle.class_disk.specs.Shown.{class_rules}
 use Rattle.class_disk.proofs.Parting.{drop_whole, found_same}
 use Rattle.class_disk.proofs.ReadyParts.{part, is_there, with_place, place, rooms_left, can_send_part}
@@ -35,50 +34,49 @@ take_whole : {X : Type 0} (xs : List X) → take (length xs) xs ≡ xs
 take_whole [] = refl
 take_whole (x ∷ xs) = ap (λ ys. x ∷ ys) (take_whole xs)
 
-module _ {R : Type 0} where
-  was_sent : (x : Part R) → IsDown x → WasSent x
-  was_sent x h = by x.progress h
-    where
-      by : (p : Progress R) → IsDownBy p → WasSentBy p
-      by (Ready unsent) h = h
-      by (Below number spot) h = tt
-      by (HasEnded ended) h = tt
+was_sent : (x : Part) → IsDown x → WasSent x
+was_sent x h = by x.progress h
+  where
+    by : (p : Progress) → IsDownBy p → WasSentBy p
+    by (Ready unsent) h = h
+    by (Below number spot) h = tt
+    by (HasEnded ended) h = tt
 
-  all_left : (parts : List (Part R)) → All IsDown parts → unfinished_of parts ≡ length parts
-  all_left [] all = refl
-  all_left (x ∷ parts) all =
-      let first : unfinished_by x.progress ≡ 1 = by x.progress (All-head IsDown x parts all) in
-      let rest = all_left parts (All-tail IsDown x parts all) in
-      omega arith
-    where
-      by : (p : Progress R) → IsDownBy p → unfinished_by p ≡ 1
-      by (Ready unsent) h = refl
-      by (Below number spot) h = refl
-      by (HasEnded ended) h = absurd h
+all_left : (parts : List Part) → All IsDown parts → unfinished_of parts ≡ length parts
+all_left [] all = refl
+all_left (x ∷ parts) all =
+    let first : unfinished_by x.progress ≡ 1 = by x.progress (All-head IsDown x parts all) in
+    let rest = all_left parts (All-tail IsDown x parts all) in
+    omega arith
+  where
+    by : (p : Progress) → IsDownBy p → unfinished_by p ≡ 1
+    by (Ready unsent) h = refl
+    by (Below number spot) h = refl
+    by (HasEnded ended) h = absurd h
 
-  no_cause : (cancelled removing : Bool) (busy : ℕ) (x : Part R) → IsDown x → IsCauseBy cancelled removing busy x.progress
-  no_cause cancelled removing busy x h = by x.progress h
-    where
-      by : (p : Progress R) → IsDownBy p → IsCauseBy cancelled removing busy p
-      by (Ready unsent) h = tt
-      by (Below number spot) h = tt
-      by (HasEnded ended) h = absurd h
+no_cause : (cancelled removing : Bool) (busy : ℕ) (x : Part) → IsDown x → IsCauseBy cancelled removing busy x.progress
+no_cause cancelled removing busy x h = by x.progress h
+  where
+    by : (p : Progress) → IsDownBy p → IsCauseBy cancelled removing busy p
+    by (Ready unsent) h = tt
+    by (Below number spot) h = tt
+    by (HasEnded ended) h = absurd h
 
-  all_over : (rules : Rules) (cancelled removing : Bool) (busy : ℕ) (parts : List (Part R)) → All IsDown parts → All
-      (IsOverNote cancelled removing 17 busy) (map (note rules) parts)
-  all_over rules cancelled removing busy [] all = All-nil (IsOverNote cancelled removing 17 busy)
-  all_over rules cancelled removing busy (x ∷ parts) all =
-      All-cons (IsOverNote cancelled removing 17 busy) (note rules x) (map (note rules) parts) (by x.progress (All-head IsDown x parts all))
-      (all_over rules cancelled removing busy parts (All-tail IsDown x parts all))
-    where
-      by : (p : Progress R) → IsDownBy p → IsOverNote cancelled removing 17 busy (note_by rules x p)
-      by (Ready unsent) h = absurd h
-      by (Below number spot) h = tt
-      by (HasEnded ended) h = absurd h
+all_over : (rules : Rules) (cancelled removing : Bool) (busy : ℕ) (parts : List Part) → All IsDown parts → All
+    (IsOverNote cancelled removing 17 busy) (map (note rules) parts)
+all_over rules cancelled removing busy [] all = All-nil (IsOverNote cancelled removing 17 busy)
+all_over rules cancelled removing busy (x ∷ parts) all =
+    All-cons (IsOverNote cancelled removing 17 busy) (note rules x) (map (note rules) parts) (by x.progress (All-head IsDown x parts all))
+    (all_over rules cancelled removing busy parts (All-tail IsDown x parts all))
+  where
+    by : (p : Progress) → IsDownBy p → IsOverNote cancelled removing 17 busy (note_by rules x p)
+    by (Ready unsent) h = absurd h
+    by (Below number spot) h = tt
+    by (HasEnded ended) h = absurd h
 
-module _ {R : Type 0} {request_of : R → Request} {ready : R → Type 0} {out : List R → Type 0} {takes_srb : Bool} {stack : ℕ} {v : DeviceView}
-    {b : Books R} {slot k : ℕ} {rooms : List (DiskRoom R)}
-    (h : IsOpening request_of ready out takes_srb stack v b slot k rooms) (at_end : k ≡ length h.o.parts) where
+module _ {v : DeviceView}
+    {b : Books} {slot k : ℕ}
+    (h : IsOpening v b slot k) (at_end : k ≡ length h.o.parts) where
   abbrev rules : Rules
   rules = class_rules v.rules
 
@@ -88,15 +86,14 @@ module _ {R : Type 0} {request_of : R → Request} {ready : R → Type 0} {out :
   none_left : length (drop k h.o.parts) ≡ 0
   none_left = ap (λ n. length (drop n h.o.parts)) at_end ∙ ap length (drop_whole h.o.parts)
 
-  is_open : IsOpen rules (slot, h.o)
+  is_open : IsOpen rules b.owners (slot, h.o)
   is_open = record {
     cut = h.cut;
     carries = h.carries;
     sent = All-weaker IsDown WasSent was_sent h.o.parts down;
     buffered = h.buffered;
     written = h.written;
-    numbered = h.numbered;
-    slot = h.slot_is;
+    owned = h.owned;
     restarts = h.restarts.0 ∙ sym h.restarts.1;
     few = let e = h.restarts.0 in omega arith;
     unfinished = h.unfinished ∙ sym (all_left h.o.parts down);
@@ -107,17 +104,15 @@ module _ {R : Type 0} {request_of : R → Request} {ready : R → Type 0} {out :
 
   -- nothing is left to be sent
   pub opened_midway : (first : State) (labels : List DeviceLabel) → OpeningSoFar v b first labels
-      → IsMidway out takes_srb stack IsNothing first labels v b rooms
+      → IsMidway IsNothing first labels v b
   opened_midway first labels so_far = record {
-    takes = h.takes;
     port = h.port;
     taking = so_far.taking;
     rooms_out = h.rooms_out;
     kept = record {
       sizes = h.sizes;
       in_hand = h.in_hand;
-      opens = All-permutation (IsOpen rules) _ _ (IsPermutation-sym _ _ h.others_are) (All-cons (IsOpen rules) (slot, h.o) h.others is_open h.opens);
-      vacant = h.vacant;
+      opens = All-permutation (IsOpen rules b.owners) _ _ (IsPermutation-sym _ _ h.others_are) (All-cons (IsOpen rules b.owners) (slot, h.o) h.others is_open h.opens);
       ended = h.ended;
       places = h.places;
       causes = All-permutation (HaveCauses rules b.removing) _ _ (IsPermutation-sym _ _ h.others_are)
@@ -141,43 +136,36 @@ module _ {R : Type 0} {request_of : R → Request} {ready : R → Type 0} {out :
   }
 
 -- so the layer below has nothing to hand up
-pub none_handed : (takes : Bool) (v : DeviceView) (request : Request) (climb : Climb) (v' : DeviceView) → EndedAre IsNothing v.rules v.state
-    → HandsUp takes v request climb v' → ⊥
-none_handed takes v request climb v' none h =
+pub none_handed : (takes : Bool) (v : DeviceView) (climb : Climb) (spot : ℕ) (v' : DeviceView) → EndedAre IsNothing v.rules v.state
+    → HandsUp takes v climb spot v' → ⊥
+none_handed takes v climb spot v' none h =
     All-contains (IsIfEnded IsNothing v.rules v.state) v.state.requests h.answers.request none
     (Contains-permutation _ _ h.answers.request (IsPermutation-sym _ _ h.answers.is_open) (0, omega arith, refl)) h.answers.ended
 
 -- ONE BY ONE
 
 -- the parts before this one were sent: all requests below that were there before are as they were
-pub record SentSoFar {R : Type 0} (request_of : R → Request) (ready : R → Type 0) (out0 out : List R → Type 0) (takes_srb : Bool) (stack : ℕ)
-    (v0 : DeviceView) (b0 : Books R) (slot k : ℕ) (v : DeviceView) (b : Books R) : Type 0 where
+pub record SentSoFar
+    (v0 : DeviceView) (b0 : Books) (slot k : ℕ) (v : DeviceView) (b : Books) : Type 0 where
   pub starts : List DeviceLabel
   pub goes : GoesOn v0 b0 starts v b
   pub others_stay : All (StaysOpen v.state) v0.state.requests
   pub next_packet : b.next_packet ≡ b0.next_packet + k
-  pub in_turn : (o : Opened R) → open_at slot b.opens ≡ Some o → WentInTurn b0.next_packet slot 0 (take k o.parts)
-  pub table_stays : (e : ℕ × Opened R) → e.0 ≢ slot → Contains b0.opens e → Contains b.opens e
-  pub opening : (rooms : List (DiskRoom R)) → IsOpening request_of ready out0 takes_srb stack v0 b0 slot 0 rooms
-      → IsOpening request_of ready out takes_srb stack v b slot k rooms
+  pub in_turn : (o : Opened) → open_at slot b.opens ≡ Some o → WentInTurn b0.next_packet (take k o.parts)
+  pub table_stays : (e : ℕ × Opened) → e.0 ≢ slot → Contains b0.opens e → Contains b.opens e
+  pub opening : IsOpening v0 b0 slot 0
+      → IsOpening v b slot k
   pub taking : (first : State) (labels : List DeviceLabel) → OpeningSoFar v0 b0 first labels → OpeningSoFar v b first (labels ++ starts)
-  pub long : (o0 o : Opened R) → open_at slot b0.opens ≡ Some o0 → open_at slot b.opens ≡ Some o → length o.parts ≡ length o0.parts
+  pub long : (o0 o : Opened) → open_at slot b0.opens ≡ Some o0 → open_at slot b.opens ≡ Some o → length o.parts ≡ length o0.parts
 
 -- one more behind those that went
-went_on : {R : Type 0} (count slot k : ℕ) (parts : List (Part R)) (x : Part R) → WentInTurn count slot k parts
-    → WentAs (number_below (count + length parts) slot (k + length parts)) x.progress → WentInTurn count slot k (parts ++ (x ∷ []))
-went_on count slot k [] x all own =
-    (subst (λ n. WentAs n x.progress) (ap (λ m. number_below m slot (k + 0)) (omega arith) ∙ ap (number_below count slot) (omega arith)) own, tt)
-went_on count slot k (p ∷ parts) x all own = (
-  all.0,
-  went_on (count + 1) slot (k + 1) parts x all.1
-      (subst (λ n. WentAs n x.progress)
-      (ap (λ m. number_below m slot (k + suc (length parts))) (omega arith) ∙ ap (number_below (count + 1 + length parts) slot) (omega arith)) own),
-)
+went_on : (count : ℕ) (parts : List Part) (x : Part) → WentInTurn count parts → WentAs (count + length parts) x.progress → WentInTurn count (parts ++ (x ∷ []))
+went_on count [] x all own = (subst (λ n. WentAs n x.progress) (omega arith) own, tt)
+went_on count (p ∷ parts) x all own = (all.0, went_on (count + 1) parts x all.1 (subst (λ n. WentAs n x.progress) (omega arith) own))
 
-module _ {R : Type 0} (request_of : R → Request) (ready : R → Type 0) (out0 : List R → Type 0) (takes_srb : Bool) (stack : ℕ) (v0 : DeviceView)
-    (b0 : Books R) (slot : ℕ) where
-  pub none_sent : SentSoFar request_of ready out0 out0 takes_srb stack v0 b0 slot 0 v0 b0
+module _ (v0 : DeviceView)
+    (b0 : Books) (slot : ℕ) where
+  pub none_sent : SentSoFar v0 b0 slot 0 v0 b0
   none_sent = record {
     starts = [];
     goes = record {
@@ -188,71 +176,67 @@ module _ {R : Type 0} (request_of : R → Request) (ready : R → Type 0) (out0 
       same_last = refl;
       same_submitted = refl;
       same_packets = refl;
+      same_rooms = refl;
     };
     others_stay = λ i d low. Contains-get_or v0.state.requests i d low;
     next_packet = omega arith;
     in_turn = λ o is_open. tt;
     table_stays = λ e apart c. c;
-    opening = λ rooms h. h;
+    opening = λ h. h;
     taking = λ first labels h. subst (OpeningSoFar v0 b0 first) (sym (append-nil labels)) h;
-    long = λ o0 o is0 is. ap (λ (x : Opened R). length x.parts) (found_same _ _ _ is is0);
+    long = λ o0 o is0 is. ap (λ (x : Opened). length x.parts) (found_same _ _ _ is is0);
   }
 
-  module _ (rooms0 : List (DiskRoom R)) (h0 : IsOpening request_of ready out0 takes_srb stack v0 b0 slot 0 rooms0) (k count : ℕ)
-      (counts : (o : Opened R) → open_at slot b0.opens ≡ Some o → count ≡ length o.parts)
-      (out : List R → Type 0) (law : (xs ys : List R) → IsPermutation xs ys → out xs
-      → out ys) (v : DeviceView) (b : Books R) (rise : AreRising 0 b.opens)
-      (so_far : SentSoFar request_of ready out0 out takes_srb stack v0 b0 slot k v b) where
-    abbrev h : IsOpening request_of ready out takes_srb stack v b slot k rooms0
-    h = so_far.opening rooms0 h0
+  module _ (h0 : IsOpening v0 b0 slot 0) (k count : ℕ)
+      (counts : (o : Opened) → open_at slot b0.opens ≡ Some o → count ≡ length o.parts)
+      (v : DeviceView) (b : Books) (rise : AreRising 0 b.opens)
+      (so_far : SentSoFar v0 b0 slot k v b) where
+    abbrev h : IsOpening v b slot k
+    h = so_far.opening h0
 
-    pub counts_now : (rooms : List (DiskRoom R)) (w : IsOpening request_of ready out takes_srb stack v b slot k rooms) → count ≡ length w.o.parts
-    counts_now rooms w = counts h0.o h0.is_open ∙ sym (so_far.long h0.o w.o h0.is_open w.is_open)
+    pub counts_now : (w : IsOpening v b slot k) → count ≡ length w.o.parts
+    counts_now w = counts h0.o h0.is_open ∙ sym (so_far.long h0.o w.o h0.is_open w.is_open)
 
     -- the next one can be sent
-    pub can_go_on : k < count → IsOrderly v → (rooms : List R) × (o : Opened R) × (x : Part R) ×
-        (p : Place R) × CanSendPart request_of ready out takes_srb stack v b slot k rooms o x p
+    pub can_go_on : k < count → IsOrderly v → (others : List Ticket) × (o : Opened) × (x : Part) ×
+        (p : Place) × CanSendPart v b slot k others o x p
     can_go_on low ordered =
-        let within : k < length h.o.parts = (let e = counts_now rooms0 h in omega arith) in
-        (rooms_left h ordered rise within, h.o, part h ordered rise within, place h ordered rise within, can_send_part h ordered rise within law)
+        let within : k < length h.o.parts = (let e = counts_now h in omega arith) in
+        (rooms_left h ordered rise within, h.o, part h ordered rise within, place h ordered rise within, can_send_part h ordered rise within)
 
     -- it is sent
-    module _ (low : k < count) (ordered : IsOrderly v) (out' : List R → Type 0) (v' : DeviceView) (b' : Books R)
-        (sends : (o : Opened R) (x : Part R) (p : Place R) → open_at slot b.opens ≡ Some o → slice_get o.parts k ≡ Some x → x.progress ≡ Ready p
-        → SendsDown v b slot k o x p v' b')
-        (rooms_step : (o : Opened R) (x : Part R) (p : Place R) (rooms : List R) → open_at slot b.opens ≡ Some o → slice_get o.parts k ≡ Some x
-        → x.progress ≡ Ready p → out (p.room ∷ rooms) → out' rooms) where
-      module _ (rooms : List (DiskRoom R)) (w : IsOpening request_of ready out takes_srb stack v b slot k rooms) where
+    module _ (low : k < count) (ordered : IsOrderly v) (v' : DeviceView) (b' : Books)
+        (sends : (o : Opened) (x : Part) (p : Place) → open_at slot b.opens ≡ Some o → slice_get o.parts k ≡ Some x → x.progress ≡ Ready p
+        → SendsDown v b slot k o x p v' b') where
+      module _ (w : IsOpening v b slot k) where
         within : k < length w.o.parts
-        within = let e = counts_now rooms w in omega arith
+        within = let e = counts_now w in omega arith
 
-        abbrev its_place : Place R
+        abbrev its_place : Place
         its_place = place w ordered rise within
 
         down_now : SendsDown v b slot k w.o (part w ordered rise within) its_place v' b'
         down_now = sends w.o _ its_place w.is_open (is_there w ordered rise within) (with_place w ordered rise within).is_ready
 
-        opening_next : IsOpening request_of ready out' takes_srb stack v' b' slot (k + 1) rooms
+        opening_next : IsOpening v' b' slot (k + 1)
         opening_next =
-            sent_on w ordered rise within v' b' down_now out'
-            (rooms_step w.o _ its_place _ w.is_open (is_there w ordered rise within) (with_place w ordered rise within).is_ready) law
+            sent_on w ordered rise within v' b' down_now down_now.ordered
 
       abbrev inside : k < length h.o.parts
-      inside = within rooms0 h
+      inside = within h
 
       abbrev x : SendsDown v b slot k h.o (part h ordered rise inside) (place h ordered rise inside) v' b'
-      x = down_now rooms0 h
+      x = down_now h
 
-      next_turn : (o : Opened R) → open_at slot b'.opens ≡ Some o → WentInTurn b0.next_packet slot 0 (take (k + 1) o.parts)
+      next_turn : (o : Opened) → open_at slot b'.opens ≡ Some o → WentInTurn b0.next_packet (take (k + 1) o.parts)
       next_turn o is_open =
-          let number = number_on h ordered rise inside v' b' x ∙ ap (λ n. number_below n slot k) so_far.next_packet in
+          let number = number_on h ordered rise inside v' b' x ∙ so_far.next_packet in
           let long : length (take k h.o.parts) ≡ k = (let low' = inside in length-take-le k h.o.parts (omega arith)) in
-          subst (WentInTurn b0.next_packet slot 0) (sym (part_on h ordered rise inside v' b' x o is_open))
-          (went_on b0.next_packet slot 0 (take k h.o.parts) (new_part h ordered rise inside v' b' x) (so_far.in_turn h.o h.is_open)
-          (number ∙ ap (λ n. number_below (b0.next_packet + n) slot k) (sym long)
-          ∙ ap (number_below (b0.next_packet + length (take k h.o.parts)) slot) (omega (arith, long))))
+          subst (WentInTurn b0.next_packet) (sym (part_on h ordered rise inside v' b' x o is_open))
+          (went_on b0.next_packet (take k h.o.parts) (new_part h ordered rise inside v' b' x) (so_far.in_turn h.o h.is_open)
+          (number ∙ ap (λ n. b0.next_packet + n) (sym long)))
 
-      pub one_sent : SentSoFar request_of ready out0 out' takes_srb stack v0 b0 slot (k + 1) v' b'
+      pub one_sent : SentSoFar v0 b0 slot (k + 1) v' b'
       one_sent =
           let goes = goes_on h ordered rise inside v' b' x in
           record {
@@ -265,13 +249,14 @@ module _ {R : Type 0} (request_of : R → Request) (ready : R → Type 0) (out0 
               same_last = goes.same_last ∙ so_far.goes.same_last;
               same_submitted = goes.same_submitted ∙ so_far.goes.same_submitted;
               same_packets = goes.same_packets ∙ so_far.goes.same_packets;
+              same_rooms = goes.same_rooms ∙ so_far.goes.same_rooms;
             };
             others_stay = λ i d low'.
                 All-contains (StaysOpen v'.state) v.state.requests (get_or v0.state.requests i d) x.submits.others_stay (so_far.others_stay i d low');
             next_packet = let a = packets_on h ordered rise inside v' b' x in let e = so_far.next_packet in omega arith;
             in_turn = next_turn;
             table_stays = λ e apart c. table_on h ordered rise inside v' b' x e apart (so_far.table_stays e apart c);
-            opening = λ rooms w0. opening_next rooms (so_far.opening rooms w0);
+            opening = λ w0. opening_next (so_far.opening w0);
             taking = λ first labels t0.
                 subst (OpeningSoFar v' b' first) (append_assoc labels so_far.starts x.submits.starts)
                 (taking_on h ordered rise inside v' b' x first (labels ++ so_far.starts) (so_far.taking first labels t0));
@@ -279,18 +264,18 @@ module _ {R : Type 0} (request_of : R → Request) (ready : R → Type 0) (out0 
           }
 
     -- all are
-    pub all_sent : k ≡ count → (first : State) (labels : List DeviceLabel) (rooms : List (DiskRoom R)) → OpeningSoFar v0 b0 first labels
-        → IsOpening request_of ready out0 takes_srb stack v0 b0 slot 0 rooms → SendsAll out takes_srb stack first labels v0 b0 slot v b rooms
-    all_sent at_end first labels rooms t0 w0 =
-        let w : IsOpening request_of ready out takes_srb stack v b slot k rooms = so_far.opening rooms w0 in
+    pub all_sent : k ≡ count → (first : State) (labels : List DeviceLabel) → OpeningSoFar v0 b0 first labels
+        → IsOpening v0 b0 slot 0 → SendsAll first labels v0 b0 slot v b
+    all_sent at_end first labels t0 w0 =
+        let w : IsOpening v b slot k = so_far.opening w0 in
         record {
           starts = so_far.starts;
           goes_on = so_far.goes;
           in_turn = λ o is_open.
               (let all : take k o.parts ≡ o.parts = ap (λ n. take n o.parts)
               (at_end ∙ counts h0.o h0.is_open ∙ sym (so_far.long h0.o o h0.is_open is_open)) ∙ take_whole o.parts in
-              subst (WentInTurn b0.next_packet slot 0) all (so_far.in_turn o is_open));
-          midway = opened_midway w (at_end ∙ counts_now rooms w) first (labels ++ so_far.starts) (so_far.taking first labels t0);
+              subst (WentInTurn b0.next_packet) all (so_far.in_turn o is_open));
+          midway = opened_midway w (at_end ∙ counts_now w) first (labels ++ so_far.starts) (so_far.taking first labels t0);
           others_stay = so_far.others_stay;
           table_stays = so_far.table_stays;
         }

@@ -1,13 +1,14 @@
 -- The open requests in another order: the rooms that they keep, the slots of the ended ones, and the restarts that are left.
+use Rattle.device.specs.inside.Out.{Ticket}
 use Rattle.std.proofs.Common.{◌≡◌, ℕ, zero, suc, ◌-◌, ◌==◌, Bool, true, false, List, [], ◌∷◌, ◌++◌, refl, sym, ◌∙◌, ap, subst, arith, length, replicate, length-append, append_assoc}
 use Rattle.std.specs.Prelude.{IsPermutation, Contains, if◌then◌else◌}
 use Rattle.std.proofs.lemmas.List.{length-replicate}
 use Rattle.std.proofs.lemmas.List.Sorted.{IsPermutation-refl, IsPermutation-sym, IsPermutation-trans, IsPermutation-middle, IsPermutation-append_left, IsPermutation-append_right, IsPermutation-append_comm, Contains-permutation, length_permutation}
 use Rattle.machine.proofs.Same.{none_there}
 use Rattle.machine.proofs.Permuting.{IsPermutation-uncons}
-use Rattle.class_disk.specs.Parts.{rooms_of}
-use Rattle.class_disk.specs.Books.{Opened, ended_in, restarts_left}
-use Rattle.class_disk.specs.Driver.{rooms_kept}
+use Rattle.class_disk.specs.inside.Parts.{tickets_of}
+use Rattle.class_disk.specs.inside.Books.{Opened, Held, ended_in, restarts_left}
+use Rattle.class_disk.specs.inside.Driver.{tickets_held, tickets_open}
 
 -- LISTS PUT TOGETHER, IN ANY ORDER
 
@@ -41,45 +42,56 @@ flat_same f (x ∷ xs) ys h =
     (IsPermutation-trans _ _ _ (IsPermutation-append_right (f x) _ _ (flat_same f xs (c.0 ++ c.1) q))
     (IsPermutation-sym _ _ (flat_middle f c.0 x c.1)))
 
-module _ {R : Type 0} where
-  abbrev own_rooms : Opened R → List R
-  own_rooms o = rooms_of o.parts
+abbrev own_rooms : Opened → List Ticket
+own_rooms o = tickets_of o.parts
 
-  rooms_flat : (os : List (Opened R)) → rooms_kept os ≡ flat own_rooms os
-  rooms_flat [] = refl
-  rooms_flat (o ∷ os) = ap (λ zs. rooms_of o.parts ++ zs) (rooms_flat os)
+rooms_flat : (os : List Opened) → tickets_open os ≡ flat own_rooms os
+rooms_flat [] = refl
+rooms_flat (o ∷ os) = ap (λ zs. tickets_of o.parts ++ zs) (rooms_flat os)
 
-  abbrev slot_if_ended : ℕ × Opened R → List ℕ
-  slot_if_ended x = if x.1.unfinished == 0 then x.0 ∷ [] else []
+abbrev held_rooms : Held → List Ticket
+held_rooms held = tickets_of held.parts
 
-  ended_flat : (es : List (ℕ × Opened R)) → ended_in es ≡ flat slot_if_ended es
-  ended_flat [] = refl
-  ended_flat (x ∷ es) = by (x.1.unfinished == 0) (ended_flat es)
-    where
-      by : (over : Bool) → ended_in es ≡ flat slot_if_ended es → (if over then x.0 ∷ ended_in es else ended_in es) ≡
-          (if over then x.0 ∷ [] else []) ++ flat slot_if_ended es
-      by true h = ap (λ zs. x.0 ∷ zs) h
-      by false h = h
+held_flat : (hs : List Held) → tickets_held hs ≡ flat held_rooms hs
+held_flat [] = refl
+held_flat (x ∷ hs) = ap (λ zs. tickets_of x.parts ++ zs) (held_flat hs)
 
-  abbrev left_as_list : ℕ × Opened R → List ℕ
-  left_as_list x = replicate (16 - x.1.restarts) 0
+-- those of slots with no packet, in another order
+pub held_same : (xs ys : List Held) → IsPermutation xs ys → IsPermutation (tickets_held xs) (tickets_held ys)
+held_same xs ys h = subst (λ zs. IsPermutation zs (tickets_held ys)) (sym (held_flat xs))
+    (subst (λ zs. IsPermutation (flat held_rooms xs) zs) (sym (held_flat ys)) (flat_same held_rooms xs ys h))
 
-  left_flat : (es : List (ℕ × Opened R)) → restarts_left es ≡ length (flat left_as_list es)
-  left_flat [] = refl
-  left_flat (x ∷ es) =
-      let a = left_flat es in
-      let b = length-append (left_as_list x) (flat left_as_list es) in
-      let c = length-replicate {A = ℕ} (16 - x.1.restarts) 0 in
-      omega (arith, a, b, c)
+abbrev slot_if_ended : ℕ × Opened → List ℕ
+slot_if_ended x = if x.1.unfinished == 0 then x.0 ∷ [] else []
 
-  -- the open requests in another order
-  pub rooms_same : (xs ys : List (Opened R)) → IsPermutation xs ys → IsPermutation (rooms_kept xs) (rooms_kept ys)
-  rooms_same xs ys h = subst (λ zs. IsPermutation zs (rooms_kept ys)) (sym (rooms_flat xs))
-      (subst (λ zs. IsPermutation (flat own_rooms xs) zs) (sym (rooms_flat ys)) (flat_same own_rooms xs ys h))
+ended_flat : (es : List (ℕ × Opened)) → ended_in es ≡ flat slot_if_ended es
+ended_flat [] = refl
+ended_flat (x ∷ es) = by (x.1.unfinished == 0) (ended_flat es)
+  where
+    by : (over : Bool) → ended_in es ≡ flat slot_if_ended es → (if over then x.0 ∷ ended_in es else ended_in es) ≡
+        (if over then x.0 ∷ [] else []) ++ flat slot_if_ended es
+    by true h = ap (λ zs. x.0 ∷ zs) h
+    by false h = h
 
-  pub ended_same : (xs ys : List (ℕ × Opened R)) → IsPermutation xs ys → IsPermutation (ended_in xs) (ended_in ys)
-  ended_same xs ys h = subst (λ zs. IsPermutation zs (ended_in ys)) (sym (ended_flat xs))
-      (subst (λ zs. IsPermutation (flat slot_if_ended xs) zs) (sym (ended_flat ys)) (flat_same slot_if_ended xs ys h))
+abbrev left_as_list : ℕ × Opened → List ℕ
+left_as_list x = replicate (16 - x.1.restarts) 0
 
-  pub left_same : (xs ys : List (ℕ × Opened R)) → IsPermutation xs ys → restarts_left xs ≡ restarts_left ys
-  left_same xs ys h = left_flat xs ∙ sym (length_permutation _ _ (flat_same left_as_list xs ys h)) ∙ sym (left_flat ys)
+left_flat : (es : List (ℕ × Opened)) → restarts_left es ≡ length (flat left_as_list es)
+left_flat [] = refl
+left_flat (x ∷ es) =
+    let a = left_flat es in
+    let b = length-append (left_as_list x) (flat left_as_list es) in
+    let c = length-replicate {A = ℕ} (16 - x.1.restarts) 0 in
+    omega (arith, a, b, c)
+
+-- the open requests in another order
+pub rooms_same : (xs ys : List Opened) → IsPermutation xs ys → IsPermutation (tickets_open xs) (tickets_open ys)
+rooms_same xs ys h = subst (λ zs. IsPermutation zs (tickets_open ys)) (sym (rooms_flat xs))
+    (subst (λ zs. IsPermutation (flat own_rooms xs) zs) (sym (rooms_flat ys)) (flat_same own_rooms xs ys h))
+
+pub ended_same : (xs ys : List (ℕ × Opened)) → IsPermutation xs ys → IsPermutation (ended_in xs) (ended_in ys)
+ended_same xs ys h = subst (λ zs. IsPermutation zs (ended_in ys)) (sym (ended_flat xs))
+    (subst (λ zs. IsPermutation (flat slot_if_ended xs) zs) (sym (ended_flat ys)) (flat_same slot_if_ended xs ys h))
+
+pub left_same : (xs ys : List (ℕ × Opened)) → IsPermutation xs ys → restarts_left xs ≡ restarts_left ys
+left_same xs ys h = left_flat xs ∙ sym (length_permutation _ _ (flat_same left_as_list xs ys h)) ∙ sym (left_flat ys)

@@ -4,7 +4,7 @@ use Rattle.std.proofs.Common.{◌≡◌, ◌⊎◌, inl, inr, ℕ, ◌+◌, ◌*
 use Rattle.std.specs.Prelude.{slice_get, if◌then◌else◌}
 use Rattle.std.proofs.Math.Nat.{mul-div_cancel}
 use Rattle.sector.specs.declared.Extent.{Extent}
-use Rattle.cdb.specs.Meaning.{Means}
+use Rattle.cdb.specs.Meaning.{IsPlain, Means}
 use Rattle.srb.specs.declared.Srb.{Srb}
 use Rattle.srb.specs.declared.SrbFunction.TheVariants.{ExecuteScsi}
 use Rattle.srb.specs.declared.Kind.{Kind}
@@ -14,7 +14,7 @@ use Rattle.machine.specs.Rules.{Rules, home, as_client, is_transfer, place_count
 use Rattle.machine.specs.Sending.{command_for, read_command, write_command, flush_command}
 use Rattle.machine.specs.Solo.{all_places}
 use Rattle.device.specs.View.{AsksFor, transfer_length, direction}
-use Rattle.class_disk.specs.Blocks.{IsWholeDisk, disk_command, part_request_of}
+use Rattle.class_disk.specs.inside.Blocks.{IsWholeDisk, disk_command, part_request_of}
 
 abbrev at_home : Option Extent → ℕ → ℕ
 at_home None i = i
@@ -49,12 +49,14 @@ module _ (disk_sectors : ℕ) (rules : Rules) (r : Request) (whole : IsWholeDisk
   command_is Flush same = ap flush_command whole.as_many
 
 pub asks_for : (disk_sectors : ℕ) (rules : Rules) (r : Request) (srb : Srb) → IsWholeDisk disk_sectors rules → r.volume ≡ 0 → srb.function ≡ ExecuteScsi → srb.flags.0 ≡ direction r.kind
-    → Means srb.block (disk_command disk_sectors r r.kind) → length srb.data ≡ transfer_length rules r → length srb.for_label ≡ transfer_length rules r → AsksFor rules r srb
-asks_for disk_sectors rules r srb whole top function flags means data_length label_length = record {
+    → Means srb.block (disk_command disk_sectors r r.kind) → IsPlain srb.block (disk_command disk_sectors r r.kind) → srb.sense ≡ None → length srb.data ≡ transfer_length rules r → length srb.for_label ≡ transfer_length rules r → AsksFor rules r srb
+asks_for disk_sectors rules r srb whole top function flags means plain sense data_length label_length = record {
   function = function;
   flags = flags;
   asks = subst (Means srb.block) (sym (command_is disk_sectors rules r whole top r.kind refl)) means;
+  plain = subst (IsPlain srb.block) (sym (command_is disk_sectors rules r whole top r.kind refl)) plain;
   data_length = data_length;
+  sense = sense;
   label_length = label_length;
 }
 

@@ -8,14 +8,14 @@ use Rattle.machine.specs.State.{OpenRequest, State}
 use Rattle.machine.specs.Holding.{Cancels}
 use Rattle.device.specs.View.{DeviceView, Packet, IsOrderly}
 use Rattle.device.specs.Served.{CancelsIfOpen, CancelsAt, NoneToCancel, IsAt, HasOtherNumber}
-use Rattle.class_disk.specs.declared.requests.DiskRoom.{DiskRoom}
-use Rattle.class_disk.specs.Joint.{Known, Master, shown}
-use Rattle.class_disk.specs.Kept.{NeverSent}
-use Rattle.class_disk.specs.Shown.{class_rules, master_of}
-use Rattle.class_disk.specs.Books.{Opened, Books, opened, all_open, open_at, put_at}
-use Rattle.class_disk.specs.Turns.{cancelled_one, is_cancellable, CancelsAtSlot, CancelsNoneAt, CannotCancel}
-use Rattle.class_disk.specs.Driver.{known, knowns, view_of, packet_above, IsInHand}
-use Rattle.class_disk.specs.Midway.{IsMidway, CancelsAll, packet_of_part, WithdrawsAll}
+use Rattle.class_disk.proofs.Standing.{IsApart}
+use Rattle.class_disk.specs.inside.Joint.{Known, Divided, shown}
+use Rattle.class_disk.specs.inside.Kept.{NeverSent}
+use Rattle.class_disk.specs.Shown.{class_rules, divided_of}
+use Rattle.class_disk.specs.inside.Books.{Opened, Books, opened, all_open, open_at, put_at}
+use Rattle.class_disk.specs.inside.Turns.{cancelled_one, is_cancellable, CancelsAtSlot, CancelsNoneAt, CannotCancel}
+use Rattle.class_disk.specs.inside.Driver.{known, knowns, view_of, packet_above, IsInHand}
+use Rattle.class_disk.specs.inside.Midway.{IsMidway, CancelsAll, packet_of_part, WithdrawsAll}
 use Rattle.class_disk.proofs.Acting.{map_there}
 use Rattle.class_disk.proofs.CoupledRun.{one_request, Contains-map}
 use Rattle.class_disk.proofs.Standing.{AreRising, StandsIn, stands_there, stands_by, is_found, found_put, found_there}
@@ -26,91 +26,90 @@ both_true true false h = (refl, refl)
 both_true true true h = absurd (cc (h))
 both_true false y h = absurd (cc (h))
 
-module _ {R : Type 0} where
-  -- an entry with this number that can't be cancelled is so already
-  already : (number : ℕ) (e : ℕ × Opened R) → e.1.irp.number ≡ number → is_cancellable number e ≡ false → e.1.irp.cancelled ≡ true
-  already number e is h = by (e.1.irp.number == number) (e.1.irp.cancelled) refl h
-    where
-      by : (x y : Bool) → (e.1.irp.number == number) ≡ x → (x && not y) ≡ false → y ≡ true
-      by true true same g = refl
-      by true false same g = absurd (cc (g))
-      by false y same g = absurd (eqb-false e.1.irp.number number same is)
+-- an entry with this number that can't be cancelled is so already
+already : (number : ℕ) (e : ℕ × Opened) → e.1.irp.number ≡ number → is_cancellable number e ≡ false → e.1.irp.cancelled ≡ true
+already number e is h = by (e.1.irp.number == number) (e.1.irp.cancelled) refl h
+  where
+    by : (x y : Bool) → (e.1.irp.number == number) ≡ x → (x && not y) ≡ false → y ≡ true
+    by true true same g = refl
+    by true false same g = absurd (cc (g))
+    by false y same g = absurd (eqb-false e.1.irp.number number same is)
 
-  -- a request of the machine shown is one of the table
-  shown_there : (v : DeviceView) (b : Books R) (x : OpenRequest) → Contains (view_of v b).state.requests x → (e : ℕ × Opened R) × Contains b.opens e × (e.1.irp.number ≡ x.number) × (e.1.irp.cancelled ≡ x.cancelled)
-  shown_there v b x c =
-      let ks : List Known = knowns (class_rules v.rules) b in
-      let a = map_there shown (map (master_of v.state) ks) x c in
-      let d = map_there (master_of v.state) ks a.0 a.1 in
-      let f = map_there (known (class_rules v.rules)) (all_open b) d.0 d.1 in
-      let g = map_there opened b.opens f.0 f.1 in (
-        g.0,
-        g.1,
-        ap (λ (o : Opened R). o.irp.number) g.2 ∙ ap (λ (k : Known). k.number) f.2 ∙ ap (λ (e : Master). e.number) d.2 ∙ ap (λ (o : OpenRequest). o.number) a.2,
-        ap (λ (o : Opened R). o.irp.cancelled) g.2 ∙ ap (λ (k : Known). k.cancelled) f.2 ∙ ap (λ (e : Master). e.cancelled) d.2 ∙ ap (λ (o : OpenRequest). o.cancelled) a.2,
-      )
+-- a request of the machine shown is one of the table
+shown_there : (v : DeviceView) (b : Books) (x : OpenRequest) → Contains (view_of v b).state.requests x → (e : ℕ × Opened) × Contains b.opens e × (e.1.irp.number ≡ x.number) × (e.1.irp.cancelled ≡ x.cancelled)
+shown_there v b x c =
+    let ks : List Known = knowns (class_rules v.rules) b in
+    let a = map_there shown (map (divided_of v.state) ks) x c in
+    let d = map_there (divided_of v.state) ks a.0 a.1 in
+    let f = map_there (known (class_rules v.rules)) (all_open b) d.0 d.1 in
+    let g = map_there opened b.opens f.0 f.1 in (
+      g.0,
+      g.1,
+      ap (λ (o : Opened). o.irp.number) g.2 ∙ ap (λ (k : Known). k.number) f.2 ∙ ap (λ (e : Divided). e.number) d.2 ∙ ap (λ (o : OpenRequest). o.number) a.2,
+      ap (λ (o : Opened). o.irp.cancelled) g.2 ∙ ap (λ (k : Known). k.cancelled) f.2 ∙ ap (λ (e : Divided). e.cancelled) d.2 ∙ ap (λ (o : OpenRequest). o.cancelled) a.2,
+    )
 
-  -- and the other way round
-  there_shown : (v : DeviceView) (b : Books R) (e : ℕ × Opened R) → Contains b.opens e → Contains (view_of v b).state.requests (shown (master_of v.state (known (class_rules v.rules) e.1)))
-  there_shown v b e c =
-      Contains-map shown (map (master_of v.state) (knowns (class_rules v.rules) b)) _
-      (Contains-map (master_of v.state) (knowns (class_rules v.rules) b) _ (Contains-map (known (class_rules v.rules)) (all_open b) e.1 (Contains-map opened b.opens e c)))
+-- and the other way round
+there_shown : (v : DeviceView) (b : Books) (e : ℕ × Opened) → Contains b.opens e → Contains (view_of v b).state.requests (shown (divided_of v.state (known (class_rules v.rules) e.1)))
+there_shown v b e c =
+    Contains-map shown (map (divided_of v.state) (knowns (class_rules v.rules) b)) _
+    (Contains-map (divided_of v.state) (knowns (class_rules v.rules) b) _ (Contains-map (known (class_rules v.rules)) (all_open b) e.1 (Contains-map opened b.opens e c)))
 
-  -- NONE IS CANCELLED
+-- NONE IS CANCELLED
 
-  -- none of this number can be, as a search tells
-  pub none_cancellable : (v : DeviceView) (b : Books R) (number : ℕ) → All (CannotCancel number) b.opens → CancelsIfOpen (view_of v b) number (view_of v b)
-  none_cancellable v b number none = record { one_of = inr (refused, refl) }
-    where
-      refused : NoneToCancel (view_of v b).state number
-      refused s' h =
-          let e = shown_there v b h.request (Contains-permutation _ _ h.request (IsPermutation-sym _ _ h.is_open) (0, omega arith, refl)) in
-          let done : e.0.1.irp.cancelled ≡ true = already number e.0 (e.2 ∙ h.is_number) (All-contains (CannotCancel number) b.opens e.0 none e.1) in
-          let not_yet : e.0.1.irp.cancelled ≡ false = e.3 ∙ h.not_yet in
-          cc (done, not_yet)
+-- none of this number can be, as a search tells
+pub none_cancellable : (v : DeviceView) (b : Books) (number : ℕ) → All (CannotCancel number) b.opens → CancelsIfOpen (view_of v b) number (view_of v b)
+none_cancellable v b number none = record { one_of = inr (refused, refl) }
+  where
+    refused : NoneToCancel (view_of v b).state number
+    refused s' h =
+        let e = shown_there v b h.request (Contains-permutation _ _ h.request (IsPermutation-sym _ _ h.is_open) (0, omega arith, refl)) in
+        let done : e.0.1.irp.cancelled ≡ true = already number e.0 (e.2 ∙ h.is_number) (All-contains (CannotCancel number) b.opens e.0 none e.1) in
+        let not_yet : e.0.1.irp.cancelled ≡ false = e.3 ∙ h.not_yet in
+        cc (done, not_yet)
 
-  -- the packet that stands at this spot
-  at_spot : (b : Books R) (slot number : ℕ) → Any (IsAt slot number) (map packet_above b.opens) → (e : ℕ × Opened R) × Contains b.opens e × (e.0 ≡ slot) × (e.1.irp.number ≡ number)
-  at_spot b slot number (i, x, low, is, at) =
-      let a = map_there packet_above b.opens x (i, low, is) in
-      (a.0, a.1, ap (λ (p : Packet). p.spot) a.2 ∙ at.is_spot, ap (λ (p : Packet). p.number) a.2 ∙ at.is_number)
+-- the packet that stands at this spot
+at_spot : (b : Books) (slot number : ℕ) → Any (IsAt slot number) (map packet_above b.opens) → (e : ℕ × Opened) × Contains b.opens e × (e.0 ≡ slot) × (e.1.irp.number ≡ number)
+at_spot b slot number (i, x, low, is, at) =
+    let a = map_there packet_above b.opens x (i, low, is) in
+    (a.0, a.1, ap (λ (p : Packet). p.spot) a.2 ∙ at.is_spot, ap (λ (p : Packet). p.number) a.2 ∙ at.is_number)
 
-  found_at : (b : Books R) (slot : ℕ) → AreRising 0 b.opens → (e : ℕ × Opened R) → Contains b.opens e → e.0 ≡ slot → open_at slot b.opens ≡ Some e.1
-  found_at b slot r e c same = subst (λ n. open_at n b.opens ≡ Some e.1) same (is_found b.opens e.0 e.1 (stands_there 0 e.0 e.1 b.opens r c))
+found_at : (b : Books) (slot : ℕ) → AreRising 0 b.opens → (e : ℕ × Opened) → Contains b.opens e → e.0 ≡ slot → open_at slot b.opens ≡ Some e.1
+found_at b slot r e c same = subst (λ n. open_at n b.opens ≡ Some e.1) same (is_found b.opens e.0 e.1 (stands_there 0 e.0 e.1 b.opens r c))
 
-  pub none_at : (out : List R → Type 0) (takes_srb : Bool) (stack : ℕ) (v : DeviceView) (b : Books R) (rooms : List (DiskRoom R)) → IsInHand out takes_srb stack v b rooms → AreRising 0 b.opens → (slot number : ℕ) (b' : Books R)
-      → CancelsNoneAt b slot number b' → CancelsAt (view_of v b) slot number (view_of v b')
-  none_at out takes_srb stack v b rooms h r slot number b' none = subst (λ x. CancelsAt (view_of v b) slot number (view_of v x)) (sym none.same) (record {
-    there = λ any. record { one_of = inr (refused (at_spot b slot number any), refl) };
-    gone = λ apart. refl;
-    either = inr refl;
-  })
-    where
-      refused : (e : ℕ × Opened R) × Contains b.opens e × (e.0 ≡ slot) × (e.1.irp.number ≡ number) → NoneToCancel (view_of v b).state number
-      refused (e, c, at, is) s' k =
-          let done : e.1.irp.cancelled ≡ true = already number e is (none.none e.1 (found_at b slot r e c at)) in
-          let mine : OpenRequest = shown (master_of v.state (known (class_rules v.rules) e.1)) in
-          let same : k.request ≡ mine = one_request (view_of v b).state k.request mine h.orderly.distinct (Contains-permutation _ _ k.request (IsPermutation-sym _ _ k.is_open) (0, omega arith, refl)) (there_shown v b e c) (k.is_number ∙ sym is) in
-          let not_yet : e.1.irp.cancelled ≡ false = sym (ap (λ (x : OpenRequest). x.cancelled) same) ∙ k.not_yet in
-          cc (done, not_yet)
+pub none_at : (v : DeviceView) (b : Books) → IsInHand v b → AreRising 0 b.opens → (slot number : ℕ) (b' : Books)
+    → CancelsNoneAt b slot number b' → CancelsAt (view_of v b) slot number (view_of v b')
+none_at v b h r slot number b' none = subst (λ x. CancelsAt (view_of v b) slot number (view_of v x)) (sym none.same) (record {
+  there = λ any. record { one_of = inr (refused (at_spot b slot number any), refl) };
+  gone = λ apart. refl;
+  either = inr refl;
+})
+  where
+    refused : (e : ℕ × Opened) × Contains b.opens e × (e.0 ≡ slot) × (e.1.irp.number ≡ number) → NoneToCancel (view_of v b).state number
+    refused (e, c, at, is) s' k =
+        let done : e.1.irp.cancelled ≡ true = already number e is (none.none e.1 (found_at b slot r e c at)) in
+        let mine : OpenRequest = shown (divided_of v.state (known (class_rules v.rules) e.1)) in
+        let same : k.request ≡ mine = one_request (view_of v b).state k.request mine h.orderly.distinct (Contains-permutation _ _ k.request (IsPermutation-sym _ _ k.is_open) (0, omega arith, refl)) (there_shown v b e c) (k.is_number ∙ sym is) in
+        let not_yet : e.1.irp.cancelled ≡ false = sym (ap (λ (x : OpenRequest). x.cancelled) same) ∙ k.not_yet in
+        cc (done, not_yet)
 
-  -- by the number of a packet that a search found
-  pub by_spot : (v : DeviceView) (b : Books R) (number slot : ℕ) (w : DeviceView) → (found : (o : Opened R) × ((open_at slot b.opens ≡ Some o) × IsTrue (is_cancellable number (slot, o)))) → CancelsAt (view_of v b) slot number w → CancelsIfOpen (view_of v b) number w
-  by_spot v b number slot w (o, (is_open, can)) h =
-      let c : Contains b.opens (slot, o) = found_there slot b.opens o is_open in
-      let p = Contains-map packet_above b.opens (slot, o) c in
-      h.there (p.0, packet_above (slot, o), p.1, p.2, record { is_spot = refl; is_number = eqb-true o.irp.number number (both_true (o.irp.number == number) o.irp.cancelled can).0 })
+-- by the number of a packet that a search found
+pub by_spot : (v : DeviceView) (b : Books) (number slot : ℕ) (w : DeviceView) → (found : (o : Opened) × ((open_at slot b.opens ≡ Some o) × IsTrue (is_cancellable number (slot, o)))) → CancelsAt (view_of v b) slot number w → CancelsIfOpen (view_of v b) number w
+by_spot v b number slot w (o, (is_open, can)) h =
+    let c : Contains b.opens (slot, o) = found_there slot b.opens o is_open in
+    let p = Contains-map packet_above b.opens (slot, o) c in
+    h.there (p.0, packet_above (slot, o), p.1, p.2, record { is_spot = refl; is_number = eqb-true o.irp.number number (both_true (o.irp.number == number) o.irp.cancelled can).0 })
 
 -- ONE IS CANCELLED
 
-module _ {R : Type 0} (v : DeviceView) (b : Books R) (r : AreRising 0 b.opens) (slot number : ℕ) (b1 : Books R) (c : CancelsAtSlot b slot number b1) where
+module _ (v : DeviceView) (b : Books) (r : AreRising 0 b.opens) (slot number : ℕ) (b1 : Books) (c : CancelsAtSlot b slot number b1) where
   stands : StandsIn b.opens slot c.o
   stands = stands_by 0 slot b.opens c.o r c.is_open
 
   open_now : open_at slot b1.opens ≡ Some (cancelled_one c.o)
-  open_now = subst (λ (x : Books R). open_at slot x.opens ≡ Some (cancelled_one c.o)) (sym c.after) (found_put b.opens slot c.o stands (cancelled_one c.o))
+  open_now = subst (λ (x : Books). open_at slot x.opens ≡ Some (cancelled_one c.o)) (sym c.after) (found_put b.opens slot c.o stands (cancelled_one c.o))
 
-  pub still_open : (o : Opened R) × (open_at slot b1.opens ≡ Some o)
+  pub still_open : (o : Opened) × (open_at slot b1.opens ≡ Some o)
   still_open = (cancelled_one c.o, open_now)
 
   timely : IsFalse c.o.irp.cancelled
@@ -119,26 +118,26 @@ module _ {R : Type 0} (v : DeviceView) (b : Books R) (r : AreRising 0 b.opens) (
   number_is : c.o.irp.number ≡ number
   number_is = eqb-true c.o.irp.number number (both_true (c.o.irp.number == number) c.o.irp.cancelled c.can).0
 
-  module _ (out out1 : List R → Type 0) (step : (rooms : List R) → out rooms → out1 rooms) (takes_srb : Bool) (stack : ℕ) (rooms : List (DiskRoom R)) (h : IsInHand out takes_srb stack v b rooms) (ordered : IsOrderly v) (v1 : DeviceView)
-      (cancels : (o : Opened R) → open_at slot b1.opens ≡ Some o → CancelsAll v (map packet_of_part o.parts) v1) (b1' : Books R) (same : b1' ≡ b1) where
+  module _ (h : IsInHand v b) (v1 : DeviceView) (ordered1 : IsOrderly v1)
+      (cancels : (o : Opened) → open_at slot b1.opens ≡ Some o → CancelsAll v (map packet_of_part o.parts) v1) (b1' : Books) (same : b1' ≡ b1) where
     all : CancelsAll v (map packet_of_part c.o.parts) v1
     all = cancels (cancelled_one c.o) open_now
 
-    pub midway_at : (first : State) × IsMidway out1 takes_srb stack NeverSent first [] v1 b1' rooms
+    pub midway_at : (first : State) × IsMidway NeverSent first [] v1 b1'
     midway_at =
-        let m = midway_cancelled out out1 step takes_srb stack v b rooms h ordered slot c.o stands timely v1 all in
-        (m.0, subst (λ x. IsMidway out1 takes_srb stack NeverSent m.0 [] v1 x rooms) (sym (same ∙ c.after)) m.1)
+        let m = midway_cancelled v b h slot c.o stands timely v1 all ordered1 in
+        (m.0, subst (λ x. IsMidway NeverSent m.0 [] v1 x) (sym (same ∙ c.after)) m.1)
 
-    module _ (out2 : List R → Type 0) (v2 : DeviceView) (b2 : Books R) (w : WithdrawsAll out1 out2 takes_srb stack v1 b1' v2 b2) (ordered2 : IsOrderly v2) where
-      withdraws : WithdrawsAll out1 out2 takes_srb stack v1 (record b { opens = put_at slot (cancelled_one c.o) b.opens }) v2 b2
-      withdraws = subst (λ x. WithdrawsAll out1 out2 takes_srb stack v1 x v2 b2) (same ∙ c.after) w
+    module _ (v2 : DeviceView) (b2 : Books) (w : WithdrawsAll v1 b1' v2 b2) (apart : IsApart b2) where
+      withdraws : WithdrawsAll v1 (record b { opens = put_at slot (cancelled_one c.o) b.opens }) v2 b2
+      withdraws = subst (λ x. WithdrawsAll v1 x v2 b2) (same ∙ c.after) w
 
-      pub hand_at : IsInHand out2 takes_srb stack v2 b2 rooms
-      hand_at = hand_cancelled out out1 step takes_srb stack v b rooms h ordered slot c.o stands timely v1 all out2 v2 b2 withdraws ordered2
+      pub hand_at : IsInHand v2 b2
+      hand_at = hand_cancelled v b h slot c.o stands timely v1 all ordered1 v2 b2 withdraws apart
 
       pub cancels_at : CancelsAt (view_of v b) slot number (view_of v2 b2)
       cancels_at =
-          let k = cancels_above out out1 step takes_srb stack v b rooms h ordered slot c.o stands timely v1 all out2 v2 b2 withdraws ordered2 in
+          let k = cancels_above v b h slot c.o stands timely v1 all ordered1 v2 b2 withdraws apart in
           let is_cancelled : Cancels (view_of v b).state number (view_of v2 b2).state =
           subst (λ n. Cancels (view_of v b).state n (view_of v2 b2).state) number_is k.0 in
           record {

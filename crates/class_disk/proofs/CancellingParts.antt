@@ -1,5 +1,5 @@
 -- A cancellation: the class driver's own flag, and then the parts below one by one.
-use Rattle.std.proofs.Common.{◌≡◌, ◌≤◌, inl, inr, ℕ, ◌+◌, Bool, true, false, List, [], ◌∷◌, ◌++◌, refl, sym, ◌∙◌, ap, subst, arith, map, length, length-append}
+use Rattle.std.proofs.Common.{◌≡◌, ◌≤◌, inl, inr, ℕ, ◌+◌, true, false, List, [], ◌∷◌, ◌++◌, refl, sym, ◌∙◌, ap, subst, arith, map, length, length-append}
 use Rattle.std.specs.Prelude.{IsPermutation, All, Contains, IsFalse}
 use Rattle.std.proofs.lemmas.List.{map-append}
 use Rattle.std.proofs.lemmas.List.Sorted.{IsPermutation-refl, IsPermutation-sym, IsPermutation-trans, IsPermutation-cons, IsPermutation-middle, IsPermutation-map, All-permutation, Contains-permutation}
@@ -16,25 +16,28 @@ use Rattle.machine.specs.Step.{Step}
 use Rattle.machine.proofs.Same.{IsSame-refl, IsSame-sym, IsSame-trans, Step-same}
 use Rattle.machine.proofs.Permuting.{IsPermutation-uncons}
 use Rattle.machine.proofs.Numbers.{AreDistinct-Step, AreDistinct-same}
-use Rattle.device.specs.View.{DeviceView, IsOrderly, IsTopmost}
+use Rattle.device.specs.View.{DeviceView, IsOrderly, IsTopmost, room_at}
 use Rattle.device.specs.Served.{IsBeside}
 use Rattle.class_disk.specs.declared.parts.Progress.{Progress}
 use Rattle.class_disk.specs.declared.parts.Progress.TheVariants.{Ready, Below as SentBelow, Ended as HasEnded}
-use Rattle.class_disk.specs.declared.requests.DiskRoom.{DiskRoom}
-use Rattle.class_disk.specs.Joint.{Part, Below, Here, Known, note_of, known_of, Master, Joint, IsPartOf, parts_requests, parts_marks, parts_busy, parts_lifted, shown, pieces_above, below, above, lifted, shown_mark}
-use Rattle.class_disk.specs.Kept.{AreParts, IsMadeUp, IsCancelledAs, AgreesOnCancel, IsAhead, AreBehind, IsInTurn, places_in, AreCut, begins_back, parts_back, IsInPieces, Keeps, NeverSent, IsOver, HasSome, noted_busy}
+use Rattle.class_disk.specs.inside.Joint.{Part, Below, Here, Known, note_of, known_of, Divided, Joint, IsPartOf, parts_requests, parts_marks, parts_busy, parts_lifted, shown, pieces_above, below, above, lifted, shown_mark}
+use Rattle.class_disk.specs.inside.Kept.{AreParts, IsMadeUp, IsCancelledAs, AgreesOnCancel, IsAhead, AreBehind, IsInTurn, places_in, AreCut, begins_back, parts_back, IsInPieces, Keeps, NeverSent, IsOver, HasSome, noted_busy}
 use Rattle.class_disk.specs.Shown.{class_rules}
-use Rattle.class_disk.specs.Books.{Opened, Books, opened, all_open, put_at, ended_in, restarts_left}
-use Rattle.class_disk.specs.Turns.{cancelled_one}
-use Rattle.class_disk.specs.Driver.{note, known, knowns, view_of, packet_above, rooms_in, rooms_kept, most_over, IsAsked, IsAskedBy, AreAsked, AreSpotted, IsOpen, AreKept, AreBelow, IsInHand, HaveCauses}
-use Rattle.class_disk.specs.Midway.{IsTaking, IsMidway, CancelsAll, packet_of_part, WithdrawsAll}
+use Rattle.class_disk.specs.inside.Books.{Opened, Books, opened, all_open, put_at, ended_in, restarts_left}
+use Rattle.class_disk.specs.inside.Turns.{cancelled_one}
+use Rattle.class_disk.specs.inside.Driver.{note, known, knowns, view_of, packet_above, tickets_held, tickets_open, IsAsked, IsAskedBy, AreAsked, AreSpotted, IsOpen, AreKept, AreBelow, IsInHand, HaveCauses, tickets}
+use Rattle.class_disk.specs.Opening.{most_over}
+use Rattle.class_disk.specs.inside.Rooms.{AllOut}
+use Rattle.class_disk.proofs.Rooms.{out_same}
+use Rattle.class_disk.proofs.Standing.{IsApart}
+use Rattle.class_disk.specs.inside.Midway.{IsTaking, IsMidway, CancelsAll, packet_of_part, WithdrawsAll}
 use Rattle.class_disk.proofs.Focus as focus
 use Rattle.class_disk.proofs.CoupledSteps.{Cancels-above}
 use Rattle.class_disk.proofs.Acting.{map_there, spotted_still, shows}
 use Rattle.class_disk.proofs.Ending.{ends_unsent, never_sent}
 use Rattle.class_disk.proofs.Causes.{causes_more}
 use Rattle.class_disk.proofs.Standing.{StandsIn, is_put, split_there, All-middle, All-at}
-use Rattle.class_disk.proofs.Noting.{ended-append, left-append, rooms_kept-append}
+use Rattle.class_disk.proofs.Noting.{ended-append, left-append, tickets_open-append}
 use Rattle.class_disk.proofs.Midst.{InMidst, AllCancelled, cancelled_part, all_cancelled}
 use Rattle.class_disk.proofs.Withdrawn.{StandsAgain, stands_again, over_more}
 
@@ -89,54 +92,54 @@ agree_cancelled (Below o again pieces ∷ ps) = All-cons (IsCancelledAs true) (a
 agree_cancelled (Here marks busy ∷ ps) = agree_cancelled ps
 
 -- the request with its parts, cancelled
-abbrev pub cancelled_master : Master → Master
-cancelled_master e = record e { cancelled = true; parts = map cancelled_part e.parts }
+abbrev pub cancelled_divided : Divided → Divided
+cancelled_divided e = record e { cancelled = true; parts = map cancelled_part e.parts }
 
-keeps_permuted : (rules : Rules) (j : Joint) (ms : List Master) → IsPermutation j.masters ms → Keeps rules j → Keeps rules (record j { masters = ms })
+keeps_permuted : (rules : Rules) (j : Joint) (ms : List Divided) → IsPermutation j.divided ms → Keeps rules j → Keeps rules (record j { divided = ms })
 keeps_permuted rules j ms p k = record {
   made_up = All-permutation (IsMadeUp rules) _ _ p k.made_up;
   agree = All-permutation AgreesOnCancel _ _ p k.agree;
   in_turn = All-permutation (IsInTurn j.removing ms) _ _ p
-      (All-weaker (IsInTurn j.removing j.masters) (IsInTurn j.removing ms)
-      (λ e. All-weaker (AreBehind j.removing j.masters e.number) (AreBehind j.removing ms e.number)
+      (All-weaker (IsInTurn j.removing j.divided) (IsInTurn j.removing ms)
+      (λ e. All-weaker (AreBehind j.removing j.divided e.number) (AreBehind j.removing ms e.number)
       (λ n. All-permutation (IsAhead j.removing e.number n) _ _ p) (map request_number (parts_requests e.parts)))
-      j.masters k.in_turn);
+      j.divided k.in_turn);
   in_pieces = All-permutation (IsInPieces rules) _ _ p k.in_pieces;
 }
 
-pieces_cancelled : (rules : Rules) (e : Master) → IsInPieces rules e → IsInPieces rules (cancelled_master e)
+pieces_cancelled : (rules : Rules) (e : Divided) → IsInPieces rules e → IsInPieces rules (cancelled_divided e)
 pieces_cancelled rules e h =
     let few = h.few in
     let busy = busy_cancelled e.parts in
     let came = back_cancelled e.parts in
     record { cut = subst (AreCut rules.max_transfer) (sym (places_cancelled e.parts)) h.cut; few = omega (arith, few, busy, came) }
 
-module _ (rules : Rules) (j : Joint) (e : Master) (es : List Master) where
+module _ (rules : Rules) (j : Joint) (e : Divided) (es : List Divided) where
   -- a cancelled request is ahead of none
-  behind_cancelled : (n m : ℕ) → AreBehind j.removing (e ∷ es) n m → AreBehind j.removing (cancelled_master e ∷ es) n m
-  behind_cancelled n m all = All-cons (IsAhead j.removing n m) (cancelled_master e) es (λ staying lower timely. absurd (cc (timely))) (All-tail (IsAhead j.removing n m) e es all)
+  behind_cancelled : (n m : ℕ) → AreBehind j.removing (e ∷ es) n m → AreBehind j.removing (cancelled_divided e ∷ es) n m
+  behind_cancelled n m all = All-cons (IsAhead j.removing n m) (cancelled_divided e) es (λ staying lower timely. absurd (cc (timely))) (All-tail (IsAhead j.removing n m) e es all)
 
-  keeps_cancelled : Keeps rules (record j { masters = e ∷ es }) → Keeps rules (record j { masters = cancelled_master e ∷ es })
+  keeps_cancelled : Keeps rules (record j { divided = e ∷ es }) → Keeps rules (record j { divided = cancelled_divided e ∷ es })
   keeps_cancelled k = record {
-    made_up = All-cons (IsMadeUp rules) (cancelled_master e) es (parts_cancelled rules e.request 0 e.parts (All-head (IsMadeUp rules) e es k.made_up)) (All-tail (IsMadeUp rules) e es k.made_up);
-    agree = All-cons AgreesOnCancel (cancelled_master e) es (agree_cancelled e.parts) (All-tail AgreesOnCancel e es k.agree);
-    in_turn = All-cons (IsInTurn j.removing (cancelled_master e ∷ es)) (cancelled_master e) es
-        (subst (All (AreBehind j.removing (cancelled_master e ∷ es) e.number)) (sym (numbers_cancelled e.parts))
-        (All-weaker (AreBehind j.removing (e ∷ es) e.number) (AreBehind j.removing (cancelled_master e ∷ es) e.number) (behind_cancelled e.number) (map request_number (parts_requests e.parts))
+    made_up = All-cons (IsMadeUp rules) (cancelled_divided e) es (parts_cancelled rules e.request 0 e.parts (All-head (IsMadeUp rules) e es k.made_up)) (All-tail (IsMadeUp rules) e es k.made_up);
+    agree = All-cons AgreesOnCancel (cancelled_divided e) es (agree_cancelled e.parts) (All-tail AgreesOnCancel e es k.agree);
+    in_turn = All-cons (IsInTurn j.removing (cancelled_divided e ∷ es)) (cancelled_divided e) es
+        (subst (All (AreBehind j.removing (cancelled_divided e ∷ es) e.number)) (sym (numbers_cancelled e.parts))
+        (All-weaker (AreBehind j.removing (e ∷ es) e.number) (AreBehind j.removing (cancelled_divided e ∷ es) e.number) (behind_cancelled e.number) (map request_number (parts_requests e.parts))
         (All-head (IsInTurn j.removing (e ∷ es)) e es k.in_turn)))
-        (All-weaker (IsInTurn j.removing (e ∷ es)) (IsInTurn j.removing (cancelled_master e ∷ es))
-        (λ x. All-weaker (AreBehind j.removing (e ∷ es) x.number) (AreBehind j.removing (cancelled_master e ∷ es) x.number) (behind_cancelled x.number) (map request_number (parts_requests x.parts)))
+        (All-weaker (IsInTurn j.removing (e ∷ es)) (IsInTurn j.removing (cancelled_divided e ∷ es))
+        (λ x. All-weaker (AreBehind j.removing (e ∷ es) x.number) (AreBehind j.removing (cancelled_divided e ∷ es) x.number) (behind_cancelled x.number) (map request_number (parts_requests x.parts)))
         es (All-tail (IsInTurn j.removing (e ∷ es)) e es k.in_turn));
-    in_pieces = All-cons (IsInPieces rules) (cancelled_master e) es (pieces_cancelled rules e (All-head (IsInPieces rules) e es k.in_pieces)) (All-tail (IsInPieces rules) e es k.in_pieces);
+    in_pieces = All-cons (IsInPieces rules) (cancelled_divided e) es (pieces_cancelled rules e (All-head (IsInPieces rules) e es k.in_pieces)) (All-tail (IsInPieces rules) e es k.in_pieces);
   }
 
   -- above it is one cancel
-  shown_cancelled : shown (record e { cancelled = true }) ≡ shown (cancelled_master e)
+  shown_cancelled : shown (record e { cancelled = true }) ≡ shown (cancelled_divided e)
   shown_cancelled =
       ap (λ (n : ℕ). record (shown (record e { cancelled = true })) { busy_returns = n }) (sym (busy_cancelled e.parts))
       ∙ ap (λ ms. record (shown (record e { cancelled = true })) { busy_returns = parts_busy (map cancelled_part e.parts); marks = ms }) (sym (marks_cancelled e.parts))
 
-  cancels_there : IsFalse e.cancelled → Cancels (above (record j { masters = e ∷ es })) e.number (above (record j { masters = cancelled_master e ∷ es }))
+  cancels_there : IsFalse e.cancelled → Cancels (above (record j { divided = e ∷ es })) e.number (above (record j { divided = cancelled_divided e ∷ es }))
   cancels_there timely =
       let c = Cancels-above j e es timely in
       let pieces : parts_lifted e.number 0 e.parts ++ pieces_above es ≡ parts_lifted e.number 0 (map cancelled_part e.parts) ++ pieces_above es = ap (λ zs. zs ++ pieces_above es) (sym (lifted_cancelled e.number 0 e.parts)) in
@@ -161,9 +164,8 @@ module _ (rules : Rules) (j : Joint) (e : Master) (es : List Master) where
 
 -- MIDWAY, with all parts cancelled
 
-module _ {R : Type 0} (out out1 : List R → Type 0) (step : (rooms : List R) → out rooms → out1 rooms) (takes_srb : Bool) (stack : ℕ) (v : DeviceView) (b : Books R) (rooms : List (DiskRoom R)) (h : IsInHand out takes_srb stack v b rooms)
-    (ordered : IsOrderly v) (slot : ℕ) (o : Opened R) (s : StandsIn b.opens slot o) (timely : IsFalse o.irp.cancelled) (v1 : DeviceView) (all : CancelsAll v (map packet_of_part o.parts) v1) where
-  abbrev pub books_cancelled : Books R
+module _ (v : DeviceView) (b : Books) (h : IsInHand v b) (slot : ℕ) (o : Opened) (s : StandsIn b.opens slot o) (timely : IsFalse o.irp.cancelled) (v1 : DeviceView) (all : CancelsAll v (map packet_of_part o.parts) v1) (ordered1 : IsOrderly v1) where
+  abbrev pub books_cancelled : Books
   books_cancelled = record b { opens = put_at slot (cancelled_one o) b.opens }
 
   abbrev rules : Rules
@@ -187,47 +189,47 @@ module _ {R : Type 0} (out out1 : List R → Type 0) (step : (rooms : List R) �
 
   -- the request in the coupling
   pub record InCoupling : Type 0 where
-    pub e : Master
-    pub es : List Master
+    pub e : Divided
+    pub es : List Divided
     pub is_known : known_of e ≡ known rules o
-    pub moved : IsPermutation j.masters (e ∷ es)
-    pub same_below : IsSame (below j) (below (record j { masters = e ∷ es }))
-    pub same_above : IsSame (above j) (above (record j { masters = e ∷ es }))
+    pub moved : IsPermutation j.divided (e ∷ es)
+    pub same_below : IsSame (below j) (below (record j { divided = e ∷ es }))
+    pub same_above : IsSame (above j) (above (record j { divided = e ∷ es }))
 
   in_coupling : InCoupling
   in_coupling =
-      let there : Contains (map known_of j.masters) (known rules o) = Contains-permutation _ _ (known rules o) (IsPermutation-sym _ _ h.coupled.knows) (Contains-permutation _ _ (known rules o) (IsPermutation-sym _ _ known_old) (0, omega arith, refl)) in
-      let m = map_there known_of j.masters (known rules o) there in
-      let sp = split_there m.0 j.masters m.1 in
+      let there : Contains (map known_of j.divided) (known rules o) = Contains-permutation _ _ (known rules o) (IsPermutation-sym _ _ h.coupled.knows) (Contains-permutation _ _ (known rules o) (IsPermutation-sym _ _ known_old) (0, omega arith, refl)) in
+      let m = map_there known_of j.divided (known rules o) there in
+      let sp = split_there m.0 j.divided m.1 in
       record {
         e = m.0;
         es = sp.0 ++ sp.1;
         is_known = m.2;
         moved = subst (λ ms. IsPermutation ms (m.0 ∷ (sp.0 ++ sp.1))) (sym sp.2) (IsPermutation-middle sp.0 m.0 sp.1);
-        same_below = subst (λ ms. IsSame (below (record j { masters = ms })) (below (record j { masters = m.0 ∷ (sp.0 ++ sp.1) }))) (sym sp.2) (focus.below_first j sp.0 m.0 sp.1);
-        same_above = subst (λ ms. IsSame (above (record j { masters = ms })) (above (record j { masters = m.0 ∷ (sp.0 ++ sp.1) }))) (sym sp.2) (focus.above_first j sp.0 m.0 sp.1);
+        same_below = subst (λ ms. IsSame (below (record j { divided = ms })) (below (record j { divided = m.0 ∷ (sp.0 ++ sp.1) }))) (sym sp.2) (focus.below_first j sp.0 m.0 sp.1);
+        same_above = subst (λ ms. IsSame (above (record j { divided = ms })) (above (record j { divided = m.0 ∷ (sp.0 ++ sp.1) }))) (sym sp.2) (focus.above_first j sp.0 m.0 sp.1);
       }
 
   module _ (i : InCoupling) where
     abbrev pub joint_cancelled : Joint
-    joint_cancelled = record j { masters = cancelled_master i.e ∷ i.es }
+    joint_cancelled = record j { divided = cancelled_divided i.e ∷ i.es }
 
-    keeps_first : Keeps rules (record j { masters = i.e ∷ i.es })
+    keeps_first : Keeps rules (record j { divided = i.e ∷ i.es })
     keeps_first = keeps_permuted rules j (i.e ∷ i.es) i.moved h.coupled.keeps
 
     e_timely : i.e.cancelled ≡ false
     e_timely = ap (λ (k : Known). k.cancelled) i.is_known ∙ timely
 
     -- of the entries of the table
-    opened_all : (P : Opened R → Type 0) (es : List (ℕ × Opened R)) → All P (map opened es) → All (λ e. P (opened e)) es
+    opened_all : (P : Opened → Type 0) (es : List (ℕ × Opened)) → All P (map opened es) → All (λ e. P (opened e)) es
     opened_all P [] h' = All-nil (λ e. P (opened e))
     opened_all P (x ∷ es) h' = All-cons (λ y. P (opened y)) x es (All-head P (opened x) (map opened es) h') (opened_all P es (All-tail P (opened x) (map opened es) h'))
 
-    of_one : (P : Opened R → Type 0) → All P (all_open b) → P o
+    of_one : (P : Opened → Type 0) → All P (all_open b) → P o
     of_one P h' = All-at (λ e. P (opened e)) s.before (slot, o) s.after (subst (All (λ e. P (opened e))) s.opens_are (opened_all P b.opens h'))
 
     -- what holds of the request holds of it cancelled
-    of_now : (P : Opened R → Type 0) → (P o → P (cancelled_one o)) → All P (all_open b) → All P (all_open books_cancelled)
+    of_now : (P : Opened → Type 0) → (P o → P (cancelled_one o)) → All P (all_open b) → All P (all_open books_cancelled)
     of_now P more h' =
         All-map P opened books_cancelled.opens
         (subst (All (λ e. P (opened e))) (sym opens_now)
@@ -237,11 +239,11 @@ module _ {R : Type 0} (out out1 : List R → Type 0) (step : (rooms : List R) �
     cancelled =
         all_cancelled rules j i.e i.es v (ap (λ (r : Rules). r.one_piece) h.port.below) [] i.e.parts o.parts (ap (λ (k : Known). k.parts) i.is_known) v v1
         (record {
-          beside = record { same_rules = refl; same_packets = IsPermutation-refl _; same_submitted = refl; same_most = refl; same_adapter = refl };
+          beside = record { same_rules = refl; same_packets = IsPermutation-refl _; same_rooms = λ spot. refl; same_submitted = refl; same_most = refl; same_adapter = refl };
           sound = h.sound;
           counted = h.counted;
           unsent = ends_unsent v.rules (ap (λ (r : Rules). r.busy_limit) h.port.below) (ap (λ (r : Rules). r.one_piece) h.port.below)
-              v.state h.sound ordered.places h.unfinished;
+              v.state h.sound h.rooms_out.orderly.places h.unfinished;
           asked = λ r q n h'. h';
           next = refl;
           removing = refl;
@@ -254,21 +256,21 @@ module _ {R : Type 0} (out out1 : List R → Type 0) (step : (rooms : List R) �
     m : InMidst v v1
     m = cancelled.midst
 
-    known_cancelled : known_of (cancelled_master i.e) ≡ known rules (cancelled_one o)
+    known_cancelled : known_of (cancelled_divided i.e) ≡ known rules (cancelled_one o)
     known_cancelled =
         ap (λ ns. record (known_of i.e) { cancelled = true; parts = ns }) (notes_cancelled i.e.parts) ∙ ap (λ (k : Known). record k { cancelled = true }) i.is_known
 
     others_known : IsPermutation (map known_of i.es) (map (known rules) (map opened (s.before ++ s.after)))
     others_known =
         IsPermutation-uncons (known rules o) _ _ (IsPermutation-trans _ _ _
-        (subst (λ k. IsPermutation (k ∷ map known_of i.es) (map known_of j.masters)) i.is_known (IsPermutation-sym _ _ (IsPermutation-map known_of _ _ i.moved)))
+        (subst (λ k. IsPermutation (k ∷ map known_of i.es) (map known_of j.divided)) i.is_known (IsPermutation-sym _ _ (IsPermutation-map known_of _ _ i.moved)))
         (IsPermutation-trans _ _ _ h.coupled.knows known_old))
 
     taking : IsTaking rules (above joint_cancelled) [] v1.state (knowns rules books_cancelled)
     taking = record {
       j = joint_cancelled;
       same = cancelled.same;
-      knows = IsPermutation-trans _ _ _ (subst (λ k. IsPermutation (known_of (cancelled_master i.e) ∷ map known_of i.es) (k ∷ map (known rules) (map opened (s.before ++ s.after)))) known_cancelled (IsPermutation-cons _ _ _ others_known))
+      knows = IsPermutation-trans _ _ _ (subst (λ k. IsPermutation (known_of (cancelled_divided i.e) ∷ map known_of i.es) (k ∷ map (known rules) (map opened (s.before ++ s.after)))) known_cancelled (IsPermutation-cons _ _ _ others_known))
           (IsPermutation-sym _ _ known_now);
       keeps = keeps_cancelled rules j i.e i.es keeps_first;
       sound = m.sound;
@@ -278,15 +280,14 @@ module _ {R : Type 0} (out out1 : List R → Type 0) (step : (rooms : List R) �
     }
 
     -- THE TABLE
-    open_cancelled : IsOpen rules (slot, o) → IsOpen rules (slot, cancelled_one o)
+    open_cancelled : IsOpen rules b.owners (slot, o) → IsOpen rules b.owners (slot, cancelled_one o)
     open_cancelled x = record {
       cut = record { bounded = x.cut.bounded; parts_are = x.cut.parts_are };
       carries = x.carries;
       sent = x.sent;
       buffered = x.buffered;
       written = x.written;
-      numbered = x.numbered;
-      slot = x.slot;
+      owned = x.owned;
       restarts = x.restarts;
       few = x.few;
       unfinished = x.unfinished;
@@ -301,15 +302,15 @@ module _ {R : Type 0} (out out1 : List R → Type 0) (step : (rooms : List R) �
     same_long : length books_cancelled.opens ≡ length b.opens
     same_long = ap length opens_now ∙ length-append s.before ((slot, cancelled_one o) ∷ s.after) ∙ sym (ap length s.opens_are ∙ length-append s.before ((slot, o) ∷ s.after))
 
-    same_rooms : rooms_kept (all_open books_cancelled) ≡ rooms_kept (all_open b)
+    same_rooms : tickets_open (all_open books_cancelled) ≡ tickets_open (all_open b)
     same_rooms =
-        ap (λ os. rooms_kept (map opened os)) opens_now ∙ ap rooms_kept (map-append opened s.before ((slot, cancelled_one o) ∷ s.after)) ∙ rooms_kept-append (map opened s.before) (cancelled_one o ∷ map opened s.after)
-        ∙ sym (ap (λ os. rooms_kept (map opened os)) s.opens_are ∙ ap rooms_kept (map-append opened s.before ((slot, o) ∷ s.after)) ∙ rooms_kept-append (map opened s.before) (o ∷ map opened s.after))
+        ap (λ os. tickets_open (map opened os)) opens_now ∙ ap tickets_open (map-append opened s.before ((slot, cancelled_one o) ∷ s.after)) ∙ tickets_open-append (map opened s.before) (cancelled_one o ∷ map opened s.after)
+        ∙ sym (ap (λ os. tickets_open (map opened os)) s.opens_are ∙ ap tickets_open (map-append opened s.before ((slot, o) ∷ s.after)) ∙ tickets_open-append (map opened s.before) (o ∷ map opened s.after))
 
     same_packets : map packet_above books_cancelled.opens ≡ map packet_above b.opens
     same_packets = ap (map packet_above) opens_now ∙ map-append packet_above s.before ((slot, cancelled_one o) ∷ s.after) ∙ sym (ap (map packet_above) s.opens_are ∙ map-append packet_above s.before ((slot, o) ∷ s.after))
 
-    kept_cancelled : AreKept rules books_cancelled rooms
+    kept_cancelled : AreKept rules books_cancelled
     kept_cancelled =
         let k = h.kept in
         let long = same_long in
@@ -317,8 +318,7 @@ module _ {R : Type 0} (out out1 : List R → Type 0) (step : (rooms : List R) �
         record {
           sizes = k.sizes;
           in_hand = k.in_hand;
-          opens = subst (All (IsOpen rules)) (sym opens_now) (All-middle (IsOpen rules) s.before (slot, o) (slot, cancelled_one o) s.after open_cancelled (subst (All (IsOpen rules)) s.opens_are k.opens));
-          vacant = k.vacant;
+          opens = subst (All (IsOpen rules b.owners)) (sym opens_now) (All-middle (IsOpen rules b.owners) s.before (slot, o) (slot, cancelled_one o) s.after open_cancelled (subst (All (IsOpen rules b.owners)) s.opens_are k.opens));
           ended = subst (IsPermutation b.ended) (sym same_ended) k.ended;
           places = let p = k.places in omega arith;
           causes = subst (All (HaveCauses rules b.removing)) (sym opens_now)
@@ -328,7 +328,7 @@ module _ {R : Type 0} (out out1 : List R → Type 0) (step : (rooms : List R) �
           budget = let p = k.budget in omega arith;
         }
 
-    asked_part : (r : Request) (p : Progress R) → IsAskedBy rules v.state.requests r p → IsAskedBy rules v1.state.requests r p
+    asked_part : (r : Request) (p : Progress) → IsAskedBy rules v.state.requests r p → IsAskedBy rules v1.state.requests r p
     asked_part r (Ready place) is = tt
     asked_part r (SentBelow number spot) is = m.asked rules r number is
     asked_part r (HasEnded ended) is = tt
@@ -356,30 +356,30 @@ module _ {R : Type 0} (out out1 : List R → Type 0) (step : (rooms : List R) �
               (All-tail (IsOver 17 v.state.removing) (known rules o) _ over)));
         }
 
-    midway_with : IsMidway out1 takes_srb stack NeverSent (above joint_cancelled) [] v1 books_cancelled rooms
+    midway_with : IsMidway NeverSent (above joint_cancelled) [] v1 books_cancelled
     midway_with =
-        subst (λ (r : Rules). IsMidway out1 takes_srb stack NeverSent (above joint_cancelled) [] (record v1 { rules = r }) books_cancelled rooms) (sym m.beside.same_rules) (record {
-          takes = h.takes;
+        subst (λ (r : Rules). IsMidway NeverSent (above joint_cancelled) [] (record v1 { rules = r }) books_cancelled) (sym m.beside.same_rules) (record {
           port = h.port;
           taking = taking;
-          rooms_out = subst (λ rs. out1 (rooms_in rooms ++ rs)) (sym same_rooms) (step _ h.rooms_out);
+          rooms_out = subst (λ (r : Rules). AllOut (record v1 { rules = r }) (tickets books_cancelled)) m.beside.same_rules
+              (subst (λ rs. AllOut v1 (tickets_held b.held ++ rs)) (sym same_rooms) (out_same v v1 (tickets b) ordered1 m.beside.same_rooms h.rooms_out));
           kept = kept_cancelled;
           below = below_cancelled;
           ended = never_sent v.rules v1.state m.unsent;
         })
 
     -- ALL IS TAKEN
-    module _ (out2 : List R → Type 0) (v2 : DeviceView) (b2 : Books R) (w : WithdrawsAll out1 out2 takes_srb stack v1 books_cancelled v2 b2) (ordered2 : IsOrderly v2) where
-      first_shows : IsSame (above (record j { masters = i.e ∷ i.es })) (view_of v b).state
-      first_shows = IsSame-trans _ _ _ (IsSame-sym _ _ i.same_above) (shows out takes_srb stack v b rooms h)
+    module _ (v2 : DeviceView) (b2 : Books) (w : WithdrawsAll v1 books_cancelled v2 b2) (apart : IsApart b2) where
+      first_shows : IsSame (above (record j { divided = i.e ∷ i.es })) (view_of v b).state
+      first_shows = IsSame-trans _ _ _ (IsSame-sym _ _ i.same_above) (shows v b h)
 
-      by_step : Step rules (above (record j { masters = i.e ∷ i.es })) (Cancel i.e.number) (above joint_cancelled)
+      by_step : Step rules (above (record j { divided = i.e ∷ i.es })) (Cancel i.e.number) (above joint_cancelled)
       by_step = inl (refl, cancels_there rules j i.e i.es e_timely)
 
-      stands : StandsAgain out2 takes_srb stack (above joint_cancelled) v2 b2 rooms
+      stands : StandsAgain (above joint_cancelled) v2 b2
       stands =
-          stands_again out1 out2 takes_srb stack (above joint_cancelled) v1 books_cancelled v2 b2 rooms midway_with w ordered2
-          (AreDistinct-Step rules (above (record j { masters = i.e ∷ i.es })) (Cancel i.e.number) (above joint_cancelled) (AreDistinct-same (above (record j { masters = i.e ∷ i.es })) (view_of v b).state first_shows h.orderly.distinct) by_step)
+          stands_again (above joint_cancelled) v1 books_cancelled v2 b2 midway_with w apart
+          (AreDistinct-Step rules (above (record j { divided = i.e ∷ i.es })) (Cancel i.e.number) (above joint_cancelled) (AreDistinct-same (above (record j { divided = i.e ∷ i.es })) (view_of v b).state first_shows h.orderly.distinct) by_step)
           h.coupled.next_above
 
       stripped : (number : ℕ) (s1 s2 : State) → Step rules s1 (Cancel number) s2 → Cancels s1 number s2
@@ -395,18 +395,19 @@ module _ {R : Type 0} (out out1 : List R → Type 0) (step : (rooms : List R) �
       beside_shown = record {
         same_rules = ap class_rules (w.same_rules ∙ m.beside.same_rules);
         same_packets = subst (λ ps. IsPermutation ps (map packet_above b.opens)) (sym (w.same_packets ∙ same_packets)) (IsPermutation-refl _);
+        same_rooms = λ spot. ap (λ rooms. room_at rooms spot) w.same_rooms;
         same_submitted = w.same_submitted;
         same_most = ap most_over (w.same_most ∙ m.beside.same_most);
         same_adapter = w.same_adapter ∙ m.beside.same_adapter;
       }
 
   -- AND SO
-  pub midway_cancelled : (first : State) × IsMidway out1 takes_srb stack NeverSent first [] v1 books_cancelled rooms
+  pub midway_cancelled : (first : State) × IsMidway NeverSent first [] v1 books_cancelled
   midway_cancelled = (above (joint_cancelled in_coupling), midway_with in_coupling)
 
-  pub hand_cancelled : (out2 : List R → Type 0) (v2 : DeviceView) (b2 : Books R) → WithdrawsAll out1 out2 takes_srb stack v1 books_cancelled v2 b2 → IsOrderly v2 → IsInHand out2 takes_srb stack v2 b2 rooms
-  hand_cancelled out2 v2 b2 w ordered2 = (stands in_coupling out2 v2 b2 w ordered2).in_hand
+  pub hand_cancelled : (v2 : DeviceView) (b2 : Books) → WithdrawsAll v1 books_cancelled v2 b2 → IsApart b2 → IsInHand v2 b2
+  hand_cancelled v2 b2 w apart = (stands in_coupling v2 b2 w apart).in_hand
 
-  pub cancels_above : (out2 : List R → Type 0) (v2 : DeviceView) (b2 : Books R) → WithdrawsAll out1 out2 takes_srb stack v1 books_cancelled v2 b2 → IsOrderly v2
+  pub cancels_above : (v2 : DeviceView) (b2 : Books) → WithdrawsAll v1 books_cancelled v2 b2 → IsApart b2
       → Cancels (view_of v b).state o.irp.number (view_of v2 b2).state × IsBeside (view_of v b) (view_of v2 b2)
-  cancels_above out2 v2 b2 w ordered2 = (cancels_shown in_coupling out2 v2 b2 w ordered2, beside_shown in_coupling out2 v2 b2 w ordered2)
+  cancels_above v2 b2 w apart = (cancels_shown in_coupling v2 b2 w apart, beside_shown in_coupling v2 b2 w apart)

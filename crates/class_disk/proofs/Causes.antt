@@ -12,8 +12,8 @@ use Rattle.class_disk.specs.declared.parts.Progress.{Progress}
 use Rattle.class_disk.specs.declared.parts.Progress.TheVariants.{Ready, Below, Ended as HasEnded}
 use Rattle.class_disk.specs.declared.parts.Outcome.{Outcome}
 use Rattle.class_disk.specs.declared.parts.Outcome.TheVariants.{Good, Failed as IsBad, Busy, Withdrawn}
-use Rattle.class_disk.specs.Kept.{IsUntouched}
-use Rattle.class_disk.specs.Driver.{IsCause, IsCauseBy}
+use Rattle.class_disk.specs.inside.Kept.{IsUntouched}
+use Rattle.class_disk.specs.inside.Driver.{IsCause, IsCauseBy}
 
 module _ (c c' r r' : Bool) (n n' : ℕ) (f : IsTrue c → IsTrue c') (g : IsTrue r → IsTrue r') (few : n ≤ n') where
   cause_more : (outcome : Outcome) → IsCause c r n outcome → IsCause c' r' n' outcome
@@ -25,14 +25,14 @@ module _ (c c' r r' : Bool) (n n' : ℕ) (f : IsTrue c → IsTrue c') (g : IsTru
   cause_more (Withdrawn told) (inl (is, t)) = inl (f is, t)
   cause_more (Withdrawn told) (inr (is, t)) = inr (g is, t)
 
-  module _ {R : Type 0} where
-    by_more : (p : Progress R) → IsCauseBy c r n p → IsCauseBy c' r' n' p
+  module _ where
+    by_more : (p : Progress) → IsCauseBy c r n p → IsCauseBy c' r' n' p
     by_more (Ready place) h = tt
     by_more (Below number spot) h = tt
     by_more (HasEnded ended) h = cause_more ended.outcome h
 
-    pub causes_more : (ps : List (Part R)) → All (λ (part : Part R). IsCauseBy c r n part.progress) ps → All (λ (part : Part R). IsCauseBy c' r' n' part.progress) ps
-    causes_more ps h = All-weaker (λ (part : Part R). IsCauseBy c r n part.progress) (λ (part : Part R). IsCauseBy c' r' n' part.progress) (λ part. by_more part.progress) ps h
+    pub causes_more : (ps : List Part) → All (λ (part : Part). IsCauseBy c r n part.progress) ps → All (λ (part : Part). IsCauseBy c' r' n' part.progress) ps
+    causes_more ps h = All-weaker (λ (part : Part). IsCauseBy c r n part.progress) (λ (part : Part). IsCauseBy c' r' n' part.progress) (λ part. by_more part.progress) ps h
 
 -- the status of a request that was never sent
 pub unsent_cause : (rules : Rules) (s : State) (o : OpenRequest) (status : NtStatus) (marks : List Mark) → 0 < length marks → All IsUntouched marks → o.late ≡ false → HasCause rules s o marks status

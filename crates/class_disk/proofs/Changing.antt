@@ -9,15 +9,18 @@ use Rattle.machine.specs.State.{Mark, Untouched, Out, Done, Failed, Back}
 use Rattle.class_disk.specs.declared.parts.Part.{Part}
 use Rattle.class_disk.specs.declared.parts.Progress.{Progress}
 use Rattle.class_disk.specs.declared.parts.Progress.TheVariants.{Ready, Below, Ended as HasEnded}
-use Rattle.class_disk.specs.Joint.{Note, Sent, Kept, Known}
-use Rattle.class_disk.specs.Kept.{HasSome, IsOverMark, IsOverNote, IsOver, noted_busy}
-use Rattle.class_disk.specs.Parts.{WasSent, WasSentBy, restarts_of, unfinished_of, unfinished_by}
-use Rattle.class_disk.specs.Books.{Opened, Books, opened, all_open, restarts_left, slot_in, part_in}
-use Rattle.class_disk.specs.Driver.{note, note_by, known, knowns, packet_above, request_of_part, IsCauseBy, HaveCauses, IsOpen, IsBuffered, IsWritten, IsNumberedBy, AreNumberedFrom}
+use Rattle.class_disk.specs.inside.Joint.{Note, Sent, Kept, Known}
+use Rattle.class_disk.specs.inside.Kept.{HasSome, IsOverMark, IsOverNote, IsOver, noted_busy}
+use Rattle.class_disk.specs.inside.Parts.{WasSent, WasSentBy, restarts_of, unfinished_of, unfinished_by}
+use Rattle.class_disk.specs.inside.Books.{Opened, Books, opened, all_open, restarts_left}
+use Rattle.class_disk.specs.inside.Driver.{note, note_by, known, knowns, packet_above, request_of_part, IsCauseBy, HaveCauses, IsOpen, IsBuffered, IsWritten}
+use Rattle.class_disk.specs.declared.parts.PartId.{PartId}
+use Rattle.class_disk.specs.inside.Owners.{slot_at, place_at, IsOwnedBy, AreOwnedFrom}
 use Rattle.class_disk.proofs.Retaking.{known_at}
 use Rattle.class_disk.proofs.Causes.{causes_more}
 use Rattle.class_disk.proofs.Standing.{All-middle, All-at, All-others}
-use Rattle.class_disk.proofs.Noting.{PartStands, unfinished-append, left-append, numbered_at}
+use Rattle.class_disk.proofs.Noting.{PartStands, unfinished-append, left-append, owned_at}
+use Rattle.class_disk.proofs.Owned.{owned_split, owned_joined}
 
 -- BUSY RETURNS
 
@@ -48,75 +51,58 @@ over_note cancelled removing limit busy busy' more (Kept marks kept) h =
     All-weaker (IsOverMark cancelled removing limit busy) (IsOverMark cancelled removing limit busy')
     (over_mark cancelled removing limit busy busy' more) marks h
 
-module _ {R : Type 0} where
-  -- each time that a part was sent again is counted
-  pub noted_restarts : (rules : Rules) (parts : List (Part R)) → All WasSent parts → restarts_of parts ≤ noted_busy (map (note rules) parts)
-  noted_restarts rules [] all = omega arith
-  noted_restarts rules (part ∷ parts) all =
-      let a = by part.progress (All-head WasSent part parts all) in
-      let b = noted_first (note rules part) (map (note rules) parts) in
-      let c = noted_restarts rules parts (All-tail WasSent part parts all) in
-      omega arith
-    where
-      by : (p : Progress R) → WasSentBy p → part.restarts ≤ noted_busy (note_by rules part p ∷ [])
-      by (Ready place) sent = absurd sent
-      by (Below number spot) sent = omega arith
-      by (HasEnded ended) sent = omega arith
+-- each time that a part was sent again is counted
+pub noted_restarts : (rules : Rules) (parts : List Part) → All WasSent parts → restarts_of parts ≤ noted_busy (map (note rules) parts)
+noted_restarts rules [] all = omega arith
+noted_restarts rules (part ∷ parts) all =
+    let a = by part.progress (All-head WasSent part parts all) in
+    let b = noted_first (note rules part) (map (note rules) parts) in
+    let c = noted_restarts rules parts (All-tail WasSent part parts all) in
+    omega arith
+  where
+    by : (p : Progress) → WasSentBy p → part.restarts ≤ noted_busy (note_by rules part p ∷ [])
+    by (Ready place) sent = absurd sent
+    by (Below number spot) sent = omega arith
+    by (HasEnded ended) sent = omega arith
 
-  -- SUMS
-  pub restarts-append : (xs ys : List (Part R)) → restarts_of (xs ++ ys) ≡ restarts_of xs + restarts_of ys
-  restarts-append [] ys = omega arith
-  restarts-append (x ∷ xs) ys = let e = restarts-append xs ys in omega arith
+-- SUMS
+pub restarts-append : (xs ys : List Part) → restarts_of (xs ++ ys) ≡ restarts_of xs + restarts_of ys
+restarts-append [] ys = omega arith
+restarts-append (x ∷ xs) ys = let e = restarts-append xs ys in omega arith
 
-  -- NUMBERS OF OTHER PARTS
+-- THE SPOTS OF OTHER PARTS
 
-  -- the part is not below under this number
-  abbrev pub HasOther : ℕ → Part R → Type 0
-  HasOther number part = (n spot : ℕ) → part.progress ≡ Below n spot → n ≢ number
+-- the part is not below at this spot
+abbrev pub HasOther : ℕ → Part → Type 0
+HasOther spot part = (n at : ℕ) → part.progress ≡ Below n at → at ≢ spot
 
-  pub numbered_split : (slot first : ℕ) (xs ys : List (Part R)) → AreNumberedFrom slot first (xs ++ ys)
-      → AreNumberedFrom slot first xs × AreNumberedFrom slot (first + length xs) ys
-  numbered_split slot first [] ys h = (tt, subst (λ n. AreNumberedFrom slot n ys) (omega arith) h)
-  numbered_split slot first (x ∷ xs) ys h =
-      let r = numbered_split slot (first + 1) xs ys h.1 in
-      ((h.0, r.0), subst (λ n. AreNumberedFrom slot n ys) (omega arith) r.1)
+other_places : (owners : List PartId) (slot first spot : ℕ) (xs : List Part) → AreOwnedFrom owners slot first xs →
+    ((i : ℕ) → first ≤ i → i < first + length xs → i ≢ place_at owners spot) → All (HasOther spot) xs
+other_places owners slot first spot [] h out = All-nil (HasOther spot)
+other_places owners slot first spot (x ∷ xs) h out =
+    All-cons (HasOther spot) x xs
+    (λ n at is same. let e : IsOwnedBy owners slot first (Below n at) = subst (IsOwnedBy owners slot first) is h.0 in out first
+    (omega arith) (omega arith) (sym e.1 ∙ ap (place_at owners) same))
+    (other_places owners slot (first + 1) spot xs h.1 (λ i low high. out i (omega arith) (omega arith)))
 
-  pub numbered_joined : (slot first : ℕ) (xs ys : List (Part R)) → AreNumberedFrom slot first xs → AreNumberedFrom slot
-      (first + length xs) ys → AreNumberedFrom slot first (xs ++ ys)
-  numbered_joined slot first [] ys h k = subst (λ n. AreNumberedFrom slot n ys) (omega arith) k
-  numbered_joined slot first (x ∷ xs) ys h k = (
-    h.0,
-    numbered_joined slot (first + 1) xs ys h.1
-        (subst (λ n. AreNumberedFrom slot n ys) (omega arith) k),
-  )
+other_slots : (owners : List PartId) (slot first spot : ℕ) (xs : List Part) → AreOwnedFrom owners slot first xs → slot ≢ slot_at owners spot
+    → All (HasOther spot) xs
+other_slots owners slot first spot [] h out = All-nil (HasOther spot)
+other_slots owners slot first spot (x ∷ xs) h out =
+    All-cons (HasOther spot) x xs
+    (λ n at is same. let e : IsOwnedBy owners slot first (Below n at) = subst (IsOwnedBy owners slot first) is h.0 in out
+    (sym e.0 ∙ ap (slot_at owners) same))
+    (other_slots owners slot (first + 1) spot xs h.1 out)
 
-  other_places : (slot first number : ℕ) (xs : List (Part R)) → AreNumberedFrom slot first xs →
-      ((i : ℕ) → first ≤ i → i < first + length xs → i ≢ part_in number) → All (HasOther number) xs
-  other_places slot first number [] h out = All-nil (HasOther number)
-  other_places slot first number (x ∷ xs) h out =
-      All-cons (HasOther number) x xs
-      (λ n spot is same. let e : (slot_in n ≡ slot) × (part_in n ≡ first) = subst (IsNumberedBy slot first) is h.0 in out first
-      (omega arith) (omega arith) (sym e.1 ∙ ap part_in same))
-      (other_places slot (first + 1) number xs h.1 (λ i low high. out i (omega arith) (omega arith)))
-
-  other_slots : (slot first number : ℕ) (xs : List (Part R)) → AreNumberedFrom slot first xs → slot ≢ slot_in number → All
-      (HasOther number) xs
-  other_slots slot first number [] h out = All-nil (HasOther number)
-  other_slots slot first number (x ∷ xs) h out =
-      All-cons (HasOther number) x xs
-      (λ n spot is same. let e : (slot_in n ≡ slot) × (part_in n ≡ first) = subst (IsNumberedBy slot first) is h.0 in out
-      (sym e.0 ∙ ap slot_in same))
-      (other_slots slot (first + 1) number xs h.1 out)
-
-module _ {R : Type 0} (rules : Rules) {b : Books R} {slot k : ℕ} {o : Opened R} {part : Part R} {number spot : ℕ}
-    (s : PartStands b slot k o part number spot) (part' : Part R) (again left next : ℕ) (ended' : List ℕ) where
-  abbrev pub o_now : Opened R
+module _ (rules : Rules) {b : Books} {slot k : ℕ} {o : Opened} {part : Part} {number spot : ℕ}
+    (s : PartStands b slot k o part number spot) (part' : Part) (again left next : ℕ) (ended' : List ℕ) where
+  abbrev pub o_now : Opened
   o_now = record o { parts = s.front ++ (part' ∷ s.back); restarts = again; unfinished = left }
 
-  abbrev pub b_now : Books R
+  abbrev pub b_now : Books
   b_now = record b { opens = s.stands.before ++ ((slot, o_now) ∷ s.stands.after); ended = ended'; next_packet = next }
 
-  abbrev pub rest_open : List (ℕ × Opened R)
+  abbrev pub rest_open : List (ℕ × Opened)
   rest_open = s.stands.before ++ s.stands.after
 
   old_first : IsPermutation b.opens ((slot, o) ∷ rest_open)
@@ -127,10 +113,10 @@ module _ {R : Type 0} (rules : Rules) {b : Books R} {slot k : ℕ} {o : Opened R
   new_first = IsPermutation-middle s.stands.before (slot, o_now) s.stands.after
 
   -- OF EACH OPEN REQUEST
-  pub own_entry : (P : ℕ × Opened R → Type 0) → All P b.opens → P (slot, o)
+  pub own_entry : (P : ℕ × Opened → Type 0) → All P b.opens → P (slot, o)
   own_entry P all = All-at P s.stands.before (slot, o) s.stands.after (subst (All P) s.stands.opens_are all)
 
-  pub each_entry : (P P' : ℕ × Opened R → Type 0) → P' (slot, o_now) → ((e : ℕ × Opened R) → e.0 ≢ slot → P e → P' e) → All P b.opens
+  pub each_entry : (P P' : ℕ × Opened → Type 0) → P' (slot, o_now) → ((e : ℕ × Opened) → e.0 ≢ slot → P e → P' e) → All P b.opens
       → All P' b_now.opens
   each_entry P P' own other all =
       let rest : All P rest_open = All-tail P (slot, o) rest_open (All-permutation P _ _ old_first all) in
@@ -139,55 +125,55 @@ module _ {R : Type 0} (rules : Rules) {b : Books R} {slot k : ℕ} {o : Opened R
 
   -- OF EACH PART
 
-  pub each_part : (P P' : Part R → Type 0) → P' part' → ((x : Part R) → P x → P' x) → All P o.parts → All P' (s.front ++ (part' ∷ s.back))
+  pub each_part : (P P' : Part → Type 0) → P' part' → ((x : Part) → P x → P' x) → All P o.parts → All P' (s.front ++ (part' ∷ s.back))
   each_part P P' own other all =
       let rest : All P (s.front ++ s.back) = All-others P s.front part s.back (subst (All P) s.parts_are all) in
       All-permutation P' _ _ (IsPermutation-sym _ _ (IsPermutation-middle s.front part' s.back))
       (All-cons P' part' (s.front ++ s.back) own (All-weaker P P' other (s.front ++ s.back) rest))
 
   -- of each part anywhere, where the others are below under other numbers
-  pub all_parts : (P P' : Part R → Type 0) → All (IsOpen rules) b.opens → P' part' → ((x : Part R) → HasOther number x → P x → P' x)
-      → All (λ (e : Opened R). All P e.parts) (all_open b) → All (λ (e : Opened R). All P' e.parts) (all_open b_now)
+  pub all_parts : (P P' : Part → Type 0) → All (IsOpen rules b.owners) b.opens → P' part' → ((x : Part) → HasOther spot x → P x → P' x)
+      → All (λ (e : Opened). All P e.parts) (all_open b) → All (λ (e : Opened). All P' e.parts) (all_open b_now)
   all_parts P P' opens own other all =
       to_opened b_now.opens
-      (each_entry (λ e. IsOpen rules e × All P e.1.parts) (λ e. All P' e.1.parts)
-      (mine (own_entry (λ e. IsOpen rules e × All P e.1.parts) both))
+      (each_entry (λ e. IsOpen rules b.owners e × All P e.1.parts) (λ e. All P' e.1.parts)
+      (mine (own_entry (λ e. IsOpen rules b.owners e × All P e.1.parts) both))
       (λ e apart h.
-      let others : All (HasOther number) e.1.parts = other_slots e.0 0 number e.1.parts h.0.numbered
-      (λ same. apart (same ∙ (is_numbered (own_entry (IsOpen rules) opens)).0)) in
+      let others : All (HasOther spot) e.1.parts = other_slots b.owners e.0 0 spot e.1.parts h.0.owned
+      (λ same. apart (same ∙ (is_owned (own_entry (IsOpen rules b.owners) opens)).0)) in
       λ i d low. other (get_or e.1.parts i d) (others i d low) (h.1 i d low))
       both)
     where
-      from_opened : (es : List (ℕ × Opened R)) → All (λ (x : Opened R). All P x.parts) (map opened es) → All
-          (λ (e : ℕ × Opened R). All P e.1.parts) es
-      from_opened [] h = All-nil (λ (e : ℕ × Opened R). All P e.1.parts)
+      from_opened : (es : List (ℕ × Opened)) → All (λ (x : Opened). All P x.parts) (map opened es) → All
+          (λ (e : ℕ × Opened). All P e.1.parts) es
+      from_opened [] h = All-nil (λ (e : ℕ × Opened). All P e.1.parts)
       from_opened (e ∷ es) h =
-          All-cons (λ (x : ℕ × Opened R). All P x.1.parts) e es (All-head (λ (x : Opened R). All P x.parts) e.1 (map opened es) h)
-          (from_opened es (All-tail (λ (x : Opened R). All P x.parts) e.1 (map opened es) h))
+          All-cons (λ (x : ℕ × Opened). All P x.1.parts) e es (All-head (λ (x : Opened). All P x.parts) e.1 (map opened es) h)
+          (from_opened es (All-tail (λ (x : Opened). All P x.parts) e.1 (map opened es) h))
 
-      to_opened : (es : List (ℕ × Opened R)) → All (λ (e : ℕ × Opened R). All P' e.1.parts) es → All (λ (x : Opened R). All P' x.parts)
+      to_opened : (es : List (ℕ × Opened)) → All (λ (e : ℕ × Opened). All P' e.1.parts) es → All (λ (x : Opened). All P' x.parts)
           (map opened es)
-      to_opened [] h = All-nil (λ (x : Opened R). All P' x.parts)
+      to_opened [] h = All-nil (λ (x : Opened). All P' x.parts)
       to_opened (e ∷ es) h =
-          All-cons (λ (x : Opened R). All P' x.parts) e.1 (map opened es) (All-head (λ (x : ℕ × Opened R). All P' x.1.parts) e es h)
-          (to_opened es (All-tail (λ (x : ℕ × Opened R). All P' x.1.parts) e es h))
+          All-cons (λ (x : Opened). All P' x.parts) e.1 (map opened es) (All-head (λ (x : ℕ × Opened). All P' x.1.parts) e es h)
+          (to_opened es (All-tail (λ (x : ℕ × Opened). All P' x.1.parts) e es h))
 
-      both : All (λ (e : ℕ × Opened R). IsOpen rules e × All P e.1.parts) b.opens
+      both : All (λ (e : ℕ × Opened). IsOpen rules b.owners e × All P e.1.parts) b.opens
       both = λ i d low. (opens i d low, from_opened b.opens all i d low)
 
-      is_numbered : IsOpen rules (slot, o) → (slot_in number ≡ slot) × (part_in number ≡ 0 + length s.front)
-      is_numbered w = subst (IsNumberedBy slot (0 + length s.front)) s.is_below
-          (numbered_at slot 0 s.front part s.back (subst (AreNumberedFrom slot 0) s.parts_are w.numbered))
+      is_owned : IsOpen rules b.owners (slot, o) → IsOwnedBy b.owners slot (0 + length s.front) (Below number spot)
+      is_owned w = subst (IsOwnedBy b.owners slot (0 + length s.front)) s.is_below
+          (owned_at b.owners slot 0 s.front part s.back (subst (AreOwnedFrom b.owners slot 0) s.parts_are w.owned))
 
-      mine : IsOpen rules (slot, o) × All P o.parts → All P' (s.front ++ (part' ∷ s.back))
+      mine : IsOpen rules b.owners (slot, o) × All P o.parts → All P' (s.front ++ (part' ∷ s.back))
       mine (w, h) =
-          let n = (is_numbered w).1 in
-          let halves = numbered_split slot 0 s.front (part ∷ s.back) (subst (AreNumberedFrom slot 0) s.parts_are w.numbered) in
-          let in_front : All (HasOther number) s.front = other_places slot 0 number s.front halves.0
+          let n = (is_owned w).1 in
+          let halves = owned_split b.owners slot 0 s.front (part ∷ s.back) (subst (AreOwnedFrom b.owners slot 0) s.parts_are w.owned) in
+          let in_front : All (HasOther spot) s.front = other_places b.owners slot 0 spot s.front halves.0
           (λ i low high same. omega (arith, same)) in
-          let in_back : All (HasOther number) s.back = other_places slot (0 + length s.front + 1) number s.back halves.1.1
+          let in_back : All (HasOther spot) s.back = other_places b.owners slot (0 + length s.front + 1) spot s.back halves.1.1
           (λ i low high same. omega (arith, same)) in
-          let others : All (HasOther number) (s.front ++ s.back) = All-append (HasOther number) s.front s.back in_front in_back in
+          let others : All (HasOther spot) (s.front ++ s.back) = All-append (HasOther spot) s.front s.back in_front in_back in
           let rest : All P (s.front ++ s.back) = All-others P s.front part s.back (subst (All P) s.parts_are h) in
           All-permutation P' _ _ (IsPermutation-sym _ _ (IsPermutation-middle s.front part' s.back))
           (All-cons P' part' (s.front ++ s.back) own (λ i d low. other (get_or (s.front ++ s.back) i d) (others i d low) (rest i d low)))
@@ -284,19 +270,19 @@ module _ {R : Type 0} (rules : Rules) {b : Books R} {slot k : ℕ} {o : Opened R
     pub causes_now : (removing : Bool) → IsCauseBy o.irp.cancelled removing busy_now part'.progress → All
         (HaveCauses rules removing) b.opens → All (HaveCauses rules removing) b_now.opens
     causes_now removing own all = each_entry (HaveCauses rules removing) (HaveCauses rules removing)
-        (each_part (λ (x : Part R). IsCauseBy o.irp.cancelled removing busy_now x.progress)
-        (λ (x : Part R). IsCauseBy o.irp.cancelled removing busy_now x.progress) own (λ x h. h)
+        (each_part (λ (x : Part). IsCauseBy o.irp.cancelled removing busy_now x.progress)
+        (λ (x : Part). IsCauseBy o.irp.cancelled removing busy_now x.progress) own (λ x h. h)
         (causes_more o.irp.cancelled o.irp.cancelled removing removing busy_then busy_now (λ is. is) (λ is. is) no_fewer o.parts
         (own_entry (HaveCauses rules removing) all)))
         (λ e apart h. h) all
 
   -- WHAT IS KEPT OF THE REQUEST
   pub open_now : part'.request ≡ part.request → WasSent part' → IsBuffered rules part' → IsWritten rules o part'
-      → IsNumberedBy slot k part'.progress → again + part.restarts ≡ o.restarts + part'.restarts → again ≤ 16
-      → left + unfinished_by part.progress ≡ o.unfinished + unfinished_by part'.progress → IsOpen rules (slot, o) → IsOpen rules
+      → IsOwnedBy b.owners slot k part'.progress → again + part.restarts ≡ o.restarts + part'.restarts → again ≤ 16
+      → left + unfinished_by part.progress ≡ o.unfinished + unfinished_by part'.progress → IsOpen rules b.owners (slot, o) → IsOpen rules b.owners
       (slot, o_now)
-  open_now asks sent buffered written numbered restarts few unfinished w =
-      let halves = numbered_split slot 0 s.front (part ∷ s.back) (subst (AreNumberedFrom slot 0) s.parts_are w.numbered) in
+  open_now asks sent buffered written owned restarts few unfinished w =
+      let halves = owned_split b.owners slot 0 s.front (part ∷ s.back) (subst (AreOwnedFrom b.owners slot 0) s.parts_are w.owned) in
       let place : k ≡ 0 + length s.front = let p = s.place in omega arith in
       record {
         cut = record {
@@ -309,9 +295,8 @@ module _ {R : Type 0} (rules : Rules) {b : Books R} {slot k : ℕ} {o : Opened R
         sent = each_part WasSent WasSent sent (λ x h. h) w.sent;
         buffered = each_part (IsBuffered rules) (IsBuffered rules) buffered (λ x h. h) w.buffered;
         written = each_part (IsWritten rules o) (IsWritten rules o) written (λ x h. h) w.written;
-        numbered = numbered_joined slot 0 s.front (part' ∷ s.back) halves.0
-            (subst (λ n. IsNumberedBy slot n part'.progress) place numbered, halves.1.1);
-        slot = w.slot;
+        owned = owned_joined b.owners slot 0 s.front (part' ∷ s.back) halves.0
+            (subst (λ n. IsOwnedBy b.owners slot n part'.progress) place owned, halves.1.1);
         restarts =
             let a = w.restarts in
             let c = ap restarts_of s.parts_are ∙ restarts-append s.front (part ∷ s.back) in

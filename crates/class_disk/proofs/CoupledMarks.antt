@@ -13,7 +13,8 @@ use Rattle.machine.specs.declared.ClientRequest.{ClientRequest}
 use Rattle.machine.specs.Rules.{Rules, first_sector}
 use Rattle.machine.specs.State.{Mark, Untouched, Out, Done, Failed, Back, OpenRequest, Piece}
 use Rattle.machine.specs.Sending.{HasTag, IsLowestFreeTag, command_for, is_untouched, IsUnsent, is_started}
-use Rattle.class_disk.specs.Joint.{Part, Below, Here, Master, shown_mark, lifted, parts_requests, parts_pieces, parts_marks, parts_lifted, shown, pieces_below, pieces_above, IsPartOf, below_rules}
+use Rattle.class_disk.specs.inside.Joint.{Part, Below, Here, Divided, shown_mark, lifted, parts_requests, parts_pieces, parts_marks, parts_lifted, shown, pieces_below, pieces_above, IsPartOf}
+use Rattle.class_disk.specs.PortRules.{below_rules}
 
 take-append-add : {X : Type 0} (xs ys : List X) (n : ℕ) → take (length xs + n) (xs ++ ys) ≡ xs ++ take n ys
 take-append-add [] ys n = ap (λ k. take k ys) (omega arith)
@@ -98,7 +99,7 @@ not_not : (b c : Bool) → (c ≡ true → b ≡ true) → not b ≡ true → no
 not_not b true f h = cc (f refl, h)
 not_not b false f h = refl
 
-pub started_part : (x : Master) (part : OpenRequest) → Contains (parts_requests x.parts) part → IsTrue (is_started part) → IsTrue (is_started (shown x))
+pub started_part : (x : Divided) (part : OpenRequest) → Contains (parts_requests x.parts) part → IsTrue (is_started part) → IsTrue (is_started (shown x))
 started_part x part c h = not_not (list_all is_untouched part.marks) (list_all is_untouched (parts_marks x.parts)) (untouched_part x.parts part c) h
 
 -- THE COMMAND AND THE TAGS
@@ -131,7 +132,7 @@ tags_lifted owner first (Below o again pieces ∷ parts) =
     mine (p ∷ ps) = ap (λ zs. p.tag ∷ zs) (mine ps)
 tags_lifted owner first (Here marks busy ∷ parts) = tags_lifted owner (first + length marks) parts
 
-pub same_tags : (es : List Master) → map tag_of (pieces_above es) ≡ map tag_of (pieces_below es)
+pub same_tags : (es : List Divided) → map tag_of (pieces_above es) ≡ map tag_of (pieces_below es)
 same_tags [] = refl
 same_tags (e ∷ es) =
     map-append tag_of (parts_lifted e.number 0 e.parts) (pieces_above es)

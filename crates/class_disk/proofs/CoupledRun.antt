@@ -29,12 +29,13 @@ use Rattle.machine.proofs.Same.{IsSame-refl, IsSame-sym, IsSame-trans, DeviceSte
 use Rattle.machine.proofs.Permuting.{IsPermutation-uncons, first_unique}
 use Rattle.machine.proofs.Placed.{leaves, ArePlaced-DeviceStep, ArePlaced-same}
 use Rattle.machine.proofs.Owners.{Owns, owns}
-use Rattle.class_disk.specs.Joint.{Part, Below, Master, Joint, note_of, known_of, lifted, parts_requests, parts_pieces, parts_marks, parts_lifted, requests_below, pieces_below, pieces_above, shown, below, above, below_rules, IsPartOf}
-use Rattle.class_disk.specs.Kept.{IsSound, IsOwnedBy, IsMadeUp, AgreesOnCancel, AreBehind, IsAhead, IsInTurn, IsInPieces, Keeps}
+use Rattle.class_disk.specs.inside.Joint.{Part, Below, Divided, Joint, note_of, known_of, lifted, parts_requests, parts_pieces, parts_marks, parts_lifted, requests_below, pieces_below, pieces_above, shown, below, above, IsPartOf}
+use Rattle.class_disk.specs.PortRules.{below_rules}
+use Rattle.class_disk.specs.inside.Kept.{IsSound, IsOwnedBy, IsMadeUp, AgreesOnCancel, AreBehind, IsAhead, IsInTurn, IsInPieces, Keeps}
 use Rattle.class_disk.proofs.Coupled.{requests-append, pieces-append, lifted-append}
-use Rattle.class_disk.proofs.CoupledSteps.{master_with, Starts-above, Acts-above, Faults-above, Returns-above, changed_below, below_first, shown_pieces}
+use Rattle.class_disk.proofs.CoupledSteps.{divided_with, Starts-above, Acts-above, Faults-above, Returns-above, changed_below, below_first, shown_pieces}
 use Rattle.class_disk.proofs.InPieces.{begins_whole, start_spares, return_spares}
-use Rattle.class_disk.proofs.Focus.{Found, FoundPiece, find, find_piece, in_place, first}
+use Rattle.class_disk.proofs.Focus.{Found, FoundPiece, find, find_piece, first}
 use Rattle.class_disk.proofs.Focus as focus
 use Rattle.class_disk.proofs.Keeping.{IsAlikePart, keeps_with, follows_started, follows_same, alike_same, started_with, part_in, there}
 
@@ -42,7 +43,7 @@ use Rattle.class_disk.proofs.Keeping.{IsAlikePart, keeps_with, follows_started, 
 
 -- what the class driver knows by itself is as before
 pub record IsLike (j next : Joint) : Type 0 where
-  pub transfers : IsPermutation (map known_of next.masters) (map known_of j.masters)
+  pub transfers : IsPermutation (map known_of next.divided) (map known_of j.divided)
   pub next_above : next.next_above ≡ j.next_above
   pub next_below : next.next_below ≡ j.next_below
   pub removing : next.removing ≡ j.removing
@@ -59,15 +60,15 @@ pub record Stepped (rules : Rules) (j : Joint) (label : DeviceLabel) (s' : State
   pub keeps : Keeps rules next
   pub like : IsLike j next
 
-pub keeps_permuted : (rules : Rules) (j : Joint) (ms : List Master) → IsPermutation j.masters ms → Keeps rules j → Keeps rules (record j { masters = ms })
+pub keeps_permuted : (rules : Rules) (j : Joint) (ms : List Divided) → IsPermutation j.divided ms → Keeps rules j → Keeps rules (record j { divided = ms })
 keeps_permuted rules j ms p k = record {
   made_up = All-permutation (IsMadeUp rules) _ _ p k.made_up;
   agree = All-permutation AgreesOnCancel _ _ p k.agree;
   in_turn = All-permutation (IsInTurn j.removing ms) _ _ p
-      (All-weaker (IsInTurn j.removing j.masters) (IsInTurn j.removing ms)
-      (λ e. All-weaker (AreBehind j.removing j.masters e.number) (AreBehind j.removing ms e.number)
+      (All-weaker (IsInTurn j.removing j.divided) (IsInTurn j.removing ms)
+      (λ e. All-weaker (AreBehind j.removing j.divided e.number) (AreBehind j.removing ms e.number)
       (λ n. All-permutation (IsAhead j.removing e.number n) _ _ p) (map request_number (parts_requests e.parts)))
-      j.masters k.in_turn);
+      j.divided k.in_turn);
   in_pieces = All-permutation (IsInPieces rules) _ _ p k.in_pieces;
 }
 
@@ -76,31 +77,31 @@ Contains-map f xs x (k, low, is) = let n = length-map xs f in (k, omega arith, g
 
 -- A PART IN FRONT
 
-module _ (rules : Rules) (j : Joint) (o : OpenRequest) (f : Found j.masters o) where
-  abbrev pub rest : List Master
+module _ (rules : Rules) (j : Joint) (o : OpenRequest) (f : Found j.divided o) where
+  abbrev pub rest : List Divided
   rest = f.before ++ f.after
 
   abbrev pub here : List Piece → Joint
-  here pieces = record j { masters = master_with f.master f.front f.back o f.again pieces ∷ rest }
+  here pieces = record j { divided = divided_with f.whole f.front f.back o f.again pieces ∷ rest }
 
   pub same_below : IsSame (below j) (below (here f.pieces))
-  same_below = subst (λ ms. IsSame (below (record j { masters = ms })) (below (here f.pieces))) (sym f.is_there) (focus.below_first j f.before (master_with f.master f.front f.back o f.again f.pieces) f.after)
+  same_below = subst (λ ms. IsSame (below (record j { divided = ms })) (below (here f.pieces))) (sym f.is_there) (focus.below_first j f.before (divided_with f.whole f.front f.back o f.again f.pieces) f.after)
 
   pub same_above : IsSame (above j) (above (here f.pieces))
-  same_above = subst (λ ms. IsSame (above (record j { masters = ms })) (above (here f.pieces))) (sym f.is_there) (focus.above_first j f.before (master_with f.master f.front f.back o f.again f.pieces) f.after)
+  same_above = subst (λ ms. IsSame (above (record j { divided = ms })) (above (here f.pieces))) (sym f.is_there) (focus.above_first j f.before (divided_with f.whole f.front f.back o f.again f.pieces) f.after)
 
-  pub moved : IsPermutation j.masters (here f.pieces).masters
-  moved = subst (λ ms. IsPermutation ms (here f.pieces).masters) (sym f.is_there) (IsPermutation-middle f.before (master_with f.master f.front f.back o f.again f.pieces) f.after)
+  pub moved : IsPermutation j.divided (here f.pieces).divided
+  moved = subst (λ ms. IsPermutation ms (here f.pieces).divided) (sym f.is_there) (IsPermutation-middle f.before (divided_with f.whole f.front f.back o f.again f.pieces) f.after)
 
   pub keeps_here : Keeps rules j → Keeps rules (here f.pieces)
   keeps_here k = keeps_permuted rules j _ moved k
 
   like_with : (o' : OpenRequest) (ps' : List Piece) (arrays : List (List (List ℕ))) (next : ℕ) → o'.number ≡ o.number
-      → IsLike j (record j { arrays = arrays; next_piece = next; masters = master_with f.master f.front f.back o' f.again ps' ∷ rest })
+      → IsLike j (record j { arrays = arrays; next_piece = next; divided = divided_with f.whole f.front f.back o' f.again ps' ∷ rest })
   like_with o' ps' arrays next same =
       let notes = notes_with f.front f.back o o' f.again f.pieces ps' same in
       record {
-        transfers = subst (λ ns. IsPermutation (record (known_of f.master) { parts = ns } ∷ map known_of rest) (map known_of j.masters)) (sym notes) (IsPermutation-sym _ _ (IsPermutation-map known_of _ _ moved));
+        transfers = subst (λ ns. IsPermutation (record (known_of f.whole) { parts = ns } ∷ map known_of rest) (map known_of j.divided)) (sym notes) (IsPermutation-sym _ _ (IsPermutation-map known_of _ _ moved));
         next_above = refl;
         next_below = refl;
         removing = refl;
@@ -124,14 +125,14 @@ module _ (rules : Rules) (many : rules.one_piece ≡ false) (j : Joint) (s : Sta
   start_coupled number tag block s' h =
       let o : OpenRequest = h.owner in
       let in_s : Contains s.requests o = Contains-permutation _ _ o (IsPermutation-sym _ _ h.is_open) (0, omega arith, refl) in
-      let f : Found j.masters o = find j.masters o (Contains-permutation _ _ o (IsPermutation-sym _ _ same.requests) in_s) in
+      let f : Found j.divided o = find j.divided o (Contains-permutation _ _ o (IsPermutation-sym _ _ same.requests) in_s) in
       let jf : Joint = here rules j o f f.pieces in
-      let es : List Master = rest rules j o f in
+      let es : List Divided = rest rules j o f in
       let sb : IsSame (below jf) s = IsSame-trans _ _ _ (IsSame-sym _ _ (same_below rules j o f)) same in
       let kf : Keeps rules jf = keeps_here rules j o f k in
       let o' : OpenRequest = sent h.places o in
       let p : Piece = new_piece (below jf) tag o h.places in
-      let next : Joint = record j { next_piece = j.next_piece + 1; masters = master_with f.master f.front f.back o' f.again (p ∷ f.pieces) ∷ es } in
+      let next : Joint = record j { next_piece = j.next_piece + 1; divided = divided_with f.whole f.front f.back o' f.again (p ∷ f.pieces) ∷ es } in
       let fits : h.places.first + length (replicate h.places.count Out) ≤ length o.marks = let i = h.sendable.inside in let n = length-replicate h.places.count Out in omega arith in
       let alike : IsAlikePart o o' = record {
         number = refl;
@@ -141,13 +142,13 @@ module _ (rules : Rules) (many : rules.one_piece ≡ false) (j : Joint) (s : Sta
         long = length-splice o.marks h.places.first (replicate h.places.count Out) fits;
         spare = start_spares o h.places (begins_whole (below_rules rules) refl o h.places h.sendable);
       } in
-      let known = part_in rules f.master.request o f.again f.pieces f.front f.back (All-head (IsMadeUp rules) _ es kf.made_up) in
+      let known = part_in rules f.whole.request o f.again f.pieces f.front f.back (All-head (IsMadeUp rules) _ es kf.made_up) in
       let is_open : IsPermutation (below jf).requests (o ∷ h.others) = IsPermutation-trans _ _ _ sb.requests h.is_open in
       let same_piece : p ≡ new_piece s tag o h.places = ap (λ n. record p { number = n }) sb.next_piece in
-      let agrees : o.cancelled ≡ f.master.cancelled = All-contains (λ x. x.cancelled ≡ f.master.cancelled) _ o (All-head AgreesOnCancel _ es kf.agree) (there_is f) in
-      let turns : All (IsAhead j.removing f.master.number o.number) es =
-      All-tail (IsAhead j.removing f.master.number o.number) _ es
-      (All-contains (AreBehind j.removing jf.masters f.master.number) _ o.number (All-head (IsInTurn j.removing jf.masters) _ es kf.in_turn) (number_there f)) in
+      let agrees : o.cancelled ≡ f.whole.cancelled = All-contains (λ x. x.cancelled ≡ f.whole.cancelled) _ o (All-head AgreesOnCancel _ es kf.agree) (there_is f) in
+      let turns : All (IsAhead j.removing f.whole.number o.number) es =
+      All-tail (IsAhead j.removing f.whole.number o.number) _ es
+      (All-contains (AreBehind j.removing jf.divided f.whole.number) _ o.number (All-head (IsInTurn j.removing jf.divided) _ es kf.in_turn) (number_there f)) in
       let may : MayStart (below jf) o = record {
         not_cancelled = h.may_start.not_cancelled;
         not_removing = sb.removing ∙ h.may_start.not_removing;
@@ -160,8 +161,8 @@ module _ (rules : Rules) (many : rules.one_piece ≡ false) (j : Joint) (s : Sta
           arrays = sb.arrays;
           next_request = sb.next_request;
           next_piece = ap (λ n. n + 1) sb.next_piece;
-          requests = IsPermutation-sym _ _ (changed_below f.master es f.front f.back o o' f.again f.pieces (p ∷ f.pieces) h.others is_open);
-          pieces = subst (λ x. IsPermutation (below next).pieces (x ∷ s.pieces)) same_piece (IsPermutation-trans _ _ _ (below_first f.master es f.front f.back o o' f.again p f.pieces) (IsPermutation-cons p _ _ sb.pieces));
+          requests = IsPermutation-sym _ _ (changed_below f.whole es f.front f.back o o' f.again f.pieces (p ∷ f.pieces) h.others is_open);
+          pieces = subst (λ x. IsPermutation (below next).pieces (x ∷ s.pieces)) same_piece (IsPermutation-trans _ _ _ (below_first f.whole es f.front f.back o o' f.again p f.pieces) (IsPermutation-cons p _ _ sb.pieces));
           owed = sb.owed;
           paused = sb.paused;
           removing = sb.removing;
@@ -169,17 +170,17 @@ module _ (rules : Rules) (many : rules.one_piece ≡ false) (j : Joint) (s : Sta
         }) (IsSame-sym _ _ h.after);
         step = DeviceStep-same rules (Start number tag block) (above jf) (above j) (above next) (above next) (IsSame-sym _ _ (same_above rules j o f)) (IsSame-refl _)
             (subst (λ n. Starts rules (above jf) n tag block (above next)) (sb.next_piece ∙ sym h.next_number)
-            (Starts-above rules j f.master es f.front f.back j.arrays j.next_piece many o f.again f.pieces tag block h.places known.0 agrees turns (All-head (IsInPieces rules) _ es kf.in_pieces)
+            (Starts-above rules j f.whole es f.front f.back j.arrays j.next_piece many o f.again f.pieces tag block h.places known.0 agrees turns (All-head (IsInPieces rules) _ es kf.in_pieces)
             (lowest_permuted rules.depth tag _ _ (IsPermutation-sym _ _ sb.pieces) h.on_tag) may h.sendable h.asks));
-        keeps = keeps_with rules j f.master es f.front f.back o o' f.again f.pieces (p ∷ f.pieces) alike j.arrays (j.next_piece + 1) (All-cons (IsOwnedBy o.number) p f.pieces refl known.1)
-            (follows_started rules j f.master es f.front f.back o o' f.again f.pieces (p ∷ f.pieces) alike (outs_start o h.places.first h.places.count h.sendable.some)) kf;
+        keeps = keeps_with rules j f.whole es f.front f.back o o' f.again f.pieces (p ∷ f.pieces) alike j.arrays (j.next_piece + 1) (All-cons (IsOwnedBy o.number) p f.pieces refl known.1)
+            (follows_started rules j f.whole es f.front f.back o o' f.again f.pieces (p ∷ f.pieces) alike (outs_start o h.places.first h.places.count h.sendable.some)) kf;
         like = like_with rules j o f o' (p ∷ f.pieces) j.arrays (j.next_piece + 1) refl;
       }
     where
-      there_is : {o : OpenRequest} (f : Found j.masters o) → Contains (parts_requests (f.front ++ (Below o f.again f.pieces ∷ f.back))) o
+      there_is : {o : OpenRequest} (f : Found j.divided o) → Contains (parts_requests (f.front ++ (Below o f.again f.pieces ∷ f.back))) o
       there_is {o} f = there o f.again f.pieces f.front f.back
 
-      number_there : {o : OpenRequest} (f : Found j.masters o) → Contains (map request_number (parts_requests (f.front ++ (Below o f.again f.pieces ∷ f.back)))) o.number
+      number_there : {o : OpenRequest} (f : Found j.divided o) → Contains (map request_number (parts_requests (f.front ++ (Below o f.again f.pieces ∷ f.back)))) o.number
       number_there {o} f = Contains-map request_number _ o (there o f.again f.pieces f.front f.back)
 
 -- ACT, FAULT AND RETURN
@@ -195,45 +196,45 @@ pub one_request : (s : State) (a b : OpenRequest) → AreDistinct s → Contains
 one_request s a b d (i, low, is) (k, low', is') same =
     (first_unique request_number s.requests a b _ _ d.requests (IsPermutation-remove s.requests i a low (sym is)) (IsPermutation-remove s.requests k b low' (sym is')) (sym same)).0
 
-pieces_with : (e : Master) (es : List Master) (front back : List Part) (o : OpenRequest) (again : ℕ) (ps ps' : List Piece) → IsPermutation ps ps'
-    → IsPermutation (pieces_below (master_with e front back o again ps ∷ es)) (pieces_below (master_with e front back o again ps' ∷ es))
+pieces_with : (e : Divided) (es : List Divided) (front back : List Part) (o : OpenRequest) (again : ℕ) (ps ps' : List Piece) → IsPermutation ps ps'
+    → IsPermutation (pieces_below (divided_with e front back o again ps ∷ es)) (pieces_below (divided_with e front back o again ps' ∷ es))
 pieces_with e es front back o again ps ps' p =
     rw (pieces-append front (Below o again ps ∷ back), pieces-append front (Below o again ps' ∷ back))
     (IsPermutation-append_left (pieces_below es) _ _ (IsPermutation-append_right (parts_pieces front) _ _ (IsPermutation-append_left (parts_pieces back) _ _ p)))
 
-lifted_with : (e : Master) (es : List Master) (front back : List Part) (o : OpenRequest) (again : ℕ) (ps ps' : List Piece) → IsPermutation ps ps'
-    → IsPermutation (pieces_above (master_with e front back o again ps ∷ es)) (pieces_above (master_with e front back o again ps' ∷ es))
+lifted_with : (e : Divided) (es : List Divided) (front back : List Part) (o : OpenRequest) (again : ℕ) (ps ps' : List Piece) → IsPermutation ps ps'
+    → IsPermutation (pieces_above (divided_with e front back o again ps ∷ es)) (pieces_above (divided_with e front back o again ps' ∷ es))
 lifted_with e es front back o again ps ps' p =
     rw (lifted-append e.number 0 front (Below o again ps ∷ back), lifted-append e.number 0 front (Below o again ps' ∷ back))
     (IsPermutation-append_left (pieces_above es) _ _ (IsPermutation-append_right (parts_lifted e.number 0 front) _ _ (IsPermutation-append_left (parts_lifted e.number (0 + length (parts_marks front) + length o.marks) back) _ _ (IsPermutation-map (lifted e.number (0 + length (parts_marks front))) _ _ p))))
 
-requests_same : (e : Master) (es : List Master) (front back : List Part) (o : OpenRequest) (again : ℕ) (ps ps' : List Piece) → requests_below (master_with e front back o again ps ∷ es) ≡ requests_below (master_with e front back o again ps' ∷ es)
+requests_same : (e : Divided) (es : List Divided) (front back : List Part) (o : OpenRequest) (again : ℕ) (ps ps' : List Piece) → requests_below (divided_with e front back o again ps ∷ es) ≡ requests_below (divided_with e front back o again ps' ∷ es)
 requests_same e es front back o again ps ps' = ap (λ zs. zs ++ requests_below es) (requests-append front (Below o again ps ∷ back) ∙ sym (requests-append front (Below o again ps' ∷ back)))
 
-shown_same : (e : Master) (front back : List Part) (o : OpenRequest) (again : ℕ) (ps ps' : List Piece) → shown (master_with e front back o again ps) ≡ shown (master_with e front back o again ps')
+shown_same : (e : Divided) (front back : List Part) (o : OpenRequest) (again : ℕ) (ps ps' : List Piece) → shown (divided_with e front back o again ps) ≡ shown (divided_with e front back o again ps')
 shown_same e front back o again ps ps' = shown_pieces e [] front back o again ps ps'
 
 -- the part of a piece of the machine below, with this piece in front
 record AtPiece (rules : Rules) (j : Joint) (s : State) (p : Piece) (others : List Piece) : Type 0 where
   o : OpenRequest
-  f : Found j.masters o
+  f : Found j.divided o
   pieces : List Piece
   sb : IsSame (below (here rules j o f (p ∷ pieces))) s
   sa : IsSame (above j) (above (here rules j o f (p ∷ pieces)))
   kept : Keeps rules (here rules j o f (p ∷ pieces))
-  left : IsPermutation (pieces_below (master_with f.master f.front f.back o f.again pieces ∷ rest rules j o f)) others
+  left : IsPermutation (pieces_below (divided_with f.whole f.front f.back o f.again pieces ∷ rest rules j o f)) others
   is_open : Contains s.requests o
   is_owner : p.owner ≡ o.number
-  part : IsPartOf rules f.master.request (length (parts_marks f.front)) o
+  part : IsPartOf rules f.whole.request (length (parts_marks f.front)) o
   owned : All (IsOwnedBy o.number) pieces
 
 at_piece : (rules : Rules) (j : Joint) (s : State) (p : Piece) (others : List Piece) → IsSame (below j) s → Keeps rules j → IsPermutation s.pieces (p ∷ others) → AtPiece rules j s p others
 at_piece rules j s p others same k is_out =
-    let fp : FoundPiece j.masters p = find_piece j.masters p (Contains-permutation _ _ p (IsPermutation-sym _ _ same.pieces) (Contains-permutation _ _ p (IsPermutation-sym _ _ is_out) (0, omega arith, refl))) in
+    let fp : FoundPiece j.divided p = find_piece j.divided p (Contains-permutation _ _ p (IsPermutation-sym _ _ same.pieces) (Contains-permutation _ _ p (IsPermutation-sym _ _ is_out) (0, omega arith, refl))) in
     let o : OpenRequest = fp.part in
-    let f : Found j.masters o = fp.at in
-    let e : Master = f.master in
-    let es : List Master = rest rules j o f in
+    let f : Found j.divided o = fp.at in
+    let e : Divided = f.whole in
+    let es : List Divided = rest rules j o f in
     let pieces : List Piece = remove f.pieces fp.there.0 in
     let front_first : IsPermutation f.pieces (p ∷ pieces) = IsPermutation-remove f.pieces fp.there.0 p fp.there.1 (sym fp.there.2) in
     let jf : Joint = here rules j o f f.pieces in
@@ -245,7 +246,7 @@ at_piece rules j s p others same k is_out =
       arrays = refl;
       next_request = refl;
       next_piece = refl;
-      requests = subst (λ zs. IsPermutation (requests_below jf.masters) zs) (requests_same e es f.front f.back o f.again f.pieces (p ∷ pieces)) (IsPermutation-refl _);
+      requests = subst (λ zs. IsPermutation (requests_below jf.divided) zs) (requests_same e es f.front f.back o f.again f.pieces (p ∷ pieces)) (IsPermutation-refl _);
       pieces = pieces_with e es f.front f.back o f.again f.pieces (p ∷ pieces) front_first;
       owed = refl;
       paused = refl;
@@ -256,7 +257,7 @@ at_piece rules j s p others same k is_out =
       arrays = refl;
       next_request = refl;
       next_piece = refl;
-      requests = subst (λ x. IsPermutation (map shown jf.masters) (x ∷ map shown es)) (shown_same e f.front f.back o f.again f.pieces (p ∷ pieces)) (IsPermutation-refl _);
+      requests = subst (λ x. IsPermutation (map shown jf.divided) (x ∷ map shown es)) (shown_same e f.front f.back o f.again f.pieces (p ∷ pieces)) (IsPermutation-refl _);
       pieces = lifted_with e es f.front f.back o f.again f.pieces (p ∷ pieces) front_first;
       owed = refl;
       paused = refl;
@@ -281,15 +282,15 @@ at_piece rules j s p others same k is_out =
 -- the piece has another fate
 module _ (rules : Rules) (j : Joint) (s : State) (p : Piece) (others : List Piece) (a : AtPiece rules j s p others) where
   abbrev turned : List (List (List ℕ)) → Fate → Joint
-  turned arrays fate = record j { arrays = arrays; masters = master_with a.f.master a.f.front a.f.back a.o a.f.again (with_fate fate p ∷ a.pieces) ∷ rest rules j a.o a.f }
+  turned arrays fate = record j { arrays = arrays; divided = divided_with a.f.whole a.f.front a.f.back a.o a.f.again (with_fate fate p ∷ a.pieces) ∷ rest rules j a.o a.f }
 
   turned_same : (arrays : List (List (List ℕ))) (fate : Fate) → IsSame (below (turned arrays fate)) (record s { arrays = arrays; pieces = with_fate fate p ∷ others })
   turned_same arrays fate = record {
     arrays = refl;
     next_request = a.sb.next_request;
     next_piece = a.sb.next_piece;
-    requests = subst (λ zs. IsPermutation zs s.requests) (requests_same a.f.master (rest rules j a.o a.f) a.f.front a.f.back a.o a.f.again (p ∷ a.pieces) (with_fate fate p ∷ a.pieces)) a.sb.requests;
-    pieces = IsPermutation-trans _ _ _ (below_first a.f.master (rest rules j a.o a.f) a.f.front a.f.back a.o a.o a.f.again (with_fate fate p) a.pieces) (IsPermutation-cons _ _ _ a.left);
+    requests = subst (λ zs. IsPermutation zs s.requests) (requests_same a.f.whole (rest rules j a.o a.f) a.f.front a.f.back a.o a.f.again (p ∷ a.pieces) (with_fate fate p ∷ a.pieces)) a.sb.requests;
+    pieces = IsPermutation-trans _ _ _ (below_first a.f.whole (rest rules j a.o a.f) a.f.front a.f.back a.o a.o a.f.again (with_fate fate p) a.pieces) (IsPermutation-cons _ _ _ a.left);
     owed = a.sb.owed;
     paused = a.sb.paused;
     removing = a.sb.removing;
@@ -298,17 +299,17 @@ module _ (rules : Rules) (j : Joint) (s : State) (p : Piece) (others : List Piec
 
   turned_keeps : (arrays : List (List (List ℕ))) (fate : Fate) → Keeps rules (turned arrays fate)
   turned_keeps arrays fate =
-      keeps_with rules j a.f.master (rest rules j a.o a.f) a.f.front a.f.back a.o a.o a.f.again (p ∷ a.pieces) (with_fate fate p ∷ a.pieces) (alike_same a.o) arrays j.next_piece
+      keeps_with rules j a.f.whole (rest rules j a.o a.f) a.f.front a.f.back a.o a.o a.f.again (p ∷ a.pieces) (with_fate fate p ∷ a.pieces) (alike_same a.o) arrays j.next_piece
       (All-cons (IsOwnedBy a.o.number) (with_fate fate p) a.pieces a.is_owner a.owned)
-      (follows_same j.removing a.f.master a.f.front a.f.back a.o a.f.again (p ∷ a.pieces) (with_fate fate p ∷ a.pieces)) a.kept
+      (follows_same j.removing a.f.whole a.f.front a.f.back a.o a.f.again (p ∷ a.pieces) (with_fate fate p ∷ a.pieces)) a.kept
 
 module _ (rules : Rules) (j : Joint) (s : State) (same : IsSame (below j) s) (sound : IsSound s) (k : Keeps rules j) where
   act_coupled : (number : ℕ) (bytes : List ℕ) (s' : State) → Acts (below_rules rules) s number bytes s' → Stepped rules j (Act number bytes) s'
   act_coupled number bytes s' h =
       let p : Piece = h.piece in
       let a : AtPiece rules j s p h.other_pieces = at_piece rules j s p h.other_pieces same k h.fresh.is_out in
-      let e : Master = a.f.master in
-      let es : List Master = rest rules j a.o a.f in
+      let e : Divided = a.f.whole in
+      let es : List Divided = rest rules j a.o a.f in
       let next : Joint = turned rules j s p h.other_pieces a h.arrays' (Acted h.sectors) in
       let p_there : Contains s.pieces p = Contains-permutation _ _ p (IsPermutation-sym _ _ h.fresh.is_out) (0, omega arith, refl) in
       let own : Owns a.o p = owns s sound.placed a.o p a.is_open p_there (sym a.is_owner) in
@@ -333,7 +334,7 @@ module _ (rules : Rules) (j : Joint) (s : State) (same : IsSame (below j) s) (so
         next = next;
         same = IsSame-trans _ _ _ (subst (λ arrays. IsSame (below next) (record s { arrays = arrays; pieces = with_fate Faulted p ∷ h.other_pieces })) a.sb.arrays (turned_same rules j s p h.other_pieces a j.arrays Faulted)) (IsSame-sym _ _ h.after);
         step = DeviceStep-same rules (Fault number) (above (here rules j a.o a.f (p ∷ a.pieces))) (above j) (above next) (above next) (IsSame-sym _ _ a.sa) (IsSame-refl _)
-            (Faults-above rules j a.f.master (rest rules j a.o a.f) a.f.front a.f.back j.arrays j.next_piece a.o a.f.again number p a.pieces h.fresh.is_number h.fresh.is_fresh);
+            (Faults-above rules j a.f.whole (rest rules j a.o a.f) a.f.front a.f.back j.arrays j.next_piece a.o a.f.again number p a.pieces h.fresh.is_number h.fresh.is_fresh);
         keeps = turned_keeps rules j s p h.other_pieces a j.arrays Faulted;
         like = like_with rules j a.o a.f a.o (with_fate Faulted p ∷ a.pieces) j.arrays j.next_piece refl;
       }
@@ -356,7 +357,7 @@ touched p (Bad completion) marks (bad, is) some = by p.places.count is
     by zero e = absurd (let l = ap length e in omega arith)
     by (suc n) e = (Failed (status_of_completion completion), replicate n (Failed (status_of_completion completion)), e, refl)
 
-pieces_alike : (e : Master) (es : List Master) (front back : List Part) (o o' : OpenRequest) (again : ℕ) (ps : List Piece) → pieces_below (master_with e front back o again ps ∷ es) ≡ pieces_below (master_with e front back o' again ps ∷ es)
+pieces_alike : (e : Divided) (es : List Divided) (front back : List Part) (o o' : OpenRequest) (again : ℕ) (ps : List Piece) → pieces_below (divided_with e front back o again ps ∷ es) ≡ pieces_below (divided_with e front back o' again ps ∷ es)
 pieces_alike e es front back o o' again ps = ap (λ zs. zs ++ pieces_below es) (pieces-append front (Below o again ps ∷ back) ∙ sym (pieces-append front (Below o' again ps ∷ back)))
 
 module _ (rules : Rules) (j : Joint) (s : State) (same : IsSame (below j) s) (sound : IsSound s) (k : Keeps rules j) where
@@ -364,12 +365,12 @@ module _ (rules : Rules) (j : Joint) (s : State) (same : IsSame (below j) s) (so
   return_coupled number class s' h =
       let p : Piece = h.piece in
       let a : AtPiece rules j s p h.other_pieces = at_piece rules j s p h.other_pieces same k h.is_out in
-      let e : Master = a.f.master in
-      let es : List Master = rest rules j a.o a.f in
+      let e : Divided = a.f.whole in
+      let es : List Divided = rest rules j a.o a.f in
       let o : OpenRequest = a.o in
       let o' : OpenRequest = given_back p class h.marks o in
       let jp : Joint = here rules j o a.f (p ∷ a.pieces) in
-      let next : Joint = record j { masters = master_with e a.f.front a.f.back o' a.f.again a.pieces ∷ es } in
+      let next : Joint = record j { divided = divided_with e a.f.front a.f.back o' a.f.again a.pieces ∷ es } in
       let p_there : Contains s.pieces p = Contains-permutation _ _ p (IsPermutation-sym _ _ h.is_out) (0, omega arith, refl) in
       let own : Owns o p = owns s sound.placed o p a.is_open p_there (sym a.is_owner) in
       let owner_there : Contains s.requests h.owner = Contains-permutation _ _ h.owner (IsPermutation-sym _ _ h.is_open) (0, omega arith, refl) in
@@ -394,7 +395,7 @@ module _ (rules : Rules) (j : Joint) (s : State) (same : IsSame (below j) s) (so
         arrays = a.sb.arrays;
         next_request = a.sb.next_request;
         next_piece = a.sb.next_piece;
-        requests = subst (λ x. IsPermutation (requests_below next.masters) (given_back p class h.marks x ∷ h.others)) (sym is)
+        requests = subst (λ x. IsPermutation (requests_below next.divided) (given_back p class h.marks x ∷ h.others)) (sym is)
             (IsPermutation-sym _ _ (changed_below e es a.f.front a.f.back o o' a.f.again (p ∷ a.pieces) a.pieces h.others is_open));
         pieces = subst (λ zs. IsPermutation zs h.other_pieces) (pieces_alike e es a.f.front a.f.back o o' a.f.again a.pieces) a.left;
         owed = a.sb.owed;

@@ -1,7 +1,7 @@
 -- Steps of the layer below at one part, as steps of the layer above.
-use Rattle.std.proofs.Common.{◌≡◌, ◌≤◌, inl, inr, ℕ, zero, suc, ◌+◌, ◌-◌, true, false, None, List, [], ◌∷◌, ◌++◌, refl, sym, ◌∙◌, ap, subst, arith, map, length, take, drop, replicate, get_or, length-append}
-use Rattle.std.specs.Prelude.{IsPermutation, All, Contains, IsTrue, IsFalse, slice_range, if◌then◌else◌, ◌↔◌}
-use Rattle.std.specs.List.{concat, list_all}
+use Rattle.std.proofs.Common.{◌≡◌, ◌≤◌, inl, inr, ℕ, zero, suc, ◌+◌, ◌-◌, true, false, List, [], ◌∷◌, ◌++◌, refl, sym, ◌∙◌, ap, subst, arith, map, length, take, drop, replicate, get_or, length-append}
+use Rattle.std.specs.Prelude.{IsPermutation, All, Contains, IsFalse, slice_range}
+use Rattle.std.specs.List.{concat}
 use Rattle.std.proofs.lemmas.List.{length-map, length-replicate, take-map, drop-map}
 use Rattle.std.proofs.lemmas.List.Sorted.{IsPermutation-refl, IsPermutation-sym, IsPermutation-trans, IsPermutation-cons, IsPermutation-middle, IsPermutation-append_left}
 use Rattle.std.proofs.lemmas.List.Elements.{All-cons, All-contains, All-map, Contains-append_left, Contains-append_right, Contains-get_or}
@@ -14,16 +14,13 @@ use Rattle.srb.specs.Fate.{Fresh, Acted, Faulted}
 use Rattle.srb.specs.declared.Kind.{Kind}
 use Rattle.srb.specs.declared.Kind.TheVariants.{Read, Write, Flush}
 use Rattle.machine.specs.declared.ClientRequest.{ClientRequest}
-use Rattle.machine.specs.Rules.{Rules, first_sector, place_count}
-use Rattle.machine.specs.Answering.{Cause, IsGivenUp, HasEnded, HasCause, Answers, answer_bytes, is_done}
-use Rattle.machine.specs.Holding.{Cancels, Drains, as_cancelled, held_back}
-use Rattle.ntstatus.specs.declared.NtStatus.{NtStatus}
-use Rattle.ntstatus.specs.declared.NtStatus.TheVariants.{Success, DeviceBusy, DeletePending, NoSuchDevice}
-use Rattle.machine.specs.Calling.{Opens, refusal, bytes_carried, new_request}
+use Rattle.machine.specs.Rules.{Rules, first_sector}
+use Rattle.machine.specs.Holding.{Cancels}
 use Rattle.machine.specs.State.{Mark, Untouched, Out, Done, Failed, Back, OpenRequest, Piece, State, IsSame, with_marks}
 use Rattle.machine.specs.Sending.{Starts, Acts, Faults, Returns, MayStart, IsInTurn, IsSendable, IsLowestFreeTag, IsUnsent, LeavesMarks, Transfers, command_for, sent, new_piece, with_fate, given_back, one_if_busy}
-use Rattle.class_disk.specs.Joint.{Part, Below, Here, Master, Joint, shown_mark, lifted, parts_requests, parts_pieces, parts_marks, parts_busy, parts_lifted, shown, requests_below, pieces_below, pieces_above, below, above, IsPartOf, below_rules}
-use Rattle.class_disk.specs.Kept.{IsAhead, IsInPieces}
+use Rattle.class_disk.specs.inside.Joint.{Part, Below, Here, Divided, Joint, shown_mark, lifted, parts_requests, parts_pieces, parts_marks, parts_busy, parts_lifted, shown, requests_below, pieces_below, pieces_above, below, above, IsPartOf}
+use Rattle.class_disk.specs.PortRules.{below_rules}
+use Rattle.class_disk.specs.inside.Kept.{IsAhead, IsInPieces}
 use Rattle.machine.proofs.Same.{IsSame-refl}
 use Rattle.machine.proofs.Permuting.{IsPermutation-uncons}
 use Rattle.sector.proofs.Splicing.{length-splice}
@@ -31,10 +28,10 @@ use Rattle.class_disk.proofs.Coupled.{requests-append, pieces-append, marks-appe
 use Rattle.class_disk.proofs.InPieces.{BeginsWhole, begins_whole, piece_begins, restart_left}
 use Rattle.class_disk.proofs.CoupledMarks.{splice_middle, range_middle, map-splice, all_unsent, started_part, same_command, same_tags, IsLowestFreeTag-tags}
 
-abbrev pub master_with : Master → List Part → List Part → OpenRequest → ℕ → List Piece → Master
-master_with e front back o again pieces = record e { parts = front ++ (Below o again pieces ∷ back) }
+abbrev pub divided_with : Divided → List Part → List Part → OpenRequest → ℕ → List Piece → Divided
+divided_with e front back o again pieces = record e { parts = front ++ (Below o again pieces ∷ back) }
 
-module _ (e : Master) (es : List Master) (front back : List Part) where
+module _ (e : Divided) (es : List Divided) (front back : List Part) where
   abbrev pub base : ℕ
   base = length (parts_marks front)
 
@@ -56,15 +53,15 @@ module _ (e : Master) (es : List Master) (front back : List Part) where
       omega arith
 
   pub shown_with : (o o' : OpenRequest) (again : ℕ) (ps ps' : List Piece) (f : ℕ) (x : List Mark) (extra : ℕ) → o'.marks ≡ splice o.marks f x → f + length x ≤ length o.marks → map (shown_mark again) x ≡ x → o'.busy_returns ≡ o.busy_returns + extra
-      → shown (master_with e front back o' again ps') ≡ record (with_marks (base + f) x (shown (master_with e front back o again ps))) { busy_returns = parts_busy (front ++ (Below o again ps ∷ back)) + extra }
+      → shown (divided_with e front back o' again ps') ≡ record (with_marks (base + f) x (shown (divided_with e front back o again ps))) { busy_returns = parts_busy (front ++ (Below o again ps ∷ back)) + extra }
   shown_with o o' again ps ps' f x extra is fits alike more =
-      ap (λ m. record (shown (master_with e front back o' again ps')) { marks = m }) (marks_with o o' again ps ps' f x is fits alike)
-      ∙ ap (λ n. record (with_marks (base + f) x (shown (master_with e front back o again ps))) { busy_returns = n }) (busy_with o o' again ps ps' extra more)
+      ap (λ m. record (shown (divided_with e front back o' again ps')) { marks = m }) (marks_with o o' again ps ps' f x is fits alike)
+      ∙ ap (λ n. record (with_marks (base + f) x (shown (divided_with e front back o again ps))) { busy_returns = n }) (busy_with o o' again ps ps' extra more)
 
-  pub shown_pieces : (o : OpenRequest) (again : ℕ) (ps ps' : List Piece) → shown (master_with e front back o again ps) ≡ shown (master_with e front back o again ps')
+  pub shown_pieces : (o : OpenRequest) (again : ℕ) (ps ps' : List Piece) → shown (divided_with e front back o again ps) ≡ shown (divided_with e front back o again ps')
   shown_pieces o again ps ps' =
-      ap (λ m. record (shown (master_with e front back o again ps)) { marks = m }) (marks-append front (Below o again ps ∷ back) ∙ sym (marks-append front (Below o again ps' ∷ back)))
-      ∙ ap (λ n. record (shown (master_with e front back o again ps')) { busy_returns = n }) (busy-append front (Below o again ps ∷ back) ∙ sym (busy-append front (Below o again ps' ∷ back)))
+      ap (λ m. record (shown (divided_with e front back o again ps)) { marks = m }) (marks-append front (Below o again ps ∷ back) ∙ sym (marks-append front (Below o again ps' ∷ back)))
+      ∙ ap (λ n. record (shown (divided_with e front back o again ps')) { busy_returns = n }) (busy-append front (Below o again ps ∷ back) ∙ sym (busy-append front (Below o again ps' ∷ back)))
 
   lifted_with : (o o' : OpenRequest) (again : ℕ) (ps : List Piece) → length o'.marks ≡ length o.marks
       → parts_lifted e.number 0 (front ++ (Below o' again ps ∷ back)) ≡ parts_lifted e.number 0 front ++ (map (lifted e.number base) ps ++ parts_lifted e.number (base + length o.marks) back)
@@ -75,32 +72,32 @@ module _ (e : Master) (es : List Master) (front back : List Part) where
       ∙ ap (λ m. parts_lifted e.number 0 front ++ (map (lifted e.number base) ps ++ parts_lifted e.number (base + m) back)) long
 
   pub above_first : (o o' : OpenRequest) (again : ℕ) (p : Piece) (ps : List Piece) → length o'.marks ≡ length o.marks
-      → IsPermutation (pieces_above (master_with e front back o' again (p ∷ ps) ∷ es)) (lifted e.number base p ∷ pieces_above (master_with e front back o again ps ∷ es))
+      → IsPermutation (pieces_above (divided_with e front back o' again (p ∷ ps) ∷ es)) (lifted e.number base p ∷ pieces_above (divided_with e front back o again ps ∷ es))
   above_first o o' again p ps long =
       rw (lifted_with o o' again (p ∷ ps) long, lifted_with o o again ps refl)
       (IsPermutation-append_left (pieces_above es) _ _ (IsPermutation-middle (parts_lifted e.number 0 front) (lifted e.number base p) (map (lifted e.number base) ps ++ parts_lifted e.number (base + length o.marks) back)))
 
   pub below_first : (o o' : OpenRequest) (again : ℕ) (p : Piece) (ps : List Piece)
-      → IsPermutation (pieces_below (master_with e front back o' again (p ∷ ps) ∷ es)) (p ∷ pieces_below (master_with e front back o again ps ∷ es))
+      → IsPermutation (pieces_below (divided_with e front back o' again (p ∷ ps) ∷ es)) (p ∷ pieces_below (divided_with e front back o again ps ∷ es))
   below_first o o' again p ps =
       rw (pieces-append front (Below o' again (p ∷ ps) ∷ back), pieces-append front (Below o again ps ∷ back))
       (IsPermutation-append_left (pieces_below es) _ _ (IsPermutation-middle (parts_pieces front) p (ps ++ parts_pieces back)))
 
   pub request_first : (o : OpenRequest) (again : ℕ) (ps : List Piece)
-      → IsPermutation (requests_below (master_with e front back o again ps ∷ es)) (o ∷ ((parts_requests front ++ parts_requests back) ++ requests_below es))
+      → IsPermutation (requests_below (divided_with e front back o again ps ∷ es)) (o ∷ ((parts_requests front ++ parts_requests back) ++ requests_below es))
   request_first o again ps =
       rw (requests-append front (Below o again ps ∷ back))
       (IsPermutation-append_left (requests_below es) _ _ (IsPermutation-middle (parts_requests front) o (parts_requests back)))
 
-abbrev pub at : Joint → List (List (List ℕ)) → ℕ → List Master → Joint
-at j arrays next masters = record j { arrays = arrays; next_piece = next; masters = masters }
+abbrev pub at : Joint → List (List (List ℕ)) → ℕ → List Divided → Joint
+at j arrays next divided = record j { arrays = arrays; next_piece = next; divided = divided }
 
 shown_outs : (again n : ℕ) → map (shown_mark again) (replicate n Out) ≡ replicate n Out
 shown_outs again zero = refl
 shown_outs zero (suc n) = ap (λ zs. Out ∷ zs) (shown_outs zero n)
 shown_outs (suc m) (suc n) = ap (λ zs. Out ∷ zs) (shown_outs (suc m) n)
 
-pub in_requests : (x : Master) (part : OpenRequest) (es : List Master) → Contains es x → Contains (parts_requests x.parts) part → Contains (requests_below es) part
+pub in_requests : (x : Divided) (part : OpenRequest) (es : List Divided) → Contains es x → Contains (parts_requests x.parts) part → Contains (requests_below es) part
 in_requests x part [] c h = absurd (let w = c.1 in omega arith)
 in_requests x part (y ∷ es) (zero, within, is) h = Contains-append_left _ _ _ (subst (λ z. Contains (parts_requests z.parts) part) (sym is) h)
 in_requests x part (y ∷ es) (suc k, within, is) h = Contains-append_right _ _ _ (in_requests x part es (k, omega arith, is) h)
@@ -152,26 +149,26 @@ shown_left again piece Good marks (sectors, fate, is) = ap (map (shown_mark agai
 shown_left again piece Busy marks (fate, is) = ap (map (shown_mark again)) is ∙ shown_many again piece.places.count Back (back_stays again) ∙ sym is
 shown_left again piece (Bad completion) marks (bad, is) = ap (map (shown_mark again)) is ∙ shown_many again piece.places.count _ (failed_stays again _) ∙ sym is
 
-module _ (rules : Rules) (j : Joint) (e : Master) (es : List Master) (front back : List Part) (arrays : List (List (List ℕ))) (next : ℕ) where
+module _ (rules : Rules) (j : Joint) (e : Divided) (es : List Divided) (front back : List Part) (arrays : List (List (List ℕ))) (next : ℕ) where
   abbrev focus : List (List (List ℕ)) → ℕ → OpenRequest → ℕ → List Piece → Joint
-  focus arrays' next' o again ps = at j arrays' next' (master_with e front back o again ps ∷ es)
+  focus arrays' next' o again ps = at j arrays' next' (divided_with e front back o again ps ∷ es)
 
   -- no earlier request waits above, since no earlier part does below
-  turns : IsFalse j.removing → (o : OpenRequest) (again : ℕ) (ps : List Piece) → All (IsAhead j.removing e.number o.number) es → All (IsInTurn o) (requests_below (master_with e front back o again ps ∷ es))
-      → All (IsInTurn (shown (master_with e front back o again ps))) (map shown (master_with e front back o again ps ∷ es))
+  turns : IsFalse j.removing → (o : OpenRequest) (again : ℕ) (ps : List Piece) → All (IsAhead j.removing e.number o.number) es → All (IsInTurn o) (requests_below (divided_with e front back o again ps ∷ es))
+      → All (IsInTurn (shown (divided_with e front back o again ps))) (map shown (divided_with e front back o again ps ∷ es))
   turns staying o again ps ahead turn =
-      All-cons (IsInTurn (shown (master_with e front back o again ps))) (shown (master_with e front back o again ps)) (map shown es) (λ low timely. absurd (omega arith))
-      (All-map (IsInTurn (shown (master_with e front back o again ps))) shown es (λ k d within. one (get_or es k d) (Contains-get_or es k d within) (ahead k d within)))
+      All-cons (IsInTurn (shown (divided_with e front back o again ps))) (shown (divided_with e front back o again ps)) (map shown es) (λ low timely. absurd (omega arith))
+      (All-map (IsInTurn (shown (divided_with e front back o again ps))) shown es (λ k d within. one (get_or es k d) (Contains-get_or es k d within) (ahead k d within)))
     where
-      one : (x : Master) → Contains es x → IsAhead j.removing e.number o.number x → IsInTurn (shown (master_with e front back o again ps)) (shown x)
+      one : (x : Divided) → Contains es x → IsAhead j.removing e.number o.number x → IsInTurn (shown (divided_with e front back o again ps)) (shown x)
       one x c h low timely = elim (h staying low timely) [
         | inl started ↦ started
         | inr w ↦
-            started_part x w.part w.there (All-contains (IsInTurn o) _ w.part turn (in_requests x w.part (master_with e front back o again ps ∷ es) (suc c.0, omega (arith, c.1), c.2) w.there) w.before w.timely)
+            started_part x w.part w.there (All-contains (IsInTurn o) _ w.part turn (in_requests x w.part (divided_with e front back o again ps ∷ es) (suc c.0, omega (arith, c.1), c.2) w.there) w.before w.timely)
       ]
 
   pub Starts-above : rules.one_piece ≡ false → (o : OpenRequest) (again : ℕ) (ps : List Piece) (tag : ℕ) (block : List ℕ) (places : Extent)
-      → IsPartOf rules e.request (length (parts_marks front)) o → o.cancelled ≡ e.cancelled → All (IsAhead j.removing e.number o.number) es → IsInPieces rules (master_with e front back o again ps)
+      → IsPartOf rules e.request (length (parts_marks front)) o → o.cancelled ≡ e.cancelled → All (IsAhead j.removing e.number o.number) es → IsInPieces rules (divided_with e front back o again ps)
       → IsLowestFreeTag rules.depth (below (focus arrays next o again ps)).pieces tag → MayStart (below (focus arrays next o again ps)) o → IsSendable (below_rules rules) o places
       → Means block (command_for (below_rules rules) o.request places o.request.kind)
       → Starts rules (above (focus arrays next o again ps)) next tag block (above (focus arrays (next + 1) (sent places o) again (new_piece (below (focus arrays next o again ps)) tag o places ∷ ps)))
@@ -182,8 +179,8 @@ module _ (rules : Rules) (j : Joint) (e : Master) (es : List Master) (front back
       let long : length (sent places o).marks ≡ length o.marks = length-splice o.marks places.first (replicate places.count Out) fits in
       let zero_more : parts_busy (front ++ (Below o again ps ∷ back)) + 0 ≡ parts_busy (front ++ (Below o again ps ∷ back)) = omega arith in
       let here : Extent = record { first = length (parts_marks front) + places.first; count = places.count } in
-      let owner : OpenRequest = shown (master_with e front back o again ps) in
-      let same : shown (master_with e front back (sent places o) again (new_piece (below (focus arrays next o again ps)) tag o places ∷ ps)) ≡ sent here owner =
+      let owner : OpenRequest = shown (divided_with e front back o again ps) in
+      let same : shown (divided_with e front back (sent places o) again (new_piece (below (focus arrays next o again ps)) tag o places ∷ ps)) ≡ sent here owner =
       shown_with e es front back o (sent places o) again ps (new_piece (below (focus arrays next o again ps)) tag o places ∷ ps) places.first (replicate places.count Out) 0 refl fits (shown_outs again places.count) (omega arith)
       ∙ ap (λ n. record (sent here owner) { busy_returns = n }) zero_more in
       let wide : length (parts_marks (front ++ (Below o again ps ∷ back))) ≡ length (parts_marks front) + (length o.marks + length (parts_marks back)) =
@@ -197,7 +194,7 @@ module _ (rules : Rules) (j : Joint) (e : Master) (es : List Master) (front back
         others = map shown es;
         places = here;
         next_number = refl;
-        on_tag = IsLowestFreeTag-tags _ _ (sym (same_tags (master_with e front back o again ps ∷ es))) rules.depth tag on_tag;
+        on_tag = IsLowestFreeTag-tags _ _ (sym (same_tags (divided_with e front back o again ps ∷ es))) rules.depth tag on_tag;
         is_open = IsPermutation-refl _;
         may_start = record {
           not_cancelled = sym same_cancel ∙ may.not_cancelled;
@@ -210,8 +207,8 @@ module _ (rules : Rules) (j : Joint) (e : Master) (es : List Master) (front back
           short = sendable.short;
           inside = let i = sendable.inside in omega arith;
           unsent = waiting;
-          begins = piece_begins rules e front back o again ps places in_pieces whole;
-          spare = restart_left rules e front back o again ps places in_pieces whole;
+          begins = λ grid. piece_begins rules e front back o again ps places in_pieces whole;
+          spare = λ grid. restart_left rules e front back o again ps places in_pieces whole;
           whole = λ one. cc (one, many);
         };
         asks = subst (λ z. Means block z) (same_command rules e.request (length (parts_marks front)) o places part) asks;
@@ -219,7 +216,7 @@ module _ (rules : Rules) (j : Joint) (e : Master) (es : List Master) (front back
           arrays = refl;
           next_request = refl;
           next_piece = refl;
-          requests = subst (λ z. IsPermutation (shown (master_with e front back (sent places o) again (new_piece (below (focus arrays next o again ps)) tag o places ∷ ps)) ∷ map shown es) (z ∷ map shown es)) same (IsPermutation-refl _);
+          requests = subst (λ z. IsPermutation (shown (divided_with e front back (sent places o) again (new_piece (below (focus arrays next o again ps)) tag o places ∷ ps)) ∷ map shown es) (z ∷ map shown es)) same (IsPermutation-refl _);
           pieces = above_first e es front back o (sent places o) again (new_piece (below (focus arrays next o again ps)) tag o places) ps long;
           owed = refl;
           paused = refl;
@@ -234,8 +231,8 @@ module _ (rules : Rules) (j : Joint) (e : Master) (es : List Master) (front back
       → Acts rules (above (focus arrays next o again (p ∷ ps))) k bytes (above (focus arrays' next o again (with_fate (Acted sectors) p ∷ ps)))
   Acts-above o again k p ps bytes sectors arrays' part is_k fresh fits covers moves hands = record {
     piece = lifted e.number (length (parts_marks front)) p;
-    other_pieces = pieces_above (master_with e front back o again ps ∷ es);
-    owner = shown (master_with e front back o again (p ∷ ps));
+    other_pieces = pieces_above (divided_with e front back o again ps ∷ es);
+    owner = shown (divided_with e front back o again (p ∷ ps));
     sectors = sectors;
     arrays' = arrays';
     fresh = record { is_out = above_first e es front back o o again p ps refl; is_number = is_k; is_fresh = fresh };
@@ -248,7 +245,7 @@ module _ (rules : Rules) (j : Joint) (e : Master) (es : List Master) (front back
       arrays = refl;
       next_request = refl;
       next_piece = refl;
-      requests = subst (λ z. IsPermutation (shown (master_with e front back o again (with_fate (Acted sectors) p ∷ ps)) ∷ map shown es) (z ∷ map shown es)) (shown_pieces e es front back o again (with_fate (Acted sectors) p ∷ ps) (p ∷ ps)) (IsPermutation-refl _);
+      requests = subst (λ z. IsPermutation (shown (divided_with e front back o again (with_fate (Acted sectors) p ∷ ps)) ∷ map shown es) (z ∷ map shown es)) (shown_pieces e es front back o again (with_fate (Acted sectors) p ∷ ps) (p ∷ ps)) (IsPermutation-refl _);
       pieces = above_first e es front back o o again (with_fate (Acted sectors) p) ps refl;
       owed = refl;
       paused = refl;
@@ -261,13 +258,13 @@ module _ (rules : Rules) (j : Joint) (e : Master) (es : List Master) (front back
       → Faults (above (focus arrays next o again (p ∷ ps))) k (above (focus arrays next o again (with_fate Faulted p ∷ ps)))
   Faults-above o again k p ps is_k fresh = record {
     piece = lifted e.number (length (parts_marks front)) p;
-    other_pieces = pieces_above (master_with e front back o again ps ∷ es);
+    other_pieces = pieces_above (divided_with e front back o again ps ∷ es);
     fresh = record { is_out = above_first e es front back o o again p ps refl; is_number = is_k; is_fresh = fresh };
     after = record {
       arrays = refl;
       next_request = refl;
       next_piece = refl;
-      requests = subst (λ z. IsPermutation (shown (master_with e front back o again (with_fate Faulted p ∷ ps)) ∷ map shown es) (z ∷ map shown es)) (shown_pieces e es front back o again (with_fate Faulted p ∷ ps) (p ∷ ps)) (IsPermutation-refl _);
+      requests = subst (λ z. IsPermutation (shown (divided_with e front back o again (with_fate Faulted p ∷ ps)) ∷ map shown es) (z ∷ map shown es)) (shown_pieces e es front back o again (with_fate Faulted p ∷ ps) (p ∷ ps)) (IsPermutation-refl _);
       pieces = above_first e es front back o o again (with_fate Faulted p) ps refl;
       owed = refl;
       paused = refl;
@@ -280,12 +277,12 @@ module _ (rules : Rules) (j : Joint) (e : Master) (es : List Master) (front back
       → Returns (above (focus arrays next o again (p ∷ ps))) k class (above (focus arrays next (given_back p class marks o) again ps))
   Returns-above o again k p ps class marks is_k leaves fits =
       let long : length (given_back p class marks o).marks ≡ length o.marks = length-splice o.marks p.places.first marks fits in
-      let same : shown (master_with e front back (given_back p class marks o) again ps) ≡ given_back (lifted e.number (length (parts_marks front)) p) class marks (shown (master_with e front back o again (p ∷ ps))) =
+      let same : shown (divided_with e front back (given_back p class marks o) again ps) ≡ given_back (lifted e.number (length (parts_marks front)) p) class marks (shown (divided_with e front back o again (p ∷ ps))) =
       shown_with e es front back o (given_back p class marks o) again (p ∷ ps) ps p.places.first marks (one_if_busy class) refl fits (shown_left again p class marks leaves) refl in
       record {
         piece = lifted e.number (length (parts_marks front)) p;
-        other_pieces = pieces_above (master_with e front back (given_back p class marks o) again ps ∷ es);
-        owner = shown (master_with e front back o again (p ∷ ps));
+        other_pieces = pieces_above (divided_with e front back (given_back p class marks o) again ps ∷ es);
+        owner = shown (divided_with e front back o again (p ∷ ps));
         others = map shown es;
         marks = marks;
         is_out = above_first e es front back (given_back p class marks o) o again p ps (sym long);
@@ -297,7 +294,7 @@ module _ (rules : Rules) (j : Joint) (e : Master) (es : List Master) (front back
           arrays = refl;
           next_request = refl;
           next_piece = refl;
-          requests = subst (λ z. IsPermutation (shown (master_with e front back (given_back p class marks o) again ps) ∷ map shown es) (z ∷ map shown es)) same (IsPermutation-refl _);
+          requests = subst (λ z. IsPermutation (shown (divided_with e front back (given_back p class marks o) again ps) ∷ map shown es) (z ∷ map shown es)) same (IsPermutation-refl _);
           pieces = IsPermutation-refl _;
           owed = refl;
           paused = refl;
@@ -308,9 +305,9 @@ module _ (rules : Rules) (j : Joint) (e : Master) (es : List Master) (front back
 
 -- THE SAME BELOW
 
-module _ (e : Master) (es : List Master) (front back : List Part) where
-  pub changed_below : (o o' : OpenRequest) (again : ℕ) (ps ps' : List Piece) (others : List OpenRequest) → IsPermutation (requests_below (master_with e front back o again ps ∷ es)) (o ∷ others)
-      → IsPermutation (o' ∷ others) (requests_below (master_with e front back o' again ps' ∷ es))
+module _ (e : Divided) (es : List Divided) (front back : List Part) where
+  pub changed_below : (o o' : OpenRequest) (again : ℕ) (ps ps' : List Piece) (others : List OpenRequest) → IsPermutation (requests_below (divided_with e front back o again ps ∷ es)) (o ∷ others)
+      → IsPermutation (o' ∷ others) (requests_below (divided_with e front back o' again ps' ∷ es))
   changed_below o o' again ps ps' others p =
       let rest : List OpenRequest = (parts_requests front ++ parts_requests back) ++ requests_below es in
       let q : IsPermutation others rest = IsPermutation-uncons o others rest (IsPermutation-trans _ _ _ (IsPermutation-sym _ _ p) (request_first e es front back o again ps)) in
@@ -318,9 +315,9 @@ module _ (e : Master) (es : List Master) (front back : List Part) where
 
 -- WHAT THE LAYER DOES WITH AN ENDED PART LEAVES ITS MACHINE AS IT WAS
 
-module _ (j : Joint) (e : Master) (es : List Master) (front back : List Part) where
+module _ (j : Joint) (e : Divided) (es : List Divided) (front back : List Part) where
   abbrev pub with_part : ℕ → Part → Joint
-  with_part next part = record j { next_below = next; masters = record e { parts = front ++ (part ∷ back) } ∷ es }
+  with_part next part = record j { next_below = next; divided = record e { parts = front ++ (part ∷ back) } ∷ es }
 
   pub same_part : (m n : ℕ) (part part' : Part) → parts_marks (part ∷ back) ≡ parts_marks (part' ∷ back) → parts_busy (part ∷ back) ≡ parts_busy (part' ∷ back)
       → ((first : ℕ) → parts_lifted e.number first (part ∷ back) ≡ parts_lifted e.number first (part' ∷ back))
@@ -360,7 +357,7 @@ replicate_more (suc m) n mark = let e : suc m + n ≡ suc (m + n) = omega arith 
 
 -- CANCELLATION
 
-pub Cancels-above : (j : Joint) (e : Master) (es : List Master) → IsFalse e.cancelled → Cancels (above (record j { masters = e ∷ es })) e.number (above (record j { masters = record e { cancelled = true } ∷ es }))
+pub Cancels-above : (j : Joint) (e : Divided) (es : List Divided) → IsFalse e.cancelled → Cancels (above (record j { divided = e ∷ es })) e.number (above (record j { divided = record e { cancelled = true } ∷ es }))
 Cancels-above j e es not_yet = record {
   request = shown e;
   others = map shown es;

@@ -1,5 +1,5 @@
 -- A removal: the class driver's own flag, and the removal of the layer below.
-use Rattle.std.proofs.Common.{◌≡◌, ◌≤◌, ℕ, Bool, true, false, List, [], refl, sym, ◌∙◌, ap, subst, arith, map}
+use Rattle.std.proofs.Common.{◌≡◌, ◌≤◌, true, false, [], refl, sym, ◌∙◌, ap, subst, arith, map}
 use Rattle.std.specs.Prelude.{IsPermutation, if◌then◌else◌}
 use Rattle.std.proofs.lemmas.List.Sorted.{IsPermutation-refl, IsPermutation-sym, All-permutation}
 use Rattle.std.proofs.lemmas.List.Elements.{All-weaker}
@@ -9,15 +9,18 @@ use Rattle.machine.specs.Marks.{AreCounted, IsCounted}
 use Rattle.machine.specs.Holding.{held_back}
 use Rattle.machine.proofs.Same.{IsSame-refl, IsSame-sym, IsSame-trans}
 use Rattle.machine.proofs.Numbers.{AreDistinct-same}
-use Rattle.device.specs.View.{DeviceView, IsOrderly, IsTopmost}
+use Rattle.device.specs.View.{DeviceView, IsOrderly, IsTopmost, room_at}
 use Rattle.device.specs.Served.{DrainsAll}
-use Rattle.class_disk.specs.declared.requests.DiskRoom.{DiskRoom}
-use Rattle.class_disk.specs.Joint.{Joint, above, below}
-use Rattle.class_disk.specs.Kept.{IsSound, Keeps, NeverSent, EndedAre, IsOver, noted_busy}
+use Rattle.class_disk.specs.inside.Joint.{Joint, above, below}
+use Rattle.class_disk.specs.inside.Kept.{IsSound, Keeps, NeverSent, EndedAre, IsOver, noted_busy}
 use Rattle.class_disk.specs.Shown.{class_rules}
-use Rattle.class_disk.specs.Books.{Books, all_open}
-use Rattle.class_disk.specs.Driver.{knowns, most_over, view_of, packet_above, AreAsked, AreSpotted, AreBelow, IsInHand, HaveCauses, note}
-use Rattle.class_disk.specs.Midway.{IsTaking, IsMidway, WithdrawsAll}
+use Rattle.class_disk.specs.inside.Books.{Books, all_open}
+use Rattle.class_disk.specs.inside.Driver.{knowns, view_of, packet_above, AreAsked, AreSpotted, AreBelow, IsInHand, HaveCauses, note, tickets}
+use Rattle.class_disk.specs.Opening.{most_over}
+use Rattle.class_disk.specs.inside.Rooms.{AllOut}
+use Rattle.class_disk.proofs.Rooms.{out_same}
+use Rattle.class_disk.proofs.Standing.{IsApart}
+use Rattle.class_disk.specs.inside.Midway.{IsTaking, IsMidway, WithdrawsAll}
 use Rattle.class_disk.proofs.CoupledRun.{sound_same}
 use Rattle.class_disk.proofs.Acting.{asked_still, spotted_still, shows}
 use Rattle.class_disk.proofs.Ending.{ends_unsent, unsent_drains, never_sent}
@@ -45,9 +48,8 @@ sound_removed s h = record {
   whole = record { alike = h.whole.alike; whole = h.whole.whole };
 }
 
-module _ {R : Type 0} (out out1 : List R → Type 0) (step : (rooms : List R) → out rooms → out1 rooms) (takes_srb : Bool) (stack : ℕ) (v : DeviceView) (b : Books R) (rooms : List (DiskRoom R)) (h : IsInHand out takes_srb stack v b rooms)
-    (ordered : IsOrderly v) (v1 : DeviceView) (d : DrainsAll v v1) where
-  abbrev pub books_drained : Books R
+module _ (v : DeviceView) (b : Books) (h : IsInHand v b) (v1 : DeviceView) (d : DrainsAll v v1) (ordered1 : IsOrderly v1) where
+  abbrev pub books_drained : Books
   books_drained = record b { removing = true }
 
   abbrev pub joint_drained : Joint
@@ -95,7 +97,7 @@ module _ {R : Type 0} (out out1 : List R → Type 0) (step : (rooms : List R) �
   unsent : EndedAre NeverSent v.rules v1.state
   unsent =
       let before = ends_unsent v.rules (ap (λ (r : Rules). r.busy_limit) h.port.below) (ap (λ (r : Rules). r.one_piece) h.port.below) in
-      never_sent v.rules v1.state (unsent_drains v v1 h.port.no_window (before v.state h.sound ordered.places h.unfinished) d)
+      never_sent v.rules v1.state (unsent_drains v v1 h.port.no_window (before v.state h.sound h.rooms_out.orderly.places h.unfinished) d)
 
   below_drained : AreBelow (record v1 { rules = v.rules }) books_drained
   below_drained =
@@ -113,18 +115,16 @@ module _ {R : Type 0} (out out1 : List R → Type 0) (step : (rooms : List R) �
         over = All-weaker (IsOver 17 v.state.removing) (IsOver 17 v1.state.removing) (λ k was. over_more 17 v.state.removing v1.state.removing k k.cancelled (λ is. is) (λ is. sym same_state.removing) was) (knowns rules b) h.below.over;
       }
 
-  pub midway_drained : IsMidway out1 takes_srb stack NeverSent (above joint_drained) [] v1 books_drained rooms
+  pub midway_drained : IsMidway NeverSent (above joint_drained) [] v1 books_drained
   midway_drained =
-      subst (λ (r : Rules). IsMidway out1 takes_srb stack NeverSent (above joint_drained) [] (record v1 { rules = r }) books_drained rooms) (sym d.beside.same_rules) (record {
-        takes = h.takes;
+      subst (λ (r : Rules). IsMidway NeverSent (above joint_drained) [] (record v1 { rules = r }) books_drained) (sym d.beside.same_rules) (record {
         port = h.port;
         taking = taking;
-        rooms_out = step _ h.rooms_out;
+        rooms_out = subst (λ (r : Rules). AllOut (record v1 { rules = r }) (tickets books_drained)) d.beside.same_rules (out_same v v1 (tickets b) ordered1 d.beside.same_rooms h.rooms_out);
         kept = record {
           sizes = h.kept.sizes;
           in_hand = h.kept.in_hand;
           opens = h.kept.opens;
-          vacant = h.kept.vacant;
           ended = h.kept.ended;
           places = h.kept.places;
           causes = All-weaker (HaveCauses rules b.removing) (HaveCauses rules true)
@@ -136,19 +136,19 @@ module _ {R : Type 0} (out out1 : List R → Type 0) (step : (rooms : List R) �
       })
 
   -- ALL IS TAKEN
-  module _ (out2 : List R → Type 0) (v2 : DeviceView) (b2 : Books R) (w : WithdrawsAll out1 out2 takes_srb stack v1 books_drained v2 b2) (ordered2 : IsOrderly v2) where
-    stands : StandsAgain out2 takes_srb stack (above joint_drained) v2 b2 rooms
+  module _ (v2 : DeviceView) (b2 : Books) (w : WithdrawsAll v1 books_drained v2 b2) (apart : IsApart b2) where
+    stands : StandsAgain (above joint_drained) v2 b2
     stands =
-        stands_again out1 out2 takes_srb stack (above joint_drained) v1 books_drained v2 b2 rooms midway_drained w ordered2
-        (let k = AreDistinct-same (above h.coupled.j) (view_of v b).state (shows out takes_srb stack v b rooms h) h.orderly.distinct in record { requests = k.requests; given = k.given; pieces = k.pieces; sent = k.sent })
+        stands_again (above joint_drained) v1 books_drained v2 b2 midway_drained w apart
+        (let k = AreDistinct-same (above h.coupled.j) (view_of v b).state (shows v b h) h.orderly.distinct in record { requests = k.requests; given = k.given; pieces = k.pieces; sent = k.sent })
         h.coupled.next_above
 
-    pub hand_drained : IsInHand out2 takes_srb stack v2 b2 rooms
+    pub hand_drained : IsInHand v2 b2
     hand_drained = stands.in_hand
 
     pub drains_above : DrainsAll (view_of v b) (view_of v2 b2)
     drains_above =
-        let s = shows out takes_srb stack v b rooms h in
+        let s = shows v b h in
         let drained : IsSame (above joint_drained) (record (view_of v b).state { paused = false; removing = true; requests = (view_of v b).state.requests }) =
         record { arrays = s.arrays; next_request = s.next_request; next_piece = s.next_piece; requests = s.requests; pieces = s.pieces; owed = s.owed; paused = refl; removing = refl; removed = s.removed } in
         let none : (if (view_of v b).state.paused then (view_of v b).state.requests else held_back v.rules.window (view_of v b).state.requests) ≡ (view_of v b).state.requests =
@@ -159,6 +159,7 @@ module _ {R : Type 0} (out out1 : List R → Type 0) (step : (rooms : List R) �
           beside = record {
             same_rules = ap class_rules (w.same_rules ∙ d.beside.same_rules);
             same_packets = subst (λ ps. IsPermutation ps (map packet_above b.opens)) (sym w.same_packets) (IsPermutation-refl _);
+            same_rooms = λ spot. ap (λ rooms. room_at rooms spot) w.same_rooms;
             same_submitted = w.same_submitted;
             same_most = ap most_over (w.same_most ∙ d.beside.same_most);
             same_adapter = w.same_adapter ∙ d.beside.same_adapter;

@@ -1,24 +1,25 @@
 -- The request that ended first, taken out of the table.
-use Rattle.std.proofs.Common.{◌≡◌, ◌≢◌, ◌<◌, ◌≤◌, ◌⊎◌, inl, inr, ℕ, zero, suc, ◌+◌, ◌*◌, ◌==◌, ◌^◌, Bool, true, false, List, [], ◌∷◌, ◌++◌, Option, Some, None, refl, sym, ◌∙◌, ap, subst, arith, length, IsSome}
-use Rattle.std.specs.Prelude.{IsPermutation, All, Contains, if◌then◌else◌}
+use Rattle.std.proofs.Common.{◌≡◌, ◌<◌, ◌≤◌, inl, inr, ℕ, zero, suc, ◌+◌, ◌*◌, ◌==◌, ◌^◌, Bool, true, false, List, [], ◌∷◌, Some, None, refl, sym, ◌∙◌, ap, subst, arith, length, IsSome}
+use Rattle.std.specs.Prelude.{Contains, if◌then◌else◌}
 use Rattle.std.proofs.Math.Nat.{mul-le-mul_left}
 use Rattle.std.proofs.lemmas.Bool.{ne_eqb, eqb-true, eqb-false, cases_Bool}
 use Rattle.std.proofs.lemmas.List.Sorted.{Contains-permutation}
-use Rattle.irp.specs.declared.Climb.{Climb}
+use Rattle.device.specs.declared.climbing.Climb.{Climb}
 use Rattle.irp.specs.declared.Payload.TheVariants.{Buffer}
 use Rattle.srb.specs.declared.Kind.TheVariants.{Read}
 use Rattle.ntstatus.specs.declared.NtStatus.TheVariants.{Success}
 use Rattle.machine.specs.Rules.{Rules, is_transfer}
 use Rattle.device.specs.View.{DeviceView, IsOrderly, Carries}
-use Rattle.device.specs.Served.{HandsUp}
+use Rattle.device.specs.Served.{HandsUp, SetsRoom}
 use Rattle.class_disk.specs.declared.Sizes.{Sizes}
-use Rattle.class_disk.specs.declared.requests.Transfer.{Transfer}
-use Rattle.class_disk.specs.declared.requests.DiskRoom.{DiskRoom}
-use Rattle.class_disk.specs.Parts.{lowest_status, joined_of}
-use Rattle.class_disk.specs.Books.{Opened, Books, opened_of, open_from, open_at, ended_in}
-use Rattle.class_disk.specs.Turns.{TakesEnded, Completes}
+use Rattle.class_disk.specs.declared.requests.Places.{Places}
+use Rattle.class_disk.specs.declared.requests.Slot.TheVariants.{Reserved, Open, Left}
+use Rattle.class_disk.proofs.Slots.{Slots}
+use Rattle.class_disk.specs.inside.Parts.{lowest_status, joined_of}
+use Rattle.class_disk.specs.inside.Books.{Opened, Books, opened_of, left_as, open_from, open_at, ended_in}
+use Rattle.class_disk.specs.inside.Turns.{AddsSlot, TakesEnded, Completes}
 use Rattle.class_disk.specs.Shown.{class_rules}
-use Rattle.class_disk.specs.Driver.{view_of, AreKept, IsInHand}
+use Rattle.class_disk.specs.inside.Driver.{view_of, AreKept, IsInHand}
 use Rattle.class_disk.proofs.HandingUp.{is_open}
 use Rattle.class_disk.proofs.HandedUp.{handed_up, fits}
 
@@ -28,84 +29,90 @@ equals a = elim (cases_Bool (a == a)) [
   | inr no' ↦ absurd (eqb-false a a no' refl)
 ]
 
-module _ {R : Type 0} where
-  -- a request whose slot stands among those that have ended has none unfinished
-  pub ended_entry : (es : List (ℕ × Opened R)) (slot : ℕ) → Contains (ended_in es) slot → (x : ℕ × Opened R) × Contains es x × (x.0 ≡ slot) × (x.1.unfinished ≡ 0)
-  ended_entry [] slot c = absurd (let w = c.1 in omega arith)
-  ended_entry (x ∷ es) slot c = by (x.1.unfinished == 0) refl c (λ later. ended_entry es slot later)
-    where
-      by : (over : Bool) → (x.1.unfinished == 0) ≡ over → Contains (if over then x.0 ∷ ended_in es else ended_in es) slot
-          → (Contains (ended_in es) slot → (y : ℕ × Opened R) × Contains es y × (y.0 ≡ slot) × (y.1.unfinished ≡ 0))
-          → (y : ℕ × Opened R) × Contains (x ∷ es) y × (y.0 ≡ slot) × (y.1.unfinished ≡ 0)
-      by true is (zero, low, at) rest = (x, (0, omega arith, refl), at, eqb-true _ _ is)
-      by true is (suc k, low, at) rest = let r = rest (k, omega arith, at) in (r.0, (suc r.1.0, let w = r.1.1 in omega arith, r.1.2), r.2, r.3)
-      by false is c rest = let r = rest c in (r.0, (suc r.1.0, let w = r.1.1 in omega arith, r.1.2), r.2, r.3)
+-- a request whose slot stands among those that have ended has none unfinished
+pub ended_entry : (es : List (ℕ × Opened)) (slot : ℕ) → Contains (ended_in es) slot → (x : ℕ × Opened) × Contains es x × (x.0 ≡ slot) × (x.1.unfinished ≡ 0)
+ended_entry [] slot c = absurd (let w = c.1 in omega arith)
+ended_entry (x ∷ es) slot c = by (x.1.unfinished == 0) refl c (λ later. ended_entry es slot later)
+  where
+    by : (over : Bool) → (x.1.unfinished == 0) ≡ over → Contains (if over then x.0 ∷ ended_in es else ended_in es) slot
+        → (Contains (ended_in es) slot → (y : ℕ × Opened) × Contains es y × (y.0 ≡ slot) × (y.1.unfinished ≡ 0))
+        → (y : ℕ × Opened) × Contains (x ∷ es) y × (y.0 ≡ slot) × (y.1.unfinished ≡ 0)
+    by true is (zero, low, at) rest = (x, (0, omega arith, refl), at, eqb-true _ _ is)
+    by true is (suc k, low, at) rest = let r = rest (k, omega arith, at) in (r.0, (suc r.1.0, let w = r.1.1 in omega arith, r.1.2), r.2, r.3)
+    by false is c rest = let r = rest c in (r.0, (suc r.1.0, let w = r.1.1 in omega arith, r.1.2), r.2, r.3)
 
-  from_first : (first : ℕ) (slots : List (Option (Option (Transfer R)))) (x : ℕ × Opened R) → Contains (open_from first slots) x → first ≤ x.0
-  from_first first [] x c = absurd (let w = c.1 in omega arith)
-  from_first first (None ∷ rest) x c = let l = from_first (first + 1) rest x c in omega arith
-  from_first first (Some None ∷ rest) x c = let l = from_first (first + 1) rest x c in omega arith
-  from_first first (Some (Some t) ∷ rest) x (zero, low, is) = let e : first ≡ x.0 = ap (λ (y : ℕ × Opened R). y.0) is in omega (arith, e)
-  from_first first (Some (Some t) ∷ rest) x (suc k, low, is) = let l = from_first (first + 1) rest x (k, omega arith, is) in omega arith
+from_first : (first : ℕ) (slots : Slots) (x : ℕ × Opened) → Contains (open_from first slots) x → first ≤ x.0
+from_first first [] x c = absurd (let w = c.1 in omega arith)
+from_first first (None ∷ rest) x c = let l = from_first (first + 1) rest x c in omega arith
+from_first first (Some (Reserved places) ∷ rest) x c = let l = from_first (first + 1) rest x c in omega arith
+from_first first (Some (Left places) ∷ rest) x c = let l = from_first (first + 1) rest x c in omega arith
+from_first first (Some (Open t) ∷ rest) x (zero, low, is) = let e : first ≡ x.0 = ap (λ (y : ℕ × Opened). y.0) is in omega (arith, e)
+from_first first (Some (Open t) ∷ rest) x (suc k, low, is) = let l = from_first (first + 1) rest x (k, omega arith, is) in omega arith
 
-  -- the slots of the table differ, so it is the one open in its slot
-  pub open_entry : (first : ℕ) (slots : List (Option (Option (Transfer R)))) (x : ℕ × Opened R) → Contains (open_from first slots) x → open_at x.0 (open_from first slots) ≡ Some x.1
-  open_entry first [] x c = absurd (let w = c.1 in omega arith)
-  open_entry first (None ∷ rest) x c = open_entry (first + 1) rest x c
-  open_entry first (Some None ∷ rest) x c = open_entry (first + 1) rest x c
-  open_entry first (Some (Some t) ∷ rest) x (zero, low, is) =
-      subst (λ (y : ℕ × Opened R). open_at y.0 ((first, opened_of t) ∷ open_from (first + 1) rest) ≡ Some y.1) is
-      (let e : (first == first) ≡ true = equals first in rw e refl)
-  open_entry first (Some (Some t) ∷ rest) x (suc k, low, is) =
-      let c : Contains (open_from (first + 1) rest) x = (k, omega arith, is) in
-      let l = from_first (first + 1) rest x c in
-      let e : (first == x.0) ≡ false = ne_eqb first x.0 (λ same. omega (arith, same, l)) in
-      let r = open_entry (first + 1) rest x c in
-      rw e r
+-- the slots of the table differ, so it is the one open in its slot
+pub open_entry : (first : ℕ) (slots : Slots) (x : ℕ × Opened) → Contains (open_from first slots) x → open_at x.0 (open_from first slots) ≡ Some x.1
+open_entry first [] x c = absurd (let w = c.1 in omega arith)
+open_entry first (None ∷ rest) x c = open_entry (first + 1) rest x c
+open_entry first (Some (Reserved places) ∷ rest) x c = open_entry (first + 1) rest x c
+open_entry first (Some (Left places) ∷ rest) x c = open_entry (first + 1) rest x c
+open_entry first (Some (Open t) ∷ rest) x (zero, low, is) =
+    subst (λ (y : ℕ × Opened). open_at y.0 ((first, opened_of t) ∷ open_from (first + 1) rest) ≡ Some y.1) is
+    (let e : (first == first) ≡ true = equals first in rw e refl)
+open_entry first (Some (Open t) ∷ rest) x (suc k, low, is) =
+    let c : Contains (open_from (first + 1) rest) x = (k, omega arith, is) in
+    let l = from_first (first + 1) rest x c in
+    let e : (first == x.0) ≡ false = ne_eqb first x.0 (λ same. omega (arith, same, l)) in
+    let r = open_entry (first + 1) rest x c in
+    rw e r
 
-  some_same : (x y : Opened R) → Some x ≡ Some y → x ≡ y
-  some_same x y e = cc (e)
+some_same : (x y : Opened) → Some x ≡ Some y → x ≡ y
+some_same x y e = cc (e)
 
-  module _ (rules : Rules) (b : Books R) (rooms : List (DiskRoom R)) (k : AreKept rules b rooms) (slots : List (Option (Option (Transfer R)))) (of_slots : b.opens ≡ open_from 0 slots) where
-    ended_there : (slot : ℕ) → Contains b.ended slot → (x : ℕ × Opened R) × Contains b.opens x × (x.0 ≡ slot) × (x.1.unfinished ≡ 0)
-    ended_there slot c = ended_entry b.opens slot (Contains-permutation _ _ slot k.ended c)
+module _ (rules : Rules) (b : Books) (k : AreKept rules b) (slots : Slots) (of_slots : b.opens ≡ open_from 0 slots) where
+  ended_there : (slot : ℕ) → Contains b.ended slot → (x : ℕ × Opened) × Contains b.opens x × (x.0 ≡ slot) × (x.1.unfinished ≡ 0)
+  ended_there slot c = ended_entry b.opens slot (Contains-permutation _ _ slot k.ended c)
 
-    there_open : (x : ℕ × Opened R) → Contains b.opens x → open_at x.0 b.opens ≡ Some x.1
-    there_open x c = subst (λ es. open_at x.0 es ≡ Some x.1) (sym of_slots) (open_entry 0 slots x (subst (λ es. Contains es x) of_slots c))
+  there_open : (x : ℕ × Opened) → Contains b.opens x → open_at x.0 b.opens ≡ Some x.1
+  there_open x c = subst (λ es. open_at x.0 es ≡ Some x.1) (sym of_slots) (open_entry 0 slots x (subst (λ es. Contains es x) of_slots c))
 
-    pub ended_open : (slot : ℕ) → Contains b.ended slot → IsSome (open_at slot b.opens)
-    ended_open slot c =
-        let r = ended_there slot c in
-        subst IsSome (sym (ap (λ n. open_at n b.opens) (sym r.2) ∙ there_open r.0 r.1)) refl
+  pub ended_open : (slot : ℕ) → Contains b.ended slot → IsSome (open_at slot b.opens)
+  ended_open slot c =
+      let r = ended_there slot c in
+      subst IsSome (sym (ap (λ n. open_at n b.opens) (sym r.2) ∙ there_open r.0 r.1)) refl
 
-    pub over_of : (slot : ℕ) (o : Opened R) (new : Books R) → TakesEnded b slot o new → o.unfinished ≡ 0
-    over_of slot o new t =
-        let r = ended_there slot (subst (λ ns. Contains ns slot) (sym t.front) (0, omega arith, refl)) in
-        let same : o ≡ r.0.1 = some_same o r.0.1 (sym t.is_open ∙ ap (λ n. open_at n b.opens) (sym r.2) ∙ there_open r.0 r.1) in
-        ap (λ (x : Opened R). x.unfinished) same ∙ r.3
+  pub over_of : (slot : ℕ) (o : Opened) (new : Books) → TakesEnded b slot o new → o.unfinished ≡ 0
+  over_of slot o new t =
+      let r = ended_there slot (subst (λ ns. Contains ns slot) (sym t.front) (0, omega arith, refl)) in
+      let same : o ≡ r.0.1 = some_same o r.0.1 (sym t.is_open ∙ ap (λ n. open_at n b.opens) (sym r.2) ∙ there_open r.0 r.1) in
+      ap (λ (x : Opened). x.unfinished) same ∙ r.3
 
-  module _ (out : List R → Type 0) (takes : Bool) (stack : ℕ) (v : DeviceView) (b : Books R) (rooms : List (DiskRoom R)) (h : IsInHand out takes stack v b rooms) (ordered : IsOrderly v)
-      (slots : List (Option (Option (Transfer R)))) (of_slots : b.opens ≡ open_from 0 slots) (slot : ℕ) (o : Opened R) (new : Books R) (t : TakesEnded b slot o new) where
-    pub over_it : o.unfinished ≡ 0
-    over_it = over_of (class_rules v.rules) b rooms h.kept slots of_slots slot o new t
+module _ (v : DeviceView) (b : Books) (h : IsInHand v b) (ordered : IsOrderly v)
+    (slots : Slots) (of_slots : b.opens ≡ open_from 0 slots) (slot : ℕ) (o : Opened) (new : Books) (t : TakesEnded b slot o new) where
+  pub over_it : o.unfinished ≡ 0
+  over_it = over_of (class_rules v.rules) b h.kept slots of_slots slot o new t
 
-    pub small_up : o.request.extent.count * new.sizes.sector_size < 2 ^ 64
-    small_up =
-        let same = ap (λ (x : Books R). x.sizes.sector_size) t.after in
-        let cut = (is_open out takes stack v b rooms h ordered slot o new.opens new.vacant new.ended t.opens over_it).cut.bounded.short in
-        let bytes : b.sizes.sector_size ≤ 4096 = let a = ordered.adapter.sector_size in let e = ordered.read.same_size in let f = h.kept.sizes.sector_size in omega arith in
-        let m : o.request.extent.count * b.sizes.sector_size ≤ o.request.extent.count * 4096 = mul-le-mul_left o.request.extent.count bytes in
-        subst (λ n. o.request.extent.count * n < 2 ^ 64) (sym same) (omega (arith, m, cut))
+  pub small_up : o.request.extent.count * new.sizes.sector_size < 2 ^ 64
+  small_up =
+      let same = ap (λ (x : Books). x.sizes.sector_size) t.after in
+      let cut = (is_open v b h ordered slot o new.opens new.ended t.opens over_it).cut.bounded.short in
+      let bytes : b.sizes.sector_size ≤ 4096 = let a = ordered.adapter.sector_size in let e = ordered.read.same_size in let f = h.kept.sizes.sector_size in omega arith in
+      let m : o.request.extent.count * b.sizes.sector_size ≤ o.request.extent.count * 4096 = mul-le-mul_left o.request.extent.count bytes in
+      subst (λ n. o.request.extent.count * n < 2 ^ 64) (sym same) (omega (arith, m, cut))
 
-    pub room_up : (bytes : List ℕ) → o.irp.payload ≡ Buffer bytes → o.request.kind ≡ Read → lowest_status o.parts ≡ Success → length (joined_of o.parts) ≤ length bytes
-    room_up bytes is kind succeeds =
-        let f = fits out takes stack v b rooms h ordered slot o new.opens new.vacant new.ended t.opens over_it kind succeeds in
-        let c : Carries false (class_rules v.rules) o.request (Buffer bytes) = subst (Carries false (class_rules v.rules) o.request) is (is_open out takes stack v b rooms h ordered slot o new.opens new.vacant new.ended t.opens over_it).carries in
-        let l = ap (λ x. if is_transfer x then o.request.extent.count * v.rules.sector_size else 0) kind in
-        omega (arith, f, c, l)
+  pub room_up : (bytes : List ℕ) → o.irp.payload ≡ Buffer bytes → o.request.kind ≡ Read → lowest_status o.parts ≡ Success → length (joined_of o.parts) ≤ length bytes
+  room_up bytes is kind succeeds =
+      let f = fits v b h ordered slot o new.opens new.ended t.opens over_it kind succeeds in
+      let c : Carries false (class_rules v.rules) o.request (Buffer bytes) = subst (Carries false (class_rules v.rules) o.request) is (is_open v b h ordered slot o new.opens new.ended t.opens over_it).carries in
+      let l = ap (λ x. if is_transfer x then o.request.extent.count * v.rules.sector_size else 0) kind in
+      omega (arith, f, c, l)
 
-    pub hands_up : (climb : Climb) (room : DiskRoom R) → Completes new.sizes slot o climb room → HandsUp false (view_of v b) room.request climb (view_of v new)
-    hands_up climb room c =
-        let same : new.sizes ≡ b.sizes = ap (λ (x : Books R). x.sizes) t.after in
-        subst (λ x. HandsUp false (view_of v b) room.request climb (view_of v x)) (sym t.after)
-        (handed_up out takes stack v b rooms h ordered slot o new.opens new.vacant new.ended t.opens over_it climb room (subst (λ (s : Sizes). Completes s slot o climb room) same c))
+  pub hands_up : (climb : Climb) (places : Places) → Completes new.sizes o climb places → (last : Books) → AddsSlot new (left_as slot places) last
+      → HandsUp false (view_of v b) climb slot (view_of v last)
+  hands_up climb places c last adds =
+      let same : new.sizes ≡ b.sizes = ap (λ (x : Books). x.sizes) t.after in
+      let rooms : new.rooms ≡ b.rooms = ap (λ (x : Books). x.rooms) t.after in
+      let sets : SetsRoom b.rooms slot None (Some (record { request = o.request; whole = false })) last.rooms =
+      subst (λ q. SetsRoom b.rooms slot None (Some (record { request = q; whole = false })) last.rooms) c.request
+      (subst (λ rs. SetsRoom rs slot None (Some (record { request = places.request; whole = false })) last.rooms) rooms adds.room) in
+      subst (λ x. HandsUp false (view_of v b) climb slot (view_of v x)) (sym (adds.after ∙ ap (λ (x : Books). record x { held = last.held; rooms = last.rooms }) t.after))
+      (handed_up v b h ordered slot o new.opens new.ended t.opens over_it climb places (subst (λ (s : Sizes). Completes s o climb places) same c) last.held last.rooms sets)

@@ -1,29 +1,25 @@
 -- A request all of whose parts succeeded: the sectors that it moved.
-use Rattle.std.proofs.Common.{◌≡◌, ◌<◌, ◌≤◌, ◌⊎◌, inl, inr, ℕ, zero, suc, ◌+◌, ◌-◌, ◌*◌, ◌/◌, min, Bool, true, false, List, [], ◌∷◌, ◌++◌, refl, sym, ◌∙◌, ap, subst, arith, map, length, replicate, take, drop, length-append, append_assoc}
-use Rattle.std.specs.Prelude.{All, IsTrue, slice_range, if◌then◌else◌}
+use Rattle.std.proofs.Common.{◌≡◌, ◌<◌, ◌≤◌, ℕ, zero, suc, ◌+◌, ◌-◌, ◌*◌, ◌/◌, min, true, List, [], ◌∷◌, ◌++◌, refl, sym, ◌∙◌, ap, subst, arith, map, length, take, drop, length-append}
+use Rattle.std.specs.Prelude.{All, if◌then◌else◌}
 use Rattle.std.specs.List.{list_all, concat, range_with_len}
 use Rattle.std.proofs.Math.Nat.{mul-div_cancel}
-use Rattle.std.proofs.lemmas.List.{length-map, length-replicate, map-append}
-use Rattle.std.proofs.lemmas.List.Elements.{All-nil, All-cons, All-head, All-tail}
-use Rattle.irp.specs.declared.Payload.{Payload}
+use Rattle.std.proofs.lemmas.List.{length-map, map-append}
+use Rattle.std.proofs.lemmas.List.Elements.{All-head, All-tail}
 use Rattle.srb.specs.declared.Kind.{Kind}
 use Rattle.srb.specs.declared.Kind.TheVariants.{Read, Write, Flush}
 use Rattle.machine.specs.declared.Request.{Request}
 use Rattle.machine.specs.Rules.{Rules, place_count, as_client, is_transfer}
-use Rattle.machine.specs.State.{Mark, Done}
+use Rattle.machine.specs.State.{Done}
 use Rattle.machine.specs.Answering.{is_done, bytes_of_mark}
 use Rattle.device.specs.View.{payload_bytes, transfer_length}
-use Rattle.device.specs.Served.{cut, sectors_moved}
+use Rattle.device.specs.Served.{cut}
 use Rattle.split.specs.Pieces.{piece_of}
 use Rattle.class_disk.specs.declared.parts.Part.{Part}
-use Rattle.class_disk.specs.declared.parts.Ended.{Ended}
-use Rattle.class_disk.specs.declared.parts.Progress.{Progress}
 use Rattle.class_disk.specs.declared.parts.Progress.TheVariants.{Ended as PartEnded}
-use Rattle.class_disk.specs.declared.parts.Outcome.TheVariants.{Good}
-use Rattle.class_disk.specs.Blocks.{part_request_of}
-use Rattle.class_disk.specs.Parts.{joined_of, bytes_by}
-use Rattle.class_disk.specs.Turns.{bytes_from}
-use Rattle.class_disk.specs.Driver.{places_of, note, note_by, request_of_part, IsBuffered, IsBufferedBy, IsWrittenBy}
+use Rattle.class_disk.specs.inside.Blocks.{part_request_of}
+use Rattle.class_disk.specs.inside.Parts.{payload_in, joined_of, bytes_by}
+use Rattle.class_disk.specs.inside.Turns.{bytes_from}
+use Rattle.class_disk.specs.inside.Driver.{places_of, note, note_by, request_of_part, IsBuffered, IsBufferedBy, IsWrittenBy}
 use Rattle.class_disk.proofs.EndedParts.{marks_noted, IsGoodPart}
 
 -- BYTES CUT INTO SECTORS
@@ -145,60 +141,60 @@ pub record IsInRow (limit : ℕ) (r : Request) (total : ℕ) : Type 0 where
 pub write_request : (limit : ℕ) (r : Request) (k : ℕ) → r.kind ≡ Write → part_request_of limit r k ≡ record r { extent = piece_of r.extent limit k }
 write_request limit r k kind = ap (λ b. if b then record r { extent = piece_of r.extent limit k } else r) (ap is_transfer kind)
 
-module _ {R : Type 0} (rules : Rules) where
+module _ (rules : Rules) where
   -- as many places as these parts have
-  abbrev pub places_in : List (Part R) → ℕ
+  abbrev pub places_in : List Part → ℕ
   places_in [] = 0
   places_in (part ∷ parts) = places_of rules part + places_in parts
 
   -- the marks of a part that succeeded, before those of the others
-  good_marks : (part : Part R) (parts : List (Part R)) (h : IsGoodPart part)
-      → marks_noted (map (note rules) (part ∷ parts)) ≡ map Done (cut (places_of rules part) rules.sector_size (payload_bytes h.ended.payload)) ++ marks_noted (map (note rules) parts)
+  good_marks : (part : Part) (parts : List Part) (h : IsGoodPart part)
+      → marks_noted (map (note rules) (part ∷ parts)) ≡ map Done (cut (places_of rules part) rules.sector_size (payload_bytes (payload_in h.ended.packet))) ++ marks_noted (map (note rules) parts)
   good_marks part parts h =
       ap (λ p. marks_noted (note_by rules part p ∷ map (note rules) parts)) h.is
       ∙ ap (λ out. marks_noted (note_by rules part (PartEnded (record h.ended { outcome = out })) ∷ map (note rules) parts)) h.good
 
-  pub places_marked : (parts : List (Part R)) → All IsGoodPart parts → length (marks_noted (map (note rules) parts)) ≡ places_in parts
+  pub places_marked : (parts : List Part) → All IsGoodPart parts → length (marks_noted (map (note rules) parts)) ≡ places_in parts
   places_marked [] h = refl
   places_marked (part ∷ parts) h =
       let g = All-head IsGoodPart part parts h in
       let rest = places_marked parts (All-tail IsGoodPart part parts h) in
       ap length (good_marks part parts g)
-      ∙ length-append (map Done (cut (places_of rules part) rules.sector_size (payload_bytes g.ended.payload))) (marks_noted (map (note rules) parts))
-      ∙ ap (λ n. n + length (marks_noted (map (note rules) parts))) (length-map (cut (places_of rules part) rules.sector_size (payload_bytes g.ended.payload)) Done ∙ length_cut (places_of rules part) rules.sector_size (payload_bytes g.ended.payload))
+      ∙ length-append (map Done (cut (places_of rules part) rules.sector_size (payload_bytes (payload_in g.ended.packet)))) (marks_noted (map (note rules) parts))
+      ∙ ap (λ n. n + length (marks_noted (map (note rules) parts))) (length-map (cut (places_of rules part) rules.sector_size (payload_bytes (payload_in g.ended.packet))) Done ∙ length_cut (places_of rules part) rules.sector_size (payload_bytes (payload_in g.ended.packet)))
       ∙ ap (λ n. places_of rules part + n) rest
 
   -- A READ
 
-  abbrev pub IsOfKind : Kind → Part R → Type 0
+  abbrev pub IsOfKind : Kind → Part → Type 0
   IsOfKind kind part = part.request.kind ≡ kind
 
-  joined_first : (part : Part R) (parts : List (Part R)) (h : IsGoodPart part) → joined_of (part ∷ parts) ≡ payload_bytes h.ended.payload ++ joined_of parts
+  joined_first : (part : Part) (parts : List Part) (h : IsGoodPart part) → joined_of (part ∷ parts) ≡ payload_bytes (payload_in h.ended.packet) ++ joined_of parts
   joined_first part parts h = ap (λ p. bytes_by p ++ joined_of parts) h.is
 
   -- what a part of a read brought
-  filled : 0 < rules.sector_size → (part : Part R) (h : IsGoodPart part) → IsOfKind Read part → IsBuffered rules part → length (payload_bytes h.ended.payload) ≡ places_of rules part * rules.sector_size
+  filled : 0 < rules.sector_size → (part : Part) (h : IsGoodPart part) → IsOfKind Read part → IsBuffered rules part → length (payload_bytes (payload_in h.ended.packet)) ≡ places_of rules part * rules.sector_size
   filled some part h kind buffered =
       let b : IsBufferedBy rules part.request (PartEnded h.ended) = subst (IsBufferedBy rules part.request) h.is buffered in
       let w = whole_places rules part.request some (ap is_transfer kind) in
       (b h.good).0 kind ∙ w.1 ∙ ap (λ n. n * rules.sector_size) (sym w.0)
 
-  pub joined_long : 0 < rules.sector_size → (parts : List (Part R)) → All IsGoodPart parts → All (IsOfKind Read) parts → All (IsBuffered rules) parts → length (joined_of parts) ≡ places_in parts * rules.sector_size
+  pub joined_long : 0 < rules.sector_size → (parts : List Part) → All IsGoodPart parts → All (IsOfKind Read) parts → All (IsBuffered rules) parts → length (joined_of parts) ≡ places_in parts * rules.sector_size
   joined_long some [] good kind buffered = omega arith
   joined_long some (part ∷ parts) good kind buffered =
       let g = All-head IsGoodPart part parts good in
       let a = filled some part g (All-head (IsOfKind Read) part parts kind) (All-head (IsBuffered rules) part parts buffered) in
       let b = joined_long some parts (All-tail IsGoodPart part parts good) (All-tail (IsOfKind Read) part parts kind) (All-tail (IsBuffered rules) part parts buffered) in
       let e = add_times (places_of rules part) (places_in parts) rules.sector_size in
-      ap length (joined_first part parts g) ∙ length-append (payload_bytes g.ended.payload) (joined_of parts) ∙ omega (arith, a, b, e)
+      ap length (joined_first part parts g) ∙ length-append (payload_bytes (payload_in g.ended.packet)) (joined_of parts) ∙ omega (arith, a, b, e)
 
-  pub read_marks : 0 < rules.sector_size → (parts : List (Part R)) → All IsGoodPart parts → All (IsOfKind Read) parts → All (IsBuffered rules) parts
+  pub read_marks : 0 < rules.sector_size → (parts : List Part) → All IsGoodPart parts → All (IsOfKind Read) parts → All (IsBuffered rules) parts
       → marks_noted (map (note rules) parts) ≡ map Done (cut (places_in parts) rules.sector_size (joined_of parts))
   read_marks some [] good kind buffered = refl
   read_marks some (part ∷ parts) good kind buffered =
       let g = All-head IsGoodPart part parts good in
       let size : ℕ = rules.sector_size in
-      let bytes : List ℕ = payload_bytes g.ended.payload in
+      let bytes : List ℕ = payload_bytes (payload_in g.ended.packet) in
       let n : ℕ = places_of rules part in
       let a : length bytes ≡ n * size = filled some part g (All-head (IsOfKind Read) part parts kind) (All-head (IsBuffered rules) part parts buffered) in
       let b = read_marks some parts (All-tail IsGoodPart part parts good) (All-tail (IsOfKind Read) part parts kind) (All-tail (IsBuffered rules) part parts buffered) in
@@ -214,7 +210,7 @@ module _ {R : Type 0} (rules : Rules) where
 
   -- A FLUSH
 
-  pub flush_marks : (parts : List (Part R)) → All IsGoodPart parts → All (IsOfKind Flush) parts → All (IsBuffered rules) parts
+  pub flush_marks : (parts : List Part) → All IsGoodPart parts → All (IsOfKind Flush) parts → All (IsBuffered rules) parts
       → marks_noted (map (note rules) parts) ≡ map Done (cut (places_in parts) rules.sector_size [])
   flush_marks [] good kind buffered = refl
   flush_marks (part ∷ parts) good kind buffered =
@@ -222,7 +218,7 @@ module _ {R : Type 0} (rules : Rules) where
       let size : ℕ = rules.sector_size in
       let n : ℕ = places_of rules part in
       let buf : IsBufferedBy rules part.request (PartEnded g.ended) = subst (IsBufferedBy rules part.request) g.is (All-head (IsBuffered rules) part parts buffered) in
-      let none : payload_bytes g.ended.payload ≡ [] = (buf g.good).1 (All-head (IsOfKind Flush) part parts kind) in
+      let none : payload_bytes (payload_in g.ended.packet) ≡ [] = (buf g.good).1 (All-head (IsOfKind Flush) part parts kind) in
       let b = flush_marks parts (All-tail IsGoodPart part parts good) (All-tail (IsOfKind Flush) part parts kind) (All-tail (IsBuffered rules) part parts buffered) in
       good_marks part parts g ∙ ap (λ zs. map Done (cut n size zs) ++ marks_noted (map (note rules) parts)) none
       ∙ ap (λ zs. map Done (cut n size []) ++ zs) b
@@ -232,25 +228,25 @@ module _ {R : Type 0} (rules : Rules) where
 
   -- A WRITE
 
-  abbrev pub IsWrittenPart : Request → List ℕ → Part R → Type 0
+  abbrev pub IsWrittenPart : Request → List ℕ → Part → Type 0
   IsWrittenPart r bytes part = IsWrittenBy rules r bytes part.request part.progress
 
   -- the sectors of one part are those of the request from its place on
-  written_part : 0 < rules.sector_size → (r : Request) (bytes : List ℕ) (part : Part R) (h : IsGoodPart part) → IsOfKind Write part → IsWrittenPart r bytes part
-      → (at : ℕ) → bytes_from rules.sector_size r part.request ≡ at → cut (places_of rules part) rules.sector_size (payload_bytes h.ended.payload) ≡ cut (places_of rules part) rules.sector_size (drop at bytes)
+  written_part : 0 < rules.sector_size → (r : Request) (bytes : List ℕ) (part : Part) (h : IsGoodPart part) → IsOfKind Write part → IsWrittenPart r bytes part
+      → (at : ℕ) → bytes_from rules.sector_size r part.request ≡ at → cut (places_of rules part) rules.sector_size (payload_bytes (payload_in h.ended.packet)) ≡ cut (places_of rules part) rules.sector_size (drop at bytes)
   written_part some r bytes part h kind written at is_at =
       let size : ℕ = rules.sector_size in
       let n : ℕ = places_of rules part in
       let w = whole_places rules part.request some (ap is_transfer kind) in
       let long : transfer_length rules part.request ≡ n * size = w.1 ∙ ap (λ k. k * size) (sym w.0) in
       let b : IsWrittenBy rules r bytes part.request (PartEnded h.ended) = subst (IsWrittenBy rules r bytes part.request) h.is written in
-      let taken : take (n * size) (payload_bytes h.ended.payload) ≡ take (n * size) (drop at bytes) =
-      ap (λ k. take k (payload_bytes h.ended.payload)) (sym long) ∙ b h.good kind
+      let taken : take (n * size) (payload_bytes (payload_in h.ended.packet)) ≡ take (n * size) (drop at bytes) =
+      ap (λ k. take k (payload_bytes (payload_in h.ended.packet))) (sym long) ∙ b h.good kind
       ∙ ap (λ k. take k (drop (bytes_from size r part.request) bytes)) (omega (arith, long))
       ∙ ap (λ k. take (n * size) (drop k bytes)) is_at in
-      sym (cut_taken n size (payload_bytes h.ended.payload)) ∙ ap (λ zs. cut n size zs) taken ∙ cut_taken n size (drop at bytes)
+      sym (cut_taken n size (payload_bytes (payload_in h.ended.packet))) ∙ ap (λ zs. cut n size zs) taken ∙ cut_taken n size (drop at bytes)
 
-  pub write_marks : 0 < rules.sector_size → (limit : ℕ) (r : Request) (bytes : List ℕ) (total : ℕ) → IsInRow limit r total → (first n : ℕ) → first + n ≡ total → (parts : List (Part R))
+  pub write_marks : 0 < rules.sector_size → (limit : ℕ) (r : Request) (bytes : List ℕ) (total : ℕ) → IsInRow limit r total → (first n : ℕ) → first + n ≡ total → (parts : List Part)
       → map request_of_part parts ≡ map (part_request_of limit r) (range_with_len first n) → All IsGoodPart parts → All (IsWrittenPart r bytes) parts
       → marks_noted (map (note rules) parts) ≡ map Done (cut (places_in parts) rules.sector_size (drop (first * limit * rules.sector_size) bytes))
   write_marks some limit r bytes total row first zero all [] same good written = refl
@@ -279,7 +275,7 @@ module _ {R : Type 0} (rules : Rules) where
       tails : {X : Type 0} {x y : X} {xs ys : List X} → x ∷ xs ≡ y ∷ ys → xs ≡ ys
       tails {X} {x} {y} {xs} {ys} e = cc (e)
 
-      behind : (n : ℕ) (parts : List (Part R)) → map request_of_part parts ≡ map (part_request_of limit r) (range_with_len (first + 1) n) → first + suc n ≡ total → (p : ℕ) → p ≡ min limit (r.extent.count - first * limit)
+      behind : (n : ℕ) (parts : List Part) → map request_of_part parts ≡ map (part_request_of limit r) (range_with_len (first + 1) n) → first + suc n ≡ total → (p : ℕ) → p ≡ min limit (r.extent.count - first * limit)
           → map Done (cut (places_in parts) rules.sector_size (drop ((first + 1) * limit * rules.sector_size) bytes)) ≡ map Done (cut (places_in parts) rules.sector_size (drop (p * rules.sector_size) (drop (first * limit * rules.sector_size) bytes)))
       behind zero [] same all p count = refl
       behind zero (x ∷ parts) same all p count = absurd (cc (same))

@@ -1,10 +1,10 @@
 -- A request all of whose parts have ended: its marks, and the status that they give it.
-use Rattle.std.proofs.Common.{◌≡◌, ◌≢◌, ◌<◌, ◌≤◌, inl, inr, ℕ, zero, suc, ◌+◌, Bool, true, false, List, [], ◌∷◌, ◌++◌, refl, sym, ◌∙◌, ap, subst, arith, map, length, replicate}
+use Rattle.std.proofs.Common.{◌≡◌, ◌≢◌, ◌<◌, inl, inr, ℕ, zero, suc, ◌+◌, Bool, false, List, [], ◌∷◌, ◌++◌, refl, sym, ◌∙◌, ap, subst, arith, map, length, replicate}
 use Rattle.std.specs.Prelude.{All, IsTrue, ◌↔◌}
 use Rattle.std.specs.List.{list_all}
 use Rattle.std.proofs.lemmas.List.Elements.{All-nil, All-cons, All-head, All-tail, All-append}
 use Rattle.ntstatus.specs.declared.NtStatus.{NtStatus}
-use Rattle.ntstatus.specs.declared.NtStatus.TheVariants.{Success, DeviceBusy, Cancelled, NoSuchDevice}
+use Rattle.ntstatus.specs.declared.NtStatus.TheVariants.{Success, Cancelled, NoSuchDevice}
 use Rattle.machine.specs.Rules.{Rules}
 use Rattle.machine.specs.State.{Mark, Untouched, Out, Done, Failed, Back, OpenRequest, State}
 use Rattle.machine.specs.Answering.{Cause, IsGivenUp, HasEnded, HasCause, is_done}
@@ -15,10 +15,10 @@ use Rattle.class_disk.specs.declared.parts.Progress.{Progress}
 use Rattle.class_disk.specs.declared.parts.Progress.TheVariants.{Ready, Below as SentBelow, Ended as PartEnded}
 use Rattle.class_disk.specs.declared.parts.Outcome.{Outcome}
 use Rattle.class_disk.specs.declared.parts.Outcome.TheVariants.{Good, Failed as IsBad, Busy, Withdrawn}
-use Rattle.class_disk.specs.Parts.{lowest_status, status_or, failure_by, failure_of, status_by, unfinished_by, unfinished_of, IsHere, IsHereBy, WasSent, WasSentBy}
-use Rattle.class_disk.specs.Joint.{Part as JointPart, Below, Here, Note, Sent, Kept, shown_mark, note_of, parts_requests, parts_pieces, parts_marks, parts_busy, parts_lifted}
-use Rattle.class_disk.specs.Kept.{noted_busy}
-use Rattle.class_disk.specs.Driver.{IsCause, IsCauseBy, places_of, marks_left, note, note_by}
+use Rattle.class_disk.specs.inside.Parts.{payload_in, lowest_status, status_or, failure_by, failure_of, unfinished_by, unfinished_of, IsHere, IsHereBy}
+use Rattle.class_disk.specs.inside.Joint.{Part as JointPart, Below, Here, Note, Sent, Kept, shown_mark, note_of, parts_requests, parts_pieces, parts_marks, parts_busy, parts_lifted}
+use Rattle.class_disk.specs.inside.Kept.{noted_busy}
+use Rattle.class_disk.specs.inside.Driver.{IsCause, IsCauseBy, places_of, marks_left, note, note_by}
 use Rattle.class_disk.proofs.Resting.{HasEndedHere}
 
 -- PARTS OF THE MACHINE THAT ARE ALL HERE
@@ -99,47 +99,46 @@ none_shown (suc again) (suc n) marks some = refl
 
 -- PARTS THAT HAVE ENDED
 
-module _ {R : Type 0} where
-  -- the part has ended
-  pub record IsEndedPart (part : Part R) : Type 0 where
-    pub ended : Ended R
-    pub is : part.progress ≡ PartEnded ended
+-- the part has ended
+pub record IsEndedPart (part : Part) : Type 0 where
+  pub ended : Ended
+  pub is : part.progress ≡ PartEnded ended
 
-  abbrev pub HasPlace : Rules → Part R → Type 0
-  HasPlace rules part = 0 < places_of rules part
+abbrev pub HasPlace : Rules → Part → Type 0
+HasPlace rules part = 0 < places_of rules part
 
-  pub ended_parts : (parts : List (Part R)) → unfinished_of parts ≡ 0 → All IsEndedPart parts
-  ended_parts [] none = All-nil IsEndedPart
-  ended_parts (part ∷ parts) none =
-      All-cons IsEndedPart part parts (by part.progress refl (omega arith)) (ended_parts parts (omega arith))
-    where
-      by : (p : Progress R) → part.progress ≡ p → unfinished_by part.progress ≡ 0 → IsEndedPart part
-      by (Ready place) is h = absurd (let e : unfinished_by part.progress ≡ 1 = ap unfinished_by is in omega arith)
-      by (SentBelow number spot) is h = absurd (let e : unfinished_by part.progress ≡ 1 = ap unfinished_by is in omega arith)
-      by (PartEnded ended) is h = record { ended = ended; is = is }
+pub ended_parts : (parts : List Part) → unfinished_of parts ≡ 0 → All IsEndedPart parts
+ended_parts [] none = All-nil IsEndedPart
+ended_parts (part ∷ parts) none =
+    All-cons IsEndedPart part parts (by part.progress refl (omega arith)) (ended_parts parts (omega arith))
+  where
+    by : (p : Progress) → part.progress ≡ p → unfinished_by part.progress ≡ 0 → IsEndedPart part
+    by (Ready place) is h = absurd (let e : unfinished_by part.progress ≡ 1 = ap unfinished_by is in omega arith)
+    by (SentBelow number spot) is h = absurd (let e : unfinished_by part.progress ≡ 1 = ap unfinished_by is in omega arith)
+    by (PartEnded ended) is h = record { ended = ended; is = is }
 
-  pub ended_here : (parts : List (Part R)) → All IsEndedPart parts → All IsHere parts
-  ended_here [] h = All-nil IsHere
-  ended_here (part ∷ parts) h =
-      All-cons IsHere part parts (subst IsHereBy (sym (All-head IsEndedPart part parts h).is) tt) (ended_here parts (All-tail IsEndedPart part parts h))
+pub ended_here : (parts : List Part) → All IsEndedPart parts → All IsHere parts
+ended_here [] h = All-nil IsHere
+ended_here (part ∷ parts) h =
+    All-cons IsHere part parts (subst IsHereBy (sym (All-head IsEndedPart part parts h).is) tt) (ended_here parts (All-tail IsEndedPart part parts h))
 
-  module _ (rules : Rules) where
-    pub ended_note : (part : Part R) (h : IsEndedPart part) → note rules part ≡ note_by rules part (PartEnded h.ended)
-    ended_note part h = ap (note_by rules part) h.is
+module _ (rules : Rules) where
+  pub ended_note : (part : Part) (h : IsEndedPart part) → note rules part ≡ note_by rules part (PartEnded h.ended)
+  ended_note part h = ap (note_by rules part) h.is
 
-    pub ended_kept : (parts : List (Part R)) → All IsEndedPart parts → All IsKept (map (note rules) parts)
-    ended_kept [] h = All-nil IsKept
-    ended_kept (part ∷ parts) h =
-        All-cons IsKept (note rules part) (map (note rules) parts) (subst IsKept (sym (ended_note part (All-head IsEndedPart part parts h))) tt)
-        (ended_kept parts (All-tail IsEndedPart part parts h))
+  pub ended_kept : (parts : List Part) → All IsEndedPart parts → All IsKept (map (note rules) parts)
+  ended_kept [] h = All-nil IsKept
+  ended_kept (part ∷ parts) h =
+      All-cons IsKept (note rules part) (map (note rules) parts) (subst IsKept (sym (ended_note part (All-head IsEndedPart part parts h))) tt)
+      (ended_kept parts (All-tail IsEndedPart part parts h))
 
-    -- the marks of the first part, and those of the rest
-    pub marks_first : (part : Part R) (parts : List (Part R)) (h : IsEndedPart part)
-        → marks_noted (map (note rules) (part ∷ parts)) ≡ marks_left rules part h.ended.payload h.ended.outcome ++ marks_noted (map (note rules) parts)
-    marks_first part parts h = ap (λ (n : Note). marks_noted (n ∷ map (note rules) parts)) (ended_note part h)
+  -- the marks of the first part, and those of the rest
+  pub marks_first : (part : Part) (parts : List Part) (h : IsEndedPart part)
+      → marks_noted (map (note rules) (part ∷ parts)) ≡ marks_left rules part (payload_in h.ended.packet) h.ended.outcome ++ marks_noted (map (note rules) parts)
+  marks_first part parts h = ap (λ (n : Note). marks_noted (n ∷ map (note rules) parts)) (ended_note part h)
 
-    pub status_first : (part : Part R) (parts : List (Part R)) (h : IsEndedPart part) → lowest_status (part ∷ parts) ≡ status_or (failure_of h.ended.outcome) (lowest_status parts)
-    status_first part parts h = ap (λ p. status_or (failure_by p) (lowest_status parts)) h.is
+  pub status_first : (part : Part) (parts : List Part) (h : IsEndedPart part) → lowest_status (part ∷ parts) ≡ status_or (failure_of h.ended.outcome) (lowest_status parts)
+  status_first part parts h = ap (λ p. status_or (failure_by p) (lowest_status parts)) h.is
 
 -- THE STATUS
 
@@ -150,9 +149,9 @@ module _ (rules : Rules) (limit : rules.busy_limit ≡ 17) (s : State) (o : Open
   removed : (status told : NtStatus) → told ≡ status → (IsTrue removing × (told ≡ NoSuchDevice)) → IsGivenUp s o status
   removed status told same h = inr (sym is_removing ∙ h.0, rw timely (sym same ∙ h.1))
 
-  cause_first : {R : Type 0} → (part : Part R) (ended : Ended R) (outcome : Outcome) (marks : List Mark) (rest : NtStatus) → HasPlace rules part → IsCause cancelled removing busy outcome → HasCause rules s o marks rest
-      → HasCause rules s o (marks_left rules part ended.payload outcome ++ marks) (status_or (failure_of outcome) rest)
-  cause_first part ended Good marks rest some cause h = cause_done rules s o (sectors_moved rules part.request ended.payload) marks rest h
+  cause_first : (part : Part) (ended : Ended) (outcome : Outcome) (marks : List Mark) (rest : NtStatus) → HasPlace rules part → IsCause cancelled removing busy outcome → HasCause rules s o marks rest
+      → HasCause rules s o (marks_left rules part (payload_in ended.packet) outcome ++ marks) (status_or (failure_of outcome) rest)
+  cause_first part ended Good marks rest some cause h = cause_done rules s o (sectors_moved rules part.request (payload_in ended.packet)) marks rest h
   cause_first part ended (IsBad status) marks rest some cause h = cause_many rules s o (places_of rules part) (Failed status) marks status some refl
   cause_first part ended (Busy told) marks rest some (inl c) h = cause_many rules s o (places_of rules part) Back marks told some (inl (given_up told told refl c))
   cause_first part ended (Busy told) marks rest some (inr (inl r)) h = cause_many rules s o (places_of rules part) Back marks told some (inl (removed told told refl r))
@@ -160,16 +159,16 @@ module _ (rules : Rules) (limit : rules.busy_limit ≡ 17) (s : State) (o : Open
   cause_first part ended (Withdrawn told) marks rest some (inl c) h = cause_shown rules s o part.restarts (places_of rules part) marks told some (given_up told told refl c)
   cause_first part ended (Withdrawn told) marks rest some (inr r) h = cause_shown rules s o part.restarts (places_of rules part) marks told some (removed told told refl r)
 
-  abbrev IsCaused : {R : Type 0} → Part R → Type 0
+  abbrev IsCaused : Part → Type 0
   IsCaused part = IsCauseBy cancelled removing busy part.progress
 
-  pub cause_lowest : {R : Type 0} → (parts : List (Part R)) → All IsEndedPart parts → All (HasPlace rules) parts → All IsCaused parts → HasCause rules s o (marks_noted (map (note rules) parts)) (lowest_status parts)
+  pub cause_lowest : (parts : List Part) → All IsEndedPart parts → All (HasPlace rules) parts → All IsCaused parts → HasCause rules s o (marks_noted (map (note rules) parts)) (lowest_status parts)
   cause_lowest [] ended some causes = tt
   cause_lowest (part ∷ parts) ended some causes =
       let e = All-head IsEndedPart part parts ended in
       let cause : IsCause cancelled removing busy e.ended.outcome = subst (IsCauseBy cancelled removing busy) e.is (All-head IsCaused part parts causes) in
       subst (λ ms. HasCause rules s o ms (lowest_status (part ∷ parts))) (sym (marks_first rules part parts e))
-      (subst (λ st. HasCause rules s o (marks_left rules part e.ended.payload e.ended.outcome ++ marks_noted (map (note rules) parts)) st) (sym (status_first rules part parts e))
+      (subst (λ st. HasCause rules s o (marks_left rules part (payload_in e.ended.packet) e.ended.outcome ++ marks_noted (map (note rules) parts)) st) (sym (status_first rules part parts e))
       (cause_first part e.ended e.ended.outcome _ _ (All-head (HasPlace rules) part parts some) cause
       (cause_lowest parts (All-tail IsEndedPart part parts ended) (All-tail (HasPlace rules) part parts some) (All-tail IsCaused part parts causes))))
 
@@ -180,9 +179,9 @@ module _ (rules : Rules) (limit : rules.busy_limit ≡ 17) (s : State) (o : Open
   no_success : (marks : List Mark) (status : NtStatus) → status ≢ Success → list_all is_done marks ≡ false → Agrees marks status
   no_success marks status not h = (λ e. absurd (not e), λ e. absurd (cc (h, e)))
 
-  success_first : {R : Type 0} → (part : Part R) (ended : Ended R) (outcome : Outcome) (marks : List Mark) (rest : NtStatus) → HasPlace rules part → IsCause cancelled removing busy outcome → Agrees marks rest
-      → Agrees (marks_left rules part ended.payload outcome ++ marks) (status_or (failure_of outcome) rest)
-  success_first part ended Good marks rest some cause h = subst (λ b. (rest ≡ Success) ↔ IsTrue b) (sym (all_done (sectors_moved rules part.request ended.payload) marks)) h
+  success_first : (part : Part) (ended : Ended) (outcome : Outcome) (marks : List Mark) (rest : NtStatus) → HasPlace rules part → IsCause cancelled removing busy outcome → Agrees marks rest
+      → Agrees (marks_left rules part (payload_in ended.packet) outcome ++ marks) (status_or (failure_of outcome) rest)
+  success_first part ended Good marks rest some cause h = subst (λ b. (rest ≡ Success) ↔ IsTrue b) (sym (all_done (sectors_moved rules part.request (payload_in ended.packet)) marks)) h
   success_first part ended (IsBad status) marks rest some cause h = no_success (replicate (places_of rules part) (Failed status) ++ marks) status cause (none_done (places_of rules part) (Failed status) marks some refl)
   success_first part ended (Busy told) marks rest some (inl c) h = no_success (replicate (places_of rules part) Back ++ marks) told (λ e. cc (e, c.1)) (none_done (places_of rules part) Back marks some refl)
   success_first part ended (Busy told) marks rest some (inr (inl r)) h = no_success (replicate (places_of rules part) Back ++ marks) told (λ e. cc (e, r.1)) (none_done (places_of rules part) Back marks some refl)
@@ -190,13 +189,13 @@ module _ (rules : Rules) (limit : rules.busy_limit ≡ 17) (s : State) (o : Open
   success_first part ended (Withdrawn told) marks rest some (inl c) h = no_success (map (shown_mark part.restarts) (replicate (places_of rules part) Untouched) ++ marks) told (λ e. cc (e, c.1)) (none_shown part.restarts (places_of rules part) marks some)
   success_first part ended (Withdrawn told) marks rest some (inr r) h = no_success (map (shown_mark part.restarts) (replicate (places_of rules part) Untouched) ++ marks) told (λ e. cc (e, r.1)) (none_shown part.restarts (places_of rules part) marks some)
 
-  pub success_lowest : {R : Type 0} → (parts : List (Part R)) → All IsEndedPart parts → All (HasPlace rules) parts → All IsCaused parts → Agrees (marks_noted (map (note rules) parts)) (lowest_status parts)
+  pub success_lowest : (parts : List Part) → All IsEndedPart parts → All (HasPlace rules) parts → All IsCaused parts → Agrees (marks_noted (map (note rules) parts)) (lowest_status parts)
   success_lowest [] ended some causes = (λ e. refl, λ e. refl)
   success_lowest (part ∷ parts) ended some causes =
       let e = All-head IsEndedPart part parts ended in
       let cause : IsCause cancelled removing busy e.ended.outcome = subst (IsCauseBy cancelled removing busy) e.is (All-head IsCaused part parts causes) in
       subst (λ ms. Agrees ms (lowest_status (part ∷ parts))) (sym (marks_first rules part parts e))
-      (subst (λ st. Agrees (marks_left rules part e.ended.payload e.ended.outcome ++ marks_noted (map (note rules) parts)) st) (sym (status_first rules part parts e))
+      (subst (λ st. Agrees (marks_left rules part (payload_in e.ended.packet) e.ended.outcome ++ marks_noted (map (note rules) parts)) st) (sym (status_first rules part parts e))
       (success_first part e.ended e.ended.outcome _ _ (All-head (HasPlace rules) part parts some) cause
       (success_lowest parts (All-tail IsEndedPart part parts ended) (All-tail (HasPlace rules) part parts some) (All-tail IsCaused part parts causes))))
 
@@ -209,21 +208,20 @@ good_first cancelled removing busy (Busy told) rest (inr (inr b)) h = absurd (cc
 good_first cancelled removing busy (Withdrawn told) rest (inl c) h = absurd (cc (h, c.1))
 good_first cancelled removing busy (Withdrawn told) rest (inr r) h = absurd (cc (h, r.1))
 
-module _ {R : Type 0} where
-  -- where all succeed, each part did
-  pub record IsGoodPart (part : Part R) : Type 0 where
-    pub ended : Ended R
-    pub is : part.progress ≡ PartEnded ended
-    pub good : ended.outcome ≡ Good
+-- where all succeed, each part did
+pub record IsGoodPart (part : Part) : Type 0 where
+  pub ended : Ended
+  pub is : part.progress ≡ PartEnded ended
+  pub good : ended.outcome ≡ Good
 
-  abbrev pub IsCausedPart : Bool → Bool → ℕ → Part R → Type 0
-  IsCausedPart cancelled removing busy part = IsCauseBy cancelled removing busy part.progress
+abbrev pub IsCausedPart : Bool → Bool → ℕ → Part → Type 0
+IsCausedPart cancelled removing busy part = IsCauseBy cancelled removing busy part.progress
 
-  pub all_good : (cancelled removing : Bool) (busy : ℕ) (parts : List (Part R)) → All IsEndedPart parts → All (IsCausedPart cancelled removing busy) parts → lowest_status parts ≡ Success → All IsGoodPart parts
-  all_good cancelled removing busy [] ended causes h = All-nil IsGoodPart
-  all_good cancelled removing busy (part ∷ parts) ended causes h =
-      let e = All-head IsEndedPart part parts ended in
-      let cause : IsCause cancelled removing busy e.ended.outcome = subst (IsCauseBy cancelled removing busy) e.is (All-head (IsCausedPart cancelled removing busy) part parts causes) in
-      let g = good_first cancelled removing busy e.ended.outcome (lowest_status parts) cause (sym (ap (λ p. status_or (failure_by p) (lowest_status parts)) e.is) ∙ h) in
-      All-cons IsGoodPart part parts (record { ended = e.ended; is = e.is; good = g.0 })
-      (all_good cancelled removing busy parts (All-tail IsEndedPart part parts ended) (All-tail (IsCausedPart cancelled removing busy) part parts causes) g.1)
+pub all_good : (cancelled removing : Bool) (busy : ℕ) (parts : List Part) → All IsEndedPart parts → All (IsCausedPart cancelled removing busy) parts → lowest_status parts ≡ Success → All IsGoodPart parts
+all_good cancelled removing busy [] ended causes h = All-nil IsGoodPart
+all_good cancelled removing busy (part ∷ parts) ended causes h =
+    let e = All-head IsEndedPart part parts ended in
+    let cause : IsCause cancelled removing busy e.ended.outcome = subst (IsCauseBy cancelled removing busy) e.is (All-head (IsCausedPart cancelled removing busy) part parts causes) in
+    let g = good_first cancelled removing busy e.ended.outcome (lowest_status parts) cause (sym (ap (λ p. status_or (failure_by p) (lowest_status parts)) e.is) ∙ h) in
+    All-cons IsGoodPart part parts (record { ended = e.ended; is = e.is; good = g.0 })
+    (all_good cancelled removing busy parts (All-tail IsEndedPart part parts ended) (All-tail (IsCausedPart cancelled removing busy) part parts causes) g.1)

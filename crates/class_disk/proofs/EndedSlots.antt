@@ -1,8 +1,14 @@
 -- The slot of the request that ended first.
-use Rattle.std.proofs.Common.{◌≡◌, ℕ, zero, List, [], ◌∷◌, Option, Some, None, refl, sym, ◌∙◌, ap, subst, arith, get_or, Contains, IsSome}
+use Rattle.std.proofs.Common.{◌≡◌, ℕ, zero, List, ◌∷◌, Option, Some, None, refl, sym, ◌∙◌, ap, subst, arith, Contains, IsSome}
+use Rattle.std.specs.VecDeque.{deque_capacity}
+use Rattle.slab.specs.Slab.{Updates, get}
+use Rattle.class_disk.specs.declared.requests.Slot.TheVariants.{Open}
 use Rattle.class_disk.specs.declared.requests.Transfer.{Transfer}
-use Rattle.class_disk.specs.Books.{Opened, Books, open_from, vacant_from, open_at}
-use Rattle.class_disk.proofs.Slots.{is_there}
+use Rattle.class_disk.specs.declared.table.Table.{Table}
+use Rattle.class_disk.specs.inside.Books.{books_of, opened_of, open_from, rooms_from, open_at, TakesOut}
+use Rattle.class_disk.specs.inside.Turns.{TakesEnded}
+use Rattle.class_disk.proofs.SlotChanges.{keeps_rooms, takes_off}
+use Rattle.class_disk.proofs.Replacing.{stands_there}
 
 some_of : {X : Type 0} (x : Option X) → IsSome x → (y : X) × (x ≡ Some y)
 some_of None h = absurd (cc (h))
@@ -11,30 +17,28 @@ some_of (Some y) h = (y, refl)
 first_there : (slot : ℕ) (rest : List ℕ) → Contains (slot ∷ rest) slot
 first_there slot rest = (zero, omega arith, refl)
 
-module _ {R : Type 0} where
-  -- the first to end stands in its slot
-  pub first_open : (slots : List (Option (Option (Transfer R)))) (ended rest : List ℕ) (slot : ℕ) → ended ≡ slot ∷ rest
-      → ((k : ℕ) → Contains ended k → IsSome (open_at k (open_from 0 slots)))
-      → (t : Transfer R) × (get_or slots slot None ≡ Some (Some t))
-  first_open slots ended rest slot front are =
-      let o = some_of (open_at slot (open_from 0 slots)) (are slot (subst (λ xs. Contains xs slot) (sym front) (first_there slot rest))) in
-      let s = is_there 0 slot slot slots o.0 (omega arith) o.1 in
-      (s.0, s.1)
+-- the first to end stands in its slot
+pub first_open : (table : Table) (rest : List ℕ) (slot : ℕ) → table.ended.items ≡ slot ∷ rest
+    → ((k : ℕ) → Contains table.ended.items k → IsSome (open_at k (books_of table).opens)) → (t : Transfer) × (get table.slots slot ≡ Some (Open t))
+first_open table rest slot front are =
+    let o = some_of (open_at slot (books_of table).opens) (are slot (subst (λ xs. Contains xs slot) (sym front) (first_there slot rest))) in
+    stands_there table slot o.0 o.1
 
-  -- with as much room as before
-  pub same_taken : (b : Books R) (opens : List (ℕ × Opened R)) (vacant ended : List ℕ) (places : ℕ) → places ≡ b.ended_places
-      → record b { opens = opens; vacant = vacant; ended = ended; ended_places = places } ≡ record b { opens = opens; vacant = vacant; ended = ended }
-  same_taken b opens vacant ended places e = ap (λ n. record b { opens = opens; vacant = vacant; ended = ended; ended_places = n }) e
-
-  pub same_ended : (b : Books R) (opens opens' : List (ℕ × Opened R)) (vacant vacant' ended ended' : List ℕ) (places : ℕ) → opens ≡ opens'
-      → vacant ≡ vacant' → ended ≡ ended' → places ≡ b.ended_places
-      → record b { opens = opens; vacant = vacant; ended = ended; ended_places = places } ≡ record b { opens = opens'; vacant = vacant'; ended = ended' }
-  same_ended b opens opens' vacant vacant' ended ended' places e f h k =
-      ap (λ x. record b { opens = x; vacant = vacant; ended = ended; ended_places = places }) e ∙ ap (λ x. record b { opens = opens'; vacant = x; ended = ended; ended_places = places }) f
-      ∙ ap (λ x. record b { opens = opens'; vacant = vacant'; ended = x; ended_places = places }) h
-      ∙ ap (λ n. record b { opens = opens'; vacant = vacant'; ended = ended'; ended_places = n }) k
-
-  -- no slots, and none ended
-  pub same_empty : (b : Books R) (slots : List (Option (Option (Transfer R)))) (ended : List ℕ) → slots ≡ [] → ended ≡ []
-      → record b { opens = open_from 0 slots; vacant = vacant_from 0 slots; ended = ended } ≡ record b { opens = []; vacant = []; ended = [] }
-  same_empty b slots ended e f = ap (λ xs. record b { opens = open_from 0 xs; vacant = vacant_from 0 xs; ended = ended }) e ∙ ap (λ xs. record b { opens = []; vacant = []; ended = xs }) f
+-- the request that ended first is taken out of its slot
+pub takes_ended : (old mid new : Table) (slot : ℕ) (t : Transfer) → mid ≡ record old { ended = mid.ended } → old.ended.items ≡ slot ∷ mid.ended.items
+    → deque_capacity mid.ended ≡ deque_capacity old.ended → get old.slots slot ≡ Some (Open t) → TakesOut mid slot new → TakesEnded (books_of old) slot (opened_of t) (books_of new)
+takes_ended old mid new slot t first front places was out =
+    let same_slots : mid.slots ≡ old.slots = ap (λ (x : Table). x.slots) first in
+    let updates : Updates old.slots new.slots slot None = subst (λ s. Updates s new.slots slot None) same_slots out.updates in
+    let f = takes_off slot t old.slots.slots new.slots.slots was updates.changed updates.others in
+    let rooms : rooms_from new.slots.slots ≡ rooms_from old.slots.slots = keeps_rooms slot old.slots.slots new.slots.slots (Some (Open t)) None refl was updates.changed updates.others in
+    let whole : new ≡ record old { ended = mid.ended; slots = new.slots } = out.after ∙ ap (λ (x : Table). record x { slots = new.slots }) first in
+    subst (λ (x : Table). TakesEnded (books_of old) slot (opened_of t) (books_of x)) (sym whole) (record {
+      front = front;
+      is_open = f.is_open;
+      opens = f.opens;
+      after =
+          ap (λ hs. record (books_of old) { opens = open_from 0 new.slots.slots; held = hs; rooms = rooms_from new.slots.slots; ended = mid.ended.items; ended_places = deque_capacity mid.ended }) f.held
+          ∙ ap (λ rs. record (books_of old) { opens = open_from 0 new.slots.slots; rooms = rs; ended = mid.ended.items; ended_places = deque_capacity mid.ended }) rooms
+          ∙ ap (λ n. record (books_of old) { opens = open_from 0 new.slots.slots; ended = mid.ended.items; ended_places = n }) places;
+    })

@@ -14,7 +14,7 @@ use Rattle.srb.specs.declared.DeviceLabel.{DeviceLabel}
 use Rattle.srb.specs.declared.DeviceLabel.TheVariants.{Start, Act, Fault, Return}
 use Rattle.srb.specs.declared.Class.{Class}
 use Rattle.srb.specs.declared.Class.TheVariants.{Good, Busy, Bad}
-use Rattle.irp.specs.declared.Climb.{Climb}
+use Rattle.device.specs.declared.climbing.Climb.{Climb}
 use Rattle.irp.specs.declared.Payload.{Payload}
 use Rattle.machine.specs.declared.ClientRequest.{ClientRequest}
 use Rattle.machine.specs.declared.Request.{Request}
@@ -40,11 +40,11 @@ use Rattle.class_disk.specs.declared.parts.Ended.{Ended}
 use Rattle.class_disk.specs.declared.parts.Progress.TheVariants.{Ended as PartEnded}
 use Rattle.class_disk.specs.declared.parts.Outcome.{Outcome}
 use Rattle.class_disk.specs.declared.parts.Outcome.TheVariants.{Good as IsGood, Failed as IsBad, Busy as IsBusy, Withdrawn}
-use Rattle.class_disk.specs.Joint.{Kept, shown_mark}
-use Rattle.class_disk.specs.Kept.{IsSound, WasSent, NeverSent, IsUntouched, IsIfEnded, EndedAre, EndsUnsent}
+use Rattle.class_disk.specs.inside.Joint.{Kept, shown_mark}
+use Rattle.class_disk.specs.inside.Kept.{IsSound, WasSent, NeverSent, IsUntouched, IsIfEnded, EndedAre, EndsUnsent}
 use Rattle.class_disk.specs.Shown.{class_rules, IsPort}
-use Rattle.class_disk.specs.Driver.{busy_left, places_of, marks_left, note_by, note}
-use Rattle.class_disk.specs.Parts.{EndsBack}
+use Rattle.class_disk.specs.inside.Driver.{busy_left, places_of, marks_left, note_by, note}
+use Rattle.class_disk.specs.inside.Parts.{payload_in, EndsBack}
 use Rattle.class_disk.proofs.Resting.{Is, WaitsBelow, at_rest, untouched_all}
 use Rattle.class_disk.proofs.Acting.{ended_still}
 
@@ -101,7 +101,7 @@ failed_cause rules s o failure status (m ∷ marks) some all h =
     let e : m ≡ Failed failure = All-head (Is (Failed failure)) m marks all in
     subst (λ x. HasCause rules s o (x ∷ marks) status) e h
 
-module _ (takes : Bool) (v : DeviceView) (request : Request) (climb : Climb) (v' : DeviceView) (h : HandsUp takes v request climb v') (port : IsPort v.rules) (sound : IsSound v.state) (counted : AreCounted v.rules v.state) (places : HavePlaces v.state) where
+module _ (takes : Bool) (v : DeviceView) (climb : Climb) (spot : ℕ) (v' : DeviceView) (h : HandsUp takes v climb spot v') (port : IsPort v.rules) (sound : IsSound v.state) (counted : AreCounted v.rules v.state) (places : HavePlaces v.state) where
   abbrev pub ended_one : OpenRequest
   ended_one = h.answers.request
 
@@ -150,15 +150,15 @@ module _ (takes : Bool) (v : DeviceView) (request : Request) (climb : Climb) (v'
   ends sent = ends_by (All-contains (IsIfEnded WasSent v.rules v.state) v.state.requests ended_one sent open_there h.answers.ended) alike.0 alike.1
 
   -- its places, as many as its part has
-  long : {R : Type 0} (part : Part R) → place_count v.rules ended_one.request ≡ places_of (class_rules v.rules) part → length ended_one.marks ≡ places_of (class_rules v.rules) part
+  long : (part : Part) → place_count v.rules ended_one.request ≡ places_of (class_rules v.rules) part → length ended_one.marks ≡ places_of (class_rules v.rules) part
   long part asks = count.places ∙ asks
 
-  module _ {R : Type 0} (part : Part R) (asks : place_count v.rules ended_one.request ≡ places_of (class_rules v.rules) part) (again : ℕ) where
+  module _ (part : Part) (asks : place_count v.rules ended_one.request ≡ places_of (class_rules v.rules) part) (again : ℕ) where
     moved_by : h.status ≡ Success → map (shown_mark again) ended_one.marks ≡ marks_left (class_rules v.rules) part h.payload IsGood
     moved_by good =
-        let same : place_count v.rules (as_client v.rules request []) ≡ places_of (class_rules v.rules) part = sym (ap (place_count v.rules) h.is_request) ∙ asks in
-        let are : ended_one.marks ≡ map Done (sectors_moved v.rules request h.payload) = h.moved good in
-        ap (map (shown_mark again)) are ∙ shown_done again (sectors_moved v.rules request h.payload)
+        let same : place_count v.rules (as_client v.rules h.request []) ≡ places_of (class_rules v.rules) part = sym (ap (place_count v.rules) h.is_request) ∙ asks in
+        let are : ended_one.marks ≡ map Done (sectors_moved v.rules h.request h.payload) = h.moved good in
+        ap (map (shown_mark again)) are ∙ shown_done again (sectors_moved v.rules h.request h.payload)
         ∙ ap (λ n. map Done (cut n v.rules.sector_size (payload_bytes h.payload))) same
 
     failed_by : All (Is (Failed h.status)) ended_one.marks → map (shown_mark again) ended_one.marks ≡ marks_left (class_rules v.rules) part h.payload (IsBad h.status)
@@ -198,7 +198,7 @@ module _ (takes : Bool) (v : DeviceView) (request : Request) (climb : Climb) (v'
         )
 
   -- THE NOTE OF A PART THAT WAS TAKEN: what the coupling has in its place
-  module _ {R : Type 0} (part : Part R) (ended : Ended R) (is_ended : part.progress ≡ PartEnded ended) (payload : ended.payload ≡ h.payload) (asks : place_count v.rules ended_one.request ≡ places_of (class_rules v.rules) part) where
+  module _ (part : Part) (ended : Ended) (is_ended : part.progress ≡ PartEnded ended) (payload : (payload_in ended.packet) ≡ h.payload) (asks : place_count v.rules ended_one.request ≡ places_of (class_rules v.rules) part) where
     note_is : (map (shown_mark part.restarts) ended_one.marks ≡ marks_left (class_rules v.rules) part h.payload ended.outcome) × (ended_one.busy_returns ≡ busy_left ended.outcome)
         → Kept (map (shown_mark part.restarts) ended_one.marks) (part.restarts + ended_one.busy_returns) ≡ note (class_rules v.rules) part
     note_is (marks, busy) =
@@ -288,8 +288,8 @@ module _ (Is' : OpenRequest → Type 0) (rules : Rules) where
       (All-weaker (IsIfEnded Is' rules s) (IsIfEnded Is' rules mid) (λ x. other_state s mid x refl) s.requests k))
 
 -- a packet handed up, and a packet taken in
-pub ended_handed : (Is' : OpenRequest → Type 0) (takes : Bool) (v : DeviceView) (request : Request) (climb : Climb) (v' : DeviceView) → EndedAre Is' v.rules v.state → HandsUp takes v request climb v' → EndedAre Is' v.rules v'.state
-ended_handed Is' takes v request climb v' k h =
+pub ended_handed : (Is' : OpenRequest → Type 0) (takes : Bool) (v : DeviceView) (climb : Climb) (spot : ℕ) (v' : DeviceView) → EndedAre Is' v.rules v.state → HandsUp takes v climb spot v' → EndedAre Is' v.rules v'.state
+ended_handed Is' takes v climb spot v' k h =
     ended_starts Is' v.rules h.starts h.answered v'.state h.only_starts (ended_answer Is' v.rules v.state h.packet.number h.status h.bytes h.answered k h.answers) h.moves.run
 
 pub ended_submitted : (Is' : OpenRequest → Type 0) (v : DeviceView) (packet : Packet) (request : Request) (payload : Payload) (v' : DeviceView) → 0 < place_count v.rules (as_client v.rules request []) → EndedAre Is' v.rules v.state

@@ -4,26 +4,30 @@ use Rattle.std.specs.Prelude.{IsPermutation, All, if◌then◌else◌}
 use Rattle.std.proofs.lemmas.Bool.{cases_Bool, eqb-true}
 use Rattle.std.proofs.lemmas.List.Sorted.{IsPermutation-sym, IsPermutation-trans, IsPermutation-cons, IsPermutation-middle, IsPermutation-append_right, IsPermutation-append_comm, All-permutation}
 use Rattle.std.proofs.lemmas.List.Elements.{All-tail}
-use Rattle.machine.specs.declared.Request.{Request}
 use Rattle.machine.specs.Rules.{Rules}
 use Rattle.machine.specs.State.{State}
-use Rattle.irp.specs.declared.Climb.{Climb}
-use Rattle.irp.specs.declared.Payload.{Payload}
+use Rattle.device.specs.declared.climbing.Climb.{Climb}
 use Rattle.srb.specs.declared.DeviceLabel.{DeviceLabel}
 use Rattle.device.specs.View.{DeviceView, IsOrderly, IsTopmost}
 use Rattle.device.specs.Served.{HandsUp}
 use Rattle.class_disk.specs.declared.parts.Part.{Part}
 use Rattle.class_disk.specs.declared.parts.Ended.{Ended}
 use Rattle.class_disk.specs.declared.parts.Outcome.{Outcome}
-use Rattle.class_disk.specs.declared.requests.DiskRoom.{DiskRoom}
-use Rattle.class_disk.specs.Joint.{Note, Sent}
-use Rattle.class_disk.specs.Kept.{WasSent, EndedAre, IsOver, noted_busy}
+use Rattle.class_disk.specs.inside.Joint.{Note, Sent}
+use Rattle.class_disk.specs.inside.Kept.{WasSent, EndedAre, IsOver, noted_busy}
 use Rattle.class_disk.specs.Shown.{class_rules}
-use Rattle.class_disk.specs.Parts.{EndsBack, HasReason, unfinished_by}
-use Rattle.class_disk.specs.Books.{Opened, Books, all_open, ended_in, slot_in, part_in}
-use Rattle.class_disk.specs.Turns.{ended_part, ended_at, ended_books}
-use Rattle.class_disk.specs.Driver.{busy_left, note, note_by, known, knowns, rooms_in, rooms_kept, most_over, IsCause, IsAsked, IsSpotted, IsOpen, AreKept, AreBelow}
-use Rattle.class_disk.specs.Midway.{IsTaking, IsMidway, TakesOne}
+use Rattle.class_disk.specs.inside.Parts.{EndsBack, HasReason, unfinished_by}
+use Rattle.class_disk.specs.inside.Books.{Opened, Books, all_open, ended_in}
+use Rattle.class_disk.specs.inside.Turns.{ended_part, ended_at, ended_books}
+use Rattle.class_disk.specs.inside.Driver.{busy_left, note, note_by, known, knowns, tickets_held, tickets_open, IsCause, IsAsked, IsSpotted, IsOpen, AreKept, AreBelow, tickets}
+use Rattle.class_disk.specs.Opening.{most_over}
+use Rattle.class_disk.specs.inside.Owners.{slot_at, place_at}
+use Rattle.class_disk.specs.inside.Parts.{payload_in, ticket_for}
+use Rattle.device.specs.inside.Out.{Ticket}
+use Rattle.class_disk.specs.inside.Rooms.{AllOut}
+use Rattle.class_disk.proofs.Rooms.{out_any_order}
+use Rattle.class_disk.specs.declared.parts.TransferPacket.{TransferPacket}
+use Rattle.class_disk.specs.inside.Midway.{IsTaking, IsMidway, TakesOne}
 use Rattle.class_disk.proofs.Retaking.{known_at}
 use Rattle.class_disk.proofs.Finishing.{notes_returned}
 use Rattle.class_disk.proofs.Standing.{is_put}
@@ -31,12 +35,12 @@ use Rattle.class_disk.proofs.Noting.{PartStands, ended-append, parts_now, rooms_
 use Rattle.class_disk.proofs.Handed.{Handed}
 use Rattle.class_disk.proofs.Withdrawing.{fewer_packets}
 use Rattle.class_disk.proofs.Changing.{o_now, b_now, each_entry, all_parts, packets_stay, left_now, long_now, known_new, some_now, busy_now, busy_is, over_now, causes_now, open_now, noted_restarts}
-use Rattle.class_disk.proofs.Returning.{cause_of, over_outcome, packets_taken, part_spotted, part_asked, taking_here, entry_open, was_sent_as, as_many_places, next_stays, removing_stays, is_buffered, is_written}
+use Rattle.class_disk.proofs.Returning.{same_request, cause_of, over_outcome, packets_taken, part_spotted, part_asked, taking_here, entry_open, was_sent_as, as_many_places, next_stays, removing_stays, is_buffered, is_written}
 
 -- THE LIST OF THE ENDED
 
 -- one that had not ended, and now may have
-ended_middle : {R : Type 0} (before : List (ℕ × Opened R)) (slot : ℕ) (o o' : Opened R) (after : List (ℕ × Opened R)) (ended : List ℕ)
+ended_middle : (before : List (ℕ × Opened)) (slot : ℕ) (o o' : Opened) (after : List (ℕ × Opened)) (ended : List ℕ)
     → 0 < o.unfinished → IsPermutation ended (ended_in (before ++ ((slot, o) ∷ after)))
     → IsPermutation (if o'.unfinished == 0 then ended ++ slot ∷ [] else ended) (ended_in (before ++ ((slot, o') ∷ after)))
 ended_middle before slot o o' after ended some h =
@@ -58,28 +62,27 @@ ended_middle before slot o o' after ended some h =
         (IsPermutation-trans _ _ _ (IsPermutation-cons slot _ _ p)
         (IsPermutation-sym _ _ (IsPermutation-middle (ended_in before) slot (ended_in after))))
 
-module _ {R : Type 0} (out out' : List R → Type 0) (law : (xs ys : List R) → IsPermutation xs ys → out' xs → out' ys) (takes_srb : Bool)
-    (stack : ℕ) (v : DeviceView) (b : Books R) (request : Request) (climb : Climb) (v' : DeviceView)
-    (h : HandsUp takes_srb v request climb v') (ordered : IsOrderly v) (room : R)
-    (rooms_step : (rooms : List R) → out rooms → out' (room ∷ rooms)) (payload : Payload) (payload_is : payload ≡ h.payload)
-    (d : Handed b h.packet.number) (some : 0 < d.o.unfinished) (outcome : Outcome) (ends : EndsBack h.status outcome)
+module _ {takes : Bool} (v : DeviceView) (b : Books) (climb : Climb) (spot : ℕ) (v' : DeviceView)
+    (h : HandsUp takes v climb spot v') (ordered : IsOrderly v) (packet : TransferPacket) (payload_is : payload_in packet ≡ h.payload)
+    (rooms_step : (others : List Ticket) → AllOut v others → AllOut v' (ticket_for h.request packet ∷ others))
+    (d : Handed b h.packet.number h.packet.spot) (some : 0 < d.o.unfinished) (outcome : Outcome) (ends : EndsBack h.status outcome)
     (reason : HasReason d.o.irp.cancelled b.removing d.o.restarts outcome) where
   abbrev slot : ℕ
-  slot = slot_in h.packet.number
+  slot = slot_at b.owners h.packet.spot
 
   abbrev place : ℕ
-  place = part_in h.packet.number
+  place = place_at b.owners h.packet.spot
 
   abbrev rules : Rules
   rules = class_rules v.rules
 
-  abbrev ended : Ended R
-  ended = record { room = room; payload = payload; outcome = outcome }
+  abbrev ended : Ended
+  ended = record { packet = packet; outcome = outcome }
 
-  abbrev s : PartStands b slot place d.o d.part h.packet.number d.spot
+  abbrev s : PartStands b slot place d.o d.part h.packet.number h.packet.spot
   s = d.stands
 
-  abbrev gone : Part R
+  abbrev gone : Part
   gone = ended_part ended d.part
 
   abbrev left : ℕ
@@ -88,17 +91,17 @@ module _ {R : Type 0} (out out' : List R → Type 0) (law : (xs ys : List R) →
   abbrev ended_slots : List ℕ
   ended_slots = if left == 0 then b.ended ++ slot ∷ [] else b.ended
 
-  abbrev o' : Opened R
+  abbrev o' : Opened
   o' = o_now rules s gone d.o.restarts left b.next_packet ended_slots
 
-  abbrev b' : Books R
+  abbrev b' : Books
   b' = b_now rules s gone d.o.restarts left b.next_packet ended_slots
 
   -- the table, part by part
   pub books_are : ended_books slot (ended_at place ended d.part d.o) b ≡ b'
   books_are =
       ap (λ ps. ended_books slot (record d.o { parts = ps; unfinished = left }) b)
-      (parts_now rules b slot place d.o d.part h.packet.number d.spot s ended)
+      (parts_now rules b slot place d.o d.part h.packet.number h.packet.spot s ended)
       ∙ ap (λ es. record b { opens = es; ended = ended_slots }) (is_put b.opens slot d.o s.stands o')
 
   busy_stays : noted_busy (note rules d.part ∷ []) ≤ noted_busy (note rules gone ∷ [])
@@ -107,17 +110,17 @@ module _ {R : Type 0} (out out' : List R → Type 0) (law : (xs ys : List R) →
       is_note : note rules d.part ≡ Sent h.packet.number d.part.restarts
       is_note = ap (note_by rules d.part) s.is_below
 
-  module _ (first : State) (labels : List DeviceLabel) (rooms : List (DiskRoom R))
-      (m : IsMidway out takes_srb stack WasSent first labels v b rooms) where
-    w : IsOpen rules (slot, d.o)
+  module _ (first : State) (labels : List DeviceLabel)
+      (m : IsMidway WasSent first labels v b) where
+    w : IsOpen rules b.owners (slot, d.o)
     w = entry_open h ordered d m
 
     taken : IsTaking rules first (labels ++ h.starts) v'.state
         (known_at (known rules d.o) (map (note rules) s.front) (note rules gone) (map (note rules) s.back) ∷ map (known rules)
-        (map (λ (e : ℕ × Opened R). e.1) (s.stands.before ++ s.stands.after)))
+        (map (λ (e : ℕ × Opened). e.1) (s.stands.before ++ s.stands.after)))
         × EndedAre WasSent v.rules v'.state
     taken =
-        notes_returned takes_srb v request climb v' h m.port ordered first labels (known rules d.o) (map (note rules) s.front)
+        notes_returned takes v climb spot v' h m.port ordered first labels (known rules d.o) (map (note rules) s.front)
         (map (note rules) s.back) d.part.restarts _
         (taking_here h ordered d m) gone ended refl payload_is
         (as_many_places h ordered d m) refl m.ended ends
@@ -150,21 +153,20 @@ module _ {R : Type 0} (out out' : List R → Type 0) (law : (xs ys : List R) →
     cause = cause_of d.o.irp.cancelled b.removing d.o.restarts _ h.status outcome many ends reason
 
     -- WHAT IS KEPT
-    kept_then : AreKept rules b' rooms
+    kept_then : AreKept rules b'
     kept_then =
         let k = m.kept in
-        let buffered = is_buffered h ordered d m room payload payload_is outcome ends in
-        let written = is_written h ordered d m room payload payload_is outcome ends in
+        let buffered = is_buffered h ordered d m packet payload_is outcome ends in
+        let written = is_written h ordered d m packet payload_is outcome ends in
         let one : unfinished_by d.part.progress ≡ 1 = ap unfinished_by s.is_below in
         let long = long_now rules s gone d.o.restarts left b.next_packet ended_slots in
         let still = left_now rules s gone d.o.restarts left b.next_packet ended_slots in
         record {
           sizes = k.sizes;
           in_hand = k.in_hand;
-          opens = each_entry rules s gone d.o.restarts left b.next_packet ended_slots (IsOpen rules) (IsOpen rules)
+          opens = each_entry rules s gone d.o.restarts left b.next_packet ended_slots (IsOpen rules b.owners) (IsOpen rules b.owners)
               (open_now rules s gone d.o.restarts left b.next_packet ended_slots refl tt buffered written tt refl w.few (omega arith) w)
               (λ e apart is. is) k.opens;
-          vacant = k.vacant;
           ended = ended_middle s.stands.before slot d.o o' s.stands.after b.ended some
               (subst (λ es. IsPermutation b.ended (ended_in es)) s.stands.opens_are k.ended);
           places = let p = k.places in omega arith;
@@ -192,33 +194,32 @@ module _ {R : Type 0} (out out' : List R → Type 0) (law : (xs ys : List R) →
           topmost = All-tail IsTopmost h.packet v'.packets (All-permutation IsTopmost _ _ (packets_taken h) m.below.topmost);
           some = some_now rules s gone d.o.restarts left b.next_packet ended_slots m.below.some;
           over = over_now rules s gone d.o.restarts left b.next_packet ended_slots busy_stays v'.state.removing
-              (over_outcome rules gone payload d.o.irp.cancelled v'.state.removing _ h.status outcome ends
+              (over_outcome rules gone (payload_in packet) d.o.irp.cancelled v'.state.removing _ h.status outcome ends
               (subst (λ t. IsCause d.o.irp.cancelled t (busy_now rules s gone d.o.restarts left b.next_packet ended_slots) outcome)
               (m.below.removing ∙ sym removing) cause))
               (subst (λ t. All (IsOver 17 t) (knowns rules b)) (sym removing) m.below.over);
         }
 
-    midway_then : IsMidway out' takes_srb stack WasSent first (labels ++ h.starts) v' b' rooms
+    midway_then : IsMidway WasSent first (labels ++ h.starts) v' b'
     midway_then =
-        subst (λ (r : Rules). IsMidway out' takes_srb stack WasSent first (labels ++ h.starts) (record v' { rules = r }) b' rooms)
+        subst (λ (r : Rules). IsMidway WasSent first (labels ++ h.starts) (record v' { rules = r }) b')
         (sym h.moves.same_rules) (record {
-          takes = m.takes;
           port = m.port;
           taking = taking_then;
-          rooms_out = law _ _ (IsPermutation-trans _ _ _ (IsPermutation-sym _ _
-              (IsPermutation-middle (rooms_in rooms) room (rooms_kept (all_open b))))
-              (IsPermutation-append_right (rooms_in rooms) _ _
-              (subst (λ (x : Books R). IsPermutation (room ∷ rooms_kept (all_open b)) (rooms_kept (all_open x))) books_are
-              (rooms_now rules b slot place d.o d.part h.packet.number d.spot s ended))))
-              (rooms_step _ m.rooms_out);
+          rooms_out = subst (λ (u : Rules). AllOut (record v' { rules = u }) (tickets b')) h.moves.same_rules (out_any_order v' _ _ (IsPermutation-trans _ _ _ (IsPermutation-sym _ _
+              (IsPermutation-middle (tickets_held b.held) (ticket_for d.part.request packet) (tickets_open (all_open b))))
+              (IsPermutation-append_right (tickets_held b.held) _ _
+              (subst (λ (x : Books). IsPermutation (ticket_for d.part.request packet ∷ tickets_open (all_open b)) (tickets_open (all_open x))) books_are
+              (rooms_now rules b slot place d.o d.part h.packet.number h.packet.spot s ended))))
+              (subst (λ q. AllOut v' (ticket_for q packet ∷ tickets b)) (sym (same_request h ordered d m)) (rooms_step _ m.rooms_out)));
           kept = kept_then;
           below = below_then;
           ended = taken.1;
         })
 
   -- ONE PACKET IS TAKEN
-  pub takes_ended : TakesOne out out' takes_srb stack WasSent v b v' (ended_books slot (ended_at place ended d.part d.o) b)
-  takes_ended = subst (TakesOne out out' takes_srb stack WasSent v b v') (sym books_are) (record {
+  pub takes_ended : TakesOne WasSent v b v' (ended_books slot (ended_at place ended d.part d.o) b)
+  takes_ended = subst (TakesOne WasSent v b v') (sym books_are) (record {
     starts = h.starts;
     goes_on = record {
       only_starts = h.only_starts;
@@ -227,10 +228,11 @@ module _ {R : Type 0} (out out' : List R → Type 0) (law : (xs ys : List R) →
       same_most = h.moves.same_most;
       same_last = refl;
       same_submitted = refl;
+      same_rooms = refl;
       same_packets = packets_stay rules s gone d.o.restarts left b.next_packet ended_slots;
     };
     fewer =
-        let a = fewer_packets v request climb v' h in
+        let a = fewer_packets v climb spot v' h in
         let c = left_now rules s gone d.o.restarts left b.next_packet ended_slots in
         omega arith;
     stays = midway_then;

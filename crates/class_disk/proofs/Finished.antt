@@ -1,5 +1,5 @@
 -- A finish from one call to the next: midway once the piece is back, and in hand again once all that has ended is taken.
-use Rattle.std.proofs.Common.{◌≡◌, ◌≢◌, ℕ, Bool, List, ◌∷◌, ◌++◌, sym, ◌∙◌, ap, subst, map}
+use Rattle.std.proofs.Common.{◌≡◌, ◌≢◌, ℕ, List, ◌∷◌, ◌++◌, sym, ◌∙◌, ap, subst, map}
 use Rattle.std.specs.Prelude.{IsPermutation, All}
 use Rattle.std.proofs.lemmas.List.Sorted.{IsPermutation-refl, All-permutation}
 use Rattle.std.proofs.lemmas.List.Elements.{All-append, All-map, All-weaker}
@@ -12,81 +12,80 @@ use Rattle.machine.specs.Sending.{IsStart}
 use Rattle.machine.specs.Step.{Run, as_label}
 use Rattle.device.specs.View.{DeviceView, OnTag, piece_on_tag, IsOrderly}
 use Rattle.device.specs.Served.{Finishes, FinishesNot}
-use Rattle.class_disk.specs.Books.{Opened, Books, all_open}
-use Rattle.class_disk.specs.declared.requests.DiskRoom.{DiskRoom}
+use Rattle.class_disk.specs.inside.Books.{Opened, Books, all_open}
+use Rattle.class_disk.proofs.Rooms.{out_same}
+use Rattle.class_disk.proofs.Standing.{IsApart}
 use Rattle.class_disk.specs.declared.parts.Part.{Part}
 use Rattle.class_disk.specs.declared.parts.Progress.{Progress}
 use Rattle.class_disk.specs.declared.parts.Progress.TheVariants.{Ready, Below, Ended}
-use Rattle.class_disk.specs.Joint.{above}
-use Rattle.class_disk.specs.Kept.{WasSent, EndedAre}
+use Rattle.class_disk.specs.inside.Joint.{above}
+use Rattle.class_disk.specs.inside.Kept.{WasSent, EndedAre}
 use Rattle.class_disk.specs.Shown.{class_rules, IsPort}
-use Rattle.class_disk.specs.Driver.{knowns, rooms_in, rooms_kept, view_of, packet_above, IsAskedBy, IsAsked, AreAsked, AreKept, IsInHand}
-use Rattle.class_disk.specs.Midway.{IsTaking, IsMidway, TakesAll}
+use Rattle.class_disk.specs.inside.Driver.{knowns, tickets, view_of, packet_above, IsAskedBy, IsAsked, AreAsked, AreKept, IsInHand}
+use Rattle.class_disk.specs.inside.Midway.{IsTaking, IsMidway, TakesAll}
 use Rattle.class_disk.proofs.Acting.{moves_above, below_moved, same_tags}
 use Rattle.class_disk.proofs.Asking.{asks_run}
 use Rattle.class_disk.proofs.Orderly.{All-from_map}
 use Rattle.class_disk.proofs.Finishing.{finish_begins, finishes_above, in_hand_again, distinct_behind}
 
 -- WHAT PARTS ASK FOR stays by labels of the adapter
-module _ {R : Type 0} (rules below : Rules) (labels : List DeviceLabel) (s s' : State) (run : Run below s (map as_label labels) s') where
-  part_asked : (part : Part R) → (p : Progress R) → IsAskedBy rules s.requests part.request p → IsAskedBy rules s'.requests part.request p
+module _ (rules below : Rules) (labels : List DeviceLabel) (s s' : State) (run : Run below s (map as_label labels) s') where
+  part_asked : (part : Part) → (p : Progress) → IsAskedBy rules s.requests part.request p → IsAskedBy rules s'.requests part.request p
   part_asked part (Ready place) h = tt
   part_asked part (Below number spot) h = asks_run rules part.request number below labels s s' h run
   part_asked part (Ended ended) h = tt
 
-  pub asked_run : (os : List (Opened R)) → All (AreAsked rules s.requests) os → All (AreAsked rules s'.requests) os
+  pub asked_run : (os : List Opened) → All (AreAsked rules s.requests) os → All (AreAsked rules s'.requests) os
   asked_run os all =
       All-weaker (AreAsked rules s.requests) (AreAsked rules s'.requests)
       (λ o h. All-weaker (IsAsked rules s.requests) (IsAsked rules s'.requests) (λ part. part_asked part part.progress) o.parts h) os all
 
-module _ {R : Type 0} (out : List R → Type 0) (takes : Bool) (stack : ℕ) (v : DeviceView) (books : Books R) (rooms : List (DiskRoom R))
-    (h : IsInHand out takes stack v books rooms) (tag : ℕ) where
+module _ (v : DeviceView) (books : Books)
+    (h : IsInHand v books) (tag : ℕ) where
   -- where the layer below has no piece on the tag, there is none above
   pub free_above : (v' : DeviceView) → FinishesNot v tag v' → FinishesNot (view_of v books) tag (view_of v' books)
   free_above v' f = record {
     free = All-from_map (λ (x : OnTag). x.tag ≢ tag) piece_on_tag (view_of v books).state.pieces
-        (All-permutation (λ (x : OnTag). x.tag ≢ tag) _ _ (same_tags out takes stack v books rooms h tag)
+        (All-permutation (λ (x : OnTag). x.tag ≢ tag) _ _ (same_tags v books h tag)
         (All-map (λ (x : OnTag). x.tag ≢ tag) piece_on_tag v.state.pieces f.free));
     same = ap (λ (x : DeviceView). view_of x books) f.same;
   }
 
-  module _ (out' : List R → Type 0) (v' : DeviceView) (f : Finishes v tag v')
-      (rooms_out : out' (rooms_in rooms ++ rooms_kept (all_open books))) where
+  module _ (v' : DeviceView) (f : Finishes v tag v') (ordered : IsOrderly v') where
     abbrev pub return_labels : List DeviceLabel
     return_labels = Return f.piece.number f.class ∷ f.starts
 
-    pub midway_begins : IsMidway out' takes stack WasSent (above h.coupled.j) return_labels v' books rooms
+    pub midway_begins : IsMidway WasSent (above h.coupled.j) return_labels v' books
     midway_begins =
         let to : (P : Rules → Type 0) → P v.rules → P v'.rules = λ P x. subst P (sym f.moves.same_rules) x in
         let b = finish_begins v books tag v' h.port h.coupled h.sound h.counted h.unfinished f in
         let m = moves_above v books h.port h.sound h.coupled return_labels v' f.moves in
         record {
-          takes = h.takes;
           port = to IsPort h.port;
           taking = to (λ r. IsTaking (class_rules r) (above h.coupled.j) return_labels v'.state (knowns (class_rules r) books)) b.0;
-          rooms_out = rooms_out;
-          kept = to (λ r. AreKept (class_rules r) books rooms) h.kept;
+          rooms_out = out_same v v' (tickets books) ordered f.moves.same_rooms h.rooms_out;
+          kept = to (λ r. AreKept (class_rules r) books) h.kept;
           below = below_moved v books h.port h.sound h.coupled return_labels v' m
               (asked_run (class_rules v.rules) v.rules return_labels v.state v'.state f.moves.run (all_open books) h.below.asked) h.below;
           ended = to (λ r. EndedAre WasSent r v'.state) b.1;
         }
 
-    pub finish_ends : (out'' : List R → Type 0) (v'' : DeviceView) (books' : Books R)
-        → TakesAll out' out'' takes stack WasSent v' books v'' books' → ((xs : List R) → out'' xs → IsOrderly v'')
-        → Finishes (view_of v books) tag (view_of v'' books') × IsInHand out'' takes stack v'' books' rooms
-    finish_ends out'' v'' books' t law =
-        let m : IsMidway out'' takes stack WasSent (above h.coupled.j) (return_labels ++ t.starts) v'' books' rooms = t.stays
-        (above h.coupled.j) return_labels rooms midway_begins in
+    pub finish_ends : (v'' : DeviceView) (books' : Books)
+        → TakesAll WasSent v' books v'' books' → IsApart books'
+        → Finishes (view_of v books) tag (view_of v'' books') × IsInHand v'' books'
+    finish_ends v'' books' t apart =
+        let m : IsMidway WasSent (above h.coupled.j) (return_labels ++ t.starts) v'' books' = t.stays
+        (above h.coupled.j) return_labels midway_begins in
         let same : v''.rules ≡ v.rules = t.goes_on.same_rules ∙ f.moves.same_rules in
-        let all = finishes_above out takes stack v books rooms h tag v' f v'' books' (f.starts ++ t.starts)
+        let all = finishes_above v books h tag v' f v'' books' (f.starts ++ t.starts)
         (All-append IsStart f.starts t.starts f.only_starts t.goes_on.only_starts)
         (subst (λ r. IsTaking (class_rules r) (above h.coupled.j) (return_labels ++ t.starts) v''.state
         (knowns (class_rules r) books')) same m.taking)
         (moves_joined v.adapter return_labels v'.adapter t.starts v''.adapter f.moves.adapter t.goes_on.adapter)
         same (t.goes_on.same_most ∙ f.moves.same_most) t.goes_on.same_last t.goes_on.same_submitted
-        (subst (λ ps. IsPermutation (map packet_above books'.opens) ps) t.goes_on.same_packets (IsPermutation-refl _)) in (
+        (subst (λ ps. IsPermutation (map packet_above books'.opens) ps) t.goes_on.same_packets (IsPermutation-refl _)) t.goes_on.same_rooms in (
           all.0,
-          in_hand_again out'' takes stack v'' books' rooms v''
-              (record { takes = m.takes; port = m.port; rooms_out = m.rooms_out; kept = m.kept; below = m.below })
-              all.1 all.2 all.3 (law _ m.rooms_out) (distinct_behind v books tag v'' books' h.orderly.distinct all.0) t.none,
+          in_hand_again v'' books' v''
+              (record { port = m.port; rooms_out = m.rooms_out; kept = m.kept; below = m.below; apart = apart })
+              all.1 all.2 all.3 m.rooms_out.orderly (distinct_behind v books tag v'' books' h.orderly.distinct all.0) t.none,
         )

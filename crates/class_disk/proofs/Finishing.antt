@@ -8,8 +8,7 @@ use Rattle.ntstatus.specs.declared.NtStatus.TheVariants.{DeviceBusy}
 use Rattle.adapter.specs.View.{MovesByAll}
 use Rattle.srb.specs.declared.DeviceLabel.{DeviceLabel}
 use Rattle.srb.specs.declared.DeviceLabel.TheVariants.{Return}
-use Rattle.irp.specs.declared.Climb.{Climb}
-use Rattle.machine.specs.declared.Request.{Request}
+use Rattle.device.specs.declared.climbing.Climb.{Climb}
 use Rattle.machine.specs.Rules.{Rules, place_count, as_client}
 use Rattle.machine.specs.State.{State, IsSame, Untouched}
 use Rattle.machine.specs.Numbers.{AreDistinct, request_number}
@@ -19,23 +18,25 @@ use Rattle.machine.specs.Answering.{Answers}
 use Rattle.machine.specs.Sending.{IsStart}
 use Rattle.machine.specs.Cutting.{restarts}
 use Rattle.machine.specs.Step.{Run, as_label}
-use Rattle.device.specs.View.{DeviceView, Packet, OnTag, piece_on_tag, packet_number, IsOrderly, sent_bytes}
+use Rattle.device.specs.View.{DeviceView, Packet, OnTag, piece_on_tag, packet_number, IsOrderly, sent_bytes, room_at}
 use Rattle.device.specs.Served.{HandsUp, HandsUpNone, Submits, Finishes, IsUnfinished}
 use Rattle.machine.proofs.Same.{Run-same}
 use Rattle.machine.proofs.Numbers.{AreDistinct-Run, AreDistinct-same}
-use Rattle.class_disk.specs.Books.{Opened, Books, opened, all_open}
-use Rattle.class_disk.specs.declared.requests.DiskRoom.{DiskRoom}
+use Rattle.class_disk.specs.inside.Books.{Opened, Books, opened}
 use Rattle.class_disk.specs.declared.parts.Part.{Part}
 use Rattle.class_disk.specs.declared.parts.Ended.{Ended}
 use Rattle.class_disk.specs.declared.parts.Progress.TheVariants.{Ended as PartEnded}
 use Rattle.class_disk.specs.declared.parts.Outcome.TheVariants.{Withdrawn}
-use Rattle.class_disk.specs.Joint.{Note, Sent, Kept, Known, known_of, shown_mark, above}
-use Rattle.class_disk.specs.Kept.{IsSound, Keeps, WasSent, NeverSent, EndedAre, IsOver, HasSome, noted_busy}
+use Rattle.class_disk.specs.inside.Joint.{Note, Sent, Kept, Known, known_of, shown_mark, above}
+use Rattle.class_disk.specs.inside.Kept.{IsSound, Keeps, WasSent, NeverSent, EndedAre, IsOver, HasSome, noted_busy}
 use Rattle.class_disk.proofs.Restarting.{noted_back}
 use Rattle.class_disk.specs.Shown.{class_rules, IsPort, shown_state}
-use Rattle.class_disk.specs.Driver.{places_of, note, known, knowns, rooms_in, rooms_kept, most_over, view_of, packet_above, TakesParts, AreKept, AreBelow, IsCoupled, IsInHand}
-use Rattle.class_disk.specs.Parts.{EndsBack}
-use Rattle.class_disk.specs.Midway.{IsTaking}
+use Rattle.class_disk.specs.inside.Driver.{places_of, note, known, knowns, tickets, view_of, packet_above, AreKept, AreBelow, IsCoupled, IsInHand}
+use Rattle.class_disk.specs.Opening.{most_over}
+use Rattle.class_disk.specs.inside.Rooms.{AllOut}
+use Rattle.class_disk.proofs.Standing.{IsApart}
+use Rattle.class_disk.specs.inside.Parts.{EndsBack, payload_in}
+use Rattle.class_disk.specs.inside.Midway.{IsTaking}
 use Rattle.class_disk.proofs.CoupledRun.{Contains-map}
 use Rattle.class_disk.proofs.Showing.{shown_is}
 use Rattle.class_disk.proofs.Acting.{map_there, same_tags, shows, numbers_known, have_places}
@@ -46,7 +47,7 @@ use Rattle.machine.specs.Sending.{IsStart}
 use Rattle.machine.specs.Cutting.{restarts}
 
 -- THE PIECE COMES BACK
-pub finish_begins : {R : Type 0} (v : DeviceView) (books : Books R) (tag : ℕ) (v' : DeviceView) → IsPort v.rules → (c : IsCoupled v books) → IsSound v.state → AreCounted v.rules v.state → All (IsUnfinished v.rules v.state) v.state.requests → (h : Finishes v tag v')
+pub finish_begins : (v : DeviceView) (books : Books) (tag : ℕ) (v' : DeviceView) → IsPort v.rules → (c : IsCoupled v books) → IsSound v.state → AreCounted v.rules v.state → All (IsUnfinished v.rules v.state) v.state.requests → (h : Finishes v tag v')
     → IsTaking (class_rules v.rules) (above c.j) (Return h.piece.number h.class ∷ h.starts) v'.state (knowns (class_rules v.rules) books) × EndedAre WasSent v.rules v'.state
 finish_begins v books tag v' port c sound counted unfinished h = (
   taking_begins (class_rules v.rules) refl c.j v.state v'.state (knowns (class_rules v.rules) books) (Return h.piece.number h.class ∷ h.starts) c.same c.knows c.keeps sound
@@ -55,7 +56,7 @@ finish_begins v books tag v' port c sound counted unfinished h = (
   ended_finish v tag v' (ap (λ (r : Rules). r.one_piece) port.below) sound unfinished h,
 )
 
-module _ (takes : Bool) (v : DeviceView) (request : Request) (climb : Climb) (v' : DeviceView) (h : HandsUp takes v request climb v') (port : IsPort v.rules) (ordered : IsOrderly v)
+module _ (takes : Bool) (v : DeviceView) (climb : Climb) (spot : ℕ) (v' : DeviceView) (h : HandsUp takes v climb spot v') (port : IsPort v.rules) (ordered : IsOrderly v)
     (first : State) (labels : List DeviceLabel) (k : Known) (front back : List Note) (again : ℕ) (others : List Known)
     (t : IsTaking (class_rules v.rules) first labels v.state (known_at k front (Sent h.packet.number again) back ∷ others)) where
   counted : AreCounted v.rules v.state
@@ -69,7 +70,7 @@ module _ (takes : Bool) (v : DeviceView) (request : Request) (climb : Climb) (v'
       (λ x run. kept_taken (class_rules v.rules) refl first labels v.state ordered.places k front back again others h.packet.number h.status h.bytes h.answered x t h.starts v'.state run)
       h.answers h.moves.run
 
-  module _ {R : Type 0} (part : Part R) (ended : Ended R) (is_ended : part.progress ≡ PartEnded ended) (payload : ended.payload ≡ h.payload) (asks : place_count v.rules h.answers.request.request ≡ places_of (class_rules v.rules) part)
+  module _ (part : Part) (ended : Ended) (is_ended : part.progress ≡ PartEnded ended) (payload : payload_in ended.packet ≡ h.payload) (asks : place_count v.rules h.answers.request.request ≡ places_of (class_rules v.rules) part)
       (same : part.restarts ≡ again) where
     by_note_is : Kept (map (shown_mark part.restarts) h.answers.request.marks) (part.restarts + h.answers.request.busy_returns) ≡ note (class_rules v.rules) part
         → IsTaking (class_rules v.rules) first (labels ++ h.starts) v'.state (known_at k front (note (class_rules v.rules) part) back ∷ others)
@@ -81,16 +82,16 @@ module _ (takes : Bool) (v : DeviceView) (request : Request) (climb : Climb) (v'
     pub notes_returned : EndedAre WasSent v.rules v.state → EndsBack h.status ended.outcome
         → IsTaking (class_rules v.rules) first (labels ++ h.starts) v'.state (known_at k front (note (class_rules v.rules) part) back ∷ others) × EndedAre WasSent v.rules v'.state
     notes_returned sent is = (
-      by_note_is (noted_returned takes v request climb v' h port t.sound counted ordered.places part ended is_ended payload asks sent is),
-      ended_handed WasSent takes v request climb v' sent h,
+      by_note_is (noted_returned takes v climb spot v' h port t.sound counted ordered.places part ended is_ended payload asks sent is),
+      ended_handed WasSent takes v climb spot v' sent h,
     )
 
     -- A PART THAT NEVER WENT, OR NOT AGAIN, IS NOTED
     pub notes_withdrawn : EndedAre NeverSent v.rules v.state → (told : NtStatus) → ended.outcome ≡ Withdrawn told
         → IsTaking (class_rules v.rules) first (labels ++ h.starts) v'.state (known_at k front (note (class_rules v.rules) part) back ∷ others) × EndedAre NeverSent v.rules v'.state
     notes_withdrawn never told is = (
-      by_note_is (noted_withdrawn takes v request climb v' h port t.sound counted ordered.places part ended is_ended payload asks never told is),
-      ended_handed NeverSent takes v request climb v' never h,
+      by_note_is (noted_withdrawn takes v climb spot v' h port t.sound counted ordered.places part ended is_ended payload asks never told is),
+      ended_handed NeverSent takes v climb spot v' never h,
     )
 
   -- A PART THAT CAME BACK BUSY GOES DOWN AGAIN
@@ -98,16 +99,16 @@ module _ (takes : Bool) (v : DeviceView) (request : Request) (climb : Climb) (v'
   answered_is : IsSame h.answered v'.state
   answered_is = subst (λ (ls : List DeviceLabel). Run v.rules h.answered (map as_label ls) v'.state) (h.still port.no_window).0 h.moves.run
 
-  pub goes_again : (packet : Packet) (v'' : DeviceView) → (d : Submits v' packet request h.payload v'') → EndedAre WasSent v.rules v.state → h.status ≡ DeviceBusy → 0 < place_count v.rules (as_client v.rules request [])
+  pub goes_again : (packet : Packet) (v'' : DeviceView) → (d : Submits v' packet h.request h.payload v'') → EndedAre WasSent v.rules v.state → h.status ≡ DeviceBusy → 0 < place_count v.rules (as_client v.rules h.request [])
       → noted_busy (front ++ (Sent h.packet.number again ∷ back)) < noted_back (front ++ (Sent h.packet.number again ∷ back)) + restarts (class_rules v.rules)
       → IsFalse k.cancelled → (limit : ℕ) → All (IsOver limit v.state.removing) others → All (HasSome (class_rules v.rules)) others
       → IsTaking (class_rules v.rules) first (labels ++ d.starts) v''.state (known_at k front (Sent packet.number (suc again)) back ∷ others) × EndedAre WasSent v.rules v''.state
   goes_again packet v'' d sent busy some few timely limit over all_some =
-      let w = waits_again takes v request climb v' h port t.sound counted ordered.places sent again busy in
+      let w = waits_again takes v climb spot v' h port t.sound counted ordered.places sent again busy in
       let same_rules : v'.rules ≡ v.rules = h.moves.same_rules in
       let opens : Opens v.rules v'.state packet.number h.answers.request.request d.opened =
       subst (λ q. Opens v.rules v'.state packet.number q d.opened) (sym h.is_request)
-      (subst (λ r. Opens r v'.state packet.number (as_client r request (sent_bytes request.kind h.payload)) d.opened) same_rules d.opens) in
+      (subst (λ r. Opens r v'.state packet.number (as_client r h.request (sent_bytes h.request.kind h.payload)) d.opened) same_rules d.opens) in
       let run : Run v.rules d.opened (map as_label d.starts) v''.state = subst (λ r. Run r d.opened (map as_label d.starts) v''.state) same_rules d.moves.run in (
         subst (λ r. (x : Answers r v.state h.packet.number h.status h.bytes h.answered) → Opens r v'.state packet.number x.request.request d.opened → Run r d.opened (map as_label d.starts) v''.state
             → (map (shown_mark again) x.request.marks ≡ map (shown_mark (suc again)) (replicate (place_count (class_rules v.rules) x.request.request) Untouched)) → x.request.busy_returns ≡ 1
@@ -117,22 +118,22 @@ module _ (takes : Bool) (v : DeviceView) (request : Request) (climb : Climb) (v'
             v'.state answered_is packet.number d.opened opened timely limit over all_some d.starts v''.state go)
             h.answers opens run w.0 w.1,
         subst (λ r. EndedAre WasSent r v''.state) same_rules
-            (ended_submitted WasSent v' packet request h.payload v'' (subst (λ r. 0 < place_count r (as_client r request [])) (sym same_rules) some)
-            (subst (λ r. EndedAre WasSent r v'.state) (sym same_rules) (ended_handed WasSent takes v request climb v' sent h)) d),
+            (ended_submitted WasSent v' packet h.request h.payload v'' (subst (λ r. 0 < place_count r (as_client r h.request [])) (sym same_rules) some)
+            (subst (λ r. EndedAre WasSent r v'.state) (sym same_rules) (ended_handed WasSent takes v climb spot v' sent h)) d),
       )
 
 -- ALL IS TAKEN: what the class driver shows has finished
-module _ {R : Type 0} (out : List R → Type 0) (takes_srb : Bool) (stack : ℕ) (v : DeviceView) (books : Books R) (rooms : List (DiskRoom R)) (h : IsInHand out takes_srb stack v books rooms) (tag : ℕ) (v' : DeviceView) (f : Finishes v tag v')
-    (v'' : DeviceView) (books' : Books R) (starts : List DeviceLabel) where
+module _ (v : DeviceView) (books : Books) (h : IsInHand v books) (tag : ℕ) (v' : DeviceView) (f : Finishes v tag v')
+    (v'' : DeviceView) (books' : Books) (starts : List DeviceLabel) where
   abbrev returned : ℕ → List DeviceLabel
   returned number = Return number f.class ∷ starts
 
   pub finishes_above : All IsStart starts → IsTaking (class_rules v.rules) (above h.coupled.j) (returned f.piece.number) v''.state (knowns (class_rules v.rules) books') → MovesByAll v.adapter (returned f.piece.number) v''.adapter
-      → v''.rules ≡ v.rules → v''.most ≡ v.most → books'.last_request ≡ books.last_request → books'.submitted ≡ books.submitted → IsPermutation (map packet_above books'.opens) (map packet_above books.opens)
+      → v''.rules ≡ v.rules → v''.most ≡ v.most → books'.last_request ≡ books.last_request → books'.submitted ≡ books.submitted → IsPermutation (map packet_above books'.opens) (map packet_above books.opens) → books'.rooms ≡ books.rooms
       → Finishes (view_of v books) tag (view_of v'' books') × IsCoupled v'' books' × IsSound v''.state × AreCounted v''.rules v''.state
-  finishes_above only t adapter same_rules same_most same_last same_submitted same_packets =
+  finishes_above only t adapter same_rules same_most same_last same_submitted same_packets same_rooms =
       let rules : Rules = class_rules v.rules in
-      let q = map_there piece_on_tag (view_of v books).state.pieces (piece_on_tag f.piece) (Contains-permutation _ _ _ (same_tags out takes_srb stack v books rooms h tag) (Contains-map piece_on_tag v.state.pieces f.piece f.is_out)) in
+      let q = map_there piece_on_tag (view_of v books).state.pieces (piece_on_tag f.piece) (Contains-permutation _ _ _ (same_tags v books h tag) (Contains-map piece_on_tag v.state.pieces f.piece f.is_out)) in
       let number : q.0.number ≡ f.piece.number = ap (λ (x : OnTag). x.number) q.2 in
       let next_above : t.j.next_above ≡ books'.last_request + 1 = t.next_above ∙ h.coupled.next_above ∙ ap (λ n. n + 1) (sym same_last) in
       let shown : IsSame (above t.j) (view_of v'' books').state =
@@ -149,17 +150,18 @@ module _ {R : Type 0} (out : List R → Type 0) (takes_srb : Bool) (stack : ℕ)
           moves = record {
             same_rules = ap class_rules same_rules;
             same_packets = same_packets;
+            same_rooms = λ spot. ap (λ rooms. room_at rooms spot) same_rooms;
             same_submitted = same_submitted;
             same_most = ap most_over same_most;
             run = subst (λ n. Run rules (view_of v books).state (map as_label (returned n)) (view_of v'' books').state) (sym number)
-                (Run-same rules (map as_label (returned f.piece.number)) (above h.coupled.j) _ (above t.j) _ (shows out takes_srb stack v books rooms h) shown t.run);
+                (Run-same rules (map as_label (returned f.piece.number)) (above h.coupled.j) _ (above t.j) _ (shows v books h) shown t.run);
             adapter = subst (λ n. MovesByAll v.adapter (returned n) v''.adapter) (sym number) adapter;
           };
         },
         record {
           j = t.j;
           same = t.same;
-          knows = subst (λ r. IsPermutation (map known_of t.j.masters) (knowns (class_rules r) books')) (sym same_rules) t.knows;
+          knows = subst (λ r. IsPermutation (map known_of t.j.divided) (knowns (class_rules r) books')) (sym same_rules) t.knows;
           next_above = next_above;
           keeps = subst (λ r. Keeps (class_rules r) t.j) (sym same_rules) t.keeps;
         },
@@ -169,28 +171,27 @@ module _ {R : Type 0} (out : List R → Type 0) (takes_srb : Bool) (stack : ℕ)
 
 -- IN HAND AGAIN, where the layer below has nothing more that has ended
 
-packets_known : {R : Type 0} (rules : Rules) (es : List (ℕ × Opened R)) → map packet_number (map packet_above es) ≡ map (λ (k : Known). k.number) (map (known rules) (map opened es))
+packets_known : (rules : Rules) (es : List (ℕ × Opened)) → map packet_number (map packet_above es) ≡ map (λ (k : Known). k.number) (map (known rules) (map opened es))
 packets_known rules [] = refl
 packets_known rules (e ∷ es) = ap (λ ns. e.1.irp.number ∷ ns) (packets_known rules es)
 
 -- what the class driver itself owes of its table, rooms and parts
-pub record IsKeptInTable {R : Type 0} (out : List R → Type 0) (takes_srb : Bool) (stack : ℕ) (v : DeviceView) (books : Books R) (rooms : List (DiskRoom R)) : Type 0 where
-  pub takes : TakesParts takes_srb stack
+pub record IsKeptInTable (v : DeviceView) (books : Books) : Type 0 where
   pub port : IsPort v.rules
-  pub rooms_out : out (rooms_in rooms ++ rooms_kept (all_open books))
-  pub kept : AreKept (class_rules v.rules) books rooms
+  pub rooms_out : AllOut v (tickets books)
+  pub kept : AreKept (class_rules v.rules) books
   pub below : AreBelow v books
+  pub apart : IsApart books
 
-pub in_hand_again : {R : Type 0} (out : List R → Type 0) (takes_srb : Bool) (stack : ℕ) (v : DeviceView) (books : Books R) (rooms : List (DiskRoom R)) (v' : DeviceView) → IsKeptInTable out takes_srb stack v books rooms → IsCoupled v books → IsSound v.state
-    → AreCounted v.rules v.state → IsOrderly v → AreDistinct (view_of v books).state → HandsUpNone v v' → IsInHand out takes_srb stack v books rooms
-in_hand_again out takes_srb stack v books rooms v' own c sound counted ordered distinct none =
+pub in_hand_again : (v : DeviceView) (books : Books) (v' : DeviceView) → IsKeptInTable v books → IsCoupled v books → IsSound v.state
+    → AreCounted v.rules v.state → IsOrderly v → AreDistinct (view_of v books).state → HandsUpNone v v' → IsInHand v books
+in_hand_again v books v' own c sound counted ordered distinct none =
     let rules : Rules = class_rules v.rules in
     let ks : List Known = knowns rules books in
     let shown : IsSame (above c.j) (view_of v books).state = subst (λ n. IsSame (above c.j) (shown_state v.state n ks)) c.next_above (shown_is rules c.j v.state ks c.same sound.distinct c.keeps c.knows) in
-    let over_j : All (IsOver 17 c.j.removing) (map known_of c.j.masters) = subst (λ b. All (IsOver 17 b) (map known_of c.j.masters)) (sym c.same.removing) (All-permutation (IsOver 17 v.state.removing) _ _ (IsPermutation-sym _ _ c.knows) own.below.over) in
+    let over_j : All (IsOver 17 c.j.removing) (map known_of c.j.divided) = subst (λ b. All (IsOver 17 b) (map known_of c.j.divided)) (sym c.same.removing) (All-permutation (IsOver 17 v.state.removing) _ _ (IsPermutation-sym _ _ c.knows) own.below.over) in
     let packed : map packet_number (map packet_above books.opens) ≡ map request_number (view_of v books).state.requests = packets_known rules books.opens ∙ sym (numbers_known v.state ks) in
     record {
-      takes = own.takes;
       port = own.port;
       sound = sound;
       counted = counted;
@@ -204,9 +205,9 @@ in_hand_again out takes_srb stack v books rooms v' own c sound counted ordered d
           (AreDistinct-same (above c.j) (view_of v books).state shown distinct)
           (have_places rules c.j ks c.keeps c.knows own.below.some) over_j
           (view_of v books).state shown (view_of v books).packets (subst (λ ns. IsPermutation (map packet_number (map packet_above books.opens)) ns) packed (IsPermutation-refl _))
-          books.submitted (most_over v.most);
+          books.rooms own.apart.spots own.apart.vacant books.submitted (most_over v.most);
     }
 
 -- numbers stay distinct above
-pub distinct_behind : {R : Type 0} (v : DeviceView) (books : Books R) (tag : ℕ) (v' : DeviceView) (books' : Books R) → AreDistinct (view_of v books).state → Finishes (view_of v books) tag (view_of v' books') → AreDistinct (view_of v' books').state
+pub distinct_behind : (v : DeviceView) (books : Books) (tag : ℕ) (v' : DeviceView) (books' : Books) → AreDistinct (view_of v books).state → Finishes (view_of v books) tag (view_of v' books') → AreDistinct (view_of v' books').state
 distinct_behind v books tag v' books' distinct f = AreDistinct-Run (class_rules v.rules) (view_of v books).state (map as_label (Return f.piece.number f.class ∷ f.starts)) (view_of v' books').state distinct f.moves.run

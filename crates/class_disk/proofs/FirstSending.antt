@@ -14,10 +14,11 @@ use Rattle.machine.specs.Step.{Run, as_label}
 use Rattle.machine.proofs.Same.{IsSame-trans}
 use Rattle.machine.proofs.Permuting.{IsPermutation-uncons}
 use Rattle.machine.proofs.Counted.{AreCounted-Opens, AreCounted-Run}
-use Rattle.class_disk.specs.Joint.{Part, Below, Here, Note, Sent, Kept, Known, note_of, known_of, Master, Joint, IsPartOf, shown_mark, parts_requests, parts_marks, requests_of, pieces_of, lifted_pieces, shown, below, above, below_rules}
-use Rattle.class_disk.specs.Kept.{IsSound, IsMadeUp, AgreesOnCancel, IsAhead, begins_back, IsInPieces, Keeps, IsOver, HasSome}
+use Rattle.class_disk.specs.inside.Joint.{Part, Below, Here, Note, Sent, Kept, Known, note_of, known_of, Divided, Joint, IsPartOf, shown_mark, parts_requests, parts_marks, requests_of, pieces_of, lifted_pieces, shown, below, above}
+use Rattle.class_disk.specs.PortRules.{below_rules}
+use Rattle.class_disk.specs.inside.Kept.{IsSound, IsMadeUp, AgreesOnCancel, IsAhead, begins_back, IsInPieces, Keeps, IsOver, HasSome}
 use Rattle.class_disk.proofs.InPieces.{in_pieces_with}
-use Rattle.class_disk.specs.Midway.{IsTaking}
+use Rattle.class_disk.specs.inside.Midway.{IsTaking}
 use Rattle.class_disk.proofs.CoupledSteps.{in_requests, map_same}
 use Rattle.class_disk.proofs.CoupledRun.{keeps_permuted, Ran, run_coupled}
 use Rattle.class_disk.proofs.Showing.{gathered-permutation}
@@ -26,7 +27,7 @@ use Rattle.class_disk.proofs.Acting.{map_there, parts_long}
 use Rattle.class_disk.proofs.Orderly.{All-from_map}
 use Rattle.class_disk.proofs.Coupled.{marks-append}
 use Rattle.class_disk.proofs.Sending.{until_now, from_now, down_below, down_above, down_keeps}
-use Rattle.class_disk.proofs.Retaking.{known_at, split_masters, goes_on, ahead_of, sound_open}
+use Rattle.class_disk.proofs.Retaking.{known_at, split_divided, goes_on, ahead_of, sound_open}
 
 -- PLACES BY NOTES
 
@@ -65,32 +66,32 @@ split_kept (p ∷ parts) (x ∷ nf) marks busy nb e =
     let r = split_kept parts nf marks busy nb others in
     (p ∷ r.0, r.1, ap (λ zs. p ∷ zs) r.2, cc (first, r.3), r.4)
 
-known_as : (e : Master) (k : Known) (parts : List Part) (notes : List Note) → map note_of parts ≡ notes → e.number ≡ k.number → e.request ≡ k.request → e.cancelled ≡ k.cancelled
+known_as : (e : Divided) (k : Known) (parts : List Part) (notes : List Note) → map note_of parts ≡ notes → e.number ≡ k.number → e.request ≡ k.request → e.cancelled ≡ k.cancelled
     → known_of (record e { parts = parts }) ≡ record k { parts = notes }
 known_as e k parts notes a b c d = cc (a, b, c, d)
 
 -- THE SAME, IN ANOTHER ORDER
 
-pub permuted_below : (j : Joint) (ms : List Master) → IsPermutation j.masters ms → IsSame (below (record j { masters = ms })) (below j)
+pub permuted_below : (j : Joint) (ms : List Divided) → IsPermutation j.divided ms → IsSame (below (record j { divided = ms })) (below j)
 permuted_below j ms p = record {
   arrays = refl;
   next_request = refl;
   next_piece = refl;
-  requests = gathered-permutation requests_of ms j.masters (IsPermutation-sym _ _ p);
-  pieces = gathered-permutation pieces_of ms j.masters (IsPermutation-sym _ _ p);
+  requests = gathered-permutation requests_of ms j.divided (IsPermutation-sym _ _ p);
+  pieces = gathered-permutation pieces_of ms j.divided (IsPermutation-sym _ _ p);
   owed = refl;
   paused = refl;
   removing = refl;
   removed = refl;
 }
 
-pub permuted_above : (j : Joint) (ms : List Master) → IsPermutation j.masters ms → IsSame (above j) (above (record j { masters = ms }))
+pub permuted_above : (j : Joint) (ms : List Divided) → IsPermutation j.divided ms → IsSame (above j) (above (record j { divided = ms }))
 permuted_above j ms p = record {
   arrays = refl;
   next_request = refl;
   next_piece = refl;
   requests = IsPermutation-map shown _ _ p;
-  pieces = gathered-permutation lifted_pieces j.masters ms p;
+  pieces = gathered-permutation lifted_pieces j.divided ms p;
   owed = refl;
   paused = refl;
   removing = refl;
@@ -111,10 +112,10 @@ module _ (rules : Rules) (many : rules.one_piece ≡ false) (first : State) (lab
 
   pub sent_first : (starts : List DeviceLabel) (s' : State) → Run (below_rules rules) opened (map as_label starts) s' → IsTaking rules first (labels ++ starts) s' (known_at k front (Sent next 0) back ∷ others)
   sent_first starts s' run =
-      let m = map_there known_of t.j.masters this (Contains-permutation _ _ this (IsPermutation-sym _ _ t.knows) (0, omega arith, refl)) in
-      let e : Master = m.0 in
-      let sp = split_masters e t.j.masters m.1 in
-      let es : List Master = sp.0 ++ sp.1 in
+      let m = map_there known_of t.j.divided this (Contains-permutation _ _ this (IsPermutation-sym _ _ t.knows) (0, omega arith, refl)) in
+      let e : Divided = m.0 in
+      let sp = split_divided e t.j.divided m.1 in
+      let es : List Divided = sp.0 ++ sp.1 in
       let pt = split_kept e.parts front marks 0 back (ap (λ (x : Known). x.parts) m.2) in
       let pf : List Part = pt.0 in
       let pb : List Part = pt.1 in
@@ -122,17 +123,17 @@ module _ (rules : Rules) (many : rules.one_piece ≡ false) (first : State) (lab
       let shown_here : marks ≡ map (shown_mark 0) o.marks = sym (map_same (place_count rules q)) in
       let e_is : e ≡ record e { parts = pf ++ (Here (map (shown_mark 0) o.marks) 0 ∷ pb) } =
       ap (λ ps. record e { parts = ps }) (pt.2 ∙ ap (λ ms. pf ++ (Here ms 0 ∷ pb)) shown_here) in
-      let moved : IsPermutation t.j.masters (e ∷ es) = subst (λ ms. IsPermutation ms (e ∷ es)) (sym sp.2) (IsPermutation-middle sp.0 e sp.1) in
-      let masters_u : IsPermutation t.j.masters (record e { parts = pf ++ (Here (map (shown_mark 0) o.marks) 0 ∷ pb) } ∷ es) = subst (λ x. IsPermutation t.j.masters (x ∷ es)) e_is moved in
+      let moved : IsPermutation t.j.divided (e ∷ es) = subst (λ ms. IsPermutation ms (e ∷ es)) (sym sp.2) (IsPermutation-middle sp.0 e sp.1) in
+      let divided_u : IsPermutation t.j.divided (record e { parts = pf ++ (Here (map (shown_mark 0) o.marks) 0 ∷ pb) } ∷ es) = subst (λ x. IsPermutation t.j.divided (x ∷ es)) e_is moved in
       let u : Joint = until_now rules t.j e es pf pb o 0 (next + 1) in
       let n : Joint = from_now rules t.j e es pf pb o 0 (next + 1) in
-      let u_same : IsSame (below u) s = IsSame-trans _ _ _ (permuted_below t.j u.masters masters_u) t.same in
-      let u_shown : IsSame (above t.j) (above u) = permuted_above t.j u.masters masters_u in
-      let u_keeps : Keeps rules u = keeps_permuted rules t.j u.masters masters_u t.keeps in
+      let u_same : IsSame (below u) s = IsSame-trans _ _ _ (permuted_below t.j u.divided divided_u) t.same in
+      let u_shown : IsSame (above t.j) (above u) = permuted_above t.j u.divided divided_u in
+      let u_keeps : Keeps rules u = keeps_permuted rules t.j u.divided divided_u t.keeps in
       let n_same : IsSame (below n) opened = down_below rules t.j e es pf pb o 0 (next + 1) s opened u_same opens.after in
       let n_shown : IsSame (above u) (above n) = down_above rules t.j e es pf pb o 0 (next + 1) refl in
       let others_are : IsPermutation (map known_of es) others =
-      IsPermutation-uncons this _ _ (IsPermutation-trans _ _ _ (subst (λ x. IsPermutation (x ∷ map known_of es) (map known_of t.j.masters)) m.2 (IsPermutation-sym _ _ (IsPermutation-map known_of _ _ moved))) t.knows) in
+      IsPermutation-uncons this _ _ (IsPermutation-trans _ _ _ (subst (λ x. IsPermutation (x ∷ map known_of es) (map known_of t.j.divided)) m.2 (IsPermutation-sym _ _ (IsPermutation-map known_of _ _ moved))) t.knows) in
       let request_is : e.request ≡ k.request = ap (λ (x : Known). x.request) m.2 in
       let cancelled_is : e.cancelled ≡ k.cancelled = ap (λ (x : Known). x.cancelled) m.2 in
       let long = parts_long rules e.request 0 (pf ++ (Here (map (shown_mark 0) o.marks) 0 ∷ pb)) (All-head (IsMadeUp rules) _ es u_keeps.made_up) in
@@ -143,9 +144,9 @@ module _ (rules : Rules) (many : rules.one_piece ≡ false) (first : State) (lab
       let asked = ap (place_count rules) request_is in
       omega (arith, here_long, total, back_long, long, asked)) in
       let is_part : IsPartOf rules e.request (length (parts_marks pf)) o = subst (λ r. IsPartOf rules r (length (parts_marks pf)) o) (sym request_is) (part (length (parts_marks pf)) at) in
-      let given : (x : Master) → Contains es x → All (IsGiven next) (parts_requests x.parts) = λ x c i d low.
+      let given : (x : Divided) → Contains es x → All (IsGiven next) (parts_requests x.parts) = λ x c i d low.
       (let p : OpenRequest = get_or (parts_requests x.parts) i d in
-      let there : Contains s.requests p = Contains-permutation _ _ p u_same.requests (in_requests x p u.masters (suc c.0, let w = c.1 in omega arith, c.2) (Contains-get_or (parts_requests x.parts) i d low)) in
+      let there : Contains s.requests p = Contains-permutation _ _ p u_same.requests (in_requests x p u.divided (suc c.0, let w = c.1 in omega arith, c.2) (Contains-get_or (parts_requests x.parts) i d low)) in
       let before : p.number < s.next_request = All-contains (IsGiven s.next_request) s.requests p t.sound.distinct.given there in
       let new = opens.new_number in
       omega arith) in

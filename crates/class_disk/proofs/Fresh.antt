@@ -1,11 +1,11 @@
 -- A class driver of which nothing was asked yet.
-use Rattle.std.proofs.Common.{◌≡◌, ◌<◌, inl, inr, ℕ, Bool, false, List, [], ◌∷◌, ◌++◌, Some, None, refl, sym, subst, ap, ◌∙◌, arith, length, map}
+use Rattle.std.proofs.Common.{◌≡◌, ◌<◌, inl, inr, ℕ, false, List, [], ◌∷◌, Some, refl, sym, subst, ap, ◌∙◌, arith}
 use Rattle.std.proofs.lemmas.List.Elements.{All-nil}
 use Rattle.std.proofs.lemmas.List.Sorted.{IsPermutation-refl}
 use Rattle.sector.specs.declared.Extent.{Extent}
 use Rattle.machine.specs.Rules.{Rules, sectors_of}
-use Rattle.machine.specs.State.{OpenRequest, State, opening}
-use Rattle.machine.specs.Settled.{IsHeld, WaitsIfCancelled, Waits, IsAllSent, IsHeldBack, HasMore, IsAtWork}
+use Rattle.machine.specs.State.{State, opening}
+use Rattle.machine.specs.Settled.{IsHeld as IsPausedThere, WaitsIfCancelled, Waits, IsAllSent, IsHeldBack, HasMore, IsAtWork}
 use Rattle.machine.proofs.Counted.{AreCounted-opening}
 use Rattle.machine.proofs.Earned.{HaveEarned-opening}
 use Rattle.machine.proofs.Numbers.{AreDistinct-opening}
@@ -13,17 +13,18 @@ use Rattle.machine.proofs.OnePiece.{AreOnePiece-opening}
 use Rattle.machine.proofs.Placed.{ArePlaced-opening}
 use Rattle.machine.proofs.Same.{IsSame-refl}
 use Rattle.machine.specs.Numbers.{HasPlaces}
-use Rattle.device.specs.View.{DeviceView, Packet, IsOrderly, WaitsForTag, IsTopmost}
+use Rattle.device.specs.View.{DeviceView, Packet, IsOffRooms, IsOrderly, WaitsForTag, IsTopmost}
+use Rattle.std.specs.Prelude.{IsPermutation}
+use Rattle.device.specs.inside.Out.{IsGood, tickets_of}
 use Rattle.device.specs.Served.{IsUnfinished}
 use Rattle.class_disk.specs.declared.Sizes.{Sizes}
-use Rattle.class_disk.specs.Joint.{Known, Master}
-use Rattle.class_disk.specs.Kept.{IsMadeUp, AgreesOnCancel, IsInTurn, IsInPieces, IsOver, HasSome}
+use Rattle.class_disk.specs.inside.Kept.{IsMadeUp, AgreesOnCancel, IsInTurn, IsInPieces, IsOver, HasSome}
 use Rattle.class_disk.specs.Shown.{class_rules, IsPort, joint_of}
-use Rattle.class_disk.specs.Books.{Books, Opened}
-use Rattle.class_disk.specs.Turns.{empty_books}
-use Rattle.class_disk.specs.Blocks.{AreSizes}
-use Rattle.class_disk.specs.Driver.{TakesParts, IsInHand, IsRoom, IsOpen, HaveCauses, AreAsked, AreSpotted}
+use Rattle.class_disk.specs.inside.Books.{Books}
+use Rattle.class_disk.specs.inside.Turns.{empty_books}
+use Rattle.class_disk.specs.inside.Driver.{IsInHand, IsHeld, IsOpen, HaveCauses, AreAsked, AreSpotted}
 use Rattle.class_disk.specs.Opening.{IsFreshPort}
+use Rattle.class_disk.proofs.Owned.{apart_none}
 
 -- a fresh port, written out
 abbrev fresh : DeviceView → DeviceView
@@ -40,111 +41,115 @@ whole_disk : (rules : Rules) (partitions : List Extent) → partitions ≡ recor
     → sectors_of (record rules { partitions = partitions }) (Some 0) ≡ rules.disk_sectors
 whole_disk rules partitions is = ap (λ (ps : List Extent). sectors_of (record rules { partitions = ps }) (Some 0)) is
 
-module _ {R : Type 0} (out : List R → Type 0) (takes_srb : Bool) (stack_size : ℕ) where
-  hand_fresh : (v : DeviceView) (sizes : Sizes) (places : ℕ) → out [] → TakesParts takes_srb stack_size → IsPort v.rules → IsOrderly (fresh v)
-      → sizes.sector_size ≡ v.rules.sector_size → sizes.max_transfer ≡ v.rules.longest → sizes.disk_sectors ≡ sectors_of v.rules (Some 0)
-      → IsInHand out takes_srb stack_size (fresh v) (empty_books sizes places) []
-  hand_fresh v sizes places none takes port orderly size longest sectors =
-      let s : State = opening v.state.arrays in
-      let rules : Rules = class_rules v.rules in
-      let some_bytes : 0 < v.rules.sector_size = elim orderly.adapter.sector_size [
-        | inl e ↦ let same = orderly.read.same_size in omega arith
-        | inr e ↦ let same = orderly.read.same_size in omega arith
-      ] in
-      record {
-        takes = takes;
-        port = port;
-        sound = record {
-          distinct = AreDistinct-opening v.state.arrays;
-          placed = ArePlaced-opening v.state.arrays;
-          earned = HaveEarned-opening v.state.arrays;
-          whole = AreOnePiece-opening v.state.arrays;
+hand_fresh : (v : DeviceView) (sizes : Sizes) (places : ℕ) → v.rooms ≡ [] → IsPort v.rules → IsOrderly (fresh v)
+    → sizes.sector_size ≡ v.rules.sector_size → sizes.max_transfer ≡ v.rules.longest → sizes.disk_sectors ≡ sectors_of v.rules (Some 0)
+    → IsInHand (fresh v) (empty_books sizes places)
+hand_fresh v sizes places none port orderly size longest sectors =
+    let s : State = opening v.state.arrays in
+    let rules : Rules = class_rules v.rules in
+    let some_bytes : 0 < v.rules.sector_size = elim orderly.adapter.sector_size [
+      | inl e ↦ let same = orderly.read.same_size in omega arith
+      | inr e ↦ let same = orderly.read.same_size in omega arith
+    ] in
+    record {
+      port = port;
+      sound = record {
+        distinct = AreDistinct-opening v.state.arrays;
+        placed = ArePlaced-opening v.state.arrays;
+        earned = HaveEarned-opening v.state.arrays;
+        whole = AreOnePiece-opening v.state.arrays;
+      };
+      counted = AreCounted-opening v.rules v.state.arrays;
+      coupled = record {
+        j = joint_of s 1 [];
+        same = IsSame-refl s;
+        knows = IsPermutation-refl [];
+        next_above = refl;
+        keeps = record {
+          made_up = All-nil (IsMadeUp rules);
+          agree = All-nil AgreesOnCancel;
+          in_turn = All-nil (IsInTurn s.removing []);
+          in_pieces = All-nil (IsInPieces rules);
         };
-        counted = AreCounted-opening v.rules v.state.arrays;
-        coupled = record {
-          j = joint_of s 1 [];
-          same = IsSame-refl s;
-          knows = IsPermutation-refl [];
-          next_above = refl;
-          keeps = record {
-            made_up = All-nil (IsMadeUp rules);
-            agree = All-nil AgreesOnCancel;
-            in_turn = All-nil (IsInTurn s.removing []);
-            in_pieces = All-nil (IsInPieces rules);
+      };
+      rooms_out = record {
+        orderly = orderly;
+        good = All-nil (IsGood (fresh v));
+        apart = apart_none;
+        all = subst (λ rs. IsPermutation (tickets_of rs) []) (sym none) (IsPermutation-refl []);
+      };
+      unfinished = All-nil (IsUnfinished v.rules s);
+      settled = record {
+        none_owed = refl;
+        idle = λ _. All-nil IsPausedThere;
+        idle_unpaused = λ _ _. refl;
+        cancelled = All-nil WaitsIfCancelled;
+        removing = λ _. All-nil Waits;
+        sent = λ _ _. All-nil (IsAllSent v.rules);
+        released = λ _ _. All-nil (IsHeldBack v.rules s);
+        alive = All-nil HasMore;
+        at_work = λ _. All-nil IsAtWork;
+        within_window = orderly.sending.within_window;
+      };
+      kept = record {
+        sizes = record {
+          sector_size = size;
+          max_transfer = longest ∙ ap (λ (r : Rules). r.longest) port.below;
+          whole = record {
+            as_many = sym (sectors ∙ whole_disk v.rules v.rules.partitions port.one_disk);
+            one_disk = port.one_disk;
+            some_bytes = some_bytes;
           };
         };
-        rooms_out = none;
-        unfinished = All-nil (IsUnfinished v.rules s);
-        settled = record {
-          none_owed = refl;
-          idle = λ _. All-nil IsHeld;
-          idle_unpaused = λ _ _. refl;
-          cancelled = All-nil WaitsIfCancelled;
-          removing = λ _. All-nil Waits;
-          sent = λ _ _. All-nil (IsAllSent v.rules);
-          released = λ _ _. All-nil (IsHeldBack v.rules s);
-          alive = All-nil HasMore;
-          at_work = λ _. All-nil IsAtWork;
+        in_hand = All-nil (IsHeld rules []);
+        opens = All-nil (IsOpen rules []);
+        ended = IsPermutation-refl [];
+        places = omega arith;
+        causes = All-nil (HaveCauses rules false);
+        budget = omega arith;
+      };
+      below = record {
+        removing = refl;
+        next_number = omega arith;
+        sent = omega arith;
+        submitted = omega arith;
+        asked = All-nil (AreAsked rules s.requests);
+        spotted = All-nil (AreSpotted []);
+        topmost = All-nil IsTopmost;
+        some = All-nil (HasSome rules);
+        over = All-nil (IsOver 17 false);
+      };
+      orderly = record {
+        adapter = orderly.adapter;
+        read = record {
+          same_size = orderly.read.same_size;
+          same_sectors = orderly.read.same_sectors;
+          same_depth = orderly.read.same_depth;
+          arrays = orderly.read.arrays;
+          pieces = orderly.read.pieces;
+        };
+        distinct = AreDistinct-opening v.state.arrays;
+        places = All-nil HasPlaces;
+        packets = IsPermutation-refl [];
+        spots = apart_none;
+        vacant = All-nil (IsOffRooms []);
+        sending = record {
+          sent = λ _ _. All-nil (IsAllSent rules);
+          released = λ _ _. All-nil (WaitsForTag rules s);
           within_window = orderly.sending.within_window;
         };
-        kept = record {
-          sizes = record {
-            sector_size = size;
-            max_transfer = longest ∙ ap (λ (r : Rules). r.longest) port.below;
-            whole = record {
-              as_many = sym (sectors ∙ whole_disk v.rules v.rules.partitions port.one_disk);
-              one_disk = port.one_disk;
-              some_bytes = some_bytes;
-            };
-          };
-          in_hand = All-nil (IsRoom rules);
-          opens = All-nil (IsOpen rules);
-          vacant = IsPermutation-refl [];
-          ended = IsPermutation-refl [];
-          places = omega arith;
-          causes = All-nil (HaveCauses rules false);
-          budget = omega arith;
-        };
-        below = record {
-          removing = refl;
-          next_number = omega arith;
-          sent = omega arith;
-          submitted = omega arith;
-          asked = All-nil (AreAsked rules s.requests);
-          spotted = All-nil (AreSpotted []);
-          topmost = All-nil IsTopmost;
-          some = All-nil (HasSome rules);
-          over = All-nil (IsOver 17 false);
-        };
-        orderly = record {
-          adapter = orderly.adapter;
-          read = record {
-            same_size = orderly.read.same_size;
-            same_sectors = orderly.read.same_sectors;
-            same_depth = orderly.read.same_depth;
-            arrays = orderly.read.arrays;
-            pieces = orderly.read.pieces;
-          };
-          distinct = AreDistinct-opening v.state.arrays;
-          places = All-nil HasPlaces;
-          packets = IsPermutation-refl [];
-          sending = record {
-            sent = λ _ _. All-nil (IsAllSent rules);
-            released = λ _ _. All-nil (WaitsForTag rules s);
-            within_window = orderly.sending.within_window;
-          };
-          labels = orderly.labels;
-          uncounted = orderly.uncounted;
-          none_owed = refl;
-          not_removed = refl;
-        };
-      }
+        labels = orderly.labels;
+        uncounted = orderly.uncounted;
+        none_owed = refl;
+        not_removed = refl;
+      };
+    }
 
-  pub opens_in_hand : (v : DeviceView) (sizes : Sizes) (places : ℕ) (b : Books R) → IsFreshPort out v → TakesParts takes_srb stack_size → IsOrderly v → b ≡ empty_books sizes places
-      → sizes.sector_size ≡ v.rules.sector_size → sizes.max_transfer ≡ v.rules.longest → sizes.disk_sectors ≡ sectors_of v.rules (Some 0)
-      → IsInHand out takes_srb stack_size v b []
-  opens_in_hand v sizes places b f takes orderly empty size longest sectors =
-      let v_is : v ≡ fresh v = fresh_is v f.state f.packets f.submitted in
-      subst (λ (x : Books R). IsInHand out takes_srb stack_size v x []) (sym empty)
-      (subst (λ (x : DeviceView). IsInHand out takes_srb stack_size x (empty_books sizes places) []) (sym v_is)
-      (hand_fresh v sizes places f.rooms takes f.port (subst IsOrderly v_is orderly) size longest sectors))
+pub opens_in_hand : (v : DeviceView) (sizes : Sizes) (places : ℕ) (b : Books) → IsFreshPort v → IsOrderly v → b ≡ empty_books sizes places
+    → sizes.sector_size ≡ v.rules.sector_size → sizes.max_transfer ≡ v.rules.longest → sizes.disk_sectors ≡ sectors_of v.rules (Some 0)
+    → IsInHand v b
+opens_in_hand v sizes places b f orderly empty size longest sectors =
+    let v_is : v ≡ fresh v = fresh_is v f.state f.packets f.submitted in
+    subst (λ (x : Books). IsInHand v x) (sym empty)
+    (subst (λ (x : DeviceView). IsInHand x (empty_books sizes places)) (sym v_is)
+    (hand_fresh v sizes places f.rooms f.port (subst IsOrderly v_is orderly) size longest sectors))

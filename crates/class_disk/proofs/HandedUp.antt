@@ -1,5 +1,6 @@
 -- What goes up with a request that has ended: its bytes, its status and its packet.
-use Rattle.std.proofs.Common.{◌≡◌, ◌≢◌, ◌<◌, inl, inr, ℕ, ◌*◌, Bool, true, false, List, [], ◌∷◌, refl, sym, ◌∙◌, ap, subst, arith, map, length, drop}
+use Rattle.class_disk.specs.declared.requests.Places.{Places}
+use Rattle.std.proofs.Common.{◌≡◌, ◌≢◌, ◌<◌, inl, inr, ℕ, ◌*◌, Bool, true, false, List, [], ◌∷◌, Option, Some, None, refl, sym, ◌∙◌, ap, subst, arith, map, length, drop}
 use Rattle.std.specs.Prelude.{IsPermutation, All, if◌then◌else◌}
 use Rattle.std.specs.List.{concat}
 use Rattle.std.proofs.lemmas.Bool.{cases_Bool}
@@ -8,10 +9,11 @@ use Rattle.std.proofs.lemmas.List.Elements.{All-nil, All-head, Contains-get_or}
 use Rattle.std.proofs.lemmas.List.Sorted.{All-permutation}
 use Rattle.ntstatus.specs.declared.NtStatus.{NtStatus}
 use Rattle.ntstatus.specs.declared.NtStatus.TheVariants.{Success}
-use Rattle.irp.specs.declared.Climb.{Climb}
+use Rattle.device.specs.declared.climbing.Climb.{Climb}
 use Rattle.irp.specs.declared.Payload.{Payload}
 use Rattle.irp.specs.declared.Payload.TheVariants.{Buffer, Srb as Packed, Sent as AtAdapter}
-use Rattle.irp.specs.Climb.{Climbs, above as locations_above}
+use Rattle.device.specs.Climbing.{Climbs}
+use Rattle.irp.specs.Climb.{above as locations_above}
 use Rattle.adapter.proofs.Joining.{reserves_none}
 use Rattle.srb.specs.declared.Kind.{Kind}
 use Rattle.srb.specs.declared.Kind.TheVariants.{Read, Write, Flush}
@@ -22,17 +24,16 @@ use Rattle.machine.specs.State.{Mark, Done}
 use Rattle.machine.specs.Sending.{IsStart}
 use Rattle.machine.specs.Answering.{answer_bytes, bytes_of_mark, information}
 use Rattle.machine.proofs.Same.{IsSame-refl}
-use Rattle.device.specs.View.{DeviceView, Carries, IsOrderly, payload_bytes, sent_bytes}
-use Rattle.device.specs.Served.{HandsUp, cut, sectors_moved}
+use Rattle.device.specs.View.{DeviceView, Reserved, Carries, IsOrderly, payload_bytes, sent_bytes}
+use Rattle.device.specs.Served.{SetsRoom, HandsUp, cut, sectors_moved}
 use Rattle.class_disk.specs.declared.parts.Part.{Part}
-use Rattle.class_disk.specs.declared.requests.DiskRoom.{DiskRoom}
-use Rattle.class_disk.specs.Blocks.{part_count_of}
-use Rattle.class_disk.specs.Parts.{lowest_status, joined_of}
-use Rattle.class_disk.specs.Books.{Opened, Books}
-use Rattle.class_disk.specs.Turns.{payload_up, Completes}
-use Rattle.class_disk.specs.Joint.{Known, parts_marks}
-use Rattle.class_disk.specs.Kept.{IsMadeUp, noted_busy}
-use Rattle.class_disk.specs.Driver.{view_of, note, packet_above, IsInHand, IsOpen}
+use Rattle.class_disk.specs.inside.Blocks.{part_count_of}
+use Rattle.class_disk.specs.inside.Parts.{lowest_status, joined_of}
+use Rattle.class_disk.specs.inside.Books.{Opened, Books, Held}
+use Rattle.class_disk.specs.inside.Turns.{payload_up, Completes}
+use Rattle.class_disk.specs.inside.Joint.{Known, parts_marks}
+use Rattle.class_disk.specs.inside.Kept.{IsMadeUp, noted_busy}
+use Rattle.class_disk.specs.inside.Driver.{view_of, note, packet_above, IsInHand, IsOpen}
 use Rattle.class_disk.proofs.Acting.{parts_long}
 use Rattle.class_disk.proofs.EndedParts.{marks_noted, IsGoodPart, all_good}
 use Rattle.class_disk.proofs.EndedBytes.{whole_places, places_in, places_marked, read_marks, flush_marks, write_marks, write_request, IsInRow, joined_long, concat_cut, all_done_are}
@@ -52,50 +53,49 @@ none_carried rules r (Packed srb) kind h = absurd h
 none_carried rules r (Buffer bytes) kind h = no_items bytes (h ∙ ap (λ k. if is_transfer k then r.extent.count * rules.sector_size else 0) kind)
 none_carried rules r AtAdapter kind h = absurd h
 
-module _ {R : Type 0} where
-  bytes_joined : (rules : Rules) (r : Request) (payload : Payload) (parts : List (Part R)) → Carries false rules r payload → payload_bytes (payload_up true payload parts) ≡ joined_of parts
-  bytes_joined rules r (Packed srb) parts h = absurd h
-  bytes_joined rules r (Buffer bytes) parts h = refl
-  bytes_joined rules r AtAdapter parts h = absurd h
+bytes_joined : (rules : Rules) (r : Request) (payload : Payload) (parts : List Part) → Carries false rules r payload → payload_bytes (payload_up true payload parts) ≡ joined_of parts
+bytes_joined rules r (Packed srb) parts h = absurd h
+bytes_joined rules r (Buffer bytes) parts h = refl
+bytes_joined rules r AtAdapter parts h = absurd h
 
-  sent_same : (kind : Kind) (joins : Bool) (payload : Payload) (parts : List (Part R)) → (joins ≡ true → kind ≡ Read) → sent_bytes kind (payload_up joins payload parts) ≡ sent_bytes kind payload
-  sent_same Read joins payload parts h = refl
-  sent_same Flush joins payload parts h = refl
-  sent_same Write false payload parts h = refl
-  sent_same Write true payload parts h = absurd (cc (h refl))
+sent_same : (kind : Kind) (joins : Bool) (payload : Payload) (parts : List Part) → (joins ≡ true → kind ≡ Read) → sent_bytes kind (payload_up joins payload parts) ≡ sent_bytes kind payload
+sent_same Read joins payload parts h = refl
+sent_same Flush joins payload parts h = refl
+sent_same Write false payload parts h = refl
+sent_same Write true payload parts h = absurd (cc (h refl))
 
-  carries_up : (rules : Rules) (r : Request) (joins : Bool) (payload : Payload) (parts : List (Part R)) → joins ≡ false → Carries false rules r payload → Carries false rules r (payload_up joins payload parts)
-  carries_up rules r false payload parts is h = h
-  carries_up rules r true payload parts is h = absurd (cc (is))
+carries_up : (rules : Rules) (r : Request) (joins : Bool) (payload : Payload) (parts : List Part) → joins ≡ false → Carries false rules r payload → Carries false rules r (payload_up joins payload parts)
+carries_up rules r false payload parts is h = h
+carries_up rules r true payload parts is h = absurd (cc (is))
 
-  bytes_kept : (joins : Bool) (payload : Payload) (parts : List (Part R)) → joins ≡ false → payload_bytes (payload_up joins payload parts) ≡ payload_bytes payload
-  bytes_kept false payload parts is = refl
-  bytes_kept true payload parts is = absurd (cc (is))
+bytes_kept : (joins : Bool) (payload : Payload) (parts : List Part) → joins ≡ false → payload_bytes (payload_up joins payload parts) ≡ payload_bytes payload
+bytes_kept false payload parts is = refl
+bytes_kept true payload parts is = absurd (cc (is))
 
-module _ {R : Type 0} (out : List R → Type 0) (takes : Bool) (stack : ℕ) (v : DeviceView) (b : Books R) (rooms : List (DiskRoom R)) (h : IsInHand out takes stack v b rooms) (ordered : IsOrderly v)
-    (slot : ℕ) (o : Opened R) (opens' : List (ℕ × Opened R)) (vacant' ended' : List ℕ) (is_in : IsPermutation b.opens ((slot, o) ∷ opens')) (over : o.unfinished ≡ 0) where
+module _ (v : DeviceView) (b : Books) (h : IsInHand v b) (ordered : IsOrderly v)
+    (slot : ℕ) (o : Opened) (opens' : List (ℕ × Opened)) (ended' : List ℕ) (is_in : IsPermutation b.opens ((slot, o) ∷ opens')) (over : o.unfinished ≡ 0) where
   abbrev own_rules : Rules
-  own_rules = rules out takes stack v b rooms h ordered slot o opens' vacant' ended' is_in over
+  own_rules = rules v b h ordered slot o opens' ended' is_in over
 
-  own_open : IsOpen own_rules (slot, o)
-  own_open = is_open out takes stack v b rooms h ordered slot o opens' vacant' ended' is_in over
+  own_open : IsOpen own_rules b.owners (slot, o)
+  own_open = is_open v b h ordered slot o opens' ended' is_in over
 
   -- where it succeeds, each part did
   pub good : lowest_status o.parts ≡ Success → All IsGoodPart o.parts
   good succeeds =
-      all_good o.irp.cancelled b.removing (noted_busy (map (note own_rules) o.parts)) o.parts (ended out takes stack v b rooms h ordered slot o opens' vacant' ended' is_in over)
-      (causes out takes stack v b rooms h ordered slot o opens' vacant' ended' is_in over) succeeds
+      all_good o.irp.cancelled b.removing (noted_busy (map (note own_rules) o.parts)) o.parts (ended v b h ordered slot o opens' ended' is_in over)
+      (causes v b h ordered slot o opens' ended' is_in over) succeeds
 
   pub size : 0 < own_rules.sector_size
-  size = some_bytes out takes stack v b rooms h ordered slot o opens' vacant' ended' is_in over
+  size = some_bytes v b h ordered slot o opens' ended' is_in over
 
   -- its parts have all its places
   pub all_places : All IsGoodPart o.parts → places_in own_rules o.parts ≡ place_count own_rules (as_client own_rules o.request [])
   all_places all =
-      let m = All-head (IsMadeUp own_rules) _ _ (All-permutation (IsMadeUp own_rules) _ _ (first_of_all out takes stack v b rooms h ordered slot o opens' vacant' ended' is_in over) h.coupled.keeps.made_up) in
-      let l = parts_long own_rules (e out takes stack v b rooms h ordered slot o opens' vacant' ended' is_in over).request 0 (e out takes stack v b rooms h ordered slot o opens' vacant' ended' is_in over).parts m in
-      let marks = ap length (marks_are out takes stack v b rooms h ordered slot o opens' vacant' ended' is_in over) in
-      let q = ap (λ (k : Known). place_count own_rules k.request) (known_is out takes stack v b rooms h ordered slot o opens' vacant' ended' is_in over) in
+      let m = All-head (IsMadeUp own_rules) _ _ (All-permutation (IsMadeUp own_rules) _ _ (first_of_all v b h ordered slot o opens' ended' is_in over) h.coupled.keeps.made_up) in
+      let l = parts_long own_rules (e v b h ordered slot o opens' ended' is_in over).request 0 (e v b h ordered slot o opens' ended' is_in over).parts m in
+      let marks = ap length (marks_are v b h ordered slot o opens' ended' is_in over) in
+      let q = ap (λ (k : Known). place_count own_rules k.request) (known_is v b h ordered slot o opens' ended' is_in over) in
       let n = places_marked own_rules o.parts all in
       omega (arith, l, marks, q, n)
 
@@ -103,14 +103,14 @@ module _ {R : Type 0} (out : List R → Type 0) (takes : Bool) (stack : ℕ) (v 
   pub fits : o.request.kind ≡ Read → lowest_status o.parts ≡ Success → length (joined_of o.parts) ≡ o.request.extent.count * own_rules.sector_size
   fits kind succeeds =
       let all = good succeeds in
-      joined_long own_rules size o.parts all (subst (λ k. All (λ (part : Part R). part.request.kind ≡ k) o.parts) kind (parts_kind own_rules own_rules.max_transfer o.request o.parts own_open.cut.parts_are)) own_open.buffered
+      joined_long own_rules size o.parts all (subst (λ k. All (λ (part : Part). part.request.kind ≡ k) o.parts) kind (parts_kind own_rules own_rules.max_transfer o.request o.parts own_open.cut.parts_are)) own_open.buffered
       ∙ ap (λ n. n * own_rules.sector_size) (all_places all ∙ (whole_places own_rules o.request size (ap is_transfer kind)).0)
 
   abbrev moved_marks : List ℕ → List Mark
   moved_marks bytes = map Done (cut (place_count own_rules (as_client own_rules o.request [])) own_rules.sector_size bytes)
 
-  kinds : (kind : Kind) → o.request.kind ≡ kind → All (λ (part : Part R). part.request.kind ≡ kind) o.parts
-  kinds kind is = subst (λ k. All (λ (part : Part R). part.request.kind ≡ k) o.parts) is (parts_kind own_rules own_rules.max_transfer o.request o.parts own_open.cut.parts_are)
+  kinds : (kind : Kind) → o.request.kind ≡ kind → All (λ (part : Part). part.request.kind ≡ kind) o.parts
+  kinds kind is = subst (λ k. All (λ (part : Part). part.request.kind ≡ k) o.parts) is (parts_kind own_rules own_rules.max_transfer o.request o.parts own_open.cut.parts_are)
 
   marks_by : (kind : Kind) → o.request.kind ≡ kind → lowest_status o.parts ≡ Success → (bytes : List ℕ) → (kind ≡ Read → bytes ≡ joined_of o.parts) → (kind ≢ Read → bytes ≡ payload_bytes o.irp.payload)
       → marks_noted (map (note own_rules) o.parts) ≡ moved_marks bytes
@@ -129,7 +129,7 @@ module _ {R : Type 0} (out : List R → Type 0) (takes : Bool) (stack : ℕ) (v 
         is_write = is;
         some = λ k low.
             let own = write_request limit o.request k is in
-            let s = (bounded_part out takes stack v b rooms h ordered slot o opens' vacant' ended' is_in over k low).some (ap (λ (q : Request). is_transfer q.kind) own ∙ ap is_transfer is) in
+            let s = (bounded_part v b h ordered slot o opens' ended' is_in over k low).some (ap (λ (q : Request). is_transfer q.kind) own ∙ ap is_transfer is) in
             let c = ap (λ (q : Request). q.extent.count) own in omega (arith, s, c);
       } in
       let none : 0 * limit * own_rules.sector_size ≡ 0 = omega arith in
@@ -138,7 +138,12 @@ module _ {R : Type 0} (out : List R → Type 0) (takes : Bool) (stack : ℕ) (v 
       ∙ ap (λ n. map Done (cut n own_rules.sector_size (payload_bytes o.irp.payload))) (all_places all)
       ∙ ap moved_marks (sym (other (λ x. cc (x))))
 
-  module _ (climb : Climb) (room : DiskRoom R) (c : Completes b.sizes slot o climb room) where
+  module _ (climb : Climb) (places : Places) (c : Completes b.sizes o climb places) (held' : List Held) (rooms' : List (Option Reserved))
+      (sets : SetsRoom b.rooms slot None (Some (record { request = o.request; whole = false })) rooms') where
+    -- the table, with what it leaves behind
+    abbrev pub left_now : Books
+    left_now = record (b' v b h ordered slot o opens' ended' is_in over) { held = held'; rooms = rooms' }
+
     abbrev payload : Payload
     payload = payload_up c.joins o.irp.payload o.parts
 
@@ -152,17 +157,17 @@ module _ {R : Type 0} (out : List R → Type 0) (takes : Bool) (stack : ℕ) (v 
       | inr kept ↦ bytes_kept c.joins o.irp.payload o.parts kept
     ]
 
-    moved_up : lowest_status o.parts ≡ Success → parts_marks (e out takes stack v b rooms h ordered slot o opens' vacant' ended' is_in over).parts ≡ map Done (sectors_moved own_rules o.request payload)
+    moved_up : lowest_status o.parts ≡ Success → parts_marks (e v b h ordered slot o opens' ended' is_in over).parts ≡ map Done (sectors_moved own_rules o.request payload)
     moved_up succeeds =
-        marks_are out takes stack v b rooms h ordered slot o opens' vacant' ended' is_in over
+        marks_are v b h ordered slot o opens' ended' is_in over
         ∙ marks_by o.request.kind refl succeeds (payload_bytes payload) (λ kind. read_bytes kind succeeds) other_bytes
 
     abbrev bytes : List ℕ
-    bytes = bytes_up out takes stack v b rooms h ordered slot o opens' vacant' ended' is_in over
+    bytes = bytes_up v b h ordered slot o opens' ended' is_in over
 
-    request_up : (e out takes stack v b rooms h ordered slot o opens' vacant' ended' is_in over).request ≡ as_client own_rules o.request (sent_bytes o.request.kind payload)
+    request_up : (e v b h ordered slot o opens' ended' is_in over).request ≡ as_client own_rules o.request (sent_bytes o.request.kind payload)
     request_up =
-        ap (λ (k : Known). k.request) (known_is out takes stack v b rooms h ordered slot o opens' vacant' ended' is_in over)
+        ap (λ (k : Known). k.request) (known_is v b h ordered slot o opens' ended' is_in over)
         ∙ ap (as_client own_rules o.request) (sym (sent_same o.request.kind c.joins o.irp.payload o.parts (λ is. (c.joins_if is).0)))
 
     brought : o.request.kind ≡ Read → lowest_status o.parts ≡ Success → bytes ≡ joined_of o.parts
@@ -172,23 +177,28 @@ module _ {R : Type 0} (out : List R → Type 0) (takes : Bool) (stack : ℕ) (v 
         let w = whole_places own_rules o.request size (ap is_transfer kind) in
         let long : length (joined_of o.parts) ≡ n * own_rules.sector_size = fits kind succeeds ∙ ap (λ k. k * own_rules.sector_size) (sym w.0) in
         let marks = m ∙ ap (λ xs. map Done (cut n own_rules.sector_size xs)) (read_bytes kind succeeds) in
-        ap (λ (q : ClientRequest). answer_bytes q.kind (parts_marks (e out takes stack v b rooms h ordered slot o opens' vacant' ended' is_in over).parts)) request_up
-        ∙ ap (λ k. answer_bytes k (parts_marks (e out takes stack v b rooms h ordered slot o opens' vacant' ended' is_in over).parts)) kind
+        ap (λ (q : ClientRequest). answer_bytes q.kind (parts_marks (e v b h ordered slot o opens' ended' is_in over).parts)) request_up
+        ∙ ap (λ k. answer_bytes k (parts_marks (e v b h ordered slot o opens' ended' is_in over).parts)) kind
         ∙ ap (answer_bytes Read) marks
         ∙ ap (λ all. if all then concat (map bytes_of_mark (map Done (cut n own_rules.sector_size (joined_of o.parts)))) else []) (all_done_are (cut n own_rules.sector_size (joined_of o.parts)))
         ∙ concat_cut n own_rules.sector_size (joined_of o.parts) long
 
-    handed : HandsUp false (view_of v b) o.request climb (view_of v (b' out takes stack v b rooms h ordered slot o opens' vacant' ended' is_in over))
-    handed = record {
+    pub handed_up : HandsUp false (view_of v b) climb slot (view_of v left_now)
+    handed_up = record {
+      request = o.request;
+      is_spot = refl;
+      whole = false;
+      is_whole = λ takes. takes;
+      room = sets;
       packet = packet_above (slot, o);
       others = map packet_above opens';
       payload = payload;
       status = lowest_status o.parts;
       bytes = bytes;
-      answered = (view_of v (b' out takes stack v b rooms h ordered slot o opens' vacant' ended' is_in over)).state;
+      answered = (view_of v (b' v b h ordered slot o opens' ended' is_in over)).state;
       starts = [];
       is_in = IsPermutation-map packet_above _ _ is_in;
-      answers = answers_up out takes stack v b rooms h ordered slot o opens' vacant' ended' is_in over;
+      answers = answers_up v b h ordered slot o opens' ended' is_in over;
       is_request = request_up;
       moved = moved_up;
       busy = λ one back. absurd (cc (one));
@@ -205,6 +215,7 @@ module _ {R : Type 0} (out : List R → Type 0) (takes : Bool) (stack : ℕ) (v 
       moves = record {
         same_rules = refl;
         same_packets = IsPermutation-refl _;
+        same_rooms = λ spot. refl;
         same_submitted = refl;
         same_most = refl;
         run = IsSame-refl _;
@@ -217,15 +228,12 @@ module _ {R : Type 0} (out : List R → Type 0) (takes : Bool) (stack : ℕ) (v 
         none_brought : o.request.kind ≡ Flush → payload_bytes payload ≡ []
         none_brought kind = other_bytes (λ is. cc (kind, is)) ∙ none_carried own_rules o.request o.irp.payload kind own_open.carries
 
-        climbs_up : Climbs (locations_above o.irp) o.irp.number (e out takes stack v b rooms h ordered slot o opens' vacant' ended' is_in over).cancelled (lowest_status o.parts)
-            (information (e out takes stack v b rooms h ordered slot o opens' vacant' ended' is_in over).request (lowest_status o.parts)) payload climb
+        climbs_up : Climbs (locations_above o.irp) o.irp.number (e v b h ordered slot o opens' ended' is_in over).cancelled (lowest_status o.parts)
+            (information (e v b h ordered slot o opens' ended' is_in over).request (lowest_status o.parts)) payload climb
         climbs_up =
-            let same = known_is out takes stack v b rooms h ordered slot o opens' vacant' ended' is_in over in
+            let same = known_is v b h ordered slot o opens' ended' is_in over in
             let told = c.informs own_rules (sym h.kept.sizes.sector_size)
             ∙ info_same own_rules o.request [] (sent_bytes o.request.kind o.irp.payload) (lowest_status o.parts)
             ∙ ap (λ (k : Known). information k.request (lowest_status o.parts)) (sym same) in
-            subst (λ n. Climbs (locations_above o.irp) o.irp.number (e out takes stack v b rooms h ordered slot o opens' vacant' ended' is_in over).cancelled (lowest_status o.parts) n payload climb) told
+            subst (λ n. Climbs (locations_above o.irp) o.irp.number (e v b h ordered slot o opens' ended' is_in over).cancelled (lowest_status o.parts) n payload climb) told
             (subst (λ x. Climbs (locations_above o.irp) o.irp.number x (lowest_status o.parts) c.informed payload climb) (ap (λ (k : Known). k.cancelled) (sym same)) c.climbs)
-
-    pub handed_up : HandsUp false (view_of v b) room.request climb (view_of v (b' out takes stack v b rooms h ordered slot o opens' vacant' ended' is_in over))
-    handed_up = subst (λ r. HandsUp false (view_of v b) r climb (view_of v (b' out takes stack v b rooms h ordered slot o opens' vacant' ended' is_in over))) (sym c.request) handed

@@ -1,30 +1,27 @@
 -- A request that has ended goes up: the machine that the class driver shows answers it.
-use Rattle.std.proofs.Common.{◌≡◌, ◌≢◌, ◌<◌, ◌≤◌, ◌⊎◌, inl, inr, ℕ, zero, suc, ◌+◌, ◌*◌, ◌/◌, Bool, true, false, List, [], ◌∷◌, ◌++◌, Some, None, refl, sym, ◌∙◌, ap, subst, arith, map, length}
-use Rattle.std.specs.Prelude.{IsPermutation, All, Contains, IsTrue, IsFalse, if◌then◌else◌, ◌↔◌}
-use Rattle.std.specs.List.{list_all, concat, range_with_len}
+use Rattle.std.proofs.Common.{◌≡◌, ◌<◌, inl, inr, ℕ, zero, suc, ◌+◌, ◌*◌, ◌/◌, Bool, List, [], ◌∷◌, ◌++◌, refl, sym, ◌∙◌, ap, subst, arith, map}
+use Rattle.std.specs.Prelude.{IsPermutation, All, Contains, IsTrue, if◌then◌else◌, ◌↔◌}
+use Rattle.std.specs.List.{list_all, range_with_len}
 use Rattle.std.proofs.lemmas.Bool.{cases_Bool}
-use Rattle.std.proofs.lemmas.List.Sorted.{IsPermutation-refl, IsPermutation-sym, IsPermutation-trans, IsPermutation-middle, IsPermutation-map, All-permutation, Contains-permutation}
+use Rattle.std.proofs.lemmas.List.Sorted.{IsPermutation-sym, IsPermutation-trans, IsPermutation-middle, IsPermutation-map, All-permutation, Contains-permutation}
 use Rattle.std.proofs.lemmas.List.Elements.{All-nil, All-cons, All-head, All-tail, All-weaker}
 use Rattle.ntstatus.specs.declared.NtStatus.{NtStatus}
 use Rattle.ntstatus.specs.declared.NtStatus.TheVariants.{Success}
-use Rattle.srb.specs.declared.Kind.{Kind}
-use Rattle.srb.specs.declared.Kind.TheVariants.{Read, Write, Flush}
 use Rattle.machine.specs.declared.Request.{Request}
 use Rattle.machine.specs.Rules.{Rules, place_count, as_client, is_transfer}
-use Rattle.machine.specs.State.{Mark, OpenRequest, State, IsSame}
+use Rattle.machine.specs.State.{IsSame}
 use Rattle.machine.specs.Answering.{HasEnded, HasCause, Answers, answer_bytes, is_done}
 use Rattle.machine.proofs.Same.{IsSame-sym, IsSame-trans}
 use Rattle.machine.proofs.Permuting.{IsPermutation-uncons}
 use Rattle.device.specs.View.{DeviceView, IsBounded, IsOrderly}
 use Rattle.class_disk.specs.declared.parts.Part.{Part}
-use Rattle.class_disk.specs.declared.requests.DiskRoom.{DiskRoom}
-use Rattle.class_disk.specs.Blocks.{part_count_of, part_request_of, requests_for}
-use Rattle.class_disk.specs.Parts.{lowest_status}
-use Rattle.class_disk.specs.Books.{Opened, Books, all_open, opened}
-use Rattle.class_disk.specs.Joint.{note_of, Known, known_of, Master, Joint, parts_marks, parts_busy, lifted_pieces, requests_below, pieces_below, pieces_above, shown, below, above}
-use Rattle.class_disk.specs.Kept.{IsMadeUp, AgreesOnCancel, IsAhead, AreBehind, IsInTurn, IsInPieces, Keeps, IsOver, noted_busy}
+use Rattle.class_disk.specs.inside.Blocks.{part_count_of, part_request_of, requests_for}
+use Rattle.class_disk.specs.inside.Parts.{lowest_status}
+use Rattle.class_disk.specs.inside.Books.{Opened, Books, opened}
+use Rattle.class_disk.specs.inside.Joint.{note_of, Known, known_of, Divided, Joint, parts_marks, parts_busy, lifted_pieces, requests_below, pieces_below, pieces_above, shown, below, above}
+use Rattle.class_disk.specs.inside.Kept.{IsMadeUp, AgreesOnCancel, IsAhead, AreBehind, IsInTurn, IsInPieces, Keeps, IsOver, noted_busy}
 use Rattle.class_disk.specs.Shown.{class_rules, shown_state}
-use Rattle.class_disk.specs.Driver.{known, knowns, view_of, note, places_of, request_of_part, IsOpen, HaveCauses, IsInHand}
+use Rattle.class_disk.specs.inside.Driver.{known, knowns, view_of, note, request_of_part, IsOpen, HaveCauses, IsInHand}
 use Rattle.class_disk.proofs.Focus.{below_first}
 use Rattle.class_disk.proofs.Showing.{shown_is, gathered-permutation}
 use Rattle.class_disk.proofs.Orderly.{over_here}
@@ -43,43 +40,42 @@ some_place rules q size some = elim (cases_Bool (is_transfer q.kind)) [
   | inr rests ↦ let e : place_count rules (as_client rules q []) ≡ 1 = ap (λ b. if b then q.extent.count * rules.sector_size / rules.sector_size else 1) rests in omega (arith, e)
 ]
 
-module _ {R : Type 0} where
-  parts_from : (P : Request → Type 0) (limit : ℕ) (r : Request) (total : ℕ) → ((k : ℕ) → k < total → P (part_request_of limit r k)) → (first n : ℕ) → first + n ≡ total → (parts : List (Part R))
-      → map request_of_part parts ≡ map (part_request_of limit r) (range_with_len first n) → All (λ (part : Part R). P part.request) parts
-  parts_from P limit r total each first n all [] same = All-nil (λ (part : Part R). P part.request)
-  parts_from P limit r total each first zero all (part ∷ parts) same = absurd (cc (same))
-  parts_from P limit r total each first (suc n) all (part ∷ parts) same =
-      All-cons (λ (x : Part R). P x.request) part parts (subst P (sym (heads same)) (each first (omega arith)))
-      (parts_from P limit r total each (first + 1) n (omega arith) parts (tails same))
-    where
-      heads : {X : Type 0} {x y : X} {xs ys : List X} → x ∷ xs ≡ y ∷ ys → x ≡ y
-      heads {X} {x} {y} {xs} {ys} e = cc (e)
+parts_from : (P : Request → Type 0) (limit : ℕ) (r : Request) (total : ℕ) → ((k : ℕ) → k < total → P (part_request_of limit r k)) → (first n : ℕ) → first + n ≡ total → (parts : List Part)
+    → map request_of_part parts ≡ map (part_request_of limit r) (range_with_len first n) → All (λ (part : Part). P part.request) parts
+parts_from P limit r total each first n all [] same = All-nil (λ (part : Part). P part.request)
+parts_from P limit r total each first zero all (part ∷ parts) same = absurd (cc (same))
+parts_from P limit r total each first (suc n) all (part ∷ parts) same =
+    All-cons (λ (x : Part). P x.request) part parts (subst P (sym (heads same)) (each first (omega arith)))
+    (parts_from P limit r total each (first + 1) n (omega arith) parts (tails same))
+  where
+    heads : {X : Type 0} {x y : X} {xs ys : List X} → x ∷ xs ≡ y ∷ ys → x ≡ y
+    heads {X} {x} {y} {xs} {ys} e = cc (e)
 
-      tails : {X : Type 0} {x y : X} {xs ys : List X} → x ∷ xs ≡ y ∷ ys → xs ≡ ys
-      tails {X} {x} {y} {xs} {ys} e = cc (e)
+    tails : {X : Type 0} {x y : X} {xs ys : List X} → x ∷ xs ≡ y ∷ ys → xs ≡ ys
+    tails {X} {x} {y} {xs} {ys} e = cc (e)
 
-  -- each part is of the kind of its request
-  pub parts_kind : (rules : Rules) (limit : ℕ) (r : Request) (parts : List (Part R)) → map request_of_part parts ≡ requests_for limit r → All (IsOfKind rules r.kind) parts
-  parts_kind rules limit r parts same = parts_from (λ q. q.kind ≡ r.kind) limit r (part_count_of limit r) (λ k low. part_kind limit r k) 0 (part_count_of limit r) (omega arith) parts same
+-- each part is of the kind of its request
+pub parts_kind : (rules : Rules) (limit : ℕ) (r : Request) (parts : List Part) → map request_of_part parts ≡ requests_for limit r → All (IsOfKind rules r.kind) parts
+parts_kind rules limit r parts same = parts_from (λ q. q.kind ≡ r.kind) limit r (part_count_of limit r) (λ k low. part_kind limit r k) 0 (part_count_of limit r) (omega arith) parts same
 
--- THE MASTER OF AN OPEN REQUEST
+-- AN OPEN REQUEST, DIVIDED
 
-pub split_known : (es : List Master) (k : Known) → Contains (map known_of es) k → (front : List Master) × (e : Master) × (back : List Master) × (es ≡ front ++ (e ∷ back)) × (known_of e ≡ k)
+pub split_known : (es : List Divided) (k : Known) → Contains (map known_of es) k → (front : List Divided) × (e : Divided) × (back : List Divided) × (es ≡ front ++ (e ∷ back)) × (known_of e ≡ k)
 split_known [] k c = absurd (let w = c.1 in omega arith)
 split_known (e ∷ es) k (zero, low, is) = ([], e, es, refl, is)
 split_known (e ∷ es) k (suc n, low, is) = let r = split_known es k (n, omega arith, is) in (e ∷ r.0, r.1, r.2, ap (λ zs. e ∷ zs) r.3, r.4)
 
-module _ {R : Type 0} (out : List R → Type 0) (takes : Bool) (stack : ℕ) (v : DeviceView) (b : Books R) (rooms : List (DiskRoom R)) (h : IsInHand out takes stack v b rooms) (ordered : IsOrderly v)
-    (slot : ℕ) (o : Opened R) (opens' : List (ℕ × Opened R)) (vacant' ended' : List ℕ) (is_in : IsPermutation b.opens ((slot, o) ∷ opens')) (over : o.unfinished ≡ 0) where
+module _ (v : DeviceView) (b : Books) (h : IsInHand v b) (ordered : IsOrderly v)
+    (slot : ℕ) (o : Opened) (opens' : List (ℕ × Opened)) (ended' : List ℕ) (is_in : IsPermutation b.opens ((slot, o) ∷ opens')) (over : o.unfinished ≡ 0) where
   abbrev pub rules : Rules
   rules = class_rules v.rules
 
   -- the table without it
-  abbrev pub b' : Books R
-  b' = record b { opens = opens'; vacant = vacant'; ended = ended' }
+  abbrev pub b' : Books
+  b' = record b { opens = opens'; ended = ended' }
 
-  pub is_open : IsOpen rules (slot, o)
-  is_open = All-head (IsOpen rules) (slot, o) opens' (All-permutation (IsOpen rules) _ _ is_in h.kept.opens)
+  pub is_open : IsOpen rules b.owners (slot, o)
+  is_open = All-head (IsOpen rules b.owners) (slot, o) opens' (All-permutation (IsOpen rules b.owners) _ _ is_in h.kept.opens)
 
   pub causes : HaveCauses rules b.removing (slot, o)
   causes = All-head (HaveCauses rules b.removing) (slot, o) opens' (All-permutation (HaveCauses rules b.removing) _ _ is_in h.kept.causes)
@@ -103,28 +99,28 @@ module _ {R : Type 0} (out : List R → Type 0) (takes : Bool) (stack : ℕ) (v 
       parts_from (λ q. 0 < place_count rules (as_client rules q [])) rules.max_transfer o.request (part_count_of rules.max_transfer o.request)
       (λ k low. some_place rules (part_request_of rules.max_transfer o.request k) some_bytes (bounded_part k low).some) 0 (part_count_of rules.max_transfer o.request) (omega arith) o.parts is_open.cut.parts_are
 
-  pub knows_first : IsPermutation (map known_of h.coupled.j.masters) (known rules o ∷ knowns rules b')
+  pub knows_first : IsPermutation (map known_of h.coupled.j.divided) (known rules o ∷ knowns rules b')
   knows_first = IsPermutation-trans _ _ _ h.coupled.knows (IsPermutation-map (known rules) _ _ (IsPermutation-map opened _ _ is_in))
 
-  abbrev pub at_it : (front : List Master) × (e : Master) × (back : List Master) × (h.coupled.j.masters ≡ front ++ (e ∷ back)) × (known_of e ≡ known rules o)
-  at_it = split_known h.coupled.j.masters (known rules o) (Contains-permutation _ _ _ (IsPermutation-sym _ _ knows_first) (0, omega arith, refl))
+  abbrev pub at_it : (front : List Divided) × (e : Divided) × (back : List Divided) × (h.coupled.j.divided ≡ front ++ (e ∷ back)) × (known_of e ≡ known rules o)
+  at_it = split_known h.coupled.j.divided (known rules o) (Contains-permutation _ _ _ (IsPermutation-sym _ _ knows_first) (0, omega arith, refl))
 
-  abbrev pub e : Master
+  abbrev pub e : Divided
   e = at_it.1
 
-  abbrev pub es : List Master
+  abbrev pub es : List Divided
   es = at_it.0 ++ at_it.2
 
   pub known_is : known_of e ≡ known rules o
   known_is = at_it.4
 
   abbrev pub j1 : Joint
-  j1 = record h.coupled.j { masters = e ∷ es }
+  j1 = record h.coupled.j { divided = e ∷ es }
 
   abbrev pub j' : Joint
-  j' = record h.coupled.j { masters = es }
+  j' = record h.coupled.j { divided = es }
 
-  pub first_of_all : IsPermutation h.coupled.j.masters (e ∷ es)
+  pub first_of_all : IsPermutation h.coupled.j.divided (e ∷ es)
   first_of_all = subst (λ ms. IsPermutation ms (e ∷ es)) (sym at_it.3) (IsPermutation-middle at_it.0 e at_it.2)
 
   pub notes : map note_of e.parts ≡ map (note rules) o.parts
@@ -148,7 +144,7 @@ module _ {R : Type 0} (out : List R → Type 0) (takes : Bool) (stack : ℕ) (v 
   same_others =
       let c : IsSame (below j1) v.state =
       IsSame-trans _ _ _ (IsSame-sym _ _ (below_first h.coupled.j at_it.0 e at_it.2))
-      (subst (λ ms. IsSame (below (record h.coupled.j { masters = ms })) v.state) at_it.3 h.coupled.same) in
+      (subst (λ ms. IsSame (below (record h.coupled.j { divided = ms })) v.state) at_it.3 h.coupled.same) in
       record {
         arrays = c.arrays;
         next_request = c.next_request;
@@ -161,19 +157,19 @@ module _ {R : Type 0} (out : List R → Type 0) (takes : Bool) (stack : ℕ) (v 
         removed = c.removed;
       }
 
-  fewer : (P : Master → Type 0) → All P h.coupled.j.masters → All P es
+  fewer : (P : Divided → Type 0) → All P h.coupled.j.divided → All P es
   fewer P all = All-tail P e es (All-permutation P _ _ first_of_all all)
 
   pub keeps_others : Keeps rules j'
   keeps_others =
       let removing : Bool = h.coupled.j.removing in
-      let masters : List Master = h.coupled.j.masters in
+      let divided : List Divided = h.coupled.j.divided in
       record {
         made_up = fewer (IsMadeUp rules) h.coupled.keeps.made_up;
         agree = fewer AgreesOnCancel h.coupled.keeps.agree;
-        in_turn = All-weaker (IsInTurn removing masters) (IsInTurn removing es)
-            (λ x. All-weaker (AreBehind removing masters x.number) (AreBehind removing es x.number) (λ n. fewer (IsAhead removing x.number n)) _) es
-            (fewer (IsInTurn removing masters) h.coupled.keeps.in_turn);
+        in_turn = All-weaker (IsInTurn removing divided) (IsInTurn removing es)
+            (λ x. All-weaker (AreBehind removing divided x.number) (AreBehind removing es x.number) (λ n. fewer (IsAhead removing x.number n)) _) es
+            (fewer (IsInTurn removing divided) h.coupled.keeps.in_turn);
         in_pieces = fewer (IsInPieces rules) h.coupled.keeps.in_pieces;
       }
 
@@ -210,16 +206,16 @@ module _ {R : Type 0} (out : List R → Type 0) (takes : Bool) (stack : ℕ) (v 
 
   pub same_pieces_up : IsPermutation (view_of v b').state.pieces (view_of v b).state.pieces
   same_pieces_up =
-      let a : IsPermutation (pieces_above h.coupled.j.masters) (pieces_above es) =
-      subst (λ zs. IsPermutation (pieces_above h.coupled.j.masters) (zs ++ pieces_above es)) (kept_lifted e.number 0 e.parts all_kept) (gathered-permutation lifted_pieces _ _ first_of_all) in
-      IsPermutation-trans _ _ _ (IsPermutation-sym _ _ shown_others.pieces) (IsPermutation-trans _ _ _ (IsPermutation-sym _ _ a) (shows out takes stack v b rooms h).pieces)
+      let a : IsPermutation (pieces_above h.coupled.j.divided) (pieces_above es) =
+      subst (λ zs. IsPermutation (pieces_above h.coupled.j.divided) (zs ++ pieces_above es)) (kept_lifted e.number 0 e.parts all_kept) (gathered-permutation lifted_pieces _ _ first_of_all) in
+      IsPermutation-trans _ _ _ (IsPermutation-sym _ _ shown_others.pieces) (IsPermutation-trans _ _ _ (IsPermutation-sym _ _ a) (shows v b h).pieces)
 
   -- its request is answered
   abbrev pub answers_up : Answers rules (view_of v b).state o.irp.number status bytes_up (view_of v b').state
   answers_up = record {
     request = shown e;
     others = map shown es;
-    is_open = IsPermutation-trans _ _ _ (IsPermutation-sym _ _ (shows out takes stack v b rooms h).requests) (IsPermutation-map shown _ _ first_of_all);
+    is_open = IsPermutation-trans _ _ _ (IsPermutation-sym _ _ (shows v b h).requests) (IsPermutation-map shown _ _ first_of_all);
     is_number = ap (λ (k : Known). k.number) known_is;
     ended = all_ended;
     success = success;

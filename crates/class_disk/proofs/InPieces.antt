@@ -12,8 +12,8 @@ use Rattle.machine.specs.Rules.{Rules}
 use Rattle.machine.specs.State.{Mark, Untouched, Out, Done, Failed, Back, OpenRequest, Piece}
 use Rattle.machine.specs.Cutting.{mark_at, piece_count, count_below, pieces_with, is_back, restarts_left}
 use Rattle.machine.specs.Sending.{IsSendable, IsWholeRequest, LeavesMarks, is_untouched, sent, given_back, one_if_busy}
-use Rattle.class_disk.specs.Joint.{Part, Below, Here, Master, shown_mark, parts_marks, parts_busy, shown}
-use Rattle.class_disk.specs.Kept.{places_in, AreCut, one_if_back, begins_back, parts_back, IsInPieces}
+use Rattle.class_disk.specs.inside.Joint.{Part, Below, Here, Divided, shown_mark, parts_marks, parts_busy, shown}
+use Rattle.class_disk.specs.inside.Kept.{places_in, AreCut, one_if_back, begins_back, parts_back, IsInPieces}
 use Rattle.class_disk.proofs.Coupled.{marks-append, busy-append}
 
 -- THE MARKS OF ONE PART
@@ -199,7 +199,7 @@ shown_one_more (p ∷ front) part back waits =
 
 -- ONE PART CHANGES
 
-module _ (rules : Rules) (e : Master) (front back : List Part) (part part' : Part) (long : places_in part' ≡ places_in part) where
+module _ (rules : Rules) (e : Divided) (front back : List Part) (part part' : Part) (long : places_in part' ≡ places_in part) where
   pub cut_with : AreCut rules.max_transfer (map places_in (front ++ (part ∷ back))) → AreCut rules.max_transfer (map places_in (front ++ (part' ∷ back)))
   cut_with h =
       subst (AreCut rules.max_transfer)
@@ -260,7 +260,7 @@ shown_waits (suc n) o pieces some fresh back =
     let own : begins_back o.marks ≡ 0 = ap one_if_back fresh in
     omega (arith, shown_now, own)
 
-module _ (rules : Rules) (e : Master) (front back : List Part) (o : OpenRequest) (again : ℕ) (pieces : List Piece) (places : Extent) (h : IsInPieces rules (record e { parts = front ++ (Below o again pieces ∷ back) })) (b : BeginsWhole o places) where
+module _ (rules : Rules) (e : Divided) (front back : List Part) (o : OpenRequest) (again : ℕ) (pieces : List Piece) (places : Extent) (h : IsInPieces rules (record e { parts = front ++ (Below o again pieces ∷ back) })) (b : BeginsWhole o places) where
   abbrev all : List Part
   all = front ++ (Below o again pieces ∷ back)
 

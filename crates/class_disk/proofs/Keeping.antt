@@ -11,12 +11,12 @@ use Rattle.machine.specs.Rules.{Rules, first_sector}
 use Rattle.machine.specs.State.{Mark, Untouched, Out, Done, Failed, Back, OpenRequest, Piece, with_marks}
 use Rattle.machine.specs.Numbers.{request_number}
 use Rattle.machine.specs.Sending.{is_started, is_untouched}
-use Rattle.class_disk.specs.Joint.{Part, Below, Here, Master, Joint, IsPartOf, parts_requests, parts_marks, shown}
-use Rattle.class_disk.specs.Kept.{IsOwnedBy, AreParts, IsMadeUp, IsCancelledAs, AgreesOnCancel, HasPartBefore, IsAhead, AreBehind, IsInTurn, begins_back, IsInPieces, Keeps}
+use Rattle.class_disk.specs.inside.Joint.{Part, Below, Here, Divided, Joint, IsPartOf, parts_requests, parts_marks, shown}
+use Rattle.class_disk.specs.inside.Kept.{IsOwnedBy, AreParts, IsMadeUp, IsCancelledAs, AgreesOnCancel, HasPartBefore, IsAhead, AreBehind, IsInTurn, begins_back, IsInPieces, Keeps}
 use Rattle.class_disk.proofs.Coupled.{requests-append, marks-append}
 use Rattle.class_disk.proofs.InPieces.{in_pieces_with}
 use Rattle.class_disk.proofs.CoupledMarks.{started_part, all_of_append}
-use Rattle.class_disk.proofs.CoupledSteps.{master_with}
+use Rattle.class_disk.proofs.CoupledSteps.{divided_with}
 
 -- the same asked for, as many places, and no restart used up
 pub record IsAlikePart (o o' : OpenRequest) : Type 0 where
@@ -89,20 +89,20 @@ there o again ps front back =
 -- TURNS
 
 -- a request after a step: no more cancelled, started where it was, and each part that waits still there unless it is started
-pub record Follows (removing : Bool) (x x' : Master) : Type 0 where
+pub record Follows (removing : Bool) (x x' : Divided) : Type 0 where
   pub number : x'.number ≡ x.number
   pub timely : IsFalse x'.cancelled → IsFalse x.cancelled
   pub started : IsTrue (is_started (shown x)) → IsTrue (is_started (shown x'))
   pub parts : IsFalse removing → (n : ℕ) → HasPartBefore n x → IsTrue (is_started (shown x')) ⊎ HasPartBefore n x'
 
-ahead_follows : (removing : Bool) (n m : ℕ) (x x' : Master) → Follows removing x x' → IsAhead removing n m x → IsAhead removing n m x'
+ahead_follows : (removing : Bool) (n m : ℕ) (x x' : Divided) → Follows removing x x' → IsAhead removing n m x → IsAhead removing n m x'
 ahead_follows removing n m x x' f h staying lower timely = then (h staying (let e = f.number in omega arith) (f.timely timely))
   where
     then : IsTrue (is_started (shown x)) ⊎ HasPartBefore m x → IsTrue (is_started (shown x')) ⊎ HasPartBefore m x'
     then (inl started) = inl (f.started started)
     then (inr has) = f.parts staying m has
 
-module _ (removing : Bool) (es : List Master) (x x' : Master) (f : Follows removing x x') where
+module _ (removing : Bool) (es : List Divided) (x x' : Divided) (f : Follows removing x x') where
   pub behind_follows : (n m : ℕ) → AreBehind removing (x ∷ es) n m → AreBehind removing (x' ∷ es) n m
   behind_follows n m all = All-cons (IsAhead removing n m) x' es (ahead_follows removing n m x x' f (All-head (IsAhead removing n m) x es all)) (All-tail (IsAhead removing n m) x es all)
 
@@ -122,12 +122,12 @@ module _ (removing : Bool) (es : List Master) (x x' : Master) (f : Follows remov
 
 -- THE WHOLE COUPLING, AFTER A STEP AT ONE PART
 
-module _ (rules : Rules) (j : Joint) (e : Master) (es : List Master) (front back : List Part) (o o' : OpenRequest) (again : ℕ) (ps ps' : List Piece) (alike : IsAlikePart o o') where
-  abbrev pub before_it : Master
-  before_it = master_with e front back o again ps
+module _ (rules : Rules) (j : Joint) (e : Divided) (es : List Divided) (front back : List Part) (o o' : OpenRequest) (again : ℕ) (ps ps' : List Piece) (alike : IsAlikePart o o') where
+  abbrev pub before_it : Divided
+  before_it = divided_with e front back o again ps
 
-  abbrev pub after_it : Master
-  after_it = master_with e front back o' again ps'
+  abbrev pub after_it : Divided
+  after_it = divided_with e front back o' again ps'
 
   -- the part is started now
   pub follows_started : IsTrue (is_started o') → Follows j.removing before_it after_it
@@ -135,7 +135,7 @@ module _ (rules : Rules) (j : Joint) (e : Master) (es : List Master) (front back
       let now : IsTrue (is_started (shown after_it)) = started_part after_it o' (there o' again ps' front back) started in
       record { number = refl; timely = λ h. h; started = λ _. now; parts = λ staying n has. inl now }
 
-  pub keeps_with : (arrays : List (List (List ℕ))) (next : ℕ) → All (IsOwnedBy o'.number) ps' → Follows j.removing before_it after_it → Keeps rules (record j { masters = before_it ∷ es }) → Keeps rules (record j { arrays = arrays; next_piece = next; masters = after_it ∷ es })
+  pub keeps_with : (arrays : List (List (List ℕ))) (next : ℕ) → All (IsOwnedBy o'.number) ps' → Follows j.removing before_it after_it → Keeps rules (record j { divided = before_it ∷ es }) → Keeps rules (record j { arrays = arrays; next_piece = next; divided = after_it ∷ es })
   keeps_with arrays next owned f k = record {
     made_up = All-cons (IsMadeUp rules) after_it es
         (parts_with rules e.request o o' again ps ps' back alike owned 0 front (All-head (IsMadeUp rules) before_it es k.made_up))
@@ -148,7 +148,7 @@ module _ (rules : Rules) (j : Joint) (e : Master) (es : List Master) (front back
   }
 
 -- only the pieces of the part changed
-pub follows_same : (removing : Bool) (e : Master) (front back : List Part) (o : OpenRequest) (again : ℕ) (ps ps' : List Piece) → Follows removing (master_with e front back o again ps) (master_with e front back o again ps')
+pub follows_same : (removing : Bool) (e : Divided) (front back : List Part) (o : OpenRequest) (again : ℕ) (ps ps' : List Piece) → Follows removing (divided_with e front back o again ps) (divided_with e front back o again ps')
 follows_same removing e front back o again ps ps' =
     let same : parts_requests (front ++ (Below o again ps ∷ back)) ≡ parts_requests (front ++ (Below o again ps' ∷ back)) = requests-append front (Below o again ps ∷ back) ∙ sym (requests-append front (Below o again ps' ∷ back)) in
     let marks : parts_marks (front ++ (Below o again ps ∷ back)) ≡ parts_marks (front ++ (Below o again ps' ∷ back)) = marks-append front (Below o again ps ∷ back) ∙ sym (marks-append front (Below o again ps' ∷ back)) in

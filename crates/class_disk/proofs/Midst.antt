@@ -1,5 +1,5 @@
 -- In the midst of a cancellation: its parts below are cancelled one by one.
-use Rattle.std.proofs.Common.{◌≡◌, ◌⊎◌, inl, inr, ℕ, ◌+◌, true, false, List, [], ◌∷◌, ◌++◌, Option, None, refl, sym, ◌∙◌, ap, subst, map, append_assoc}
+use Rattle.std.proofs.Common.{◌≡◌, ◌⊎◌, inl, inr, ℕ, true, false, List, [], ◌∷◌, ◌++◌, Option, None, refl, sym, ◌∙◌, ap, subst, map, append_assoc}
 use Rattle.std.specs.Prelude.{IsPermutation, All, Any, IsTrue, IsFalse}
 use Rattle.std.proofs.lemmas.List.Sorted.{IsPermutation-sym, IsPermutation-trans, IsPermutation-cons, All-permutation, Contains-permutation}
 use Rattle.std.proofs.lemmas.List.Elements.{All-head, All-tail}
@@ -23,13 +23,13 @@ use Rattle.device.specs.Served.{CancelsIfOpen, CancelsAt, NoneToCancel, IsBeside
 use Rattle.class_disk.specs.declared.parts.Part.{Part as DriverPart}
 use Rattle.class_disk.specs.declared.parts.Progress.{Progress}
 use Rattle.class_disk.specs.declared.parts.Progress.TheVariants.{Ready, Below as SentBelow, Ended as HasEnded}
-use Rattle.class_disk.specs.Joint.{Part, Below, Here, Sent, Kept, note_of, Master, Joint, parts_requests, requests_below, pieces_below, below}
-use Rattle.class_disk.specs.Kept.{IsSound, IsCancelledAs, EndsUnsent}
-use Rattle.class_disk.specs.Parts.{below_by}
-use Rattle.class_disk.specs.Driver.{note, note_by, AsksUnder, IsSpotted, IsSpottedBy}
-use Rattle.class_disk.specs.Midway.{CancelsBelow, CancelsAll, packet_of_part}
+use Rattle.class_disk.specs.inside.Joint.{Part, Below, Here, Sent, Kept, note_of, Divided, Joint, parts_requests, requests_below, pieces_below, below}
+use Rattle.class_disk.specs.inside.Kept.{IsSound, IsCancelledAs, EndsUnsent}
+use Rattle.class_disk.specs.inside.Parts.{below_by}
+use Rattle.class_disk.specs.inside.Driver.{note, note_by, AsksUnder, IsSpotted, IsSpottedBy}
+use Rattle.class_disk.specs.inside.Midway.{CancelsBelow, CancelsAll, packet_of_part}
 use Rattle.class_disk.proofs.Coupled.{pieces-append}
-use Rattle.class_disk.proofs.CoupledSteps.{master_with, changed_below, request_first}
+use Rattle.class_disk.proofs.CoupledSteps.{divided_with, changed_below, request_first}
 use Rattle.class_disk.proofs.Ending.{unsent_cancels}
 
 -- WHAT CANCELLATIONS BELOW KEEP
@@ -64,6 +64,7 @@ beside_then : (a b c : DeviceView) → IsBeside a b → IsBeside b c → IsBesid
 beside_then a b c x y = record {
   same_rules = y.same_rules ∙ x.same_rules;
   same_packets = IsPermutation-trans _ _ _ y.same_packets x.same_packets;
+  same_rooms = λ spot. y.same_rooms spot ∙ x.same_rooms spot;
   same_submitted = y.same_submitted ∙ x.same_submitted;
   same_most = y.same_most ∙ x.same_most;
   same_adapter = y.same_adapter ∙ x.same_adapter;
@@ -86,10 +87,10 @@ abbrev pub cancelled_part : Part → Part
 cancelled_part (Below o again ps) = Below (as_cancelled o) again ps
 cancelled_part (Here marks busy) = Here marks busy
 
-module _ (j : Joint) (e : Master) (es : List Master) where
+module _ (j : Joint) (e : Divided) (es : List Divided) where
   -- both machines with these parts of the request
   abbrev pub joint_with : List Part → Joint
-  joint_with ps = record j { masters = record e { parts = ps } ∷ es }
+  joint_with ps = record j { divided = record e { parts = ps } ∷ es }
 
   -- one part is cancelled
   one_cancelled : (front back : List Part) (o : OpenRequest) (again : ℕ) (ps : List Piece) (v v' : DeviceView) → IsSame (below (joint_with (front ++ (Below o again ps ∷ back)))) v.state → AreDistinct v.state → IsFalse o.cancelled
@@ -102,14 +103,14 @@ module _ (j : Joint) (e : Master) (es : List Master) where
       there : IsPermutation v.state.requests (o ∷ others)
       there = IsPermutation-trans _ _ _ (IsPermutation-sym _ _ same.requests) (request_first e es front back o again ps)
 
-      pieces : pieces_below (master_with e front back o again ps ∷ es) ≡ pieces_below (master_with e front back (as_cancelled o) again ps ∷ es)
+      pieces : pieces_below (divided_with e front back o again ps ∷ es) ≡ pieces_below (divided_with e front back (as_cancelled o) again ps ∷ es)
       pieces = ap (λ zs. zs ++ pieces_below es) (pieces-append front (Below o again ps ∷ back) ∙ sym (pieces-append front (Below (as_cancelled o) again ps ∷ back)))
 
       by : (Cancels v.state o.number v'.state × IsBeside v v') ⊎ (NoneToCancel v.state o.number × (v' ≡ v)) → IsSame (below (joint_with (front ++ (Below (as_cancelled o) again ps ∷ back)))) v'.state × Cancels v.state o.number v'.state × IsBeside v v'
       by (inr (none, is)) = absurd (none (record v.state { requests = as_cancelled o ∷ others }) (record { request = o; others = others; is_open = there; is_number = refl; not_yet = timely; after = IsSame-refl _ }))
       by (inl (c, beside)) =
           let u = first_unique request_number v.state.requests o c.request others c.others distinct.requests there c.is_open c.is_number in
-          let changed : IsPermutation (as_cancelled o ∷ others) (requests_below (master_with e front back (as_cancelled o) again ps ∷ es)) =
+          let changed : IsPermutation (as_cancelled o ∷ others) (requests_below (divided_with e front back (as_cancelled o) again ps ∷ es)) =
           changed_below e es front back o (as_cancelled o) again ps ps others (request_first e es front back o again ps) in
           let a = c.after in
           let now : IsPermutation (as_cancelled o ∷ others) v'.state.requests =
@@ -133,22 +134,22 @@ front_more : (front : List Part) (p : Part) (ps : List Part) → front ++ (p ∷
 front_more front p ps = sym (append_assoc front (p ∷ []) ps)
 
 -- what all of them leave
-pub record AllCancelled (j : Joint) (e : Master) (es : List Master) (front ps : List Part) (v v' : DeviceView) : Type 0 where
+pub record AllCancelled (j : Joint) (e : Divided) (es : List Divided) (front ps : List Part) (v v' : DeviceView) : Type 0 where
   pub same : IsSame (below (joint_with j e es (front ++ map cancelled_part ps))) v'.state
   pub midst : InMidst v v'
 
-module _ {R : Type 0} (rules : Rules) (j : Joint) (e : Master) (es : List Master) (v : DeviceView) (one : v.rules.one_piece ≡ true) where
-  none_below : (part : DriverPart R) (p : Progress R) (marks : List Mark) (busy : ℕ) → Kept marks busy ≡ note_by rules part p → below_by p ≡ None
+module _ (rules : Rules) (j : Joint) (e : Divided) (es : List Divided) (v : DeviceView) (one : v.rules.one_piece ≡ true) where
+  none_below : (part : DriverPart) (p : Progress) (marks : List Mark) (busy : ℕ) → Kept marks busy ≡ note_by rules part p → below_by p ≡ None
   none_below part (Ready place) marks busy h = refl
   none_below part (SentBelow number spot) marks busy h = absurd (cc (h))
   none_below part (HasEnded ended) marks busy h = refl
 
-  sent_below : (part : DriverPart R) (p : Progress R) (number again : ℕ) → Sent number again ≡ note_by rules part p → (spot : ℕ) × (p ≡ SentBelow number spot)
+  sent_below : (part : DriverPart) (p : Progress) (number again : ℕ) → Sent number again ≡ note_by rules part p → (spot : ℕ) × (p ≡ SentBelow number spot)
   sent_below part (Ready place) number again h = absurd (cc (h))
   sent_below part (SentBelow n spot) number again h = let is : n ≡ number = cc (h) in (spot, ap (λ m. SentBelow m spot) is)
   sent_below part (HasEnded ended) number again h = absurd (cc (h))
 
-  pub all_cancelled : (front ps : List Part) (parts : List (DriverPart R)) → map note_of ps ≡ map (note rules) parts → (v' w : DeviceView) → InMidst v v' → IsSame (below (joint_with j e es (front ++ ps))) v'.state
+  pub all_cancelled : (front ps : List Part) (parts : List DriverPart) → map note_of ps ≡ map (note rules) parts → (v' w : DeviceView) → InMidst v v' → IsSame (below (joint_with j e es (front ++ ps))) v'.state
       → All (IsSpotted v.packets) parts → All (IsCancelledAs false) (parts_requests ps) → CancelsAll v' (map packet_of_part parts) w → AllCancelled j e es front ps v w
   all_cancelled front [] [] notes v' w m same spotted timely h = subst (AllCancelled j e es front [] v) (sym h) (record { same = same; midst = m })
   all_cancelled front [] (part ∷ parts) notes v' w m same spotted timely h = absurd (cc (notes))

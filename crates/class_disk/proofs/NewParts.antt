@@ -1,5 +1,5 @@
 -- Parts that were made for a request, one by one, and what a list of them all is.
-use Rattle.std.proofs.Common.{◌≡◌, ◌<◌, ◌⊎◌, inl, inr, ℕ, zero, suc, ◌+◌, List, [], ◌∷◌, ◌++◌, Some, Bool, true, false, if◌then◌else◌, refl, sym, ◌∙◌, ap, subst, arith, map, length}
+use Rattle.std.proofs.Common.{◌≡◌, ◌⊎◌, inl, inr, ℕ, zero, suc, ◌+◌, List, [], ◌∷◌, ◌++◌, Some, Bool, true, false, if◌then◌else◌, refl, sym, ◌∙◌, ap, subst, arith, map, length}
 use Rattle.std.specs.Prelude.{All, slice_get}
 use Rattle.std.specs.List.{range_with_len}
 use Rattle.std.proofs.lemmas.List.{length_push}
@@ -9,13 +9,14 @@ use Rattle.split.specs.Pieces.{piece_of}
 use Rattle.machine.specs.Rules.{Rules, is_transfer}
 use Rattle.class_disk.specs.declared.Sizes.{Sizes}
 use Rattle.class_disk.specs.declared.parts.Part.{Part}
-use Rattle.class_disk.specs.Blocks.{AreSizes, part_count_of, part_request_of, requests_for}
-use Rattle.class_disk.specs.Parts.{HasBuffers, IsHere, IsHereBy}
-use Rattle.class_disk.specs.declared.requests.DiskRoom.{DiskRoom}
-use Rattle.class_disk.specs.Books.{slot_limit}
+use Rattle.class_disk.specs.inside.Blocks.{AreSizes, part_count_of, part_request_of, requests_for}
+use Rattle.class_disk.specs.inside.Parts.{HasBuffers, IsHere, IsHereBy}
+use Rattle.class_disk.specs.declared.parts.PartId.{PartId}
+use Rattle.class_disk.specs.inside.Owners.{AreOwnedFrom}
+use Rattle.class_disk.specs.inside.Books.{Held}
 use Rattle.device.specs.View.{IsBounded}
-use Rattle.class_disk.specs.Driver.{IsCut, IsRoom, request_of_part, IsReadyPart, IsReadyBy, IsBuffered, IsBufferedBy}
-use Rattle.class_disk.specs.Midway.{IsNewPart, AreNewParts}
+use Rattle.class_disk.specs.inside.Driver.{IsCut, IsHeld, request_of_part, IsReadyPart, IsReadyBy, IsBuffered, IsBufferedBy}
+use Rattle.class_disk.specs.inside.Midway.{IsNewPart, AreNewParts}
 
 -- the item behind a list is the last one
 get_behind : {X : Type 0} (xs : List X) (x y : X) (k : ℕ) → slice_get (xs ++ x ∷ []) k ≡ Some y
@@ -38,47 +39,47 @@ part_kind limit r k = by (is_transfer r.kind)
     by false = refl
 
 -- what a part was asked for with the table as it was then
-pub asked_now : {R : Type 0} (request_of : R → Request) (ready : R → Type 0) (was now : Sizes) (r asked : Request) (k : ℕ) (part : Part R)
-    → was ≡ now → asked ≡ part_request_of was.max_transfer r k → IsNewPart request_of ready was.sector_size asked part
-    → IsNewPart request_of ready now.sector_size (part_request_of now.max_transfer r k) part
-asked_now request_of ready was now r asked k part same is h =
-    subst (λ (s : Sizes). IsNewPart request_of ready s.sector_size (part_request_of s.max_transfer r k) part) same
-    (subst (λ q. IsNewPart request_of ready was.sector_size q part) is h)
+pub asked_now : (was now : Sizes) (r asked : Request) (k : ℕ) (part : Part)
+    → was ≡ now → asked ≡ part_request_of was.max_transfer r k → IsNewPart was.sector_size asked part
+    → IsNewPart now.sector_size (part_request_of now.max_transfer r k) part
+asked_now was now r asked k part same is h =
+    subst (λ (s : Sizes). IsNewPart s.sector_size (part_request_of s.max_transfer r k) part) same
+    (subst (λ q. IsNewPart was.sector_size q part) is h)
 
 -- and its kind
 pub kind_now : (was : Sizes) (r asked : Request) (k : ℕ) → asked ≡ part_request_of was.max_transfer r k → r.kind ≡ asked.kind
 kind_now was r asked k is = sym (ap (λ (q : Request). q.kind) is ∙ part_kind was.max_transfer r k)
 
-module _ {R : Type 0} (request_of : R → Request) (ready : R → Type 0) (sizes : Sizes) (r : Request) where
-  pub none_made : AreNewParts request_of ready sizes r 0 []
+module _ (sizes : Sizes) (r : Request) where
+  pub none_made : AreNewParts sizes r 0 []
   none_made = record { long = refl; are = λ k part is. absurd (cc (is)) }
 
   -- one part more
-  pub one_made : (count : ℕ) (items front : List (Part R)) (part : Part R) → items ≡ front ++ part ∷ []
-      → AreNewParts request_of ready sizes r count front
-      → IsNewPart request_of ready sizes.sector_size (part_request_of sizes.max_transfer r count) part
-      → AreNewParts request_of ready sizes r (count + 1) items
-  one_made count items front part is h new = subst (AreNewParts request_of ready sizes r (count + 1)) (sym is) (record {
+  pub one_made : (count : ℕ) (items front : List Part) (part : Part) → items ≡ front ++ part ∷ []
+      → AreNewParts sizes r count front
+      → IsNewPart sizes.sector_size (part_request_of sizes.max_transfer r count) part
+      → AreNewParts sizes r (count + 1) items
+  one_made count items front part is h new = subst (AreNewParts sizes r (count + 1)) (sym is) (record {
     long = let l = h.long in let e = length_push front part in omega arith;
     are = λ k x there. elim (get_behind front part x k there) [
       | inl before ↦ h.are k x before
       | inr last ↦
           let at : count ≡ k = let l = h.long in let e = last.0 in omega arith in
-          subst (λ n. IsNewPart request_of ready sizes.sector_size (part_request_of sizes.max_transfer r n) x) at
-          (subst (IsNewPart request_of ready sizes.sector_size (part_request_of sizes.max_transfer r count)) last.1 new)
+          subst (λ n. IsNewPart sizes.sector_size (part_request_of sizes.max_transfer r n) x) at
+          (subst (IsNewPart sizes.sector_size (part_request_of sizes.max_transfer r count)) last.1 new)
     ];
   })
 
-  module _ (count : ℕ) (parts : List (Part R)) (h : AreNewParts request_of ready sizes r count parts) where
+  module _ (count : ℕ) (parts : List Part) (h : AreNewParts sizes r count parts) where
     -- none of them is below
     pub new_here : All IsHere parts
     new_here = all_from_get IsHere parts (λ k part is. let new = h.are k part is in subst IsHereBy (sym new.is_ready) tt)
 
     -- each can be sent
-    pub new_ready : All (IsReadyPart request_of ready) parts
-    new_ready = all_from_get (IsReadyPart request_of ready) parts (λ k part is.
+    pub new_ready : All IsReadyPart parts
+    new_ready = all_from_get IsReadyPart parts (λ k part is.
         let new = h.are k part is in
-        (new.first, subst (IsReadyBy request_of ready part.request) (sym new.is_ready) (new.room ∙ sym new.asks, new.room_ready)))
+        (new.first, subst IsReadyBy (sym new.is_ready) tt))
 
     -- each has its buffers
     pub new_buffered : (rules : Rules) → sizes.sector_size ≡ rules.sector_size → All (IsBuffered rules) parts
@@ -97,8 +98,8 @@ module _ {R : Type 0} (request_of : R → Request) (ready : R → Type 0) (sizes
         let new = h.are k part is in new.asks ∙ ap (λ m. part_request_of m r k) same ∙ ap (part_request_of limit r) (omega arith))
         ∙ ap (λ n. map (part_request_of limit r) (range_with_len 0 n)) cut
       where
-        asked : (first n : ℕ) (ps : List (Part R)) → length ps ≡ n
-            → ((k m : ℕ) → m ≡ first + k → (part : Part R) → slice_get ps k ≡ Some part → part.request ≡ part_request_of limit r m)
+        asked : (first n : ℕ) (ps : List Part) → length ps ≡ n
+            → ((k m : ℕ) → m ≡ first + k → (part : Part) → slice_get ps k ≡ Some part → part.request ≡ part_request_of limit r m)
             → map request_of_part ps ≡ map (part_request_of limit r) (range_with_len first n)
         asked first zero [] long all = refl
         asked first (suc n) [] long all = absurd (omega arith)
@@ -109,15 +110,16 @@ module _ {R : Type 0} (request_of : R → Request) (ready : R → Type 0) (sizes
             asked (first + 1) n ps (omega arith) (λ k m at part is. all (suc k) m (omega arith) part is) in
             ap (λ x. x ∷ map request_of_part ps) head ∙ ap (λ xs. part_request_of limit r first ∷ xs) rest
 
-  -- a room with all parts of its request
-  pub new_room : (rules : Rules) (room : DiskRoom R) → room.request ≡ r → AreSizes sizes rules → IsBounded rules r
-      → AreNewParts request_of ready sizes r (part_count_of sizes.max_transfer r) room.parts.items → room.slot < slot_limit → IsRoom rules room
-  new_room rules room is are bounded h slot = record {
-    cut = subst (λ q. IsCut rules q room.parts.items) (sym is) (record {
+  -- a slot with all parts of its request
+  pub new_held : (rules : Rules) (owners : List PartId) (held : Held) → held.request ≡ r → AreSizes sizes rules → IsBounded rules r
+      → AreNewParts sizes r (part_count_of sizes.max_transfer r) held.parts → AreOwnedFrom owners held.slot 0 held.parts → IsHeld rules owners held
+  new_held rules owners held is are bounded h owned = record {
+    cut = subst (λ q. IsCut rules q held.parts) (sym is) (record {
       bounded = bounded;
-      parts_are = new_requests _ room.parts.items h rules.max_transfer are.max_transfer (ap (λ n. part_count_of n r) are.max_transfer);
+      parts_are = new_requests _ held.parts h rules.max_transfer are.max_transfer (ap (λ n. part_count_of n r) are.max_transfer);
     });
-    here = new_here _ room.parts.items h;
-    buffered = new_buffered _ room.parts.items h rules are.sector_size;
-    slot = slot;
+    here = new_here _ held.parts h;
+    buffered = new_buffered _ held.parts h rules are.sector_size;
+    owned = owned;
+    ready = λ whole. new_ready _ held.parts h;
   }

@@ -20,15 +20,14 @@ use Rattle.device.specs.View.{DeviceView, Carries, sent_bytes}
 use Rattle.class_disk.specs.declared.parts.Part.{Part}
 use Rattle.class_disk.specs.declared.parts.Progress.{Progress}
 use Rattle.class_disk.specs.declared.parts.Progress.TheVariants.{Ready, Below, Ended}
-use Rattle.class_disk.specs.declared.requests.DiskRoom.{DiskRoom}
-use Rattle.class_disk.specs.Blocks.{part_count_of, part_request_of}
-use Rattle.class_disk.specs.Books.{Books, opened}
-use Rattle.class_disk.specs.Turns.{OpensAt, new_opened}
-use Rattle.class_disk.specs.Joint.{Known, shown, above}
-use Rattle.class_disk.specs.Kept.{AreCut}
+use Rattle.class_disk.specs.inside.Blocks.{part_count_of, part_request_of}
+use Rattle.class_disk.specs.inside.Books.{Books, opened}
+use Rattle.class_disk.specs.inside.Turns.{OpensAt, new_opened}
+use Rattle.class_disk.specs.inside.Joint.{Known, shown, above}
+use Rattle.class_disk.specs.inside.Kept.{AreCut}
 use Rattle.class_disk.specs.Shown.{class_rules}
-use Rattle.class_disk.specs.Driver.{view_of, known, knowns, note, note_by, places_of, IsReadyPart, IsReadyBy, IsInHand, IsRoom, IsCut, request_of_part}
-use Rattle.class_disk.specs.Midway.{IsTaking}
+use Rattle.class_disk.specs.inside.Driver.{view_of, known, knowns, note, note_by, places_of, IsReadyPart, IsReadyBy, IsInHand, AreKept, IsHeld, IsCut, request_of_part}
+use Rattle.class_disk.specs.inside.Midway.{IsTaking}
 use Rattle.class_disk.proofs.Acting.{shows}
 use Rattle.class_disk.proofs.Orderly.{All-from_map}
 use Rattle.class_disk.proofs.Admitting.{not_refused, carries_bytes, sectors_are}
@@ -37,17 +36,17 @@ use Rattle.class_disk.proofs.Submitting.{total, new_note, IsBefore, with_new, op
 
 -- THE PARTS ARE READY
 
-module _ {R : Type 0} (request_of : R → Request) (ready : R → Type 0) (rules : Rules) where
-  note_ready : (part : Part R) (progress : Progress R) → IsReadyBy request_of ready part.request progress → note_by rules part progress ≡ new_note (places_of rules part)
+module _ (rules : Rules) where
+  note_ready : (part : Part) (progress : Progress) → IsReadyBy progress → note_by rules part progress ≡ new_note (places_of rules part)
   note_ready part (Ready place) h = refl
   note_ready part (Below number spot) h = absurd h
   note_ready part (Ended ended) h = absurd h
 
-  pub notes_ready : (parts : List (Part R)) → All (IsReadyPart request_of ready) parts → map (note rules) parts ≡ map new_note (map (places_of rules) parts)
+  pub notes_ready : (parts : List Part) → All IsReadyPart parts → map (note rules) parts ≡ map new_note (map (places_of rules) parts)
   notes_ready [] all = refl
   notes_ready (part ∷ parts) all =
-      let first : note rules part ≡ new_note (places_of rules part) = note_ready part part.progress (All-head (IsReadyPart request_of ready) part parts all).1 in
-      let rest = notes_ready parts (All-tail (IsReadyPart request_of ready) part parts all) in
+      let first : note rules part ≡ new_note (places_of rules part) = note_ready part part.progress (All-head IsReadyPart part parts all).1 in
+      let rest = notes_ready parts (All-tail IsReadyPart part parts all) in
       ap (λ n. n ∷ map (note rules) parts) first ∙ ap (λ ns. new_note (places_of rules part) ∷ ns) rest
 
 -- THE PLACES OF ALL PARTS ARE THOSE OF THE REQUEST
@@ -55,7 +54,7 @@ module _ {R : Type 0} (request_of : R → Request) (ready : R → Type 0) (rules
 abbrev pub places_for : Rules → Request → ℕ
 places_for rules r = place_count rules (as_client rules r [])
 
-pub places_by_request : {R : Type 0} (rules : Rules) (parts : List (Part R)) → map (places_of rules) parts ≡ map (places_for rules) (map request_of_part parts)
+pub places_by_request : (rules : Rules) (parts : List Part) → map (places_of rules) parts ≡ map (places_for rules) (map request_of_part parts)
 places_by_request rules [] = refl
 places_by_request rules (part ∷ parts) = ap (λ ns. places_of rules part ∷ ns) (places_by_request rules parts)
 
@@ -105,7 +104,7 @@ module _ (rules : Rules) (some : 0 < rules.sector_size) (some_limit : 0 < rules.
   cut_covers Flush = omega arith
 
 -- the parts of a request have as many places as it has
-pub parts_cover : {R : Type 0} (rules : Rules) (r : Request) (parts : List (Part R)) → 0 < rules.sector_size → 0 < rules.max_transfer → IsCut rules r parts → total (map (places_of rules) parts) ≡ places_for rules r
+pub parts_cover : (rules : Rules) (r : Request) (parts : List Part) → 0 < rules.sector_size → 0 < rules.max_transfer → IsCut rules r parts → total (map (places_of rules) parts) ≡ places_for rules r
 parts_cover rules r parts some some_limit cut =
     ap total (places_by_request rules parts ∙ ap (map (places_for rules)) cut.parts_are ∙ map_map (places_for rules) (part_request_of rules.max_transfer r) _)
     ∙ cut_covers rules some some_limit r.volume r.extent r.through r.kind
@@ -143,7 +142,7 @@ module _ (rules : Rules) (some : 0 < rules.sector_size) (some_limit : 0 < rules.
   cut_by Flush = (omega arith, some_limit, inr refl, tt)
 
 -- the parts of a request are its pieces
-pub parts_cut : {R : Type 0} (rules : Rules) (r : Request) (parts : List (Part R)) → 0 < rules.sector_size → 0 < rules.max_transfer → IsCut rules r parts → AreCut rules.max_transfer (map (places_of rules) parts)
+pub parts_cut : (rules : Rules) (r : Request) (parts : List Part) → 0 < rules.sector_size → 0 < rules.max_transfer → IsCut rules r parts → AreCut rules.max_transfer (map (places_of rules) parts)
 parts_cut rules r parts some some_limit cut =
     subst (AreCut rules.max_transfer) (sym (places_by_request rules parts ∙ ap (map (places_for rules)) cut.parts_are ∙ map_map (places_for rules) (part_request_of rules.max_transfer r) _))
     (cut_by rules some some_limit r.volume r.extent r.through r.kind)
@@ -162,41 +161,44 @@ taking_permuted rules first labels s ks ks' p t = record {
   run = t.run;
 }
 
-module _ {R : Type 0} (request_of : R → Request) (ready : R → Type 0) (out : List R → Type 0) (takes_srb : Bool) (stack : ℕ) (v : DeviceView) (b : Books R) (room : DiskRoom R) (rooms : List (DiskRoom R))
-    (h : IsInHand out takes_srb stack v b (room ∷ rooms)) (irp : Irp) (b1 : Books R) (opens : OpensAt b room.slot (new_opened irp room.request room.parts.items) b1)
-    (high : (view_of v b).state.next_request ≤ irp.number) (stays : IsFalse (view_of v b).state.removing) (timely : IsFalse irp.cancelled) (carries : Carries false (class_rules v.rules) room.request irp.payload)
-    (is_ready : All (IsReadyPart request_of ready) room.parts.items)
+-- the room that a packet came to
+pub held_there : (rules : Rules) (b : Books) (slot : ℕ) (irp : Irp) (b1 : Books) (opens : OpensAt b slot irp b1) → AreKept rules b → IsHeld rules b.owners opens.held
+held_there rules b slot irp b1 opens k = All-head (IsHeld rules b.owners) opens.held b1.held (All-permutation (IsHeld rules b.owners) _ _ opens.fewer k.in_hand)
+
+module _ (v : DeviceView) (b : Books) (h : IsInHand v b) (slot : ℕ) (irp : Irp) (b1 : Books) (opens : OpensAt b slot irp b1)
+    (high : (view_of v b).state.next_request ≤ irp.number) (stays : IsFalse (view_of v b).state.removing) (timely : IsFalse irp.cancelled)
+    (carries : Carries false (class_rules v.rules) opens.held.request irp.payload)
     -- all parts have as many places as the request
-    (covers : total (map (places_of (class_rules v.rules)) room.parts.items) ≡ places_for (class_rules v.rules) room.request) where
+    (covers : total (map (places_of (class_rules v.rules)) opens.held.parts) ≡ places_for (class_rules v.rules) opens.held.request) where
   abbrev rules : Rules
   rules = class_rules v.rules
 
   abbrev q : ClientRequest
-  q = as_client rules room.request (sent_bytes room.request.kind irp.payload)
+  q = as_client rules opens.held.request (sent_bytes opens.held.request.kind irp.payload)
 
   abbrev counts : List ℕ
-  counts = map (places_of rules) room.parts.items
+  counts = map (places_of rules) opens.held.parts
 
   -- the machine above, with the new request
   abbrev pub first_above : State
   first_above = above (with_new rules h.coupled.j irp.number q counts covers)
 
-  before : All (IsBefore irp.number) h.coupled.j.masters
-  before = All-from_map (λ (o : OpenRequest). o.number < irp.number) shown h.coupled.j.masters
-      (All-permutation (λ (o : OpenRequest). o.number < irp.number) _ _ (IsPermutation-sym _ _ (shows out takes_srb stack v b (room ∷ rooms) h).requests)
+  before : All (IsBefore irp.number) h.coupled.j.divided
+  before = All-from_map (λ (o : OpenRequest). o.number < irp.number) shown h.coupled.j.divided
+      (All-permutation (λ (o : OpenRequest). o.number < irp.number) _ _ (IsPermutation-sym _ _ (shows v b h).requests)
       (λ i d low. let given = h.orderly.distinct.given i d low in omega arith))
 
   pub opens_above : Opens rules (view_of v b).state irp.number q first_above
-  opens_above = opens_new rules h.coupled.j irp.number q counts covers (view_of v b).state (shows out takes_srb stack v b (room ∷ rooms) h) high
-      (not_refused rules room.request (sent_bytes room.request.kind irp.payload) (view_of v b).state h.kept.sizes.whole.some_bytes h.port.uncounted (All-head (IsRoom rules) room rooms h.kept.in_hand).cut.bounded stays)
-      (carries_bytes rules room.request irp.payload carries)
+  opens_above = opens_new rules h.coupled.j irp.number q counts covers (view_of v b).state (shows v b h) high
+      (not_refused rules opens.held.request (sent_bytes opens.held.request.kind irp.payload) (view_of v b).state h.kept.sizes.whole.some_bytes h.port.uncounted (held_there rules b slot irp b1 opens h.kept).cut.bounded stays)
+      (carries_bytes rules opens.held.request irp.payload carries)
 
   pub taking_opened : IsTaking rules first_above [] v.state (knowns rules b1)
   taking_opened =
-      let new : record { number = irp.number; request = q; cancelled = false; parts = map new_note counts } ≡ known rules (new_opened irp room.request room.parts.items) =
-      ap (λ ns. record { number = irp.number; request = q; cancelled = false; parts = ns }) (sym (notes_ready request_of ready rules room.parts.items is_ready))
-      ∙ ap (λ c. record { number = irp.number; request = q; cancelled = c; parts = map (note rules) room.parts.items }) (sym timely) in
-      let cut : AreCut rules.max_transfer counts = parts_cut rules room.request room.parts.items h.kept.sizes.whole.some_bytes h.port.some_transfer (All-head (IsRoom rules) room rooms h.kept.in_hand).cut in
-      let permuted : IsPermutation (known rules (new_opened irp room.request room.parts.items) ∷ knowns rules b) (knowns rules b1) = IsPermutation-sym _ _ (IsPermutation-map (known rules) _ _ (IsPermutation-map opened _ _ opens.opens)) in
+      let new : record { number = irp.number; request = q; cancelled = false; parts = map new_note counts } ≡ known rules (new_opened irp opens.held.request opens.held.parts) =
+      ap (λ ns. record { number = irp.number; request = q; cancelled = false; parts = ns }) (sym (notes_ready rules opens.held.parts ((held_there rules b slot irp b1 opens h.kept).ready opens.whole)))
+      ∙ ap (λ c. record { number = irp.number; request = q; cancelled = c; parts = map (note rules) opens.held.parts }) (sym timely) in
+      let cut : AreCut rules.max_transfer counts = parts_cut rules opens.held.request opens.held.parts h.kept.sizes.whole.some_bytes h.port.some_transfer (held_there rules b slot irp b1 opens h.kept).cut in
+      let permuted : IsPermutation (known rules (new_opened irp opens.held.request opens.held.parts) ∷ knowns rules b) (knowns rules b1) = IsPermutation-sym _ _ (IsPermutation-map (known rules) _ _ (IsPermutation-map opened _ _ opens.opens)) in
       taking_permuted rules first_above [] v.state _ _ (subst (λ (x : Known). IsPermutation (x ∷ knowns rules b) (knowns rules b1)) (sym new) permuted)
       (taking_new rules h.coupled.j irp.number q counts covers refl v.state (knowns rules b) h.coupled.same h.coupled.knows cut before h.coupled.keeps h.sound (subst (λ r. AreCounted r v.state) h.port.below h.counted))

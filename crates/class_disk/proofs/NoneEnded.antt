@@ -10,17 +10,18 @@ use Rattle.machine.specs.Settled.{Settled}
 use Rattle.machine.proofs.Same.{none_there}
 use Rattle.device.specs.View.{DeviceView, IsOrderly}
 use Rattle.device.specs.Served.{IsUnfinished, HandsUpNone}
-use Rattle.class_disk.specs.Turns.{TakesNone}
+use Rattle.class_disk.specs.inside.Turns.{TakesNone}
 use Rattle.class_disk.specs.declared.parts.Part.{Part}
+use Rattle.class_disk.specs.declared.parts.PartId.{PartId}
 use Rattle.class_disk.specs.declared.parts.Progress.{Progress}
 use Rattle.class_disk.specs.declared.parts.Progress.TheVariants.{Ready, Below as SentBelow, Ended as PartEnded}
-use Rattle.class_disk.specs.declared.requests.DiskRoom.{DiskRoom}
-use Rattle.class_disk.specs.Parts.{WasSent, WasSentBy, unfinished_by, unfinished_of}
-use Rattle.class_disk.specs.Books.{Opened, Books, opened, ended_in}
-use Rattle.class_disk.specs.Joint.{Part as JointPart, Below, Here, Sent, note_of, Known, known_of, Master, parts_requests, above, below_rules}
-use Rattle.class_disk.specs.Kept.{IsOver}
+use Rattle.class_disk.specs.inside.Parts.{WasSent, WasSentBy, unfinished_by, unfinished_of}
+use Rattle.class_disk.specs.inside.Books.{Opened, Books, opened, ended_in}
+use Rattle.class_disk.specs.inside.Joint.{Part as JointPart, Below, Here, Sent, note_of, Known, known_of, Divided, parts_requests, above}
+use Rattle.class_disk.specs.PortRules.{below_rules}
+use Rattle.class_disk.specs.inside.Kept.{IsOver}
 use Rattle.class_disk.specs.Shown.{class_rules}
-use Rattle.class_disk.specs.Driver.{known, view_of, note, note_by, IsOpen, IsInHand}
+use Rattle.class_disk.specs.inside.Driver.{known, view_of, note, note_by, IsOpen, IsInHand}
 use Rattle.class_disk.proofs.Resting.{AreEndedHere, HasBelow, settled_above, unfinished_above}
 use Rattle.class_disk.proofs.Orderly.{All-from_map, over_here}
 use Rattle.class_disk.proofs.Acting.{IsStill, shows, settled_still, unfinished_still}
@@ -37,15 +38,15 @@ part_below (Below o a ps ∷ parts) number again c = (o, (0, omega arith, refl))
 part_below (Here marks busy ∷ parts) number again (zero, low, is) = absurd (cc (is))
 part_below (Here marks busy ∷ parts) number again (suc k, low, is) = part_below parts number again (k, omega arith, is)
 
-master_below : (e : Master) → IsBelowSome (known_of e) → HasBelow e
-master_below e h = let r = part_below e.parts h.number h.again h.there in record { part = r.0; there = r.1 }
+divided_below : (e : Divided) → IsBelowSome (known_of e) → HasBelow e
+divided_below e h = let r = part_below e.parts h.number h.again h.there in record { part = r.0; there = r.1 }
 
-module _ {R : Type 0} (rules : Rules) where
-  sent_some : (parts : List (Part R)) → All WasSent parts → 0 < unfinished_of parts → (number : ℕ) × (again : ℕ) × Contains (map (note rules) parts) (Sent number again)
+module _ (rules : Rules) where
+  sent_some : (parts : List Part) → All WasSent parts → 0 < unfinished_of parts → (number : ℕ) × (again : ℕ) × Contains (map (note rules) parts) (Sent number again)
   sent_some [] sent some = absurd (omega arith)
   sent_some (part ∷ parts) sent some = by part.progress refl (All-head WasSent part parts sent) (λ more. sent_some parts (All-tail WasSent part parts sent) more)
     where
-      by : (p : Progress R) → part.progress ≡ p → WasSent part → (0 < unfinished_of parts → (number : ℕ) × (again : ℕ) × Contains (map (note rules) parts) (Sent number again))
+      by : (p : Progress) → part.progress ≡ p → WasSent part → (0 < unfinished_of parts → (number : ℕ) × (again : ℕ) × Contains (map (note rules) parts) (Sent number again))
           → (number : ℕ) × (again : ℕ) × Contains (map (note rules) (part ∷ parts)) (Sent number again)
       by (Ready place) is was rest = absurd (subst WasSentBy is was)
       by (SentBelow number spot) is was rest = (number, part.restarts, (0, omega arith, ap (note_by rules part) is))
@@ -54,33 +55,33 @@ module _ {R : Type 0} (rules : Rules) where
           let r = rest (omega (arith, some, none)) in
           (r.0, r.1, (suc r.2.0, let w = r.2.1 in omega arith, r.2.2))
 
-  all_below : (es : List (ℕ × Opened R)) → All (IsOpen rules) es → ended_in es ≡ [] → All IsBelowSome (map (known rules) (map opened es))
-  all_below [] opens none = All-nil IsBelowSome
-  all_below (x ∷ es) opens none = by (x.1.unfinished == 0) refl none (λ rest. all_below es (All-tail (IsOpen rules) x es opens) rest)
+  all_below : (owners : List PartId) (es : List (ℕ × Opened)) → All (IsOpen rules owners) es → ended_in es ≡ [] → All IsBelowSome (map (known rules) (map opened es))
+  all_below owners [] opens none = All-nil IsBelowSome
+  all_below owners (x ∷ es) opens none = by (x.1.unfinished == 0) refl none (λ rest. all_below owners es (All-tail (IsOpen rules owners) x es opens) rest)
     where
       by : (over : Bool) → (x.1.unfinished == 0) ≡ over → (if over then x.0 ∷ ended_in es else ended_in es) ≡ [] → (ended_in es ≡ [] → All IsBelowSome (map (known rules) (map opened es))) → All IsBelowSome (map (known rules) (map opened (x ∷ es)))
       by true is none rest = absurd (cc (none))
       by false is none rest =
-          let own = All-head (IsOpen rules) x es opens in
+          let own = All-head (IsOpen rules owners) x es opens in
           let u = own.unfinished in
           let not : x.1.unfinished ≢ 0 = eqb-false x.1.unfinished 0 is in
           let some : 0 < unfinished_of x.1.parts = omega (arith, u, not) in
           let r = sent_some x.1.parts own.sent some in
           All-cons IsBelowSome (known rules x.1) (map (known rules) (map opened es)) (record { number = r.0; again = r.1; there = r.2 }) (rest none)
 
-module _ {R : Type 0} (out : List R → Type 0) (takes : Bool) (stack : ℕ) (v : DeviceView) (b : Books R) (rooms : List (DiskRoom R)) (h : IsInHand out takes stack v b rooms) (ordered : IsOrderly v) (none : b.ended ≡ []) where
+module _ (v : DeviceView) (b : Books) (h : IsInHand v b) (ordered : IsOrderly v) (none : b.ended ≡ []) where
   abbrev rules : Rules
   rules = class_rules v.rules
 
-  pub all_have : All HasBelow h.coupled.j.masters
+  pub all_have : All HasBelow h.coupled.j.divided
   all_have =
       let nothing : ended_in b.opens ≡ [] = none_there b.ended (ended_in b.opens) none h.kept.ended in
-      All-weaker (λ e. IsBelowSome (known_of e)) HasBelow master_below h.coupled.j.masters
-      (All-from_map IsBelowSome known_of h.coupled.j.masters (All-permutation IsBelowSome _ _ (IsPermutation-sym _ _ h.coupled.knows) (all_below rules b.opens h.kept.opens nothing)))
+      All-weaker (λ e. IsBelowSome (known_of e)) HasBelow divided_below h.coupled.j.divided
+      (All-from_map IsBelowSome known_of h.coupled.j.divided (All-permutation IsBelowSome _ _ (IsPermutation-sym _ _ h.coupled.knows) (all_below rules b.owners b.opens h.kept.opens nothing)))
 
-  over_masters : All (IsOver 17 h.coupled.j.removing) (map known_of h.coupled.j.masters)
-  over_masters =
-      subst (λ x. All (IsOver 17 x) (map known_of h.coupled.j.masters)) (sym h.coupled.same.removing)
+  over_divided : All (IsOver 17 h.coupled.j.removing) (map known_of h.coupled.j.divided)
+  over_divided =
+      subst (λ x. All (IsOver 17 x) (map known_of h.coupled.j.divided)) (sym h.coupled.same.removing)
       (All-permutation (IsOver 17 v.state.removing) _ _ (IsPermutation-sym _ _ h.coupled.knows) h.below.over)
 
   unfinished_below : All (IsUnfinished (below_rules rules) v.state) v.state.requests
@@ -89,12 +90,12 @@ module _ {R : Type 0} (out : List R → Type 0) (takes : Bool) (stack : ℕ) (v 
   settled_below : Settled (below_rules rules) v.state
   settled_below = subst (λ r. Settled r v.state) h.port.below h.settled
 
-  ended_here : All (AreEndedHere rules (above h.coupled.j)) h.coupled.j.masters
-  ended_here = over_here rules h.coupled.j h.coupled.j.masters over_masters
+  ended_here : All (AreEndedHere rules (above h.coupled.j)) h.coupled.j.divided
+  ended_here = over_here rules h.coupled.j h.coupled.j.divided over_divided
 
   shown_still : IsStill (above h.coupled.j) (view_of v b).state
   shown_still =
-      let s = shows out takes stack v b rooms h in
+      let s = shows v b h in
       record { requests = s.requests; pieces = length_permutation _ _ s.pieces; owed = s.owed; paused = s.paused; removing = s.removing }
 
   pub settled_shown : Settled rules (view_of v b).state
@@ -110,5 +111,5 @@ module _ {R : Type 0} (out : List R → Type 0) (takes : Bool) (stack : ℕ) (v 
       (unfinished_above rules h.port.no_window h.coupled.j v.state h.coupled.same h.sound ordered.places h.coupled.keeps
       unfinished_below settled_below ended_here refl all_have)
 
-  pub none_up : (new : Books R) → TakesNone b new → HandsUpNone (view_of v b) (view_of v new)
+  pub none_up : (new : Books) → TakesNone b new → HandsUpNone (view_of v b) (view_of v new)
   none_up new t = record { unfinished = unfinished_shown; settled = settled_shown; same = ap (view_of v) t.same }

@@ -7,10 +7,10 @@ use Rattle.class_disk.specs.declared.parts.Progress.{Progress}
 use Rattle.class_disk.specs.declared.parts.Progress.TheVariants.{Ready, Below, Ended as HasEnded}
 use Rattle.class_disk.specs.declared.parts.Outcome.{Outcome}
 use Rattle.class_disk.specs.declared.parts.Outcome.TheVariants.{Good, Failed as IsBad, Busy, Withdrawn}
-use Rattle.class_disk.specs.Joint.{Note}
-use Rattle.class_disk.specs.Kept.{AreCut, begins_back, noted_busy}
-use Rattle.class_disk.specs.Parts.{restarts_of}
-use Rattle.class_disk.specs.Driver.{places_of, marks_left, busy_left, note, note_by}
+use Rattle.class_disk.specs.inside.Joint.{Note}
+use Rattle.class_disk.specs.inside.Kept.{AreCut, begins_back, noted_busy}
+use Rattle.class_disk.specs.inside.Parts.{payload_in, restarts_of}
+use Rattle.class_disk.specs.inside.Driver.{places_of, marks_left, busy_left, note, note_by}
 use Rattle.class_disk.proofs.Restarting.{noted_back}
 use Rattle.irp.specs.declared.Payload.{Payload}
 
@@ -18,19 +18,19 @@ begins_so : (n : ℕ) → 0 < n → begins_back (replicate n Back) ≡ 1
 begins_so zero some = absurd (omega arith)
 begins_so (suc n) some = refl
 
-module _ {R : Type 0} (rules : Rules) where
-  busy_shown : (part : Part R) (payload : Payload) (outcome : Outcome) → 0 < places_of rules part → busy_left outcome ≤ begins_back (marks_left rules part payload outcome)
+module _ (rules : Rules) where
+  busy_shown : (part : Part) (payload : Payload) (outcome : Outcome) → 0 < places_of rules part → busy_left outcome ≤ begins_back (marks_left rules part payload outcome)
   busy_shown part payload Good some = omega arith
   busy_shown part payload (IsBad status) some = omega arith
   busy_shown part payload (Busy status) some = let e = begins_so (places_of rules part) some in omega (arith, e)
   busy_shown part payload (Withdrawn status) some = omega arith
 
-  one_noted : (part : Part R) (progress : Progress R) (notes : List Note) (rest : ℕ) → 0 < places_of rules part → noted_busy notes ≤ noted_back notes + rest
+  one_noted : (part : Part) (progress : Progress) (notes : List Note) (rest : ℕ) → 0 < places_of rules part → noted_busy notes ≤ noted_back notes + rest
       → noted_busy (note_by rules part progress ∷ notes) ≤ noted_back (note_by rules part progress ∷ notes) + (part.restarts + rest)
   one_noted part (Ready place) notes rest some behind = omega (arith, behind)
   one_noted part (Below number spot) notes rest some behind = omega (arith, behind)
-  one_noted part (HasEnded ended) notes rest some behind = let e = busy_shown part ended.payload ended.outcome some in omega (arith, behind, e)
+  one_noted part (HasEnded ended) notes rest some behind = let e = busy_shown part (payload_in ended.packet) ended.outcome some in omega (arith, behind, e)
 
-  pub noted_few : (parts : List (Part R)) → AreCut rules.max_transfer (map (places_of rules) parts) → noted_busy (map (note rules) parts) ≤ noted_back (map (note rules) parts) + restarts_of parts
+  pub noted_few : (parts : List Part) → AreCut rules.max_transfer (map (places_of rules) parts) → noted_busy (map (note rules) parts) ≤ noted_back (map (note rules) parts) + restarts_of parts
   noted_few [] cut = omega arith
   noted_few (part ∷ parts) (some, short, whole, rest) = one_noted part part.progress (map (note rules) parts) (restarts_of parts) some (noted_few parts rest)

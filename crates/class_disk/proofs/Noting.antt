@@ -1,5 +1,5 @@
 -- A part has ended, in the table: what stays, and what the class driver keeps of it.
-use Rattle.std.proofs.Common.{◌≡◌, ◌≤◌, inl, inr, ℕ, ◌+◌, ◌-◌, ◌==◌, Bool, true, false, List, [], ◌∷◌, ◌++◌, refl, sym, ◌∙◌, ap, subst, arith, map, length, length-append, append_assoc}
+use Rattle.std.proofs.Common.{◌≡◌, ◌≤◌, inl, inr, ℕ, ◌+◌, ◌==◌, Bool, true, false, List, [], ◌∷◌, ◌++◌, refl, sym, ◌∙◌, ap, subst, arith, map, length, length-append, append_assoc}
 use Rattle.std.specs.Prelude.{slice_set, IsPermutation, All, if◌then◌else◌}
 use Rattle.std.proofs.lemmas.Bool.{cases_Bool, eqb-true}
 use Rattle.std.proofs.lemmas.List.{map-append}
@@ -9,70 +9,71 @@ use Rattle.machine.specs.Rules.{Rules}
 use Rattle.class_disk.specs.declared.parts.Part.{Part}
 use Rattle.class_disk.specs.declared.parts.Ended.{Ended}
 use Rattle.class_disk.specs.declared.parts.Progress.TheVariants.{Below}
-use Rattle.class_disk.specs.declared.requests.DiskRoom.{DiskRoom}
-use Rattle.class_disk.specs.Joint.{Note, Known}
-use Rattle.class_disk.specs.Kept.{noted_busy}
-use Rattle.class_disk.specs.Parts.{rooms_of, room_by, WasSent, restarts_of, unfinished_of, unfinished_by}
-use Rattle.class_disk.specs.Books.{Opened, Books, opened, all_open, ended_in, restarts_left}
-use Rattle.class_disk.specs.Turns.{ended_part, ended_at, ended_books}
-use Rattle.class_disk.specs.Driver.{note, known, knowns, rooms_kept, packet_above, request_of_part, IsOpen, IsBuffered, IsWritten, IsNumberedBy, AreNumberedFrom, AreKept, IsCause, IsCauseBy, HaveCauses}
+use Rattle.device.specs.inside.Out.{Ticket}
+use Rattle.class_disk.specs.declared.parts.PartId.{PartId}
+use Rattle.class_disk.specs.inside.Joint.{Note, Known}
+use Rattle.class_disk.specs.inside.Kept.{noted_busy}
+use Rattle.class_disk.specs.inside.Parts.{ticket_for, tickets_of, ticket_by, WasSent, restarts_of, unfinished_of, unfinished_by}
+use Rattle.class_disk.specs.inside.Books.{Opened, Books, opened, all_open, ended_in, restarts_left}
+use Rattle.class_disk.specs.inside.Turns.{ended_part, ended_at, ended_books}
+use Rattle.class_disk.specs.inside.Driver.{note, known, knowns, tickets_open, packet_above, request_of_part, IsOpen, IsBuffered, IsWritten, AreKept, IsCause, IsCauseBy, HaveCauses}
+use Rattle.class_disk.specs.inside.Owners.{IsOwnedBy, AreOwnedFrom}
 use Rattle.class_disk.proofs.Retaking.{known_at}
 use Rattle.class_disk.proofs.Causes.{causes_more}
 use Rattle.class_disk.proofs.Standing.{StandsIn, is_put, set_there, All-middle}
 
 -- sums over lists of parts and of open requests
-module _ {R : Type 0} where
-  pub unfinished-append : (xs ys : List (Part R)) → unfinished_of (xs ++ ys) ≡ unfinished_of xs + unfinished_of ys
-  unfinished-append [] ys = omega arith
-  unfinished-append (x ∷ xs) ys = let e = unfinished-append xs ys in omega arith
+pub unfinished-append : (xs ys : List Part) → unfinished_of (xs ++ ys) ≡ unfinished_of xs + unfinished_of ys
+unfinished-append [] ys = omega arith
+unfinished-append (x ∷ xs) ys = let e = unfinished-append xs ys in omega arith
 
-  restarts-append : (xs ys : List (Part R)) → restarts_of (xs ++ ys) ≡ restarts_of xs + restarts_of ys
-  restarts-append [] ys = omega arith
-  restarts-append (x ∷ xs) ys = let e = restarts-append xs ys in omega arith
+restarts-append : (xs ys : List Part) → restarts_of (xs ++ ys) ≡ restarts_of xs + restarts_of ys
+restarts-append [] ys = omega arith
+restarts-append (x ∷ xs) ys = let e = restarts-append xs ys in omega arith
 
-  pub rooms_of-append : (xs ys : List (Part R)) → rooms_of (xs ++ ys) ≡ rooms_of xs ++ rooms_of ys
-  rooms_of-append [] ys = refl
-  rooms_of-append (x ∷ xs) ys = ap (λ zs. room_by x.progress ++ zs) (rooms_of-append xs ys) ∙ sym (append_assoc (room_by x.progress) (rooms_of xs) (rooms_of ys))
+pub tickets_of-append : (xs ys : List Part) → tickets_of (xs ++ ys) ≡ tickets_of xs ++ tickets_of ys
+tickets_of-append [] ys = refl
+tickets_of-append (x ∷ xs) ys = ap (λ zs. ticket_by x.request x.progress ++ zs) (tickets_of-append xs ys) ∙ sym (append_assoc (ticket_by x.request x.progress) (tickets_of xs) (tickets_of ys))
 
-  pub rooms_kept-append : (xs ys : List (Opened R)) → rooms_kept (xs ++ ys) ≡ rooms_kept xs ++ rooms_kept ys
-  rooms_kept-append [] ys = refl
-  rooms_kept-append (x ∷ xs) ys = ap (λ zs. rooms_of x.parts ++ zs) (rooms_kept-append xs ys) ∙ sym (append_assoc (rooms_of x.parts) (rooms_kept xs) (rooms_kept ys))
+pub tickets_open-append : (xs ys : List Opened) → tickets_open (xs ++ ys) ≡ tickets_open xs ++ tickets_open ys
+tickets_open-append [] ys = refl
+tickets_open-append (x ∷ xs) ys = ap (λ zs. tickets_of x.parts ++ zs) (tickets_open-append xs ys) ∙ sym (append_assoc (tickets_of x.parts) (tickets_open xs) (tickets_open ys))
 
-  pub left-append : (xs ys : List (ℕ × Opened R)) → restarts_left (xs ++ ys) ≡ restarts_left xs + restarts_left ys
-  left-append [] ys = omega arith
-  left-append (x ∷ xs) ys = let e = left-append xs ys in omega arith
+pub left-append : (xs ys : List (ℕ × Opened)) → restarts_left (xs ++ ys) ≡ restarts_left xs + restarts_left ys
+left-append [] ys = omega arith
+left-append (x ∷ xs) ys = let e = left-append xs ys in omega arith
 
-  pub ended-append : (xs ys : List (ℕ × Opened R)) → ended_in (xs ++ ys) ≡ ended_in xs ++ ended_in ys
-  ended-append [] ys = refl
-  ended-append (x ∷ xs) ys = by (x.1.unfinished == 0) (ended-append xs ys)
-    where
-      by : (t : Bool) → ended_in (xs ++ ys) ≡ ended_in xs ++ ended_in ys → (if t then x.0 ∷ ended_in (xs ++ ys) else ended_in (xs ++ ys)) ≡ (if t then x.0 ∷ ended_in xs else ended_in xs) ++ ended_in ys
-      by true e = ap (λ zs. x.0 ∷ zs) e
-      by false e = e
+pub ended-append : (xs ys : List (ℕ × Opened)) → ended_in (xs ++ ys) ≡ ended_in xs ++ ended_in ys
+ended-append [] ys = refl
+ended-append (x ∷ xs) ys = by (x.1.unfinished == 0) (ended-append xs ys)
+  where
+    by : (t : Bool) → ended_in (xs ++ ys) ≡ ended_in xs ++ ended_in ys → (if t then x.0 ∷ ended_in (xs ++ ys) else ended_in (xs ++ ys)) ≡ (if t then x.0 ∷ ended_in xs else ended_in xs) ++ ended_in ys
+    by true e = ap (λ zs. x.0 ∷ zs) e
+    by false e = e
 
-  -- the part at a place
-  pub numbered_at : (slot first : ℕ) (front : List (Part R)) (part : Part R) (back : List (Part R)) → AreNumberedFrom slot first (front ++ (part ∷ back)) → IsNumberedBy slot (first + length front) part.progress
-  numbered_at slot first [] part back h = subst (λ n. IsNumberedBy slot n part.progress) (omega arith) h.0
-  numbered_at slot first (x ∷ front) part back h = subst (λ n. IsNumberedBy slot n part.progress) (omega arith) (numbered_at slot (first + 1) front part back h.1)
+-- the part at a place
+pub owned_at : (owners : List PartId) (slot first : ℕ) (front : List Part) (part : Part) (back : List Part) → AreOwnedFrom owners slot first (front ++ (part ∷ back)) → IsOwnedBy owners slot (first + length front) part.progress
+owned_at owners slot first [] part back h = subst (λ n. IsOwnedBy owners slot n part.progress) (omega arith) h.0
+owned_at owners slot first (x ∷ front) part back h = subst (λ n. IsOwnedBy owners slot n part.progress) (omega arith) (owned_at owners slot (first + 1) front part back h.1)
 
-  numbered_ended : (slot first : ℕ) (ended : Ended R) (front : List (Part R)) (part : Part R) (back : List (Part R)) → AreNumberedFrom slot first (front ++ (part ∷ back)) → AreNumberedFrom slot first (front ++ (ended_part ended part ∷ back))
-  numbered_ended slot first ended [] part back h = (tt, h.1)
-  numbered_ended slot first ended (x ∷ front) part back h = (h.0, numbered_ended slot (first + 1) ended front part back h.1)
+owned_ended : (owners : List PartId) (slot first : ℕ) (ended : Ended) (front : List Part) (part : Part) (back : List Part) → AreOwnedFrom owners slot first (front ++ (part ∷ back)) → AreOwnedFrom owners slot first (front ++ (ended_part ended part ∷ back))
+owned_ended owners slot first ended [] part back h = (tt, h.1)
+owned_ended owners slot first ended (x ∷ front) part back h = (h.0, owned_ended owners slot (first + 1) ended front part back h.1)
 
 -- the open request in a slot, and its part at a place, which is below under this number
-pub record PartStands {R : Type 0} (b : Books R) (slot k : ℕ) (o : Opened R) (part : Part R) (number spot : ℕ) : Type 0 where
+pub record PartStands (b : Books) (slot k : ℕ) (o : Opened) (part : Part) (number spot : ℕ) : Type 0 where
   pub stands : StandsIn b.opens slot o
-  pub front : List (Part R)
-  pub back : List (Part R)
+  pub front : List Part
+  pub back : List Part
   pub parts_are : o.parts ≡ front ++ (part ∷ back)
   pub place : length front ≡ k
   pub is_below : part.progress ≡ Below number spot
 
-module _ {R : Type 0} (rules : Rules) (b : Books R) (slot k : ℕ) (o : Opened R) (part : Part R) (number spot : ℕ) (s : PartStands b slot k o part number spot) (ended : Ended R) where
-  abbrev pub now : Opened R
+module _ (rules : Rules) (b : Books) (slot k : ℕ) (o : Opened) (part : Part) (number spot : ℕ) (s : PartStands b slot k o part number spot) (ended : Ended) where
+  abbrev pub now : Opened
   now = ended_at k ended part o
 
-  abbrev pub books_now : Books R
+  abbrev pub books_now : Books
   books_now = ended_books slot now b
 
   pub parts_now : now.parts ≡ s.front ++ (ended_part ended part ∷ s.back)
@@ -109,8 +110,8 @@ module _ {R : Type 0} (rules : Rules) (b : Books R) (slot k : ℕ) (o : Opened R
       let d : unfinished_by part.progress ≡ 1 = ap unfinished_by s.is_below in
       omega arith
 
-  module _ (is_open : IsOpen rules (slot, o)) (buffered : IsBuffered rules (ended_part ended part)) (written : IsWritten rules o (ended_part ended part)) where
-    pub open_now : IsOpen rules (slot, now)
+  module _ (is_open : IsOpen rules b.owners (slot, o)) (buffered : IsBuffered rules (ended_part ended part)) (written : IsWritten rules o (ended_part ended part)) where
+    pub open_now : IsOpen rules b.owners (slot, now)
     open_now = record {
       cut = record {
         bounded = is_open.cut.bounded;
@@ -121,15 +122,14 @@ module _ {R : Type 0} (rules : Rules) (b : Books R) (slot k : ℕ) (o : Opened R
       sent = in_parts WasSent (λ h. tt) is_open.sent;
       buffered = in_parts (IsBuffered rules) (λ h. buffered) is_open.buffered;
       written = in_parts (IsWritten rules o) (λ h. written) is_open.written;
-      numbered = subst (AreNumberedFrom slot 0) (sym parts_now) (numbered_ended slot 0 ended s.front part s.back (subst (AreNumberedFrom slot 0) s.parts_are is_open.numbered));
-      slot = is_open.slot;
+      owned = subst (AreOwnedFrom b.owners slot 0) (sym parts_now) (owned_ended b.owners slot 0 ended s.front part s.back (subst (AreOwnedFrom b.owners slot 0) s.parts_are is_open.owned));
       restarts = is_open.restarts ∙ ap restarts_of s.parts_are ∙ restarts-append s.front (part ∷ s.back)
           ∙ sym (ap restarts_of parts_now ∙ restarts-append s.front (ended_part ended part ∷ s.back));
       few = is_open.few;
       unfinished = let a = is_open.unfinished in let e = was_unfinished in omega arith;
     }
       where
-        in_parts : (P : Part R → Type 0) → (P part → P (ended_part ended part)) → All P o.parts → All P now.parts
+        in_parts : (P : Part → Type 0) → (P part → P (ended_part ended part)) → All P o.parts → All P now.parts
         in_parts P step all = subst (All P) (sym parts_now) (All-middle P s.front part (ended_part ended part) s.back step (subst (All P) s.parts_are all))
 
   -- THE LIST OF THE ENDED
@@ -160,25 +160,24 @@ module _ {R : Type 0} (rules : Rules) (b : Books R) (slot k : ℕ) (o : Opened R
       let c : Bool = o.irp.cancelled in
       let n : ℕ = noted_busy (map (note rules) o.parts) in
       let n' : ℕ = noted_busy (map (note rules) now.parts) in
-      let more : All (λ (x : Part R). IsCauseBy c b.removing n' x.progress) o.parts = causes_more c c b.removing b.removing n n' (λ is. is) (λ is. is) busy o.parts h in
-      subst (All (λ (x : Part R). IsCauseBy c b.removing n' x.progress)) (sym parts_now)
-      (All-middle (λ (x : Part R). IsCauseBy c b.removing n' x.progress) s.front part (ended_part ended part) s.back (λ was. cause) (subst (All (λ (x : Part R). IsCauseBy c b.removing n' x.progress)) s.parts_are more))
+      let more : All (λ (x : Part). IsCauseBy c b.removing n' x.progress) o.parts = causes_more c c b.removing b.removing n n' (λ is. is) (λ is. is) busy o.parts h in
+      subst (All (λ (x : Part). IsCauseBy c b.removing n' x.progress)) (sym parts_now)
+      (All-middle (λ (x : Part). IsCauseBy c b.removing n' x.progress) s.front part (ended_part ended part) s.back (λ was. cause) (subst (All (λ (x : Part). IsCauseBy c b.removing n' x.progress)) s.parts_are more))
 
   -- WHAT IS KEPT
-  pub kept_now : (rooms : List (DiskRoom R)) → AreKept rules b rooms → IsBuffered rules (ended_part ended part) → IsWritten rules o (ended_part ended part)
-      → noted_busy (map (note rules) o.parts) ≤ noted_busy (map (note rules) now.parts) → IsCause o.irp.cancelled b.removing (noted_busy (map (note rules) now.parts)) ended.outcome → AreKept rules books_now rooms
-  kept_now rooms h buffered written busy cause =
-      let all : All (IsOpen rules) ((slot, o) ∷ (s.stands.before ++ s.stands.after)) = All-permutation (IsOpen rules) _ _ old_first h.opens in
-      let is_open : IsOpen rules (slot, o) = All-head (IsOpen rules) (slot, o) (s.stands.before ++ s.stands.after) all in
+  pub kept_now : AreKept rules b → IsBuffered rules (ended_part ended part) → IsWritten rules o (ended_part ended part)
+      → noted_busy (map (note rules) o.parts) ≤ noted_busy (map (note rules) now.parts) → IsCause o.irp.cancelled b.removing (noted_busy (map (note rules) now.parts)) ended.outcome → AreKept rules books_now
+  kept_now h buffered written busy cause =
+      let all : All (IsOpen rules b.owners) ((slot, o) ∷ (s.stands.before ++ s.stands.after)) = All-permutation (IsOpen rules b.owners) _ _ old_first h.opens in
+      let is_open : IsOpen rules b.owners (slot, o) = All-head (IsOpen rules b.owners) (slot, o) (s.stands.before ++ s.stands.after) all in
       let causes : All (HaveCauses rules b.removing) ((slot, o) ∷ (s.stands.before ++ s.stands.after)) = All-permutation (HaveCauses rules b.removing) _ _ old_first h.causes in
       let long = same_long in
       let left = same_left in
       record {
         sizes = h.sizes;
         in_hand = h.in_hand;
-        opens = All-permutation (IsOpen rules) _ _ (IsPermutation-sym _ _ new_first)
-            (All-cons (IsOpen rules) (slot, now) (s.stands.before ++ s.stands.after) (open_now is_open buffered written) (All-tail (IsOpen rules) (slot, o) (s.stands.before ++ s.stands.after) all));
-        vacant = h.vacant;
+        opens = All-permutation (IsOpen rules b.owners) _ _ (IsPermutation-sym _ _ new_first)
+            (All-cons (IsOpen rules b.owners) (slot, now) (s.stands.before ++ s.stands.after) (open_now is_open buffered written) (All-tail (IsOpen rules b.owners) (slot, o) (s.stands.before ++ s.stands.after) all));
         ended = ended_now is_open.unfinished h.ended;
         places = let p = h.places in omega arith;
         causes = All-permutation (HaveCauses rules b.removing) _ _ (IsPermutation-sym _ _ new_first)
@@ -188,22 +187,23 @@ module _ {R : Type 0} (rules : Rules) (b : Books R) (slot k : ℕ) (o : Opened R
       }
 
   -- ROOMS: that of the part is here again
-  pub rooms_now : IsPermutation (ended.room ∷ rooms_kept (all_open b)) (rooms_kept (all_open books_now))
+  pub rooms_now : IsPermutation (ticket_for part.request ended.packet ∷ tickets_open (all_open b)) (tickets_open (all_open books_now))
   rooms_now =
-      let xs : List (Opened R) = map opened s.stands.before in
-      let ys : List (Opened R) = map opened s.stands.after in
-      let old : rooms_kept (all_open b) ≡ rooms_kept xs ++ (rooms_of o.parts ++ rooms_kept ys) =
-      ap (λ os. rooms_kept (map opened os)) s.stands.opens_are ∙ ap rooms_kept (map-append opened s.stands.before ((slot, o) ∷ s.stands.after)) ∙ rooms_kept-append xs (o ∷ ys) in
-      let new : rooms_kept (all_open books_now) ≡ rooms_kept xs ++ (rooms_of now.parts ++ rooms_kept ys) =
-      ap (λ os. rooms_kept (map opened os)) opens_now ∙ ap rooms_kept (map-append opened s.stands.before ((slot, now) ∷ s.stands.after)) ∙ rooms_kept-append xs (now ∷ ys) in
-      let o_old : rooms_of o.parts ≡ rooms_of s.front ++ rooms_of s.back = ap rooms_of s.parts_are ∙ rooms_of-append s.front (part ∷ s.back) ∙ ap (λ p. rooms_of s.front ++ (room_by p ++ rooms_of s.back)) s.is_below in
-      let o_new : rooms_of now.parts ≡ rooms_of s.front ++ (ended.room ∷ rooms_of s.back) = ap rooms_of parts_now ∙ rooms_of-append s.front (ended_part ended part ∷ s.back) in
-      let part_first : IsPermutation (ended.room ∷ rooms_of o.parts) (rooms_of now.parts) =
-      subst (λ zs. IsPermutation (ended.room ∷ zs) (rooms_of now.parts)) (sym o_old) (subst (λ zs. IsPermutation (ended.room ∷ (rooms_of s.front ++ rooms_of s.back)) zs) (sym o_new) (IsPermutation-sym _ _ (IsPermutation-middle (rooms_of s.front) ended.room (rooms_of s.back)))) in
-      subst (λ zs. IsPermutation (ended.room ∷ zs) (rooms_kept (all_open books_now))) (sym old)
-      (subst (λ zs. IsPermutation (ended.room ∷ (rooms_kept xs ++ (rooms_of o.parts ++ rooms_kept ys))) zs) (sym new)
-      (IsPermutation-trans _ _ _ (IsPermutation-sym _ _ (IsPermutation-middle (rooms_kept xs) ended.room (rooms_of o.parts ++ rooms_kept ys)))
-      (IsPermutation-append_right (rooms_kept xs) _ _ (IsPermutation-append_left (rooms_kept ys) _ _ part_first))))
+      let ticket : Ticket = ticket_for part.request ended.packet in
+      let xs : List Opened = map opened s.stands.before in
+      let ys : List Opened = map opened s.stands.after in
+      let old : tickets_open (all_open b) ≡ tickets_open xs ++ (tickets_of o.parts ++ tickets_open ys) =
+      ap (λ os. tickets_open (map opened os)) s.stands.opens_are ∙ ap tickets_open (map-append opened s.stands.before ((slot, o) ∷ s.stands.after)) ∙ tickets_open-append xs (o ∷ ys) in
+      let new : tickets_open (all_open books_now) ≡ tickets_open xs ++ (tickets_of now.parts ++ tickets_open ys) =
+      ap (λ os. tickets_open (map opened os)) opens_now ∙ ap tickets_open (map-append opened s.stands.before ((slot, now) ∷ s.stands.after)) ∙ tickets_open-append xs (now ∷ ys) in
+      let o_old : tickets_of o.parts ≡ tickets_of s.front ++ tickets_of s.back = ap tickets_of s.parts_are ∙ tickets_of-append s.front (part ∷ s.back) ∙ ap (λ p. tickets_of s.front ++ (ticket_by part.request p ++ tickets_of s.back)) s.is_below in
+      let o_new : tickets_of now.parts ≡ tickets_of s.front ++ (ticket ∷ tickets_of s.back) = ap tickets_of parts_now ∙ tickets_of-append s.front (ended_part ended part ∷ s.back) in
+      let part_first : IsPermutation (ticket ∷ tickets_of o.parts) (tickets_of now.parts) =
+      subst (λ zs. IsPermutation (ticket ∷ zs) (tickets_of now.parts)) (sym o_old) (subst (λ zs. IsPermutation (ticket ∷ (tickets_of s.front ++ tickets_of s.back)) zs) (sym o_new) (IsPermutation-sym _ _ (IsPermutation-middle (tickets_of s.front) ticket (tickets_of s.back)))) in
+      subst (λ zs. IsPermutation (ticket ∷ zs) (tickets_open (all_open books_now))) (sym old)
+      (subst (λ zs. IsPermutation (ticket ∷ (tickets_open xs ++ (tickets_of o.parts ++ tickets_open ys))) zs) (sym new)
+      (IsPermutation-trans _ _ _ (IsPermutation-sym _ _ (IsPermutation-middle (tickets_open xs) ticket (tickets_of o.parts ++ tickets_open ys)))
+      (IsPermutation-append_right (tickets_open xs) _ _ (IsPermutation-append_left (tickets_open ys) _ _ part_first))))
 
   -- WHAT IS KNOWN
   abbrev pub others_known : List Known

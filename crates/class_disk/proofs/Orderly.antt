@@ -1,7 +1,7 @@
 -- The class driver is in order between calls, since the layer below is.
 use Rattle.std.proofs.Common.{◌≡◌, ◌<◌, ◌≤◌, inl, inr, ℕ, ◌+◌, not, Bool, true, false, List, [], ◌∷◌, ◌++◌, refl, sym, ◌∙◌, ap, subst, arith, map, length, get_or}
-use Rattle.std.specs.Prelude.{IsPermutation, All, Contains, IsTrue, IsFalse, is_some}
-use Rattle.std.specs.List.{list_all}
+use Rattle.std.specs.Prelude.{IsPermutation, All, Contains, IsTrue, IsFalse, Option, eqb, is_some}
+use Rattle.std.specs.List.{IsDistinct, list_all}
 use Rattle.std.proofs.lemmas.List.{map-append}
 use Rattle.std.proofs.lemmas.List.Sorted.{IsPermutation-sym, IsPermutation-trans, IsPermutation-map, All-permutation, length_permutation}
 use Rattle.std.proofs.lemmas.List.Elements.{All-nil, All-cons, All-head, All-tail, All-weaker, All-map, All-contains, Contains-get_or}
@@ -11,12 +11,13 @@ use Rattle.machine.specs.Numbers.{AreDistinct, HasPlaces, HavePlaces, request_nu
 use Rattle.machine.specs.Sending.{is_started, is_untouched}
 use Rattle.machine.specs.Answering.{HasEnded}
 use Rattle.machine.specs.Settled.{Settled, HasGone, IsAllSent, IsWithin, started_count}
-use Rattle.device.specs.View.{DeviceView, Packet, packet_number, piece_on_tag, use_on_tag, WaitsForTag, IsOrderly}
+use Rattle.device.specs.View.{DeviceView, Packet, Reserved, packet_number, packet_spot, piece_on_tag, use_on_tag, IsOffRooms, WaitsForTag, IsOrderly}
 use Rattle.device.specs.Served.{IsUnfinished}
 use Rattle.machine.proofs.Same.{IsSame-sym}
 use Rattle.machine.proofs.Numbers.{AreDistinct-same}
-use Rattle.class_disk.specs.Joint.{Part, Below, Here, Sent, Kept, note_of, known_of, Master, Joint, lifted, parts_pieces, parts_busy, parts_lifted, pieces_below, pieces_above, shown, below, above, below_rules}
-use Rattle.class_disk.specs.Kept.{IsSound, Keeps, noted_busy, IsOverMark, IsOverNote, IsOver}
+use Rattle.class_disk.specs.inside.Joint.{Part, Below, Here, Sent, Kept, note_of, known_of, Divided, Joint, lifted, parts_pieces, parts_busy, parts_lifted, pieces_below, pieces_above, shown, below, above}
+use Rattle.class_disk.specs.PortRules.{below_rules}
+use Rattle.class_disk.specs.inside.Kept.{IsSound, Keeps, noted_busy, IsOverMark, IsOverNote, IsOver}
 use Rattle.class_disk.specs.Shown.{class_rules, IsPort}
 use Rattle.class_disk.proofs.Resting.{HasEndedHere, AreEndedHere, gone, all_sent, same_count}
 
@@ -39,7 +40,7 @@ on_tags_lifted owner first (Below o again pieces ∷ parts) =
     mine (p ∷ ps) = ap (λ zs. piece_on_tag p ∷ zs) (mine ps)
 on_tags_lifted owner first (Here marks busy ∷ parts) = on_tags_lifted owner (first + length marks) parts
 
-pub on_tags : (es : List Master) → map piece_on_tag (pieces_above es) ≡ map piece_on_tag (pieces_below es)
+pub on_tags : (es : List Divided) → map piece_on_tag (pieces_above es) ≡ map piece_on_tag (pieces_below es)
 on_tags [] = refl
 on_tags (e ∷ es) =
     map-append piece_on_tag (parts_lifted e.number 0 e.parts) (pieces_above es)
@@ -54,7 +55,7 @@ busy_noted [] = omega arith
 busy_noted (Below o again ps ∷ parts) = let h = busy_noted parts in omega arith
 busy_noted (Here marks busy ∷ parts) = let h = busy_noted parts in omega arith
 
-module _ (rules : Rules) (j : Joint) (e : Master) where
+module _ (rules : Rules) (j : Joint) (e : Divided) where
   over_mark : (m : Mark) → IsOverMark e.cancelled j.removing rules.busy_limit (noted_busy (map note_of e.parts)) m → HasEnded rules (above j) (shown e) m
   over_mark Untouched (inl cancelled) = inr (_, inl (cancelled, refl))
   over_mark Untouched (inr removing) = inr (_, inr (removing, refl))
@@ -74,7 +75,7 @@ module _ (rules : Rules) (j : Joint) (e : Master) where
       (All-head (IsOverNote e.cancelled j.removing rules.busy_limit (noted_busy (map note_of e.parts))) (Kept marks busy) (map note_of parts) h))
       (over_parts parts (All-tail (IsOverNote e.cancelled j.removing rules.busy_limit (noted_busy (map note_of e.parts))) (Kept marks busy) (map note_of parts) h))
 
-pub over_here : (rules : Rules) (j : Joint) (es : List Master) → All (IsOver rules.busy_limit j.removing) (map known_of es) → All (AreEndedHere rules (above j)) es
+pub over_here : (rules : Rules) (j : Joint) (es : List Divided) → All (IsOver rules.busy_limit j.removing) (map known_of es) → All (AreEndedHere rules (above j)) es
 over_here rules j [] h = All-nil (AreEndedHere rules (above j))
 over_here rules j (e ∷ es) h =
     All-cons (AreEndedHere rules (above j)) e es (over_parts rules j e e.parts (All-head (IsOver rules.busy_limit j.removing) (known_of e) (map known_of es) h))
@@ -84,7 +85,7 @@ over_here rules j (e ∷ es) h =
 
 module _ (v : DeviceView) (port : IsPort v.rules) (ordered : IsOrderly v) (sound : IsSound v.state) (j : Joint) (same : IsSame (below j) v.state) (k : Keeps (class_rules v.rules) j)
     (unfinished : All (IsUnfinished v.rules v.state) v.state.requests) (settled : Settled v.rules v.state)
-    (distinct : AreDistinct (above j)) (places : HavePlaces (above j)) (over : All (IsOver 17 j.removing) (map known_of j.masters)) where
+    (distinct : AreDistinct (above j)) (places : HavePlaces (above j)) (over : All (IsOver 17 j.removing) (map known_of j.divided)) where
   abbrev rules : Rules
   rules = class_rules v.rules
 
@@ -94,8 +95,8 @@ module _ (v : DeviceView) (port : IsPort v.rules) (ordered : IsOrderly v) (sound
   settled_below : Settled (below_rules rules) v.state
   settled_below = subst (λ r. Settled r v.state) port.below settled
 
-  here_ended : All (AreEndedHere rules (above j)) j.masters
-  here_ended = over_here rules j j.masters over
+  here_ended : All (AreEndedHere rules (above j)) j.divided
+  here_ended = over_here rules j j.divided over
 
   started_if : (o : OpenRequest) → HasPlaces o → All (HasGone rules o) o.marks → IsTrue (is_started o)
   started_if o some all = by (list_all is_untouched o.marks) refl
@@ -119,20 +120,21 @@ module _ (v : DeviceView) (port : IsPort v.rules) (ordered : IsOrderly v) (sound
   count t to = length_permutation _ _ to.pieces ∙ same_count rules port.no_window j v.state same sound ordered.places k unfinished_below settled_below here_ended
 
   -- with a tag free, a request that isn't cancelled is started
-  none_waits : length v.state.pieces < rules.depth → IsFalse v.state.removing → (t : State) → All (WaitsForTag rules t) (map shown j.masters)
+  none_waits : length v.state.pieces < rules.depth → IsFalse v.state.removing → (t : State) → All (WaitsForTag rules t) (map shown j.divided)
   none_waits free staying t =
-      All-map (WaitsForTag rules t) shown j.masters (λ n d low timely still.
-      let e : Master = get_or j.masters n d in
-      let c : Contains j.masters e = Contains-get_or j.masters n d low in
-      let started : IsTrue (is_started (shown e)) = started_if (shown e) (All-contains (λ x. HasPlaces (shown x)) j.masters e masters_have c) (gone rules port.no_window j v.state same sound ordered.places k unfinished_below settled_below here_ended e c free staying timely) in
+      All-map (WaitsForTag rules t) shown j.divided (λ n d low timely still.
+      let e : Divided = get_or j.divided n d in
+      let c : Contains j.divided e = Contains-get_or j.divided n d low in
+      let started : IsTrue (is_started (shown e)) = started_if (shown e) (All-contains (λ x. HasPlaces (shown x)) j.divided e divided_have c) (gone rules port.no_window j v.state same sound ordered.places k unfinished_below settled_below here_ended e c free staying timely) in
       absurd (cc (started, still)))
     where
-      masters_have : All (λ x. HasPlaces (shown x)) j.masters
-      masters_have = All-from_map HasPlaces shown j.masters places
+      divided_have : All (λ x. HasPlaces (shown x)) j.divided
+      divided_have = All-from_map HasPlaces shown j.divided places
 
-  pub orderly_above : (t : State) → IsSame (above j) t → (packets : List Packet) → IsPermutation (map packet_number packets) (map request_number t.requests) → (submitted most : ℕ)
-      → IsOrderly (record { rules = rules; state = t; packets = packets; submitted = submitted; most = most; adapter = v.adapter })
-  orderly_above t to packets packed submitted most =
+  pub orderly_above : (t : State) → IsSame (above j) t → (packets : List Packet) → IsPermutation (map packet_number packets) (map request_number t.requests)
+      → (rooms : List (Option Reserved)) → IsDistinct eqb (map packet_spot packets) → All (IsOffRooms rooms) packets → (submitted most : ℕ)
+      → IsOrderly (record { rules = rules; state = t; packets = packets; rooms = rooms; submitted = submitted; most = most; adapter = v.adapter })
+  orderly_above t to packets packed rooms spots vacant submitted most =
       let same_pieces : length t.pieces ≡ length v.state.pieces = count t to in
       record {
         adapter = ordered.adapter;
@@ -142,11 +144,13 @@ module _ (v : DeviceView) (port : IsPort v.rules) (ordered : IsOrderly v) (sound
           same_depth = ordered.read.same_depth;
           arrays = sym to.arrays ∙ same.arrays ∙ ordered.read.arrays;
           pieces = IsPermutation-trans _ _ _ (IsPermutation-map piece_on_tag _ _ (IsPermutation-sym _ _ to.pieces))
-              (subst (λ zs. IsPermutation zs (map use_on_tag v.adapter.tags)) (sym (on_tags j.masters)) (IsPermutation-trans _ _ _ (IsPermutation-map piece_on_tag _ _ same.pieces) ordered.read.pieces));
+              (subst (λ zs. IsPermutation zs (map use_on_tag v.adapter.tags)) (sym (on_tags j.divided)) (IsPermutation-trans _ _ _ (IsPermutation-map piece_on_tag _ _ same.pieces) ordered.read.pieces));
         };
         distinct = AreDistinct-same t (above j) (IsSame-sym _ _ to) distinct;
         places = All-permutation HasPlaces _ _ to.requests places;
         packets = packed;
+        spots = spots;
+        vacant = vacant;
         sending = record {
           sent = λ free staying. All-permutation (IsAllSent rules) _ _ to.requests
               (all_sent rules port.no_window j v.state same sound ordered.places k unfinished_below settled_below here_ended (omega arith) (sym same.removing ∙ to.removing ∙ staying));

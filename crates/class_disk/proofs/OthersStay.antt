@@ -9,10 +9,10 @@ use Rattle.machine.specs.State.{OpenRequest, State}
 use Rattle.machine.proofs.Permuting.{IsPermutation-uncons}
 use Rattle.device.specs.View.{DeviceView}
 use Rattle.device.specs.Served.{StaysOpen}
-use Rattle.class_disk.specs.Books.{Opened, Books, opened, open_at}
-use Rattle.class_disk.specs.Driver.{known, knowns, view_of, IsCoupled}
-use Rattle.class_disk.specs.Joint.{Part, Below, Here, Known, note_of, known_of, Master, parts_requests, parts_marks, parts_busy, shown, shown_mark}
-use Rattle.class_disk.specs.Shown.{class_rules, open_under, part_of, master_of}
+use Rattle.class_disk.specs.inside.Books.{Opened, Books, opened, open_at}
+use Rattle.class_disk.specs.inside.Driver.{known, knowns, view_of, IsCoupled}
+use Rattle.class_disk.specs.inside.Joint.{Part, Below, Here, Known, note_of, known_of, Divided, parts_requests, parts_marks, parts_busy, shown, shown_mark}
+use Rattle.class_disk.specs.Shown.{class_rules, open_under, part_of, divided_of}
 use Rattle.class_disk.proofs.Acting.{map_there}
 use Rattle.class_disk.proofs.CoupledRun.{Contains-map}
 use Rattle.class_disk.proofs.CoupledSteps.{in_requests}
@@ -43,50 +43,50 @@ module _ (s s' : State) where
       ∙ ap (λ n. (again + (open_under o.number s'.requests).busy_returns) + n) (same_busy parts (λ x (k, low, is). same x (suc k, omega arith, is)))
   same_busy (Here marks busy ∷ parts) same = ap (λ n. busy + n) (same_busy parts same)
 
-  same_shown : (e : Master) → AreSame e.parts → shown (master_of s (known_of e)) ≡ shown (master_of s' (known_of e))
+  same_shown : (e : Divided) → AreSame e.parts → shown (divided_of s (known_of e)) ≡ shown (divided_of s' (known_of e))
   same_shown e same =
-      ap (λ m. record (shown (master_of s (known_of e))) { marks = m }) (same_marks e.parts same)
-      ∙ ap (λ n. record (shown (master_of s' (known_of e))) { busy_returns = n }) (same_busy e.parts same)
+      ap (λ m. record (shown (divided_of s (known_of e))) { marks = m }) (same_marks e.parts same)
+      ∙ ap (λ n. record (shown (divided_of s' (known_of e))) { busy_returns = n }) (same_busy e.parts same)
 
-module _ {R : Type 0} (v : DeviceView) (b : Books R) (v' : DeviceView) (b' : Books R) (c : IsCoupled v b) (distinct : AreDistinct v.state)
+module _ (v : DeviceView) (b : Books) (v' : DeviceView) (b' : Books) (c : IsCoupled v b) (distinct : AreDistinct v.state)
     (distinct' : AreDistinct v'.state)
-    (below : All (StaysOpen v'.state) v.state.requests) (same_rules : v'.rules ≡ v.rules) (table : (e : ℕ × Opened R) → Contains b.opens e
+    (below : All (StaysOpen v'.state) v.state.requests) (same_rules : v'.rules ≡ v.rules) (table : (e : ℕ × Opened) → Contains b.opens e
     → Contains b'.opens e) where
   abbrev rules : Rules
   rules = class_rules v.rules
 
-  known_stays : (k : Known) → Contains (knowns rules b) k → shown (master_of v.state k) ≡ shown (master_of v'.state k)
+  known_stays : (k : Known) → Contains (knowns rules b) k → shown (divided_of v.state k) ≡ shown (divided_of v'.state k)
   known_stays k there =
-      let m = map_there known_of c.j.masters k (Contains-permutation _ _ k (IsPermutation-sym _ _ c.knows) there) in
-      let e : Master = m.0 in
-      subst (λ (x : Known). shown (master_of v.state x) ≡ shown (master_of v'.state x)) m.2
+      let m = map_there known_of c.j.divided k (Contains-permutation _ _ k (IsPermutation-sym _ _ c.knows) there) in
+      let e : Divided = m.0 in
+      subst (λ (x : Known). shown (divided_of v.state x) ≡ shown (divided_of v'.state x)) m.2
       (same_shown v.state v'.state e (λ o in_e.
-      let is_open : Contains v.state.requests o = Contains-permutation _ _ o c.same.requests (in_requests e o c.j.masters m.1 in_e) in
+      let is_open : Contains v.state.requests o = Contains-permutation _ _ o c.same.requests (in_requests e o c.j.divided m.1 in_e) in
       open_is v.state o distinct is_open ∙ sym (open_is v'.state o distinct' (All-contains (StaysOpen v'.state) v.state.requests o below is_open))))
 
   pub others_stay_above : All (StaysOpen (view_of v' b').state) (view_of v b).state.requests
   others_stay_above =
-      let Stays : OpenRequest → Type 0 = λ o. Contains (map shown (map (master_of v'.state) (knowns (class_rules v'.rules) b'))) o in
-      All-map Stays shown (map (master_of v.state) (knowns rules b))
-      (All-map (λ m. Stays (shown m)) (master_of v.state) (knowns rules b)
-      (All-map (λ k. Stays (shown (master_of v.state k))) (known rules) (map opened b.opens)
-      (All-map (λ (o : Opened R). Stays (shown (master_of v.state (known rules o)))) opened b.opens
+      let Stays : OpenRequest → Type 0 = λ o. Contains (map shown (map (divided_of v'.state) (knowns (class_rules v'.rules) b'))) o in
+      All-map Stays shown (map (divided_of v.state) (knowns rules b))
+      (All-map (λ m. Stays (shown m)) (divided_of v.state) (knowns rules b)
+      (All-map (λ k. Stays (shown (divided_of v.state k))) (known rules) (map opened b.opens)
+      (All-map (λ (o : Opened). Stays (shown (divided_of v.state (known rules o)))) opened b.opens
       (λ i d low. one (get_or b.opens i d) (Contains-get_or b.opens i d low)))))
     where
-      one : (e : ℕ × Opened R) → Contains b.opens e → Contains (map shown (map (master_of v'.state) (knowns (class_rules v'.rules) b')))
-          (shown (master_of v.state (known rules e.1)))
+      one : (e : ℕ × Opened) → Contains b.opens e → Contains (map shown (map (divided_of v'.state) (knowns (class_rules v'.rules) b')))
+          (shown (divided_of v.state (known rules e.1)))
       one e there =
           let old : Contains (knowns rules b) (known rules e.1) =
           Contains-map (known rules) (map opened b.opens) e.1 (Contains-map opened b.opens e there) in
           let new : Contains (knowns rules b') (known rules e.1) =
           Contains-map (known rules) (map opened b'.opens) e.1 (Contains-map opened b'.opens e (table e there)) in
-          subst (λ (r : Rules). Contains (map shown (map (master_of v'.state) (knowns (class_rules r) b'))) (shown (master_of v.state (known rules e.1))))
+          subst (λ (r : Rules). Contains (map shown (map (divided_of v'.state) (knowns (class_rules r) b'))) (shown (divided_of v.state (known rules e.1))))
           (sym same_rules)
-          (subst (Contains (map shown (map (master_of v'.state) (knowns rules b')))) (sym (known_stays (known rules e.1) old))
-          (Contains-map shown (map (master_of v'.state) (knowns rules b')) _ (Contains-map (master_of v'.state) (knowns rules b') _ new)))
+          (subst (Contains (map shown (map (divided_of v'.state) (knowns rules b')))) (sym (known_stays (known rules e.1) old))
+          (Contains-map shown (map (divided_of v'.state) (knowns rules b')) _ (Contains-map (divided_of v'.state) (knowns rules b') _ new)))
 
 -- the requests that were open before another was have other slots
-pub others_apart : {R : Type 0} (slot : ℕ) (o : Opened R) (opens now : List (ℕ × Opened R)) → AreRising 0 now → open_at slot now ≡ Some o
+pub others_apart : (slot : ℕ) (o : Opened) (opens now : List (ℕ × Opened)) → AreRising 0 now → open_at slot now ≡ Some o
     → IsPermutation now ((slot, o) ∷ opens) → All (HasOtherSlot slot) opens
 others_apart slot o opens now rise is_open all =
     let s : StandsIn now slot o = stands_by 0 slot now o rise is_open in

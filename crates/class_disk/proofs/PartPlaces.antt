@@ -14,10 +14,11 @@ use Rattle.machine.specs.State.{State, Untouched}
 use Rattle.machine.specs.Calling.{new_request}
 use Rattle.device.specs.View.{payload_bytes, sent_bytes}
 use Rattle.class_disk.specs.declared.parts.Part.{Part}
-use Rattle.class_disk.specs.Blocks.{data_length, part_count_of, part_request_of}
-use Rattle.class_disk.specs.Turns.{bytes_from}
-use Rattle.class_disk.specs.Joint.{IsPartOf, below_rules}
-use Rattle.class_disk.specs.Driver.{note, places_of, request_of_part, IsReadyPart}
+use Rattle.class_disk.specs.inside.Blocks.{data_length, part_count_of, part_request_of}
+use Rattle.class_disk.specs.inside.Turns.{bytes_from}
+use Rattle.class_disk.specs.inside.Joint.{IsPartOf}
+use Rattle.class_disk.specs.PortRules.{below_rules}
+use Rattle.class_disk.specs.inside.Driver.{note, places_of, request_of_part, IsReadyPart}
 use Rattle.class_disk.proofs.Admitting.{sectors_are}
 use Rattle.class_disk.proofs.Cutting.{piece_within}
 use Rattle.class_disk.proofs.FirstSending.{noted_places, AreHere}
@@ -36,13 +37,13 @@ here_new : (counts : List ℕ) → AreHere (map new_note counts)
 here_new [] = tt
 here_new (count ∷ counts) = here_new counts
 
-module _ {R : Type 0} (request_of : R → Request) (ready : R → Type 0) (rules : Rules) (parts : List (Part R))
-    (all : All (IsReadyPart request_of ready) parts) where
+module _ (rules : Rules) (parts : List Part)
+    (all : All IsReadyPart parts) where
   pub ready_places : noted_places (map (note rules) parts) ≡ total (map (places_of rules) parts)
-  ready_places = ap noted_places (notes_ready request_of ready rules parts all) ∙ noted_new (map (places_of rules) parts)
+  ready_places = ap noted_places (notes_ready rules parts all) ∙ noted_new (map (places_of rules) parts)
 
   pub ready_here : AreHere (map (note rules) parts)
-  ready_here = subst AreHere (sym (notes_ready request_of ready rules parts all)) (here_new (map (places_of rules) parts))
+  ready_here = subst AreHere (sym (notes_ready rules parts all)) (here_new (map (places_of rules) parts))
 
   -- by what they ask for
   pub ready_total : (f : ℕ → Request) (first m : ℕ) → map request_of_part parts ≡ map f (range_with_len first m)

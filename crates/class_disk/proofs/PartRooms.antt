@@ -1,36 +1,51 @@
 -- The rooms below of a list of parts, as parts are put behind it and taken off its end.
-use Rattle.std.proofs.Common.{◌≡◌, List, [], ◌∷◌, ◌++◌, refl, sym, ◌∙◌, ap, subst, append_assoc}
+use Rattle.std.proofs.Common.{◌≡◌, List, [], ◌∷◌, ◌++◌, Some, refl, sym, ◌∙◌, ap, subst, append_assoc}
 use Rattle.std.specs.Prelude.{IsPermutation}
 use Rattle.std.proofs.lemmas.List.Sorted.{IsPermutation-sym, IsPermutation-append_left, IsPermutation-append_comm}
+use Rattle.device.specs.View.{DeviceView}
+use Rattle.device.specs.inside.Out.{Ticket}
+use Rattle.class_disk.specs.inside.Rooms.{AllOut}
+use Rattle.class_disk.proofs.Rooms.{out_any_order}
 use Rattle.class_disk.specs.declared.parts.Part.{Part}
-use Rattle.class_disk.specs.Parts.{room_by, rooms_of}
+use Rattle.class_disk.specs.declared.parts.Progress.{Progress}
+use Rattle.class_disk.specs.declared.parts.Progress.TheVariants.{Ready, Below, Ended}
+use Rattle.class_disk.specs.declared.parts.TransferPacket.{TransferPacket}
+use Rattle.class_disk.specs.inside.Parts.{packet_by, ticket_for, ticket_by, tickets_of}
 
-module _ {R : Type 0} where
-  rooms_joined : (xs ys : List (Part R)) → rooms_of (xs ++ ys) ≡ rooms_of xs ++ rooms_of ys
-  rooms_joined [] ys = refl
-  rooms_joined (x ∷ xs) ys =
-      ap (λ zs. room_by x.progress ++ zs) (rooms_joined xs ys) ∙ sym (append_assoc (room_by x.progress) (rooms_of xs) (rooms_of ys))
+tickets_joined : (xs ys : List Part) → tickets_of (xs ++ ys) ≡ tickets_of xs ++ tickets_of ys
+tickets_joined [] ys = refl
+tickets_joined (x ∷ xs) ys =
+    ap (λ zs. ticket_by x.request x.progress ++ zs) (tickets_joined xs ys) ∙ sym (append_assoc (ticket_by x.request x.progress) (tickets_of xs) (tickets_of ys))
 
-  -- those of the last part come first
-  last_first : (front : List (Part R)) (part : Part R) (rooms : List R)
-      → IsPermutation (rooms_of (front ++ part ∷ []) ++ rooms) (rooms_of (part ∷ []) ++ (rooms_of front ++ rooms))
-  last_first front part rooms =
-      subst (λ ws. IsPermutation (ws ++ rooms) (rooms_of (part ∷ []) ++ (rooms_of front ++ rooms))) (sym (rooms_joined front (part ∷ [])))
-      (subst (IsPermutation ((rooms_of front ++ rooms_of (part ∷ [])) ++ rooms))
-      (append_assoc (rooms_of (part ∷ [])) (rooms_of front) rooms)
-      (IsPermutation-append_left rooms _ _ (IsPermutation-append_comm (rooms_of front) (rooms_of (part ∷ [])))))
+-- those of the last part come first
+last_first : (front : List Part) (part : Part) (others : List Ticket)
+    → IsPermutation (tickets_of (front ++ part ∷ []) ++ others) (tickets_of (part ∷ []) ++ (tickets_of front ++ others))
+last_first front part others =
+    subst (λ ws. IsPermutation (ws ++ others) (tickets_of (part ∷ []) ++ (tickets_of front ++ others))) (sym (tickets_joined front (part ∷ [])))
+    (subst (IsPermutation ((tickets_of front ++ tickets_of (part ∷ [])) ++ others))
+    (append_assoc (tickets_of (part ∷ [])) (tickets_of front) others)
+    (IsPermutation-append_left others _ _ (IsPermutation-append_comm (tickets_of front) (tickets_of (part ∷ [])))))
 
-  module _ (out : List R → Type 0) (law : (xs ys : List R) → IsPermutation xs ys → out xs → out ys) where
-    -- the room of a part that is taken off the end is in hand
-    pub taken_off : (items front : List (Part R)) (part : Part R) (room : R) → items ≡ front ++ part ∷ []
-        → room_by part.progress ≡ room ∷ [] → (rooms : List R) → out (rooms_of items ++ rooms) → out (room ∷ (rooms_of front ++ rooms))
-    taken_off items front part room is has rooms h =
-        let first : out (rooms_of (part ∷ []) ++ (rooms_of front ++ rooms)) =
-        law _ _ (last_first front part rooms) (subst (λ xs. out (rooms_of xs ++ rooms)) is h) in
-        subst (λ own. out ((own ++ []) ++ (rooms_of front ++ rooms))) has first
+module _ (v : DeviceView) where
+  -- the room of a part that is taken off the end comes first
+  pub taken_off : (items front : List Part) (part : Part) (ticket : Ticket) → items ≡ front ++ part ∷ []
+      → ticket_by part.request part.progress ≡ ticket ∷ [] → (others : List Ticket) → AllOut v (tickets_of items ++ others) → AllOut v (ticket ∷ (tickets_of front ++ others))
+  taken_off items front part ticket is has others h =
+      let first : AllOut v (tickets_of (part ∷ []) ++ (tickets_of front ++ others)) =
+      out_any_order v _ _ (last_first front part others) (subst (λ xs. AllOut v (tickets_of xs ++ others)) is h) in
+      subst (λ own. AllOut v ((own ++ []) ++ (tickets_of front ++ others))) has first
 
-    -- those of a part that is put behind
-    pub put_behind : (items front : List (Part R)) (part : Part R) → items ≡ front ++ part ∷ []
-        → (rooms : List R) → out (rooms_of (part ∷ []) ++ (rooms_of front ++ rooms)) → out (rooms_of items ++ rooms)
-    put_behind items front part is rooms h =
-        subst (λ xs. out (rooms_of xs ++ rooms)) (sym is) (law _ _ (IsPermutation-sym _ _ (last_first front part rooms)) h)
+  -- those of a part that is put behind
+  pub put_behind : (items front : List Part) (part : Part) → items ≡ front ++ part ∷ []
+      → (others : List Ticket) → AllOut v (tickets_of (part ∷ []) ++ (tickets_of front ++ others)) → AllOut v (tickets_of items ++ others)
+  put_behind items front part is others h =
+      subst (λ xs. AllOut v (tickets_of xs ++ others)) (sym is) (out_any_order v _ _ (IsPermutation-sym _ _ (last_first front part others)) h)
+
+-- the room of a part that is not below
+pub part_ticket : (part : Part) (packet : TransferPacket) → packet_by part.progress ≡ Some packet → ticket_by part.request part.progress ≡ ticket_for part.request packet ∷ []
+part_ticket part packet h = by part.progress h
+  where
+    by : (p : Progress) → packet_by p ≡ Some packet → ticket_by part.request p ≡ ticket_for part.request packet ∷ []
+    by (Ready place) is = let e : place.packet ≡ packet = cc (is) in ap (λ x. ticket_for part.request x ∷ []) e
+    by (Below number spot) is = absurd (cc (is))
+    by (Ended ended) is = let e : ended.packet ≡ packet = cc (is) in ap (λ x. ticket_for part.request x ∷ []) e

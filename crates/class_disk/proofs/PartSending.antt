@@ -1,101 +1,108 @@
--- A part is sent: what the layer below asks for, and what the table has then.
-use Rattle.std.proofs.Common.{◌≡◌, ◌≤◌, ◌⊎◌, inl, inr, ℕ, zero, suc, ◌+◌, ◌==◌, Bool, true, false, List, [], ◌∷◌, Some, refl, sym, ◌∙◌, ap, subst, arith, length, if◌then◌else◌}
-use Rattle.std.proofs.lemmas.Bool.{eqb-false, cases_Bool}
-use Rattle.std.specs.Prelude.{slice_get, slice_set}
+-- A part is sent: what the layer below asks for.
+use Rattle.std.proofs.Common.{◌≡◌, ◌≤◌, ℕ, ◌+◌, Bool, true, List, Some, sym, ◌∙◌, ap, subst, arith, length}
+use Rattle.std.specs.Prelude.{slice_get}
 use Rattle.machine.specs.declared.Request.{Request}
-use Rattle.device.specs.View.{DeviceView, Carries, AsksInLocation, packet_of}
+use Rattle.device.specs.View.{DeviceView, Carries, IsReady, AsksInLocation, request_at, request_of, room_at, whole_for, packet_of, IsOrderly}
 use Rattle.device.specs.Served.{Submits}
+use Rattle.device.specs.inside.Out.{Ticket}
+use Rattle.class_disk.proofs.Rooms.{out_first}
+use Rattle.device.specs.declared.layer.Room.{Room}
 use Rattle.class_disk.specs.declared.parts.Part.{Part}
 use Rattle.class_disk.specs.declared.parts.Place.{Place}
-use Rattle.class_disk.specs.declared.parts.Progress.TheVariants.{Ready}
-use Rattle.class_disk.specs.declared.requests.Sending.{Sending}
-use Rattle.class_disk.specs.Books.{Opened, Books, open_at, put_at}
-use Rattle.class_disk.specs.Turns.{SendsPart, IsPartAt, next_number, with_part, sent_part, spotted_books}
-use Rattle.class_disk.specs.Midway.{CanSendPart, SendsDown}
+use Rattle.class_disk.specs.declared.parts.TransferPacket.{TransferPacket}
+use Rattle.class_disk.specs.Opening.{TakesParts}
+use Rattle.class_disk.specs.inside.Blocks.{IsOwnPacket}
+use Rattle.class_disk.specs.inside.Parts.{payload_in, ticket_for}
+use Rattle.class_disk.specs.inside.Books.{Opened, Books, open_at}
+use Rattle.class_disk.specs.inside.Turns.{SendsPart, SendsPartAgain}
+use Rattle.class_disk.specs.inside.Midway.{CanSubmit, CanSendPart, CanSendAgain, SendsDown, SendsDownAgain}
 
 some_same : {X : Type 0} {x y : X} → Some x ≡ Some y → x ≡ y
 some_same {X} {x} {y} e = cc (e)
 
-equal : (a : ℕ) → (a == a) ≡ true
-equal a = elim (cases_Bool (a == a)) [
-  | inl yes' ↦ yes'
-  | inr no' ↦ absurd (eqb-false a a no' refl)
-]
+-- the one part that is open there
+pub one_part : (b : Books) (slot k : ℕ) (o o' : Opened) (part part' : Part) → open_at slot b.opens ≡ Some o → slice_get o.parts k ≡ Some part
+    → open_at slot b.opens ≡ Some o' → slice_get o'.parts k ≡ Some part' → part ≡ part'
+one_part b slot k o o' part part' is_open is_there open' there' =
+    let same : o' ≡ o = some_same (sym open' ∙ is_open) in
+    some_same (sym is_there ∙ ap (λ (x : Opened). slice_get x.parts k) (sym same) ∙ there')
 
--- what was put in a place is there
-pub get_set : {X : Type 0} (xs : List X) (k : ℕ) (x y : X) → slice_get xs k ≡ Some x → slice_get (slice_set xs k y) k ≡ Some y
-get_set [] k x y h = absurd (cc (h))
-get_set (z ∷ xs) zero x y h = refl
-get_set (z ∷ xs) (suc k) x y h = get_set xs k x y h
+-- a packet of the class driver's own can be submitted, in a room that is out for its request
+module _ (takes : Bool) (stack : ℕ) (t : TakesParts takes stack) (v : DeviceView) (b : Books) (old : TransferPacket) (others : List Ticket) (r : Request) (c : CanSubmit v b old others r)
+    (packet : TransferPacket) (room : packet.room ≡ old.room) (own : IsOwnPacket b.next_packet r (payload_in packet) packet.irp.value) where
+  room_is : room_at v.rooms packet.room.spot ≡ Some (whole_for r)
+  room_is = ap (λ (x : Room). room_at v.rooms x.spot) room ∙ out_first v (ticket_for r old) others c.rooms_out
 
-pub open_put : {R : Type 0} (slot : ℕ) (opens : List (ℕ × Opened R)) (o x : Opened R) → open_at slot opens ≡ Some o → open_at slot (put_at slot x opens) ≡ Some x
-open_put slot [] o x h = absurd (cc (h))
-open_put slot (e ∷ rest) o x h = by (cases_Bool (e.0 == slot)) (λ later. open_put slot rest o x later)
-  where
-    by : ((e.0 == slot) ≡ true) ⊎ ((e.0 == slot) ≡ false) → (open_at slot rest ≡ Some o → open_at slot (put_at slot x rest) ≡ Some x) → open_at slot (put_at slot x (e ∷ rest)) ≡ Some x
-    by (inl yes') later =
-        ap (λ b. open_at slot (if b then (slot, x) ∷ rest else e ∷ put_at slot x rest)) yes'
-        ∙ ap (λ b. if b then Some x else open_at slot rest) (equal slot)
-    by (inr no') later =
-        ap (λ b. open_at slot (if b then (slot, x) ∷ rest else e ∷ put_at slot x rest)) no'
-        ∙ ap (λ b. if b then Some e.1 else open_at slot (put_at slot x rest)) no'
-        ∙ later (sym (ap (λ b. if b then Some e.1 else open_at slot rest) no') ∙ h)
+  pub asked_is : request_at v.rooms packet.room.spot ≡ r
+  asked_is = ap request_of room_is
 
-module _ {R : Type 0} (request_of : R → Request) (ready : R → Type 0) (out : List R → Type 0) (takes_srb : Bool) (stack_size : ℕ) (v : DeviceView) (b : Books R) (slot k : ℕ) (rooms : List R) (o : Opened R) (part : Part R) (place : Place R)
-    (p : CanSendPart request_of ready out takes_srb stack_size v b slot k rooms o part place) (sending : Sending R) (sent : Books R) (s : SendsPart b slot k o part place sending sent) where
-  pub room_out : (xs : List R) × out (sending.room ∷ xs)
-  room_out = (rooms, subst (λ r. out (r ∷ rooms)) (sym s.sends.room) p.submit.rooms_out)
+  pub is_ready : IsReady v.rooms packet.room.spot
+  is_ready = room_is ∙ ap (λ q. Some (whole_for q)) (sym asked_is)
 
-  pub room_ready : ready sending.room
-  room_ready = subst ready (sym s.sends.room) p.submit.room_ready
+  pub number_high : v.state.next_request ≤ packet.irp.value.number
+  number_high = subst (λ n. v.state.next_request ≤ n) (sym own.is_number) c.number
 
-  pub room_for : request_of sending.room ≡ part.request
-  room_for = ap request_of s.sends.room ∙ p.submit.room_for
+  pub few_locations : length packet.irp.value.locations.items + stack ≤ 5
+  few_locations = let one = ap length own.location in let four = t.locations in omega (arith, one, four)
 
-  pub number_high : v.state.next_request ≤ sending.irp.number
-  number_high = subst (λ n. v.state.next_request ≤ n) (sym s.sends.own.is_number) p.submit.number
+  pub asks_there : AsksInLocation true r packet.irp.value → AsksInLocation takes (request_at v.rooms packet.room.spot) packet.irp.value
+  asks_there a =
+      subst (λ x. AsksInLocation x (request_at v.rooms packet.room.spot) packet.irp.value) (sym t.takes)
+      (subst (λ q. AsksInLocation true q packet.irp.value) (sym asked_is) a)
 
-  pub asks_in_location : AsksInLocation takes_srb (request_of sending.room) sending.irp
-  asks_in_location =
-      subst (λ t. AsksInLocation t (request_of sending.room) sending.irp) (sym p.submit.takes.takes)
-      (subst (λ r. AsksInLocation true r sending.irp) (sym room_for) s.sends.asks)
+  pub carries_there : Carries true v.rules r (payload_in packet) → Carries takes v.rules (request_at v.rooms packet.room.spot) packet.irp.value.payload
+  carries_there a =
+      subst (λ x. Carries x v.rules (request_at v.rooms packet.room.spot) packet.irp.value.payload) (sym t.takes)
+      (subst (λ q. Carries true v.rules q packet.irp.value.payload) (sym asked_is) a)
 
-  pub few_locations : length sending.irp.locations.items + stack_size ≤ 5
-  few_locations = let one = ap length s.sends.own.location in let four = p.submit.takes.locations in omega (arith, one, four)
+-- THE TWO WAYS DOWN
 
-  pub carries : Carries takes_srb v.rules (request_of sending.room) sending.irp.payload
-  carries =
-      subst (λ t. Carries t v.rules (request_of sending.room) sending.irp.payload) (sym p.submit.takes.takes)
-      (subst (λ r. Carries true v.rules r sending.irp.payload) (sym room_for)
-      (subst (Carries true v.rules part.request) (sym s.sends.own.is_payload) (s.sends.carries v.rules p.submit.sizes)))
+-- what a part's own packet is
+pub own_sent : (b : Books) (slot k : ℕ) (o : Opened) (part : Part) (place : Place) (packet : TransferPacket) (sent : Books) (s : SendsPart b slot k o part place packet sent)
+    → IsOwnPacket b.next_packet part.request (payload_in packet) packet.irp.value
+own_sent b slot k o part place packet sent s = subst (λ p. IsOwnPacket b.next_packet part.request p packet.irp.value) (sym s.sends.own.is_payload) s.sends.own
 
-  -- the part is below now, with no spot yet
-  pub open_there : open_at slot sent.opens ≡ Some s.o'
-  open_there = ap (λ (x : Books R). open_at slot x.opens) s.after ∙ open_put slot b.opens o s.o' p.is_open
+pub own_again : (b : Books) (slot k : ℕ) (old : TransferPacket) (o : Opened) (part : Part) (packet : TransferPacket) (sent : Books) (s : SendsPartAgain b slot k old o part packet sent)
+    → IsOwnPacket b.next_packet part.request (payload_in packet) packet.irp.value
+own_again b slot k old o part packet sent s = subst (λ p. IsOwnPacket b.next_packet part.request p packet.irp.value) (sym s.sends.own.is_payload) s.sends.own
 
-  pub part_there : slice_get s.o'.parts k ≡ Some (sent_part sending.irp.number 0 part)
-  part_there =
-      let number : sent_part (next_number b slot k) 0 part ≡ sent_part sending.irp.number 0 part = ap (λ n. sent_part n 0 part) (sym s.sends.own.is_number) in
-      let o' : s.o' ≡ with_part k (sent_part sending.irp.number 0 part) o = s.sends.after ∙ ap (λ x. with_part k x o) number in
-      ap (λ (x : Opened R). slice_get x.parts k) o' ∙ get_set o.parts k part _ p.is_there
+pub carries_sent : (v : DeviceView) (b : Books) (slot k : ℕ) (others : List Ticket) (o : Opened) (part : Part) (place : Place) → CanSendPart v b slot k others o part place
+    → (packet : TransferPacket) (sent : Books) (s : SendsPart b slot k o part place packet sent) → Carries true v.rules part.request (payload_in packet)
+carries_sent v b slot k others o part place c packet sent s =
+    subst (Carries true v.rules part.request) (sym s.sends.own.is_payload) (s.sends.carries v.rules c.submit.sizes)
 
-  pub part_sent : IsPartAt sent slot k (sent_part sending.irp.number 0 part)
-  part_sent = record { o = s.o'; is_open = open_there; is_there = part_there }
+pub carries_again : (v : DeviceView) (b : Books) (slot k : ℕ) (old : TransferPacket) (others : List Ticket) (o : Opened) (part : Part) → CanSendAgain v b slot k old others o part
+    → (packet : TransferPacket) (sent : Books) (s : SendsPartAgain b slot k old o part packet sent) → Carries true v.rules part.request (payload_in packet)
+carries_again v b slot k old others o part c packet sent s = subst (Carries true v.rules part.request) (sym s.sends.own.is_payload) c.carries
 
-  -- the layer below has its packet, and the part has its spot: for each way to name the request and the part
-  pub sends_down : (o2 : Opened R) (part2 : Part R) (place2 : Place R) → open_at slot b.opens ≡ Some o2 → slice_get o2.parts k ≡ Some part2 → part2.progress ≡ Ready place2 → SendsPart b slot k o2 part2 place2 sending sent
-      → (v' : DeviceView) (spot : ℕ) → Submits v (packet_of sending.irp spot) (request_of sending.room) sending.irp.payload v'
-      → (new : Books R) → new ≡ spotted_books slot k sending.irp.number spot s.o' (sent_part sending.irp.number 0 part) sent
-      → SendsDown v b slot k o2 part2 place2 v' new
-  sends_down o2 part2 place2 is_open is_there is_ready s2 v' spot submits new after =
-      let same_o : o2 ≡ o = some_same (sym is_open ∙ p.is_open) in
-      let same_part : part2 ≡ part = some_same (sym is_there ∙ ap (λ (x : Opened R). slice_get x.parts k) same_o ∙ p.is_there) in
-      let own' : s2.o' ≡ s.o' = s2.sends.after ∙ ap (λ x. with_part k (sent_part (next_number b slot k) 0 x) o2) same_part ∙ ap (λ x. with_part k (sent_part (next_number b slot k) 0 part) x) same_o ∙ sym s.sends.after in
-      record {
-        sending = sending;
-        spot = spot;
-        sent = sent;
-        sends = s2;
-        submits = subst (λ r. Submits v (packet_of sending.irp spot) r sending.irp.payload v') (room_for ∙ ap (λ (x : Part R). x.request) (sym same_part)) submits;
-        after = after ∙ ap (λ x. spotted_books slot k sending.irp.number spot x part sent) (sym own') ∙ ap (λ x. spotted_books slot k sending.irp.number spot s2.o' x sent) (sym same_part);
-      }
+-- as the class driver's caller knows the part
+pub sends_there : (takes : Bool) (stack : ℕ) (t : TakesParts takes stack) (v : DeviceView) (b : Books) (slot k : ℕ) (others : List Ticket) (o1 : Opened) (part1 : Part) (place1 : Place)
+    (c : CanSendPart v b slot k others o1 part1 place1) (packet : TransferPacket) (sent : Books) (s1 : SendsPart b slot k o1 part1 place1 packet sent)
+    (o : Opened) (part : Part) (place : Place) → open_at slot b.opens ≡ Some o → slice_get o.parts k ≡ Some part → SendsPart b slot k o part place packet sent
+    → (v' : DeviceView) → Submits v (packet_of packet.irp.value packet.room.spot) (request_at v.rooms packet.room.spot) packet.irp.value.payload v' → IsOrderly v'
+    → SendsDown v b slot k o part place v' sent
+sends_there takes stack t v b slot k others o1 part1 place1 c packet sent s1 o part place is_open is_there s v' h ordered = record {
+  packet = packet;
+  sends = s;
+  submits = subst (λ (x : Room). Submits v (packet_of packet.irp.value x.spot) part.request packet.irp.value.payload v') s.sends.room
+      (subst (λ y. Submits v (packet_of packet.irp.value packet.room.spot) y packet.irp.value.payload v')
+      (asked_is takes stack t v b place1.packet others part1.request c.submit packet s1.sends.room (own_sent b slot k o1 part1 place1 packet sent s1)
+      ∙ ap (λ (x : Part). x.request) (one_part b slot k o1 o part1 part c.is_open c.is_there is_open is_there)) h);
+  ordered = ordered;
+}
+
+pub sends_again_there : (takes : Bool) (stack : ℕ) (t : TakesParts takes stack) (v : DeviceView) (b : Books) (slot k : ℕ) (old : TransferPacket) (others : List Ticket) (o1 : Opened) (part1 : Part)
+    (c : CanSendAgain v b slot k old others o1 part1) (packet : TransferPacket) (sent : Books) (s1 : SendsPartAgain b slot k old o1 part1 packet sent)
+    (o : Opened) (part : Part) → open_at slot b.opens ≡ Some o → slice_get o.parts k ≡ Some part → SendsPartAgain b slot k old o part packet sent
+    → (v' : DeviceView) → Submits v (packet_of packet.irp.value packet.room.spot) (request_at v.rooms packet.room.spot) packet.irp.value.payload v' → IsOrderly v'
+    → SendsDownAgain v b slot k old o part v' sent
+sends_again_there takes stack t v b slot k old others o1 part1 c packet sent s1 o part is_open is_there s v' h ordered = record {
+  packet' = packet;
+  sends = s;
+  submits = subst (λ p. Submits v (packet_of packet.irp.value old.room.spot) part.request p v') s.sends.own.is_payload
+      (subst (λ (x : Room). Submits v (packet_of packet.irp.value x.spot) part.request packet.irp.value.payload v') s.sends.room
+      (subst (λ y. Submits v (packet_of packet.irp.value packet.room.spot) y packet.irp.value.payload v')
+      (asked_is takes stack t v b old others part1.request c.submit packet s1.sends.room (own_again b slot k old o1 part1 packet sent s1)
+      ∙ ap (λ (x : Part). x.request) (one_part b slot k o1 o part1 part c.is_open c.is_there is_open is_there)) h));
+  ordered = ordered;
+}

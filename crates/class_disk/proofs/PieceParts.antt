@@ -10,8 +10,9 @@ use Rattle.machine.specs.declared.Request.{Request}
 use Rattle.machine.specs.Rules.{Rules, as_client}
 use Rattle.machine.specs.State.{State, Untouched}
 use Rattle.machine.specs.Calling.{new_request}
-use Rattle.class_disk.specs.Blocks.{part_request_of}
-use Rattle.class_disk.specs.Joint.{IsPartOf, below_rules}
+use Rattle.class_disk.specs.inside.Blocks.{part_request_of}
+use Rattle.class_disk.specs.inside.Joint.{IsPartOf}
+use Rattle.class_disk.specs.PortRules.{below_rules}
 use Rattle.class_disk.proofs.Admitting.{sectors_are}
 
 -- these bytes are what those have from a place on, for so many places

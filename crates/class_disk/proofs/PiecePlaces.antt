@@ -15,28 +15,28 @@ use Rattle.machine.specs.declared.Request.{Request}
 use Rattle.machine.specs.Rules.{Rules, place_count, as_client, is_transfer}
 use Rattle.device.specs.View.{Carries, IsBounded, transfer_length}
 use Rattle.class_disk.specs.declared.parts.Part.{Part}
-use Rattle.class_disk.specs.Blocks.{FitsBlock, data_length, part_count_of, part_request_of}
-use Rattle.class_disk.specs.Turns.{bytes_from}
-use Rattle.class_disk.specs.Driver.{request_of_part}
+use Rattle.class_disk.specs.inside.Blocks.{FitsBlock, data_length, part_count_of, part_request_of}
+use Rattle.class_disk.specs.inside.Turns.{bytes_from}
+use Rattle.class_disk.specs.inside.Driver.{request_of_part}
 use Rattle.class_disk.proofs.Admitting.{sectors_are}
 use Rattle.class_disk.proofs.Cutting.{piece_within, some_piece}
 
 -- WHAT THE PARTS ASK FOR, by their places
 
-pub asked_at : {R : Type 0} (f : ℕ → Request) (first n : ℕ) (parts : List (Part R)) (k : ℕ) (part : Part R)
+pub asked_at : (f : ℕ → Request) (first n : ℕ) (parts : List Part) (k : ℕ) (part : Part)
     → map request_of_part parts ≡ map f (range_with_len first n) → slice_get parts k ≡ Some part → (part.request ≡ f (first + k)) × (k < n)
 asked_at f first n [] k part are there = absurd (cc (there))
 asked_at f first zero (p ∷ ps) k part are there = absurd (cc (are))
 asked_at f first (suc n) (p ∷ ps) zero part are there =
     let head : p.request ≡ f first = cc (are) in
     let is : p ≡ part = cc (there) in
-    (ap (λ (x : Part _). x.request) (sym is) ∙ head ∙ ap f (omega arith), omega arith)
+    (ap (λ (x : Part). x.request) (sym is) ∙ head ∙ ap f (omega arith), omega arith)
 asked_at f first (suc n) (p ∷ ps) (suc k) part are there =
     let rest : map request_of_part ps ≡ map f (range_with_len (first + 1) n) = cc (are) in
     let r = asked_at f (first + 1) n ps k part rest there in
     (r.0 ∙ ap f (omega arith), let low = r.1 in omega arith)
 
-pub as_many : {R : Type 0} (f : ℕ → Request) (first n : ℕ) (parts : List (Part R)) → map request_of_part parts ≡ map f (range_with_len first n)
+pub as_many : (f : ℕ → Request) (first n : ℕ) (parts : List Part) → map request_of_part parts ≡ map f (range_with_len first n)
     → length parts ≡ n
 as_many f first zero [] are = refl
 as_many f first (suc n) [] are = absurd (cc (are))
@@ -47,7 +47,7 @@ as_many f first (suc n) (p ∷ ps) are =
     omega arith
 
 -- those behind a place
-pub asked_behind : {R : Type 0} (f : ℕ → Request) (first n : ℕ) (parts : List (Part R)) (k m : ℕ) → map request_of_part parts ≡ map f
+pub asked_behind : (f : ℕ → Request) (first n : ℕ) (parts : List Part) (k m : ℕ) → map request_of_part parts ≡ map f
     (range_with_len first n)
     → k + m ≡ n → map request_of_part (drop k parts) ≡ map f (range_with_len (first + k) m)
 asked_behind f first n parts zero m are is = are ∙ ap (λ i. map f (range_with_len first i)) (omega (arith, is))

@@ -13,36 +13,36 @@ use Rattle.class_disk.specs.declared.parts.Part.{Part}
 use Rattle.class_disk.specs.declared.parts.Place.{Place}
 use Rattle.class_disk.specs.declared.parts.Progress.{Progress}
 use Rattle.class_disk.specs.declared.parts.Progress.TheVariants.{Ready, Below, Ended as HasEnded}
-use Rattle.class_disk.specs.declared.requests.DiskRoom.{DiskRoom}
-use Rattle.class_disk.specs.Blocks.{FitsBlock, data_length, part_count_of, part_request_of}
-use Rattle.class_disk.specs.Books.{Opened, Books, opened, all_open, restarts_left}
-use Rattle.class_disk.specs.Driver.{IsReadyBy, IsReadyPart, IsBuffered, IsBufferedBy, rooms_in, rooms_kept}
-use Rattle.class_disk.specs.Midway.{CanCut, CanSendPart, IsOpening}
-use Rattle.class_disk.specs.Parts.{HasBuffers, rooms_of, room_by}
+use Rattle.class_disk.specs.inside.Blocks.{FitsBlock, data_length, part_count_of, part_request_of}
+use Rattle.class_disk.specs.inside.Books.{Opened, Books, opened, all_open, restarts_left}
+use Rattle.class_disk.specs.inside.Driver.{IsReadyBy, IsReadyPart, IsBuffered, IsBufferedBy, tickets, tickets_held, tickets_open}
+use Rattle.device.specs.inside.Out.{Ticket}
+use Rattle.class_disk.specs.inside.Rooms.{AllOut}
+use Rattle.class_disk.proofs.Rooms.{out_any_order}
+use Rattle.class_disk.specs.inside.Midway.{CanCut, CanSendPart, IsOpening}
+use Rattle.class_disk.specs.inside.Parts.{HasBuffers, ticket_for, tickets_of, ticket_by}
 use Rattle.class_disk.specs.Shown.{class_rules}
-use Rattle.class_disk.specs.Turns.{CanSend, bytes_from}
+use Rattle.class_disk.specs.inside.Turns.{CanSend, bytes_from}
 use Rattle.class_disk.proofs.Cutting.{can_cut}
 use Rattle.class_disk.proofs.NewParts.{part_kind}
-use Rattle.class_disk.proofs.Noting.{rooms_of-append, rooms_kept-append}
+use Rattle.class_disk.proofs.Noting.{tickets_of-append, tickets_open-append}
 use Rattle.class_disk.proofs.Parting.{at_place}
 use Rattle.class_disk.proofs.PiecePlaces.{asked_at, as_many, carried, fits_block, begins_behind, lies_inside}
-use Rattle.class_disk.proofs.Resending.{number_low, few_enough, sizes_below}
+use Rattle.class_disk.proofs.Resending.{few_enough, sizes_below}
 use Rattle.class_disk.proofs.Standing.{StandsIn, AreRising, stands_by, split_at, All-at}
 
 -- a part that is here, with its place
-pub record IsReadyWith {R : Type 0} (request_of : R → Request) (ready : R → Type 0) (part : Part R) : Type 0 where
-  pub place : Place R
+pub record IsReadyWith (part : Part) : Type 0 where
+  pub place : Place
   pub is_ready : part.progress ≡ Ready place
-  pub room_for : request_of place.room ≡ part.request
-  pub room_ready : ready place.room
   pub first : part.restarts ≡ 0
 
-pub ready_with : {R : Type 0} (request_of : R → Request) (ready : R → Type 0) (part : Part R) → IsReadyPart request_of ready part
-    → IsReadyWith request_of ready part
-ready_with {R} request_of ready part h = by part.progress refl h.1
+pub ready_with : (part : Part) → IsReadyPart part
+    → IsReadyWith part
+ready_with part h = by part.progress refl h.1
   where
-    by : (p : Progress R) → part.progress ≡ p → IsReadyBy request_of ready part.request p → IsReadyWith request_of ready part
-    by (Ready place) is w = record { place = place; is_ready = is; room_for = w.0; room_ready = w.1; first = h.0 }
+    by : (p : Progress) → part.progress ≡ p → IsReadyBy p → IsReadyWith part
+    by (Ready place) is w = record { place = place; is_ready = is; first = h.0 }
     by (Below number spot) is w = absurd w
     by (HasEnded ended) is w = absurd w
 
@@ -55,7 +55,7 @@ part_volume limit r k = by (is_transfer r.kind)
     by false = refl
 
 -- the room in the midst of all comes first
-room_first : {R : Type 0} (room : R) (zs xs front back ys : List R)
+room_first : {X : Type 0} (room : X) (zs xs front back ys : List X)
     → IsPermutation (zs ++ (xs ++ ((front ++ (room ∷ back)) ++ ys))) (room ∷ (zs ++ (xs ++ ((front ++ back) ++ ys))))
 room_first room zs xs front back ys =
     let a : IsPermutation ((front ++ (room ∷ back)) ++ ys) (room ∷ ((front ++ back) ++ ys)) =
@@ -64,40 +64,40 @@ room_first room zs xs front back ys =
     IsPermutation-trans _ _ _ (IsPermutation-append_right xs _ _ a) (IsPermutation-middle xs room ((front ++ back) ++ ys)) in
     IsPermutation-trans _ _ _ (IsPermutation-append_right zs _ _ b) (IsPermutation-middle zs room (xs ++ ((front ++ back) ++ ys)))
 
-module _ {R : Type 0} {request_of : R → Request} {ready : R → Type 0} {out : List R → Type 0} {takes_srb : Bool} {stack : ℕ} {v : DeviceView}
-    {b : Books R} {slot k : ℕ} {rooms : List (DiskRoom R)}
-    (h : IsOpening request_of ready out takes_srb stack v b slot k rooms) (ordered : IsOrderly v) (rise : AreRising 0 b.opens) (low : k < length h.o.parts) where
+module _ {v : DeviceView}
+    {b : Books} {slot k : ℕ}
+    (h : IsOpening v b slot k) (ordered : IsOrderly v) (rise : AreRising 0 b.opens) (low : k < length h.o.parts) where
   abbrev pub rules : Rules
   rules = class_rules v.rules
 
-  abbrev pub o : Opened R
+  abbrev pub o : Opened
   o = h.o
 
   -- THE PART
 
-  abbrev pub there : (x : Part R) × (slice_get h.o.parts k ≡ Some x) × (drop k h.o.parts ≡ x ∷ drop (k + 1) h.o.parts)
+  abbrev pub there : (x : Part) × (slice_get h.o.parts k ≡ Some x) × (drop k h.o.parts ≡ x ∷ drop (k + 1) h.o.parts)
   there = at_place h.o.parts k low
 
-  abbrev pub part : Part R
+  abbrev pub part : Part
   part = there.0
 
   pub is_there : slice_get h.o.parts k ≡ Some part
   is_there = there.1
 
-  pub readies : All (IsReadyPart request_of ready) (part ∷ drop (k + 1) h.o.parts)
-  readies = subst (All (IsReadyPart request_of ready)) there.2 h.ready_from
+  pub readies : All IsReadyPart (part ∷ drop (k + 1) h.o.parts)
+  readies = subst (All IsReadyPart) there.2 h.ready_from
 
-  abbrev pub with_place : IsReadyWith request_of ready part
-  with_place = ready_with request_of ready part (All-head (IsReadyPart request_of ready) part (drop (k + 1) h.o.parts) readies)
+  abbrev pub with_place : IsReadyWith part
+  with_place = ready_with part (All-head IsReadyPart part (drop (k + 1) h.o.parts) readies)
 
-  abbrev pub place : Place R
+  abbrev pub place : Place
   place = with_place.place
 
-  pub behind_ready : All (IsReadyPart request_of ready) (drop (k + 1) h.o.parts)
-  behind_ready = All-tail (IsReadyPart request_of ready) part (drop (k + 1) h.o.parts) readies
+  pub behind_ready : All IsReadyPart (drop (k + 1) h.o.parts)
+  behind_ready = All-tail IsReadyPart part (drop (k + 1) h.o.parts) readies
 
   -- where it stands, and its request
-  abbrev pub halves : (front : List (Part R)) × (back : List (Part R)) × (h.o.parts ≡ front ++ (part ∷ back)) × (length front ≡ k)
+  abbrev pub halves : (front : List Part) × (back : List Part) × (h.o.parts ≡ front ++ (part ∷ back)) × (length front ≡ k)
   halves = split_at h.o.parts k part is_there
 
   abbrev pub stands : StandsIn b.opens slot h.o
@@ -171,45 +171,44 @@ module _ {R : Type 0} {request_of : R → Request} {ready : R → Type 0} {out :
   -- ROOMS
 
   -- all rooms in hand but that of the part
-  abbrev pub rooms_left : List R
-  rooms_left = rooms_in rooms ++
-      (rooms_kept (map opened stands.before) ++ ((rooms_of halves.0 ++ rooms_of halves.1) ++ rooms_kept (map opened stands.after)))
+  abbrev pub rooms_left : List Ticket
+  rooms_left = tickets_held b.held ++
+      (tickets_open (map opened stands.before) ++ ((tickets_of halves.0 ++ tickets_of halves.1) ++ tickets_open (map opened stands.after)))
 
-  pub rooms_here : IsPermutation (rooms_in rooms ++ rooms_kept (all_open b)) (place.room ∷ rooms_left)
+  abbrev pub ticket : Ticket
+  ticket = ticket_for part.request place.packet
+
+  pub rooms_here : IsPermutation (tickets b) (ticket ∷ rooms_left)
   rooms_here =
-      let xs : List (Opened R) = map opened stands.before in
-      let ys : List (Opened R) = map opened stands.after in
-      let all : rooms_kept (all_open b) ≡ rooms_kept xs ++ (rooms_of h.o.parts ++ rooms_kept ys) =
-      ap (λ os. rooms_kept (map opened os)) stands.opens_are ∙ ap rooms_kept
-      (map-append opened stands.before ((slot, h.o) ∷ stands.after)) ∙ rooms_kept-append xs (h.o ∷ ys) in
-      let own : rooms_of h.o.parts ≡ rooms_of halves.0 ++ (place.room ∷ rooms_of halves.1) =
-      ap rooms_of halves.2 ∙ rooms_of-append halves.0 (part ∷ halves.1)
-      ∙ ap (λ p. rooms_of halves.0 ++ (room_by p ++ rooms_of halves.1)) with_place.is_ready in
-      subst (λ zs. IsPermutation (rooms_in rooms ++ zs) (place.room ∷ rooms_left)) (sym (all ∙ ap (λ zs. rooms_kept xs ++ (zs ++ rooms_kept ys)) own))
-      (room_first place.room (rooms_in rooms) (rooms_kept xs) (rooms_of halves.0) (rooms_of halves.1) (rooms_kept ys))
+      let xs : List Opened = map opened stands.before in
+      let ys : List Opened = map opened stands.after in
+      let all : tickets_open (all_open b) ≡ tickets_open xs ++ (tickets_of h.o.parts ++ tickets_open ys) =
+      ap (λ os. tickets_open (map opened os)) stands.opens_are ∙ ap tickets_open
+      (map-append opened stands.before ((slot, h.o) ∷ stands.after)) ∙ tickets_open-append xs (h.o ∷ ys) in
+      let own : tickets_of h.o.parts ≡ tickets_of halves.0 ++ (ticket ∷ tickets_of halves.1) =
+      ap tickets_of halves.2 ∙ tickets_of-append halves.0 (part ∷ halves.1)
+      ∙ ap (λ p. tickets_of halves.0 ++ (ticket_by part.request p ++ tickets_of halves.1)) with_place.is_ready in
+      subst (λ zs. IsPermutation (tickets_held b.held ++ zs) (ticket ∷ rooms_left)) (sym (all ∙ ap (λ zs. tickets_open xs ++ (zs ++ tickets_open ys)) own))
+      (room_first ticket (tickets_held b.held) (tickets_open xs) (tickets_of halves.0) (tickets_of halves.1) (tickets_open ys))
 
   -- THE PART CAN BE SENT
 
-  pub room_out : ((xs ys : List R) → IsPermutation xs ys → out xs → out ys) → out (place.room ∷ rooms_left)
-  room_out law = law _ _ rooms_here h.rooms_out
+  pub room_out : AllOut v (ticket ∷ rooms_left)
+  room_out = out_any_order v _ _ rooms_here h.rooms_out
 
-  pub can_send_part : ((xs ys : List R) → IsPermutation xs ys → out xs → out ys)
-      → CanSendPart request_of ready out takes_srb stack v b slot k rooms_left h.o part place
-  can_send_part law =
+  pub can_send_part : CanSendPart v b slot k rooms_left h.o part place
+  can_send_part =
       let left : length (drop k h.o.parts) ≡ suc (length (drop (k + 1) h.o.parts)) = ap length there.2 in
       let enough = few_enough v.submitted b.next_packet (length (drop k h.o.parts) + restarts_left b.opens) b.submitted v.most h.few
       (omega (arith, left)) (let p = h.budget in omega arith) h.submitted in
       let c = carried rules h.o.request h.o.irp.payload h.carries in
       record {
         submit = record {
-          takes = h.takes;
-          rooms_out = room_out law;
-          room_ready = with_place.room_ready;
-          room_for = with_place.room_for;
+          rooms_out = room_out;
           not_removing = sym h.removing ∙ h.staying;
-          number = number_low v.state.next_request b.next_packet slot k h.next_number_is;
+          number = h.next_number_is;
           few = enough.0;
-          can_number = record { count = enough.1; slot_is = h.slot_is; part_is = (let a = few_parts in let e = long in omega arith) };
+          can_number = record { count = enough.1 };
           sizes = sizes_below b.sizes v.rules h.sizes;
         };
         is_open = h.is_open;

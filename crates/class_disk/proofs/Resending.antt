@@ -13,29 +13,33 @@ use Rattle.machine.specs.Marks.{AreCounted, IsCounted}
 use Rattle.machine.specs.Cutting.{restarts}
 use Rattle.machine.specs.Sending.{IsStart}
 use Rattle.machine.specs.Step.{DeviceStep, Run, as_label}
-use Rattle.irp.specs.declared.Climb.{Climb}
+use Rattle.device.specs.declared.climbing.Climb.{Climb}
 use Rattle.irp.specs.declared.Irp.{Irp}
-use Rattle.irp.specs.declared.Payload.{Payload}
 use Rattle.irp.specs.declared.StackLocation.{StackLocation}
 use Rattle.irp.specs.Climb.{above as locations_above}
 use Rattle.srb.specs.declared.DeviceLabel.{DeviceLabel}
 use Rattle.srb.specs.declared.DeviceLabel.TheVariants.{Start, Act, Fault, Return}
-use Rattle.device.specs.View.{DeviceView, Packet, Carries, IsOrderly, packet_of, packet_number, IsTopmost}
+use Rattle.device.specs.View.{DeviceView, Packet, Carries, IsOrderly, packet_of, packet_number, IsTopmost, whole_for}
 use Rattle.device.specs.Served.{HandsUp, Submits, IsAt}
 use Rattle.class_disk.specs.declared.Sizes.{Sizes}
 use Rattle.class_disk.specs.declared.parts.Part.{Part}
 use Rattle.class_disk.specs.declared.parts.Progress.{Progress}
 use Rattle.class_disk.specs.declared.parts.Progress.TheVariants.{Ready, Below, Ended as HasEnded}
-use Rattle.class_disk.specs.declared.requests.DiskRoom.{DiskRoom}
-use Rattle.class_disk.specs.Joint.{Note, Sent, Known}
-use Rattle.class_disk.specs.Kept.{WasSent, EndedAre, IsOver, HasSome, noted_busy}
+use Rattle.class_disk.specs.inside.Joint.{Note, Sent, Known}
+use Rattle.class_disk.specs.inside.Kept.{WasSent, EndedAre, IsOver, HasSome, noted_busy}
 use Rattle.class_disk.specs.Shown.{class_rules}
-use Rattle.class_disk.specs.Blocks.{AreSizes}
-use Rattle.class_disk.specs.Parts.{GoesAgain, rooms_of, room_by, restarts_of, unfinished_by}
-use Rattle.class_disk.specs.Books.{Opened, Books, opened, all_open, ended_in, restarts_left, slot_in, part_in, number_below, first_number, open_at, put_at}
-use Rattle.class_disk.specs.Turns.{next_number, spotted_books}
-use Rattle.class_disk.specs.Driver.{note, note_by, known, knowns, rooms_in, rooms_kept, most_over, IsAsked, IsAskedBy, IsSpotted, IsSpottedBy, IsOpen, AreKept, AreBelow}
-use Rattle.class_disk.specs.Midway.{IsTaking, IsMidway, TakesOne, CanSendAgain, SendsDownAgain}
+use Rattle.class_disk.specs.inside.Blocks.{AreSizes}
+use Rattle.class_disk.specs.inside.Parts.{GoesAgain, payload_in, ticket_for, tickets_of, ticket_by, restarts_of, unfinished_by}
+use Rattle.class_disk.specs.inside.Books.{Opened, Books, opened, all_open, ended_in, restarts_left, open_at, put_at}
+use Rattle.class_disk.specs.inside.Turns.{again_part}
+use Rattle.class_disk.specs.inside.Driver.{note, note_by, known, knowns, tickets_held, tickets_open, IsAsked, IsAskedBy, IsSpotted, IsSpottedBy, IsOpen, AreKept, AreBelow, tickets}
+use Rattle.class_disk.specs.Opening.{most_over}
+use Rattle.class_disk.specs.inside.Owners.{slot_at, place_at, IsOwnedBy, AreOwnedFrom}
+use Rattle.device.specs.inside.Out.{Ticket}
+use Rattle.class_disk.specs.inside.Rooms.{AllOut}
+use Rattle.class_disk.proofs.Rooms.{out_less}
+use Rattle.class_disk.specs.declared.parts.TransferPacket.{TransferPacket}
+use Rattle.class_disk.specs.inside.Midway.{IsTaking, IsMidway, TakesOne, CanSendAgain, SendsDownAgain}
 use Rattle.class_disk.proofs.Restarting.{noted_back}
 use Rattle.class_disk.proofs.NotedBusy.{noted_few}
 use Rattle.class_disk.proofs.NewRequest.{parts_cut}
@@ -44,33 +48,12 @@ use Rattle.class_disk.proofs.Acting.{map_there}
 use Rattle.class_disk.proofs.CoupledRun.{Contains-map}
 use Rattle.class_disk.proofs.Asking.{asks_own, asks_run, asks_submitted}
 use Rattle.class_disk.proofs.Finishing.{goes_again}
-use Rattle.class_disk.proofs.Standing.{StandsIn, is_put, set_there}
-use Rattle.class_disk.proofs.Noting.{PartStands, rooms_of-append, rooms_kept-append}
+use Rattle.class_disk.proofs.Standing.{is_put, set_there}
+use Rattle.class_disk.proofs.Noting.{PartStands, owned_at, tickets_of-append, tickets_open-append}
 use Rattle.class_disk.proofs.Handed.{Handed}
 use Rattle.class_disk.proofs.Withdrawing.{fewer_packets}
 use Rattle.class_disk.proofs.Changing.{b_now, each_entry, all_parts, packets_stay, left_now, long_now, known_old, known_new, some_now, over_now, causes_now, open_now, restarts-append}
 use Rattle.class_disk.proofs.Returning.{packets_taken, part_spotted, part_asked, taking_here, entry_open, same_request, was_sent_as, open_below, no_starts, next_stays, removing_stays}
-
--- NUMBERS
-
--- a number tells its slot and its part, and is above all before and below all behind
-pub slot_told : (count slot k : ℕ) → slot < 2 ^ 32 → k < 2 ^ 16 → slot_in (number_below count slot k) ≡ slot
-slot_told count slot k low few = omega arith
-
-pub part_told : (count slot k : ℕ) → slot < 2 ^ 32 → k < 2 ^ 16 → part_in (number_below count slot k) ≡ k
-part_told count slot k low few = omega arith
-
-pub number_low : (next count slot k : ℕ) → next ≤ first_number count → next ≤ number_below count slot k
-number_low next count slot k h = omega arith
-
-pub number_high : (count slot k : ℕ) → slot < 2 ^ 32 → k < 2 ^ 16 → number_below count slot k + 1 ≤ first_number (count + 1)
-number_high count slot k low few = omega arith
-
-slot_few : (n : ℕ) → slot_in n < 2 ^ 32
-slot_few n = omega arith
-
-part_few : (n : ℕ) → part_in n < 2 ^ 16
-part_few n = omega arith
 
 -- as many packets are left as may be sent
 pub few_enough : (n next left sub most : ℕ) → n < next → 1 ≤ left → next + left + sub ≤ sub * 2 ^ 17 + 1 → sub ≤ min (most / 2 ^ 17)
@@ -108,53 +91,44 @@ sizes_below sizes rules h = record {
   whole = record { as_many = h.whole.as_many; one_disk = h.whole.one_disk; some_bytes = h.whole.some_bytes };
 }
 
-module _ {R : Type 0} (request_of : R → Request) (ready : R → Type 0) (out out' : List R → Type 0) (takes_srb : Bool) (stack : ℕ)
-    (v : DeviceView) (b : Books R) (room : R) (climb : Climb) (v' : DeviceView)
-    (h : HandsUp takes_srb v (request_of room) climb v') (ordered : IsOrderly v)
-    (rooms_step : (rooms : List R) → out rooms → out' (room ∷ rooms)) (is_ready : takes_srb ≡ true → ready room) (payload : Payload)
-    (payload_is : payload ≡ h.payload)
-    (d : Handed b h.packet.number) (g : GoesAgain d.o.irp.cancelled b.removing d.o.restarts h.status) where
-  abbrev request : Request
-  request = request_of room
-
+module _ {takes : Bool} (v : DeviceView) (b : Books) (brought : TransferPacket) (climb : Climb) (v' : DeviceView)
+    (h : HandsUp takes v climb brought.room.spot v') (ordered : IsOrderly v) (takes_srb : takes ≡ true) (payload_is : payload_in brought ≡ h.payload)
+    (rooms_step : (others : List Ticket) → AllOut v others → AllOut v' (ticket_for h.request brought ∷ others))
+    (d : Handed b h.packet.number h.packet.spot) (g : GoesAgain d.o.irp.cancelled b.removing d.o.restarts h.status) where
   abbrev slot : ℕ
-  slot = slot_in h.packet.number
+  slot = slot_at b.owners h.packet.spot
 
   abbrev place : ℕ
-  place = part_in h.packet.number
+  place = place_at b.owners h.packet.spot
 
   abbrev rules : Rules
   rules = class_rules v.rules
 
-  abbrev s : PartStands b slot place d.o d.part h.packet.number d.spot
+  abbrev s : PartStands b slot place d.o d.part h.packet.number h.packet.spot
   s = d.stands
 
-  abbrev again_part : ℕ → ℕ → Part R
-  again_part number spot = record d.part { restarts = d.part.restarts + 1; progress = Below number spot }
-
-  abbrev again_books : ℕ → ℕ → Books R
-  again_books number spot = b_now rules s (again_part number spot) (d.o.restarts + 1) d.o.unfinished (b.next_packet + 1) b.ended
+  abbrev again_books : ℕ → ℕ → Books
+  again_books number spot = b_now rules s (again_part number spot d.part) (d.o.restarts + 1) d.o.unfinished (b.next_packet + 1) b.ended
 
   -- a restart is used up
   left_less : (number spot : ℕ) → restarts_left (again_books number spot).opens + 1 ≡ restarts_left b.opens
   left_less number spot =
-      let e = left_now rules s (again_part number spot) (d.o.restarts + 1) d.o.unfinished (b.next_packet + 1) b.ended in
+      let e = left_now rules s (again_part number spot d.part) (d.o.restarts + 1) d.o.unfinished (b.next_packet + 1) b.ended in
       let few = g.few in
       omega arith
 
-  module _ (first : State) (labels : List DeviceLabel) (rooms : List (DiskRoom R))
-      (m : IsMidway out takes_srb stack WasSent first labels v b rooms) where
-    w : IsOpen rules (slot, d.o)
+  module _ (first : State) (labels : List DeviceLabel)
+      (m : IsMidway WasSent first labels v b) where
+    w : IsOpen rules b.owners (slot, d.o)
     w = entry_open h ordered d m
 
     -- WHAT THE CALL NEEDS
     pub can_again : (open_at slot b.opens ≡ Some d.o) → (slice_get d.o.parts place ≡ Some d.part)
-        → CanSendAgain request_of ready out' takes_srb stack v' b slot place payload room
-        (rooms_in rooms ++ rooms_kept (all_open b)) d.o d.part
+        → CanSendAgain v' b slot place brought (tickets b) d.o d.part
     can_again is_open is_there =
         let next = next_stays h ordered d m in
         let removing = removing_stays h ordered d m in
-        let asks : d.part.request ≡ request = same_request h ordered d m in
+        let asks : d.part.request ≡ h.request = same_request h ordered d m in
         let same_rules : v'.rules ≡ v.rules = h.moves.same_rules in
         let used = left_less 0 0 in
         let enough = few_enough v.submitted b.next_packet (restarts_left b.opens) b.submitted v.most m.below.sent
@@ -163,85 +137,62 @@ module _ {R : Type 0} (request_of : R → Request) (ready : R → Type 0) (out o
         (let a = w.restarts in let e = ap restarts_of s.parts_are ∙ restarts-append s.front (d.part ∷ s.back) in omega arith) in
         record {
           submit = record {
-            takes = m.takes;
-            rooms_out = rooms_step _ m.rooms_out;
-            room_ready = is_ready m.takes.takes;
-            room_for = sym asks;
+            rooms_out = subst (λ q. AllOut v' (ticket_for q brought ∷ tickets b)) (sym asks) (rooms_step _ m.rooms_out);
             not_removing = removing ∙ (sym m.below.removing ∙ g.not_removing);
-            number = number_low v'.state.next_request b.next_packet slot place (let a = m.below.next_number in omega arith);
+            number = let a = m.below.next_number in omega arith;
             few = let a = h.moves.same_submitted in let c = h.moves.same_most in let e = enough.0 in omega arith;
-            can_number = record { count = enough.1; slot_is = slot_few h.packet.number; part_is = part_few h.packet.number };
+            can_number = record { count = enough.1 };
             sizes = subst (AreSizes b.sizes) (sym same_rules) (sizes_below b.sizes v.rules m.kept.sizes);
           };
           is_open = is_open;
           is_there = is_there;
           few_restarts = (let few = g.few in omega arith, let few = g.few in omega arith);
           carries =
-              subst (λ t. Carries t v'.rules d.part.request payload) m.takes.takes
-              (subst (λ r. Carries takes_srb r d.part.request payload) (sym same_rules)
-              (subst (λ r. Carries takes_srb v.rules r payload) (sym asks)
-              (subst (Carries takes_srb v.rules request) (sym payload_is) (h.carries g.busy))));
+              subst (λ t. Carries t v'.rules d.part.request (payload_in brought)) takes_srb
+              (subst (λ r. Carries takes r d.part.request (payload_in brought)) (sym same_rules)
+              (subst (λ r. Carries takes v.rules r (payload_in brought)) (sym asks)
+              (subst (Carries takes v.rules h.request) (sym payload_is) (h.carries g.busy))));
         }
 
   -- ONE PACKET IS TAKEN
-  module _ (out'' : List R → Type 0) (ordered' : IsOrderly v') (send_rooms : (rooms : List R) → out' (room ∷ rooms) → out'' rooms)
-      (v'' : DeviceView) (b'' : Books R) (x : SendsDownAgain v' b slot place payload d.o d.part v'' b'')
-      (asks : d.part.request ≡ request) where
+  module _ (ordered' : IsOrderly v') (v'' : DeviceView) (b'' : Books) (x : SendsDownAgain v' b slot place brought d.o d.part v'' b'')
+      (asks : d.part.request ≡ h.request) where
     abbrev number : ℕ
-    number = x.irp.number
+    number = x.packet'.irp.value.number
 
-    abbrev sent_again_part : Part R
-    sent_again_part = again_part number x.spot
+    abbrev sent_again_part : Part
+    sent_again_part = again_part number brought.room.spot d.part
 
-    abbrev b_again : Books R
-    b_again = again_books number x.spot
+    abbrev b_again : Books
+    b_again = again_books number brought.room.spot
 
     abbrev packet : Packet
-    packet = packet_of x.irp x.spot
+    packet = packet_of x.packet'.irp.value brought.room.spot
+
+    number_is : number ≡ b.next_packet
+    number_is = x.sends.sends.own.is_number
 
     -- the table, part by part
-    set_part : (o : Opened R) (old p : Part R) → o.parts ≡ s.front ++ (old ∷ s.back) → slice_set o.parts place p ≡ s.front ++ (p ∷ s.back)
+    set_part : (o : Opened) (old p : Part) → o.parts ≡ s.front ++ (old ∷ s.back) → slice_set o.parts place p ≡ s.front ++ (p ∷ s.back)
     set_part o old p is = ap (λ ps. slice_set ps place p) is ∙ ap (λ n. slice_set (s.front ++ (old ∷ s.back)) n p) (sym s.place)
         ∙ set_there s.front old p s.back
 
-    abbrev sent_first : Part R
-    sent_first = again_part (next_number b slot place) 0
-
-    abbrev o_first : Opened R
-    o_first = record d.o { parts = s.front ++ (sent_first ∷ s.back); restarts = d.o.restarts + 1 }
-
-    first_is : x.sends.o' ≡ o_first
-    first_is = x.sends.sends.after ∙ ap (λ ps. record d.o { parts = ps; restarts = d.o.restarts + 1 })
-        (set_part d.o d.part sent_first s.parts_are)
-
-    abbrev b_first : Books R
-    b_first = record b { opens = s.stands.before ++ ((slot, o_first) ∷ s.stands.after); next_packet = b.next_packet + 1 }
-
-    sent_is : x.sent ≡ b_first
-    sent_is =
-        x.sends.after ∙ ap (λ o. record b { opens = put_at slot o b.opens; next_packet = b.next_packet + 1 }) first_is
-        ∙ ap (λ es. record b { opens = es; next_packet = b.next_packet + 1 }) (is_put b.opens slot d.o s.stands o_first)
-
-    abbrev stands_first : StandsIn b_first.opens slot o_first
-    stands_first = record { before = s.stands.before; after = s.stands.after; opens_are = refl; apart = s.stands.apart }
-
-    abbrev o_again : Opened R
+    abbrev o_again : Opened
     o_again = record d.o { parts = s.front ++ (sent_again_part ∷ s.back); restarts = d.o.restarts + 1 }
+
+    again_is : x.sends.o' ≡ o_again
+    again_is =
+        x.sends.sends.after ∙ ap (λ ps. record d.o { parts = ps; restarts = d.o.restarts + 1 }) (set_part d.o d.part _ s.parts_are)
+        ∙ ap (λ n. record d.o { parts = s.front ++ (again_part n brought.room.spot d.part ∷ s.back); restarts = d.o.restarts + 1 }) (sym number_is)
 
     books_are : b'' ≡ b_again
     books_are =
-        x.after ∙ ap (λ o. spotted_books slot place number x.spot o (record d.part { restarts = d.part.restarts + 1 }) x.sent) first_is
-        ∙ ap (spotted_books slot place number x.spot o_first (record d.part { restarts = d.part.restarts + 1 })) sent_is
-        ∙ ap (λ ps. record b_first { opens = put_at slot (record o_first { parts = ps }) b_first.opens })
-        (set_part o_first sent_first sent_again_part refl)
-        ∙ ap (λ es. record b_first { opens = es }) (is_put b_first.opens slot o_first stands_first o_again)
+        x.sends.after ∙ ap (λ o. record b { opens = put_at slot o b.opens; next_packet = b.next_packet + 1 }) again_is
+        ∙ ap (λ es. record b { opens = es; next_packet = b.next_packet + 1 }) (is_put b.opens slot d.o s.stands o_again)
 
     -- what was submitted
-    down : Submits v' packet request h.payload v''
-    down = subst (λ p. Submits v' packet request p v'') payload_is (subst (λ r. Submits v' packet r payload v'') asks x.submits)
-
-    number_is : number ≡ next_number b slot place
-    number_is = x.sends.sends.own.is_number
+    down : Submits v' packet h.request h.payload v''
+    down = subst (λ p. Submits v' packet h.request p v'') payload_is (subst (λ r. Submits v' packet r (payload_in brought) v'') asks x.submits)
 
     same_rules : v''.rules ≡ v.rules
     same_rules = down.moves.same_rules ∙ h.moves.same_rules
@@ -271,13 +222,13 @@ module _ {R : Type 0} (request_of : R → Request) (ready : R → Type 0) (out o
         let f : q.0.number ≡ y.number = q.2 in
         omega arith
 
-    asked_still : (r : Request) (p : Progress R) → IsSpottedBy v'.packets p → IsAskedBy rules v'.state.requests r p
+    asked_still : (r : Request) (p : Progress) → IsSpottedBy v'.packets p → IsAskedBy rules v'.state.requests r p
         → IsAskedBy rules v''.state.requests r p
     asked_still r (Ready unsent) spotted is = tt
     asked_still r (HasEnded ended) spotted is = tt
-    asked_still r (Below n spot) spotted is = asks_submitted rules r n v' packet request h.payload v'' (given_number n spot spotted) is down
+    asked_still r (Below n spot) spotted is = asks_submitted rules r n v' packet h.request h.payload v'' (given_number n spot spotted) is down
 
-    spotted_still : (p : Progress R) → IsSpottedBy v'.packets p → IsSpottedBy v''.packets p
+    spotted_still : (p : Progress) → IsSpottedBy v'.packets p → IsSpottedBy v''.packets p
     spotted_still (Ready unsent) is = tt
     spotted_still (HasEnded ended) is = tt
     spotted_still (Below n spot) is = later_spot n spot is
@@ -286,7 +237,7 @@ module _ {R : Type 0} (request_of : R → Request) (ready : R → Type 0) (out o
     own_asked =
         asks_run rules d.part.request number v'.rules down.starts down.opened v''.state
         (asks_own rules d.part.request number v'.rules v'.state _ down.opened ordered'.distinct
-        (ap (λ (r : Rules). as_client r request []) h.moves.same_rules ∙ ap (λ r. as_client rules r [])
+        (ap (λ (r : Rules). as_client r h.request []) h.moves.same_rules ∙ ap (λ r. as_client rules r [])
         (sym asks)) down.opens) down.moves.run
 
     own_spotted : IsSpotted v''.packets sent_again_part
@@ -295,28 +246,28 @@ module _ {R : Type 0} (request_of : R → Request) (ready : R → Type 0) (out o
         (c.0, packet, c.1, c.2, record { is_spot = refl; is_number = refl })
 
     own_topmost : IsTopmost packet
-    own_topmost = none_above x.irp _ x.sends.sends.own.location
+    own_topmost = none_above x.packet'.irp.value _ x.sends.sends.own.location
 
     -- rooms stay as they are
-    rooms_stay : rooms_kept (all_open b_again) ≡ rooms_kept (all_open b)
+    rooms_stay : tickets_open (all_open b_again) ≡ tickets_open (all_open b)
     rooms_stay =
-        let xs : List (Opened R) = map opened s.stands.before in
-        let ys : List (Opened R) = map opened s.stands.after in
-        let old : rooms_kept (all_open b) ≡ rooms_kept xs ++ (rooms_of d.o.parts ++ rooms_kept ys) =
-        ap (λ os. rooms_kept (map opened os)) s.stands.opens_are ∙ ap rooms_kept
-        (map-append opened s.stands.before ((slot, d.o) ∷ s.stands.after)) ∙ rooms_kept-append xs (d.o ∷ ys) in
-        let new : rooms_kept (all_open b_again) ≡ rooms_kept xs ++ (rooms_of o_again.parts ++ rooms_kept ys) =
-        ap rooms_kept (map-append opened s.stands.before ((slot, o_again) ∷ s.stands.after)) ∙ rooms_kept-append xs (o_again ∷ ys) in
-        let of_old : rooms_of d.o.parts ≡ rooms_of s.front ++ rooms_of s.back = ap rooms_of s.parts_are ∙ rooms_of-append s.front
-        (d.part ∷ s.back) ∙ ap (λ p. rooms_of s.front ++ (room_by p ++ rooms_of s.back)) s.is_below in
-        let of_new : rooms_of o_again.parts ≡ rooms_of s.front ++ rooms_of s.back = rooms_of-append s.front (sent_again_part ∷ s.back) in
-        new ∙ ap (λ zs. rooms_kept xs ++ (zs ++ rooms_kept ys)) (of_new ∙ sym of_old) ∙ sym old
+        let xs : List Opened = map opened s.stands.before in
+        let ys : List Opened = map opened s.stands.after in
+        let old : tickets_open (all_open b) ≡ tickets_open xs ++ (tickets_of d.o.parts ++ tickets_open ys) =
+        ap (λ os. tickets_open (map opened os)) s.stands.opens_are ∙ ap tickets_open
+        (map-append opened s.stands.before ((slot, d.o) ∷ s.stands.after)) ∙ tickets_open-append xs (d.o ∷ ys) in
+        let new : tickets_open (all_open b_again) ≡ tickets_open xs ++ (tickets_of o_again.parts ++ tickets_open ys) =
+        ap tickets_open (map-append opened s.stands.before ((slot, o_again) ∷ s.stands.after)) ∙ tickets_open-append xs (o_again ∷ ys) in
+        let of_old : tickets_of d.o.parts ≡ tickets_of s.front ++ tickets_of s.back = ap tickets_of s.parts_are ∙ tickets_of-append s.front
+        (d.part ∷ s.back) ∙ ap (λ p. tickets_of s.front ++ (ticket_by d.part.request p ++ tickets_of s.back)) s.is_below in
+        let of_new : tickets_of o_again.parts ≡ tickets_of s.front ++ tickets_of s.back = tickets_of-append s.front (sent_again_part ∷ s.back) in
+        new ∙ ap (λ zs. tickets_open xs ++ (zs ++ tickets_open ys)) (of_new ∙ sym of_old) ∙ sym old
 
     -- and so do the requests that have ended
     ended_stay : ended_in b_again.opens ≡ ended_in b.opens
     ended_stay = same s.stands.before ∙ sym (ap ended_in s.stands.opens_are)
       where
-        same : (es : List (ℕ × Opened R)) → ended_in (es ++ ((slot, o_again) ∷ s.stands.after)) ≡ ended_in
+        same : (es : List (ℕ × Opened)) → ended_in (es ++ ((slot, o_again) ∷ s.stands.after)) ≡ ended_in
             (es ++ ((slot, d.o) ∷ s.stands.after))
         same [] = refl
         same (e ∷ es) = ap (λ zs. if e.1.unfinished == 0 then e.0 ∷ zs else zs) (same es)
@@ -327,8 +278,8 @@ module _ {R : Type 0} (request_of : R → Request) (ready : R → Type 0) (out o
         is_note : note rules d.part ≡ Sent h.packet.number d.part.restarts
         is_note = ap (note_by rules d.part) s.is_below
 
-    module _ (first : State) (labels : List DeviceLabel) (rooms : List (DiskRoom R))
-        (m : IsMidway out takes_srb stack WasSent first labels v b rooms) where
+    module _ (first : State) (labels : List DeviceLabel)
+        (m : IsMidway WasSent first labels v b) where
       abbrev others : List Known
       others = map (known rules) (map opened (s.stands.before ++ s.stands.after))
 
@@ -337,14 +288,14 @@ module _ {R : Type 0} (request_of : R → Request) (ready : R → Type 0) (out o
           All-tail P _ others (All-permutation P _ _ (known_old rules s sent_again_part (d.o.restarts + 1) d.o.unfinished
           (b.next_packet + 1) b.ended) all)
 
-      some_places : 0 < place_count v.rules (as_client v.rules request [])
+      some_places : 0 < place_count v.rules (as_client v.rules h.request [])
       some_places =
           let y : OpenRequest = h.answers.request in
           let c = open_below h ordered d m in
           let long : 0 < length y.marks = All-contains HasPlaces v.state.requests y ordered.places c in
           let count = (All-contains (IsCounted v.rules) v.state.requests y
           (subst (λ r. AreCounted r v.state) (sym m.port.below) m.taking.counted) c).places in
-          let e : place_count v.rules y.request ≡ place_count v.rules (as_client v.rules request []) = ap
+          let e : place_count v.rules y.request ≡ place_count v.rules (as_client v.rules h.request []) = ap
           (place_count v.rules) h.is_request in
           omega arith
 
@@ -352,7 +303,7 @@ module _ {R : Type 0} (request_of : R → Request) (ready : R → Type 0) (out o
       few_noted : noted_busy (map (note rules) s.front ++ (Sent h.packet.number d.part.restarts ∷ map (note rules) s.back))
           < noted_back (map (note rules) s.front ++ (Sent h.packet.number d.part.restarts ∷ map (note rules) s.back)) + restarts rules
       few_noted =
-          let is : IsOpen rules (slot, d.o) = entry_open h ordered d m in
+          let is : IsOpen rules b.owners (slot, d.o) = entry_open h ordered d m in
           let notes : map (note rules) d.o.parts ≡ map (note rules) s.front ++ (Sent h.packet.number d.part.restarts ∷ map (note rules) s.back) =
           ap (map (note rules)) s.parts_are ∙ map-append (note rules) s.front (d.part ∷ s.back)
           ∙ ap (λ (n : Note). map (note rules) s.front ++ (n ∷ map (note rules) s.back)) (was_sent_as h ordered d m) in
@@ -365,7 +316,7 @@ module _ {R : Type 0} (request_of : R → Request) (ready : R → Type 0) (out o
           (known_at (known rules d.o) (map (note rules) s.front) (Sent number (suc d.part.restarts))
           (map (note rules) s.back) ∷ others) × EndedAre WasSent v.rules v''.state
       went =
-          goes_again takes_srb v request climb v' h m.port ordered first labels (known rules d.o) (map (note rules) s.front)
+          goes_again takes v climb brought.room.spot v' h m.port ordered first labels (known rules d.o) (map (note rules) s.front)
           (map (note rules) s.back) d.part.restarts others
           (taking_here h ordered d m) packet v'' down m.ended g.busy some_places few_noted g.not_cancelled 17
           (beside (IsOver 17 v.state.removing) m.below.over) (beside (HasSome rules) m.below.some)
@@ -390,29 +341,29 @@ module _ {R : Type 0} (request_of : R → Request) (ready : R → Type 0) (out o
             run = t.run;
           }
 
-      kept_then : AreKept rules b_again rooms
+      kept_then : AreKept rules b_again
       kept_then =
           let k = m.kept in
-          let is : IsOpen rules (slot, d.o) = entry_open h ordered d m in
+          let is : IsOpen rules b.owners (slot, d.o) = entry_open h ordered d m in
           let few = g.few in
           let long = long_now rules s sent_again_part (d.o.restarts + 1) d.o.unfinished (b.next_packet + 1) b.ended in
-          let used = left_less number x.spot in
-          let numbered : (slot_in number ≡ slot) × (part_in number ≡ place) = (
-            ap slot_in number_is ∙ slot_told b.next_packet slot place (slot_few h.packet.number)
-                (part_few h.packet.number),
-            ap part_in number_is ∙ part_told b.next_packet slot place (slot_few h.packet.number)
-                (part_few h.packet.number),
+          let used = left_less number brought.room.spot in
+          let its : IsOwnedBy b.owners slot (0 + length s.front) (Below h.packet.number h.packet.spot) =
+          subst (IsOwnedBy b.owners slot (0 + length s.front)) s.is_below (owned_at b.owners slot 0 s.front d.part s.back (subst (AreOwnedFrom b.owners slot 0) s.parts_are is.owned)) in
+          let owned : IsOwnedBy b.owners slot place (Below number brought.room.spot) = (
+            ap (slot_at b.owners) (sym h.is_spot),
+            ap (place_at b.owners) (sym h.is_spot),
+            subst (λ n. n < length b.owners) h.is_spot its.2,
           ) in
           record {
             sizes = k.sizes;
             in_hand = k.in_hand;
-            opens = each_entry rules s sent_again_part (d.o.restarts + 1) d.o.unfinished (b.next_packet + 1) b.ended (IsOpen rules)
-                (IsOpen rules)
-                (open_now rules s sent_again_part (d.o.restarts + 1) d.o.unfinished (b.next_packet + 1) b.ended refl tt tt tt numbered
+            opens = each_entry rules s sent_again_part (d.o.restarts + 1) d.o.unfinished (b.next_packet + 1) b.ended (IsOpen rules b.owners)
+                (IsOpen rules b.owners)
+                (open_now rules s sent_again_part (d.o.restarts + 1) d.o.unfinished (b.next_packet + 1) b.ended refl tt tt tt owned
                 (omega arith) (omega arith)
                 (ap (λ p. d.o.unfinished + unfinished_by p) s.is_below) is)
                 (λ e apart it. it) k.opens;
-            vacant = k.vacant;
             ended = subst (IsPermutation b.ended) (sym ended_stay) k.ended;
             places = let p = k.places in omega arith;
             causes = causes_now rules s sent_again_part (d.o.restarts + 1) d.o.unfinished
@@ -424,7 +375,6 @@ module _ {R : Type 0} (request_of : R → Request) (ready : R → Type 0) (out o
       below_then =
           let next = next_stays h ordered d m in
           let removing : v''.state.removing ≡ v.state.removing = kept_run.1 ∙ removing_stays h ordered d m in
-          let high = number_high b.next_packet slot place (slot_few h.packet.number) (part_few h.packet.number) in
           record {
             removing = m.below.removing ∙ sym removing;
             next_number = let a = kept_run.0 in let c = number_is in omega arith;
@@ -445,24 +395,29 @@ module _ {R : Type 0} (request_of : R → Request) (ready : R → Type 0) (out o
                 (subst (λ t. All (IsOver 17 t) (knowns rules b)) (sym removing) m.below.over);
           }
 
-      midway_then : IsMidway out'' takes_srb stack WasSent first (labels ++ (h.starts ++ down.starts)) v'' b_again rooms
+      rooms_again : AllOut (record v'' { rules = v.rules }) (tickets b_again)
+      rooms_again =
+          let before : AllOut v' (ticket_for d.part.request brought ∷ tickets b) = subst (λ q. AllOut v' (ticket_for q brought ∷ tickets b)) (sym asks) (rooms_step _ m.rooms_out) in
+          let r = out_less v' v'' (ticket_for d.part.request brought) (Some (whole_for d.part.request)) (tickets b) x.ordered x.submits.room before in
+          subst (λ (u : Rules). AllOut (record v'' { rules = u }) (tickets b_again)) same_rules (subst (λ zs. AllOut v'' (tickets_held b.held ++ zs)) (sym rooms_stay) r)
+
+      midway_then : IsMidway WasSent first (labels ++ (h.starts ++ down.starts)) v'' b_again
       midway_then =
           let none : h.starts ≡ [] = no_starts h ordered d m in
-          subst (λ (ls : List DeviceLabel). IsMidway out'' takes_srb stack WasSent first
-          (labels ++ (ls ++ down.starts)) v'' b_again rooms) (sym none)
-          (subst (λ (r : Rules). IsMidway out'' takes_srb stack WasSent first (labels ++ down.starts)
-          (record v'' { rules = r }) b_again rooms) (sym same_rules) (record {
-            takes = m.takes;
+          subst (λ (ls : List DeviceLabel). IsMidway WasSent first
+          (labels ++ (ls ++ down.starts)) v'' b_again) (sym none)
+          (subst (λ (r : Rules). IsMidway WasSent first (labels ++ down.starts)
+          (record v'' { rules = r }) b_again) (sym same_rules) (record {
             port = m.port;
             taking = taking_then;
-            rooms_out = subst (λ zs. out'' (rooms_in rooms ++ zs)) (sym rooms_stay) (send_rooms _ (rooms_step _ m.rooms_out));
+            rooms_out = rooms_again;
             kept = kept_then;
             below = below_then;
             ended = went.1;
           }))
 
-    pub takes_again : TakesOne out out'' takes_srb stack WasSent v b v'' b''
-    takes_again = subst (TakesOne out out'' takes_srb stack WasSent v b v'') (sym books_are) (record {
+    pub takes_again : TakesOne WasSent v b v'' b''
+    takes_again = subst (TakesOne WasSent v b v'') (sym books_are) (record {
       starts = h.starts ++ down.starts;
       goes_on = record {
         only_starts = All-append IsStart h.starts down.starts h.only_starts down.only_starts;
@@ -471,12 +426,13 @@ module _ {R : Type 0} (request_of : R → Request) (ready : R → Type 0) (out o
         same_most = down.moves.same_most ∙ h.moves.same_most;
         same_last = refl;
         same_submitted = refl;
+        same_rooms = refl;
         same_packets = packets_stay rules s sent_again_part (d.o.restarts + 1) d.o.unfinished (b.next_packet + 1) b.ended;
       };
       fewer =
-          let a = fewer_packets v request climb v' h in
+          let a = fewer_packets v climb brought.room.spot v' h in
           let c : length v''.packets ≡ suc (length v'.packets) = length_permutation _ _ packets_again in
-          let e = left_less number x.spot in
+          let e = left_less number brought.room.spot in
           omega arith;
       stays = midway_then;
     })

@@ -1,21 +1,78 @@
--- Places are made below, and given back: what the class driver shows, and that it stays in order.
-use Rattle.std.proofs.Common.{◌≡◌, ◌≤◌, ℕ, ◌+◌, ◌==◌, Bool, true, false, if◌then◌else◌, List, [], ◌∷◌, ◌++◌, Result, Ok, Err, refl, sym, ◌∙◌, ap, subst, arith, append_assoc, map, length}
-use Rattle.std.specs.Prelude.{IsPermutation, All, Contains, OnErr}
-use Rattle.std.proofs.lemmas.List.Elements.{All-cons, All-head, All-tail}
-use Rattle.std.proofs.lemmas.List.Sorted.{IsPermutation-sym, IsPermutation-trans, IsPermutation-cons, Contains-permutation, length_permutation}
+-- Rooms are made below, and given back: what the class driver shows, and that it stays in order.
+use Rattle.std.proofs.Common.{◌≡◌, ◌≤◌, ℕ, zero, suc, ◌+◌, ◌==◌, Bool, true, false, if◌then◌else◌, List, [], ◌∷◌, ◌++◌, Option, Result, Ok, Err, refl, sym, ◌∙◌, ap, subst, arith, append_assoc, map, length}
+use Rattle.std.specs.Prelude.{IsPermutation, All, Any, OnErr}
+use Rattle.std.proofs.lemmas.List.{map-append}
+use Rattle.std.proofs.lemmas.List.Elements.{All-nil, All-cons, All-head, All-tail, All-weaker}
+use Rattle.std.proofs.lemmas.List.Sorted.{IsPermutation-sym, IsPermutation-append_left, All-permutation, length_permutation}
+use Rattle.class_disk.proofs.Rooms.{out_any_order}
+use Rattle.class_disk.proofs.AnyOrder.{held_same}
+use Rattle.class_disk.proofs.Standing.{IsApart}
 use Rattle.sector.specs.declared.Extent.{Extent}
+use Rattle.machine.specs.declared.Request.{Request}
 use Rattle.machine.specs.Rules.{Rules}
-use Rattle.machine.proofs.Permuting.{IsPermutation-uncons}
-use Rattle.adapter.specs.View.{AdapterView, IsInOrder, ReservesMore}
+use Rattle.adapter.specs.View.{AdapterView}
 use Rattle.adapter.proofs.Joining.{reserves_none}
-use Rattle.device.specs.View.{DeviceView, IsOrderly}
-use Rattle.device.specs.Served.{Reserves}
-use Rattle.class_disk.specs.declared.requests.DiskRoom.{DiskRoom}
-use Rattle.class_disk.specs.Parts.{IsHere, rooms_of}
-use Rattle.class_disk.specs.Books.{Opened, Books, all_open, ended_in}
+use Rattle.device.specs.View.{DeviceView, Packet, Reserved, packet_spot}
+use Rattle.device.specs.inside.Out.{ticket_spot}
+use Rattle.class_disk.specs.inside.Rooms.{AllOut}
+use Rattle.device.specs.Served.{Reserves, Frees, IsAt}
+use Rattle.class_disk.specs.declared.parts.Part.{Part}
+use Rattle.class_disk.specs.declared.parts.PartId.{PartId}
+use Rattle.class_disk.specs.declared.parts.Progress.{Progress}
+use Rattle.class_disk.specs.declared.parts.Progress.TheVariants.{Ready, Below, Ended}
+use Rattle.class_disk.specs.inside.Parts.{IsHere, IsHereBy, ticket_by, tickets_of}
+use Rattle.class_disk.specs.inside.Owners.{IsOwner, IsOwnedBy, AreOwnedFrom}
+use Rattle.class_disk.specs.inside.Books.{Opened, Books, Held, opened, all_open, ended_in, reserved_for}
+use Rattle.class_disk.specs.declared.requests.Places.{Places}
 use Rattle.class_disk.specs.Shown.{class_rules}
-use Rattle.class_disk.specs.Turns.{AddsSlot, AddsNoSlot, RemovesSlot}
-use Rattle.class_disk.specs.Driver.{view_of, AreKept, AreBelow, IsCoupled, IsInHand, IsRoom, rooms_in, rooms_kept, room_slot}
+use Rattle.class_disk.specs.inside.Turns.{RemovesSlot}
+use Rattle.class_disk.specs.inside.Driver.{view_of, AreKept, IsInHand, IsHeld, IsOpen, IsSpotted, IsSpottedBy, AreSpotted, tickets, tickets_held, tickets_open}
+use Rattle.class_disk.specs.inside.Midway.{StaysOwned, StaysTaken}
+
+-- WHOSE PARTS STAY WHERE THEY WERE
+
+pub all_both : {X : Type 0} (P : X → Type 0) (xs ys : List X) → All P (xs ++ ys) → All P xs × All P ys
+all_both P [] ys h = (All-nil P, h)
+all_both P (x ∷ xs) ys h = let r = all_both P xs ys (All-tail P x (xs ++ ys) h) in (All-cons P x xs (All-head P x (xs ++ ys) h) r.0, r.1)
+
+owner_stays : (owners owners' : List PartId) (spot slot k : ℕ) → length owners ≤ length owners' → StaysOwned owners owners' spot → IsOwner owners spot slot k → IsOwner owners' spot slot k
+owner_stays owners owners' spot slot k longer stays (is_slot, is_place, inside) =
+    let same = stays inside in (
+      ap (λ (id : PartId). id.slot) same ∙ is_slot,
+      ap (λ (id : PartId). id.part) same ∙ is_place,
+      omega arith,
+    )
+
+-- the packet of a part below is one of those there
+spot_there : (packets : List Packet) (P : ℕ → Type 0) (spot number : ℕ) → All P (map packet_spot packets) → Any (IsAt spot number) packets → P spot
+spot_there [] P spot number all (i, x, low, is, h) = absurd (omega arith)
+spot_there (p ∷ ps) P spot number all (zero, x, low, is, h) =
+    let same : p ≡ x = cc (is) in
+    subst P (ap packet_spot same ∙ h.is_spot) (All-head P (packet_spot p) (map packet_spot ps) all)
+spot_there (p ∷ ps) P spot number all (suc i, x, low, is, h) =
+    spot_there ps P spot number (All-tail P (packet_spot p) (map packet_spot ps) all) (i, x, omega arith, is, h)
+
+module _ (owners owners' : List PartId) (longer : length owners ≤ length owners') (packets : List Packet) (below : All (StaysOwned owners owners') (map packet_spot packets)) where
+  one_stays : (r : Request) (slot k : ℕ) (p : Progress) → All (StaysOwned owners owners') (map ticket_spot (ticket_by r p)) → IsSpottedBy packets p → IsOwnedBy owners slot k p → IsOwnedBy owners' slot k p
+  one_stays r slot k (Ready place) held spotted h = owner_stays owners owners' place.packet.room.spot slot k longer (All-head (StaysOwned owners owners') place.packet.room.spot [] held) h
+  one_stays r slot k (Below number spot) held spotted h = owner_stays owners owners' spot slot k longer (spot_there packets (StaysOwned owners owners') spot number below spotted) h
+  one_stays r slot k (Ended ended) held spotted h = tt
+
+  pub owned_stays : (slot k : ℕ) (parts : List Part) → All (StaysOwned owners owners') (map ticket_spot (tickets_of parts)) → All (IsSpotted packets) parts → AreOwnedFrom owners slot k parts → AreOwnedFrom owners' slot k parts
+  owned_stays slot k [] held spotted h = tt
+  owned_stays slot k (part ∷ parts) held spotted h =
+      let both = all_both (StaysOwned owners owners') (map ticket_spot (ticket_by part.request part.progress)) (map ticket_spot (tickets_of parts)) (subst (All (StaysOwned owners owners')) (map-append ticket_spot (ticket_by part.request part.progress) (tickets_of parts)) held) in (
+        one_stays part.request slot k part.progress both.0 (All-head (IsSpotted packets) part parts spotted) h.0,
+        owned_stays slot (k + 1) parts both.1 (All-tail (IsSpotted packets) part parts spotted) h.1,
+      )
+
+pub here_spotted : (packets : List Packet) (part : Part) → IsHere part → IsSpotted packets part
+here_spotted packets part here = by part.progress here
+  where
+    by : (p : Progress) → IsHereBy p → IsSpottedBy packets p
+    by (Ready place) h = tt
+    by (Below number spot) h = absurd h
+    by (Ended ended) h = tt
 
 -- RESERVING BELOW
 
@@ -24,7 +81,7 @@ reserves_same v = record { same = refl; adapter = reserves_none v.adapter }
 
 pub reserves_joined : (u v w : DeviceView) → Reserves u v → Reserves v w → Reserves u w
 reserves_joined u v w a b = record {
-  same = b.same ∙ ap (λ (x : DeviceView). record x { adapter = record x.adapter { reserved = w.adapter.reserved } }) a.same;
+  same = b.same ∙ ap (λ (x : DeviceView). record x { rooms = w.rooms; adapter = record x.adapter { reserved = w.adapter.reserved } }) a.same;
   adapter = record {
     reserved = b.adapter.reserved;
     after = b.adapter.after ∙ ap (λ (x : AdapterView). record x { reserved = b.adapter.reserved }) a.adapter.after;
@@ -32,164 +89,215 @@ reserves_joined u v w a b = record {
   };
 }
 
--- RESERVING ABOVE
+-- a room that is given back reserves no less at the adapter
+pub reserves_freed : (v v' : DeviceView) → v' ≡ record v { rooms = v'.rooms } → Reserves v v'
+reserves_freed v v' same = subst (Reserves v) (sym same) (record { same = refl; adapter = reserves_none v.adapter })
 
--- more is reserved at the adapter
-abbrev with_reserved : DeviceView → List Extent → DeviceView
-with_reserved v reserved = record v { adapter = record v.adapter { reserved = reserved } }
+-- HELD AND OPEN, WITH THE OWNERS AS THEY ARE NOW
 
--- other slots are vacant, and the list of the ended has as many places
-abbrev with_vacant : {R : Type 0} → Books R → List ℕ → ℕ → Books R
-with_vacant b vacant places = record b { vacant = vacant; ended_places = places }
+module _ (rules : Rules) (owners owners' : List PartId) (longer : length owners ≤ length owners') (packets : List Packet) (below : All (StaysOwned owners owners') (map packet_spot packets)) where
+  held_stays : (hs : List Held) → All (StaysOwned owners owners') (map ticket_spot (tickets_held hs)) → All (IsHeld rules owners) hs → All (IsHeld rules owners') hs
+  held_stays [] held h = All-nil (IsHeld rules owners')
+  held_stays (x ∷ xs) held h =
+      let both = all_both (StaysOwned owners owners') _ _ (subst (All (StaysOwned owners owners')) (map-append ticket_spot (tickets_of x.parts) (tickets_held xs)) held) in
+      let is = All-head (IsHeld rules owners) x xs h in
+      All-cons (IsHeld rules owners') x xs
+      (record {
+        cut = is.cut;
+        here = is.here;
+        buffered = is.buffered;
+        owned = owned_stays owners owners' longer packets below x.slot 0 x.parts both.0 (All-weaker IsHere (IsSpotted packets) (here_spotted packets) x.parts is.here) is.owned;
+        ready = is.ready;
+      })
+      (held_stays xs both.1 (All-tail (IsHeld rules owners) x xs h))
 
-module _ {R : Type 0} where
-  -- IN ORDER
+  opens_stay : (es : List (ℕ × Opened)) → All (StaysOwned owners owners') (map ticket_spot (tickets_open (map opened es))) → All (AreSpotted packets) (map opened es)
+      → All (IsOpen rules owners) es → All (IsOpen rules owners') es
+  opens_stay [] held spotted h = All-nil (IsOpen rules owners')
+  opens_stay (e ∷ es) held spotted h =
+      let both = all_both (StaysOwned owners owners') _ _ (subst (All (StaysOwned owners owners')) (map-append ticket_spot (tickets_of e.1.parts) (tickets_open (map opened es))) held) in
+      let is = All-head (IsOpen rules owners) e es h in
+      All-cons (IsOpen rules owners') e es
+      (record {
+        cut = is.cut;
+        carries = is.carries;
+        sent = is.sent;
+        buffered = is.buffered;
+        written = is.written;
+        owned = owned_stays owners owners' longer packets below e.0 0 e.1.parts both.0 (All-head (AreSpotted packets) e.1 (map opened es) spotted) is.owned;
+        restarts = is.restarts;
+        few = is.few;
+        unfinished = is.unfinished;
+      })
+      (opens_stay es both.1 (All-tail (AreSpotted packets) e.1 (map opened es) spotted) (All-tail (IsOpen rules owners) e es h))
 
-  module _ (out out' : List R → Type 0) (takes_srb : Bool) (stack_size : ℕ) (v : DeviceView) (reserved : List Extent)
-      (b : Books R) (vacant : List ℕ) (places : ℕ) (rooms rooms' : List (DiskRoom R)) where
-    kept_with : All (IsRoom (class_rules v.rules)) rooms' → IsPermutation (map room_slot rooms') vacant
-        → length vacant + length b.opens ≤ places
-        → AreKept (class_rules v.rules) b rooms → AreKept (class_rules v.rules) (with_vacant b vacant places) rooms'
-    kept_with in_hand slots few k = record {
-      sizes = k.sizes;
-      in_hand = in_hand;
-      opens = k.opens;
-      causes = k.causes;
-      vacant = slots;
-      ended = k.ended;
+-- OTHER ROOMS, ABOVE AND BELOW
+
+-- other rooms below, and more is reserved at the adapter
+abbrev with_below : DeviceView → List (Option Reserved) → List Extent → DeviceView
+with_below v rooms reserved = record v { rooms = rooms; adapter = record v.adapter { reserved = reserved } }
+
+-- other rooms above, with other owners
+abbrev with_held : Books → List Held → List (Option Reserved) → List PartId → ℕ → Books
+with_held b held rooms owners places = record b { held = held; rooms = rooms; owners = owners; ended_places = places }
+
+module _ (v : DeviceView) (below : List (Option Reserved)) (reserved : List Extent) (b : Books) (held : List Held) (rooms : List (Option Reserved)) (owners : List PartId) (places : ℕ) where
+  abbrev v_now : DeviceView
+  v_now = with_below v below reserved
+
+  abbrev b_now : Books
+  b_now = with_held b held rooms owners places
+
+  in_hand_with : AllOut v_now (tickets b_now) → All (IsHeld (class_rules v.rules) owners) held → All (IsOpen (class_rules v.rules) owners) b.opens
+      → length held + length b.opens ≤ places → IsApart b_now → IsInHand v b → IsInHand v_now b_now
+  in_hand_with out are_held opens few apart h = record {
+    port = h.port;
+    sound = h.sound;
+    counted = h.counted;
+    coupled = record { j = h.coupled.j; same = h.coupled.same; knows = h.coupled.knows; next_above = h.coupled.next_above; keeps = h.coupled.keeps };
+    rooms_out = out;
+    unfinished = h.unfinished;
+    settled = h.settled;
+    kept = record {
+      sizes = h.kept.sizes;
+      in_hand = are_held;
+      opens = opens;
+      ended = h.kept.ended;
       places = few;
-      budget = k.budget;
-    }
-
-    coupled_with : IsCoupled v b → IsCoupled (with_reserved v reserved) (with_vacant b vacant places)
-    coupled_with c = record { j = c.j; same = c.same; knows = c.knows; next_above = c.next_above; keeps = c.keeps }
-
-    below_with : AreBelow v b → AreBelow (with_reserved v reserved) (with_vacant b vacant places)
-    below_with h = record {
-      removing = h.removing;
-      next_number = h.next_number;
-      sent = h.sent;
-      submitted = h.submitted;
-      asked = h.asked;
-      spotted = h.spotted;
-      topmost = h.topmost;
-      some = h.some;
-      over = h.over;
-    }
-
-    orderly_with : IsInOrder (record v.adapter { reserved = reserved }) → IsOrderly (view_of v b)
-        → IsOrderly (view_of (with_reserved v reserved) (with_vacant b vacant places))
-    orderly_with order h = record {
-      adapter = order;
+      causes = h.kept.causes;
+      budget = h.kept.budget;
+    };
+    below = record {
+      removing = h.below.removing;
+      next_number = h.below.next_number;
+      sent = h.below.sent;
+      submitted = h.below.submitted;
+      asked = h.below.asked;
+      spotted = h.below.spotted;
+      topmost = h.below.topmost;
+      some = h.below.some;
+      over = h.below.over;
+    };
+    orderly = record {
+      adapter = out.orderly.adapter;
       read = record {
-        same_size = h.read.same_size;
-        same_sectors = h.read.same_sectors;
-        same_depth = h.read.same_depth;
-        arrays = h.read.arrays;
-        pieces = h.read.pieces;
+        same_size = h.orderly.read.same_size;
+        same_sectors = h.orderly.read.same_sectors;
+        same_depth = h.orderly.read.same_depth;
+        arrays = h.orderly.read.arrays;
+        pieces = h.orderly.read.pieces;
       };
-      distinct = h.distinct;
-      places = h.places;
-      packets = h.packets;
-      sending = h.sending;
-      labels = h.labels;
-      uncounted = h.uncounted;
-      none_owed = h.none_owed;
-      not_removed = h.not_removed;
-    }
+      distinct = h.orderly.distinct;
+      places = h.orderly.places;
+      packets = h.orderly.packets;
+      spots = apart.spots;
+      vacant = apart.vacant;
+      sending = h.orderly.sending;
+      labels = h.orderly.labels;
+      uncounted = h.orderly.uncounted;
+      none_owed = h.orderly.none_owed;
+      not_removed = h.orderly.not_removed;
+    };
+  }
 
-    in_hand_with : IsInOrder (record v.adapter { reserved = reserved }) → out' (rooms_in rooms' ++ rooms_kept (all_open b))
-        → All (IsRoom (class_rules v.rules)) rooms' → IsPermutation (map room_slot rooms') vacant → length vacant + length b.opens ≤ places
-        → IsInHand out takes_srb stack_size v b rooms
-        → IsInHand out' takes_srb stack_size (with_reserved v reserved) (with_vacant b vacant places) rooms'
-    in_hand_with order rooms_out in_hand slots few h = record {
-      takes = h.takes;
-      port = h.port;
-      sound = h.sound;
-      counted = h.counted;
-      coupled = coupled_with h.coupled;
-      rooms_out = rooms_out;
-      unfinished = h.unfinished;
-      settled = h.settled;
-      kept = kept_with in_hand slots few h.kept;
-      below = below_with h.below;
-      orderly = orderly_with order h.orderly;
-    }
+module _ (v v' : DeviceView) (b b' : Books) (h : IsInHand v b) (stays : StaysTaken v b.owners v' b'.owners) where
+  still_held : All (IsHeld (class_rules v.rules) b'.owners) b.held
+  still_held =
+      let all = all_both (StaysOwned b.owners b'.owners) _ _ (subst (All (StaysOwned b.owners b'.owners)) (map-append ticket_spot (tickets_held b.held) (tickets_open (all_open b))) (stays.held (tickets b) h.rooms_out)) in
+      held_stays (class_rules v.rules) b.owners b'.owners stays.longer v.packets stays.below b.held all.0 h.kept.in_hand
 
-  module _ (out out' : List R → Type 0) (takes_srb : Bool) (stack_size : ℕ) (v v' : DeviceView) (b b' : Books R)
-      (reserves : Reserves v v') (order : IsInOrder v'.adapter) where
-    in_order_with : IsInOrder (record v.adapter { reserved = v'.adapter.reserved })
-    in_order_with = subst IsInOrder (ap (λ (x : DeviceView). x.adapter) reserves.same) order
+  still_open : All (IsOpen (class_rules v.rules) b'.owners) b.opens
+  still_open =
+      let all = all_both (StaysOwned b.owners b'.owners) _ _ (subst (All (StaysOwned b.owners b'.owners)) (map-append ticket_spot (tickets_held b.held) (tickets_open (all_open b))) (stays.held (tickets b) h.rooms_out)) in
+      opens_stay (class_rules v.rules) b.owners b'.owners stays.longer v.packets stays.below b.opens all.1 h.below.spotted h.kept.opens
 
-    -- no room is made
-    pub in_hand_refused : (rooms : List (DiskRoom R)) → AddsNoSlot b b' → out' (rooms_in rooms ++ rooms_kept (all_open b))
-        → IsInHand out takes_srb stack_size v b rooms → IsInHand out' takes_srb stack_size v' b' rooms
-    in_hand_refused rooms adds rooms_out h =
-        subst (λ x. IsInHand out' takes_srb stack_size x b' rooms) (sym reserves.same)
-        (subst (λ x. IsInHand out' takes_srb stack_size (with_reserved v v'.adapter.reserved) x rooms) (sym adds.after)
-        (in_hand_with out out' takes_srb stack_size v v'.adapter.reserved b b.vacant b'.ended_places rooms rooms
-        in_order_with rooms_out h.kept.in_hand h.kept.vacant
-        (let p = h.kept.places in let q = adds.places in omega arith) h))
+  -- the view below, written out
+  hand_now : (b'' : Books) → b' ≡ b'' → IsInHand (with_below v v'.rooms v'.adapter.reserved) b'' → IsInHand v' b'
+  hand_now b'' same k = subst (λ x. IsInHand x b') (sym stays.reserves.same) (subst (IsInHand (with_below v v'.rooms v'.adapter.reserved)) (sym same) k)
 
-    -- a room is made
-    pub in_hand_made : (room : DiskRoom R) (rooms : List (DiskRoom R)) → AddsSlot b room.slot b' → IsRoom (class_rules v.rules) room
-        → out' (rooms_of room.parts.items ++ (rooms_in rooms ++ rooms_kept (all_open b)))
-        → IsInHand out takes_srb stack_size v b rooms → IsInHand out' takes_srb stack_size v' b' (room ∷ rooms)
-    in_hand_made room rooms adds is_room rooms_out h =
-        subst (λ x. IsInHand out' takes_srb stack_size x b' (room ∷ rooms)) (sym reserves.same)
-        (subst (λ x. IsInHand out' takes_srb stack_size (with_reserved v v'.adapter.reserved) x (room ∷ rooms)) (sym adds.after)
-        (in_hand_with out out' takes_srb stack_size v v'.adapter.reserved b b'.vacant b'.ended_places rooms (room ∷ rooms) in_order_with
-        (subst out' (sym (append_assoc (rooms_of room.parts.items) (rooms_in rooms) (rooms_kept (all_open b)))) rooms_out)
-        (All-cons (IsRoom (class_rules v.rules)) room rooms is_room h.kept.in_hand)
-        (IsPermutation-trans _ _ _ (IsPermutation-cons room.slot _ _ h.kept.vacant) (IsPermutation-sym _ _ adds.vacant))
-        adds.places h))
+  abbrev refused_books : Books
+  refused_books = with_held b b.held b.rooms b'.owners b'.ended_places
 
-  -- a room is given back
-  pub in_hand_freed : (out out' : List R → Type 0) (takes_srb : Bool) (stack_size : ℕ) (v v' : DeviceView) (b b' : Books R)
-      (room : DiskRoom R) (rooms : List (DiskRoom R)) → v' ≡ v → RemovesSlot b room.slot b' → IsInOrder v.adapter
-      → out' (rooms_in rooms ++ rooms_kept (all_open b)) → IsInHand out takes_srb stack_size v b (room ∷ rooms) → IsInHand out' takes_srb stack_size v' b' rooms
-  in_hand_freed out out' takes_srb stack_size v v' b b' room rooms same removes order rooms_out h =
-      subst (λ x. IsInHand out' takes_srb stack_size x b' rooms) (sym same)
-      (subst (λ x. IsInHand out' takes_srb stack_size v x rooms) (sym removes.after)
-      (in_hand_with out out' takes_srb stack_size v v.adapter.reserved b b'.vacant b.ended_places (room ∷ rooms) rooms order rooms_out
-      (All-tail (IsRoom (class_rules v.rules)) room rooms h.kept.in_hand)
-      (IsPermutation-uncons room.slot _ _ (IsPermutation-trans _ _ _ h.kept.vacant removes.vacant))
-      (let p = h.kept.places in let q = length_permutation _ _ removes.vacant in omega arith) h))
+  -- no room is made
+  pub in_hand_refused : b' ≡ record b { owners = b'.owners; ended_places = b'.ended_places } → b.ended_places ≤ b'.ended_places → AllOut v' (tickets b) → IsInHand v' b'
+  in_hand_refused same places out =
+      hand_now refused_books same
+      (in_hand_with v v'.rooms v'.adapter.reserved b b.held b.rooms b'.owners b'.ended_places
+      (subst (λ x. AllOut x (tickets b)) stays.reserves.same out) still_held still_open
+      (let p = h.kept.places in omega arith)
+      (record { spots = h.orderly.spots; vacant = h.orderly.vacant }) h)
 
-  -- THE SLOT OF A ROOM
+  abbrev made_books : Books
+  made_books = with_held b b'.held b'.rooms b'.owners b'.ended_places
 
-  -- a table that stays as it is
-  pub adds_none : (b : Books R) → AddsNoSlot b b
-  adds_none b = record { places = omega arith; after = refl }
+  -- a room is made
+  pub in_hand_made : (new : Held) → b' ≡ record b { owners = b'.owners; ended_places = b'.ended_places; held = b'.held; rooms = b'.rooms }
+      → IsPermutation b'.held (new ∷ b.held) → length b.held + length b.opens + 1 ≤ b'.ended_places → IsHeld (class_rules v.rules) b'.owners new → IsApart b'
+      → AllOut v' (tickets_of new.parts ++ tickets b) → IsInHand v' b'
+  in_hand_made new same more places is_held apart out =
+      let all_out : AllOut v' (tickets_held b'.held ++ tickets_open (all_open b)) =
+      out_any_order v' _ _ (IsPermutation-append_left (tickets_open (all_open b)) _ _ (IsPermutation-sym _ _ (held_same _ _ more)))
+      (subst (AllOut v') (sym (append_assoc (tickets_of new.parts) (tickets_held b.held) (tickets_open (all_open b)))) out) in
+      hand_now made_books same
+      (in_hand_with v v'.rooms v'.adapter.reserved b b'.held b'.rooms b'.owners b'.ended_places
+      (subst (λ x. AllOut x (tickets_held b'.held ++ tickets_open (all_open b))) stays.reserves.same all_out)
+      (All-permutation (IsHeld (class_rules v.rules) b'.owners) _ _ (IsPermutation-sym _ _ more) (All-cons (IsHeld (class_rules v.rules) b'.owners) new b.held is_held still_held))
+      still_open
+      (let p = length_permutation _ _ more in omega arith)
+      (subst IsApart same apart) h)
 
-  -- a room in hand has a vacant slot
-  pub slot_vacant : (rules : Rules) (b : Books R) (room : DiskRoom R) (rooms : List (DiskRoom R)) → AreKept rules b (room ∷ rooms)
-      → Contains b.vacant room.slot
-  slot_vacant rules b room rooms k = Contains-permutation _ _ room.slot k.vacant (0, omega arith, refl)
+-- a room is given back
+pub in_hand_freed : (v v' : DeviceView) (b b' : Books) (slot : ℕ) (places : Places) → v' ≡ record v { rooms = v'.rooms } → RemovesSlot b slot places b' → IsApart b'
+    → AllOut v' (tickets b') → IsInHand v b → IsInHand v' b'
+in_hand_freed v v' b b' slot places same removes apart out h =
+    let after : b' ≡ with_held b b'.held b'.rooms b.owners b.ended_places = removes.after in
+    subst (λ x. IsInHand x b') (sym same)
+    (subst (IsInHand (with_below v v'.rooms v.adapter.reserved)) (sym after)
+    (in_hand_with v v'.rooms v.adapter.reserved b b'.held b'.rooms b.owners b.ended_places
+    (subst (λ x. AllOut x (tickets (with_held b b'.held b'.rooms b.owners b.ended_places))) same (subst (λ x. AllOut v' (tickets x)) after out))
+    (All-tail (IsHeld (class_rules v.rules) b.owners) removes.held b'.held (All-permutation (IsHeld (class_rules v.rules) b.owners) _ _ removes.fewer h.kept.in_hand))
+    h.kept.opens
+    (let p = length_permutation _ _ removes.fewer in let q = h.kept.places in omega arith)
+    (subst IsApart after apart) h))
 
-  -- no more requests have ended than are open
-  ended_few : (opens : List (ℕ × Opened R)) → length (ended_in opens) ≤ length opens
-  ended_few [] = omega arith
-  ended_few (e ∷ opens) = by (e.1.unfinished == 0) (ended_few opens)
-    where
-      by : (over : Bool) → length (ended_in opens) ≤ length opens
-          → length (if over then e.0 ∷ ended_in opens else ended_in opens) ≤ length (e ∷ opens)
-      by true h = omega arith
-      by false h = omega arith
+-- the rooms of a slot that is given up come first
+pub freed_first : (v : DeviceView) (b b' : Books) (slot : ℕ) (places : Places) → RemovesSlot b slot places b' → AllOut v (tickets b) → AllOut v (tickets_of places.parts.items ++ tickets b')
+freed_first v b b' slot places removes out =
+    let same_opens : all_open b' ≡ all_open b = ap all_open removes.after in
+    let moved : AllOut v ((tickets_of removes.held.parts ++ tickets_held b'.held) ++ tickets_open (all_open b)) =
+    out_any_order v _ _ (IsPermutation-append_left (tickets_open (all_open b)) _ _ (held_same _ _ removes.fewer)) out in
+    subst (λ ps. AllOut v (tickets_of ps ++ tickets b')) (sym removes.parts)
+    (subst (λ os. AllOut v (tickets_of removes.held.parts ++ (tickets_held b'.held ++ tickets_open os))) (sym same_opens)
+    (subst (AllOut v) (append_assoc (tickets_of removes.held.parts) (tickets_held b'.held) (tickets_open (all_open b))) moved))
 
-  pub ended_open : (rules : Rules) (b : Books R) (rooms : List (DiskRoom R)) → AreKept rules b rooms → length b.ended ≤ length b.opens
-  ended_open rules b rooms k = let h = ended_few b.opens in let e = length_permutation _ _ k.ended in omega arith
+-- none of its parts is below
+pub freed_here : (rules : Rules) (b b' : Books) (slot : ℕ) (places : Places) → RemovesSlot b slot places b' → AreKept rules b → All IsHere places.parts.items
+freed_here rules b b' slot places removes k =
+    subst (All IsHere) (sym removes.parts)
+    (All-head (IsHeld rules b.owners) removes.held b'.held (All-permutation (IsHeld rules b.owners) _ _ removes.fewer k.in_hand)).here
+
+-- what is shown of it
+pub frees_above : (v v' : DeviceView) (b b' : Books) (slot : ℕ) (places : Places) → v' ≡ record v { rooms = v'.rooms } → RemovesSlot b slot places b'
+    → Frees (view_of v b) slot (view_of v' b')
+frees_above v v' b b' slot places same removes = record {
+  reserved = reserved_for removes.held;
+  room = removes.room;
+  same = cc (ap (λ (x : DeviceView). view_of x b') same, ap (λ (x : Books). view_of (record v { rooms = v'.rooms }) x) removes.after);
+}
+
+-- no more requests have ended than are open
+ended_few : (opens : List (ℕ × Opened)) → length (ended_in opens) ≤ length opens
+ended_few [] = omega arith
+ended_few (e ∷ opens) = by (e.1.unfinished == 0) (ended_few opens)
+  where
+    by : (over : Bool) → length (ended_in opens) ≤ length opens
+        → length (if over then e.0 ∷ ended_in opens else ended_in opens) ≤ length (e ∷ opens)
+    by true h = omega arith
+    by false h = omega arith
+
+pub ended_open : (rules : Rules) (b : Books) → AreKept rules b → length b.ended ≤ length b.opens
+ended_open rules b k = let h = ended_few b.opens in let e = length_permutation _ _ k.ended in omega arith
 
 pub on_err : {T E P : Type 0} (r : Result T E) → P → OnErr r P
 on_err (Ok x) p = tt
 on_err (Err x) p = p
-
--- the rooms of the first room in hand come before all others
-pub room_first : {R : Type 0} (out : List R → Type 0) (b : Books R) (room : DiskRoom R) (rooms : List (DiskRoom R))
-    → out (rooms_in (room ∷ rooms) ++ rooms_kept (all_open b)) → out (rooms_of room.parts.items ++ (rooms_in rooms ++ rooms_kept (all_open b)))
-room_first out b room rooms h = subst out (append_assoc (rooms_of room.parts.items) (rooms_in rooms) (rooms_kept (all_open b))) h
-
--- none of its parts is below
-pub room_here : {R : Type 0} (rules : Rules) (b : Books R) (room : DiskRoom R) (rooms : List (DiskRoom R))
-    → AreKept rules b (room ∷ rooms) → All IsHere room.parts.items
-room_here rules b room rooms k = (All-head (IsRoom rules) room rooms k.in_hand).here

@@ -1,5 +1,5 @@
 -- A reset of the adapter, as the class driver shows it: the pieces that fault are those on the same tags.
-use Rattle.std.proofs.Common.{◌≡◌, inl, ℕ, Bool, true, false, List, [], ◌∷◌, ◌++◌, refl, sym, ◌∙◌, ap, subst, arith, map, length, cond}
+use Rattle.std.proofs.Common.{◌≡◌, Bool, true, false, List, [], ◌∷◌, ◌++◌, refl, sym, ◌∙◌, ap, subst, arith, map, cond}
 use Rattle.std.specs.Prelude.{IsPermutation, All, Contains, filter}
 use Rattle.std.specs.List.Sorted.{IsStrictlyIncreasing}
 use Rattle.std.proofs.lemmas.List.{length-map}
@@ -9,17 +9,17 @@ use Rattle.srb.specs.declared.DeviceLabel.{DeviceLabel}
 use Rattle.srb.specs.declared.DeviceLabel.TheVariants.{Fault}
 use Rattle.srb.specs.Fate.{is_fresh}
 use Rattle.machine.specs.Rules.{Rules}
-use Rattle.machine.specs.State.{OpenRequest, Piece, State, IsSame}
-use Rattle.machine.specs.Marks.{IsCounted, AreCounted}
+use Rattle.machine.specs.State.{Piece, State, IsSame}
+use Rattle.machine.specs.Marks.{IsCounted}
 use Rattle.machine.specs.Step.{Run, as_label}
 use Rattle.machine.proofs.Permuting.{IsPermutation-uncons}
 use Rattle.machine.proofs.Same.{IsSame-refl}
 use Rattle.device.specs.View.{DeviceView, OnTag, piece_on_tag, IsOrderly}
 use Rattle.device.specs.Served.{Moves, Resets, is_fresh_piece, fault_of, piece_tag}
-use Rattle.class_disk.specs.Books.{Books, all_open}
-use Rattle.class_disk.specs.declared.requests.DiskRoom.{DiskRoom}
+use Rattle.class_disk.specs.inside.Books.{Books, all_open}
 use Rattle.class_disk.specs.Shown.{class_rules}
-use Rattle.class_disk.specs.Driver.{view_of, rooms_in, rooms_kept, IsInHand, IsCoupled, AreAsked, AreBelow}
+use Rattle.class_disk.specs.inside.Driver.{view_of, tickets, IsInHand, AreAsked, AreBelow}
+use Rattle.class_disk.proofs.Rooms.{out_same}
 use Rattle.class_disk.proofs.Showing.{IsPermutation-filter, split_at}
 use Rattle.class_disk.proofs.Acting.{IsStill, nil_from_length, still_run, unfinished_still, settled_still, asked_still, map_there, MovesAbove, moves_above, below_moved, hand_ran, same_tags}
 
@@ -86,15 +86,15 @@ still_faults rules [] s s' run = still_same s s' run
 still_faults rules (p ∷ ps) s s' run =
     still_then s run.0 s' (still_run rules s run.0 (fault_of p) p.number refl (run.0, run.1, IsSame-refl run.0)) (still_faults rules ps run.0 s' run.2)
 
-module _ {R : Type 0} (out : List R → Type 0) (takes : Bool) (stack : ℕ) (v : DeviceView) (books : Books R) (rooms : List (DiskRoom R)) (h : IsInHand out takes stack v books rooms) where
-  pub resets_above : (out' : List R → Type 0) (v' : DeviceView) → Resets v v' → IsOrderly v' → out' (rooms_in rooms ++ rooms_kept (all_open books))
-      → Resets (view_of v books) (view_of v' books) × IsInHand out' takes stack v' books rooms
-  resets_above out' v' r ordered rooms_out =
+module _ (v : DeviceView) (books : Books) (h : IsInHand v books) where
+  pub resets_above : (v' : DeviceView) → Resets v v' → IsOrderly v'
+      → Resets (view_of v books) (view_of v' books) × IsInHand v' books
+  resets_above v' r ordered =
       let faulted : DeviceView = record v' { adapter = r.all_faulted } in
       let m : MovesAbove v books (map fault_of r.fresh) faulted = moves_above v books h.port h.sound h.coupled (map fault_of r.fresh) faulted r.moves in
       let still : IsStill v.state v'.state = still_faults v.rules r.fresh v.state v'.state r.moves.run in
       let above : DeviceView = view_of v books in
-      let same : IsPermutation (map piece_on_tag v.state.pieces) (map piece_on_tag above.state.pieces) = same_tags out takes stack v books rooms h 0 in
+      let same : IsPermutation (map piece_on_tag v.state.pieces) (map piece_on_tag above.state.pieces) = same_tags v books h 0 in
       let fresh_tags : IsPermutation (map piece_on_tag (filter is_fresh_piece above.state.pieces)) (map piece_on_tag r.fresh) =
       subst (λ xs. IsPermutation xs (map piece_on_tag r.fresh)) (sym (filter_images above.state.pieces))
       (IsPermutation-sym _ _ (IsPermutation-trans _ _ _ (IsPermutation-map piece_on_tag _ _ r.all_fresh)
@@ -113,9 +113,9 @@ module _ {R : Type 0} (out : List R → Type 0) (takes : Bool) (stack : ℕ) (v 
           moves = subst (λ labels. Moves above labels (view_of faulted books)) (sym faults) m.moves;
           noted = r.noted;
         },
-        hand_ran out takes stack v books rooms h out' (map fault_of r.fresh) v' m.same_rules
+        hand_ran v books h (map fault_of r.fresh) v' m.same_rules
             (record { j = m.coupled.j; same = m.coupled.same; knows = m.coupled.knows; next_above = m.coupled.next_above; keeps = m.coupled.keeps })
-            m.sound m.moves.run ordered rooms_out
+            m.sound m.moves.run ordered (out_same v v' (tickets books) ordered r.moves.same_rooms h.rooms_out)
             (unfinished_still v.rules v.state v'.state still h.unfinished) (settled_still v.rules v.state v'.state still h.settled)
             (All-permutation (IsCounted v.rules) _ _ still.requests h.counted)
             (record {

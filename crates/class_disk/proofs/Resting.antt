@@ -18,8 +18,9 @@ use Rattle.machine.specs.Numbers.{HasPlaces, HavePlaces}
 use Rattle.device.specs.Served.{IsUnfinished, AwaitsRestart}
 use Rattle.machine.proofs.Commuting.{out_ends_not, untouched_ends_not}
 use Rattle.machine.proofs.Same.{none_there}
-use Rattle.class_disk.specs.Joint.{Part, Below, Here, Master, Joint, shown_mark, parts_requests, parts_marks, requests_below, pieces_below, pieces_above, shown, below, above, below_rules}
-use Rattle.class_disk.specs.Kept.{IsSound, IsMadeUp, AgreesOnCancel, IsCancelledAs, AreParts, Keeps}
+use Rattle.class_disk.specs.inside.Joint.{Part, Below, Here, Divided, Joint, shown_mark, parts_requests, parts_marks, requests_below, pieces_below, pieces_above, shown, below, above}
+use Rattle.class_disk.specs.PortRules.{below_rules}
+use Rattle.class_disk.specs.inside.Kept.{IsSound, IsMadeUp, AgreesOnCancel, IsCancelledAs, AreParts, Keeps}
 use Rattle.class_disk.proofs.CoupledMarks.{started_part, same_tags, tag_of}
 use Rattle.class_disk.proofs.CoupledSteps.{in_requests}
 use Rattle.class_disk.proofs.CoupledRun.{Contains-map}
@@ -136,19 +137,19 @@ abbrev pub HasEndedHere : Rules → State → OpenRequest → Part → Type 0
 HasEndedHere rules t owner (Below o again ps) = Unit {0}
 HasEndedHere rules t owner (Here marks busy) = All (HasEnded rules t owner) marks
 
-abbrev pub AreEndedHere : Rules → State → Master → Type 0
+abbrev pub AreEndedHere : Rules → State → Divided → Type 0
 AreEndedHere rules t e = All (HasEndedHere rules t (shown e)) e.parts
 
 -- some part of the request is below
-pub record HasBelow (e : Master) : Type 0 where
+pub record HasBelow (e : Divided) : Type 0 where
   pub part : OpenRequest
   pub there : Contains (parts_requests e.parts) part
 
 module _ (rules : Rules) (no_window : rules.window ≡ None) (j : Joint) (s : State) (same : IsSame (below j) s) (sound : IsSound s) (places : HavePlaces s) (k : Keeps rules j)
-    (unfinished : All (IsUnfinished (below_rules rules) s) s.requests) (settled : Settled (below_rules rules) s) (ended : All (AreEndedHere rules (above j)) j.masters) where
-  module _ (e : Master) (c : Contains j.masters e) where
+    (unfinished : All (IsUnfinished (below_rules rules) s) s.requests) (settled : Settled (below_rules rules) s) (ended : All (AreEndedHere rules (above j)) j.divided) where
+  module _ (e : Divided) (c : Contains j.divided e) where
     open_below : (o : OpenRequest) → Contains (parts_requests e.parts) o → Contains s.requests o
-    open_below o there = Contains-permutation _ _ o same.requests (in_requests e o j.masters c there)
+    open_below o there = Contains-permutation _ _ o same.requests (in_requests e o j.divided c there)
 
     rests : (o : OpenRequest) → Contains (parts_requests e.parts) o → WaitsBelow s o ⊎ All (Is Out) o.marks
     rests o there =
@@ -160,7 +161,7 @@ module _ (rules : Rules) (no_window : rules.window ≡ None) (j : Joint) (s : St
     some_place o there = All-contains HasPlaces s.requests o places (open_below o there)
 
     agrees : (o : OpenRequest) → Contains (parts_requests e.parts) o → o.cancelled ≡ e.cancelled
-    agrees o there = All-contains (IsCancelledAs e.cancelled) _ o (All-contains AgreesOnCancel j.masters e k.agree c) there
+    agrees o there = All-contains (IsCancelledAs e.cancelled) _ o (All-contains AgreesOnCancel j.divided e k.agree c) there
 
     out_if : (o : OpenRequest) → Contains (parts_requests e.parts) o → IsTrue (has_out o) → IsTrue (has_out (shown e))
     out_if o there h = by (rests o there)
@@ -184,11 +185,11 @@ module _ (rules : Rules) (no_window : rules.window ≡ None) (j : Joint) (s : St
         by (inl waits) = absurd (held (All-contains (IsHeldBack (below_rules rules) s) s.requests o (settled.released free staying) (open_below o there) (ap not (untouched_all o.marks waits.marks))))
           where
             held : IsTrue o.late ⊎ IsFull rules.window (started_count s) → ⊥
-            held (inl late) = let timely : o.late ≡ false = part_timely rules e.request 0 e.parts o (All-contains (IsMadeUp rules) j.masters e k.made_up c) there in cc (late, timely)
+            held (inl late) = let timely : o.late ≡ false = part_timely rules e.request 0 e.parts o (All-contains (IsMadeUp rules) j.divided e k.made_up c) there in cc (late, timely)
             held (inr full) = subst (λ w. IsFull w (started_count s)) no_window full
 
     ended_here : AreEndedHere rules (above j) e
-    ended_here = All-contains (AreEndedHere rules (above j)) j.masters e ended c
+    ended_here = All-contains (AreEndedHere rules (above j)) j.divided e ended c
 
     -- and no place of the request waits, unless it is cancelled
     pub gone : length s.pieces < rules.depth → IsFalse s.removing → IsFalse e.cancelled → All (HasGone rules (shown e)) (parts_marks e.parts)
@@ -265,51 +266,51 @@ module _ (rules : Rules) (no_window : rules.window ≡ None) (j : Joint) (s : St
             }
 
   -- as many pieces
-  pub same_count : length (pieces_above j.masters) ≡ length s.pieces
+  pub same_count : length (pieces_above j.divided) ≡ length s.pieces
   same_count =
-      sym (length-map (pieces_above j.masters) tag_of) ∙ ap length (same_tags j.masters) ∙ length-map (pieces_below j.masters) tag_of ∙ sym (length_permutation _ _ same.pieces)
+      sym (length-map (pieces_above j.divided) tag_of) ∙ ap length (same_tags j.divided) ∙ length-map (pieces_below j.divided) tag_of ∙ sym (length_permutation _ _ same.pieces)
 
-  of_masters : (P : OpenRequest → Type 0) → ((e : Master) → Contains j.masters e → P (shown e)) → All P (map shown j.masters)
-  of_masters P each = All-map P shown j.masters (λ n d low. each (get_or j.masters n d) (Contains-get_or j.masters n d low))
+  of_divided : (P : OpenRequest → Type 0) → ((e : Divided) → Contains j.divided e → P (shown e)) → All P (map shown j.divided)
+  of_divided P each = All-map P shown j.divided (λ n d low. each (get_or j.divided n d) (Contains-get_or j.divided n d low))
 
   -- a request with a part below has not ended, unless that part awaits its restart
-  pub unfinished_above : IsFalse rules.one_piece → All HasBelow j.masters → All (IsUnfinished rules (above j)) (map shown j.masters)
-  unfinished_above in_pieces has = of_masters (IsUnfinished rules (above j)) (λ e c over.
-      let p = All-contains HasBelow j.masters e has c in
+  pub unfinished_above : IsFalse rules.one_piece → All HasBelow j.divided → All (IsUnfinished rules (above j)) (map shown j.divided)
+  unfinished_above in_pieces has = of_divided (IsUnfinished rules (above j)) (λ e c over.
+      let p = All-contains HasBelow j.divided e has c in
       awaits e c in_pieces p.part p.there over)
 
   -- with a tag free nothing waits that may go
-  pub all_sent : length s.pieces < rules.depth → IsFalse s.removing → All (IsAllSent rules) (map shown j.masters)
-  all_sent free staying = of_masters (IsAllSent rules) (λ e c timely started. gone e c free staying timely)
+  pub all_sent : length s.pieces < rules.depth → IsFalse s.removing → All (IsAllSent rules) (map shown j.divided)
+  all_sent free staying = of_divided (IsAllSent rules) (λ e c timely started. gone e c free staying timely)
 
   -- where each request has a part below, the machine above is settled
-  pub settled_above : All HasBelow j.masters → Settled rules (above j)
+  pub settled_above : All HasBelow j.divided → Settled rules (above j)
   settled_above has =
-      let part = λ (e : Master) (c : Contains j.masters e). All-contains HasBelow j.masters e has c in
-      let none_open : pieces_above j.masters ≡ [] → map shown j.masters ≡ [] = λ none. no_masters j.masters has (
+      let part = λ (e : Divided) (c : Contains j.divided e). All-contains HasBelow j.divided e has c in
+      let none_open : pieces_above j.divided ≡ [] → map shown j.divided ≡ [] = λ none. no_divided j.divided has (
       let empty : s.pieces ≡ [] = nil_from_length s.pieces (sym same_count ∙ ap length none) in
-      none_there s.requests (requests_below j.masters) (settled.idle_unpaused empty (sym same.paused)) (IsPermutation-sym _ _ same.requests)) in
+      none_there s.requests (requests_below j.divided) (settled.idle_unpaused empty (sym same.paused)) (IsPermutation-sym _ _ same.requests)) in
       record {
         none_owed = refl;
         idle = λ none. subst (All IsHeld) (sym (none_open none)) (All-nil IsHeld);
         idle_unpaused = λ none paused. none_open none;
-        cancelled = of_masters WaitsIfCancelled (λ e c cancelled. let p = part e c in
+        cancelled = of_divided WaitsIfCancelled (λ e c cancelled. let p = part e c in
             out_if e c p.part p.there (All-contains WaitsIfCancelled s.requests p.part settled.cancelled (open_below e c p.part p.there) (agrees e c p.part p.there ∙ cancelled)));
-        removing = λ removing. of_masters Waits (λ e c. let p = part e c in
+        removing = λ removing. of_divided Waits (λ e c. let p = part e c in
             out_if e c p.part p.there (All-contains Waits s.requests p.part (settled.removing (sym same.removing ∙ removing)) (open_below e c p.part p.there)));
         sent = λ free staying. all_sent (let n = same_count in omega arith) (sym same.removing ∙ staying);
-        released = λ free staying. of_masters (IsHeldBack rules (above j)) (λ e c still. let p = part e c in
+        released = λ free staying. of_divided (IsHeldBack rules (above j)) (λ e c still. let p = part e c in
             absurd (let started = started_by e c p.part p.there (all_out e c (let n = same_count in omega arith) (sym same.removing ∙ staying) p.part p.there) in cc (started, still)));
-        alive = of_masters HasMore (λ e c started. let p = part e c in more e c p.part p.there);
-        at_work = λ free. of_masters IsAtWork (λ e c started. let p = part e c in
+        alive = of_divided HasMore (λ e c started. let p = part e c in more e c p.part p.there);
+        at_work = λ free. of_divided IsAtWork (λ e c started. let p = part e c in
             at_work_by e c p.part p.there (let n = same_count in omega arith) (cases_Bool s.removing));
         within_window = subst (λ w. IsWithin w (started_count (above j))) (sym no_window) tt;
       }
     where
-      no_masters : (es : List Master) → All HasBelow es → requests_below es ≡ [] → map shown es ≡ []
-      no_masters [] has none = refl
-      no_masters (e ∷ es) has none = absurd (let p = All-head HasBelow e es has in let c : Contains (requests_below (e ∷ es)) p.part = Contains-append_left _ (requests_below es) p.part p.there in let w = c.1 in let l = ap (λ (os : List OpenRequest). length os) none in omega arith)
+      no_divided : (es : List Divided) → All HasBelow es → requests_below es ≡ [] → map shown es ≡ []
+      no_divided [] has none = refl
+      no_divided (e ∷ es) has none = absurd (let p = All-head HasBelow e es has in let c : Contains (requests_below (e ∷ es)) p.part = Contains-append_left _ (requests_below es) p.part p.there in let w = c.1 in let l = ap (λ (os : List OpenRequest). length os) none in omega arith)
 
-      at_work_by : (e : Master) (c : Contains j.masters e) (o : OpenRequest) → Contains (parts_requests e.parts) o → length s.pieces < rules.depth → IsTrue s.removing ⊎ IsFalse s.removing → IsTrue (has_out (shown e))
+      at_work_by : (e : Divided) (c : Contains j.divided e) (o : OpenRequest) → Contains (parts_requests e.parts) o → length s.pieces < rules.depth → IsTrue s.removing ⊎ IsFalse s.removing → IsTrue (has_out (shown e))
       at_work_by e c o there free (inl removing) = out_if e c o there (All-contains Waits s.requests o (settled.removing removing) (open_below e c o there))
       at_work_by e c o there free (inr staying) = out_of e c o there (all_out e c free staying o there)

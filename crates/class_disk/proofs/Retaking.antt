@@ -24,10 +24,11 @@ use Rattle.machine.proofs.Placed.{ArePlaced-Answers, ArePlaced-Opens}
 use Rattle.machine.proofs.Earned.{HaveEarned-Answers, HaveEarned-Opens}
 use Rattle.machine.proofs.OnePiece.{AreOnePiece-Answers, AreOnePiece-Opens}
 use Rattle.machine.proofs.Counted.{AreCounted-Answers, AreCounted-Opens, AreCounted-Run, AreCounted-same}
-use Rattle.class_disk.specs.Joint.{Part, Below, Here, Note, Sent, Kept, Known, note_of, known_of, Master, Joint, IsPartOf, shown_mark, parts_requests, parts_marks, requests_below, shown, below, above, below_rules}
-use Rattle.class_disk.specs.Kept.{IsSound, IsMadeUp, AgreesOnCancel, IsCancelledAs, HasPartBefore, IsAhead, Keeps, IsOverMark, IsOverNote, IsOver, HasSome, noted_busy}
+use Rattle.class_disk.specs.inside.Joint.{Part, Below, Here, Note, Sent, Kept, Known, note_of, known_of, Divided, Joint, IsPartOf, shown_mark, parts_requests, parts_marks, requests_below, shown, below, above}
+use Rattle.class_disk.specs.PortRules.{below_rules}
+use Rattle.class_disk.specs.inside.Kept.{IsSound, IsMadeUp, AgreesOnCancel, IsCancelledAs, HasPartBefore, IsAhead, Keeps, IsOverMark, IsOverNote, IsOver, HasSome, noted_busy}
 use Rattle.class_disk.proofs.Restarting.{IsBusyOnce, busy_once, once_of, noted_back, few_again}
-use Rattle.class_disk.specs.Midway.{IsTaking}
+use Rattle.class_disk.specs.inside.Midway.{IsTaking}
 use Rattle.class_disk.proofs.CoupledSteps.{in_requests}
 use Rattle.class_disk.proofs.Focus.{Found}
 use Rattle.class_disk.proofs.Keeping.{part_in, there}
@@ -61,42 +62,42 @@ split_notes (p ∷ parts) (x ∷ nf) n again nb e =
     let r = split_notes parts nf n again nb others in
     (p ∷ r.0, r.1, r.2, r.3, ap (λ zs. p ∷ zs) r.4, cc (first, r.5), r.6, r.7)
 
-pub split_masters : (e : Master) (es : List Master) → Contains es e → (before : List Master) × (after : List Master) × (es ≡ before ++ (e ∷ after))
-split_masters e [] (k, low, is) = absurd (omega arith)
-split_masters e (x ∷ es) (zero, low, is) = ([], es, ap (λ z. z ∷ es) is)
-split_masters e (x ∷ es) (suc k, low, is) = let r = split_masters e es (k, omega arith, is) in (x ∷ r.0, r.1, ap (λ zs. x ∷ zs) r.2)
+pub split_divided : (e : Divided) (es : List Divided) → Contains es e → (before : List Divided) × (after : List Divided) × (es ≡ before ++ (e ∷ after))
+split_divided e [] (k, low, is) = absurd (omega arith)
+split_divided e (x ∷ es) (zero, low, is) = ([], es, ap (λ z. z ∷ es) is)
+split_divided e (x ∷ es) (suc k, low, is) = let r = split_divided e es (k, omega arith, is) in (x ∷ r.0, r.1, ap (λ zs. x ∷ zs) r.2)
 
 -- the part of an open request below, where the class driver noted it
 pub record FoundBy (j : Joint) (o : OpenRequest) (k : Known) (front back : List Note) (again : ℕ) (others : List Known) : Type 0 where
-  pub found : Found j.masters o
+  pub found : Found j.divided o
   pub again_is : found.again ≡ again
   pub front_is : map note_of found.front ≡ front
   pub back_is : map note_of found.back ≡ back
-  pub number_is : found.master.number ≡ k.number
-  pub request_is : found.master.request ≡ k.request
-  pub cancelled_is : found.master.cancelled ≡ k.cancelled
+  pub number_is : found.whole.number ≡ k.number
+  pub request_is : found.whole.request ≡ k.request
+  pub cancelled_is : found.whole.cancelled ≡ k.cancelled
   pub others_are : IsPermutation (map known_of (found.before ++ found.after)) others
 
 pub found_by : (j : Joint) (s : State) → IsSame (below j) s → AreDistinct s → (o : OpenRequest) → Contains s.requests o → (k : Known) (front back : List Note) (again : ℕ) (others : List Known)
-    → IsPermutation (map known_of j.masters) (known_at k front (Sent o.number again) back ∷ others) → FoundBy j o k front back again others
+    → IsPermutation (map known_of j.divided) (known_at k front (Sent o.number again) back ∷ others) → FoundBy j o k front back again others
 found_by j s same distinct o is_open k front back again others knows =
     let this : Known = known_at k front (Sent o.number again) back in
-    let m = map_there known_of j.masters this (Contains-permutation _ _ this (IsPermutation-sym _ _ knows) (0, omega arith, refl)) in
-    let e : Master = m.0 in
-    let sp = split_masters e j.masters m.1 in
+    let m = map_there known_of j.divided this (Contains-permutation _ _ this (IsPermutation-sym _ _ knows) (0, omega arith, refl)) in
+    let e : Divided = m.0 in
+    let sp = split_divided e j.divided m.1 in
     let q = split_notes e.parts front o.number again back (ap (λ (x : Known). x.parts) m.2) in
     let o' : OpenRequest = q.1 in
     let in_e : Contains (parts_requests e.parts) o' = subst (λ ps. Contains (parts_requests ps) o') (sym q.4) (there o' again q.2 q.0 q.3) in
-    let in_s : Contains s.requests o' = Contains-permutation _ _ o' same.requests (in_requests e o' j.masters m.1 in_e) in
+    let in_s : Contains s.requests o' = Contains-permutation _ _ o' same.requests (in_requests e o' j.divided m.1 in_e) in
     let is : o' ≡ o = one_request s o' o distinct in_s is_open q.7 in
     let parts_are : e.parts ≡ q.0 ++ (Below o again q.2 ∷ q.3) = q.4 ∙ ap (λ x. q.0 ++ (Below x again q.2 ∷ q.3)) is in
-    let moved : IsPermutation (map known_of j.masters) (known_of e ∷ map known_of (sp.0 ++ sp.1)) =
+    let moved : IsPermutation (map known_of j.divided) (known_of e ∷ map known_of (sp.0 ++ sp.1)) =
     subst (λ es. IsPermutation (map known_of es) (known_of e ∷ map known_of (sp.0 ++ sp.1))) (sym sp.2) (IsPermutation-map known_of _ _ (IsPermutation-middle sp.0 e sp.1)) in
     record {
       found = record {
         before = sp.0;
         after = sp.1;
-        master = e;
+        whole = e;
         front = q.0;
         back = q.3;
         again = again;
@@ -109,12 +110,12 @@ found_by j s same distinct o is_open k front back again others knows =
       number_is = ap (λ (x : Known). x.number) m.2;
       request_is = ap (λ (x : Known). x.request) m.2;
       cancelled_is = ap (λ (x : Known). x.cancelled) m.2;
-      others_are = IsPermutation-uncons this _ _ (IsPermutation-trans _ _ _ (subst (λ x. IsPermutation (x ∷ map known_of (sp.0 ++ sp.1)) (map known_of j.masters)) m.2 (IsPermutation-sym _ _ moved)) knows);
+      others_are = IsPermutation-uncons this _ _ (IsPermutation-trans _ _ _ (subst (λ x. IsPermutation (x ∷ map known_of (sp.0 ++ sp.1)) (map known_of j.divided)) m.2 (IsPermutation-sym _ _ moved)) knows);
     }
 
 -- what the class driver knows of the request, with another note of the part
 known_is : (j : Joint) (o : OpenRequest) (k : Known) (front back : List Note) (again : ℕ) (others : List Known) (f : FoundBy j o k front back again others) (part : Part)
-    → known_of (record f.found.master { parts = f.found.front ++ (part ∷ f.found.back) }) ≡ known_at k front (note_of part) back
+    → known_of (record f.found.whole { parts = f.found.front ++ (part ∷ f.found.back) }) ≡ known_at k front (note_of part) back
 known_is j o k front back again others f part =
     let notes : map note_of (f.found.front ++ (part ∷ f.found.back)) ≡ front ++ (note_of part ∷ back) =
     notes_of f.found.front part f.found.back ∙ ap (λ ns. ns ++ (note_of part ∷ map note_of f.found.back)) f.front_is ∙ ap (λ ns. front ++ (note_of part ∷ ns)) f.back_is in
@@ -145,7 +146,7 @@ module _ (rules : Rules) (many : rules.one_piece ≡ false) (first : State) (lab
   is_open = Contains-permutation _ _ h.request (IsPermutation-sym _ _ h.is_open) (0, omega arith, refl)
 
   by_note : FoundBy t.j h.request k front back again others
-  by_note = found_by t.j s t.same t.sound.distinct h.request is_open k front back again others (subst (λ n. IsPermutation (map known_of t.j.masters) (known_at k front (Sent n again) back ∷ others)) (sym h.is_number) t.knows)
+  by_note = found_by t.j s t.same t.sound.distinct h.request is_open k front back again others (subst (λ n. IsPermutation (map known_of t.j.divided) (known_at k front (Sent n again) back ∷ others)) (sym h.is_number) t.knows)
 
   -- THE PART IS NOTED, and the layer below may start others
   pub kept_taken : (starts : List DeviceLabel) (s' : State) → Run (below_rules rules) answered (map as_label starts) s'
@@ -153,19 +154,19 @@ module _ (rules : Rules) (many : rules.one_piece ≡ false) (first : State) (lab
   kept_taken starts s' run =
       let o : OpenRequest = h.request in
       let f : FoundBy t.j o k front back again others = by_note in
-      let fd : Found t.j.masters o = f.found in
-      let es : List Master = rest rules t.j o fd in
-      let a : TakenFrom t.j rules fd.master es fd.front fd.back o fd.again answered = taken_from rules t.j s t.same t.sound places t.keeps number status bytes answered h fd in
-      let mid : Joint = with_here t.j fd.master es fd.front fd.back o fd.again in
+      let fd : Found t.j.divided o = f.found in
+      let es : List Divided = rest rules t.j o fd in
+      let a : TakenFrom t.j rules fd.whole es fd.front fd.back o fd.again answered = taken_from rules t.j s t.same t.sound places t.keeps number status bytes answered h fd in
+      let mid : Joint = with_here t.j fd.whole es fd.front fd.back o fd.again in
       let sound : IsSound answered = sound_answer (below_rules rules) refl s number status bytes answered t.same.owed t.sound h in
       let ran : Ran rules mid starts s' = run_coupled rules many starts mid answered s' a.same sound a.keeps run in
-      let noted : known_of (record fd.master { parts = fd.front ++ (Here (map (shown_mark fd.again) o.marks) (fd.again + o.busy_returns) ∷ fd.back) }) ≡ known_at k front (Kept (map (shown_mark again) o.marks) (again + o.busy_returns)) back =
+      let noted : known_of (record fd.whole { parts = fd.front ++ (Here (map (shown_mark fd.again) o.marks) (fd.again + o.busy_returns) ∷ fd.back) }) ≡ known_at k front (Kept (map (shown_mark again) o.marks) (again + o.busy_returns)) back =
       known_is t.j o k front back again others f _ ∙ ap (λ n. known_at k front (Kept (map (shown_mark n) o.marks) (n + o.busy_returns)) back) f.again_is in
       record {
         j = ran.next;
         same = ran.same;
         knows = IsPermutation-trans _ _ _ ran.like.transfers
-            (subst (λ x. IsPermutation (known_of (record fd.master { parts = fd.front ++ (Here (map (shown_mark fd.again) o.marks) (fd.again + o.busy_returns) ∷ fd.back) }) ∷ map known_of es) (x ∷ others)) noted (IsPermutation-cons _ _ _ f.others_are));
+            (subst (λ x. IsPermutation (known_of (record fd.whole { parts = fd.front ++ (Here (map (shown_mark fd.again) o.marks) (fd.again + o.busy_returns) ∷ fd.back) }) ∷ map known_of es) (x ∷ others)) noted (IsPermutation-cons _ _ _ f.others_are));
         keeps = ran.keeps;
         sound = ran.sound;
         counted = AreCounted-Run (below_rules rules) refl answered starts s' sound.distinct sound.placed sound.whole (AreCounted-Answers (below_rules rules) refl s number status bytes answered t.counted h) run;
@@ -199,7 +200,7 @@ under_way cancelled removing limit busy (Here marks n ∷ parts) timely staying 
         (All-weaker (IsOverMark cancelled removing limit busy) IsTouched (λ m h. over_touched cancelled removing limit busy m timely staying h) marks (All-head (IsOverNote cancelled removing limit busy) (Kept marks n) (map note_of parts) over)) all)
 
 -- so a part under a new number is in turn behind it
-pub ahead_of : (rules : Rules) (removing : Bool) (limit number part_number : ℕ) (x : Master) → IsOver limit removing (known_of x) → HasSome rules (known_of x) → IsMadeUp rules x → AgreesOnCancel x
+pub ahead_of : (rules : Rules) (removing : Bool) (limit number part_number : ℕ) (x : Divided) → IsOver limit removing (known_of x) → HasSome rules (known_of x) → IsMadeUp rules x → AgreesOnCancel x
     → All (IsGiven part_number) (parts_requests x.parts) → IsAhead removing number part_number x
 ahead_of rules removing limit number part_number x over some made agree given staying lower timely =
     by (under_way x.cancelled removing limit _ x.parts timely staying over)
@@ -252,12 +253,12 @@ module _ (rules : Rules) (many : rules.one_piece ≡ false) (first : State) (lab
   pub sent_again : (starts : List DeviceLabel) (s' : State) → Run (below_rules rules) opened (map as_label starts) s' → IsTaking rules first (labels ++ starts) s' (known_at k front (Sent next (suc again)) back ∷ others)
   sent_again starts s' run =
       let f : FoundBy t.j old k front back again others = by_its_note in
-      let fd : Found t.j.masters old = f.found in
-      let e : Master = fd.master in
-      let es : List Master = rest rules t.j old fd in
+      let fd : Found t.j.divided old = f.found in
+      let e : Divided = fd.whole in
+      let es : List Divided = rest rules t.j old fd in
       let a : TakenFrom t.j rules e es fd.front fd.back old fd.again answered = taken_from rules t.j s t.same t.sound places t.keeps number status bytes answered h fd in
       let o : OpenRequest = new_request (below_rules rules) s1 next old.request in
-      let with_part : Part → Joint = λ p. record t.j { masters = record e { parts = fd.front ++ (p ∷ fd.back) } ∷ es } in
+      let with_part : Part → Joint = λ p. record t.j { divided = record e { parts = fd.front ++ (p ∷ fd.back) } ∷ es } in
       let parts_are : Here (map (shown_mark fd.again) old.marks) (fd.again + old.busy_returns) ≡ Here (map (shown_mark (suc again)) o.marks) (suc again) =
       ap (λ n. Here (map (shown_mark n) old.marks) (n + old.busy_returns)) f.again_is ∙ ap (λ ms. Here ms (again + old.busy_returns)) shows_again
       ∙ ap (λ n. Here (map (shown_mark (suc again)) o.marks) n) (omega (arith, once)) in
@@ -272,9 +273,9 @@ module _ (rules : Rules) (many : rules.one_piece ≡ false) (first : State) (lab
       let part : IsPartOf rules e.request (length (parts_marks fd.front)) old = (part_in rules e.request old fd.again fd.pieces fd.front fd.back (All-head (IsMadeUp rules) _ es kf.made_up)).0 in
       let counted : IsCounted (below_rules rules) old = All-contains (IsCounted (below_rules rules)) s.requests old t.counted (is_open rules many first labels s places k front back again others number status bytes answered h t) in
       let sound1 : IsSound s1 = sound_same answered s1 to_s1 (sound_answer (below_rules rules) refl s number status bytes answered t.same.owed t.sound h) in
-      let given : (x : Master) → Contains es x → All (IsGiven next) (parts_requests x.parts) = λ x c i d low.
+      let given : (x : Divided) → Contains es x → All (IsGiven next) (parts_requests x.parts) = λ x c i d low.
       (let p : OpenRequest = get_or (parts_requests x.parts) i d in
-      let there1 : Contains s1.requests p = Contains-permutation _ _ p u_same.requests (in_requests x p u.masters (suc c.0, let w = c.1 in omega arith, c.2) (Contains-get_or (parts_requests x.parts) i d low)) in
+      let there1 : Contains s1.requests p = Contains-permutation _ _ p u_same.requests (in_requests x p u.divided (suc c.0, let w = c.1 in omega arith, c.2) (Contains-get_or (parts_requests x.parts) i d low)) in
       let before : p.number < s1.next_request = All-contains (IsGiven s1.next_request) s1.requests p sound1.distinct.given there1 in
       let new = opens.new_number in
       omega arith) in
@@ -287,7 +288,7 @@ module _ (rules : Rules) (many : rules.one_piece ≡ false) (first : State) (lab
       (given (get_or es i d) (Contains-get_or es i d low)) in
       let notes : map note_of (fd.front ++ (Below old again fd.pieces ∷ fd.back)) ≡ front ++ (Sent number again ∷ back) =
       ap (λ (x : Known). x.parts) (known_is t.j old k front back again others f (Below old again fd.pieces)) ∙ ap (λ m. front ++ (Sent m again ∷ back)) h.is_number in
-      let all_once : All IsBusyOnce (requests_below (here rules t.j old fd fd.pieces).masters) = All-permutation IsBusyOnce _ _ (IsPermutation-trans _ _ _ (IsPermutation-sym _ _ t.same.requests) (same_below rules t.j old fd).requests) (busy_once (below_rules rules) s places t.counted) in
+      let all_once : All IsBusyOnce (requests_below (here rules t.j old fd fd.pieces).divided) = All-permutation IsBusyOnce _ _ (IsPermutation-trans _ _ _ (IsPermutation-sym _ _ t.same.requests) (same_below rules t.j old fd).requests) (busy_once (below_rules rules) s places t.counted) in
       let own_once : All IsBusyOnce (parts_requests (fd.front ++ (Below old again fd.pieces ∷ fd.back))) =
       subst (λ m. All IsBusyOnce (parts_requests (fd.front ++ (Below old m fd.pieces ∷ fd.back)))) f.again_is (once_of _ (requests_below es) all_once) in
       let few_then = few_again rules fd.front fd.back old o again fd.pieces [] own_once once refl (subst (λ ns. noted_busy ns < noted_back ns + restarts rules) (sym notes) few) in
@@ -310,7 +311,7 @@ module _ (rules : Rules) (many : rules.one_piece ≡ false) (first : State) (lab
       }
 
 -- A run of the machine below by labels of the adapter is the first one above
-pub taking_begins : (rules : Rules) → rules.one_piece ≡ false → (j : Joint) (s s' : State) (ks : List Known) (labels : List DeviceLabel) → IsSame (below j) s → IsPermutation (map known_of j.masters) ks → Keeps rules j → IsSound s
+pub taking_begins : (rules : Rules) → rules.one_piece ≡ false → (j : Joint) (s s' : State) (ks : List Known) (labels : List DeviceLabel) → IsSame (below j) s → IsPermutation (map known_of j.divided) ks → Keeps rules j → IsSound s
     → AreCounted (below_rules rules) s → Run (below_rules rules) s (map as_label labels) s' → IsTaking rules (above j) labels s' ks
 taking_begins rules many j s s' ks labels same knows keeps sound counted run =
     let ran : Ran rules j labels s' = run_coupled rules many labels j s s' same sound keeps run in
@@ -330,7 +331,7 @@ abbrev pub IsTimely : OpenRequest → Type 0
 IsTimely o = o.late ≡ false
 
 -- no part below is held by a pause
-pub all_timely : (rules : Rules) (es : List Master) → All (IsMadeUp rules) es → All IsTimely (requests_below es)
+pub all_timely : (rules : Rules) (es : List Divided) → All (IsMadeUp rules) es → All IsTimely (requests_below es)
 all_timely rules [] made = All-nil IsTimely
 all_timely rules (e ∷ es) made =
     All-append IsTimely (parts_requests e.parts) (requests_below es)

@@ -13,7 +13,7 @@ use Rattle.machine.specs.Rules.{Rules, place_count, as_client}
 use Rattle.machine.specs.State.{Done, Failed, Back, OpenRequest, State, IsSame}
 use Rattle.machine.specs.Marks.{AreCounted, IsCounted}
 use Rattle.machine.specs.Step.{Run, as_label}
-use Rattle.irp.specs.declared.Climb.{Climb}
+use Rattle.device.specs.declared.climbing.Climb.{Climb}
 use Rattle.irp.specs.declared.Payload.{Payload}
 use Rattle.srb.specs.declared.DeviceLabel.{DeviceLabel}
 use Rattle.device.specs.View.{DeviceView, IsOrderly, payload_bytes, sent_bytes, transfer_length}
@@ -21,18 +21,19 @@ use Rattle.device.specs.Served.{HandsUp, sectors_moved}
 use Rattle.class_disk.specs.declared.parts.Part.{Part}
 use Rattle.class_disk.specs.declared.parts.Outcome.{Outcome}
 use Rattle.class_disk.specs.declared.parts.Outcome.TheVariants.{Good, Failed as IsBad, Busy, Withdrawn}
-use Rattle.class_disk.specs.declared.requests.DiskRoom.{DiskRoom}
-use Rattle.class_disk.specs.Joint.{Note, Sent, Known, known_of, Master, IsPartOf, parts_marks}
-use Rattle.class_disk.specs.Kept.{WasSent, IsOverMark, IsMadeUp}
+use Rattle.class_disk.specs.inside.Joint.{Note, Sent, Known, known_of, Divided, IsPartOf, parts_marks}
+use Rattle.class_disk.specs.inside.Kept.{WasSent, IsOverMark, IsMadeUp}
 use Rattle.class_disk.specs.Shown.{class_rules}
-use Rattle.class_disk.specs.Parts.{EndsBack, HasReason}
-use Rattle.class_disk.specs.Books.{Opened, Books, opened, all_open, slot_in, part_in}
-use Rattle.class_disk.specs.Turns.{ended_part, bytes_from}
-use Rattle.class_disk.specs.Driver.{places_of, busy_left, marks_left, note, note_by, known, knowns, IsCause, IsAsked, AreAsked, IsSpotted, IsOpen, IsBuffered, IsWritten}
-use Rattle.class_disk.specs.Midway.{IsTaking, IsMidway}
+use Rattle.class_disk.specs.inside.Parts.{EndsBack, HasReason, payload_in}
+use Rattle.class_disk.specs.inside.Books.{Opened, Books, opened, all_open}
+use Rattle.class_disk.specs.declared.parts.TransferPacket.{TransferPacket}
+use Rattle.class_disk.specs.inside.Owners.{slot_at}
+use Rattle.class_disk.specs.inside.Turns.{ended_part, bytes_from}
+use Rattle.class_disk.specs.inside.Driver.{places_of, busy_left, marks_left, note, note_by, known, knowns, IsCause, IsAsked, AreAsked, IsSpotted, IsOpen, IsBuffered, IsWritten}
+use Rattle.class_disk.specs.inside.Midway.{IsTaking, IsMidway}
 use Rattle.class_disk.proofs.Retaking.{known_at, FoundBy, found_by}
-use Rattle.class_disk.proofs.Keeping.{part_in as part_of_master}
-use Rattle.class_disk.proofs.CoupledSteps.{master_with}
+use Rattle.class_disk.proofs.Keeping.{part_in as part_of_divided}
+use Rattle.class_disk.proofs.CoupledSteps.{divided_with}
 use Rattle.class_disk.proofs.Asking.{asks_of_handed, places_of_handed, request_of_handed}
 use Rattle.class_disk.proofs.Standing.{All-at}
 use Rattle.class_disk.proofs.Handed.{Handed}
@@ -53,7 +54,7 @@ cause_of cancelled removing restarts busy status (Busy told) many ends (inr (inr
 cause_of cancelled removing restarts busy status (Withdrawn told) many ends reason = absurd ends
 
 -- and its places have ended
-pub over_outcome : {R : Type 0} (rules : Rules) (part : Part R) (payload : Payload) (cancelled removing : Bool) (busy : ℕ)
+pub over_outcome : (rules : Rules) (part : Part) (payload : Payload) (cancelled removing : Bool) (busy : ℕ)
     (status : NtStatus) (outcome : Outcome) → EndsBack status outcome → IsCause cancelled removing busy outcome
     → All (IsOverMark cancelled removing 17 busy) (marks_left rules part payload outcome)
 over_outcome rules part payload cancelled removing busy status Good ends cause = All-map (IsOverMark cancelled removing 17 busy) Done
@@ -99,28 +100,27 @@ its_bytes size n count part whole first sent all are long from =
 
 -- WHAT THE STEP BELOW LEAVES
 
-module _ {takes : Bool} {v : DeviceView} {request : Request} {climb : Climb} {v' : DeviceView} (h : HandsUp takes v request climb v') where
+module _ {takes : Bool} {v : DeviceView} {climb : Climb} {spot : ℕ} {v' : DeviceView} (h : HandsUp takes v climb spot v') where
   pub packets_taken : IsPermutation v.packets (h.packet ∷ v'.packets)
   packets_taken = IsPermutation-trans _ _ _ h.is_in (IsPermutation-cons h.packet _ _ (IsPermutation-sym _ _ h.moves.same_packets))
 
   -- another packet stays where it is, and asks for the same
-  pub part_spotted : {R : Type 0} (x : Part R) → HasOther h.packet.number x → IsSpotted v.packets x → IsSpotted v'.packets x
-  part_spotted x other is = still_spotted v request climb v' h x.progress other is
+  pub part_spotted : (x : Part) → HasOther h.packet.spot x → IsSpotted v.packets x → IsSpotted v'.packets x
+  part_spotted x other is = still_spotted v climb spot v' h x.progress other is
 
-  pub part_asked : {R : Type 0} (rules : Rules) (x : Part R) → IsAsked rules v.state.requests x → IsAsked rules v'.state.requests x
-  part_asked rules x is = still_asked v request climb v' h rules x.request x.progress is
+  pub part_asked : (rules : Rules) (x : Part) → IsAsked rules v.state.requests x → IsAsked rules v'.state.requests x
+  part_asked rules x is = still_asked v climb spot v' h rules x.request x.progress is
 
 -- WHAT THE PART THAT IS HANDED UP WAS
 
-module _ {R : Type 0} {out : List R → Type 0} {takes_srb : Bool} {stack : ℕ} {v : DeviceView} {b : Books R} {request : Request}
-    {climb : Climb} {v' : DeviceView} (h : HandsUp takes_srb v request climb v') (ordered : IsOrderly v)
-    (d : Handed b h.packet.number) {first : State} {labels : List DeviceLabel} {rooms : List (DiskRoom R)}
-    (m : IsMidway out takes_srb stack WasSent first labels v b rooms) where
+module _ {takes : Bool} {v : DeviceView} {b : Books} {climb : Climb} {spot : ℕ} {v' : DeviceView} (h : HandsUp takes v climb spot v') (ordered : IsOrderly v)
+    (d : Handed b h.packet.number h.packet.spot) {first : State} {labels : List DeviceLabel}
+    (m : IsMidway WasSent first labels v b) where
   abbrev pub rules_here : Rules
   rules_here = class_rules v.rules
 
   abbrev pub slot_here : ℕ
-  slot_here = slot_in h.packet.number
+  slot_here = slot_at b.owners h.packet.spot
 
   abbrev pub notes_front : List Note
   notes_front = map (note rules_here) d.stands.front
@@ -131,9 +131,9 @@ module _ {R : Type 0} {out : List R → Type 0} {takes_srb : Bool} {stack : ℕ}
   abbrev pub knowns_beside : List Known
   knowns_beside = map (known rules_here) (map opened (d.stands.stands.before ++ d.stands.stands.after))
 
-  pub entry_open : IsOpen rules_here (slot_here, d.o)
-  entry_open = All-at (IsOpen rules_here) d.stands.stands.before (slot_here, d.o) d.stands.stands.after
-      (subst (All (IsOpen rules_here)) d.stands.stands.opens_are m.kept.opens)
+  pub entry_open : IsOpen rules_here b.owners (slot_here, d.o)
+  entry_open = All-at (IsOpen rules_here b.owners) d.stands.stands.before (slot_here, d.o) d.stands.stands.after
+      (subst (All (IsOpen rules_here b.owners)) d.stands.stands.opens_are m.kept.opens)
 
   pub was_sent_as : note rules_here d.part ≡ Sent h.packet.number d.part.restarts
   was_sent_as = ap (note_by rules_here d.part) d.stands.is_below
@@ -159,7 +159,7 @@ module _ {R : Type 0} {out : List R → Type 0} {takes_srb : Bool} {stack : ℕ}
   -- what it asked for
   pub part_asks : record h.answers.request.request { bytes = [] } ≡ as_client v.rules d.part.request []
   part_asks =
-      asks_of_handed rules_here takes_srb v request climb v' h d.part d.spot d.stands.is_below
+      asks_of_handed rules_here takes v climb spot v' h d.part h.packet.spot d.stands.is_below
       (All-at (IsAsked rules_here v.state.requests) d.stands.front d.part d.stands.back
       (subst (All (IsAsked rules_here v.state.requests)) d.stands.parts_are
       (All-contains (AreAsked rules_here v.state.requests) (all_open b) d.o m.below.asked in_opens)))
@@ -167,19 +167,19 @@ module _ {R : Type 0} {out : List R → Type 0} {takes_srb : Bool} {stack : ℕ}
       in_opens : Contains (all_open b) d.o
       in_opens = found b.opens d.stands.stands.before d.stands.stands.opens_are
         where
-          found : (es before : List (ℕ × Opened R)) → es ≡ before ++ ((slot_here, d.o) ∷ d.stands.stands.after) → Contains
+          found : (es before : List (ℕ × Opened)) → es ≡ before ++ ((slot_here, d.o) ∷ d.stands.stands.after) → Contains
               (map opened es) d.o
           found es before is = subst (λ xs. Contains (map opened xs) d.o) (sym is) (there before)
             where
-              there : (xs : List (ℕ × Opened R)) → Contains (map opened (xs ++ ((slot_here, d.o) ∷ d.stands.stands.after))) d.o
+              there : (xs : List (ℕ × Opened)) → Contains (map opened (xs ++ ((slot_here, d.o) ∷ d.stands.stands.after))) d.o
               there [] = (0, omega arith, refl)
               there (x ∷ xs) = let c = there xs in (suc c.0, let w = c.1 in omega arith, c.2)
 
   pub some_bytes : 0 < v.rules.sector_size
   some_bytes = m.kept.sizes.whole.some_bytes
 
-  pub same_request : d.part.request ≡ request
-  same_request = request_of_handed takes_srb v request climb v' some_bytes h d.part part_asks
+  pub same_request : d.part.request ≡ h.request
+  same_request = request_of_handed takes v climb spot v' some_bytes h d.part part_asks
 
   pub as_many_places : place_count v.rules h.answers.request.request ≡ places_of rules_here d.part
   as_many_places = places_of_handed rules_here h.answers.request.request d.part part_asks
@@ -205,53 +205,53 @@ module _ {R : Type 0} {out : List R → Type 0} {takes_srb : Bool} {stack : ℕ}
   by_its_note =
       found_by taking_here.j v.state taking_here.same taking_here.sound.distinct h.answers.request open_below
       (known rules_here d.o) notes_front notes_back d.part.restarts knowns_beside
-      (subst (λ (n : ℕ). IsPermutation (map known_of taking_here.j.masters)
+      (subst (λ (n : ℕ). IsPermutation (map known_of taking_here.j.divided)
       (known_at (known rules_here d.o) notes_front (Sent n d.part.restarts) notes_back ∷ knowns_beside))
       (sym h.answers.is_number) taking_here.knows)
 
-  in_master : (place : ℕ) × IsPartOf rules_here (known rules_here d.o).request place h.answers.request
-  in_master = by by_its_note
+  in_divided : (place : ℕ) × IsPartOf rules_here (known rules_here d.o).request place h.answers.request
+  in_divided = by by_its_note
     where
       by : FoundBy taking_here.j h.answers.request (known rules_here d.o) notes_front notes_back d.part.restarts knowns_beside →
           (place : ℕ) × IsPartOf rules_here (known rules_here d.o).request place h.answers.request
       by f =
-          let e : Master = master_with f.found.master f.found.front f.found.back h.answers.request f.found.again f.found.pieces in
+          let e : Divided = divided_with f.found.whole f.found.front f.found.back h.answers.request f.found.again f.found.pieces in
           let made : IsMadeUp rules_here e = All-at (IsMadeUp rules_here) f.found.before e f.found.after
           (subst (All (IsMadeUp rules_here)) f.found.is_there taking_here.keeps.made_up) in
           let place : ℕ = length (parts_marks f.found.front) in (
             place,
             subst (λ (q : ClientRequest). IsPartOf rules_here q place h.answers.request) f.request_is
-                (part_of_master rules_here e.request h.answers.request f.found.again f.found.pieces f.found.front f.found.back made).0,
+                (part_of_divided rules_here e.request h.answers.request f.found.again f.found.pieces f.found.front f.found.back made).0,
           )
 
   -- a read that succeeded brought all that it asked for, and a flush no bytes
-  pub is_buffered : (room : R) (payload : Payload) → payload ≡ h.payload → (outcome : Outcome) → EndsBack h.status outcome
-      → IsBuffered rules_here (ended_part (record { room = room; payload = payload; outcome = outcome }) d.part)
-  is_buffered room payload payload_is outcome ends = λ good. (λ reads. filled (subst (EndsBack h.status) good ends) reads, none)
+  pub is_buffered : (packet : TransferPacket) → payload_in packet ≡ h.payload → (outcome : Outcome) → EndsBack h.status outcome
+      → IsBuffered rules_here (ended_part (record { packet = packet; outcome = outcome }) d.part)
+  is_buffered packet payload_is outcome ends = λ good. (λ reads. filled (subst (EndsBack h.status) good ends) reads, none)
     where
-      filled : h.status ≡ Success → d.part.request.kind ≡ Read → length (payload_bytes payload) ≡ transfer_length rules_here d.part.request
+      filled : h.status ≡ Success → d.part.request.kind ≡ Read → length (payload_bytes (payload_in packet)) ≡ transfer_length rules_here d.part.request
       filled success reads =
-          let reads' : request.kind ≡ Read = sym (ap (λ (r : Request). r.kind) same_request) ∙ reads in
+          let reads' : h.request.kind ≡ Read = sym (ap (λ (r : Request). r.kind) same_request) ∙ reads in
           let many : length h.bytes ≡ d.part.request.extent.count * v.rules.sector_size = h.filled reads' success ∙ ap
           (λ (r : Request). r.extent.count * v.rules.sector_size) (sym same_request) in
           ap (λ p. length (payload_bytes p)) payload_is ∙ ap length (h.brings reads' success) ∙ many ∙ sym
           (as_long rules_here d.part.request reads)
 
-      none : d.part.request.kind ≡ Flush → payload_bytes payload ≡ []
+      none : d.part.request.kind ≡ Flush → payload_bytes (payload_in packet) ≡ []
       none flushes = ap payload_bytes payload_is ∙ h.empty (sym (ap (λ (r : Request). r.kind) same_request) ∙ flushes)
 
   -- a write took its own bytes along
-  pub is_written : (room : R) (payload : Payload) → payload ≡ h.payload → (outcome : Outcome) → EndsBack h.status outcome
-      → IsWritten rules_here d.o (ended_part (record { room = room; payload = payload; outcome = outcome }) d.part)
-  is_written room payload payload_is outcome ends = λ good writes.
+  pub is_written : (packet : TransferPacket) → payload_in packet ≡ h.payload → (outcome : Outcome) → EndsBack h.status outcome
+      → IsWritten rules_here d.o (ended_part (record { packet = packet; outcome = outcome }) d.part)
+  is_written packet payload_is outcome ends = λ good writes.
       let x : OpenRequest = h.answers.request in
-      let (place, p) = in_master in
+      let (place, p) = in_divided in
       let size : ℕ = v.rules.sector_size in
-      let writes_below : request.kind ≡ Write = sym (ap (λ (r : Request). r.kind) same_request) ∙ writes in
+      let writes_below : h.request.kind ≡ Write = sym (ap (λ (r : Request). r.kind) same_request) ∙ writes in
       let asks = part_asks in
       let kind : x.request.kind ≡ Write = ap (λ (q : ClientRequest). q.kind) asks ∙ writes in
       let writes_above : d.o.request.kind ≡ Write = sym p.kind ∙ kind in
-      let took : x.request.bytes ≡ payload_bytes payload =
+      let took : x.request.bytes ≡ payload_bytes (payload_in packet) =
       ap (λ (q : ClientRequest). q.bytes) h.is_request ∙ ap (λ k. sent_bytes k h.payload) writes_below ∙ ap payload_bytes
       (sym payload_is) in
       let has : sent_bytes d.o.request.kind d.o.irp.payload ≡ payload_bytes d.o.irp.payload = ap
@@ -268,11 +268,11 @@ module _ {R : Type 0} {out : List R → Type 0} {takes_srb : Bool} {stack : ℕ}
       (bytes_from size d.o.request d.part.request) (bytes_from size d.o.request d.part.request + d.part.request.extent.count * size) =
       its_bytes size (length x.marks) d.part.request.extent.count d.part.request.extent.first d.o.request.extent.first place x.request.bytes (sent_bytes d.o.request.kind d.o.irp.payload) p.bytes long from in
       let told : transfer_length rules_here d.part.request ≡ d.part.request.extent.count * size = as_long_out rules_here d.part.request writes in
-      ap (λ n. take n (payload_bytes payload)) told ∙ sym (ap (take (d.part.request.extent.count * size)) took) ∙ all
+      ap (λ n. take n (payload_bytes (payload_in packet))) told ∙ sym (ap (take (d.part.request.extent.count * size)) took) ∙ all
       ∙ ap (λ bytes. slice_range bytes (bytes_from size d.o.request d.part.request)
       (bytes_from size d.o.request d.part.request + d.part.request.extent.count * size)) has
       ∙ ap (λ n. slice_range (payload_bytes d.o.irp.payload) (bytes_from size d.o.request d.part.request)
       (bytes_from size d.o.request d.part.request + n)) (sym told)
     where
-      transfers_places : (part : Part R) → part.request.kind ≡ Write → places_of rules_here part ≡ part.request.extent.count
+      transfers_places : (part : Part) → part.request.kind ≡ Write → places_of rules_here part ≡ part.request.extent.count
       transfers_places part is = rw is (mul-div_cancel part.request.extent.count some_bytes)

@@ -1,31 +1,30 @@
 -- A part goes below in a packet of a new number, and the machine above stays as it was.
-use Rattle.std.proofs.Common.{◌≡◌, ◌<◌, ◌≤◌, ◌⊎◌, inl, inr, ℕ, zero, suc, ◌+◌, not, Bool, true, false, List, [], ◌∷◌, ◌++◌, refl, sym, ◌∙◌, ap, subst, arith, map, length, length-append, append_assoc}
-use Rattle.std.specs.Prelude.{IsPermutation, All, Contains, IsTrue, IsFalse}
+use Rattle.std.proofs.Common.{◌≡◌, ◌≤◌, ◌⊎◌, inl, inr, ℕ, suc, ◌+◌, not, Bool, List, [], ◌∷◌, ◌++◌, refl, sym, ◌∙◌, ap, subst, arith, map, length, length-append}
+use Rattle.std.specs.Prelude.{IsPermutation, All, Contains, IsTrue}
 use Rattle.std.specs.List.{list_all}
-use Rattle.std.proofs.lemmas.List.{length-map, map-append}
-use Rattle.std.proofs.lemmas.List.Sorted.{IsPermutation-refl, IsPermutation-sym, IsPermutation-trans, IsPermutation-cons, IsPermutation-middle, IsPermutation-append_left, IsPermutation-map, All-permutation}
+use Rattle.std.proofs.lemmas.List.{length-map}
+use Rattle.std.proofs.lemmas.List.Sorted.{IsPermutation-sym, IsPermutation-trans, IsPermutation-cons, IsPermutation-middle, IsPermutation-append_left, All-permutation}
 use Rattle.std.proofs.lemmas.List.Elements.{All-nil, All-cons, All-head, All-tail, All-weaker, All-map, Contains-append_cases, Contains-append_left, Contains-append_right}
 use Rattle.machine.specs.declared.ClientRequest.{ClientRequest}
 use Rattle.machine.specs.Rules.{Rules}
-use Rattle.machine.specs.State.{Mark, OpenRequest, Piece, State, IsSame}
+use Rattle.machine.specs.State.{OpenRequest, State, IsSame}
 use Rattle.machine.specs.Numbers.{request_number}
-use Rattle.machine.specs.Calling.{Opens, new_request}
 use Rattle.machine.specs.Cutting.{restarts}
-use Rattle.machine.specs.Sending.{is_started, is_untouched}
-use Rattle.machine.proofs.Same.{IsSame-refl, IsSame-sym, IsSame-trans}
-use Rattle.class_disk.specs.Joint.{Part, Below, Here, Master, Joint, IsPartOf, shown_mark, parts_requests, parts_pieces, parts_marks, parts_busy, parts_lifted, lifted, requests_below, pieces_below, shown, below, above, below_rules}
-use Rattle.class_disk.specs.Kept.{IsOwnedBy, AreParts, IsMadeUp, IsCancelledAs, AgreesOnCancel, HasPartBefore, IsAhead, AreBehind, IsInTurn, parts_back, IsInPieces, Keeps}
+use Rattle.machine.specs.Sending.{is_untouched}
+use Rattle.machine.proofs.Same.{IsSame-sym, IsSame-trans}
+use Rattle.class_disk.specs.inside.Joint.{Part, Below, Here, Divided, Joint, IsPartOf, shown_mark, parts_requests, parts_marks, parts_busy, parts_lifted, requests_below, pieces_below, below, above}
+use Rattle.class_disk.specs.inside.Kept.{IsOwnedBy, AreParts, IsMadeUp, IsCancelledAs, AgreesOnCancel, IsAhead, AreBehind, IsInTurn, parts_back, IsInPieces, Keeps}
 use Rattle.class_disk.proofs.InPieces.{cut_with}
 use Rattle.class_disk.proofs.Coupled.{requests-append, pieces-append, marks-append}
 use Rattle.class_disk.proofs.CoupledSteps.{same_part}
 use Rattle.class_disk.proofs.Keeping.{Follows, behind_follows}
 use Rattle.class_disk.proofs.Orderly.{All-from_map}
 
-module _ (e : Master) (front back : List Part) (o : OpenRequest) (again : ℕ) where
-  abbrev pub waiting : Master
+module _ (e : Divided) (front back : List Part) (o : OpenRequest) (again : ℕ) where
+  abbrev pub waiting : Divided
   waiting = record e { parts = front ++ (Here (map (shown_mark again) o.marks) again ∷ back) }
 
-  abbrev pub gone_down : Master
+  abbrev pub gone_down : Divided
   gone_down = record e { parts = front ++ (Below o again [] ∷ back) }
 
   same_marks : parts_marks waiting.parts ≡ parts_marks gone_down.parts
@@ -67,12 +66,12 @@ module _ (e : Master) (front back : List Part) (o : OpenRequest) (again : ℕ) w
       parts_down rules q (first + length marks) ahead (subst (λ n. IsPartOf rules q n o) (simp length-append (omega arith)) part) h
 
 -- the part in front of all others, here until now, goes below in a packet of a new number: both machines, and the coupling
-module _ (rules : Rules) (j : Joint) (e : Master) (es : List Master) (front back : List Part) (o : OpenRequest) (again next : ℕ) where
+module _ (rules : Rules) (j : Joint) (e : Divided) (es : List Divided) (front back : List Part) (o : OpenRequest) (again next : ℕ) where
   abbrev pub until_now : Joint
-  until_now = record j { masters = waiting e front back o again ∷ es }
+  until_now = record j { divided = waiting e front back o again ∷ es }
 
   abbrev pub from_now : Joint
-  from_now = record j { next_below = next; masters = gone_down e front back o again ∷ es }
+  from_now = record j { next_below = next; divided = gone_down e front back o again ∷ es }
 
   pub down_below : (s s' : State) → IsSame (below until_now) s → IsSame s' (record s { next_request = next; requests = o ∷ s.requests }) → IsSame (below from_now) s'
   down_below s s' same after = IsSame-trans _ _ _ (record {
@@ -87,16 +86,16 @@ module _ (rules : Rules) (j : Joint) (e : Master) (es : List Master) (front back
     removed = same.removed;
   }) (IsSame-sym _ _ after)
     where
-      same_pieces : pieces_below until_now.masters ≡ pieces_below from_now.masters
+      same_pieces : pieces_below until_now.divided ≡ pieces_below from_now.divided
       same_pieces = ap (λ zs. zs ++ pieces_below es) (pieces-append front (Here (map (shown_mark again) o.marks) again ∷ back) ∙ sym (pieces-append front (Below o again [] ∷ back)))
 
-      first : IsPermutation (requests_below from_now.masters) (o ∷ requests_below until_now.masters)
+      first : IsPermutation (requests_below from_now.divided) (o ∷ requests_below until_now.divided)
       first =
-          subst (λ zs. IsPermutation (zs ++ requests_below es) (o ∷ requests_below until_now.masters)) (sym (are e front back o again))
+          subst (λ zs. IsPermutation (zs ++ requests_below es) (o ∷ requests_below until_now.divided)) (sym (are e front back o again))
           (subst (λ zs. IsPermutation ((parts_requests front ++ (o ∷ parts_requests back)) ++ requests_below es) (o ∷ (zs ++ requests_below es))) (sym (were e front back o again))
           (IsPermutation-append_left (requests_below es) _ _ (IsPermutation-middle (parts_requests front) o (parts_requests back))))
 
-      opened : IsPermutation (requests_below from_now.masters) (o ∷ s.requests)
+      opened : IsPermutation (requests_below from_now.divided) (o ∷ s.requests)
       opened = IsPermutation-trans _ _ _ first (IsPermutation-cons o _ _ same.requests)
 
   -- nothing changes above: the part shows as it did while it was here
@@ -108,8 +107,8 @@ module _ (rules : Rules) (j : Joint) (e : Master) (es : List Master) (front back
   pub down_keeps : IsPartOf rules e.request (length (parts_marks front)) o → o.cancelled ≡ e.cancelled → All (IsAhead j.removing e.number o.number) es
       → parts_busy (gone_down e front back o again).parts ≤ parts_back (gone_down e front back o again).parts + restarts rules → Keeps rules until_now → Keeps rules from_now
   down_keeps part agrees ahead few k =
-      let was : Master = waiting e front back o again in
-      let now : Master = gone_down e front back o again in
+      let was : Divided = waiting e front back o again in
+      let now : Divided = gone_down e front back o again in
       let f : Follows j.removing was now = follows_down e front back o again j.removing in
       let old : All (AreBehind j.removing (was ∷ es) e.number) (map request_number (parts_requests was.parts)) = All-head (IsInTurn j.removing (was ∷ es)) was es k.in_turn in
       let new : AreBehind j.removing (now ∷ es) e.number o.number = All-cons (IsAhead j.removing e.number o.number) now es (λ staying lower timely. absurd (omega arith)) ahead in

@@ -1,5 +1,5 @@
 -- One part more of a request that is being opened is sent.
-use Rattle.std.proofs.Common.{◌≡◌, ◌≢◌, ◌<◌, ◌≤◌, ◌⊎◌, inl, inr, ℕ, zero, suc, ◌+◌, ◌^◌, ◌==◌, Bool, false, List, [], ◌∷◌, ◌++◌, Some, refl, sym, ◌∙◌, ap, subst, arith, length, length-append, map, drop, take, get_or, replicate}
+use Rattle.std.proofs.Common.{◌≡◌, ◌≢◌, ◌<◌, ◌≤◌, ◌⊎◌, inl, inr, ℕ, zero, suc, ◌+◌, ◌==◌, false, List, [], ◌∷◌, ◌++◌, Some, refl, sym, ◌∙◌, ap, subst, arith, length, length-append, map, drop, take, get_or, replicate}
 use Rattle.std.specs.Prelude.{IsPermutation, All, Any, Contains, slice_set, slice_range, if◌then◌else◌}
 use Rattle.std.specs.List.{range_with_len}
 use Rattle.std.proofs.Math.Seq.{take-append_seam, take-append-add, drop-append-add}
@@ -17,35 +17,40 @@ use Rattle.machine.specs.Calling.{Opens, new_request}
 use Rattle.machine.specs.Numbers.{IsGiven, request_number}
 use Rattle.machine.specs.Step.{Run, as_label}
 use Rattle.machine.proofs.Permuting.{IsPermutation-uncons}
-use Rattle.device.specs.View.{DeviceView, Packet, IsOrderly, packet_of, packet_number, payload_bytes, sent_bytes, IsTopmost}
+use Rattle.device.specs.View.{DeviceView, Packet, IsOrderly, packet_of, packet_number, payload_bytes, sent_bytes, IsTopmost, whole_for}
 use Rattle.device.specs.Served.{Submits, IsAt}
 use Rattle.class_disk.specs.declared.parts.Part.{Part}
 use Rattle.class_disk.specs.declared.parts.Progress.{Progress}
 use Rattle.class_disk.specs.declared.parts.Progress.TheVariants.{Ready, Below, Ended as HasEnded}
-use Rattle.class_disk.specs.declared.requests.DiskRoom.{DiskRoom}
-use Rattle.class_disk.specs.Blocks.{part_count_of, part_request_of, data_length}
-use Rattle.class_disk.specs.Books.{Opened, Books, opened, all_open, ended_in, restarts_left, slot_in, part_in, open_at, put_at}
-use Rattle.class_disk.specs.Driver.{note, note_by, known, knowns, rooms_in, rooms_kept, most_over, packet_above, request_of_part, IsReadyPart, IsAsked, IsAskedBy, IsSpotted, IsSpottedBy, AreNumberedFrom, IsBuffered, IsWritten}
-use Rattle.class_disk.specs.Joint.{IsPartOf, Note, Sent, Kept, Known, below_rules}
-use Rattle.class_disk.specs.Kept.{IsNothing, IsOver, HasSome}
-use Rattle.class_disk.specs.Midway.{IsTaking, GoesOn, IsOpening, OpeningSoFar, SendsDown}
-use Rattle.class_disk.specs.Parts.{IsDown, restarts_of}
+use Rattle.class_disk.specs.inside.Blocks.{part_count_of, part_request_of, data_length}
+use Rattle.class_disk.specs.inside.Books.{Opened, Books, opened, all_open, ended_in, restarts_left, open_at, put_at}
+use Rattle.class_disk.specs.inside.Driver.{note, note_by, known, knowns, tickets, tickets_held, tickets_open, packet_above, request_of_part, IsReadyPart, IsAsked, IsAskedBy, IsSpotted, IsSpottedBy, IsBuffered, IsWritten}
+use Rattle.class_disk.specs.Opening.{most_over}
+use Rattle.class_disk.specs.inside.Owners.{IsOwnedBy, AreOwnedFrom}
+use Rattle.class_disk.specs.inside.Rooms.{AllOut}
+use Rattle.class_disk.proofs.Rooms.{out_less}
+use Rattle.class_disk.specs.inside.Joint.{IsPartOf, Note, Sent, Kept, Known}
+use Rattle.class_disk.specs.PortRules.{below_rules}
+use Rattle.class_disk.specs.inside.Kept.{IsNothing, IsOver, HasSome}
+use Rattle.class_disk.specs.inside.Midway.{IsTaking, GoesOn, IsOpening, OpeningSoFar, SendsDown}
+use Rattle.class_disk.specs.inside.Parts.{IsDown, restarts_of}
 use Rattle.class_disk.specs.Shown.{class_rules}
-use Rattle.class_disk.specs.Turns.{next_number, sent_part, spotted_books, bytes_from}
+use Rattle.class_disk.specs.inside.Turns.{sent_part, bytes_from}
 use Rattle.class_disk.proofs.Acting.{map_there}
 use Rattle.class_disk.proofs.Asking.{asks_own, asks_run, asks_submitted}
-use Rattle.class_disk.proofs.Changing.{numbered_split, numbered_joined, restarts-append}
+use Rattle.class_disk.proofs.Changing.{restarts-append}
+use Rattle.class_disk.proofs.Owned.{owned_split, owned_joined}
 use Rattle.class_disk.proofs.CoupledRun.{Contains-map}
 use Rattle.class_disk.proofs.Ending.{ended_submitted}
 use Rattle.class_disk.proofs.FirstSending.{sent_first, noted_places}
 use Rattle.class_disk.proofs.NewParts.{part_kind}
 use Rattle.class_disk.proofs.NewRequest.{taking_permuted, places_for}
-use Rattle.class_disk.proofs.Noting.{rooms_of-append, rooms_kept-append, left-append}
+use Rattle.class_disk.proofs.Noting.{tickets_of-append, tickets_open-append, left-append}
 use Rattle.class_disk.proofs.Parting.{found_same}
 use Rattle.class_disk.proofs.PartPlaces.{part_lies, ready_here, ready_total}
 use Rattle.class_disk.proofs.PiecePlaces.{asked_behind, places_some}
-use Rattle.class_disk.proofs.ReadyParts.{IsReadyWith, part, with_place, place, behind_ready, halves, stands, limit, asks, long, few_parts, part_bounded, rooms_left, room_out}
-use Rattle.class_disk.proofs.Resending.{slot_told, part_told, number_high, run_keeps, none_above}
+use Rattle.class_disk.proofs.ReadyParts.{IsReadyWith, part, with_place, place, behind_ready, halves, stands, limit, asks, long, part_bounded, ticket, rooms_left, room_out}
+use Rattle.class_disk.proofs.Resending.{run_keeps, none_above}
 use Rattle.class_disk.proofs.Retaking.{known_at}
 use Rattle.class_disk.proofs.Standing.{StandsIn, AreRising, is_put, is_found, set_there, All-middle}
 use Rattle.class_disk.proofs.Submitting.{total}
@@ -59,23 +64,23 @@ beside xs ys x x' e other c = by (Contains-append_cases xs (x ∷ ys) e c)
     by (inr (zero, low, is)) = absurd (other is)
     by (inr (suc i, low, is)) = Contains-append_right xs (x' ∷ ys) e (suc i, omega arith, is)
 
-module _ {R : Type 0} {request_of : R → Request} {ready : R → Type 0} {out : List R → Type 0} {takes_srb : Bool} {stack : ℕ} {v : DeviceView}
-    {b : Books R} {slot k : ℕ} {rooms : List (DiskRoom R)}
-    (h : IsOpening request_of ready out takes_srb stack v b slot k rooms) (ordered : IsOrderly v) (rise : AreRising 0 b.opens) (low : k < length h.o.parts)
-    (v' : DeviceView) (b' : Books R) (x : SendsDown v b slot k h.o (part h ordered rise low) (place h ordered rise low) v' b') where
+module _ {v : DeviceView}
+    {b : Books} {slot k : ℕ}
+    (h : IsOpening v b slot k) (ordered : IsOrderly v) (rise : AreRising 0 b.opens) (low : k < length h.o.parts)
+    (v' : DeviceView) (b' : Books) (x : SendsDown v b slot k h.o (part h ordered rise low) (place h ordered rise low) v' b') where
   abbrev rules : Rules
   rules = class_rules v.rules
 
-  abbrev pub old_part : Part R
+  abbrev pub old_part : Part
   old_part = part h ordered rise low
 
-  abbrev its : IsReadyWith request_of ready old_part
+  abbrev its : IsReadyWith old_part
   its = with_place h ordered rise low
 
-  abbrev front : List (Part R)
+  abbrev front : List Part
   front = (halves h ordered rise low).0
 
-  abbrev back : List (Part R)
+  abbrev back : List Part
   back = (halves h ordered rise low).1
 
   abbrev parts_are : h.o.parts ≡ front ++ (old_part ∷ back)
@@ -88,68 +93,58 @@ module _ {R : Type 0} {request_of : R → Request} {ready : R → Type 0} {out :
   s = stands h ordered rise low
 
   abbrev pub number : ℕ
-  number = x.sending.irp.number
+  number = x.packet.irp.value.number
+
+  -- its spot below
+  abbrev pub spot : ℕ
+  spot = (place h ordered rise low).packet.room.spot
 
   abbrev packet : Packet
-  packet = packet_of x.sending.irp x.spot
+  packet = packet_of x.packet.irp.value spot
 
-  abbrev pub new_part : Part R
-  new_part = sent_part number x.spot old_part
+  abbrev pub new_part : Part
+  new_part = sent_part number spot old_part
 
-  abbrev o_next : Opened R
+  abbrev o_next : Opened
   o_next = record h.o { parts = front ++ (new_part ∷ back) }
 
-  abbrev b_next : Books R
+  abbrev b_next : Books
   b_next = record b { opens = s.before ++ ((slot, o_next) ∷ s.after); next_packet = b.next_packet + 1 }
 
   -- THE TABLE
 
-  set_part : (o : Opened R) (old p : Part R) → o.parts ≡ front ++ (old ∷ back) → slice_set o.parts k p ≡ front ++ (p ∷ back)
+  number_is : number ≡ b.next_packet
+  number_is = x.sends.sends.own.is_number
+
+  set_part : (o : Opened) (old p : Part) → o.parts ≡ front ++ (old ∷ back) → slice_set o.parts k p ≡ front ++ (p ∷ back)
   set_part o old p is = ap (λ ps. slice_set ps k p) is ∙ ap (λ n. slice_set (front ++ (old ∷ back)) n p) (sym at_place) ∙ set_there front old p back
 
-  abbrev first_part : Part R
-  first_part = sent_part (next_number b slot k) 0 old_part
-
-  abbrev o_first : Opened R
-  o_first = record h.o { parts = front ++ (first_part ∷ back) }
-
-  first_is : x.sends.o' ≡ o_first
-  first_is = x.sends.sends.after ∙ ap (λ ps. record h.o { parts = ps }) (set_part h.o old_part first_part parts_are)
-
-  abbrev b_first : Books R
-  b_first = record b { opens = s.before ++ ((slot, o_first) ∷ s.after); next_packet = b.next_packet + 1 }
-
-  sent_is : x.sent ≡ b_first
-  sent_is =
-      x.sends.after ∙ ap (λ o. record b { opens = put_at slot o b.opens; next_packet = b.next_packet + 1 }) first_is
-      ∙ ap (λ es. record b { opens = es; next_packet = b.next_packet + 1 }) (is_put b.opens slot h.o s o_first)
-
-  abbrev stands_first : StandsIn b_first.opens slot o_first
-  stands_first = record { before = s.before; after = s.after; opens_are = refl; apart = s.apart }
+  next_is : x.sends.o' ≡ o_next
+  next_is =
+      x.sends.sends.after ∙ ap (λ ps. record h.o { parts = ps }) (set_part h.o old_part _ parts_are)
+      ∙ ap (λ n. record h.o { parts = front ++ (sent_part n spot old_part ∷ back) }) (sym number_is)
 
   pub books_are : b' ≡ b_next
   books_are =
-      x.after ∙ ap (λ o. spotted_books slot k number x.spot o old_part x.sent) first_is
-      ∙ ap (spotted_books slot k number x.spot o_first old_part) sent_is
-      ∙ ap (λ ps. record b_first { opens = put_at slot (record o_first { parts = ps }) b_first.opens }) (set_part o_first first_part new_part refl)
-      ∙ ap (λ es. record b_first { opens = es }) (is_put b_first.opens slot o_first stands_first o_next)
+      x.sends.after ∙ ap (λ o. record b { opens = put_at slot o b.opens; next_packet = b.next_packet + 1 }) next_is
+      ∙ ap (λ es. record b { opens = es; next_packet = b.next_packet + 1 }) (is_put b.opens slot h.o s o_next)
 
   abbrev stands_next : StandsIn b_next.opens slot o_next
   stands_next = record { before = s.before; after = s.after; opens_are = refl; apart = s.apart }
 
   -- each other request stays in the table
-  pub table_on : (e : ℕ × Opened R) → e.0 ≢ slot → Contains b.opens e → Contains b'.opens e
+  pub table_on : (e : ℕ × Opened) → e.0 ≢ slot → Contains b.opens e → Contains b'.opens e
   table_on e apart c =
-      subst (λ (d : Books R). Contains d.opens e) (sym books_are)
-      (beside s.before s.after (slot, h.o) (slot, o_next) e (λ same. apart (sym (ap (λ (y : ℕ × Opened R). y.0) same)))
+      subst (λ (d : Books). Contains d.opens e) (sym books_are)
+      (beside s.before s.after (slot, h.o) (slot, o_next) e (λ same. apart (sym (ap (λ (y : ℕ × Opened). y.0) same)))
       (subst (λ es. Contains es e) s.opens_are c))
 
   -- it has as many parts as before
-  pub long_on : (o' : Opened R) → open_at slot b'.opens ≡ Some o' → length o'.parts ≡ length h.o.parts
+  pub long_on : (o' : Opened) → open_at slot b'.opens ≡ Some o' → length o'.parts ≡ length h.o.parts
   long_on o' is_open =
-      let found : open_at slot b'.opens ≡ Some o_next = ap (λ (c : Books R). open_at slot c.opens) books_are
+      let found : open_at slot b'.opens ≡ Some o_next = ap (λ (c : Books). open_at slot c.opens) books_are
       ∙ is_found b_next.opens slot o_next stands_next in
-      ap (λ (e : Opened R). length e.parts) (found_same _ _ _ is_open found) ∙ length-append front (new_part ∷ back)
+      ap (λ (e : Opened). length e.parts) (found_same _ _ _ is_open found) ∙ length-append front (new_part ∷ back)
       ∙ sym (ap length parts_are ∙ length-append front (old_part ∷ back))
 
   others_first : IsPermutation (s.before ++ s.after) h.others
@@ -162,10 +157,7 @@ module _ {R : Type 0} {request_of : R → Request} {ready : R → Type 0} {out :
 
   -- WHAT WAS SUBMITTED BELOW
 
-  number_is : number ≡ next_number b slot k
-  number_is = x.sends.sends.own.is_number
-
-  abbrev below : Submits v packet old_part.request x.sending.irp.payload v'
+  abbrev below : Submits v packet old_part.request x.packet.irp.value.payload v'
   below = x.submits
 
   pub same_rules : v'.rules ≡ v.rules
@@ -194,14 +186,14 @@ module _ {R : Type 0} {request_of : R → Request} {ready : R → Type 0} {out :
       let f : q.0.number ≡ y.number = q.2 in
       omega arith
 
-  asked_still : (r : Request) (p : Progress R) → IsSpottedBy v.packets p → IsAskedBy rules v.state.requests r p
+  asked_still : (r : Request) (p : Progress) → IsSpottedBy v.packets p → IsAskedBy rules v.state.requests r p
       → IsAskedBy rules v'.state.requests r p
   asked_still r (Ready unsent) spotted is = tt
   asked_still r (HasEnded ended) spotted is = tt
-  asked_still r (Below n spot) spotted is = asks_submitted rules r n v packet old_part.request x.sending.irp.payload v'
+  asked_still r (Below n spot) spotted is = asks_submitted rules r n v packet old_part.request x.packet.irp.value.payload v'
       (given_number n spot spotted) is below
 
-  spotted_still : (p : Progress R) → IsSpottedBy v.packets p → IsSpottedBy v'.packets p
+  spotted_still : (p : Progress) → IsSpottedBy v.packets p → IsSpottedBy v'.packets p
   spotted_still (Ready unsent) is = tt
   spotted_still (HasEnded ended) is = tt
   spotted_still (Below n spot) is = later_spot n spot is
@@ -217,20 +209,20 @@ module _ {R : Type 0} {request_of : R → Request} {ready : R → Type 0} {out :
       (c.0, packet, c.1, c.2, record { is_spot = refl; is_number = refl })
 
   own_topmost : IsTopmost packet
-  own_topmost = none_above x.sending.irp _ x.sends.sends.own.location
+  own_topmost = none_above x.packet.irp.value _ x.sends.sends.own.location
 
   -- OF EACH PART, AND OF EACH OPEN REQUEST
 
-  each_part : (P P' : Part R → Type 0) → P' new_part → ((y : Part R) → P y → P' y) → All P h.o.parts → All P' (front ++ (new_part ∷ back))
+  each_part : (P P' : Part → Type 0) → P' new_part → ((y : Part) → P y → P' y) → All P h.o.parts → All P' (front ++ (new_part ∷ back))
   each_part P P' own other all =
       All-middle P' front old_part new_part back (λ was. own)
       (λ i d low'. other (get_or (front ++ (old_part ∷ back)) i d) (subst (All P) parts_are all i d low'))
 
-  all_parts : (P P' : Part R → Type 0) → P' new_part → ((y : Part R) → P y → P' y) → All (λ (e : Opened R). All P e.parts) (all_open b) → All
-      (λ (e : Opened R). All P' e.parts) (all_open b_next)
+  all_parts : (P P' : Part → Type 0) → P' new_part → ((y : Part) → P y → P' y) → All (λ (e : Opened). All P e.parts) (all_open b) → All
+      (λ (e : Opened). All P' e.parts) (all_open b_next)
   all_parts P P' own other all =
-      let Each : Opened R → Type 0 = λ (e : Opened R). All P e.parts in
-      let Each' : Opened R → Type 0 = λ (e : Opened R). All P' e.parts in
+      let Each : Opened → Type 0 = λ (e : Opened). All P e.parts in
+      let Each' : Opened → Type 0 = λ (e : Opened). All P' e.parts in
       let first : All Each (h.o ∷ map opened h.others) = All-permutation Each _ _ (IsPermutation-map opened _ _ h.others_are) all in
       All-permutation Each' _ _ (IsPermutation-sym _ _ (IsPermutation-map opened _ _ opens_next))
       (All-cons Each' o_next (map opened h.others) (each_part P P' own other (All-head Each h.o (map opened h.others) first))
@@ -250,17 +242,17 @@ module _ {R : Type 0} {request_of : R → Request} {ready : R → Type 0} {out :
   ended_stay : ended_in b_next.opens ≡ ended_in b.opens
   ended_stay = same s.before ∙ sym (ap ended_in s.opens_are)
     where
-      same : (es : List (ℕ × Opened R)) → ended_in (es ++ ((slot, o_next) ∷ s.after)) ≡ ended_in (es ++ ((slot, h.o) ∷ s.after))
+      same : (es : List (ℕ × Opened)) → ended_in (es ++ ((slot, o_next) ∷ s.after)) ≡ ended_in (es ++ ((slot, h.o) ∷ s.after))
       same [] = refl
       same (e ∷ es) = ap (λ zs. if e.1.unfinished == 0 then e.0 ∷ zs else zs) (same es)
 
-  rooms_next : rooms_in rooms ++ rooms_kept (all_open b_next) ≡ rooms_left h ordered rise low
+  rooms_next : tickets b_next ≡ rooms_left h ordered rise low
   rooms_next =
-      let xs : List (Opened R) = map opened s.before in
-      let ys : List (Opened R) = map opened s.after in
-      ap (λ zs. rooms_in rooms ++ zs)
-      (ap rooms_kept (map-append opened s.before ((slot, o_next) ∷ s.after)) ∙ rooms_kept-append xs (o_next ∷ ys)
-      ∙ ap (λ zs. rooms_kept xs ++ (zs ++ rooms_kept ys)) (rooms_of-append front (new_part ∷ back)))
+      let xs : List Opened = map opened s.before in
+      let ys : List Opened = map opened s.after in
+      ap (λ zs. tickets_held b.held ++ zs)
+      (ap tickets_open (map-append opened s.before ((slot, o_next) ∷ s.after)) ∙ tickets_open-append xs (o_next ∷ ys)
+      ∙ ap (λ zs. tickets_open xs ++ (zs ++ tickets_open ys)) (tickets_of-append front (new_part ∷ back)))
 
   -- THE PARTS SO FAR, AND THOSE BEHIND
 
@@ -280,35 +272,30 @@ module _ {R : Type 0} {request_of : R → Request} {ready : R → Type 0} {out :
   before_next = ap (λ n. take n (front ++ (new_part ∷ back))) next_place ∙ take-append-add front (new_part ∷ back) 1
 
   -- the part is below in the packet of its turn
-  pub part_on : (o' : Opened R) → open_at slot b'.opens ≡ Some o' → take (k + 1) o'.parts ≡ take k h.o.parts ++ (new_part ∷ [])
+  pub part_on : (o' : Opened) → open_at slot b'.opens ≡ Some o' → take (k + 1) o'.parts ≡ take k h.o.parts ++ (new_part ∷ [])
   part_on o' is_open =
-      let found : open_at slot b'.opens ≡ Some o_next = ap (λ (c : Books R). open_at slot c.opens) books_are
+      let found : open_at slot b'.opens ≡ Some o_next = ap (λ (c : Books). open_at slot c.opens) books_are
       ∙ is_found b_next.opens slot o_next stands_next in
-      ap (λ (e : Opened R). take (k + 1) e.parts) (found_same _ _ _ is_open found) ∙ before_next ∙ ap (λ ps. ps ++ (new_part ∷ [])) (sym before_is)
+      ap (λ (e : Opened). take (k + 1) e.parts) (found_same _ _ _ is_open found) ∙ before_next ∙ ap (λ ps. ps ++ (new_part ∷ [])) (sym before_is)
 
-  pub number_on : number ≡ next_number b slot k
+  pub number_on : number ≡ b.next_packet
   number_on = number_is
 
   pub packets_on : b'.next_packet ≡ b.next_packet + 1
-  packets_on = ap (λ (c : Books R). c.next_packet) books_are
+  packets_on = ap (λ (c : Books). c.next_packet) books_are
 
-  back_ready : All (IsReadyPart request_of ready) back
-  back_ready = subst (All (IsReadyPart request_of ready)) behind_is (behind_ready h ordered rise low)
+  back_ready : All IsReadyPart back
+  back_ready = subst (All IsReadyPart) behind_is (behind_ready h ordered rise low)
 
   back_long : length (drop k h.o.parts) ≡ suc (length back)
   back_long = ap (λ ps. length (drop k ps)) parts_are
       ∙ ap (λ n. length (drop n (front ++ (old_part ∷ back)))) (sym (let e = at_place in omega (arith, e)))
       ∙ ap length (drop-append-add front (old_part ∷ back) 0)
 
-  numbered_next : AreNumberedFrom slot 0 (front ++ (new_part ∷ back))
-  numbered_next =
-      let n = numbered_split slot 0 front (old_part ∷ back) (subst (AreNumberedFrom slot 0) parts_are h.numbered) in
-      let few : k < 2 ^ 16 = (let a = few_parts h ordered rise low in let e = long h ordered rise low in omega arith) in
-      let told : (slot_in number ≡ slot) × (part_in number ≡ k) = (
-        ap slot_in number_is ∙ slot_told b.next_packet slot k h.slot_is few,
-        ap part_in number_is ∙ part_told b.next_packet slot k h.slot_is few,
-      ) in
-      numbered_joined slot 0 front (new_part ∷ back) n.0 ((told.0, told.1 ∙ (let e = at_place in omega arith)), n.1.1)
+  owned_next : AreOwnedFrom b.owners slot 0 (front ++ (new_part ∷ back))
+  owned_next =
+      let n = owned_split b.owners slot 0 front (old_part ∷ back) (subst (AreOwnedFrom b.owners slot 0) parts_are h.owned) in
+      owned_joined b.owners slot 0 front (new_part ∷ back) n.0 (subst (IsOwnedBy b.owners slot (0 + length front)) its.is_ready n.1.0, n.1.1)
 
   -- WHAT IS KNOWN
 
@@ -325,7 +312,7 @@ module _ {R : Type 0} {request_of : R → Request} {ready : R → Type 0} {out :
   back_notes = map (note rules) back
 
   abbrev payload : Payload
-  payload = x.sending.irp.payload
+  payload = x.packet.irp.value.payload
 
   -- what is asked of the layer below
   abbrev q : ClientRequest
@@ -393,7 +380,7 @@ module _ {R : Type 0} {request_of : R → Request} {ready : R → Type 0} {out :
       let own : old_part.request ≡ part_request_of rules.max_transfer r k = (asks h ordered rise low).0 in
       let behind : noted_places back_notes ≡ total
       (map (λ j. places_for rules (part_request_of rules.max_transfer r j)) (range_with_len (k + 1) (length back))) =
-      ready_total request_of ready rules back back_ready (part_request_of rules.max_transfer r) (k + 1) (length back) back_asks in
+      ready_total rules back back_ready (part_request_of rules.max_transfer r) (k + 1) (length back) back_asks in
       let here : place_count rules q ≡ places_for rules (part_request_of rules.max_transfer r k) = ap (places_for rules) own in
       let p = part_lies rules h.sizes.whole.some_bytes h.port.some_transfer r.volume r.extent r.through v.state runs number k
       (length back) at payload h.o.irp.payload r.kind many brings
@@ -418,17 +405,17 @@ module _ {R : Type 0} {request_of : R → Request} {ready : R → Type 0} {out :
       (known_at (known rules h.o) front_notes (Sent number 0) back_notes ∷ others_known) =
       sent_first rules refl first labels v.state (known rules h.o) front_notes back_notes others_known q
       (taking_permuted rules first labels v.state _ _ known_old t) number below.opened opens
-      (ready_here request_of ready rules back back_ready)
+      (ready_here rules back back_ready)
       (lies (sym t.same.paused)) h.not_cancelled 17 h.over others_some below.starts v'.state run in
       record {
-        taking = subst (λ (c : Books R). IsTaking (class_rules v'.rules) first (labels ++ below.starts) v'.state (knowns (class_rules v'.rules) c))
+        taking = subst (λ (c : Books). IsTaking (class_rules v'.rules) first (labels ++ below.starts) v'.state (knowns (class_rules v'.rules) c))
             (sym books_are)
             (subst (λ (u : Rules). IsTaking (class_rules u) first (labels ++ below.starts) v'.state (knowns (class_rules u) b_next)) (sym same_rules)
             (taking_permuted rules first (labels ++ below.starts) v'.state _ _ known_next next));
       }
 
   pub goes_on : GoesOn v b x.submits.starts v' b'
-  goes_on = subst (λ (c : Books R). GoesOn v b below.starts v' c) (sym books_are) (record {
+  goes_on = subst (λ (c : Books). GoesOn v b below.starts v' c) (sym books_are) (record {
     only_starts = below.only_starts;
     adapter = below.moves.adapter;
     same_rules = same_rules;
@@ -436,6 +423,7 @@ module _ {R : Type 0} {request_of : R → Request} {ready : R → Type 0} {out :
     same_last = refl;
     same_submitted = refl;
     same_packets = packets_same;
+    same_rooms = refl;
   })
 
   -- AND THE PARTS ARE SENT UP TO THE NEXT ONE
@@ -444,64 +432,60 @@ module _ {R : Type 0} {request_of : R → Request} {ready : R → Type 0} {out :
   some_places = subst (λ p. 0 < place_count v.rules (as_client v.rules p [])) (sym (asks h ordered rise low).0)
       (places_some v.rules h.sizes.whole.some_bytes (part_request_of (limit h ordered rise low) r k) (part_bounded h ordered rise low))
 
-  module _ (out' : List R → Type 0)
-      (rooms_step : out ((place h ordered rise low).room ∷ rooms_left h ordered rise low) → out' (rooms_left h ordered rise low))
-      (law : (xs ys : List R) → IsPermutation xs ys → out xs → out ys) where
-    pub sent_on : IsOpening request_of ready out' takes_srb stack v' b' slot (k + 1) rooms
-    sent_on =
-        subst (λ (c : Books R). IsOpening request_of ready out' takes_srb stack v' c slot (k + 1) rooms) (sym books_are)
-        (subst (λ (u : Rules). IsOpening request_of ready out' takes_srb stack (record v' { rules = u }) b_next slot (k + 1) rooms) (sym same_rules)
-        (record {
-          takes = h.takes;
-          port = h.port;
-          o = o_next;
-          others = h.others;
-          is_open = is_found b_next.opens slot o_next stands_next;
-          others_are = opens_next;
-          not_cancelled = h.not_cancelled;
-          staying = h.staying;
-          rooms_out = subst out' (sym rooms_next) (rooms_step (room_out h ordered rise low law));
-          ready_from = subst (All (IsReadyPart request_of ready)) (sym behind_next) back_ready;
-          sent = subst (All IsDown) (sym before_next)
-              (All-append IsDown front (new_part ∷ []) (subst (All IsDown) before_is h.sent) (All-cons IsDown new_part [] tt (All-nil IsDown)));
-          sizes = h.sizes;
-          in_hand = h.in_hand;
-          opens = h.opens;
-          cut = record {
-            bounded = h.cut.bounded;
-            parts_are = map-append request_of_part front (new_part ∷ back)
-                ∙ sym (ap (map request_of_part) parts_are ∙ map-append request_of_part front (old_part ∷ back)) ∙ h.cut.parts_are;
-          };
-          carries = h.carries;
-          buffered = each_part (IsBuffered rules) (IsBuffered rules) tt (λ y is. is) h.buffered;
-          written = each_part (IsWritten rules h.o) (IsWritten rules h.o) tt (λ y is. is) h.written;
-          numbered = numbered_next;
-          slot_is = h.slot_is;
-          restarts = (
-            h.restarts.0,
-            restarts-append front (new_part ∷ back) ∙ sym (ap restarts_of parts_are ∙ restarts-append front (old_part ∷ back)) ∙ h.restarts.1,
-          );
-          unfinished = h.unfinished ∙ ap length parts_are ∙ length-append front (old_part ∷ back) ∙ sym (length-append front (new_part ∷ back));
-          vacant = h.vacant;
-          ended = subst (IsPermutation b.ended) (sym ended_stay) h.ended;
-          causes = h.causes;
-          places = let p = h.places in let l = long_next in omega arith;
-          budget = let p = h.budget in let l = left_next in let m = back_long in let e = ap length behind_next in omega arith;
-          next_number_is =
-              let few : k < 2 ^ 16 = (let a = few_parts h ordered rise low in let e = long h ordered rise low in omega arith) in
-              let high = number_high b.next_packet slot k h.slot_is few in
-              let a = kept_run.0 in
-              let c = number_is in
-              omega arith;
-          few = let a = h.few in let c = below.moves.same_submitted in omega arith;
-          submitted = subst (λ n. b.submitted ≤ most_over n) (sym below.moves.same_most) h.submitted;
-          removing = h.removing ∙ sym kept_run.1;
-          asked = all_parts (λ y. IsAsked rules v.state.requests y × IsSpotted v.packets y) (IsAsked rules v'.state.requests) own_asked
-              (λ y is. asked_still y.request y.progress is.1 is.0)
-              (λ i d low' j d' low''. (h.asked i d low' j d' low'', h.spotted i d low' j d' low''));
-          spotted = all_parts (IsSpotted v.packets) (IsSpotted v'.packets) own_spotted (λ y is. spotted_still y.progress is) h.spotted;
-          topmost = All-permutation IsTopmost _ _ packets_next (All-cons IsTopmost packet v.packets own_topmost h.topmost);
-          some = some_next;
-          over = subst (λ t. All (IsOver 17 t) others_known) (sym kept_run.1) h.over;
-          none_ended = ended_submitted IsNothing v packet old_part.request payload v' some_places h.none_ended below;
-        }))
+  pub sent_on : IsOrderly v' → IsOpening v' b' slot (k + 1)
+  sent_on ordered' =
+      subst (λ (c : Books). IsOpening v' c slot (k + 1)) (sym books_are)
+      (subst (λ (u : Rules). IsOpening (record v' { rules = u }) b_next slot (k + 1)) (sym same_rules)
+      (record {
+        port = h.port;
+        o = o_next;
+        others = h.others;
+        is_open = is_found b_next.opens slot o_next stands_next;
+        others_are = opens_next;
+        not_cancelled = h.not_cancelled;
+        staying = h.staying;
+        rooms_out = rooms_on;
+        ready_from = subst (All IsReadyPart) (sym behind_next) back_ready;
+        sent = subst (All IsDown) (sym before_next)
+            (All-append IsDown front (new_part ∷ []) (subst (All IsDown) before_is h.sent) (All-cons IsDown new_part [] tt (All-nil IsDown)));
+        sizes = h.sizes;
+        in_hand = h.in_hand;
+        opens = h.opens;
+        cut = record {
+          bounded = h.cut.bounded;
+          parts_are = map-append request_of_part front (new_part ∷ back)
+              ∙ sym (ap (map request_of_part) parts_are ∙ map-append request_of_part front (old_part ∷ back)) ∙ h.cut.parts_are;
+        };
+        carries = h.carries;
+        buffered = each_part (IsBuffered rules) (IsBuffered rules) tt (λ y is. is) h.buffered;
+        written = each_part (IsWritten rules h.o) (IsWritten rules h.o) tt (λ y is. is) h.written;
+        owned = owned_next;
+        restarts = (
+          h.restarts.0,
+          restarts-append front (new_part ∷ back) ∙ sym (ap restarts_of parts_are ∙ restarts-append front (old_part ∷ back)) ∙ h.restarts.1,
+        );
+        unfinished = h.unfinished ∙ ap length parts_are ∙ length-append front (old_part ∷ back) ∙ sym (length-append front (new_part ∷ back));
+        ended = subst (IsPermutation b.ended) (sym ended_stay) h.ended;
+        causes = h.causes;
+        places = let p = h.places in let l = long_next in omega arith;
+        budget = let p = h.budget in let l = left_next in let m = back_long in let e = ap length behind_next in omega arith;
+        next_number_is = let a = kept_run.0 in let c = number_is in omega arith;
+        few = let a = h.few in let c = below.moves.same_submitted in omega arith;
+        submitted = subst (λ n. b.submitted ≤ most_over n) (sym below.moves.same_most) h.submitted;
+        removing = h.removing ∙ sym kept_run.1;
+        asked = all_parts (λ y. IsAsked rules v.state.requests y × IsSpotted v.packets y) (IsAsked rules v'.state.requests) own_asked
+            (λ y is. asked_still y.request y.progress is.1 is.0)
+            (λ i d low' j d' low''. (h.asked i d low' j d' low'', h.spotted i d low' j d' low''));
+        spotted = all_parts (IsSpotted v.packets) (IsSpotted v'.packets) own_spotted (λ y is. spotted_still y.progress is) h.spotted;
+        topmost = All-permutation IsTopmost _ _ packets_next (All-cons IsTopmost packet v.packets own_topmost h.topmost);
+        some = some_next;
+        over = subst (λ t. All (IsOver 17 t) others_known) (sym kept_run.1) h.over;
+        none_ended = ended_submitted IsNothing v packet old_part.request payload v' some_places h.none_ended below;
+      }))
+    where
+      -- the room of the packet is spent, and no start changes another
+      rooms_on : AllOut (record v' { rules = v.rules }) (tickets b_next)
+      rooms_on =
+          let r = out_less v v' (ticket h ordered rise low) (Some (whole_for old_part.request)) (rooms_left h ordered rise low) ordered'
+          below.room (room_out h ordered rise low) in
+          subst (λ (u : Rules). AllOut (record v' { rules = u }) (tickets b_next)) same_rules (subst (AllOut v') (sym rooms_next) r)

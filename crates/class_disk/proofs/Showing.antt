@@ -12,13 +12,13 @@ use Rattle.machine.specs.Rules.{Rules}
 use Rattle.machine.specs.declared.ClientRequest.{ClientRequest}
 use Rattle.machine.specs.Numbers.{AreDistinct, request_number}
 use Rattle.class_disk.proofs.Coupled.{pieces-append}
-use Rattle.class_disk.proofs.CoupledSteps.{master_with, request_first}
+use Rattle.class_disk.proofs.CoupledSteps.{divided_with, request_first}
 use Rattle.machine.proofs.Numbers.{requests_in_order}
 use Rattle.machine.proofs.Same.{none_there}
 use Rattle.machine.proofs.Permuting.{IsPermutation-uncons, distinct_first}
-use Rattle.class_disk.specs.Joint.{Part, Below, Here, Known, Master, Joint, note_of, known_of, gathered, requests_of, pieces_of, lifted_pieces, lifted, parts_requests, parts_pieces, parts_marks, parts_busy, parts_lifted, requests_below, pieces_below, pieces_above, shown, shown_mark, below, above}
-use Rattle.class_disk.specs.Kept.{IsOwnedBy, AreParts, IsMadeUp, Keeps}
-use Rattle.class_disk.specs.Shown.{open_under, is_owned_by, part_of, master_of, shown_state}
+use Rattle.class_disk.specs.inside.Joint.{Part, Below, Here, Known, Divided, Joint, note_of, known_of, gathered, requests_of, pieces_of, lifted_pieces, lifted, parts_requests, parts_pieces, parts_marks, parts_busy, parts_lifted, requests_below, pieces_below, pieces_above, shown, shown_mark, below, above}
+use Rattle.class_disk.specs.inside.Kept.{IsOwnedBy, AreParts, IsMadeUp, Keeps}
+use Rattle.class_disk.specs.Shown.{open_under, is_owned_by, part_of, divided_of, shown_state}
 use Rattle.class_disk.proofs.Focus.{second_first, gathered_first}
 use Rattle.class_disk.proofs.CoupledRun.{one_request}
 
@@ -89,10 +89,10 @@ others_owned n (Below o again ps ∷ parts) h other =
     (others_owned n parts (All-tail HasOwn (Below o again ps) parts h) (All-tail (λ x. x.number ≢ n) o (parts_requests parts) other))
 others_owned n (Here marks busy ∷ parts) h other = others_owned n parts (All-tail HasOwn (Here marks busy) parts h) other
 
-abbrev OwnParts : Master → Type 0
+abbrev OwnParts : Divided → Type 0
 OwnParts e = All HasOwn e.parts
 
-others_below : (n : ℕ) (es : List Master) → All OwnParts es → All (λ x. x.number ≢ n) (requests_below es) → All (λ p. p.owner ≢ n) (pieces_below es)
+others_below : (n : ℕ) (es : List Divided) → All OwnParts es → All (λ x. x.number ≢ n) (requests_below es) → All (λ p. p.owner ≢ n) (pieces_below es)
 others_below n [] h other = All-nil (λ p. p.owner ≢ n)
 others_below n (e ∷ es) h other =
     All-append (λ p. p.owner ≢ n) (parts_pieces e.parts) (pieces_below es)
@@ -100,12 +100,12 @@ others_below n (e ∷ es) h other =
     (others_below n es (All-tail OwnParts e es h) (right (λ x. x.number ≢ n) (parts_requests e.parts) (requests_below es) other))
 
 -- a part in front of all others has just the pieces of its number
-part_read : (e : Master) (es : List Master) (front back : List Part) (o : OpenRequest) (again : ℕ) (ps : List Piece) → All OwnParts (master_with e front back o again ps ∷ es) → IsDistinct eqb (map request_number (requests_below (master_with e front back o again ps ∷ es)))
-    → IsPermutation (filter (is_owned_by o.number) (pieces_below (master_with e front back o again ps ∷ es))) ps
+part_read : (e : Divided) (es : List Divided) (front back : List Part) (o : OpenRequest) (again : ℕ) (ps : List Piece) → All OwnParts (divided_with e front back o again ps ∷ es) → IsDistinct eqb (map request_number (requests_below (divided_with e front back o again ps ∷ es)))
+    → IsPermutation (filter (is_owned_by o.number) (pieces_below (divided_with e front back o again ps ∷ es))) ps
 part_read e es front back o again ps own distinct =
     let n : ℕ = o.number in
     let p : Piece → Bool = is_owned_by n in
-    let m : Master = master_with e front back o again ps in
+    let m : Divided = divided_with e front back o again ps in
     let others : All (λ x. x.number ≢ n) ((parts_requests front ++ parts_requests back) ++ requests_below es) = distinct_first request_number _ o _ distinct (request_first e es front back o again ps) in
     let own_m : All HasOwn (front ++ (Below o again ps ∷ back)) = All-head OwnParts m es own in
     let own_back : All HasOwn (Below o again ps ∷ back) = right HasOwn front (Below o again ps ∷ back) own_m in
@@ -170,30 +170,30 @@ lifted_read s owner first (Below o again ps ∷ parts) h =
     (IsPermutation-append _ _ _ _ (IsPermutation-map (lifted owner first) _ _ r.1) rest)
 lifted_read s owner first (Here marks busy ∷ parts) h = lifted_read s owner (first + length marks) parts (All-tail (IsRead s) (Here marks busy) parts h)
 
-shown_read : (s : State) (e : Master) → All (IsRead s) e.parts → shown (master_of s (known_of e)) ≡ shown e
+shown_read : (s : State) (e : Divided) → All (IsRead s) e.parts → shown (divided_of s (known_of e)) ≡ shown e
 shown_read s e h =
-    ap (λ m. record (shown (master_of s (known_of e))) { marks = m }) (marks_read s e.parts h)
+    ap (λ m. record (shown (divided_of s (known_of e))) { marks = m }) (marks_read s e.parts h)
     ∙ ap (λ n. record (shown e) { busy_returns = n }) (busy_read s e.parts h)
 
-abbrev IsReadIn : State → Master → Type 0
+abbrev IsReadIn : State → Divided → Type 0
 IsReadIn s e = All (IsRead s) e.parts
 
-shown_all : (s : State) (es : List Master) → All (IsReadIn s) es → map shown (map (master_of s) (map known_of es)) ≡ map shown es
+shown_all : (s : State) (es : List Divided) → All (IsReadIn s) es → map shown (map (divided_of s) (map known_of es)) ≡ map shown es
 shown_all s [] h = refl
 shown_all s (e ∷ es) h =
-    ap (λ o. o ∷ map shown (map (master_of s) (map known_of es))) (shown_read s e (All-head (IsReadIn s) e es h))
+    ap (λ o. o ∷ map shown (map (divided_of s) (map known_of es))) (shown_read s e (All-head (IsReadIn s) e es h))
     ∙ ap (λ os. shown e ∷ os) (shown_all s es (All-tail (IsReadIn s) e es h))
 
-lifted_all : (s : State) (es : List Master) → All (IsReadIn s) es → IsPermutation (pieces_above (map (master_of s) (map known_of es))) (pieces_above es)
+lifted_all : (s : State) (es : List Divided) → All (IsReadIn s) es → IsPermutation (pieces_above (map (divided_of s) (map known_of es))) (pieces_above es)
 lifted_all s [] h = IsPermutation-refl []
 lifted_all s (e ∷ es) h = IsPermutation-append _ _ _ _ (lifted_read s e.number 0 e.parts (All-head (IsReadIn s) e es h)) (lifted_all s es (All-tail (IsReadIn s) e es h))
 
-module _ (s : State) (distinct : AreDistinct s) (masters : List Master) (own : All OwnParts masters) (requests : IsPermutation (requests_below masters) s.requests) (pieces : IsPermutation (pieces_below masters) s.pieces) where
-  part_is_read : (before after : List Master) (e : Master) (front back : List Part) (o : OpenRequest) (again : ℕ) (ps : List Piece) → masters ≡ before ++ (master_with e front back o again ps ∷ after) → IsRead s (Below o again ps)
+module _ (s : State) (distinct : AreDistinct s) (divided : List Divided) (own : All OwnParts divided) (requests : IsPermutation (requests_below divided) s.requests) (pieces : IsPermutation (pieces_below divided) s.pieces) where
+  part_is_read : (before after : List Divided) (e : Divided) (front back : List Part) (o : OpenRequest) (again : ℕ) (ps : List Piece) → divided ≡ before ++ (divided_with e front back o again ps ∷ after) → IsRead s (Below o again ps)
   part_is_read before after e front back o again ps is =
-      let m : Master = master_with e front back o again ps in
-      let first : List Master = m ∷ (before ++ after) in
-      let to_first : IsPermutation masters first = subst (λ ms. IsPermutation ms first) (sym is) (IsPermutation-middle before m after) in
+      let m : Divided = divided_with e front back o again ps in
+      let first : List Divided = m ∷ (before ++ after) in
+      let to_first : IsPermutation divided first = subst (λ ms. IsPermutation ms first) (sym is) (IsPermutation-middle before m after) in
       let here : IsPermutation (requests_below first) s.requests =
       IsPermutation-trans _ _ _ (IsPermutation-sym _ _ (subst (λ ms. IsPermutation (requests_below ms) (requests_below first)) (sym is) (gathered_first requests_of before m after))) requests in
       let all_pieces : IsPermutation s.pieces (pieces_below first) =
@@ -205,7 +205,7 @@ module _ (s : State) (distinct : AreDistinct s) (masters : List Master) (own : A
             (part_read e (before ++ after) front back o again ps (All-permutation OwnParts _ _ to_first own) numbers),
       )
 
-  parts_are_read : (before after : List Master) (e : Master) (front back : List Part) → masters ≡ before ++ (record e { parts = front ++ back } ∷ after) → All (IsRead s) back
+  parts_are_read : (before after : List Divided) (e : Divided) (front back : List Part) → divided ≡ before ++ (record e { parts = front ++ back } ∷ after) → All (IsRead s) back
   parts_are_read before after e front [] is = All-nil (IsRead s)
   parts_are_read before after e front (Below o again ps ∷ back) is =
       All-cons (IsRead s) (Below o again ps) back (part_is_read before after e front back o again ps is)
@@ -214,13 +214,13 @@ module _ (s : State) (distinct : AreDistinct s) (masters : List Master) (own : A
       All-cons (IsRead s) (Here marks busy) back tt
       (parts_are_read before after e (front ++ (Here marks busy ∷ [])) back (is ∙ ap (λ parts. before ++ (record e { parts = parts } ∷ after)) (sym (append_assoc front (Here marks busy ∷ []) back))))
 
-  all_are_read : (before after : List Master) → masters ≡ before ++ after → All (IsReadIn s) after
+  all_are_read : (before after : List Divided) → divided ≡ before ++ after → All (IsReadIn s) after
   all_are_read before [] is = All-nil (IsReadIn s)
   all_are_read before (e ∷ after) is =
       All-cons (IsReadIn s) e after (parts_are_read before after e [] e.parts is)
       (all_are_read (before ++ (e ∷ [])) after (is ∙ sym (append_assoc before (e ∷ []) after)))
 
-pub gathered-permutation : {X : Type 0} (of : Master → List X) (es fs : List Master) → IsPermutation es fs → IsPermutation (gathered of es) (gathered of fs)
+pub gathered-permutation : {X : Type 0} (of : Divided → List X) (es fs : List Divided) → IsPermutation es fs → IsPermutation (gathered of es) (gathered of fs)
 gathered-permutation of [] fs h = subst (λ zs. IsPermutation [] (gathered of zs)) (sym (none_there [] fs refl h)) (IsPermutation-refl [])
 gathered-permutation of (e ∷ es) fs h =
     let c = split_at e fs (Contains-permutation _ _ e h (0, omega arith, refl)) in
@@ -231,17 +231,17 @@ gathered-permutation of (e ∷ es) fs h =
 
 -- THE SHOWN MACHINE IS THE ONE COUPLED
 
-pub shown_is : (rules : Rules) (j : Joint) (s : State) (transfers : List Known) → IsSame (below j) s → AreDistinct s → Keeps rules j → IsPermutation (map known_of j.masters) transfers
+pub shown_is : (rules : Rules) (j : Joint) (s : State) (transfers : List Known) → IsSame (below j) s → AreDistinct s → Keeps rules j → IsPermutation (map known_of j.divided) transfers
     → IsSame (above j) (shown_state s j.next_above transfers)
 shown_is rules j s transfers same distinct k ts =
-    let own : All OwnParts j.masters = All-weaker (IsMadeUp rules) OwnParts (λ e h. have_own rules e.request 0 e.parts h) j.masters k.made_up in
-    let read : All (IsReadIn s) j.masters = all_are_read s distinct j.masters own same.requests same.pieces [] j.masters refl in
+    let own : All OwnParts j.divided = All-weaker (IsMadeUp rules) OwnParts (λ e h. have_own rules e.request 0 e.parts h) j.divided k.made_up in
+    let read : All (IsReadIn s) j.divided = all_are_read s distinct j.divided own same.requests same.pieces [] j.divided refl in
     record {
       arrays = same.arrays;
       next_request = refl;
       next_piece = same.next_piece;
-      requests = subst (λ os. IsPermutation os (map shown (map (master_of s) transfers))) (shown_all s j.masters read) (IsPermutation-map shown _ _ (IsPermutation-map (master_of s) _ _ ts));
-      pieces = IsPermutation-trans _ _ _ (IsPermutation-sym _ _ (lifted_all s j.masters read)) (gathered-permutation lifted_pieces _ _ (IsPermutation-map (master_of s) _ _ ts));
+      requests = subst (λ os. IsPermutation os (map shown (map (divided_of s) transfers))) (shown_all s j.divided read) (IsPermutation-map shown _ _ (IsPermutation-map (divided_of s) _ _ ts));
+      pieces = IsPermutation-trans _ _ _ (IsPermutation-sym _ _ (lifted_all s j.divided read)) (gathered-permutation lifted_pieces _ _ (IsPermutation-map (divided_of s) _ _ ts));
       owed = refl;
       paused = refl;
       removing = same.removing;

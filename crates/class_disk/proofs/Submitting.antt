@@ -1,5 +1,5 @@
 -- A request is taken in: all of its parts are here, and then the layer below starts some.
-use Rattle.std.proofs.Common.{◌≡◌, ◌<◌, ◌≤◌, ℕ, ◌+◌, false, List, [], ◌∷◌, ◌++◌, refl, sym, ◌∙◌, ap, subst, arith, map, length, get_or, replicate, None}
+use Rattle.std.proofs.Common.{◌≡◌, ◌<◌, ◌≤◌, ℕ, ◌+◌, false, List, [], ◌∷◌, ◌++◌, refl, sym, ◌∙◌, ap, subst, arith, map, length, get_or, replicate, Some, None}
 use Rattle.std.specs.Prelude.{IsPermutation, All}
 use Rattle.std.proofs.lemmas.List.{length-replicate}
 use Rattle.std.proofs.lemmas.List.Sorted.{IsPermutation-cons}
@@ -17,14 +17,16 @@ use Rattle.machine.specs.Sending.{IsStart}
 use Rattle.machine.specs.Step.{as_label}
 use Rattle.machine.proofs.Same.{IsSame-refl, Run-same}
 use Rattle.irp.specs.declared.Payload.{Payload}
-use Rattle.device.specs.View.{DeviceView, Packet, sent_bytes}
-use Rattle.device.specs.Served.{Submits, StaysOpen}
-use Rattle.class_disk.specs.Books.{Books}
-use Rattle.class_disk.specs.Joint.{Part, Here, Note, Kept, Known, note_of, known_of, Master, Joint, parts_requests, parts_pieces, parts_marks, parts_busy, parts_lifted, requests_below, pieces_below, pieces_above, shown, below, above, below_rules}
-use Rattle.class_disk.specs.Kept.{IsSound, AreParts, IsMadeUp, IsCancelledAs, AgreesOnCancel, IsAhead, AreBehind, IsInTurn, places_in, AreCut, IsInPieces, Keeps}
+use Rattle.device.specs.View.{DeviceView, Packet, sent_bytes, whole_for}
+use Rattle.device.specs.Served.{SetsRoom, Submits, StaysOpen}
+use Rattle.class_disk.specs.inside.Books.{Books}
+use Rattle.class_disk.specs.inside.Joint.{Part, Here, Note, Kept, Known, note_of, known_of, Divided, Joint, parts_requests, parts_pieces, parts_marks, parts_busy, parts_lifted, requests_below, pieces_below, pieces_above, shown, below, above}
+use Rattle.class_disk.specs.PortRules.{below_rules}
+use Rattle.class_disk.specs.inside.Kept.{IsSound, AreParts, IsMadeUp, IsCancelledAs, AgreesOnCancel, IsAhead, AreBehind, IsInTurn, places_in, AreCut, IsInPieces, Keeps}
 use Rattle.class_disk.specs.Shown.{class_rules, IsPort, shown_state}
-use Rattle.class_disk.specs.Driver.{knowns, most_over, view_of, packet_above, IsCoupled}
-use Rattle.class_disk.specs.Midway.{IsTaking}
+use Rattle.class_disk.specs.inside.Driver.{knowns, view_of, packet_above, IsCoupled}
+use Rattle.class_disk.specs.Opening.{most_over}
+use Rattle.class_disk.specs.inside.Midway.{IsTaking}
 use Rattle.class_disk.proofs.CoupledSteps.{replicate_more}
 use Rattle.class_disk.proofs.Showing.{shown_is}
 use Rattle.class_disk.proofs.Retaking.{taking_begins}
@@ -76,22 +78,22 @@ new_places [] = refl
 new_places (count ∷ counts) = ap (λ n. n ∷ map places_in (map new_part counts)) (length-replicate count Untouched) ∙ ap (λ ns. count ∷ ns) (new_places counts)
 
 -- the request has a number below this one
-abbrev pub IsBefore : ℕ → Master → Type 0
+abbrev pub IsBefore : ℕ → Divided → Type 0
 IsBefore number e = e.number < number
 
 module _ (rules : Rules) (j : Joint) (number : ℕ) (q : ClientRequest) (counts : List ℕ) (covers : total counts ≡ place_count rules q) where
-  abbrev pub new_master : Master
-  new_master = record { number = number; request = q; cancelled = false; parts = map new_part counts }
+  abbrev pub new_divided : Divided
+  new_divided = record { number = number; request = q; cancelled = false; parts = map new_part counts }
 
   abbrev pub with_new : Joint
-  with_new = record j { next_above = number + 1; masters = new_master ∷ j.masters }
+  with_new = record j { next_above = number + 1; divided = new_divided ∷ j.divided }
 
   -- the machine above opens it
   pub opens_new : (t : State) → IsSame (above j) t → t.next_request ≤ number → refusal rules t q ≡ None → length q.bytes ≡ bytes_carried q.kind q.length → Opens rules t number q (above with_new)
   opens_new t same high free carries =
       let m : parts_marks (map new_part counts) ≡ replicate (place_count rules q) Untouched = new_marks counts ∙ ap (λ n. replicate n Untouched) covers in
-      let made : shown new_master ≡ new_request rules t number q =
-      ap (λ z. record (shown new_master) { marks = z }) m ∙ ap (λ z. record (new_request rules (above j) number q) { busy_returns = z }) (new_busy counts)
+      let made : shown new_divided ≡ new_request rules t number q =
+      ap (λ z. record (shown new_divided) { marks = z }) m ∙ ap (λ z. record (new_request rules (above j) number q) { busy_returns = z }) (new_busy counts)
       ∙ ap (λ z. record (new_request rules (above j) number q) { late = z }) same.paused in
       record {
         new_number = high;
@@ -101,8 +103,8 @@ module _ (rules : Rules) (j : Joint) (number : ℕ) (q : ClientRequest) (counts 
           arrays = same.arrays;
           next_request = refl;
           next_piece = same.next_piece;
-          requests = subst (λ z. IsPermutation (shown new_master ∷ map shown j.masters) (z ∷ t.requests)) made (IsPermutation-cons (shown new_master) _ _ same.requests);
-          pieces = subst (λ z. IsPermutation (z ++ pieces_above j.masters) t.pieces) (sym (new_lifted number 0 counts)) same.pieces;
+          requests = subst (λ z. IsPermutation (shown new_divided ∷ map shown j.divided) (z ∷ t.requests)) made (IsPermutation-cons (shown new_divided) _ _ same.requests);
+          pieces = subst (λ z. IsPermutation (z ++ pieces_above j.divided) t.pieces) (sym (new_lifted number 0 counts)) same.pieces;
           owed = same.owed;
           paused = same.paused;
           removing = same.removing;
@@ -116,8 +118,8 @@ module _ (rules : Rules) (j : Joint) (number : ℕ) (q : ClientRequest) (counts 
     arrays = same.arrays;
     next_request = same.next_request;
     next_piece = same.next_piece;
-    requests = subst (λ z. IsPermutation (z ++ requests_below j.masters) s.requests) (sym (new_requests counts)) same.requests;
-    pieces = subst (λ z. IsPermutation (z ++ pieces_below j.masters) s.pieces) (sym (new_pieces counts)) same.pieces;
+    requests = subst (λ z. IsPermutation (z ++ requests_below j.divided) s.requests) (sym (new_requests counts)) same.requests;
+    pieces = subst (λ z. IsPermutation (z ++ pieces_below j.divided) s.pieces) (sym (new_pieces counts)) same.pieces;
     owed = same.owed;
     paused = same.paused;
     removing = same.removing;
@@ -125,38 +127,39 @@ module _ (rules : Rules) (j : Joint) (number : ℕ) (q : ClientRequest) (counts 
   }
 
   -- and the coupling is kept: no part of it is below, and all other requests are earlier
-  pub keeps_new : AreCut rules.max_transfer counts → All (IsBefore number) j.masters → Keeps rules j → Keeps rules with_new
+  pub keeps_new : AreCut rules.max_transfer counts → All (IsBefore number) j.divided → Keeps rules j → Keeps rules with_new
   keeps_new cut before k = record {
-    made_up = All-cons (IsMadeUp rules) new_master j.masters (new_made rules q 0 counts (omega (arith, covers))) k.made_up;
-    agree = All-cons AgreesOnCancel new_master j.masters (subst (All (IsCancelledAs false)) (sym (new_requests counts)) (All-nil (IsCancelledAs false))) k.agree;
-    in_turn = All-cons (IsInTurn j.removing (new_master ∷ j.masters)) new_master j.masters
-        (subst (λ os. All (AreBehind j.removing (new_master ∷ j.masters) number) (map request_number os)) (sym (new_requests counts)) (All-nil (AreBehind j.removing (new_master ∷ j.masters) number)))
-        (λ i d low. let x : Master = get_or j.masters i d in
+    made_up = All-cons (IsMadeUp rules) new_divided j.divided (new_made rules q 0 counts (omega (arith, covers))) k.made_up;
+    agree = All-cons AgreesOnCancel new_divided j.divided (subst (All (IsCancelledAs false)) (sym (new_requests counts)) (All-nil (IsCancelledAs false))) k.agree;
+    in_turn = All-cons (IsInTurn j.removing (new_divided ∷ j.divided)) new_divided j.divided
+        (subst (λ os. All (AreBehind j.removing (new_divided ∷ j.divided) number) (map request_number os)) (sym (new_requests counts)) (All-nil (AreBehind j.removing (new_divided ∷ j.divided) number)))
+        (λ i d low. let x : Divided = get_or j.divided i d in
         let earlier : x.number < number = before i d low in
-        All-weaker (AreBehind j.removing j.masters x.number) (AreBehind j.removing (new_master ∷ j.masters) x.number)
-        (λ n h. All-cons (IsAhead j.removing x.number n) new_master j.masters (λ staying lower timely. absurd (omega arith)) h)
+        All-weaker (AreBehind j.removing j.divided x.number) (AreBehind j.removing (new_divided ∷ j.divided) x.number)
+        (λ n h. All-cons (IsAhead j.removing x.number n) new_divided j.divided (λ staying lower timely. absurd (omega arith)) h)
         (map request_number (parts_requests x.parts)) (k.in_turn i d low));
-    in_pieces = All-cons (IsInPieces rules) new_master j.masters
+    in_pieces = All-cons (IsInPieces rules) new_divided j.divided
         (record { cut = subst (AreCut rules.max_transfer) (sym (new_places counts)) cut; few = let none = new_busy counts in omega arith }) k.in_pieces;
   }
 
   -- so the machine above runs from there on
-  pub taking_new : rules.one_piece ≡ false → (s : State) (ks : List Known) → IsSame (below j) s → IsPermutation (map known_of j.masters) ks → AreCut rules.max_transfer counts → All (IsBefore number) j.masters → Keeps rules j → IsSound s → AreCounted (below_rules rules) s
+  pub taking_new : rules.one_piece ≡ false → (s : State) (ks : List Known) → IsSame (below j) s → IsPermutation (map known_of j.divided) ks → AreCut rules.max_transfer counts → All (IsBefore number) j.divided → Keeps rules j → IsSound s → AreCounted (below_rules rules) s
       → IsTaking rules (above with_new) [] s (record { number = number; request = q; cancelled = false; parts = map new_note counts } ∷ ks)
   taking_new many s ks same knows cut before k sound counted =
       taking_begins rules many with_new s s _ [] (below_new s same)
-      (subst (λ ns. IsPermutation (record { number = number; request = q; cancelled = false; parts = ns } ∷ map known_of j.masters) (record { number = number; request = q; cancelled = false; parts = map new_note counts } ∷ ks))
+      (subst (λ ns. IsPermutation (record { number = number; request = q; cancelled = false; parts = ns } ∷ map known_of j.divided) (record { number = number; request = q; cancelled = false; parts = map new_note counts } ∷ ks))
       (sym (new_notes counts)) (IsPermutation-cons _ _ _ knows))
       (keeps_new cut before k) sound counted (IsSame-refl s)
 
 -- ALL PARTS ARE SENT: what the class driver shows has taken its request in
-pub submits_above : {R : Type 0} (v : DeviceView) (b : Books R) (packet : Packet) (request : Request) (payload : Payload) (first : State) (starts : List DeviceLabel) (v' : DeviceView) (b' : Books R) → IsPort v.rules
+pub submits_above : (v : DeviceView) (b : Books) (packet : Packet) (request : Request) (payload : Payload) (first : State) (starts : List DeviceLabel) (v' : DeviceView) (b' : Books) → IsPort v.rules
     → Opens (class_rules v.rules) (view_of v b).state packet.number (as_client (class_rules v.rules) request (sent_bytes request.kind payload)) first
     → All IsStart starts → IsTaking (class_rules v.rules) first starts v'.state (knowns (class_rules v.rules) b') → MovesByAll v.adapter starts v'.adapter
     → v'.rules ≡ v.rules → v'.most ≡ v.most → first.next_request ≡ b'.last_request + 1 → b'.submitted ≡ b.submitted + 1 → IsPermutation (map packet_above b'.opens) (packet ∷ map packet_above b.opens)
+    → SetsRoom b.rooms packet.spot (Some (whole_for request)) None b'.rooms
     → All (StaysOpen (view_of v' b').state) (view_of v b).state.requests
     → Submits (view_of v b) packet request payload (view_of v' b') × IsCoupled v' b' × IsSound v'.state × AreCounted v'.rules v'.state
-submits_above v b packet request payload first starts v' b' port opens only t adapter same_rules same_most next same_submitted same_packets others =
+submits_above v b packet request payload first starts v' b' port opens only t adapter same_rules same_most next same_submitted same_packets spent others =
     let rules : Rules = class_rules v.rules in
     let next_above : t.j.next_above ≡ b'.last_request + 1 = t.next_above ∙ next in
     let shown_now : IsSame (above t.j) (view_of v' b').state =
@@ -164,6 +167,7 @@ submits_above v b packet request payload first starts v' b' port opens only t ad
     (subst (λ n. IsSame (above t.j) (shown_state v'.state n (knowns rules b'))) next_above
     (shown_is rules t.j v'.state (knowns rules b') t.same t.sound.distinct t.keeps t.knows)) in (
       record {
+        room = spent;
         opened = first;
         starts = starts;
         opens = opens;
@@ -171,6 +175,7 @@ submits_above v b packet request payload first starts v' b' port opens only t ad
         moves = record {
           same_rules = ap class_rules same_rules;
           same_packets = same_packets;
+          same_rooms = λ spot. refl;
           same_submitted = same_submitted;
           same_most = ap most_over same_most;
           run = Run-same rules (map as_label starts) first first (above t.j) _ (IsSame-refl first) shown_now t.run;
@@ -181,7 +186,7 @@ submits_above v b packet request payload first starts v' b' port opens only t ad
       record {
         j = t.j;
         same = t.same;
-        knows = subst (λ r. IsPermutation (map known_of t.j.masters) (knowns (class_rules r) b')) (sym same_rules) t.knows;
+        knows = subst (λ r. IsPermutation (map known_of t.j.divided) (knowns (class_rules r) b')) (sym same_rules) t.knows;
         next_above = next_above;
         keeps = subst (λ r. Keeps (class_rules r) t.j) (sym same_rules) t.keeps;
       },

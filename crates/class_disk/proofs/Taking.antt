@@ -1,29 +1,30 @@
 -- A packet below that has ended is taken: its part is here, and the machine above stays as it was.
-use Rattle.std.proofs.Common.{◌≡◌, ◌≢◌, ◌<◌, ◌≤◌, ◌⊎◌, inl, inr, ℕ, zero, suc, ◌+◌, not, Bool, true, false, List, [], ◌∷◌, ◌++◌, refl, sym, ◌∙◌, ap, subst, arith, map, length, get_or, append_assoc}
+use Rattle.std.proofs.Common.{◌≡◌, ◌<◌, ◌⊎◌, inl, inr, ℕ, zero, suc, ◌+◌, not, Bool, List, [], ◌∷◌, ◌++◌, refl, sym, ◌∙◌, ap, subst, arith, map, length, get_or}
 use Rattle.std.specs.Prelude.{IsPermutation, All, Contains, IsTrue, IsFalse}
 use Rattle.std.specs.List.{list_all}
 use Rattle.std.proofs.lemmas.List.{length-map, map-append}
-use Rattle.std.proofs.lemmas.List.Sorted.{IsPermutation-refl, IsPermutation-sym, IsPermutation-trans, IsPermutation-middle, IsPermutation-append_left, IsPermutation-map, All-permutation, Contains-permutation}
+use Rattle.std.proofs.lemmas.List.Sorted.{IsPermutation-sym, IsPermutation-trans, IsPermutation-middle, All-permutation, Contains-permutation}
 use Rattle.std.proofs.lemmas.List.Elements.{All-cons, All-head, All-tail, All-contains, Contains-append_cases, Contains-append_left, Contains-append_right, Contains-get_or}
 use Rattle.ntstatus.specs.declared.NtStatus.{NtStatus}
 use Rattle.machine.specs.declared.ClientRequest.{ClientRequest}
 use Rattle.machine.specs.Rules.{Rules}
-use Rattle.machine.specs.State.{Mark, Untouched, Out, Done, Failed, Back, OpenRequest, Piece, State, IsSame}
+use Rattle.machine.specs.State.{Untouched, Out, OpenRequest, Piece, State, IsSame}
 use Rattle.machine.specs.Numbers.{HasPlaces, HavePlaces, request_number}
 use Rattle.machine.specs.Cutting.{mark_at}
 use Rattle.machine.specs.Sending.{is_started, is_untouched}
 use Rattle.machine.specs.Answering.{HasEnded, Answers}
-use Rattle.machine.proofs.Same.{IsSame-refl, IsSame-sym, IsSame-trans}
+use Rattle.machine.proofs.Same.{IsSame-sym, IsSame-trans}
 use Rattle.machine.proofs.Permuting.{IsPermutation-uncons}
 use Rattle.machine.proofs.Owners.{Owns, owns}
 use Rattle.machine.proofs.Commuting.{out_ends_not, started_marks}
-use Rattle.class_disk.specs.Joint.{Part, Below, Here, Note, Sent, Kept, Known, note_of, known_of, Master, Joint, shown_mark, parts_requests, parts_pieces, parts_marks, requests_below, pieces_below, pieces_above, shown, below, above, below_rules}
-use Rattle.class_disk.specs.Kept.{IsSound, IsOwnedBy, AreParts, IsMadeUp, IsCancelledAs, AgreesOnCancel, HasPartBefore, IsAhead, AreBehind, IsInTurn, IsInPieces, Keeps}
+use Rattle.class_disk.specs.inside.Joint.{Part, Below, Here, note_of, Divided, Joint, shown_mark, parts_requests, parts_pieces, parts_marks, requests_below, pieces_below, shown, below, above}
+use Rattle.class_disk.specs.PortRules.{below_rules}
+use Rattle.class_disk.specs.inside.Kept.{IsSound, IsOwnedBy, AreParts, IsMadeUp, IsCancelledAs, AgreesOnCancel, HasPartBefore, IsInPieces, Keeps}
 use Rattle.class_disk.proofs.InPieces.{shown_begins, in_pieces_with}
 use Rattle.class_disk.proofs.Coupled.{requests-append, pieces-append, marks-append}
 use Rattle.class_disk.proofs.CoupledMarks.{started_part}
-use Rattle.class_disk.proofs.CoupledSteps.{master_with, request_first, in_requests, taken}
-use Rattle.class_disk.proofs.Focus.{Found, find}
+use Rattle.class_disk.proofs.CoupledSteps.{divided_with, request_first, taken}
+use Rattle.class_disk.proofs.Focus.{Found}
 use Rattle.class_disk.proofs.Keeping.{Follows, turns_follow_in, part_in, there}
 use Rattle.class_disk.proofs.CoupledRun.{rest, here, same_below, same_above, keeps_here, moved}
 
@@ -39,11 +40,11 @@ notes_of front part back = map-append note_of front (part ∷ back)
 fewer : {X : Type 0} (P : X → Type 0) (xs : List X) (x : X) (ys : List X) → All P (xs ++ (x ∷ ys)) → All P (xs ++ ys)
 fewer P xs x ys all = All-tail P x (xs ++ ys) (All-permutation P _ _ (IsPermutation-middle xs x ys) all)
 
-module _ (removing : Bool) (e : Master) (front back : List Part) (o : OpenRequest) (again busy : ℕ) where
-  abbrev before_it : Master
-  before_it = master_with e front back o again []
+module _ (removing : Bool) (e : Divided) (front back : List Part) (o : OpenRequest) (again busy : ℕ) where
+  abbrev before_it : Divided
+  before_it = divided_with e front back o again []
 
-  abbrev after_it : Master
+  abbrev after_it : Divided
   after_it = record e { parts = front ++ (Here (map (shown_mark again) o.marks) busy ∷ back) }
 
   same_marks : parts_marks before_it.parts ≡ parts_marks after_it.parts
@@ -82,30 +83,30 @@ none_out rules s o (p ∷ ps) sound open' owned out ended =
     absurd (out_ends_not rules s o (subst (HasEnded rules s o) is_out h))
 
 -- both machines with the part here that was below
-abbrev pub with_here : Joint → Master → List Master → List Part → List Part → OpenRequest → ℕ → Joint
-with_here j e es front back o again = record j { masters = record e { parts = front ++ (Here (map (shown_mark again) o.marks) (again + o.busy_returns) ∷ back) } ∷ es }
+abbrev pub with_here : Joint → Divided → List Divided → List Part → List Part → OpenRequest → ℕ → Joint
+with_here j e es front back o again = record j { divided = record e { parts = front ++ (Here (map (shown_mark again) o.marks) (again + o.busy_returns) ∷ back) } ∷ es }
 
 -- once the packet of a part in front was taken
-pub record TakenFrom (j : Joint) (rules : Rules) (e : Master) (es : List Master) (front back : List Part) (o : OpenRequest) (again : ℕ) (s' : State) : Type 0 where
+pub record TakenFrom (j : Joint) (rules : Rules) (e : Divided) (es : List Divided) (front back : List Part) (o : OpenRequest) (again : ℕ) (s' : State) : Type 0 where
   pub same : IsSame (below (with_here j e es front back o again)) s'
   pub shown : IsSame (above j) (above (with_here j e es front back o again))
   pub keeps : Keeps rules (with_here j e es front back o again)
 
 -- with the part in front, and no piece of it out
-taken_at : (rules : Rules) (j : Joint) (s : State) (e : Master) (es : List Master) (front back : List Part) (o : OpenRequest) (again : ℕ) (others : List OpenRequest) (s' : State)
-    → IsSame (above j) (above (record j { masters = master_with e front back o again [] ∷ es })) → IsSame (below (record j { masters = master_with e front back o again [] ∷ es })) s
-    → Keeps rules (record j { masters = master_with e front back o again [] ∷ es }) → IsPermutation j.masters (master_with e front back o again [] ∷ es)
+taken_at : (rules : Rules) (j : Joint) (s : State) (e : Divided) (es : List Divided) (front back : List Part) (o : OpenRequest) (again : ℕ) (others : List OpenRequest) (s' : State)
+    → IsSame (above j) (above (record j { divided = divided_with e front back o again [] ∷ es })) → IsSame (below (record j { divided = divided_with e front back o again [] ∷ es })) s
+    → Keeps rules (record j { divided = divided_with e front back o again [] ∷ es }) → IsPermutation j.divided (divided_with e front back o again [] ∷ es)
     → IsPermutation s.requests (o ∷ others) → IsSame s' (record s { requests = others }) → (IsFalse j.removing → IsFalse o.cancelled → IsTrue (is_started o)) → TakenFrom j rules e es front back o again s'
 taken_at rules j s e es front back o again others s' sa sb kh _ is_open after gone =
     let busy : ℕ = again + o.busy_returns in
-    let was : Master = before_it j.removing e front back o again busy in
-    let now : Master = after_it j.removing e front back o again busy in
-    let next : Joint = record j { masters = now ∷ es } in
+    let was : Divided = before_it j.removing e front back o again busy in
+    let now : Divided = after_it j.removing e front back o again busy in
+    let next : Joint = record j { divided = now ∷ es } in
     let left : parts_requests now.parts ≡ parts_requests front ++ parts_requests back = left_requests j.removing e front back o again busy in
-    let open_others : IsPermutation (requests_below next.masters) others =
+    let open_others : IsPermutation (requests_below next.divided) others =
     subst (λ zs. IsPermutation (zs ++ requests_below es) others) (sym left)
     (IsPermutation-uncons o _ _ (IsPermutation-trans _ _ _ (IsPermutation-sym _ _ (request_first e es front back o again [])) (IsPermutation-trans _ _ _ sb.requests is_open))) in
-    let same_pieces : pieces_below (was ∷ es) ≡ pieces_below next.masters =
+    let same_pieces : pieces_below (was ∷ es) ≡ pieces_below next.divided =
     ap (λ zs. zs ++ pieces_below es) (pieces-append front (Below o again [] ∷ back) ∙ sym (pieces-append front (Here (map (shown_mark again) o.marks) busy ∷ back))) in
     let left_out : (P : OpenRequest → Type 0) → All P (parts_requests was.parts) → All P (parts_requests now.parts) = λ P all.
     subst (All P) (sym left) (fewer P (parts_requests front) o (parts_requests back) (subst (All P) (requests-append front (Below o again [] ∷ back)) all)) in
@@ -142,24 +143,24 @@ taken_at rules j s e es front back o again others s' sa sb kh _ is_open after go
 
 module _ (rules : Rules) (j : Joint) (s : State) (same : IsSame (below j) s) (sound : IsSound s) (places : HavePlaces s) (k : Keeps rules j) where
   -- the answer of a packet below, wherever its part was found
-  pub taken_from : (number : ℕ) (status : NtStatus) (bytes : List ℕ) (s' : State) → (h : Answers (below_rules rules) s number status bytes s') → (f : Found j.masters h.request) → TakenFrom j rules f.master (rest rules j h.request f) f.front f.back h.request f.again s'
+  pub taken_from : (number : ℕ) (status : NtStatus) (bytes : List ℕ) (s' : State) → (h : Answers (below_rules rules) s number status bytes s') → (f : Found j.divided h.request) → TakenFrom j rules f.whole (rest rules j h.request f) f.front f.back h.request f.again s'
   taken_from number status bytes s' h f =
       let o : OpenRequest = h.request in
       let in_s : Contains s.requests o = Contains-permutation _ _ o (IsPermutation-sym _ _ h.is_open) (0, omega arith, refl) in
-      let es : List Master = rest rules j o f in
+      let es : List Divided = rest rules j o f in
       let sb : IsSame (below (here rules j o f f.pieces)) s = IsSame-trans _ _ _ (IsSame-sym _ _ (same_below rules j o f)) same in
       let kf : Keeps rules (here rules j o f f.pieces) = keeps_here rules j o f k in
-      let known = part_in rules f.master.request o f.again f.pieces f.front f.back (All-head (IsMadeUp rules) _ es kf.made_up) in
+      let known = part_in rules f.whole.request o f.again f.pieces f.front f.back (All-head (IsMadeUp rules) _ es kf.made_up) in
       let out : All (Contains s.pieces) f.pieces = λ i d low. Contains-permutation _ _ (get_or f.pieces i d) sb.pieces (in_pieces f es (get_or f.pieces i d) (Contains-get_or f.pieces i d low)) in
       let none : f.pieces ≡ [] = none_out (below_rules rules) s o f.pieces sound in_s known.1 out h.ended in
-      taken_at rules j s f.master es f.front f.back o f.again h.others s'
+      taken_at rules j s f.whole es f.front f.back o f.again h.others s'
       (subst (λ ps. IsSame (above j) (above (here rules j o f ps))) none (same_above rules j o f))
       (subst (λ ps. IsSame (below (here rules j o f ps)) s) none sb)
       (subst (λ ps. Keeps rules (here rules j o f ps)) none kf)
-      (subst (λ ps. IsPermutation j.masters (here rules j o f ps).masters) none (moved rules j o f))
+      (subst (λ ps. IsPermutation j.divided (here rules j o f ps).divided) none (moved rules j o f))
       h.is_open h.after
       (λ staying timely. started_marks (below_rules rules) s o o.marks timely (sym same.removing ∙ staying) (All-contains HasPlaces s.requests o places in_s) h.ended)
     where
-      in_pieces : {o : OpenRequest} (f : Found j.masters o) (es : List Master) (p : Piece) → Contains f.pieces p → Contains (pieces_below (master_with f.master f.front f.back o f.again f.pieces ∷ es)) p
+      in_pieces : {o : OpenRequest} (f : Found j.divided o) (es : List Divided) (p : Piece) → Contains f.pieces p → Contains (pieces_below (divided_with f.whole f.front f.back o f.again f.pieces ∷ es)) p
       in_pieces {o} f es p c =
           Contains-append_left _ (pieces_below es) p (subst (λ zs. Contains zs p) (sym (pieces-append f.front (Below o f.again f.pieces ∷ f.back))) (Contains-append_right (parts_pieces f.front) _ p (Contains-append_left f.pieces (parts_pieces f.back) p c)))

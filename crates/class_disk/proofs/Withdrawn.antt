@@ -1,5 +1,5 @@
 -- All that ended unsent is taken: the class driver is in hand again, and its machine stands where it stood midway.
-use Rattle.std.proofs.Common.{◌≡◌, inl, inr, ℕ, ◌+◌, Bool, List, [], sym, ◌∙◌, ap, subst}
+use Rattle.std.proofs.Common.{◌≡◌, inl, inr, ℕ, ◌+◌, Bool, [], sym, ◌∙◌, ap, subst}
 use Rattle.std.specs.Prelude.{IsTrue}
 use Rattle.std.proofs.lemmas.List.Elements.{All-weaker}
 use Rattle.machine.specs.Rules.{Rules}
@@ -8,36 +8,36 @@ use Rattle.machine.specs.Numbers.{AreDistinct}
 use Rattle.machine.specs.Marks.{AreCounted}
 use Rattle.machine.proofs.Same.{IsSame-sym, IsSame-trans}
 use Rattle.machine.proofs.Numbers.{AreDistinct-same}
-use Rattle.device.specs.View.{DeviceView, IsOrderly}
-use Rattle.class_disk.specs.declared.requests.DiskRoom.{DiskRoom}
-use Rattle.class_disk.specs.Joint.{Note, Sent, Kept, Known, above}
-use Rattle.class_disk.specs.Kept.{NeverSent, IsOver, IsOverNote, IsOverMark, noted_busy}
+use Rattle.device.specs.View.{DeviceView}
+use Rattle.class_disk.proofs.Standing.{IsApart}
+use Rattle.class_disk.specs.inside.Joint.{Note, Sent, Kept, Known, above}
+use Rattle.class_disk.specs.inside.Kept.{NeverSent, IsOver, IsOverNote, IsOverMark, noted_busy}
 use Rattle.class_disk.specs.Shown.{class_rules, shown_state}
-use Rattle.class_disk.specs.Books.{Books}
-use Rattle.class_disk.specs.Driver.{knowns, view_of, IsInHand}
-use Rattle.class_disk.specs.Midway.{IsTaking, IsMidway, WithdrawsAll}
+use Rattle.class_disk.specs.inside.Books.{Books}
+use Rattle.class_disk.specs.inside.Driver.{knowns, view_of, IsInHand}
+use Rattle.class_disk.specs.inside.Midway.{IsTaking, IsMidway, WithdrawsAll}
 use Rattle.class_disk.proofs.Showing.{shown_is}
 use Rattle.class_disk.proofs.Finishing.{in_hand_again}
 
 -- the two: the class driver is in hand, and shows the state that it was brought to
-pub record StandsAgain {R : Type 0} (out : List R → Type 0) (takes_srb : Bool) (stack : ℕ) (first : State) (v : DeviceView) (b : Books R) (rooms : List (DiskRoom R)) : Type 0 where
-  pub in_hand : IsInHand out takes_srb stack v b rooms
+pub record StandsAgain (first : State) (v : DeviceView) (b : Books) : Type 0 where
+  pub in_hand : IsInHand v b
   pub shows : IsSame first (view_of v b).state
 
-pub stands_again : {R : Type 0} (out1 out2 : List R → Type 0) (takes_srb : Bool) (stack : ℕ) (first : State) (v1 : DeviceView) (b1 : Books R) (v2 : DeviceView) (b2 : Books R) (rooms : List (DiskRoom R))
-    → IsMidway out1 takes_srb stack NeverSent first [] v1 b1 rooms → WithdrawsAll out1 out2 takes_srb stack v1 b1 v2 b2 → IsOrderly v2 → AreDistinct first → first.next_request ≡ b1.last_request + 1
-    → StandsAgain out2 takes_srb stack first v2 b2 rooms
-stands_again out1 out2 takes_srb stack first v1 b1 v2 b2 rooms m1 w ordered distinct next =
-    let m : IsMidway out2 takes_srb stack NeverSent first [] v2 b2 rooms = w.stays first [] rooms m1 in
+pub stands_again : (first : State) (v1 : DeviceView) (b1 : Books) (v2 : DeviceView) (b2 : Books)
+    → IsMidway NeverSent first [] v1 b1 → WithdrawsAll v1 b1 v2 b2 → IsApart b2 → AreDistinct first → first.next_request ≡ b1.last_request + 1
+    → StandsAgain first v2 b2
+stands_again first v1 b1 v2 b2 m1 w apart distinct next =
+    let m : IsMidway NeverSent first [] v2 b2 = w.stays first [] m1 in
     let rules : Rules = class_rules v2.rules in
     let t : IsTaking rules first [] v2.state (knowns rules b2) = m.taking in
     let next_above : t.j.next_above ≡ b2.last_request + 1 = t.next_above ∙ next ∙ ap (λ n. n + 1) (sym w.same_last) in
     let shown : IsSame (above t.j) (view_of v2 b2).state = subst (λ n. IsSame (above t.j) (shown_state v2.state n (knowns rules b2))) next_above (shown_is rules t.j v2.state (knowns rules b2) t.same t.sound.distinct t.keeps t.knows) in
     let shows : IsSame first (view_of v2 b2).state = IsSame-trans _ _ _ t.run shown in
     record {
-      in_hand = in_hand_again out2 takes_srb stack v2 b2 rooms v2 (record { takes = m.takes; port = m.port; rooms_out = m.rooms_out; kept = m.kept; below = m.below })
+      in_hand = in_hand_again v2 b2 v2 (record { port = m.port; rooms_out = m.rooms_out; kept = m.kept; below = m.below; apart = apart })
           (record { j = t.j; same = t.same; knows = t.knows; next_above = next_above; keeps = t.keeps })
-          t.sound (subst (λ r. AreCounted r v2.state) (sym m.port.below) t.counted) ordered
+          t.sound (subst (λ r. AreCounted r v2.state) (sym m.port.below) t.counted) m.rooms_out.orderly
           (AreDistinct-same (view_of v2 b2).state first (IsSame-sym _ _ shows) distinct) w.none;
       shows = shows;
     }

@@ -1,11 +1,4 @@
-pub mod Joint
-pub mod Kept
-pub mod Shown
-pub mod Blocks
-pub mod Parts
-pub mod Books
-pub mod Turns
-pub mod Driver
 pub mod Opening
-pub mod Midway
-pub mod Order
+pub mod Shown
+pub mod inside
+pub mod PortRules

@@ -1,9 +1,10 @@
 -- What the class driver shows: its own machine, read off what it knows of its requests and off the machine below.
-use Rattle.std.specs.Prelude.{◌≡◌, ℕ, ◌==◌, ◌<◌, Bool, false, List, [], ◌∷◌, map, filter, length, None, if◌then◌else◌}
+use Rattle.std.specs.Prelude.{◌≡◌, ℕ, ◌==◌, ◌<◌, Bool, false, List, [], ◌∷◌, map, filter, None, if◌then◌else◌}
 use Rattle.srb.specs.declared.Kind.TheVariants.{Flush}
 use Rattle.machine.specs.Rules.{Rules}
 use Rattle.machine.specs.State.{OpenRequest, Piece, State}
-use Rattle.class_disk.specs.Joint.{Note, Sent, Kept, Part, Below, Here, Known, Master, Joint, above, below_rules}
+use Rattle.class_disk.specs.inside.Joint.{Note, Sent, Kept, Part, Below, Here, Known, Divided, Joint, above}
+use Rattle.class_disk.specs.PortRules.{below_rules}
 
 -- stands for a packet below that there isn't, and is never shown
 abbrev pub nobody : OpenRequest
@@ -30,8 +31,13 @@ abbrev pub part_of : State → Note → Part
 part_of s (Sent number again) = Below (open_under number s.requests) again (filter (is_owned_by number) s.pieces)
 part_of s (Kept marks busy) = Here marks busy
 
-abbrev pub master_of : State → Known → Master
-master_of s t = record { number = t.number; request = t.request; cancelled = t.cancelled; parts = map (part_of s) t.parts }
+abbrev pub divided_of : State → Known → Divided
+divided_of s t = record {
+  number = t.number;
+  request = t.request;
+  cancelled = t.cancelled;
+  parts = map (part_of s) t.parts;
+}
 
 -- both machines, where the one below is this
 abbrev pub joint_of : State → ℕ → List Known → Joint
@@ -41,7 +47,7 @@ joint_of s next transfers = record {
   next_below = s.next_request;
   next_piece = s.next_piece;
   removing = s.removing;
-  masters = map (master_of s) transfers;
+  divided = map (divided_of s) transfers;
 }
 
 -- the machine of the class driver

@@ -3,7 +3,9 @@ ghost use Rattle.std.specs.Prelude.{◌≡◌, ◌<◌, ◌≤◌, ◌*◌, ◌^
 ghost use Rattle.machine.specs.Rules.{Rules};
 ghost use Rattle.machine.specs.Sending.{fits_ten, read_command, write_command, flush_command};
 ghost use Rattle.device.specs.View.{AsksFor, AsksInLocation, direction as direction_of, transfer_length};
-ghost use Rattle.class_disk.specs.Blocks.{IsCuttable, part_count_of, part_request_of, data_length, FitsBlock, disk_command, IsWholeDisk, port_location, IsOwnPacket};
+ghost use Rattle.class_disk.specs.inside.Blocks.{IsCuttable, part_count_of, part_request_of, data_length};
+ghost use Rattle.class_disk.specs.inside.Blocks.{FitsBlock, disk_command, IsWholeDisk, port_location};
+ghost use Rattle.class_disk.specs.inside.Blocks.{IsOwnPacket};
 
 use crate::Sizes;
 use cdb::Cdb;
@@ -13,7 +15,7 @@ use sector::{Bytes, Extent};
 use split::plan;
 use srb::{CommandBlock, Srb, SrbFlags, SrbFunction};
 
-/// How many parts a request has: a flush has one, of no sector.
+/// Returns how many parts a request has: a flush has one, of no sector.
 pub fn part_count(sizes: &Sizes, request: &Request) -> u64
     requires { IsCuttable sizes.now.max_transfer request.now }
     ensures { result ≡ part_count_of sizes.now.max_transfer request.now }
@@ -24,7 +26,7 @@ pub fn part_count(sizes: &Sizes, request: &Request) -> u64
     }
 }
 
-/// What part k of a request asks the layer below for.
+/// Returns what part k of a request asks the layer below for.
 pub fn part_request(sizes: &Sizes, request: &Request, k: u64) -> Request
     requires cuttable { IsCuttable sizes.now.max_transfer request.now }
     requires part { k < part_count_of sizes.now.max_transfer request.now }
@@ -138,7 +140,8 @@ pub fn srb_for(disk_sectors: u64, request: &Request, data: Bytes, for_label: Byt
     requires volume { request.now.volume ≡ 0 }
     ensures data { result.data ≡ «data» }
     ensures sense { result.sense ≡ None }
-    ensures asks { (rules : Rules) → IsWholeDisk disk_sectors rules → length «data» ≡ transfer_length rules request.now → length for_label ≡ transfer_length rules request.now
+    ensures asks { (rules : Rules) → IsWholeDisk disk_sectors rules → length «data»
+        ≡ transfer_length rules request.now → length for_label ≡ transfer_length rules request.now
         → AsksFor rules request.now result }
 {
     Srb {
@@ -171,12 +174,12 @@ fn location_of(request: &Request) -> StackLocation
     }
 }
 
-/// A packet of the class driver's own for a request, with the port's location alone (WDK: IoMakeAssociatedIrp).
-pub fn packet_for(number: u128, request: &Request, payload: Payload) -> Irp
-    ensures own { IsOwnPacket number request.now payload result }
-    ensures asks { AsksInLocation true request.now result }
+/// A packet of the class driver's own goes down for a request, with the port's location alone, whatever it was before
+/// (WDK: IoReuseIrp, IoGetNextIrpStackLocation).
+pub fn ready_packet(irp: &mut Irp, number: u128, request: &Request, payload: Payload)
+    ensures own { IsOwnPacket number request.now payload irp.new }
+    ensures asks { AsksInLocation true request.now irp.new }
 {
-    let mut irp = Irp::new(number, payload);
+    *irp = Irp::new(number, payload);
     irp.next_location(location_of(request));
-    irp
 }

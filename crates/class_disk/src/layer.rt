@@ -1,28 +1,58 @@
 // The class driver as a layer of the stack.
-ghost use Rattle.std.specs.Prelude.{◌≡◌, ℕ, Bool, false, List};
-ghost use Rattle.class_disk.specs.Books.{books_of};
-ghost use Rattle.class_disk.specs.Driver.{view_of, IsInHand, IsReady};
-ghost use Rattle.class_disk.specs.Order.{any_order_lem};
 
-use crate::Disk;
-use crate::requests::DiskRoom;
-use device::{Device, Request};
-use irp::{Climb, Irp};
+ghost use Rattle.std.specs.Prelude.{◌≡◌, refl, false};
+ghost use Rattle.class_disk.specs.Opening.{TakesParts, IsFreshPort, opening_over};
+
+use crate::requests::Places;
+use crate::table::Table;
+use crate::{Disk, Extension, Sizes};
+use device::{Climb, Device, Request, Room, Shown};
+use irp::Irp;
 use srb::{Completion, DeviceLabel, Entry, Srb};
-use std::alloc::AllocError;
+use std::alloc::{AllocError, Global};
 
 /// Sectors of the longest request.
 const LONGEST: u64 = 65_536;
 
-/// As many packets below at most for one request: its parts, and each that is sent again.
+/// The most packets below for one request: its parts, and each that is sent again.
 const PACKETS: u128 = 1 << 17;
 
-/// Requests that may be submitted in all, at most: packets below then have numbers.
+/// The most requests that may be submitted, so that packets below have numbers.
 const MOST: u128 = 1 << 63;
 
-impl<R: Drop, D: Device<Room = R>> Device for Disk<D, R> {
-    type Room = DiskRoom<R>;
+impl<D: Device> Disk<D> {
+    /// The class driver over a port of which nothing was asked yet.
+    pub fn new(alloc: Global, device: D, sector_size: u32) -> Disk<D>
+        requires takes { TakesParts D.takes_srb D.stack_size }
+        requires fresh { IsFreshPort (D.view device) }
+        requires size { sector_size ≡ (D.view device).rules.sector_size }
+        ensures { result ≡ opening_over (D.view device) }
+    {
+        device.shows_order();
+        let sizes = Sizes {
+            sector_size,
+            max_transfer: device.longest(),
+            disk_sectors: device.sectors(0),
+        };
+        Disk {
+            extension: Extension {
+                alloc,
+                device,
+                table: Table::new(alloc, sizes),
+            },
+        }
+    }
+}
 
+impl<D: Shown> Shown for Disk<D> {
+    ghost view = { λ shown. shown };
+
+    ghost takes_srb = { false };
+
+    ghost stack_size = { 1 };
+}
+
+impl<D: Device> Device for Disk<D> {
     const TAKES_SRB: bool = false;
 
     ghost TAKES_SRB = { false };
@@ -31,119 +61,115 @@ impl<R: Drop, D: Device<Room = R>> Device for Disk<D, R> {
 
     ghost STACK_SIZE = { 1 };
 
-    ghost view = { λ disk. view_of (D.view disk.device) (books_of disk.table) };
-
-    ghost request_of = { λ room. room.request };
-
-    ghost ready = { λ room. IsReady D.request_of D.ready room };
-
-    ghost rooms_out = { λ disk rooms. IsInHand (D.rooms_out disk.device) D.TAKES_SRB D.STACK_SIZE (D.view disk.device) (books_of disk.table) rooms };
+    fn shows_order(&self) {
+        let _extension = &self.extension;
+    }
 
     fn volumes(&self) -> u8 {
+        // The view is known where a field is used.
+        let _extension = &self.extension;
         1
     }
 
     fn sectors(&self, volume: u8) -> u64 {
-        self.device.sectors(volume)
+        self.extension.device.sectors(volume)
     }
 
     fn longest(&self) -> u64 {
+        let _extension = &self.extension;
         LONGEST
     }
 
     fn most(&self) -> u128 {
-        (self.device.most() / PACKETS).min(MOST)
+        (self.extension.device.most() / PACKETS).min(MOST)
     }
 
-    fn reserve(&mut self, request: &Request) -> Result<DiskRoom<R>, AllocError> {
-        let parts = self.reserve_parts(request)?;
-        let Ok(slot) = self.table.add_slot() else {
-            self.free_parts(parts);
-            return Err(AllocError);
-        };
-        Ok(DiskRoom {
+    fn reserve(&mut self, request: &Request) -> Result<Room, AllocError> {
+        let slot = self.extension.table.make_slot()?;
+        let parts = self.extension.reserve_parts(request, slot)?;
+        let places = Places {
             request: *request,
-            slot,
             parts,
-        })
+        };
+        self.extension.table.fill(slot, places);
+        Ok(Room { spot: slot })
     }
 
-    fn submit(&mut self, irp: Irp, room: DiskRoom<R>) -> usize {
-        let DiskRoom {
-            request,
-            slot,
-            parts,
-        } = room;
-        self.table.open(slot, irp, request, parts);
-        self.send_parts(slot);
-        self.settle();
-        slot
+    fn submit(&mut self, irp: Box<Irp>, room: Room) {
+        self.extension.table.open(room.spot, irp);
+        self.extension.send_parts(room.spot);
+        self.extension.settle();
     }
 
-    fn free(&mut self, room: DiskRoom<R>) {
-        let DiskRoom {
-            request: _,
-            slot,
-            parts,
-        } = room;
-        self.free_parts(parts);
-        self.table.remove_slot(slot);
+    fn free(&mut self, room: Room) {
+        let places = self.extension.table.give_up(room.spot);
+        self.extension.free_parts(places.parts);
     }
 
     fn act(&mut self, tag: u8) -> bool {
-        self.device.act(tag)
+        let acted = self.extension.device.act(tag);
+        self.extension.device.shows_order();
+        acted
     }
 
     fn armed(&self, tag: u8) -> Option<(u128, &Srb)> {
-        self.device.armed(tag)
+        self.extension.device.armed(tag)
     }
 
     fn book(&mut self, tag: u8, piece: u128, what: Result<&Entry, Completion>) {
-        self.device.book(tag, piece, what);
+        self.extension.device.book(tag, piece, what);
+        self.extension.device.shows_order();
     }
 
     fn finish(&mut self, tag: u8) -> bool {
-        if !self.device.finish(tag) {
+        if !self.extension.device.finish(tag) {
             return false;
         }
-        self.take_returned();
+        self.extension.device.shows_order();
+        self.extension.take_returned();
         true
     }
 
     fn reset(&mut self) {
-        self.device.reset();
+        self.extension.device.reset();
+        self.extension.device.shows_order();
     }
 
     fn cancel(&mut self, number: u128) {
-        if let Some(slot) = self.table.find(number) {
+        if let Some(slot) = self.extension.table.find(number) {
             self.cancel_at(slot, number);
         }
     }
 
     fn cancel_at(&mut self, spot: usize, number: u128) {
-        if !self.table.cancel(spot, number) {
+        if !self.extension.table.cancel(spot, number) {
             return;
         }
-        self.cancel_parts(spot);
-        self.take_withdrawn();
+        self.extension.cancel_parts(spot);
+        self.extension.take_withdrawn();
     }
 
     fn drain(&mut self) {
-        self.table.removing = true;
-        self.device.drain();
-        self.take_withdrawn();
+        self.extension.table.removing = true;
+        self.extension.device.drain();
+        self.extension.device.shows_order();
+        self.extension.take_withdrawn();
     }
 
-    fn take_done(&mut self) -> Option<(Climb, DiskRoom<R>)> {
-        let (slot, transfer) = self.table.take_ended()?;
-        Some(transfer.complete(&self.table.sizes, slot))
+    fn take_done(&mut self) -> Option<(Climb, Room)> {
+        let (slot, transfer) = self.extension.table.take_ended()?;
+        let (climb, places) = transfer.complete(&self.extension.table.sizes);
+        self.extension.table.leave(slot, places);
+        Some((climb, Room { spot: slot }))
     }
 
     fn take_label(&mut self) -> Option<DeviceLabel> {
-        self.device.take_label()
+        let label = self.extension.device.take_label();
+        self.extension.device.shows_order();
+        label
     }
 
-    ghost any_order = { λ disk some others same out. any_order_lem (D.rooms_out disk.device) (D.any_order disk.device) D.TAKES_SRB D.STACK_SIZE (D.view disk.device) (books_of disk.table) some others same out };
+    ghost srb_is = { refl };
 
-    ghost in_order = { λ disk rooms out. out.orderly };
+    ghost size_is = { refl };
 }

@@ -1,30 +1,28 @@
 //! The class driver of a disk: it cuts long transfers into pieces, each an SRB of its own to the port below.
 //!
-//! Promises to the layer above, by the contract of [`Device`]: one volume, the whole disk; requests of up to 65,536 sectors,
-//! each sent below as parts of at most the longest transfer there, all at once and in rising order. A part that comes back
-//! busy goes to the back of the queue below again, sixteen times a request, unless the request is cancelled or the device
-//! removed. A failure stops no other part. Once all have ended, the packet is completed: with success where all parts
-//! succeeded, else with the status of the lowest one that did not; the bytes of a read are those of its parts in order. No
-//! call but `reserve` takes memory.
+//! Promises to the layer above, by the contract of [`device::Device`]: one volume, the whole disk; requests of up
+//! to 65,536 sectors, each sent below as parts of at most the longest transfer there, all at once and in rising
+//! order. A part that comes back busy goes to the back of the queue below again, sixteen times a request, unless the
+//! request is cancelled or the device removed. A failure stops no other part. Once all have ended, the packet is
+//! completed: with success where all parts succeeded, else with the status of the lowest one that did not; the bytes
+//! of a read are those of its parts in order. No call but `reserve` takes memory: it makes the packets of all parts
+//! too.
 //!
 //! Doesn't promise that a part ever comes back, nor that requests end in the order in which they came.
 #![tactic(auto)]
 
-ghost use Rattle.std.specs.Prelude.{◌≡◌, []};
-ghost use Rattle.class_disk.specs.Driver.{TakesParts};
-ghost use Rattle.class_disk.specs.Opening.{IsFreshPort, opening_over};
-
 mod blocks;
+mod buffers;
 mod layer;
-mod numbers;
 mod parts;
 mod requests;
 mod table;
 mod transfers;
+mod turns;
 
-use device::Device;
-pub use requests::DiskRoom;
+use device::Shown;
 use std::alloc::Global;
+use std::marker::Model;
 use table::Table;
 
 /// What the class driver knows of the disk below.
@@ -38,17 +36,18 @@ pub struct Sizes {
     pub disk_sectors: u64,
 }
 
-/// The class driver over a port, whose rooms are `R`.
-pub struct Disk<D, R: Drop> {
+/// The layer below and the requests (WDK: DeviceExtension), which are in order between two calls of the class driver
+/// and not within one.
+struct Extension<D: Shown> {
     alloc: Global,
     device: D,
-    table: Table<R>,
+    table: Table,
 }
 
-// By hand, so that no crate above proves it again, as it would a derived one.
-impl<D: Drop, R: Drop> Drop for Disk<D, R> {
+// By hand, for the same reason as the drop of `Disk`.
+impl<D: Shown> Drop for Extension<D> {
     fn drop(self) {
-        let Disk {
+        let Extension {
             alloc: _,
             device: _,
             table: _,
@@ -56,25 +55,27 @@ impl<D: Drop, R: Drop> Drop for Disk<D, R> {
     }
 }
 
-impl<R: Drop, D: Device<Room = R>> Disk<D, R> {
-    /// The class driver over a port to which nothing was submitted yet, with sectors of so many bytes. It takes no memory.
-    pub fn new(alloc: Global, device: D, sector_size: u32) -> Disk<D, R>
-        requires device { IsFreshPort (D.rooms_out device) (D.view device) }
-        requires takes { TakesParts D.TAKES_SRB D.STACK_SIZE }
-        requires size { (D.view device).rules.sector_size ≡ sector_size }
-        ensures rooms { ⟦<Disk<D, R> as Device>⟧.rooms_out result [] }
-        ensures opening { ⟦<Disk<D, R> as Device>⟧.view result ≡ opening_over (D.view device) }
-    {
-        let sizes = Sizes {
-            sector_size,
-            max_transfer: device.longest(),
-            disk_sectors: device.sectors(0),
-        };
-        let table = Table::new(alloc, sizes);
-        Disk {
-            alloc,
-            device,
-            table,
-        }
+/// The class driver over a port.
+pub struct Disk<D: Shown> {
+    extension: Extension<D>,
+}
+
+// By hand, so that no crate above proves it again, as it would a derived one.
+impl<D: Shown> Drop for Disk<D> {
+    fn drop(self) {
+        let Disk { extension: _ } = self;
     }
+}
+
+impl<D: Shown> Model for Disk<D> {
+    ghost use Rattle.device.specs.View.{DeviceView};
+    ghost use Rattle.class_disk.specs.inside.Books.{books_of};
+    ghost use Rattle.class_disk.specs.inside.Driver.{IsDriver, view_of};
+
+    ghost Value = { DeviceView };
+
+    ghost view = { λ s. view_of (D.view s.extension.device) (books_of s.extension.table) };
+
+    ghost invariant = { λ s. IsDriver D.takes_srb D.stack_size (D.view s.extension.device)
+        (books_of s.extension.table) };
 }

@@ -1,11 +1,13 @@
 // A part of a request: what becomes an SRB of its own.
-ghost use Rattle.std.specs.Prelude.{◌≡◌, ◌<◌, ◌+◌, ℕ, [], ◌∷◌};
-ghost use Rattle.class_disk.specs.declared.parts.Progress.TheVariants.{Ready, Below as SentBelow, Ended as HasEnded};
+ghost use Rattle.std.specs.Prelude.{◌≡◌, ◌<◌, ◌+◌, Some};
+ghost use Rattle.class_disk.specs.declared.parts.Progress.TheVariants.{Ready, Below as SentBelow};
+ghost use Rattle.class_disk.specs.declared.parts.Progress.TheVariants.{Ended as HasEnded};
+ghost use Rattle.class_disk.specs.declared.parts.Place.{Place};
 ghost use Rattle.device.specs.View.{payload_bytes as bytes_of_payload};
-ghost use Rattle.class_disk.specs.Parts.{status_by, below_by, failure_by, bytes_by, room_by, IsHereBy};
+ghost use Rattle.class_disk.specs.inside.Parts.{status_by, below_by, failure_by, bytes_by, IsHereBy, packet_by};
 
-use device::Request;
-use irp::Payload;
+use device::{Request, Room};
+use irp::{Irp, Payload};
 use ntstatus::NtStatus;
 use sector::Bytes;
 use std::mem;
@@ -23,41 +25,55 @@ pub enum Outcome {
     Withdrawn(NtStatus),
 }
 
-/// What one part needs to be sent: its room below, and the two buffers of its SRB.
+/// A part of a request: the slot of the request, and the place of the part among its parts.
+#[derive(Debug, Clone, Copy, PartialEq, Eq)]
+pub struct PartId {
+    pub slot: usize,
+    pub part: usize,
+}
+
+/// What goes below for a part, and comes back (classpnp: TRANSFER_PACKET): a packet of the class driver's own, which
+/// holds the SRB, and its room there.
 #[derive(Drop)]
-pub struct Place<R: Drop> {
-    pub room: R,
-    /// Of a read as long as its data; of a write empty, with room for them.
+pub struct TransferPacket {
+    pub irp: Box<Irp>,
+    pub room: Room,
+}
+
+/// What one part needs to be sent: its packet, and the two buffers of its SRB.
+#[derive(Drop)]
+pub struct Place {
+    pub packet: TransferPacket,
+    /// For a read as long as its data; for a write empty, with room for them.
     pub data: Vec<u8>,
     pub for_label: Bytes,
 }
 
-/// A part that ended: its room is out below again.
+/// A part that ended, with the packet that came back.
 #[derive(Drop)]
-pub struct Ended<R: Drop> {
-    pub room: R,
-    pub payload: Payload,
+pub struct Ended {
+    pub packet: TransferPacket,
     pub outcome: Outcome,
 }
 
 /// Where a part is.
 #[derive(Drop)]
-pub enum Progress<R: Drop> {
+pub enum Progress {
     /// Not sent yet.
-    Ready(Place<R>),
-    /// In the layer below, in the packet of this number, at the spot that it got there.
+    Ready(Place),
+    /// In the layer below, in the packet of this number, at the spot of its room.
     Below { number: u128, spot: usize },
-    Ended(Ended<R>),
+    Ended(Ended),
 }
 
 /// One part of a request.
 #[derive(Drop)]
-pub struct Part<R: Drop> {
+pub struct Part {
     /// What it asks the layer below for.
     pub request: Request,
-    /// How many of its packets came back busy and were sent again.
+    /// Its packets that came back busy and were sent again.
     pub restarts: u8,
-    pub progress: Progress<R>,
+    pub progress: Progress,
 }
 
 /// The bytes that a packet carries.
@@ -83,7 +99,7 @@ impl Outcome {
     }
 }
 
-impl<R: Drop> Part<R> {
+impl Part {
     /// The number and the spot of the part's packet, where it is below.
     pub fn packet_below(&self) -> Option<(u128, usize)>
         ensures { result ≡ below_by self.now.progress }
@@ -107,54 +123,45 @@ impl<R: Drop> Part<R> {
         }
     }
 
-    /// The room of a part that is not below.
-    pub fn into_room(self) -> R
+    /// The packet of a part that is not below.
+    pub fn into_packet(self) -> TransferPacket
         requires { IsHereBy self.progress }
-        ensures { room_by self.progress ≡ result ∷ [] }
+        ensures { packet_by self.progress ≡ Some result }
     {
         match self.progress {
-            Progress::Ready(place) => place.room,
-            Progress::Ended(ended) => ended.room,
+            Progress::Ready(place) => place.packet,
+            Progress::Ended(ended) => ended.packet,
             Progress::Below { .. } => unreachable!(),
         }
     }
 
     /// The part goes below in a packet of this number, for the first time.
-    pub fn send(&mut self, number: u128) -> Place<R>
-        requires { (place : Place R) × (self.old.progress ≡ Ready place) }
+    pub fn send(&mut self, number: u128) -> Place
+        requires { (place : Place) × (self.old.progress ≡ Ready place) }
         ensures was { self.old.progress ≡ Ready result }
-        ensures after { self.new ≡ record self.old { progress = SentBelow number 0 } }
+        ensures after { self.new ≡ record self.old { progress = SentBelow number result.packet.room.spot } }
     {
         match mem::replace(&mut self.progress, Progress::Below { number, spot: 0 }) {
-            Progress::Ready(place) => place,
+            Progress::Ready(place) => {
+                let spot = place.packet.room.spot;
+                self.progress = Progress::Below { number, spot };
+                place
+            }
             Progress::Below { .. } | Progress::Ended(_) => unreachable!(),
         }
     }
 
-    /// The part goes below again in a packet of this number.
-    pub fn send_again(&mut self, number: u128)
+    /// The part goes below again in a packet of this number, at its spot there.
+    pub fn send_again(&mut self, number: u128, spot: usize)
         requires { self.old.restarts < 255 }
-        ensures { self.new ≡ record self.old { restarts = self.old.restarts + 1; progress = SentBelow number 0 } }
+        ensures { self.new ≡ record self.old { restarts = self.old.restarts + 1; progress = SentBelow number spot } }
     {
         self.restarts += 1;
-        self.progress = Progress::Below { number, spot: 0 };
-    }
-
-    /// The part's packet got this spot.
-    pub fn set_spot(&mut self, spot: usize)
-        ensures { (number own : ℕ) → self.old.progress ≡ SentBelow number own → self.new ≡ record self.old { progress = SentBelow number spot } }
-    {
-        match &mut self.progress {
-            Progress::Below {
-                number: _,
-                spot: own,
-            } => *own = spot,
-            Progress::Ready(_) | Progress::Ended(_) => {}
-        }
+        self.progress = Progress::Below { number, spot };
     }
 
     /// The part has ended.
-    pub fn end(&mut self, ended: Ended<R>)
+    pub fn end(&mut self, ended: Ended)
         ensures { self.new ≡ record self.old { progress = HasEnded ended } }
     {
         self.progress = Progress::Ended(ended);
@@ -165,7 +172,7 @@ impl<R: Drop> Part<R> {
         ensures { result.now ≡ bytes_by self.now.progress }
     {
         match &self.progress {
-            Progress::Ended(ended) => payload_bytes(&ended.payload),
+            Progress::Ended(ended) => payload_bytes(&ended.packet.irp.payload),
             Progress::Ready(_) | Progress::Below { .. } => &[],
         }
     }

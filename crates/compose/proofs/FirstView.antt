@@ -1,5 +1,5 @@
 -- What a stack shows before its first event: the opening of each layer over the one below.
-use Rattle.std.proofs.Common.{◌≡◌, ◌<◌, ◌≤◌, ℕ, List, [], Ok, refl, sym, ◌∙◌, ap, subst, map, length, arith}
+use Rattle.std.proofs.Common.{◌≡◌, ◌≤◌, ℕ, List, refl, sym, ◌∙◌, ap, subst, map, length, arith}
 use Rattle.sector.specs.declared.Extent.{Extent}
 use Rattle.adapter.specs.View.{AdapterView, IsInOrder}
 use Rattle.machine.specs.Map.{IsMap}
@@ -7,22 +7,38 @@ use Rattle.sector.specs.Extents.{sectors_in}
 use Rattle.machine.specs.State.{opening}
 use Rattle.device.specs.View.{DeviceView}
 use Rattle.port.specs.Opening.{opening_view as port_opening}
-use Rattle.class_disk.specs.Opening.{opening_over as disk_opening}
-use Rattle.hold_filter.specs.Opening.{opening_over as filter_opening}
+use Rattle.class_disk.specs.Opening.{opening_over as disk_opening, IsFreshPort}
+use Rattle.hold_filter.specs.Opening.{opening_over as filter_opening, IsFreshBelow}
 use Rattle.partition.specs.Opening.{opening_view as partitions_opening, IsFreshDisk}
 use Rattle.probe.specs.declared.Probed.{Probed}
 use Rattle.probe.specs.Exchange.{IsSameDisk}
 use Rattle.probe.specs.Probing.{IsProbed, IsReadBy, asked_by_probe}
 use Rattle.io_manager.specs.declared.Limits.{Limits}
 use Rattle.io_manager.specs.Shown.{ManagerView}
-use Rattle.io_manager.specs.Sound.{AreFirsts}
-use Rattle.io_manager.specs.Opening.{IsUnasked, AreFor, IsFirstView as IsFirstManager}
+use Rattle.io_manager.specs.Opening.{AreFirsts, IsUnasked, AreFor, IsFirstView as IsFirstManager}
 use Rattle.compose.specs.declared.Settings.{Settings}
-use Rattle.compose.specs.Opening.{AreInRange, IsFirstView, first_rules}
+use Rattle.compose.specs.Opening.{AreInRange, IsFirstView}
 
 -- the partitions over the filter, the class driver and the port of an adapter
 abbrev pub layers_over : ℕ → List Extent → AdapterView → DeviceView
 layers_over window table v = partitions_opening table (filter_opening window (disk_opening (port_opening v)))
+
+-- a port of which nothing was asked, and the class driver over it
+pub port_fresh : (v : AdapterView) (p : DeviceView) → p ≡ port_opening v → IsInOrder v → IsFreshPort p
+port_fresh v p port order =
+    let some : 1 ≤ v.max_transfer = order.max_transfer.0 in
+    subst IsFreshPort (sym port) (record {
+      port = record { below = refl; one_disk = refl; no_window = refl; uncounted = refl; some_transfer = omega arith };
+      state = refl;
+      packets = refl;
+      rooms = refl;
+      submitted = refl;
+    })
+
+pub disk_fresh : (v : AdapterView) (p d : DeviceView) → p ≡ port_opening v → d ≡ disk_opening p → IsFreshBelow d
+disk_fresh v p d port class =
+    subst IsFreshBelow (sym (class ∙ ap disk_opening port))
+    (record { rooms = λ spot. refl; no_window = refl; state = refl; packets = refl; submitted = refl })
 
 module _ (disk v : AdapterView) (settings : Settings) (in_range : AreInRange settings) (probed : Probed) (are : IsProbed disk probed) (same : IsSameDisk (asked_by_probe disk) disk v) where
   is_map : IsMap (length v.sectors) probed.partitions.items
@@ -34,7 +50,7 @@ module _ (disk v : AdapterView) (settings : Settings) (in_range : AreInRange set
     filter_is = filter ∙ ap (λ (b : DeviceView). filter_opening settings.window b) (class ∙ ap disk_opening port)
 
     pub fresh_partitions : IsFreshDisk probed.partitions.items f
-    fresh_partitions = subst (IsFreshDisk probed.partitions.items) (sym filter_is) (record { whole = refl; partitions = is_map; state = refl; packets = refl })
+    fresh_partitions = subst (IsFreshDisk probed.partitions.items) (sym filter_is) (record { whole = refl; partitions = is_map; state = refl; packets = refl; rooms = refl })
 
     module _ (t : DeviceView) (partitions : t ≡ partitions_opening probed.partitions.items f) where
       layers_are : t ≡ layers_over settings.window probed.partitions.items v
@@ -45,6 +61,7 @@ module _ (disk v : AdapterView) (settings : Settings) (in_range : AreInRange set
         is_map = is_map;
         state = refl;
         no_packets = refl;
+        vacant = λ spot. refl;
         none_submitted = refl;
         many = omega arith;
         no_labels = same.idle.no_labels;

@@ -1,12 +1,12 @@
 -- What suits the SRB of an armed piece may be booked: its piece was started in the trace, and so isn't piece 0.
-use Rattle.std.proofs.Common.{◌≡◌, ◌≢◌, ◌≤◌, ◌<◌, inl, inr, ℕ, zero, suc, ◌+◌, Bool, true, false, List, [], ◌∷◌, length, Option, None, Some, Result, IsFalse, refl, sym, ap, subst, ◌∙◌, arith}
-use Rattle.std.specs.Prelude.{All, Contains}
+use Rattle.std.proofs.Common.{◌≡◌, ◌≤◌, inl, inr, ℕ, zero, suc, Bool, true, false, List, [], ◌∷◌, length, Option, None, Some, IsFalse, sym, subst, arith}
+use Rattle.std.specs.Prelude.{Contains}
 use Rattle.std.proofs.lemmas.List.Elements.{All-head}
 use Rattle.std.proofs.lemmas.List.Sorted.{All-permutation}
 use Rattle.ntstatus.specs.declared.NtStatus.{NtStatus}
 use Rattle.srb.specs.declared.DeviceLabel.{DeviceLabel}
 use Rattle.srb.specs.declared.DeviceLabel.TheVariants.{Start, Act, Fault, Return}
-use Rattle.adapter.specs.View.{AdapterView, ReservesMore, MovesOn, MovesByAll, NotesReset}
+use Rattle.adapter.specs.View.{AdapterView, ReservesMore, MovesOn, MovesByAll}
 use Rattle.adapter.specs.Booking.{Suits}
 use Rattle.machine.specs.declared.ClientRequest.{ClientRequest}
 use Rattle.machine.specs.declared.Label.{Label}

@@ -17,7 +17,7 @@ use Rattle.machine.specs.State.{State, Piece}
 use Rattle.machine.specs.Numbers.{AreDistinct}
 use Rattle.machine_laws.specs.Reached.{IsReached}
 use Rattle.machine.proofs.Numbers.{AreDistinct-Run, AreDistinct-opening}
-use Rattle.machine_laws.specs.Booked.{IsOfAct, AreOfActs}
+use Rattle.machine_laws.specs.Booked.{AreOfActs}
 use Rattle.device.specs.View.{IsRead, OnTag, piece_on_tag, use_on_tag}
 use Rattle.device.specs.Served.{IsFreshOn}
 use Rattle.io_manager.specs.declared.Reply.{Reply}
@@ -27,7 +27,7 @@ use Rattle.io_manager.specs.Right.{Told, BooksPiece, IsRightBy, FitsTogether, Ac
 use Rattle.compose.specs.declared.Event.{Event}
 use Rattle.compose.specs.declared.Event.TheVariants.{Open, Close, Read as ReadEvent, Write as WriteEvent, Flush as FlushEvent, CancelIoEx, Mark, QueryRemove, CancelRemove, Remove, SurpriseRemove, Act as ActEvent, Finish, Reset}
 use Rattle.compose.specs.Right.{IsRight}
-use Rattle.compose.specs.Journaled.{IsStarted, IsNoAct, IsJournaled, IsOfPiece, with_entry, StepsKeepEntries, BookedActsAddEntries, IdleActsKeepEntries, StepsStayApart}
+use Rattle.compose.specs.Journaled.{IsStarted, IsNoAct, IsJournaled, StepsKeepEntries, BookedActsAddEntries, IdleActsKeepEntries, StepsStayApart}
 use Rattle.compose.proofs.Journaled.{acts_longer, acts_joined}
 use Rattle.compose.proofs.JournaledStep.{there_mapped, mapped_there, ActsAsBooked, FaultsAsBooked, booked_step, failed_step, tagged_step}
 use Rattle.compose.proofs.JournaledArmed.{with_apart}

@@ -1,15 +1,14 @@
 -- No step but that of an entry has an act.
-use Rattle.std.proofs.Common.{◌≡◌, inl, inr, ℕ, Bool, true, false, List, [], ◌∷◌, ◌++◌, map, Option, None, Some, refl, sym, ap, subst, ◌∙◌, if◌then◌else◌}
+use Rattle.std.proofs.Common.{◌≡◌, inl, inr, ℕ, Bool, true, false, List, [], ◌∷◌, ◌++◌, map, Option, None, Some, refl, sym, ap, subst, if◌then◌else◌}
 use Rattle.std.specs.Prelude.{All}
 use Rattle.std.proofs.lemmas.List.{append-nil}
 use Rattle.std.proofs.lemmas.List.Elements.{All-head, All-tail}
 use Rattle.srb.specs.declared.Entry.{Entry}
-use Rattle.srb.specs.declared.Kind.TheVariants.{Read, Write, Flush}
 use Rattle.srb.specs.declared.DeviceLabel.{DeviceLabel}
 use Rattle.srb.specs.declared.DeviceLabel.TheVariants.{Start, Act, Fault, Return}
 use Rattle.machine.specs.declared.ClientRequest.{ClientRequest}
 use Rattle.machine.specs.declared.Label.{Label}
-use Rattle.machine.specs.declared.Label.TheVariants.{Call, Device, Answer as AnswerLabel, Cancel, Pause, Resume, Remove as RemoveLabel, Surprise, Removed as RemovedLabel}
+use Rattle.machine.specs.declared.Label.TheVariants.{Call, Cancel, Pause, Resume, Remove as RemoveLabel, Surprise}
 use Rattle.machine.specs.State.{Piece}
 use Rattle.machine.specs.Sending.{IsStart}
 use Rattle.machine.specs.Step.{as_label}
@@ -26,8 +25,7 @@ use Rattle.io_manager.specs.declared.Refusal.TheVariants.{InvalidHandle, Invalid
 use Rattle.io_manager.specs.declared.Reply.{Reply}
 use Rattle.io_manager.specs.declared.Reply.TheVariants.{Handle as HandleReply, Ok as OkReply, Request as Requested, Answered, Refused, Ignored}
 use Rattle.io_manager.specs.Shown.{ManagerView}
-use Rattle.io_manager.specs.Calls.{call_on}
-use Rattle.io_manager.specs.Right.{Told, labels_of, end_labels, as_answer, as_cancel, tells_nothing, pnp_state, IsRightBy, TransferReplies, CallReplies, OpenReplies, CloseReplies, CancelReplies, MarkReplies, PnpReplies, IsRecalled, RecallReplies, FinishReplies, TellsReset, CancelsAllOf, CancelsOne, CancelsTarget, IsAnsweredAtOnce, IsTurnedAway}
+use Rattle.io_manager.specs.Right.{Told, labels_of, end_labels, as_answer, as_cancel, tells_nothing, pnp_state, IsRightBy, TransferReplies, OpenReplies, CloseReplies, CancelReplies, MarkReplies, PnpReplies, IsRecalled, RecallReplies, FinishReplies, CancelsAllOf, CancelsOne, CancelsTarget, IsTurnedAway}
 use Rattle.compose.specs.declared.Event.{Event}
 use Rattle.compose.specs.declared.Event.TheVariants.{Open, Close, Read as ReadEvent, Write as WriteEvent, Flush as FlushEvent, CancelIoEx, Mark, QueryRemove, CancelRemove, Remove, SurpriseRemove, Act as ActEvent, Finish, Reset}
 use Rattle.compose.specs.Journaled.{IsNoAct}

@@ -1,10 +1,10 @@
 -- An entry that is booked is that of the next step of its tag, and every step keeps the starts of what is out in the trace.
-use Rattle.std.proofs.Common.{◌≡◌, ◌≢◌, ◌<◌, inl, inr, ℕ, zero, suc, ◌+◌, ◌==◌, Bool, true, false, IsTrue, IsFalse, List, [], ◌∷◌, ◌++◌, length, map, get_or, Ok, Err, Result, IsPermutation, refl, sym, ap, subst, ◌∙◌, arith, length-append, if◌then◌else◌}
+use Rattle.std.proofs.Common.{◌≡◌, ◌≢◌, ℕ, zero, suc, ◌+◌, Bool, true, false, IsTrue, IsFalse, List, [], ◌∷◌, ◌++◌, map, Ok, Err, Result, IsPermutation, refl, sym, ap, subst, ◌∙◌, arith, length-append, if◌then◌else◌}
 use Rattle.std.specs.Prelude.{All, Contains, eqb}
 use Rattle.std.specs.List.{IsDistinct}
 use Rattle.std.proofs.lemmas.Bool.Decides.{Decides-eqb}
 use Rattle.std.proofs.lemmas.List.{get_or_append_left}
-use Rattle.std.proofs.lemmas.List.Elements.{All-nil, All-cons, All-weaker, All-contains_itself, All-tail}
+use Rattle.std.proofs.lemmas.List.Elements.{All-weaker, All-contains_itself}
 use Rattle.std.proofs.lemmas.List.Sorted.{IsPermutation-sym, IsPermutation-map, Contains-permutation}
 use Rattle.std.proofs.lemmas.Map.Keys.{IsDistinct-IsPermutation}
 use Rattle.srb.specs.declared.Entry.{Entry}
@@ -12,14 +12,13 @@ use Rattle.srb.specs.declared.Completion.{Completion}
 use Rattle.srb.specs.declared.DeviceLabel.{DeviceLabel}
 use Rattle.srb.specs.declared.DeviceLabel.TheVariants.{Start, Act, Fault, Return}
 use Rattle.srb.specs.Fate.{Fresh}
-use Rattle.adapter.specs.View.{TagInUse, AdapterView, IsInOrder, IsOn, ActsOn, MovesByAll}
-use Rattle.adapter.specs.Calls.{IsBooked}
+use Rattle.adapter.specs.View.{TagInUse, AdapterView, IsInOrder, IsOn, MovesByAll}
 use Rattle.adapter.specs.Booking.{Books, IsBookable, with_booked, booked_on, with_booking}
 use Rattle.adapter.proofs.Booked.{on_tag_once, is_there}
 use Rattle.adapter.proofs.BookedActs.{booked_is}
 use Rattle.adapter.proofs.Tagged.{AllTagged, StartsSo, all_moved_so, reset_so}
 use Rattle.machine.specs.declared.Label.{Label}
-use Rattle.machine.specs.declared.Label.TheVariants.{Call, Device, Answer as AnswerLabel, Cancel, Pause, Resume, Remove, Surprise, Removed}
+use Rattle.machine.specs.declared.Label.TheVariants.{Device}
 use Rattle.machine.specs.State.{Piece, State}
 use Rattle.machine.specs.Numbers.{AreDistinct, piece_number}
 use Rattle.machine.specs.Step.{as_label}
@@ -30,7 +29,7 @@ use Rattle.device.specs.Served.{IsFreshOn, IsAct, IsActOrFault}
 use Rattle.io_manager.specs.declared.Reply.{Reply}
 use Rattle.io_manager.specs.declared.Reply.TheVariants.{Handle as HandleReply, Ok as OkReply, Request as Requested, Answered, Refused, Ignored}
 use Rattle.io_manager.specs.Shown.{ManagerView}
-use Rattle.io_manager.specs.Right.{Told, labels_of, end_labels, as_answer, BooksPiece, ActReplies, TellsAct, SameHandles, IsRightBy, AdapterMoves, MovesWith, FitsTogether, IsRight as IsRightCall}
+use Rattle.io_manager.specs.Right.{Told, labels_of, end_labels, as_answer, BooksPiece, ActReplies, IsRightBy, MovesWith}
 use Rattle.compose.specs.declared.Event.TheVariants.{Act as ActEvent}
 use Rattle.compose.specs.Right.{IsRight}
 use Rattle.compose.specs.Journaled.{IsStarted}

@@ -1,5 +1,5 @@
 -- A step opens a request just where that was told before it.
-use Rattle.std.proofs.Common.{◌≡◌, inl, inr, ℕ, Bool, false, List, [], ◌∷◌, ◌++◌, Some, None, refl, sym, ◌∙◌, subst, map}
+use Rattle.std.proofs.Common.{◌≡◌, inl, inr, ℕ, false, List, [], ◌∷◌, ◌++◌, refl, sym, subst, map}
 use Rattle.std.specs.Prelude.{Contains, MatchOption}
 use Rattle.std.proofs.lemmas.List.Elements.{Contains-append_left, Contains-push}
 use Rattle.machine.specs.declared.ClientRequest.{ClientRequest}
@@ -15,7 +15,6 @@ use Rattle.io_manager.specs.declared.Reply.TheVariants.{Handle as HandleReply, O
 use Rattle.io_manager.specs.Shown.{ManagerView}
 use Rattle.io_manager.specs.Calls.{call_on, would_open}
 use Rattle.io_manager.specs.Right.{Told, as_answer, end_labels, labels_of, TransferReplies, OpenReplies, CloseReplies, CancelReplies, MarkReplies, QueryReplies, RecallReplies, RemoveReplies, SurpriseReplies, ActReplies, FinishReplies}
-use Rattle.compose.specs.declared.Event.{Event}
 use Rattle.compose.specs.declared.Event.TheVariants.{Open, Close, Read as ReadEvent, Write as WriteEvent, Flush as FlushEvent, CancelIoEx, Mark, QueryRemove, CancelRemove, Remove as RemoveEvent, SurpriseRemove, Act, Finish, Reset}
 use Rattle.compose.specs.StepLaws.{OpensNone, OpensOrLacksMemory, StepsOpenAsTold}
 

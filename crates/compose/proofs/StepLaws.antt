@@ -1,5 +1,5 @@
 -- What every right step has: at most one call, want of memory in its place, and its answers.
-use Rattle.std.proofs.Common.{◌≡◌, ◌⊎◌, inl, inr, ℕ, zero, suc, Bool, true, false, List, [], ◌∷◌, ◌++◌, Option, Some, None, refl, sym, ap, subst, arith, map}
+use Rattle.std.proofs.Common.{◌≡◌, ◌⊎◌, inl, inr, ℕ, zero, suc, Bool, true, false, List, [], ◌∷◌, ◌++◌, Option, Some, None, sym, ap, subst, arith, map}
 use Rattle.std.specs.Prelude.{All, Contains, IsPermutation, if◌then◌else◌}
 use Rattle.std.proofs.lemmas.List.Elements.{All-nil, All-cons, All-append, All-map, All-head, All-tail, All-contains, Contains-append_left, Contains-append_cases}
 use Rattle.std.proofs.lemmas.List.Sorted.{IsPermutation-sym, Contains-permutation}
@@ -24,7 +24,7 @@ use Rattle.io_manager.specs.declared.Reply.{Reply}
 use Rattle.io_manager.specs.declared.Reply.TheVariants.{Handle as HandleReply, Ok as OkReply, Request as Requested, Answered, Refused, Ignored}
 use Rattle.io_manager.specs.Shown.{ManagerView}
 use Rattle.io_manager.specs.Calls.{call_on}
-use Rattle.io_manager.specs.Right.{Told, as_answer, as_cancel, end_labels, labels_of, tells_nothing, IsRight as IsRightCall, IsRightBy, RefusesAlone, CallReplies, OpenReplies, CloseReplies, CancelReplies, CancelsAllOf, CancelsOne, MarkReplies, PnpReplies, RecallReplies, IsRecalled, ActReplies, FinishReplies, pnp_state, TransferReplies}
+use Rattle.io_manager.specs.Right.{Told, as_answer, as_cancel, end_labels, labels_of, RefusesAlone, OpenReplies, CloseReplies, CancelReplies, CancelsOne, MarkReplies, PnpReplies, RecallReplies, IsRecalled, ActReplies, FinishReplies, pnp_state, TransferReplies}
 use Rattle.compose.specs.declared.Event.{Event}
 use Rattle.compose.specs.declared.Event.TheVariants.{Open, Close, Read as ReadEvent, Write as WriteEvent, Flush as FlushEvent, CancelIoEx, Mark, QueryRemove, CancelRemove, Remove as RemoveEvent, SurpriseRemove, Act, Finish, Reset}
 use Rattle.compose.specs.Right.{IsRight}

@@ -17,7 +17,8 @@ use Rattle.io_manager.specs.declared.Reply.{Reply}
 use Rattle.io_manager.specs.Shown.{ManagerView}
 use Rattle.io_manager.specs.Right.{BooksPiece, FitsTogether}
 use Rattle.compose.specs.declared.Event.{Event}
-use Rattle.compose.specs.declared.Event.TheVariants.{Open, Close, Read, Write, Flush, CancelIoEx, Mark, QueryRemove, CancelRemove, Remove, SurpriseRemove, Act, Finish, Reset}
+use Rattle.compose.specs.declared.Event.TheVariants.{Open, Close, Read, Write, Flush, CancelIoEx, Mark, QueryRemove}
+use Rattle.compose.specs.declared.Event.TheVariants.{CancelRemove, Remove, SurpriseRemove, Act, Finish, Reset}
 use Rattle.compose.specs.Right.{IsRight}
 
 -- the start of the piece stands in the trace
@@ -35,9 +36,11 @@ pub record IsJournaled (trace : List Label) (entries : List Entry) (view : Manag
 
 -- where the sectors stand elsewhere, what suits the SRB of a piece that may act may be booked
 abbrev pub ArmedMayBeBooked : Type 0
-ArmedMayBeBooked = (arrays : List (List (List ℕ))) (trace : List Label) (entries : List Entry) (view : ManagerView) (tag piece : ℕ) (srb : Srb) (what : Result Entry Completion)
+ArmedMayBeBooked = (arrays : List (List (List ℕ))) (trace : List Label) (entries : List Entry) (view : ManagerView)
+    (tag piece : ℕ) (srb : Srb) (what : Result Entry Completion)
     → Run view.rules (opening arrays) trace view.state → IsJournaled trace entries view
-    → IsFalse view.adapter.faithful → IsArmed view.adapter tag piece srb → Suits view.adapter.sector_size (length view.adapter.sectors) srb what
+    → IsFalse view.adapter.faithful → IsArmed view.adapter tag piece srb
+    → Suits view.adapter.sector_size (length view.adapter.sectors) srb what
     → IsBookable view.adapter tag piece what
 
 -- EACH RIGHT STEP KEEPS IT
@@ -61,12 +64,15 @@ IsNoAct Reset = Unit {0}
 
 -- it adds no entry
 abbrev pub StepsKeepEntries : Type 0
-StepsKeepEntries = (trace : List Label) (entries : List Entry) (old : ManagerView) (event : Event) (reply : Reply) (new : ManagerView)
-    → IsNoAct event → IsRight old event reply new → IsJournaled trace entries old → IsJournaled (trace ++ new.labels) entries new
+StepsKeepEntries = (trace : List Label) (entries : List Entry) (old : ManagerView) (event : Event) (reply : Reply)
+    (new : ManagerView)
+    → IsNoAct event → IsRight old event reply new → IsJournaled trace entries old
+    → IsJournaled (trace ++ new.labels) entries new
 
 -- nor does an act where nothing can act
 abbrev pub IdleActsKeepEntries : Type 0
-IdleActsKeepEntries = (trace : List Label) (entries : List Entry) (old : ManagerView) (tag : ℕ) (reply : Reply) (new : ManagerView)
+IdleActsKeepEntries = (trace : List Label) (entries : List Entry) (old : ManagerView) (tag : ℕ) (reply : Reply)
+    (new : ManagerView)
     → FitsTogether old → HasNoneFresh old.adapter tag → IsRight old (Act tag) reply new
     → IsJournaled trace entries old → IsJournaled (trace ++ new.labels) entries new
 
@@ -82,9 +88,11 @@ with_entry entries (Err completion) = entries
 
 -- the act of what was booked adds its entry, or none where a failure was booked
 abbrev pub BookedActsAddEntries : Type 0
-BookedActsAddEntries = (trace : List Label) (entries : List Entry) (old booked new : ManagerView) (tag piece : ℕ) (what : Result Entry Completion) (reply : Reply)
+BookedActsAddEntries = (trace : List Label) (entries : List Entry) (old booked new : ManagerView) (tag piece : ℕ)
+    (what : Result Entry Completion) (reply : Reply)
     → IsBookable old.adapter tag piece what → IsOfPiece tag piece what → BooksPiece old tag piece what booked
-    → IsInOrder booked.adapter → FitsTogether booked → IsReached booked.rules booked.state → IsRight booked (Act tag) reply new
+    → IsInOrder booked.adapter → FitsTogether booked → IsReached booked.rules booked.state
+    → IsRight booked (Act tag) reply new
     → IsJournaled trace entries old → IsJournaled (trace ++ new.labels) (with_entry entries what) new
 
 -- and the sectors stand elsewhere for good

@@ -8,19 +8,21 @@ use Rattle.machine.specs.State.{opening}
 use Rattle.probe.specs.Exchange.{IsSameDisk}
 use Rattle.probe.specs.Probing.{told_partitions, asked_by_probe, IsReadBy, HasPartitions, FailsOne, LacksMemory}
 use Rattle.probe.specs.declared.ProbeFault.{ProbeFault}
-use Rattle.probe.specs.declared.ProbeFault.TheVariants.{Device as DeviceProbed, Mbr as TableProbed, NoMemory as ProbedNoMemory}
+use Rattle.probe.specs.declared.ProbeFault.TheVariants.{Device as DeviceProbed, Mbr as TableProbed}
+use Rattle.probe.specs.declared.ProbeFault.TheVariants.{NoMemory as ProbedNoMemory}
 use Rattle.io_manager.specs.Shown.{ManagerView}
 use Rattle.compose.specs.declared.Settings.{Settings}
 use Rattle.compose.specs.declared.StartFault.{StartFault}
-use Rattle.compose.specs.declared.StartFault.TheVariants.{NoMemory, Device as DeviceFault, Mbr as TableFault, Settings as SettingsFault}
+use Rattle.compose.specs.declared.StartFault.TheVariants.{NoMemory, Device as DeviceFault, Mbr as TableFault}
+use Rattle.compose.specs.declared.StartFault.TheVariants.{Settings as SettingsFault}
 
 -- settings that a stack can be started with
 pub record AreInRange (settings : Settings) : Type 0 where
   pub window : (1 ≤ settings.window) × (settings.window ≤ 64)
   pub open_requests : (1 ≤ settings.open_requests) × (settings.open_requests ≤ 64)
 
--- the rules of a stack over this disk: requests of up to 65,536 sectors, in pieces as long as a transfer; the seventeenth busy
--- return ends a request
+-- the rules of a stack over this disk: requests of up to 65,536 sectors, in pieces as long as a transfer; the
+-- seventeenth busy return ends a request
 abbrev pub first_rules : AdapterView → Settings → List Extent → Rules
 first_rules disk settings partitions = record {
   sector_size = disk.sector_size;
@@ -33,6 +35,7 @@ first_rules disk settings partitions = record {
   window = Some settings.window;
   one_piece = false;
   busy_limit = 17;
+  any_cut = false;
   faithful = disk.faithful;
 }
 
@@ -57,7 +60,8 @@ start_fault_of (DeviceProbed status) = DeviceFault status
 start_fault_of (TableProbed fault) = TableFault fault
 start_fault_of ProbedNoMemory = NoMemory
 
--- why a disk could not be read: memory was refused in the probe or after it, a command failed, or all were good and the table is wrong
+-- why a disk could not be read: memory was refused in the probe or after it, a command failed, or all were good and the
+-- table is wrong
 abbrev pub IsDiskFault : AdapterView → StartFault → AdapterView → Type 0
 IsDiskFault disk NoMemory after = LacksMemory disk after ⊎ IsReadBy disk after
 IsDiskFault disk (DeviceFault status) after = FailsOne disk status after

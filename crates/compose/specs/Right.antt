@@ -6,17 +6,24 @@ use Rattle.io_manager.specs.declared.Reply.{Reply}
 use Rattle.io_manager.specs.declared.Reply.TheVariants.{Ok as OkReply}
 use Rattle.io_manager.specs.Shown.{ManagerView}
 use Rattle.io_manager.specs.Calls.{call_on, would_open}
-use Rattle.io_manager.specs.Right.{IsRight as IsRightCall, IsRightReset, OpenReplies, CloseReplies, CallReplies, CancelReplies, MarkReplies, QueryReplies, RecallReplies, RemoveReplies, SurpriseReplies, ActReplies, FinishReplies}
+use Rattle.io_manager.specs.Right.{IsRight as IsRightCall, IsRightReset, OpenReplies, CloseReplies, CallReplies}
+use Rattle.io_manager.specs.Right.{CancelReplies, MarkReplies, QueryReplies, RecallReplies, RemoveReplies}
+use Rattle.io_manager.specs.Right.{SurpriseReplies, ActReplies, FinishReplies}
 use Rattle.compose.specs.declared.Event.{Event}
-use Rattle.compose.specs.declared.Event.TheVariants.{Open, Close, Read as ReadEvent, Write as WriteEvent, Flush as FlushEvent, CancelIoEx, Mark, QueryRemove, CancelRemove, Remove, SurpriseRemove, Act, Finish, Reset}
+use Rattle.compose.specs.declared.Event.TheVariants.{Open, Close, Read as ReadEvent, Write as WriteEvent}
+use Rattle.compose.specs.declared.Event.TheVariants.{Flush as FlushEvent, CancelIoEx, Mark, QueryRemove}
+use Rattle.compose.specs.declared.Event.TheVariants.{CancelRemove, Remove, SurpriseRemove, Act, Finish, Reset}
 
 -- a right call of the event's row; a reset is answered OK
 abbrev pub IsRight : ManagerView → Event → Reply → ManagerView → Type 0
 IsRight old (Open partition) reply new = IsRightCall (OpenReplies old partition reply new) old new
 IsRight old (Close handle) reply new = IsRightCall (CloseReplies old handle reply new) old new
-IsRight old (ReadEvent handle offset buffer) reply new = IsRightCall (CallReplies old handle (call_on old handle Read offset buffer false) buffer reply new) old new
-IsRight old (WriteEvent handle offset bytes through) reply new = IsRightCall (CallReplies old handle (call_on old handle Write offset bytes through) bytes reply new) old new
-IsRight old (FlushEvent handle) reply new = IsRightCall (CallReplies old handle (call_on old handle Flush 0 [] false) [] reply new) old new
+IsRight old (ReadEvent handle offset buffer) reply new = IsRightCall
+    (CallReplies old handle (call_on old handle Read offset buffer false) buffer reply new) old new
+IsRight old (WriteEvent handle offset bytes through) reply new = IsRightCall
+    (CallReplies old handle (call_on old handle Write offset bytes through) bytes reply new) old new
+IsRight old (FlushEvent handle) reply new = IsRightCall
+    (CallReplies old handle (call_on old handle Flush 0 [] false) [] reply new) old new
 IsRight old (CancelIoEx handle target) reply new = IsRightCall (CancelReplies old handle target reply new) old new
 IsRight old (Mark number) reply new = IsRightCall (MarkReplies old number reply new) old new
 IsRight old QueryRemove reply new = IsRightCall (QueryReplies old reply new) old new

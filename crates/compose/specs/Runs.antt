@@ -1,5 +1,5 @@
 -- Events carried out one after another, and what is promised of the labels that they show.
-use Rattle.std.specs.Prelude.{◌≡◌, ◌<◌, ◌≤◌, ◌⊎◌, ℕ, List, [], ◌∷◌, ◌++◌, None, All, length, take, IsTrue}
+use Rattle.std.specs.Prelude.{◌≡◌, ◌<◌, ◌⊎◌, ℕ, List, [], ◌∷◌, ◌++◌, None, All, length, take, IsTrue}
 use Rattle.std.specs.List.{concat}
 use Rattle.ntstatus.specs.declared.NtStatus.{NtStatus}
 use Rattle.ntstatus.specs.declared.NtStatus.TheVariants.{Success}
@@ -45,13 +45,15 @@ pub record Carries (old : ManagerView) (event : Event) (shown : Shown) (new : Ma
 -- these events in order, each with what it showed
 abbrev pub CarriesAll : ManagerView → List Event → List Shown → ManagerView → Type 0
 CarriesAll old [] [] new = new ≡ old
-CarriesAll old (event ∷ events) (shown ∷ more) new = (mid : ManagerView) × Carries old event shown mid × CarriesAll mid events more new
+CarriesAll old (event ∷ events) (shown ∷ more) new = (mid : ManagerView) × Carries old event shown mid
+    × CarriesAll mid events more new
 CarriesAll old [] (shown ∷ more) new = ⊥
 CarriesAll old (event ∷ events) [] new = ⊥
 
--- the first of these events were carried out, and no more
-pub record StopsAfter (old : ManagerView) (events : List Event) (stopped : RunStopped) (new : ManagerView) : Type 0 where
-  pub within : stopped.done ≤ length events
+-- the first of these events were carried out, and no more; one at least was not
+pub record StopsAfter (old : ManagerView) (events : List Event) (stopped : RunStopped)
+    (new : ManagerView) : Type 0 where
+  pub within : stopped.done < length events
   pub carries : CarriesAll old (take stopped.done events) stopped.shown.items new
 
 -- all labels in order
@@ -62,7 +64,8 @@ labels_shown (shown ∷ more) = shown.labels.items ++ labels_shown more
 -- THE LAWS OF A RUN'S LABELS
 
 -- a request that a run calls and answers: called and not refused at one label, and answered at a later one
-pub record IsOfRun (rules : Rules) (s : State) (labels : List Label) (s' : State) (number : ℕ) (q : ClientRequest) (status : NtStatus) (bytes : List ℕ) (before after : State) : Type 0 where
+pub record IsOfRun (rules : Rules) (s : State) (labels : List Label) (s' : State) (number : ℕ) (q : ClientRequest)
+    (status : NtStatus) (bytes : List ℕ) (before after : State) : Type 0 where
   pub first : List Label
   pub between : List Label
   pub last : List Label
@@ -78,22 +81,29 @@ pub record IsOfRun (rules : Rules) (s : State) (labels : List Label) (s' : State
   pub goes : Run rules after last s'
 
 -- no other write that shares a place with it is open from its call to its answer
-abbrev pub IsSoloIn : (rules : Rules) (s : State) (labels : List Label) (s' : State) (number : ℕ) (q : ClientRequest) (status : NtStatus) (bytes : List ℕ) (before after : State)
+abbrev pub IsSoloIn : (rules : Rules) (s : State) (labels : List Label) (s' : State) (number : ℕ) (q : ClientRequest)
+    (status : NtStatus) (bytes : List ℕ) (before after : State)
     → IsOfRun rules s labels s' number q status bytes before after → Type 0
 IsSoloIn rules s labels s' number q status bytes before after h = IsSolo rules number q h.called h.between h.ended h.run
 
 -- what is promised of the requests that a run calls and answers, and of its arrays
 pub record ObeysLaws (rules : Rules) (s : State) (labels : List Label) (s' : State) : Type 0 where
   -- where acts read and write the arrays, a solo read that succeeds gives the bytes of the array at its call
-  pub solo_reads : (number : ℕ) (q : ClientRequest) (bytes : List ℕ) (before after : State) (h : IsOfRun rules s labels s' number q Success bytes before after)
-      → IsTrue rules.faithful → q.kind ≡ Read → IsSoloIn rules s labels s' number q Success bytes before after h → bytes ≡ concat (sectors_at rules before q (all_places rules q))
+  pub solo_reads : (number : ℕ) (q : ClientRequest) (bytes : List ℕ) (before after : State)
+      (h : IsOfRun rules s labels s' number q Success bytes before after)
+      → IsTrue rules.faithful → q.kind ≡ Read → IsSoloIn rules s labels s' number q Success bytes before after h
+      → bytes ≡ concat (sectors_at rules before q (all_places rules q))
   -- and a solo write that succeeds stands in the array at its answer
-  pub solo_writes : (number : ℕ) (q : ClientRequest) (bytes : List ℕ) (before after : State) (h : IsOfRun rules s labels s' number q Success bytes before after)
-      → IsTrue rules.faithful → q.kind ≡ Write → IsSoloIn rules s labels s' number q Success bytes before after h → q.bytes ≡ concat (sectors_at rules after q (all_places rules q))
+  pub solo_writes : (number : ℕ) (q : ClientRequest) (bytes : List ℕ) (before after : State)
+      (h : IsOfRun rules s labels s' number q Success bytes before after)
+      → IsTrue rules.faithful → q.kind ≡ Write → IsSoloIn rules s labels s' number q Success bytes before after h
+      → q.bytes ≡ concat (sectors_at rules after q (all_places rules q))
   -- a solo write, also one that failed, changed only places on which a piece of it acted before its answer
-  pub failed_writes : (number : ℕ) (q : ClientRequest) (status : NtStatus) (bytes : List ℕ) (before after : State) (h : IsOfRun rules s labels s' number q status bytes before after)
+  pub failed_writes : (number : ℕ) (q : ClientRequest) (status : NtStatus) (bytes : List ℕ) (before after : State)
+      (h : IsOfRun rules s labels s' number q status bytes before after)
       → q.kind ≡ Write → IsSoloIn rules s labels s' number q status bytes before after h
-      → (place : ℕ) → place < place_count rules q → WroteOrLeft rules number q before h.called h.between h.ended after h.run place
+      → (place : ℕ) → place < place_count rules q
+      → WroteOrLeft rules number q before h.called h.between h.ended after h.run place
   -- no label changes another partition's array
   pub keeps_arrays : (first last : List Label) (label : Label) (before after : State) → labels ≡ first ++ label ∷ last
       → Run rules s first before → Step rules before label after → Run rules after last s'
@@ -103,7 +113,8 @@ pub record ObeysLaws (rules : Rules) (s : State) (labels : List Label) (s' : Sta
       → Run rules s first before → Step rules before label after → Run rules after last s'
       → (p i : ℕ) → (sector_at after p i ≡ sector_at before p i) ⊎ IsWriteAt rules p i before label after
   -- a write, also one that failed, writes no sector after its answer
-  pub answered_writes : (number : ℕ) (q : ClientRequest) (status : NtStatus) (bytes : List ℕ) (before after : State) (h : IsOfRun rules s labels s' number q status bytes before after)
+  pub answered_writes : (number : ℕ) (q : ClientRequest) (status : NtStatus) (bytes : List ℕ) (before after : State)
+      (h : IsOfRun rules s labels s' number q status bytes before after)
       → (p i : ℕ) → Sometime (WritesSector rules number p i) rules after h.last s' h.goes → ⊥
 
 -- once a removal has ended, before these labels or by one of them, no start, act, fault or return comes
@@ -111,8 +122,8 @@ pub record IsQuietOnceRemoved (s : State) (labels : List Label) : Type 0 where
   pub before : IsTrue s.removed → All IsNotOfDevice labels
   pub among : (first last : List Label) → labels ≡ first ++ Removed ∷ last → All IsNotOfDevice last
 
--- all that is shown is one run, which obeys the laws and leaves the device alone once it is removed; and the sectors of no partition
--- stay as they are
+-- all that is shown is one run, which obeys the laws and leaves the device alone once it is removed; and the sectors of
+-- no partition stay as they are
 pub record IsLawful (old : ManagerView) (shown : List Shown) (new : ManagerView) : Type 0 where
   pub same_rules : new.rules ≡ old.rules
   pub run : Run old.rules old.state (labels_shown shown) new.state
@@ -122,8 +133,10 @@ pub record IsLawful (old : ManagerView) (shown : List Shown) (new : ManagerView)
 
 -- every run from a state that can be reached obeys the laws
 abbrev pub RunsObeyLaws : Type 0
-RunsObeyLaws = (rules : Rules) (s : State) (labels : List Label) (s' : State) → IsReached rules s → ObeysLaws rules s labels s'
+RunsObeyLaws = (rules : Rules) (s : State) (labels : List Label) (s' : State) → IsReached rules s
+    → ObeysLaws rules s labels s'
 
 -- and leaves the device alone once it is removed
 abbrev pub RunsAreQuietOnceRemoved : Type 0
-RunsAreQuietOnceRemoved = (rules : Rules) (s : State) (labels : List Label) (s' : State) → IsReached rules s → Run rules s labels s' → IsQuietOnceRemoved s labels
+RunsAreQuietOnceRemoved = (rules : Rules) (s : State) (labels : List Label) (s' : State) → IsReached rules s
+    → Run rules s labels s' → IsQuietOnceRemoved s labels

@@ -34,12 +34,14 @@ CallsFirst event (label ∷ labels) = (IsNoCall label ⊎ IsTransferEvent event)
 
 -- a step has one call at most
 abbrev pub StepsCallOnce : Type 0
-StepsCallOnce = (old : ManagerView) (event : Event) (reply : Reply) (new : ManagerView) → IsRight old event reply new → CallsFirst event new.labels
+StepsCallOnce = (old : ManagerView) (event : Event) (reply : Reply) (new : ManagerView) → IsRight old event reply new
+    → CallsFirst event new.labels
 
 -- want of memory is a refusal of a read, a write or a flush alone
 abbrev pub StepsTakeNoMemory : Type 0
 StepsTakeNoMemory =
-    (old : ManagerView) (event : Event) (bytes : List ℕ) (new : ManagerView) → IsRight old event (Refused InsufficientResources bytes) new
+    (old : ManagerView) (event : Event) (bytes : List ℕ) (new : ManagerView)
+    → IsRight old event (Refused InsufficientResources bytes) new
     → IsTransferEvent event
 
 -- the call itself was answered under this number, or refused
@@ -48,12 +50,15 @@ IsAnsweredBy (Answered answer) = Unit {0}
 IsAnsweredBy (Refused reason bytes) = Unit {0}
 IsAnsweredBy _ = ⊥
 
--- each answer of a step is the reply's own, or waits to be taken, with the status, the information and the bytes of its label
+-- each answer of a step is the reply's own, or waits to be taken, with the status, the information and the bytes of its
+-- label
 abbrev pub StepsLeaveAnswers : Type 0
 StepsLeaveAnswers =
-    (old : ManagerView) (event : Event) (reply : Reply) (new : ManagerView) (number : ℕ) (status : NtStatus) (informed : ℕ) (bytes : List ℕ)
+    (old : ManagerView) (event : Event) (reply : Reply) (new : ManagerView) (number : ℕ) (status : NtStatus)
+    (informed : ℕ) (bytes : List ℕ)
     → IsRight old event reply new → Contains new.labels (AnswerLabel number status informed bytes)
-    → IsAnsweredBy reply ⊎ Contains new.answers (record { number = number; status = status; information = informed; bytes = bytes })
+    → IsAnsweredBy reply ⊎ Contains new.answers
+    (record { number = number; status = status; information = informed; bytes = bytes })
 
 -- the request whose call the step tells under this number opens as so many pieces, on these sectors of the disk
 pub record OpensAs (rules : Rules) (told : ℕ × Extent) (number : ℕ) (labels : List Label) : Type 0 where

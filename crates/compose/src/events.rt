@@ -5,7 +5,8 @@ ghost use Rattle.std.specs.VecDeque.{deque_capacity};
 ghost use Rattle.machine.specs.Settled.{Settled, IsFinished};
 ghost use Rattle.io_manager.specs.Right.{FitsTogether};
 ghost use Rattle.compose.specs.Right.{IsRight, opened_by};
-ghost use Rattle.compose.specs.Runs.{Carries, CarriesAll, IsLawful, RunsAreQuietOnceRemoved, RunsObeyLaws, StopsAfter};
+ghost use Rattle.compose.specs.Runs.{Carries, CarriesAll, IsLawful, RunsAreQuietOnceRemoved, RunsObeyLaws};
+ghost use Rattle.compose.specs.Runs.{StopsAfter};
 
 use crate::{Event, Reply, RunStopped, Shown};
 use device::{Hold, Kind, Label};
@@ -55,7 +56,7 @@ pub(crate) fn step<D: Hold>(manager: &mut IoManager<D>, alloc: Global, event: Ev
     reply
 }
 
-/// What the next call of an event would open, if anything: the number of pieces, and the sectors of the disk.
+/// Returns what the next call of an event would open, if anything: the number of pieces, and the sectors of the disk.
 pub(crate) fn admits<D: Hold>(manager: &IoManager<D>, event: &Event) -> Option<(u64, Extent)>
     ensures { result ≡ opened_by manager.now event.now }
 {
@@ -76,20 +77,22 @@ pub(crate) fn admits<D: Hold>(manager: &IoManager<D>, event: &Event) -> Option<(
     }
 }
 
-/// Carries events out one after another, and gives the reply and the labels of each, which are then taken. All labels of
-/// the step before have to be taken.
+/// Carries events out one after another, and gives the reply and the labels of each, which are then taken. All labels
+/// of the step before have to be taken.
 ///
 /// # Errors
 ///
-/// [`RunStopped`] where memory for the result was refused: just the first `done` events were carried out.
+/// [`RunStopped`] where memory for the result was refused: just the first `done` events were carried out, and not all.
 pub(crate) fn run<D: Hold>(
     manager: &mut IoManager<D>,
     alloc: Global,
     events: Vec<Event>,
 ) -> Result<Vec<Shown>, RunStopped>
     requires taken { manager.old.labels ≡ [] }
-    ensures carries { MatchResult result (λ shown. CarriesAll manager.old events.items shown.items manager.new) (λ stopped. StopsAfter manager.old events.items stopped manager.new) }
-    ensures lawful { MatchResult result (λ shown. IsLawful manager.old shown.items manager.new) (λ stopped. IsLawful manager.old stopped.shown.items manager.new) }
+    ensures carries { MatchResult result (λ shown. CarriesAll manager.old events.items shown.items manager.new)
+        (λ stopped. StopsAfter manager.old events.items stopped manager.new) }
+    ensures lawful { MatchResult result (λ shown. IsLawful manager.old shown.items manager.new)
+        (λ stopped. IsLawful manager.old stopped.shown.items manager.new) }
     ensures taken { manager.new.labels ≡ [] }
     ensures settled { Settled manager.new.rules manager.new.state }
     ensures finished { IsFinished manager.new.state }
@@ -113,9 +116,13 @@ fn carry_all<D: Hold>(
     events: Vec<Event>,
 ) -> Result<Vec<Shown>, RunStopped>
     requires taken { manager.old.labels ≡ [] }
-    ensures carries { MatchResult result (λ shown. CarriesAll manager.old events.items shown.items manager.new) (λ stopped. StopsAfter manager.old events.items stopped manager.new) }
+    ensures carries { MatchResult result (λ shown. CarriesAll manager.old events.items shown.items manager.new)
+        (λ stopped. StopsAfter manager.old events.items stopped manager.new) }
     ensures taken { manager.new.labels ≡ [] }
 {
+    if events.is_empty() {
+        return Ok(Vec::new(alloc));
+    }
     let Ok(mut shown) = Vec::with_capacity(alloc, events.len()) else {
         return Err(RunStopped {
             shown: Vec::new(alloc),
@@ -150,7 +157,7 @@ fn carry_out<D: Hold>(
     Shown { reply, labels }
 }
 
-/// The laws of whole runs, for who calls it.
+/// Shows the caller the laws of whole runs.
 fn laws_of_runs()
     ensures laws { RunsObeyLaws }
     ensures quiet { RunsAreQuietOnceRemoved }

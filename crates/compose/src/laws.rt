@@ -1,6 +1,7 @@
-//! Laws of every right step, whichever event it was: who calls one of these has the law.
+//! Laws of every right step, whichever event it was. A call of one of these functions gives its law to the caller.
 
-ghost use Rattle.compose.specs.Journaled.{ArmedMayBeBooked, BookedActsAddEntries, IdleActsKeepEntries, StepsKeepEntries, StepsStayApart};
+ghost use Rattle.compose.specs.Journaled.{ArmedMayBeBooked, BookedActsAddEntries, IdleActsKeepEntries};
+ghost use Rattle.compose.specs.Journaled.{StepsKeepEntries, StepsStayApart};
 ghost use Rattle.compose.specs.StepLaws.{StepsCallOnce, StepsLeaveAnswers, StepsOpenAsTold, StepsTakeNoMemory};
 
 /// Among the labels of a step is one call at most. It comes first, and only a read, a write or a flush brings it.
@@ -30,7 +31,7 @@ pub fn steps_keep_entries()
     ensures { StepsKeepEntries }
 {}
 
-/// Nor does the act of a tag on which nothing can act.
+/// An act on a tag where nothing can act adds no entry either.
 pub fn idle_acts_keep_entries()
     ensures { IdleActsKeepEntries }
 {}

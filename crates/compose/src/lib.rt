@@ -1,13 +1,13 @@
-//! The whole stack of one disk over an adapter, seen as one sector machine: calls and adapter steps go in, answers, bytes
-//! and labels come out.
+//! The whole stack of one disk over an adapter, seen as one sector machine: calls and adapter steps go in, answers,
+//! bytes and labels come out.
 //!
-//! It promises to its user, by the contract of [`Stack::step`] (`right`, `settled`, `finished`, `whole`), that each event's
-//! labels are a run of the sector machine, that the adapter moved by just the device labels among them, and that the stack
-//! is settled after it; by that of [`Stack::run`] (`lawful`), that the labels of many events obey the laws of whole runs;
-//! and by that of [`Stack::start`] (`view`, `fault`), that a stack begins with the sectors of the partitions that the
-//! disk's table gives. [`Stack::admits`] tells beforehand what a call opens ([`steps_open_as_told`]). An event is one call
-//! of the I/O manager, so step and run are proved over any device that holds. It does not promise that a request
-//! completes, nor an order between requests that overlap.
+//! It promises to its user, by the contract of [`Stack::step`] (`right`, `settled`, `finished`, `whole`), that each
+//! event's labels are a run of the sector machine, that the adapter moved by just the device labels among them, and
+//! that the stack is settled after it; by that of [`Stack::run`] (`lawful`), that the labels of many events obey the
+//! laws of whole runs; and by that of [`Stack::start`] (`view`, `fault`), that a stack begins with the sectors of the
+//! partitions that the disk's table gives. [`Stack::admits`] tells beforehand what a call opens
+//! ([`steps_open_as_told`]). An event is one call of the I/O manager, so step and run are proved over any device that
+//! holds. It does not promise that a request completes, nor an order between requests that overlap.
 #![tactic(auto)]
 
 mod events;
@@ -75,7 +75,7 @@ pub enum Event {
     Mark {
         number: u64,
     },
-    /// It is asked whether the device may go; where it may, requests are held from now on (WDK:
+    /// Asks whether the device may go; where it may, new requests are then held (WDK:
     /// IRP_MN_QUERY_REMOVE_DEVICE).
     QueryRemove,
     /// The query is taken back, and held requests go on (WDK: IRP_MN_CANCEL_REMOVE_DEVICE).
@@ -104,8 +104,8 @@ pub struct Shown {
     pub labels: Vec<Label>,
 }
 
-/// A run that stopped for want of memory for its own result, after just the first `done` events, with what each of
-/// these showed.
+/// A run that stopped for want of memory for its own result, after just the first `done` events and before the last,
+/// with what each of these showed.
 #[derive(Debug, Drop, Error)]
 #[error("no memory for the result after {done} events")]
 pub struct RunStopped {

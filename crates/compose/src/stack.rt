@@ -7,7 +7,8 @@ ghost use Rattle.adapter.specs.Booking.{IsArmed, handed};
 ghost use Rattle.machine.specs.Settled.{Settled, IsFinished};
 ghost use Rattle.machine_laws.specs.Reached.{IsReached};
 ghost use Rattle.probe.specs.Exchange.{IsIdle};
-ghost use Rattle.io_manager.specs.Right.{BooksPiece, FitsTogether, TakesAnswer, TakesAnswerOf, TakesLabel as TakesFirst};
+ghost use Rattle.io_manager.specs.Right.{BooksPiece, FitsTogether, TakesAnswer, TakesAnswerOf};
+ghost use Rattle.io_manager.specs.Right.{TakesLabel as TakesFirst};
 ghost use Rattle.compose.specs.Right.{IsRight, opened_by};
 ghost use Rattle.compose.specs.Opening.{IsFirstView, IsSpent};
 ghost use Rattle.compose.specs.Runs.{CarriesAll, IsLawful, StopsAfter};
@@ -44,8 +45,8 @@ impl<A: Adapter> Model for Stack<A> {
 
 impl<A: Adapter> Stack<A> {
     /// A stack over an adapter that has accepted nothing, with the partitions of the table in sector 0. It sends READ
-    /// CAPACITY(10), where that can't tell the number of sectors READ CAPACITY(16) as well, and READ(10) of sector 0, and
-    /// takes their labels.
+    /// CAPACITY(10), where that can't tell the number of sectors READ CAPACITY(16) as well, and READ(10) of sector 0,
+    /// and takes their labels.
     ///
     /// # Errors
     ///
@@ -76,12 +77,12 @@ impl<A: Adapter> Stack<A> {
         events::step(&mut self.manager, alloc, event)
     }
 
-    /// What a read, a write or a flush would open if it were the next event: the number of pieces that its request is cut
-    /// into, and its sectors of the disk, in order. A flush has one piece, and an empty extent where its partition begins.
-    /// It takes no memory.
+    /// Returns what a read, a write or a flush would open if it were the next event: the number of pieces that its
+    /// request is cut into, and its sectors of the disk, in order. A flush has one piece, and an empty extent where its
+    /// partition begins. It takes no memory.
     ///
-    /// None where it would be refused or asks for no bytes, once request numbers are used up, and for every other event.
-    /// A step of the event then opens just this, unless memory is refused ([`crate::steps_open_as_told`]).
+    /// None where it would be refused or asks for no bytes, once request numbers are used up, and for every other
+    /// event. A step of the event then opens just this, unless memory is refused ([`crate::steps_open_as_told`]).
     pub fn admits(&self, event: &Event) -> Option<(u64, Extent)>
         ensures { result ≡ opened_by self.now event.now }
     {
@@ -90,22 +91,23 @@ impl<A: Adapter> Stack<A> {
 
     /// The piece on a tag that could act, with its SRB.
     pub fn armed(&self, tag: u8) -> Option<(u128, &Srb)>
-        ensures { MatchOption result (HasNoneFresh self.now.adapter tag) (λ found. IsArmed self.now.adapter tag found.0 found.1.now) }
+        ensures { MatchOption result (HasNoneFresh self.now.adapter tag)
+            (λ found. IsArmed self.now.adapter tag found.0 found.1.now) }
     {
         self.manager.armed(tag)
     }
 
-    /// Books what the act of a tag's piece did, or how it failed, with an adapter whose sectors stand elsewhere: the next
-    /// `Act` of the tag is that. It takes no memory, changes nothing of the machine, and does nothing where the tag has no
-    /// such piece that could act, or what is to be booked isn't its.
+    /// Books what the act of a tag's piece did, or how it failed, with an adapter whose sectors stand elsewhere: the
+    /// next `Act` of the tag is that. It takes no memory, changes nothing of the machine, and does nothing where the
+    /// tag has no such piece that could act, or what is to be booked isn't its.
     pub fn book(&mut self, tag: u8, piece: u128, what: Result<&Entry, Completion>)
         ensures { BooksPiece self.old tag piece (handed what.entry) self.new }
     {
         self.manager.book(tag, piece, what);
     }
 
-    /// What is shown between two steps is settled and fits together, a removal with nothing open has ended, and a run leads
-    /// to it, for who calls this.
+    /// What is shown between two steps is settled and fits together, a removal with nothing open has ended, and a run
+    /// leads to it: available to the caller.
     pub fn shows_whole(&self)
         ensures settled { Settled self.now.rules self.now.state }
         ensures finished { IsFinished self.now.state }
@@ -123,8 +125,8 @@ impl<A: Adapter> Stack<A> {
         self.manager.take_label()
     }
 
-    /// Takes the waiting answer with the lowest number. Answers wait from step to step, one for each `Answer` label of a
-    /// request that was open.
+    /// Takes the waiting answer with the lowest number. Answers wait from step to step, one for each `Answer` label of
+    /// a request that was open.
     pub fn take_answer(&mut self) -> Option<Answer>
         ensures { TakesAnswer self.old result self.new }
     {
@@ -143,11 +145,14 @@ impl<A: Adapter> Stack<A> {
     ///
     /// # Errors
     ///
-    /// [`RunStopped`] where memory for the result was refused: just the first `done` events were carried out.
+    /// [`RunStopped`] where memory for the result was refused: just the first `done` events were carried out, and not
+    /// all.
     pub fn run(&mut self, alloc: Global, events: Vec<Event>) -> Result<Vec<Shown>, RunStopped>
         requires taken { self.old.labels ≡ [] }
-        ensures carries { MatchResult result (λ shown. CarriesAll self.old events.items shown.items self.new) (λ stopped. StopsAfter self.old events.items stopped self.new) }
-        ensures lawful { MatchResult result (λ shown. IsLawful self.old shown.items self.new) (λ stopped. IsLawful self.old stopped.shown.items self.new) }
+        ensures carries { MatchResult result (λ shown. CarriesAll self.old events.items shown.items self.new)
+            (λ stopped. StopsAfter self.old events.items stopped self.new) }
+        ensures lawful { MatchResult result (λ shown. IsLawful self.old shown.items self.new)
+            (λ stopped. IsLawful self.old stopped.shown.items self.new) }
         ensures taken { self.new.labels ≡ [] }
         ensures settled { Settled self.new.rules self.new.state }
         ensures finished { IsFinished self.new.state }

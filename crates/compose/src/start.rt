@@ -4,16 +4,16 @@ ghost use Rattle.std.specs.Prelude.{◌≡◌, ◌≤◌, ◌↔◌, length, IfO
 ghost use Rattle.adapter.specs.View.{IsInOrder};
 ghost use Rattle.probe.specs.Exchange.{IsIdle, IsSameDisk};
 ghost use Rattle.probe.specs.Probing.{IsProbed, IsReadBy, asked_by_probe};
-ghost use Rattle.io_manager.specs.Sound.{AreFirsts};
+ghost use Rattle.io_manager.specs.Opening.{AreFirsts};
 ghost use Rattle.compose.specs.Opening.{AreInRange, IsFirstView, IsSpent, IsStartFault};
 
 use crate::{Settings, StartFault};
 use adapter::Adapter;
-use class_disk::{Disk, DiskRoom};
+use class_disk::Disk;
 use hold_filter::Filter;
 use io_manager::{IoManager, Limits};
 use partition::Partitions;
-use port::{Port, PortRoom};
+use port::Port;
 use probe::{ProbeFault, Probed, probe};
 use sector::Extent;
 use std::alloc::{AllocError, Global};
@@ -53,7 +53,7 @@ impl Settings {
     }
 }
 
-/// What an adapter tells that has accepted nothing.
+/// Returns what an adapter tells that has accepted nothing.
 ///
 /// # Errors
 ///
@@ -92,9 +92,7 @@ fn first_sectors_of(partitions: &[Extent]) -> [u64; 4]
 }
 
 /// The manager of the partitions over a hold filter, the class driver and a port.
-pub(crate) type Manager<A> = IoManager<
-    Partitions<Filter<Disk<Port<A>, PortRoom>, DiskRoom<PortRoom>>>,
->;
+pub(crate) type Manager<A> = IoManager<Partitions<Filter<Disk<Port<A>>>>>;
 
 /// The I/O manager of a stack over an adapter, as [`crate::Stack::start`].
 ///
@@ -117,7 +115,7 @@ pub(crate) fn manager_over<A: Adapter>(
     let port = Port::new(alloc, adapter)?;
     let disk = Disk::new(alloc, port, probed.sector_size as u32);
     let filter = Filter::new(alloc, disk, settings.window as usize);
-    let partitions = Partitions::new(filter, probed.partitions);
+    let partitions = Partitions::new(alloc, filter, probed.partitions);
     let limits = Limits {
         sector_size: probed.sector_size,
         max_transfer,

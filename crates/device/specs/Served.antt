@@ -9,12 +9,10 @@ use Rattle.srb.specs.declared.Entry.{Entry}
 use Rattle.srb.specs.declared.DeviceLabel.{DeviceLabel}
 use Rattle.srb.specs.declared.DeviceLabel.TheVariants.{Start, Act, Fault, Return}
 use Rattle.srb.specs.Fate.{Fresh, is_fresh}
-use Rattle.adapter.specs.View.{AdapterView, ReservesMore, MovesByAll, NotesReset}
+use Rattle.adapter.specs.View.{AdapterView, ReservesMore, ReservesNear as AdapterReservesNear, MovesByAll, NotesReset}
 use Rattle.adapter.specs.Calls.{IsBooked}
 use Rattle.adapter.specs.Booking.{Books}
 use Rattle.irp.specs.declared.Payload.{Payload}
-use Rattle.irp.specs.declared.Climb.{Climb}
-use Rattle.irp.specs.Climb.{Climbs, BringsRoutine}
 use Rattle.srb.specs.declared.Kind.TheVariants.{Read, Flush}
 use Rattle.machine.specs.declared.Request.{Request}
 use Rattle.machine.specs.Rules.{Rules, place_count, as_client}
@@ -25,12 +23,26 @@ use Rattle.machine.specs.Answering.{HasEnded, Answers, information}
 use Rattle.machine.specs.Holding.{Cancels, Pauses, Resumes, Drains}
 use Rattle.machine.specs.Settled.{Settled}
 use Rattle.machine.specs.Step.{as_label, Run}
-use Rattle.device.specs.View.{DeviceView, Packet, Carries, payload_bytes, sent_bytes}
+use Rattle.device.specs.declared.climbing.Climb.{Climb}
+use Rattle.device.specs.Climbing.{Climbs, BringsRoutine}
+use Rattle.device.specs.View.{DeviceView, Packet, Reserved, room_at, whole_for, Carries, payload_bytes, sent_bytes, sectors_asked}
+
+-- each spot is reserved as it was
+abbrev pub SameRooms : List (Option Reserved) → List (Option Reserved) → Type 0
+SameRooms old new = (spot : ℕ) → room_at new spot ≡ room_at old spot
+
+-- what is reserved at one spot changes, and at no other
+pub record SetsRoom (old : List (Option Reserved)) (spot : ℕ) (before after : Option Reserved)
+    (new : List (Option Reserved)) : Type 0 where
+  pub was : room_at old spot ≡ before
+  pub is : room_at new spot ≡ after
+  pub others : (other : ℕ) → other ≢ spot → room_at new other ≡ room_at old other
 
 -- the machine and the adapter move by just these labels
 pub record Moves (old : DeviceView) (labels : List DeviceLabel) (new : DeviceView) : Type 0 where
   pub same_rules : new.rules ≡ old.rules
   pub same_packets : IsPermutation new.packets old.packets
+  pub same_rooms : SameRooms old.rooms new.rooms
   pub same_submitted : new.submitted ≡ old.submitted
   pub same_most : new.most ≡ old.most
   pub run : Run old.rules old.state (map as_label labels) new.state
@@ -40,14 +52,35 @@ pub record Moves (old : DeviceView) (labels : List DeviceLabel) (new : DeviceVie
 pub record IsBeside (old new : DeviceView) : Type 0 where
   pub same_rules : new.rules ≡ old.rules
   pub same_packets : IsPermutation new.packets old.packets
+  pub same_rooms : SameRooms old.rooms new.rooms
   pub same_submitted : new.submitted ≡ old.submitted
   pub same_most : new.most ≡ old.most
   pub same_adapter : new.adapter ≡ old.adapter
 
 -- places are made, and no more
 pub record Reserves (old new : DeviceView) : Type 0 where
-  pub same : new ≡ record old { adapter = record old.adapter { reserved = new.adapter.reserved } }
+  pub same : new ≡ record old { rooms = new.rooms; adapter = record old.adapter { reserved = new.adapter.reserved } }
   pub adapter : ReservesMore old.adapter new.adapter
+
+-- a spot that was vacant is reserved for the request
+pub record ReservesSpot (old : DeviceView) (spot : ℕ) (request : Request) (new : DeviceView) : Type 0 where
+  pub reserves : Reserves old new
+  pub room : SetsRoom old.rooms spot None (Some (whole_for request)) new.rooms
+
+-- no spot is reserved
+pub record ReservesNone (old new : DeviceView) : Type 0 where
+  pub reserves : Reserves old new
+  pub room : SameRooms old.rooms new.rooms
+
+-- what the adapter reserves now it did before, or it is in a run with a sector that the request asks for
+abbrev pub ReservesNear : DeviceView → Request → DeviceView → Type 0
+ReservesNear old request new = AdapterReservesNear old.adapter (sectors_asked old.rules request) new.adapter
+
+-- a reserved spot is vacant, and nothing else changes
+pub record Frees (old : DeviceView) (spot : ℕ) (new : DeviceView) : Type 0 where
+  pub reserved : Reserved
+  pub room : SetsRoom old.rooms spot (Some reserved) None new.rooms
+  pub same : new ≡ record old { rooms = new.rooms }
 
 -- the request is open as it is
 abbrev pub StaysOpen : State → OpenRequest → Type 0
@@ -57,13 +90,21 @@ StaysOpen s o = Contains s.requests o
 abbrev pub StaysIfStarted : State → OpenRequest → Type 0
 StaysIfStarted s o = IsTrue (is_started o) → Contains s.requests o
 
--- a packet is taken in: its request is opened, and then pieces are started, of no other request
-pub record Submits (old : DeviceView) (packet : Packet) (request : Request) (payload : Payload) (new : DeviceView) : Type 0 where
+-- a packet is taken in at its spot: its request is opened, and then pieces are started, of no other request
+pub record Submits (old : DeviceView) (packet : Packet) (request : Request) (payload : Payload)
+    (new : DeviceView) : Type 0 where
+  pub room : SetsRoom old.rooms packet.spot (Some (whole_for request)) None new.rooms
   pub opened : State
   pub starts : List DeviceLabel
-  pub opens : Opens old.rules old.state packet.number (as_client old.rules request (sent_bytes request.kind payload)) opened
+  pub opens : Opens old.rules old.state packet.number
+      (as_client old.rules request (sent_bytes request.kind payload)) opened
   pub only_starts : All IsStart starts
-  pub moves : Moves (record old { state = opened; packets = packet ∷ old.packets; submitted = old.submitted + 1 }) starts new
+  pub moves : Moves (record old {
+    state = opened;
+    packets = packet ∷ old.packets;
+    rooms = new.rooms;
+    submitted = old.submitted + 1;
+  }) starts new
   pub others_stay : All (StaysOpen new.state) old.state.requests
 
 -- the piece of a tag that has done nothing yet
@@ -101,7 +142,8 @@ pub record ActsNot (old : DeviceView) (tag : ℕ) (new : DeviceView) : Type 0 wh
   pub same : new ≡ old
 
 -- what is booked of a piece is the adapter's alone
-pub record BooksPiece (old : DeviceView) (tag piece : ℕ) (what : Result Entry Completion) (new : DeviceView) : Type 0 where
+pub record BooksPiece (old : DeviceView) (tag piece : ℕ) (what : Result Entry Completion)
+    (new : DeviceView) : Type 0 where
   pub adapter : Books old.adapter tag piece what new.adapter
   pub same : new ≡ record old { adapter = new.adapter }
 
@@ -170,7 +212,7 @@ pub record DrainsAll (old new : DeviceView) : Type 0 where
   pub drains : Drains old.rules old.state new.state
   pub beside : IsBeside old new
 
--- the layer holds from now on, and no label is recorded
+-- the layer is paused, and no label is recorded
 pub record PausesAll (old new : DeviceView) : Type 0 where
   pub pauses : Pauses old.rules old.state new.state
   pub beside : IsBeside old new
@@ -196,9 +238,16 @@ cut (suc count) size bytes = take size bytes ∷ cut count size (drop size bytes
 abbrev pub sectors_moved : Rules → Request → Payload → List (List ℕ)
 sectors_moved rules r payload = cut (place_count rules (as_client rules r [])) rules.sector_size (payload_bytes payload)
 
--- the request of a packet is answered, the packet climbs with its room, and then pieces of others are started
-pub record HandsUp (takes_srb : Bool) (old : DeviceView) (request : Request) (climb : Climb) (new : DeviceView) : Type 0 where
+-- the request of a packet is answered, the packet climbs, its spot is reserved again, and then pieces of others are
+-- started
+pub record HandsUp (takes_srb : Bool) (old : DeviceView) (climb : Climb) (spot : ℕ) (new : DeviceView) : Type 0 where
+  pub request : Request
   pub packet : Packet
+  pub is_spot : packet.spot ≡ spot
+  -- whether the spot has all that its request needs; it has where packets bring their SRBs along
+  pub whole : Bool
+  pub is_whole : IsTrue takes_srb → IsTrue whole
+  pub room : SetsRoom old.rooms spot None (Some (record { request = request; whole = whole })) new.rooms
   pub others : List Packet
   pub payload : Payload
   pub status : NtStatus
@@ -219,10 +268,11 @@ pub record HandsUp (takes_srb : Bool) (old : DeviceView) (request : Request) (cl
   pub filled : request.kind ≡ Read → status ≡ Success → length bytes ≡ request.extent.count * old.rules.sector_size
   -- a flush brings none
   pub empty : request.kind ≡ Flush → payload_bytes payload ≡ []
-  pub climbs : Climbs packet.above packet.number answers.request.cancelled status (information answers.request.request status) payload climb
+  pub climbs : Climbs packet.above packet.number answers.request.cancelled status
+      (information answers.request.request status) payload climb
   pub brings_routine : BringsRoutine packet.cancel_routine climb
   pub only_starts : All IsStart starts
-  pub moves : Moves (record old { state = answered; packets = others }) starts new
+  pub moves : Moves (record old { state = answered; packets = others; rooms = new.rooms }) starts new
   -- what was started stays as it is
   pub started_stay : All (StaysIfStarted new.state) answered.requests
   -- where nothing is held back by a window none is started, and the adapter stays as it was
@@ -249,4 +299,5 @@ pub record HandsUpNone (old new : DeviceView) : Type 0 where
 abbrev pub TakesLabel : DeviceView → Option DeviceLabel → DeviceView → Type 0
 TakesLabel old None new = (old.adapter.labels ≡ []) × (new ≡ old)
 TakesLabel old (Some label) new =
-    (rest : List DeviceLabel) × (old.adapter.labels ≡ label ∷ rest) × (new ≡ record old { adapter = record old.adapter { labels = rest } })
+    (rest : List DeviceLabel) × (old.adapter.labels ≡ label ∷ rest)
+    × (new ≡ record old { adapter = record old.adapter { labels = rest } })

@@ -1,9 +1,10 @@
 -- What a layer shows of itself.
-use Rattle.std.specs.Prelude.{◌≡◌, ◌<◌, ◌≤◌, ◌⊎◌, ℕ, ◌+◌, ◌-◌, ◌*◌, Bool, true, false, List, [], Option, Some, None, map, length, count_by, IsNone, IsTrue, IsFalse, All, Any, IsPermutation, slice_get, if◌then◌else◌}
+use Rattle.std.specs.Prelude.{◌≡◌, ◌<◌, ◌≤◌, ◌⊎◌, ℕ, ◌+◌, ◌-◌, ◌*◌, eqb, Bool, true, false, List, [], Option, Some, None, map, length, count_by, IsNone, IsTrue, IsFalse, All, Any, IsPermutation, slice_get, slice_index_or, if◌then◌else◌}
+use Rattle.std.specs.List.{IsDistinct}
 use Rattle.sector.specs.declared.Extent.{Extent}
 use Rattle.sector.specs.Extents.{IsIn, sectors_in}
 use Rattle.cdb.specs.declared.Cdb.{Cdb}
-use Rattle.cdb.specs.Meaning.{Means}
+use Rattle.cdb.specs.Meaning.{IsPlain, Means}
 use Rattle.srb.specs.declared.Srb.{Srb}
 use Rattle.srb.specs.declared.SrbFunction.TheVariants.{ExecuteScsi}
 use Rattle.srb.specs.Fate.{Fate}
@@ -20,7 +21,7 @@ use Rattle.irp.specs.declared.Payload.TheVariants.{Buffer, Srb as Packed, Sent a
 use Rattle.srb.specs.declared.Kind.{Kind}
 use Rattle.srb.specs.declared.Kind.TheVariants.{Read, Write, Flush}
 use Rattle.machine.specs.declared.Request.{Request}
-use Rattle.machine.specs.Rules.{Rules, is_transfer, sectors_of, as_client}
+use Rattle.machine.specs.Rules.{Rules, home, is_transfer, sectors_of, as_client}
 use Rattle.machine.specs.State.{OpenRequest, Piece, State}
 use Rattle.machine.specs.Sending.{command_for, is_started}
 use Rattle.machine.specs.Settled.{IsAllSent, IsFull, IsWithin, started_count}
@@ -28,13 +29,13 @@ use Rattle.machine.specs.Holding.{is_lower}
 use Rattle.machine.specs.Numbers.{AreDistinct, HavePlaces, request_number}
 use Rattle.machine.specs.Solo.{all_places}
 
--- a packet that the layer has: its number, the spot that its `submit` answered, and the stack locations above the
+-- a packet that the layer has: its number, the spot of its room, and the stack locations above the
 -- layer's own, the topmost driver's first
 pub record Packet : Type 0 where
   pub number : ℕ
   pub spot : ℕ
   pub above : List StackLocation
-  -- whom a cancellation is to tell, if anybody
+  -- its cancel routine, if it has one
   pub cancel_routine : Option CancelRoutine
 
 -- the number of a packet
@@ -43,23 +44,73 @@ packet_number packet = packet.number
 
 -- a packet as the layer that takes it in has it
 abbrev pub packet_of : Irp → ℕ → Packet
-packet_of irp spot = record { number = irp.number; spot = spot; above = locations_above irp; cancel_routine = cancel_routine_of irp }
+packet_of irp spot = record {
+  number = irp.number;
+  spot = spot;
+  above = locations_above irp;
+  cancel_routine = cancel_routine_of irp;
+}
 
 -- no driver above asks for this packet
 abbrev pub IsTopmost : Packet → Type 0
 IsTopmost packet = packet.above ≡ []
 
--- what a layer shows: its machine, its packets and the adapter below
+-- what is reserved at a spot: the request that it is for, and whether all that the request needs is there; a packet
+-- that went may have left its spot without what went out with its labels
+pub record Reserved : Type 0 where
+  pub request : Request
+  pub whole : Bool
+
+-- what a layer shows: its machine, its packets, its reserved spots and the adapter below
 pub record DeviceView : Type 0 where
   pub rules : Rules
   pub state : State
   -- submitted and not yet taken, in any order
   pub packets : List Packet
+  -- by spots, what is reserved; the spot of a packet is not reserved
+  pub rooms : List (Option Reserved)
   -- how many requests were submitted so far, and how many may be
   pub submitted : ℕ
   pub most : ℕ
   -- the adapter below, with the labels that it recorded and that nobody took yet
   pub adapter : AdapterView
+
+-- what is reserved at a spot, where something is
+abbrev pub room_at : List (Option Reserved) → ℕ → Option Reserved
+room_at rooms spot = slice_index_or rooms spot None
+
+-- stands for the request of a spot that is not reserved, which nobody asks for
+abbrev pub no_request : Request
+no_request = record { volume = 0; kind = Flush; extent = record { first = 0; count = 0 }; through = false }
+
+-- the request that a spot is reserved for
+abbrev pub request_of : Option Reserved → Request
+request_of None = no_request
+request_of (Some reserved) = reserved.request
+
+-- the same by spots
+abbrev pub request_at : List (Option Reserved) → ℕ → Request
+request_at rooms spot = request_of (room_at rooms spot)
+
+-- the spot is reserved for this request, with all that it needs
+abbrev pub whole_for : Request → Reserved
+whole_for request = record { request = request; whole = true }
+
+-- the spot is reserved, with all that its request needs
+abbrev pub IsReady : List (Option Reserved) → ℕ → Type 0
+IsReady rooms spot = room_at rooms spot ≡ Some (whole_for (request_at rooms spot))
+
+-- the spot is reserved
+abbrev pub IsReserved : List (Option Reserved) → ℕ → Type 0
+IsReserved rooms spot = (reserved : Reserved) × (room_at rooms spot ≡ Some reserved)
+
+-- the spot of a packet
+abbrev pub packet_spot : Packet → ℕ
+packet_spot packet = packet.spot
+
+-- the packet's spot is not reserved
+abbrev pub IsOffRooms : List (Option Reserved) → Packet → Type 0
+IsOffRooms rooms packet = room_at rooms packet.spot ≡ None
 
 -- the sectors of no partition stay as they are
 abbrev pub KeepsOutside : List Extent → AdapterView → AdapterView → Type 0
@@ -72,6 +123,10 @@ KeepsOutside partitions old new =
 abbrev pub transfer_length : Rules → Request → ℕ
 transfer_length rules r = if is_transfer r.kind then r.extent.count * rules.sector_size else 0
 
+-- the sectors of the disk that a request asks for
+abbrev pub sectors_asked : Rules → Request → Extent
+sectors_asked rules r = record { first = home rules (Some r.volume) r.extent.first; count = r.extent.count }
+
 -- the command that asks for all of a request
 abbrev pub whole_command : Rules → Request → Cdb
 whole_command rules r = command_for rules (as_client rules r []) (all_places rules (as_client rules r [])) r.kind
@@ -82,13 +137,15 @@ direction Read = 0x40
 direction Write = 0x80
 direction Flush = 0
 
--- an SRB that asks for all of a request, with buffers of its length
+-- an SRB that asks for all of a request, in the one block that is spelled so, with buffers of its length and no sense
 pub record AsksFor (rules : Rules) (r : Request) (srb : Srb) : Type 0 where
   pub function : srb.function ≡ ExecuteScsi
   pub flags : srb.flags.0 ≡ direction r.kind
   pub asks : Means srb.block (whole_command rules r)
+  pub plain : IsPlain srb.block (whole_command rules r)
   pub data_length : length srb.data ≡ transfer_length rules r
   pub label_length : length srb.for_label ≡ transfer_length rules r
+  pub sense : srb.sense ≡ None
 
 -- what a packet carries for its request: an SRB where the layer takes one, else a buffer of its length
 abbrev pub Carries : Bool → Rules → Request → Payload → Type 0
@@ -162,7 +219,8 @@ pub record IsRead (rules : Rules) (s : State) (adapter : AdapterView) : Type 0 w
 
 -- a request that is neither cancelled nor started is late, or behind a window of open ones
 abbrev pub WaitsForTag : Rules → State → OpenRequest → Type 0
-WaitsForTag rules s o = IsFalse o.cancelled → IsFalse (is_started o) → IsTrue o.late ⊎ IsFull rules.window (count_by (is_lower o.number) s.requests)
+WaitsForTag rules s o =
+    IsFalse o.cancelled → IsFalse (is_started o) → IsTrue o.late ⊎ IsFull rules.window (count_by (is_lower o.number) s.requests)
 
 -- the settled facts that a layer owes after each call, whoever takes what has ended: with a tag free nothing waits that
 -- may go; all others hold once nothing that has ended waits to be taken
@@ -182,6 +240,8 @@ pub record IsOrderly (v : DeviceView) : Type 0 where
   pub distinct : AreDistinct v.state
   pub places : HavePlaces v.state
   pub packets : IsPermutation (map packet_number v.packets) (map request_number v.state.requests)
+  pub spots : IsDistinct eqb (map packet_spot v.packets)
+  pub vacant : All (IsOffRooms v.rooms) v.packets
   pub sending : IsSending v.rules v.state
   pub labels : label_places v ≤ 64
   pub uncounted : v.rules.open_requests ≡ None

@@ -1,15 +1,15 @@
 pub mod Lists
 pub mod Queued
-pub mod Spots
 pub mod Sizing
 pub mod Here
 pub mod Locations
+pub mod Rooms
+pub mod Spots
 pub mod Orderly
 pub mod Moving
 pub mod Passing
 pub mod Staying
 pub mod Releasing
-pub mod Rooms
 pub mod Submitting
 pub mod Ending
 pub mod Returning
@@ -18,3 +18,5 @@ pub mod Withdrawing
 pub mod Cancelling
 pub mod Turning
 pub mod Opening
+pub mod Calls
+pub mod Sending

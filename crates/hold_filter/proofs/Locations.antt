@@ -1,33 +1,64 @@
--- A packet on its way down and up, and the spots by which it is shown.
-use Rattle.std.proofs.Common.{◌≡◌, ◌≢◌, ◌⊎◌, inl, inr, ℕ, ◌+◌, ◌-◌, ◌&&◌, ◌||◌, not, Bool, true, false, List, [], ◌∷◌, ◌++◌, Option, refl, sym, subst, ap, ◌∙◌, arith, map, length, take, length-append}
+-- A packet on its way down and up.
+use Rattle.std.proofs.Common.{◌≡◌, ◌+◌, ◌-◌, ◌&&◌, ◌||◌, ◌==◌, not, ℕ, Bool, true, false, List, [], ◌∷◌, ◌++◌}
+use Rattle.std.proofs.Common.{Option}
+use Rattle.std.proofs.Common.{refl, sym, ap, ◌∙◌, arith, length, take, length-append}
+use Rattle.std.specs.Prelude.{if◌then◌else◌}
 use Rattle.std.proofs.Math.Seq.{take-append_seam}
-use Rattle.std.specs.Prelude.{All, eqb, if◌then◌else◌, ◌==◌}
-use Rattle.std.proofs.lemmas.Bool.{cases_eq, eq-eqb}
-use Rattle.std.proofs.lemmas.Bool.Decides.{eqb_tells}
-use Rattle.std.proofs.lemmas.List.Elements.{All-head, All-tail}
 use Rattle.ntstatus.specs.declared.NtStatus.{NtStatus}
+use Rattle.srb.specs.declared.Kind.{Kind}
+use Rattle.srb.specs.declared.Kind.TheVariants.{Read, Write, Flush}
 use Rattle.irp.specs.declared.CancelRoutine.{CancelRoutine}
-use Rattle.irp.specs.declared.Climb.{Climb}
 use Rattle.irp.specs.declared.Irp.{Irp}
 use Rattle.irp.specs.declared.Payload.{Payload}
 use Rattle.irp.specs.declared.StackLocation.{StackLocation}
-use Rattle.irp.specs.Climb.{Climbs, asks, succeeds, above as locations_above}
-use Rattle.irp.specs.Packet.{HasOwn, cancel_routine_of, with_cancel_routine}
-use Rattle.irp.proofs.Returning.{above_is, passes_by}
+use Rattle.irp.specs.Climb.{succeeds, above as locations_above}
+use Rattle.irp.specs.Packet.{cancel_routine_of, with_cancel_routine}
+use Rattle.irp.proofs.Returning.{above_is}
 use Rattle.irp.proofs.Routines.{asks_routine}
 use Rattle.machine.specs.declared.Request.{Request}
-use Rattle.device.specs.View.{Packet, packet_of, packet_number, AsksInLocation}
+use Rattle.device.specs.declared.Climb.{Climb}
+use Rattle.device.specs.Climbing.{Climbs}
+use Rattle.device.specs.View.{Packet, packet_of, AsksInLocation, no_request, major_of}
+use Rattle.device.proofs.Returning.{passes_by}
 use Rattle.hold_filter.specs.declared.table.Held.{Held}
-use Rattle.hold_filter.specs.declared.table.Sent.{Sent}
-use Rattle.hold_filter.specs.Packets.{PassesDown, silent}
-use Rattle.hold_filter.specs.Shown.{spot_of, but_last, packet_below, packet_here}
-use Rattle.hold_filter.specs.Kept.{sent_number}
+use Rattle.hold_filter.specs.inside.Packets.{PassesDown, silent, kind_of, asked_by, last_asked, request_in}
+use Rattle.hold_filter.specs.inside.View.{but_last, packet_below, packet_here}
+
+-- THE REQUEST OF A LOCATION
+
+kind_back : (k : Kind) → kind_of (major_of false k) ≡ k
+kind_back Read = refl
+kind_back Write = refl
+kind_back Flush = refl
+
+through_back : (through : Bool) → ((if through then 0x04 else 0) == 0x04) ≡ through
+through_back true = refl
+through_back false = refl
+
+pub last_is : (request : Request) (higher : List StackLocation) (own : StackLocation)
+    → last_asked request (higher ++ own ∷ []) ≡ asked_by own
+last_is request [] own = refl
+last_is request (h ∷ higher) own = last_is (asked_by h) higher own
+
+-- what a packet asks for in its location is what that is read as
+pub asks_request : (r : Request) (irp : Irp) → AsksInLocation false r irp → request_in irp ≡ r
+asks_request r irp h =
+    let last : request_in irp ≡ asked_by h.own = ap (last_asked no_request) h.is_own
+    ∙ last_is no_request h.higher h.own in
+    let kind : kind_of h.own.major ≡ r.kind = ap kind_of h.major ∙ kind_back r.kind in
+    let through : (h.own.flags.0 == 0x04) ≡ r.through = ap (λ n. n == 0x04) h.flags ∙ through_back r.through in
+    last
+    ∙ ap (λ (k : Kind). record (asked_by h.own) { kind = k }) kind
+    ∙ ap (λ (t : Bool). record (asked_by h.own) { kind = r.kind; through = t }) through
+    ∙ ap (λ n. record (asked_by h.own) { kind = r.kind; through = r.through; volume = n }) h.volume
+    ∙ ap (λ e. record r { extent = e }) h.extent
 
 -- LOCATIONS
 
 -- the location below asks for what the filter's own did
-pub passed_asks : (takes_srb : Bool) (r : Request) (old new : Irp) → AsksInLocation takes_srb r old → PassesDown takes_srb old new → AsksInLocation takes_srb r new
-passed_asks takes_srb r old new h p = record {
+pub passed_asks : (r : Request) (old new : Irp) → AsksInLocation false r old → PassesDown old new
+    → AsksInLocation false r new
+passed_asks r old new h p = record {
   higher = h.higher ++ silent h.own ∷ [];
   own = _;
   is_own = p.locations h.higher h.own h.is_own;
@@ -38,13 +69,26 @@ passed_asks takes_srb r old new h p = record {
 }
 
 -- another cancel routine says nothing of locations
-pub asks_with : (takes_srb : Bool) (r : Request) (irp : Irp) (routine : Option CancelRoutine) → AsksInLocation takes_srb r irp → AsksInLocation takes_srb r (with_cancel_routine routine irp)
-asks_with takes_srb r irp routine h = record { higher = h.higher; own = h.own; is_own = h.is_own; major = h.major; flags = h.flags; volume = h.volume; extent = h.extent }
+pub asks_with : (r : Request) (irp : Irp) (routine : Option CancelRoutine) → AsksInLocation false r irp
+    → AsksInLocation false r (with_cancel_routine routine irp)
+asks_with r irp routine h =
+    record {
+      higher = h.higher;
+      own = h.own;
+      is_own = h.is_own;
+      major = h.major;
+      flags = h.flags;
+      volume =
+          h.volume;
+      extent = h.extent;
+    }
 
 -- above the location below are those above the filter's own, and that one, silent
-pub passed_above : (takes_srb : Bool) (r : Request) (old new : Irp) → (h : AsksInLocation takes_srb r old) → PassesDown takes_srb old new → locations_above new ≡ locations_above old ++ silent h.own ∷ []
-passed_above takes_srb r old new h p =
-    above_is new (h.higher ++ silent h.own ∷ []) _ (p.locations h.higher h.own h.is_own) ∙ ap (λ (ls : List StackLocation). ls ++ silent h.own ∷ []) (sym (above_is old h.higher h.own h.is_own))
+pub passed_above : (r : Request) (old new : Irp) → (h : AsksInLocation false r old) → PassesDown old new
+    → locations_above new ≡ locations_above old ++ silent h.own ∷ []
+passed_above r old new h p =
+    above_is new (h.higher ++ silent h.own ∷ []) _ (p.locations h.higher h.own h.is_own)
+    ∙ ap (λ (ls : List StackLocation). ls ++ silent h.own ∷ []) (sym (above_is old h.higher h.own h.is_own))
 
 pub but_pushed : (ls : List StackLocation) (own : StackLocation) → but_last (ls ++ own ∷ []) ≡ ls
 but_pushed ls own =
@@ -53,61 +97,41 @@ but_pushed ls own =
     ap (λ k. take k (ls ++ own ∷ [])) e ∙ take-append_seam ls (own ∷ [])
 
 -- so a packet that goes below is shown as it was before
-pub shown_as : {R : Type 0} (takes_srb : Bool) (r : Request) (held : Held R) (irp : Irp) (below : ℕ) (sent : List (ℕ × Sent)) → AsksInLocation takes_srb r held.irp → PassesDown takes_srb (with_cancel_routine held.routine held.irp) irp → spot_of sent held.irp.number ≡ held.spot
-    → packet_below sent (packet_of irp below) ≡ packet_here held
-shown_as takes_srb r held irp below sent asks' p spot =
-    let asked : AsksInLocation takes_srb r (with_cancel_routine held.routine held.irp) = asks_with takes_srb r held.irp held.routine asks' in
-    let number : irp.number ≡ held.irp.number = p.kept.number in
-    let above : but_last (locations_above irp) ≡ locations_above held.irp = ap but_last (passed_above takes_srb r (with_cancel_routine held.routine held.irp) irp asked p) ∙ but_pushed (locations_above held.irp) (silent asked.own) in
+pub shown_as : (r : Request) (held : Held) (irp : Irp) → AsksInLocation false r held.irp.value
+    → PassesDown (with_cancel_routine held.routine held.irp.value) irp
+    → packet_below (packet_of irp held.room.spot) ≡ packet_here held
+shown_as r held irp asks' p =
+    let asked : AsksInLocation false r (with_cancel_routine held.routine held.irp.value) =
+    asks_with r held.irp.value held.routine asks' in
+    let number : irp.number ≡ held.irp.value.number = p.kept.number in
+    let above : but_last (locations_above irp) ≡ locations_above held.irp.value =
+    ap but_last (passed_above r (with_cancel_routine held.routine held.irp.value) irp asked p)
+    ∙ but_pushed (locations_above held.irp.value) (silent asked.own) in
     let routine : cancel_routine_of irp ≡ held.routine = p.kept.cancel_routine in
-    let at : spot_of sent irp.number ≡ held.spot = ap (spot_of sent) number ∙ spot in
-    packet_is (packet_below sent (packet_of irp below)) (packet_here held) number at above routine
+    packet_is (packet_below (packet_of irp held.room.spot)) (packet_here held) number refl above routine
   where
-    packet_is : (p q : Packet) → p.number ≡ q.number → p.spot ≡ q.spot → p.above ≡ q.above → p.cancel_routine ≡ q.cancel_routine → p ≡ q
+    packet_is : (p q : Packet) → p.number ≡ q.number → p.spot ≡ q.spot → p.above ≡ q.above
+        → p.cancel_routine ≡ q.cancel_routine → p ≡ q
     packet_is p q a b c d =
         ap (λ (n : ℕ). record p { number = n }) a
         ∙ ap (λ (n : ℕ). record p { number = q.number; spot = n }) b
         ∙ ap (λ (ls : List StackLocation). record p { number = q.number; spot = q.spot; above = ls }) c
-        ∙ ap (λ (r : Option CancelRoutine). record p { number = q.number; spot = q.spot; above = q.above; cancel_routine = r }) d
+        ∙ ap (λ (r : Option CancelRoutine). record p
+        { number = q.number; spot = q.spot; above = q.above; cancel_routine = r }) d
 
 -- CLIMBS
 
 -- a packet that climbs past a silent location climbs as if it were not there
-pub climbs_past : (higher : List StackLocation) (own : StackLocation) (number : ℕ) (cancelled : Bool) (status : NtStatus) (information : ℕ) (payload : Payload) (climb : Climb)
-    → Climbs (higher ++ silent own ∷ []) number cancelled status information payload climb → Climbs higher number cancelled status information payload climb
+pub climbs_past : (higher : List StackLocation) (own : StackLocation) (number : ℕ) (cancelled : Bool)
+    (status : NtStatus) (information : ℕ) (payload : Payload) (climb : Climb)
+    → Climbs (higher ++ silent own ∷ []) number cancelled status information payload climb
+    → Climbs higher number cancelled status information payload climb
 climbs_past higher own number cancelled status information payload climb h =
-    passes_by higher (silent own) number cancelled status information payload climb (asks_routine (succeeds status) cancelled false false false own ∙ never (succeeds status) cancelled) h
+    passes_by higher (silent own) number cancelled status information payload climb
+    (asks_routine (succeeds status) cancelled false false false own ∙ never (succeeds status) cancelled) h
   where
     never : (s c : Bool) → ((s && false) || (not s && false) || (c && false)) ≡ false
     never true true = refl
     never true false = refl
     never false true = refl
     never false false = refl
-
--- SPOTS
-
--- another that was sent does not change the spot
-pub spot_other : (sent : List (ℕ × Sent)) (at : ℕ) (x : Sent) (number : ℕ) → number ≢ x.number → spot_of (sent ++ (at, x) ∷ []) number ≡ spot_of sent number
-spot_other [] at x number ne = elim (eqb_tells x.number number) [ inl (yes', same) ↦ absurd (ne (sym same)) | inr (no', other) ↦ rw no' refl ]
-spot_other (e ∷ sent) at x number ne = ap (λ n. if e.1.number == number then e.1.spot else n) (spot_other sent at x number ne)
-
--- the spot of one that was sent last
-pub spot_last : (sent : List (ℕ × Sent)) (at : ℕ) (x : Sent) → All (λ (e : ℕ × Sent). sent_number e ≢ x.number) sent → spot_of (sent ++ (at, x) ∷ []) x.number ≡ x.spot
-spot_last [] at x h = let same : eqb x.number x.number ≡ true = eq-eqb x.number x.number refl in rw same refl
-spot_last (e ∷ sent) at x h = elim (eqb_tells e.1.number x.number) [
-  | inl (yes', same) ↦ absurd (All-head (λ (e : ℕ × Sent). sent_number e ≢ x.number) e sent h same)
-  | inr (no', other) ↦ rw no' (spot_last sent at x (All-tail (λ (e : ℕ × Sent). sent_number e ≢ x.number) e sent h))
-]
-
--- one fewer does not change the spot of another
-pub spot_removed : (before : List (ℕ × Sent)) (at : ℕ) (x : Sent) (behind : List (ℕ × Sent)) (number : ℕ) → number ≢ x.number → spot_of (before ++ behind) number ≡ spot_of (before ++ (at, x) ∷ behind) number
-spot_removed [] at x behind number ne = elim (eqb_tells x.number number) [ inl (yes', same) ↦ absurd (ne (sym same)) | inr (no', other) ↦ rw no' refl ]
-spot_removed (e ∷ before) at x behind number ne = ap (λ n. if e.1.number == number then e.1.spot else n) (spot_removed before at x behind number ne)
-
--- packets of other numbers are shown alike
-pub shown_alike : (sent sent' : List (ℕ × Sent)) (number : ℕ) (packets : List Packet) → ((other : ℕ) → other ≢ number → spot_of sent' other ≡ spot_of sent other) → All (λ p. packet_number p ≢ number) packets
-    → map (packet_below sent') packets ≡ map (packet_below sent) packets
-shown_alike sent sent' number [] same ne = refl
-shown_alike sent sent' number (p ∷ packets) same ne =
-    let here = same p.number (All-head (λ p. packet_number p ≢ number) p packets ne) in
-    rw (here, shown_alike sent sent' number packets same (All-tail (λ p. packet_number p ≢ number) p packets ne)) refl

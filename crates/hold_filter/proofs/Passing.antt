@@ -1,44 +1,52 @@
 -- Calls that the filter passes on.
-use Rattle.std.proofs.Common.{◌≡◌, ◌<◌, ◌≤◌, ◌⊎◌, inl, inr, ℕ, ◌+◌, Bool, true, false, List, [], ◌∷◌, ◌++◌, Option, Some, None, Result, refl, sym, subst, ap, ◌∙◌, arith, map, length}
-use Rattle.std.specs.Prelude.{All, MatchBool}
+use Rattle.std.proofs.Common.{◌≡◌, inl, inr, ℕ, Bool, true, false, List, [], ◌∷◌, Option, Some, None, Result}
+use Rattle.std.proofs.Common.{sym, subst, ap, ◌∙◌}
+use Rattle.std.specs.Prelude.{MatchBool}
 use Rattle.std.proofs.lemmas.List.Sorted.{IsPermutation-sym, All-permutation}
 use Rattle.srb.specs.declared.Completion.{Completion}
 use Rattle.srb.specs.declared.DeviceLabel.{DeviceLabel}
 use Rattle.srb.specs.declared.Entry.{Entry}
-use Rattle.adapter.specs.View.{AdapterView}
 use Rattle.machine.specs.declared.Label.TheVariants.{Cancel}
-use Rattle.machine.specs.declared.Request.{Request}
+use Rattle.machine.specs.Holding.{Cancels}
 use Rattle.machine.specs.Frame.{framed, with_window}
 use Rattle.device.specs.View.{DeviceView, IsOrderly}
-use Rattle.device.specs.Served.{BooksPiece, Moves, ActsOrFaults, ActsNot, Finishes, FinishesNot, Resets, TakesLabel, Reserves, IsFreshOn, CancelsIfOpen}
+use Rattle.device.specs.Served.{BooksPiece, Moves, ActsOrFaults, ActsNot, Finishes, FinishesNot, Resets}
+use Rattle.device.specs.Served.{TakesLabel}
+use Rattle.device.specs.Served.{IsBeside, CancelsIfOpen}
 use Rattle.machine.proofs.Permuting.{All-changed}
 use Rattle.machine.proofs.Numbers.{AreDistinct-Step}
 use Rattle.machine.proofs.Framed.{Cancels-framed}
 use Rattle.machine.proofs.Held.{Holds-Cancels}
-use Rattle.hold_filter.specs.Books.{Books}
-use Rattle.hold_filter.specs.Shown.{frame_of, state_of, view_of}
-use Rattle.hold_filter.specs.Kept.{AsksAdmitted, FilterKept, IsInHand}
-use Rattle.hold_filter.proofs.Moving.{moved_to, moved_is, Passes, passes, passes_same, passes_stays, shown_moves}
+use Rattle.hold_filter.specs.inside.Books.{Books}
+use Rattle.hold_filter.specs.inside.View.{frame_of, state_of, view_of}
+use Rattle.hold_filter.specs.inside.Kept.{AsksAdmitted, IsInHand}
+use Rattle.hold_filter.proofs.Moving.{moved_to, moved_is, passes, passes_same, passes_stays, shown_moves}
 
-module _ {R : Type 0} (request_of : R → Request) (ready : R → Type 0) (stack_size : ℕ) (takes_srb : Bool) (out out' : List R → Type 0) (v : DeviceView) (b : Books R) (rooms : List R) (v' : DeviceView)
-    (k : FilterKept request_of ready stack_size takes_srb out v b rooms) (keeps : (rooms : List R) → out rooms → out' rooms) (law : (rooms : List R) → out' rooms → IsOrderly v') where
+module _ (stack_size : ℕ) (v : DeviceView) (b : Books) (v' : DeviceView) (k : IsInHand stack_size v b)
+    (ordered : IsOrderly v') where
   abbrev Shown : DeviceView → DeviceView
-  Shown w = view_of request_of w b
+  Shown w = view_of w b
 
-  abbrev IsPassed : Type 0
-  IsPassed = Passes request_of ready stack_size takes_srb out out' v b v'
+  -- what is shown moves as the device below, and the filter is in order
+  abbrev Over : (DeviceView → DeviceView → Type 0) → Type 0
+  Over P = IsInHand stack_size v' b × P (view_of v b) (view_of v' b)
 
-  moved : (labels : List DeviceLabel) → Moves v labels v' → IsPassed
-  moved labels m = passes request_of ready stack_size takes_srb out out' v b rooms labels v' v'.adapter k keeps law m
+  moved : (labels : List DeviceLabel) → Moves v labels v' → IsInHand stack_size v' b
+  moved labels m = passes stack_size v b labels v' v'.adapter ordered m k
 
   shown : (labels : List DeviceLabel) (w : DeviceView) → Moves v labels w → Moves (Shown v) labels (Shown w)
-  shown labels w m = shown_moves request_of ready stack_size takes_srb out v b rooms labels w k m
+  shown labels w m = shown_moves stack_size v b labels w k.kept m
 
-  same : v' ≡ record v { adapter = v'.adapter } → IsPassed
-  same e = passes_same request_of ready stack_size takes_srb out out' v b rooms v' k keeps law e
+  same : v' ≡ record v { adapter = v'.adapter } → IsInHand stack_size v' b
+  same e = passes_same stack_size v b v' ordered e k
+
+  pub same_hand : v' ≡ v → IsInHand stack_size v' b
+  same_hand e = subst (λ (x : DeviceView). IsInHand stack_size x b) (sym e) k
 
   -- an act
-  pub acts : (tag : ℕ) (result : Bool) → MatchBool result (ActsOrFaults v tag v') (ActsNot v tag v') → IsPassed × MatchBool result (ActsOrFaults (Shown v) tag (Shown v')) (ActsNot (Shown v) tag (Shown v'))
+  pub acts : (tag : ℕ) (result : Bool) → MatchBool result (ActsOrFaults v tag v') (ActsNot v tag v')
+      → IsInHand stack_size v' b × MatchBool result (ActsOrFaults (Shown v) tag (Shown v'))
+      (ActsNot (Shown v) tag (Shown v'))
   acts tag true h = (
     moved (h.label ∷ []) h.moves,
     record {
@@ -51,15 +59,18 @@ module _ {R : Type 0} (request_of : R → Request) (ready : R → Type 0) (stack
     },
   )
   acts tag false h = (
-    same (h.same ∙ ap (λ (x : DeviceView). record v { adapter = x.adapter }) (sym h.same)),
+    same_hand h.same,
     record {
-      none = λ piece fresh. h.none piece (record { is_out = fresh.is_out; is_tag = fresh.is_tag; is_fresh = fresh.is_fresh });
+      none = λ piece fresh. h.none piece
+          (record { is_out = fresh.is_out; is_tag = fresh.is_tag; is_fresh = fresh.is_fresh });
       same = ap Shown h.same;
     },
   )
 
   -- a return
-  pub finishes : (tag : ℕ) (result : Bool) → MatchBool result (Finishes v tag v') (FinishesNot v tag v') → IsPassed × MatchBool result (Finishes (Shown v) tag (Shown v')) (FinishesNot (Shown v) tag (Shown v'))
+  pub finishes : (tag : ℕ) (result : Bool) → MatchBool result (Finishes v tag v') (FinishesNot v tag v')
+      → IsInHand stack_size v' b × MatchBool result (Finishes (Shown v) tag (Shown v'))
+      (FinishesNot (Shown v) tag (Shown v'))
   finishes tag true h = (
     moved _ h.moves,
     record {
@@ -72,12 +83,12 @@ module _ {R : Type 0} (request_of : R → Request) (ready : R → Type 0) (stack
       moves = shown _ v' h.moves;
     },
   )
-  finishes tag false h = (same (h.same ∙ ap (λ (x : DeviceView). record v { adapter = x.adapter }) (sym h.same)), record { free = h.free; same = ap Shown h.same })
+  finishes tag false h = (same_hand h.same, record { free = h.free; same = ap Shown h.same })
 
   -- a reset
-  pub resets : Resets v v' → IsPassed × Resets (Shown v) (Shown v')
+  pub resets : Resets v v' → IsInHand stack_size v' b × Resets (Shown v) (Shown v')
   resets h = (
-    passes request_of ready stack_size takes_srb out out' v b rooms _ v' h.all_faulted k keeps law h.moves,
+    passes stack_size v b _ v' h.all_faulted ordered h.moves k,
     record {
       fresh = h.fresh;
       all_faulted = h.all_faulted;
@@ -89,29 +100,42 @@ module _ {R : Type 0} (request_of : R → Request) (ready : R → Type 0) (stack
   )
 
   -- a label is taken
-  pub takes : (label : Option DeviceLabel) → TakesLabel v label v' → IsPassed × TakesLabel (Shown v) label (Shown v')
-  takes None h = (same (h.1 ∙ ap (λ (x : DeviceView). record v { adapter = x.adapter }) (sym h.1)), (h.0, ap Shown h.1))
-  takes (Some label) h = (same (h.2 ∙ ap (λ (x : DeviceView). record v { adapter = x.adapter }) (sym h.2)), (h.0, h.1, ap Shown h.2))
+  pub takes : (label : Option DeviceLabel) → TakesLabel v label v'
+      → IsInHand stack_size v' b × TakesLabel (Shown v) label (Shown v')
+  takes None h = (same_hand h.1, (h.0, ap Shown h.1))
+  takes (Some label) h =
+      (same (h.2 ∙ ap (λ (x : DeviceView). record v { adapter = x.adapter }) (sym h.2)), (h.0, h.1, ap Shown h.2))
 
   -- what an act did is booked
-  pub books : (tag piece : ℕ) (what : Result Entry Completion) → BooksPiece v tag piece what v' → IsPassed × BooksPiece (Shown v) tag piece what (Shown v')
+  pub books : (tag piece : ℕ) (what : Result Entry Completion) → BooksPiece v tag piece what v'
+      → IsInHand stack_size v' b × BooksPiece (Shown v) tag piece what (Shown v')
   books tag piece what h = (same h.same, record { adapter = h.adapter; same = ap Shown h.same })
 
-  -- a packet below is cancelled, or none
-  pub cancels : (number : ℕ) → CancelsIfOpen v number v' → IsPassed
-  cancels number h = elim h.one_of [
-    | inl (c, beside) ↦
-        let e : v' ≡ moved_to v v'.state v'.packets v'.adapter = moved_is v v' beside.same_rules beside.same_submitted beside.same_most in
-        passes_stays request_of ready stack_size takes_srb out out' v b v' e (record {
-          keeps = keeps;
-          ordered = subst IsOrderly e (law _ (keeps _ k.rooms_below));
-          packets = beside.same_packets;
-          next_request = c.after.next_request;
-          removing = c.after.removing;
-          holds = Holds-Cancels b.window (frame_of request_of v.rules b) v.state number v'.state k.holds c;
-          distinct = AreDistinct-Step (with_window (Some b.window) v.rules) (state_of request_of v b) (Cancel number) (framed (frame_of request_of v.rules b) v'.state) k.distinct
-              (inl (k.ordered.none_owed, Cancels-framed (frame_of request_of v.rules b) (Some b.window) v.rules v.state number v'.state c));
-          asked_below = All-permutation (AsksAdmitted v.rules) _ _ (IsPermutation-sym _ _ c.after.requests) (All-changed (AsksAdmitted v.rules) v.state.requests c.request _ c.others c.is_open k.asked_below (λ mine. mine));
-        })
-    | inr (none, gone) ↦ same (gone ∙ ap (λ (x : DeviceView). record v { adapter = x.adapter }) (sym gone))
-  ]
+  -- a packet below is cancelled
+  pub cancelled : (number : ℕ) → Cancels v.state number v'.state → IsBeside v v' → IsInHand stack_size v' b
+  cancelled number c beside =
+      let e : v' ≡ moved_to v v'.state v'.packets v'.rooms v'.adapter =
+      moved_is v v' beside.same_rules beside.same_submitted beside.same_most in
+      passes_stays stack_size v b v' e (record {
+        ordered = subst IsOrderly e ordered;
+        packets = beside.same_packets;
+        same_rooms = beside.same_rooms;
+        next_request = c.after.next_request;
+        removing = c.after.removing;
+        holds = Holds-Cancels b.window (frame_of v.rules b) v.state number v'.state k.kept.holds c;
+        distinct = AreDistinct-Step (with_window (Some b.window) v.rules) (state_of v b) (Cancel number)
+            (framed (frame_of v.rules b) v'.state) k.kept.distinct
+            (inl (
+              k.kept.ordered.none_owed,
+              Cancels-framed (frame_of v.rules b) (Some b.window) v.rules v.state number
+                  v'.state c,
+            ));
+        asked_below = All-permutation (AsksAdmitted v.rules) _ _ (IsPermutation-sym _ _ c.after.requests)
+            (All-changed (AsksAdmitted v.rules) v.state.requests c.request _ c.others c.is_open k.kept.asked_below
+            (λ mine. mine));
+      }) k
+
+  -- or none
+  pub cancels : (number : ℕ) → CancelsIfOpen v number v' → IsInHand stack_size v' b
+  cancels number h = elim h.one_of
+      [ inl (c, beside) ↦ cancelled number c beside | inr (none, gone) ↦ same_hand gone ]

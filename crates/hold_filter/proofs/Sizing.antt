@@ -1,5 +1,7 @@
 -- A request that the device below takes, in numbers: it has a place, and the machine doesn't refuse it.
-use Rattle.std.proofs.Common.{◌≡◌, ◌<◌, ◌≤◌, ◌⊎◌, inl, inr, ℕ, zero, suc, ◌+◌, ◌*◌, ◌/◌, ◌%◌, ◌==◌, ◌&&◌, Bool, true, false, nat_le, List, [], None, refl, subst, ◌∙◌, arith, length}
+use Rattle.std.proofs.Common.{◌≡◌, ◌<◌, ◌≤◌, ◌⊎◌, inl, inr, ℕ, ◌*◌, ◌/◌, ◌%◌, ◌==◌, ◌&&◌, Bool}
+use Rattle.std.proofs.Common.{true}
+use Rattle.std.proofs.Common.{false, nat_le, List, [], Option, None, refl, ◌∙◌, arith, length}
 use Rattle.std.proofs.lemmas.Bool.Decides.{nat_tests}
 use Rattle.std.proofs.lemmas.List.{nil_from_length}
 use Rattle.std.proofs.lemmas.Nat.{mul-le}
@@ -9,11 +11,12 @@ use Rattle.irp.specs.declared.Payload.TheVariants.{Srb as Packed, Buffer, Sent a
 use Rattle.srb.specs.declared.Kind.{Kind}
 use Rattle.srb.specs.declared.Kind.TheVariants.{Read, Write, Flush}
 use Rattle.machine.specs.declared.Request.{Request}
-use Rattle.machine.specs.Rules.{Rules, is_transfer, as_client, place_count, is_in_bounds}
+use Rattle.machine.specs.Rules.{Rules, is_transfer, as_client, is_in_bounds}
 use Rattle.machine.specs.State.{State}
+use Rattle.machine.specs.Frame.{with_window}
 use Rattle.machine.specs.Calling.{refusal, bytes_carried}
 use Rattle.device.specs.View.{IsBounded, Carries, transfer_length, payload_bytes, sent_bytes}
-use Rattle.hold_filter.specs.Kept.{IsAdmitted}
+use Rattle.hold_filter.specs.inside.Kept.{IsAdmitted}
 
 by_kind : (k : Kind) → (is_transfer k ≡ true) ⊎ (is_transfer k ≡ false)
 by_kind Read = inl refl
@@ -35,11 +38,14 @@ product_some : (m n : ℕ) → 0 < m → 0 < n → 0 < m * n
 product_some m n h k = let p : 1 * 1 ≤ m * n = mul-le 1 1 m n h k in omega arith
 
 -- a request in bounds is admitted
-pub admitted : (rules : Rules) (r : Request) → 0 < rules.sector_size → IsBounded rules r → IsAdmitted rules (as_client rules r [])
+pub admitted : (rules : Rules) (r : Request) → 0 < rules.sector_size → IsBounded rules r
+    → IsAdmitted rules (as_client rules r [])
 admitted rules r some b = record {
   known = refl;
-  inside = λ is. let count_rest : (r.extent.count * rules.sector_size) % rules.sector_size ≡ 0 = mul-mod_left r.extent.count rules.sector_size in
-      let first_rest : (r.extent.first * rules.sector_size) % rules.sector_size ≡ 0 = mul-mod_left r.extent.first rules.sector_size in
+  inside = λ is. let count_rest : (r.extent.count * rules.sector_size) % rules.sector_size ≡ 0 =
+      mul-mod_left r.extent.count rules.sector_size in
+      let first_rest : (r.extent.first * rules.sector_size) % rules.sector_size ≡ 0 =
+      mul-mod_left r.extent.first rules.sector_size in
       rw (count_rest, first_rest, count, first) (two_true _ _ (le_true _ _ b.inside) (le_true _ _ b.short));
   some = λ is. not_zero _ (product_some r.extent.count rules.sector_size (b.some is) some);
   places = elim (by_kind r.kind) [
@@ -55,7 +61,9 @@ admitted rules r some b = record {
     first = mul-div_cancel r.extent.first some
 
 -- nothing refuses it, where open requests are not counted
-pub not_refused : (rules : Rules) (r : Request) → IsAdmitted rules (as_client rules r []) → (bytes : List ℕ) (s : State) → rules.open_requests ≡ None → s.removing ≡ false → refusal rules s (as_client rules r bytes) ≡ None
+pub not_refused : (rules : Rules) (r : Request) → IsAdmitted rules (as_client rules r [])
+    → (bytes : List ℕ) (s : State)
+    → rules.open_requests ≡ None → s.removing ≡ false → refusal rules s (as_client rules r bytes) ≡ None
 not_refused rules r a bytes s uncounted stays = elim (by_kind r.kind) [
   | inl is ↦
       let bounds : is_in_bounds rules (as_client rules r bytes) ≡ true = a.inside is in
@@ -64,25 +72,40 @@ not_refused rules r a bytes s uncounted stays = elim (by_kind r.kind) [
   | inr is ↦ rw (stays, is, uncounted) refl
 ]
 
-all_bytes : (takes_srb : Bool) (rules : Rules) (r : Request) (payload : Payload) → Carries takes_srb rules r payload → length (payload_bytes payload) ≡ transfer_length rules r
-all_bytes false rules r (Buffer bytes) c = c
-all_bytes false rules r (Packed srb) c = absurd c
-all_bytes false rules r AtAdapter c = absurd c
-all_bytes true rules r (Packed srb) c = c.data_length
-all_bytes true rules r (Buffer bytes) c = absurd c
-all_bytes true rules r AtAdapter c = absurd c
+all_bytes : (rules : Rules) (r : Request) (payload : Payload) → Carries false rules r payload
+    → length (payload_bytes payload) ≡ transfer_length rules r
+all_bytes rules r (Buffer bytes) c = c
+all_bytes rules r (Packed srb) c = absurd c
+all_bytes rules r AtAdapter c = absurd c
 
 -- a packet's payload has the bytes that a write brings
-pub carries_bytes : (takes_srb : Bool) (rules : Rules) (r : Request) (payload : Payload) → Carries takes_srb rules r payload → length (sent_bytes r.kind payload) ≡ bytes_carried r.kind (r.extent.count * rules.sector_size)
-carries_bytes takes_srb rules r payload c = by r.kind (all_bytes takes_srb rules r payload c)
+pub carries_bytes : (rules : Rules) (r : Request) (payload : Payload) → Carries false rules r payload
+    → length (sent_bytes r.kind payload) ≡ bytes_carried r.kind (r.extent.count * rules.sector_size)
+carries_bytes rules r payload c = by r.kind (all_bytes rules r payload c)
   where
-    by : (k : Kind) → length (payload_bytes payload) ≡ transfer_length rules (record r { kind = k }) → length (sent_bytes k payload) ≡ bytes_carried k (r.extent.count * rules.sector_size)
+    by : (k : Kind) → length (payload_bytes payload) ≡ transfer_length rules (record r { kind = k })
+        → length (sent_bytes k payload) ≡ bytes_carried k (r.extent.count * rules.sector_size)
     by Read h = refl
     by Write h = h
     by Flush h = refl
 
 -- that of a flush has none
-pub carries_none : (takes_srb : Bool) (rules : Rules) (r : Request) (payload : Payload) → Carries takes_srb rules r payload → r.kind ≡ Flush → payload_bytes payload ≡ []
-carries_none takes_srb rules r payload c is =
+pub carries_none : (rules : Rules) (r : Request) (payload : Payload) → Carries false rules r payload
+    → r.kind ≡ Flush
+    → payload_bytes payload ≡ []
+carries_none rules r payload c is =
     let none : transfer_length rules r ≡ 0 = rw is refl in
-    nil_from_length (payload_bytes payload) (all_bytes takes_srb rules r payload c ∙ none)
+    nil_from_length (payload_bytes payload) (all_bytes rules r payload c ∙ none)
+
+-- the window says nothing of what a packet carries
+pub carries_window : (rules : Rules) (window : Option ℕ) (r : Request) (payload : Payload)
+    → Carries false rules r payload → Carries false (with_window window rules) r payload
+carries_window rules window r (Buffer bytes) h = h
+carries_window rules window r (Packed srb) h = absurd h
+carries_window rules window r AtAdapter h = absurd h
+
+pub carries_below : (rules : Rules) (window : Option ℕ) (r : Request) (payload : Payload)
+    → Carries false (with_window window rules) r payload → Carries false rules r payload
+carries_below rules window r (Buffer bytes) h = h
+carries_below rules window r (Packed srb) h = absurd h
+carries_below rules window r AtAdapter h = absurd h

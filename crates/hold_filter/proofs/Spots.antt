@@ -1,101 +1,189 @@
--- Where packets stand: what a change of one spot leaves of all others.
-use Rattle.std.proofs.Common.{◌≡◌, ◌≢◌, ◌⊎◌, inl, inr, ℕ, ◌+◌, Bool, true, false, List, [], ◌∷◌, Option, Some, None, refl, sym, subst, ap, ◌∙◌, arith, map, length, get_or}
-use Rattle.std.specs.Prelude.{All, Contains, IsPermutation, eqb}
+-- What each step leaves of the rooms.
+use Rattle.std.proofs.Common.{◌≡◌, ◌≤◌, inl, inr, ℕ, List, [], ◌∷◌, ◌++◌, Option, Some, None, refl, sym}
+use Rattle.std.proofs.Common.{subst, ap, ◌∙◌, arith, map, eqb}
+use Rattle.std.specs.Prelude.{All, IsPermutation}
 use Rattle.std.specs.List.{IsDistinct}
 use Rattle.std.proofs.lemmas.Bool.{cases_eq}
-use Rattle.std.proofs.lemmas.Bool.Decides.{eqb_tells}
-use Rattle.std.proofs.lemmas.List.Elements.{All-cons, All-head, All-tail, All-map, All-weaker, recursion_from_All}
-use Rattle.std.proofs.lemmas.List.Sorted.{IsPermutation-refl, All-permutation, Contains-permutation, IsPermutation-map, length_permutation}
-use Rattle.std.proofs.lemmas.Map.Keys.{IsDistinct-IsPermutation, IsDistinct-tail, IsDistinct-cons}
-use Rattle.slab.proofs.SlabLemmas.{Contains-cons, Contains-cons_cases}
-use Rattle.machine.proofs.Permuting.{distinct_first, flips}
-use Rattle.hold_filter.specs.declared.table.Spot.{Spot}
-use Rattle.hold_filter.specs.Books.{spot_at, spots_used}
-use Rattle.hold_filter.specs.Turns.{Marks, Puts, Changes, Takes}
-use Rattle.hold_filter.specs.Kept.{StandsIn, spot_in, AreMarked}
+use Rattle.std.proofs.lemmas.List.Elements.{All-cons, All-head, All-tail, All-push, All-weaker}
+use Rattle.std.proofs.lemmas.List.Sorted.{IsPermutation-sym, IsPermutation-map, All-permutation}
+use Rattle.std.proofs.lemmas.Map.Keys.{IsDistinct-IsPermutation}
+use Rattle.machine.specs.Rules.{Rules, as_client}
+use Rattle.machine.proofs.Permuting.{flips}
+use Rattle.device.specs.View.{Packet, Reserved, room_at, whole_for, packet_spot}
+use Rattle.device.specs.Served.{SameRooms, SetsRoom}
+use Rattle.hold_filter.specs.declared.table.Held.{Held}
+use Rattle.hold_filter.specs.inside.Books.{Places, packet_in}
+use Rattle.hold_filter.specs.inside.Packets.{request_in}
+use Rattle.hold_filter.specs.inside.Turns.{IsCovered, marked}
+use Rattle.hold_filter.specs.inside.Kept.{IsAdmitted, IsAtOwn, HasRoom, HasPlace, RoomsKept, spot_in}
+use Rattle.hold_filter.proofs.Lists.{here_of, others_of}
+use Rattle.hold_filter.proofs.Here.{held_first, ended_first, last_first}
+use Rattle.hold_filter.proofs.Rooms.{IsOff, none_some, first_off, rest_apart, one_apart}
 
-differ : (a b : ℕ) → a ≢ b → eqb a b ≡ false
-differ a b h = elim (eqb_tells a b) [ inl (yes', same) ↦ absurd (h same) | inr (no', other) ↦ no' ]
+some_some : (r s : Reserved) → Some r ≡ Some s → r ≡ s
+some_some r s e = cc (e)
 
-abbrev IsElsewhere : ℕ → ℕ × Spot → Type 0
-IsElsewhere spot m = spot_in m ≢ spot
+-- packets here have spots that are reserved
+pub off_all : (rooms : List (Option Reserved)) (spot : ℕ) (hs : List Held) → All (HasRoom rooms) hs
+    → room_at rooms spot ≡ None → All (IsOff spot) hs
+off_all rooms spot hs h none =
+    All-weaker (HasRoom rooms) (IsOff spot)
+    (λ x is e. none_some (whole_for (request_in x.irp.value)) (sym none ∙ ap (room_at rooms) (sym e) ∙ is)) hs h
 
-distinct_with : (spot : ℕ) (marks : List (ℕ × Spot)) → All (IsElsewhere spot) marks → IsDistinct eqb (map spot_in marks) → IsDistinct eqb (spot ∷ map spot_in marks)
-distinct_with spot marks apart h =
-    IsDistinct-cons eqb spot (map spot_in marks)
-    (recursion_from_All (λ y. eqb spot y ≡ false) (map spot_in marks) (All-map (λ y. eqb spot y ≡ false) spot_in marks (All-weaker (IsElsewhere spot) (λ m. eqb spot (spot_in m) ≡ false) (λ m ne. differ spot (spot_in m) (λ e. ne (sym e))) marks apart))) h
+-- those of other spots keep their rooms
+pub rooms_beside : (old new : List (Option Reserved)) (spot : ℕ) (before after : Option Reserved) (hs : List Held)
+    → SetsRoom old spot before after new → All (IsOff spot) hs → All (HasRoom old) hs → All (HasRoom new) hs
+rooms_beside old new spot before after hs sets off h i d low = sets.others _ (off i d low) ∙ h i d low
 
-first : (spot : ℕ) (found : Spot) (marks : List (ℕ × Spot)) (at : ℕ) (there : Spot) → spot ≡ at → found ≡ there → Contains ((spot, found) ∷ marks) (at, there)
-first spot found marks at there e same =
-    subst (λ (n : ℕ). Contains ((spot, found) ∷ marks) (n, there)) e (subst (λ (x : Spot). Contains ((spot, found) ∷ marks) (spot, x)) same (0, omega arith, refl))
+pub covered_more : (places places' : Places) (spot : ℕ) → places.held ≤ places'.held → places.ended ≤ places'.ended
+    → IsCovered places spot → IsCovered places' spot
+covered_more places places' spot a b c = let p = c.in_held in let q = c.in_ended in
+    record { in_held = omega arith; in_ended = omega arith }
 
--- in any order
-pub AreMarked-permutation : (spots : List (Option Spot)) (ms ns : List (ℕ × Spot)) → IsPermutation ms ns → AreMarked spots ms → AreMarked spots ns
-AreMarked-permutation spots ms ns p h = record {
-  stand = All-permutation (StandsIn spots) _ _ p h.stand;
-  known = λ spot found is. Contains-permutation ms ns (spot, found) p (h.known spot found is);
-  apart = IsDistinct-IsPermutation eqb flips _ _ (IsPermutation-map spot_in _ _ p) h.apart;
-  used = h.used ∙ sym (length_permutation _ _ p);
-}
+module _ (rules : Rules) (rooms : List (Option Reserved)) (packets : List Packet) (held ended : List (ℕ × Held))
+    (places : Places) (k : RoomsKept rules rooms packets held ended places) where
+  -- a call that leaves the rooms as they were
+  pub kept_same : (rooms' : List (Option Reserved)) (packets' : List Packet) → SameRooms rooms rooms'
+      → IsPermutation packets' packets → RoomsKept rules rooms' packets' held ended places
+  kept_same rooms' packets' same p = record {
+    bounded = λ spot r is. k.bounded spot r (sym (same spot) ∙ is);
+    covered = λ spot r is. k.covered spot r (sym (same spot) ∙ is);
+    taken = All-permutation (HasPlace places) _ _ (IsPermutation-sym _ _ p) k.taken;
+    reserved = All-weaker (HasRoom rooms) (HasRoom rooms') (λ x is. same (spot_in x) ∙ is)
+        (map packet_in held ++ map packet_in ended) k.reserved;
+    apart = k.apart;
+    held_own = k.held_own;
+    ended_own = k.ended_own;
+  }
 
--- what stands elsewhere stays
-stay : (spots spots' : List (Option Spot)) (spot : ℕ) (marks : List (ℕ × Spot)) → ((other : ℕ) → other ≢ spot → spot_at spots' other ≡ spot_at spots other) → All (IsElsewhere spot) marks → All (StandsIn spots) marks → All (StandsIn spots') marks
-stay spots spots' spot marks same apart h k d low = same (get_or marks k d).0 (apart k d low) ∙ h k d low
+  -- a packet is held, behind all others
+  pub kept_in : (x : Held) → HasRoom rooms x → All (IsOff (spot_in x)) (map packet_in held ++ map packet_in ended)
+      → RoomsKept rules rooms packets (held ++ (x.room.spot, x) ∷ []) ended places
+  kept_in x is off =
+      let p : IsPermutation (map packet_in (held ++ (x.room.spot, x) ∷ []) ++ map packet_in ended)
+      (x ∷ (map packet_in held ++ map packet_in ended)) = last_first held x.room.spot x (map packet_in ended) in
+      record {
+        bounded = k.bounded;
+        covered = k.covered;
+        taken = k.taken;
+        reserved = All-permutation (HasRoom rooms) _ _ (IsPermutation-sym _ _ p)
+            (All-cons (HasRoom rooms) x (map packet_in held ++ map packet_in ended) is k.reserved);
+        apart = IsDistinct-IsPermutation eqb flips _ _ (IsPermutation-sym _ _ (IsPermutation-map spot_in _ _ p))
+            (one_apart x (map packet_in held ++ map packet_in ended) off k.apart);
+        held_own = All-push IsAtOwn held (x.room.spot, x) k.held_own refl;
+        ended_own = k.ended_own;
+      }
 
--- one more, at a spot that was vacant
-pub AreMarked-put : (spots spots' : List (Option Spot)) (spot : ℕ) (found : Spot) (marks : List (ℕ × Spot)) → Puts spots spot found spots' → AreMarked spots marks → AreMarked spots' ((spot, found) ∷ marks)
-AreMarked-put spots spots' spot found marks put h = record {
-  stand = All-cons (StandsIn spots') (spot, found) marks put.marks.marked (stay spots spots' spot marks put.marks.others apart h.stand);
-  known = λ at there is. by_spot at there is (cases_eq at spot);
-  apart = distinct_with spot marks apart h.apart;
-  used = let a = h.used in let b = put.used in omega arith;
-}
-  where
-    apart : All (IsElsewhere spot) marks
-    apart = All-weaker (StandsIn spots) (IsElsewhere spot) (λ m stands e. cc (ap (spot_at spots) e, stands, put.was_vacant)) marks h.stand
+  -- one is cancelled
+  pub kept_cancelled : (before : List (ℕ × Held)) (at : ℕ) (x : Held) (behind : List (ℕ × Held))
+      → held ≡ before ++ (at, x) ∷ behind
+      → RoomsKept rules rooms packets (before ++ behind) (ended ++ (at, marked x) ∷ []) places
+  kept_cancelled before at x behind is =
+      let others : List Held = map packet_in (before ++ behind) ++ map packet_in ended in
+      let was : IsPermutation (map packet_in held ++ map packet_in ended) (x ∷ others) =
+      held_first held before at x behind (map packet_in ended) is in
+      let now : IsPermutation (map packet_in (before ++ behind) ++ map packet_in (ended ++ (at, marked x) ∷ []))
+      (marked x ∷ others) = ended_first (before ++ behind) ended at (marked x) in
+      let first : All (HasRoom rooms) (x ∷ others) = All-permutation (HasRoom rooms) _ _ was k.reserved in
+      let apart : IsDistinct eqb (map spot_in (marked x ∷ others)) =
+      IsDistinct-IsPermutation eqb flips _ _ (IsPermutation-map spot_in _ _ was) k.apart in
+      record {
+        bounded = k.bounded;
+        covered = k.covered;
+        taken = k.taken;
+        reserved = All-permutation (HasRoom rooms) _ _ (IsPermutation-sym _ _ now)
+            (All-cons (HasRoom rooms) (marked x) others (All-head (HasRoom rooms) x others first)
+            (All-tail (HasRoom rooms) x others first));
+        apart = IsDistinct-IsPermutation eqb flips _ _ (IsPermutation-sym _ _ (IsPermutation-map spot_in _ _ now))
+            apart;
+        held_own = others_of IsAtOwn held before (at, x) behind is k.held_own;
+        ended_own = All-push IsAtOwn ended (at, marked x) k.ended_own
+            (here_of IsAtOwn held before (at, x) behind is k.held_own);
+      }
 
-    by_spot : (at : ℕ) (there : Spot) → spot_at spots' at ≡ Some there → (at ≡ spot) ⊎ (at ≡ spot → ⊥) → Contains ((spot, found) ∷ marks) (at, there)
-    by_spot at there is (inl e) =
-        let same : found ≡ there = cc (put.marks.marked, ap (spot_at spots') e, is) in
-        first spot found marks at there (sym e) same
-    by_spot at there is (inr ne) = Contains-cons (spot, found) (at, there) marks (h.known at there (sym (put.marks.others at ne) ∙ is))
+  -- one leaves the packets here, and its room stays
+  pub kept_out : (x : Held) (held' ended' : List (ℕ × Held))
+      → IsPermutation (map packet_in held ++ map packet_in ended)
+      (x ∷ (map packet_in held' ++ map packet_in ended'))
+      → All IsAtOwn held' → All IsAtOwn ended'
+      → RoomsKept rules rooms packets held' ended' places
+  kept_out x held' ended' p held_own ended_own = record {
+    bounded = k.bounded;
+    covered = k.covered;
+    taken = k.taken;
+    reserved = All-tail (HasRoom rooms) x (map packet_in held' ++ map packet_in ended')
+        (All-permutation (HasRoom rooms) _ _ p k.reserved);
+    apart = rest_apart x (map packet_in held' ++ map packet_in ended')
+        (IsDistinct-IsPermutation eqb flips _ _ (IsPermutation-map spot_in _ _ p) k.apart);
+    held_own = held_own;
+    ended_own = ended_own;
+  }
 
--- another, at a spot that was in use
-pub AreMarked-change : (spots spots' : List (Option Spot)) (spot : ℕ) (found found' : Spot) (marks : List (ℕ × Spot)) → Changes spots spot found' spots' → AreMarked spots ((spot, found) ∷ marks) → AreMarked spots' ((spot, found') ∷ marks)
-AreMarked-change spots spots' spot found found' marks change h = record {
-  stand = All-cons (StandsIn spots') (spot, found') marks change.marks.marked (stay spots spots' spot marks change.marks.others apart (All-tail (StandsIn spots) (spot, found) marks h.stand));
-  known = λ at there is. by_spot at there is (cases_eq at spot);
-  apart = h.apart;
-  used = change.used ∙ h.used;
-}
-  where
-    apart : All (IsElsewhere spot) marks
-    apart = distinct_first spot_in ((spot, found) ∷ marks) (spot, found) marks h.apart (IsPermutation-refl _)
+  -- it has its room, which no other has
+  pub has_room : (x : Held) (hs : List Held) → IsPermutation (map packet_in held ++ map packet_in ended) (x ∷ hs)
+      → HasRoom rooms x
+  has_room x hs p = All-head (HasRoom rooms) x hs (All-permutation (HasRoom rooms) _ _ p k.reserved)
 
-    by_spot : (at : ℕ) (there : Spot) → spot_at spots' at ≡ Some there → (at ≡ spot) ⊎ (at ≡ spot → ⊥) → Contains ((spot, found') ∷ marks) (at, there)
-    by_spot at there is (inl e) =
-        let same : found' ≡ there = cc (change.marks.marked, ap (spot_at spots') e, is) in
-        first spot found' marks at there (sym e) same
-    by_spot at there is (inr ne) = elim (Contains-cons_cases (spot, found) (at, there) marks (h.known at there (sym (change.marks.others at ne) ∙ is))) [
-      | inl e ↦ absurd (ne (sym (ap spot_in e)))
-      | inr c ↦ Contains-cons (spot, found') (at, there) marks c
-    ]
+  pub others_off : (x : Held) (hs : List Held) → IsPermutation (map packet_in held ++ map packet_in ended) (x ∷ hs)
+      → All (IsOff (spot_in x)) hs
+  others_off x hs p = first_off x hs
+      (IsDistinct-IsPermutation eqb flips _ _ (IsPermutation-map spot_in _ _ p) k.apart)
 
--- one fewer
-pub AreMarked-take : (spots spots' : List (Option Spot)) (spot : ℕ) (found : Spot) (marks : List (ℕ × Spot)) → Takes spots spot spots' → AreMarked spots ((spot, found) ∷ marks) → AreMarked spots' marks
-AreMarked-take spots spots' spot found marks take h = record {
-  stand = stay spots spots' spot marks take.marks.others apart (All-tail (StandsIn spots) (spot, found) marks h.stand);
-  known = λ at there is. by_spot at there is (cases_eq at spot);
-  apart = IsDistinct-tail eqb spot (map spot_in marks) h.apart;
-  used = let a = h.used in let b = take.used in omega arith;
-}
-  where
-    apart : All (IsElsewhere spot) marks
-    apart = distinct_first spot_in ((spot, found) ∷ marks) (spot, found) marks h.apart (IsPermutation-refl _)
+  -- a room below is spent, or given back
+  pub kept_less : (rooms' : List (Option Reserved)) (packets' : List Packet) (spot : ℕ) (before : Option Reserved)
+      → SetsRoom rooms spot before None rooms' → All (IsOff spot) (map packet_in held ++ map packet_in ended)
+      → All (HasPlace places) packets'
+      → RoomsKept rules rooms' packets' held ended places
+  kept_less rooms' packets' spot before sets off taken = record {
+    bounded = λ at r is. elim (cases_eq at spot) [
+      | inl e ↦ absurd (none_some r (sym sets.is ∙ ap (room_at rooms') (sym e) ∙ is))
+      | inr ne ↦ k.bounded at r (sym (sets.others at ne) ∙ is)
+    ];
+    covered = λ at r is. elim (cases_eq at spot) [
+      | inl e ↦ absurd (none_some r (sym sets.is ∙ ap (room_at rooms') (sym e) ∙ is))
+      | inr ne ↦ k.covered at r (sym (sets.others at ne) ∙ is)
+    ];
+    taken = taken;
+    reserved = rooms_beside rooms rooms' spot before None (map packet_in held ++ map packet_in ended) sets off
+        k.reserved;
+    apart = k.apart;
+    held_own = k.held_own;
+    ended_own = k.ended_own;
+  }
 
-    by_spot : (at : ℕ) (there : Spot) → spot_at spots' at ≡ Some there → (at ≡ spot) ⊎ (at ≡ spot → ⊥) → Contains marks (at, there)
-    by_spot at there is (inl e) = cc (take.marks.marked, ap (spot_at spots') e, is)
-    by_spot at there is (inr ne) = elim (Contains-cons_cases (spot, found) (at, there) marks (h.known at there (sym (take.marks.others at ne) ∙ is))) [
-      | inl e ↦ absurd (ne (sym (ap spot_in e)))
-      | inr c ↦ c
-    ]
+  -- a room below is reserved, or comes back
+  pub kept_more : (rooms' : List (Option Reserved)) (packets' : List Packet) (spot : ℕ) (r : Reserved)
+      → SetsRoom rooms spot None (Some r) rooms' → All (HasPlace places) packets'
+      → IsAdmitted rules (as_client rules r.request []) → IsCovered places spot
+      → RoomsKept rules rooms' packets' held ended places
+  kept_more rooms' packets' spot r sets taken admitted' covered' = record {
+    bounded = λ at q is. elim (cases_eq at spot) [
+      | inl e ↦ subst (λ (x : Reserved). IsAdmitted rules (as_client rules x.request []))
+          (some_some r q (sym sets.is ∙ ap (room_at rooms') (sym e) ∙ is)) admitted'
+      | inr ne ↦ k.bounded at q (sym (sets.others at ne) ∙ is)
+    ];
+    covered = λ at q is. elim (cases_eq at spot) [
+      | inl e ↦ subst (IsCovered places) (sym e) covered'
+      | inr ne ↦ k.covered at q (sym (sets.others at ne) ∙ is)
+    ];
+    taken = taken;
+    reserved = rooms_beside rooms rooms' spot None (Some r) (map packet_in held ++ map packet_in ended) sets
+        (off_all rooms spot (map packet_in held ++ map packet_in ended) k.reserved sets.was) k.reserved;
+    apart = k.apart;
+    held_own = k.held_own;
+    ended_own = k.ended_own;
+  }
+
+  -- there are more places
+  pub kept_wider : (places' : Places) → places.held ≤ places'.held → places.ended ≤ places'.ended
+      → RoomsKept rules rooms packets held ended places'
+  kept_wider places' more_held more_ended = record {
+    bounded = k.bounded;
+    covered = λ spot r is. covered_more places places' spot more_held more_ended (k.covered spot r is);
+    taken = All-weaker (HasPlace places) (HasPlace places')
+        (λ p h. covered_more places places' (packet_spot p) more_held more_ended h) packets k.taken;
+    reserved = k.reserved;
+    apart = k.apart;
+    held_own = k.held_own;
+    ended_own = k.ended_own;
+  }

@@ -1,10 +1,3 @@
-pub mod Books
-pub mod Turns
-pub mod Packets
-pub mod Shown
-pub mod Releases
-pub mod Kept
-pub mod Order
-pub mod Handing
-pub mod Cancelling
 pub mod Opening
+pub mod Shown
+pub mod inside

@@ -2,12 +2,15 @@
 ghost use Rattle.std.specs.Prelude.{◌≡◌, ◌<◌, ◌+◌, Some};
 ghost use Rattle.arrayvec.specs.ArrayVec.{array_vec_len};
 ghost use Rattle.irp.specs.Packet.{cancel_routine_of, with_cancel_routine};
-ghost use Rattle.hold_filter.specs.Books.{own_routine};
-ghost use Rattle.hold_filter.specs.Packets.{PassesDown, driver_below as driver_of, number_in};
+ghost use Rattle.hold_filter.specs.inside.Books.{own_routine};
+ghost use Rattle.hold_filter.specs.inside.Packets.{PassesDown, HandsOver};
 
-use irp::{CancelRoutine, Climb, Driver, Irp};
+use crate::table::Held;
+use device::{Climb, Room, complete};
+use irp::{CancelRoutine, Driver, Irp};
+use ntstatus::NtStatus;
 
-/// From now on a cancellation is to tell the filter; whom it was to tell before, if anybody (WDK: IoSetCancelRoutine).
+/// Installs the filter's cancel routine and returns the one it replaces (WDK: IoSetCancelRoutine).
 pub fn take_over(irp: &mut Irp) -> Option<CancelRoutine>
     ensures routine { result ≡ cancel_routine_of irp.old }
     ensures packet { irp.new ≡ with_cancel_routine (Some own_routine) irp.old }
@@ -19,7 +22,7 @@ pub fn take_over(irp: &mut Irp) -> Option<CancelRoutine>
     routine
 }
 
-/// The filter lets go of the packet: a cancellation is to tell whom it was to tell before.
+/// Restores the cancel routine that the packet came with.
 pub fn give_back(irp: &mut Irp, routine: Option<CancelRoutine>)
     ensures { irp.new ≡ with_cancel_routine routine irp.old }
 {
@@ -29,33 +32,25 @@ pub fn give_back(irp: &mut Irp, routine: Option<CancelRoutine>)
     }
 }
 
-/// The driver below, which takes packets with an SRB or with a buffer.
-fn driver_below(takes_srb: bool) -> Driver
-    ensures { result ≡ driver_of takes_srb }
-{
-    if takes_srb {
-        Driver::Port
-    } else {
-        Driver::Class
-    }
-}
-
-/// The packet goes to the driver below with a copy of the filter's own location; the filter has no completion routine.
-pub fn pass_down(irp: &mut Irp, takes_srb: bool)
+/// The packet goes to the class driver with a copy of the filter's own location; the filter has no completion routine.
+pub fn pass_down(irp: &mut Irp)
     requires own { 0 < array_vec_len irp.old.locations }
     requires place { array_vec_len irp.old.locations < 4 }
-    ensures { PassesDown takes_srb irp.old irp.new }
+    ensures { PassesDown irp.old irp.new }
 {
     irp.set_completion(false, false, false);
-    irp.copy_to_next(driver_below(takes_srb));
+    irp.copy_to_next(Driver::Class);
 }
 
-/// The number of a packet on its way up.
-pub fn number_of(climb: &Climb) -> u128
-    ensures { result ≡ number_in climb.now }
+/// A packet that ended in the filter completes (WDK: IoCompleteRequest); nothing of it was moved.
+pub fn hand_up(held: Held, status: NtStatus) -> (Climb, Room)
+    ensures { HandsOver held status result.0 result.1 }
 {
-    match climb {
-        Climb::Routine { driver: _, irp } => irp.number,
-        Climb::Finished(done) => done.number,
-    }
+    let Held {
+        mut irp,
+        routine,
+        room,
+    } = held;
+    give_back(&mut irp, routine);
+    (complete(irp, status, 0), room)
 }

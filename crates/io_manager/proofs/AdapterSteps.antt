@@ -18,9 +18,9 @@ use Rattle.io_manager.specs.declared.Limits.{Limits}
 use Rattle.io_manager.specs.declared.Reply.TheVariants.{Ok as OkReply, Ignored}
 use Rattle.io_manager.specs.declared.tables.Tables.{Tables}
 use Rattle.io_manager.specs.Shown.{ManagerView}
-use Rattle.io_manager.specs.Inside.{AllWriteInside}
+use Rattle.io_manager.specs.inside.Inside.{AllWriteInside}
 use Rattle.io_manager.specs.Right.{Told, SameHandles, AdapterMoves, tells_nothing, IsRight, IsRightReset, IsRightBy, ActReplies, FinishReplies}
-use Rattle.io_manager.specs.Sound.{view_of, AsksInside, IsSound, TakesLabels, Collects, ManagerKept}
+use Rattle.io_manager.specs.inside.Sound.{view_of, AsksInside, IsSound, TakesLabels, Collects, ManagerKept}
 use Rattle.io_manager.proofs.AdapterJoins.{labels_moved, reset_joined}
 use Rattle.io_manager.proofs.Outside.{noted_inside}
 use Rattle.io_manager.proofs.Labelled.{act_settled, faults_settled, labels_collected}

@@ -24,10 +24,11 @@ use Rattle.io_manager.specs.declared.admission.Copies.{Copies}
 use Rattle.io_manager.specs.declared.tables.OpenRequest.{OpenRequest}
 use Rattle.io_manager.specs.declared.tables.Tables.{Tables}
 use Rattle.io_manager.specs.Calls.{number_limit}
-use Rattle.io_manager.specs.Ordering.{HasOtherNumber}
-use Rattle.io_manager.specs.Chains.{IsOpenIn}
-use Rattle.io_manager.specs.Sound.{rules_of, shown_state, is_gone, view_of, IsHeldAt, AreHeld, IsSpotted, WasGiven, AreApart, IsInState, IsSound}
-use Rattle.io_manager.specs.Admitting.{request_of, HasCopies, Admits, SendsDown, IsAdmissible}
+use Rattle.io_manager.specs.inside.Ordering.{HasOtherNumber}
+use Rattle.io_manager.specs.inside.Chains.{IsOpenIn}
+use Rattle.io_manager.specs.inside.Sound.{shown_state, is_gone, view_of, IsHeldAt, AreHeld, IsSpotted, WasGiven, AreApart, IsInState, IsSound}
+use Rattle.io_manager.specs.Opening.{rules_of}
+use Rattle.io_manager.specs.inside.Admitting.{request_of, HasCopies, Admits, SendsDown, IsAdmissible}
 use Rattle.io_manager.proofs.Chained.{AreChained-more}
 use Rattle.io_manager.proofs.Numbered.{AreNumbered-more}
 use Rattle.io_manager.proofs.Counted.{AreCounted-more}
@@ -182,7 +183,7 @@ module _ (limits : Limits) (below : DeviceView) (tables : Tables) (q : ClientReq
       → SendsDown below tables.next_request spot (request_of limits.sector_size q) buffer below1 → IsSound limits below1 tables1
   admitted_sound handle copies spot slot tables1 buffer below1 distinct is_open buffers same_length place admits sends =
       subst (IsSound limits below1) (sym admits.after)
-      (IsSound-moves limits (record below { state = sends.submits.opened; packets = sends.packet ∷ below.packets; submitted = below.submitted + 1 })
+      (IsSound-moves limits (record below { state = sends.submits.opened; packets = sends.packet ∷ below.packets; rooms = below1.rooms; submitted = below.submitted + 1 })
       (record tables { next_request = tables.next_request + 1; requests = tables1.requests; chains = tables1.chains; by_number = tables1.by_number; open_counts = tables1.open_counts; labels = tables1.labels }) sends.submits.starts below1 opened sends.submits.moves)
     where
       asked : ClientRequest
@@ -210,7 +211,7 @@ module _ (limits : Limits) (below : DeviceView) (tables : Tables) (q : ClientReq
           stays : IsTrue below.state.removing → ⊥
           stays removing = let e : below.state.removing ≡ false = (taken_in over (view_of limits below tables).state q k.not_refused).staying in cc (e, removing)
 
-      opened : IsSound limits (record below { state = sends.submits.opened; packets = sends.packet ∷ below.packets; submitted = below.submitted + 1 })
+      opened : IsSound limits (record below { state = sends.submits.opened; packets = sends.packet ∷ below.packets; rooms = below1.rooms; submitted = below.submitted + 1 })
           (record tables { next_request = tables.next_request + 1; requests = tables1.requests; chains = tables1.chains; by_number = tables1.by_number; open_counts = tables1.open_counts; labels = tables1.labels })
       opened =
           let last : tables.next_request < number_limit = numbers_last tables.next_request k.numbers_last in
@@ -224,7 +225,7 @@ module _ (limits : Limits) (below : DeviceView) (tables : Tables) (q : ClientReq
           let slots : tables1.requests.capacity ≡ tables.requests.capacity = admits.slots in
           let asks : AsksBy below.rules q limits.sector_size = asks_whole limits below tables q h k in
           record {
-            fits = FitsBelow-same limits below (record below { state = sends.submits.opened; packets = sends.packet ∷ below.packets; submitted = below.submitted + 1 }) refl refl h.fits;
+            fits = FitsBelow-same limits below (record below { state = sends.submits.opened; packets = sends.packet ∷ below.packets; rooms = below1.rooms; submitted = below.submitted + 1 }) refl refl h.fits;
             numbers = record { requests = omega arith; handles = h.numbers.handles; rising = omega arith; submitted = omega arith };
             held =
                 AreHeld-along tables1.requests

@@ -22,8 +22,8 @@ use Rattle.io_manager.specs.declared.tables.Tables.{Tables}
 use Rattle.io_manager.specs.Shown.{ManagerView}
 use Rattle.io_manager.specs.Calls.{number_limit, are_used_up, call_on, without_bytes}
 use Rattle.io_manager.specs.Right.{tells_nothing, TransferReplies, CallReplies, IsRight}
-use Rattle.io_manager.specs.Sound.{shown_state, is_gone, view_of, IsSpotted, WasGiven, IsSound, ManagerKept}
-use Rattle.io_manager.specs.Admitting.{status_at_once, AnswersAtOnce, reply_at_once}
+use Rattle.io_manager.specs.inside.Sound.{shown_state, is_gone, view_of, IsSpotted, WasGiven, IsSound, ManagerKept}
+use Rattle.io_manager.specs.inside.Admitting.{status_at_once, AnswersAtOnce, reply_at_once}
 use Rattle.io_manager.proofs.Refusing.{Run-refused}
 use Rattle.io_manager.proofs.Handing.{numbers_last}
 use Rattle.io_manager.proofs.Stepping.{ManagerKept-still}

@@ -3,7 +3,7 @@ use Rattle.std.proofs.Common.{◌≡◌, false, [], ◌∷◌, refl}
 use Rattle.irp.specs.declared.Irp.{Irp}
 use Rattle.machine.specs.declared.Request.{Request}
 use Rattle.device.specs.View.{AsksInLocation}
-use Rattle.io_manager.specs.Admitting.{first_location}
+use Rattle.io_manager.specs.inside.Admitting.{first_location}
 
 pub asks_in_location : (r : Request) (irp : Irp) → irp.locations.items ≡ first_location r ∷ [] → AsksInLocation false r irp
 asks_in_location r irp only = record {

@@ -14,7 +14,7 @@ use Rattle.machine.specs.Sending.{sent, given_back}
 use Rattle.machine.specs.Numbers.{request_number}
 use Rattle.machine.specs.Step.{DeviceStep, Run, as_label}
 use Rattle.io_manager.specs.declared.tables.OpenRequest.{OpenRequest as OpenEntry}
-use Rattle.io_manager.specs.Sound.{IsHeldAt, AreHeld}
+use Rattle.io_manager.specs.inside.Sound.{IsHeldAt, AreHeld}
 
 -- a request without what becomes of it
 abbrev pub asked : OpenRequest → OpenRequest

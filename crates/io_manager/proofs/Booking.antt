@@ -11,10 +11,10 @@ use Rattle.device.specs.View.{DeviceView}
 use Rattle.device.specs.Served.{BooksPiece as BooksBelow}
 use Rattle.io_manager.specs.declared.Limits.{Limits}
 use Rattle.io_manager.specs.declared.tables.Tables.{Tables}
-use Rattle.io_manager.specs.Inside.{WritesInside, AllWriteInside}
+use Rattle.io_manager.specs.inside.Inside.{WritesInside, AllWriteInside}
 use Rattle.io_manager.specs.Right.{BooksPiece}
 use Rattle.io_manager.specs.Shown.{ManagerView}
-use Rattle.io_manager.specs.Sound.{ManagerKept, IsSound, view_of}
+use Rattle.io_manager.specs.inside.Sound.{ManagerKept, IsSound, view_of}
 use Rattle.io_manager.proofs.Fitted.{FitsBelow-same}
 
 inside_with : (partitions : List Extent) (what : Result Entry Completion) (u : TagInUse) → WritesInside partitions u → WritesInside partitions (with_booked what u)

@@ -6,7 +6,7 @@ use Rattle.std.specs.VecDeque.{deque_len, deque_capacity}
 use Rattle.std.proofs.Math.ListN.{get_or-map}
 use Rattle.std.proofs.lemmas.List.Elements.{All-append, All-cons}
 use Rattle.slab.specs.Slab.{Slab, get, slab_len}
-use Rattle.adapter.specs.View.{ReservesMore, MovesByAll}
+use Rattle.adapter.specs.View.{AdapterView, ReservesMore, MovesByAll}
 use Rattle.adapter.proofs.Joining.{moves_joined}
 use Rattle.irp.specs.declared.Payload.{Payload}
 use Rattle.srb.specs.declared.Kind.{Kind}
@@ -33,8 +33,9 @@ use Rattle.io_manager.specs.declared.tables.Tables.{Tables}
 use Rattle.io_manager.specs.Shown.{ManagerView, Holder}
 use Rattle.io_manager.specs.Calls.{bytes_called, call_on, without_bytes}
 use Rattle.io_manager.specs.Right.{tells_nothing, IsRight, IsRightBy, CallReplies}
-use Rattle.io_manager.specs.Sound.{rules_of, shown_state, is_gone, holder_of, view_of, WasGiven, AreApart, IsInState, IsSound, AsksInside, Collects, ManagerKept}
-use Rattle.io_manager.specs.Admitting.{request_of, HasCopies, Admits, KeepsAnswers, SendsDown, IsSent, IsAdmissible}
+use Rattle.io_manager.specs.inside.Sound.{shown_state, is_gone, holder_of, view_of, WasGiven, AreApart, IsInState, IsSound, AsksInside, Collects, ManagerKept}
+use Rattle.io_manager.specs.Opening.{rules_of}
+use Rattle.io_manager.specs.inside.Admitting.{request_of, HasCopies, Admits, KeepsAnswers, SendsDown, IsSent, IsAdmissible}
 use Rattle.io_manager.proofs.Refusing.{Calls-opened}
 use Rattle.io_manager.proofs.Fitted.{FitsBelow-same}
 use Rattle.io_manager.proofs.Righting.{IsServed, told_by, IsRightBy-served, have_partitions}
@@ -49,8 +50,8 @@ use Rattle.io_manager.proofs.Stepping.{ManagerKept-reserved, ManagerKept-collect
 pub reserved_sound : (limits : Limits) (below : DeviceView) (tables : Tables) (below' : DeviceView) (tables' : Tables) → IsSound limits below tables → Reserves below below' → KeepsAnswers tables tables'
     → IsSound limits below' tables'
 reserved_sound limits below tables below' tables' h reserves keeps =
-    subst (λ b. IsSound limits b tables') (sym reserves.same) (subst (IsSound limits (record below { adapter = record below.adapter { reserved = below'.adapter.reserved } })) (sym keeps.after) (record {
-      fits = FitsBelow-same limits below (record below { adapter = record below.adapter { reserved = below'.adapter.reserved } }) refl refl h.fits;
+    subst (λ b. IsSound limits b tables') (sym reserves.same) (subst (IsSound limits (record below { rooms = below'.rooms; adapter = record below.adapter { reserved = below'.adapter.reserved } })) (sym keeps.after) (record {
+      fits = FitsBelow-same limits below (record below { rooms = below'.rooms; adapter = record below.adapter { reserved = below'.adapter.reserved } }) refl refl h.fits;
       numbers = record { requests = h.numbers.requests; handles = h.numbers.handles; rising = h.numbers.rising; submitted = h.numbers.submitted };
       held = h.held;
       few = h.few;
@@ -104,13 +105,13 @@ module _ (limits : Limits) (below : DeviceView) (tables : Tables) (handle : Hand
   admitted = subst (λ r. refusal over view.state r ≡ None) is_call k.not_refused
 
   -- for want of memory nothing happens
-  turned_away : (below' : DeviceView) (tables' : Tables) (reply : Reply) → Reserves below below' → (q.kind ≢ Write → below' ≡ below) → KeepsAnswers tables tables' → reply ≡ Refused InsufficientResources buffer
+  turned_away : (below' : DeviceView) (tables' : Tables) (reply : Reply) → Reserves below below' → (q.kind ≢ Write → below'.adapter ≡ below.adapter) → KeepsAnswers tables tables' → reply ≡ Refused InsufficientResources buffer
       → IsRight (CallReplies view handle called buffer reply (view_of limits below' tables')) view (view_of limits below' tables')
   turned_away below' tables' reply reserves unless_write keeps is_reply =
       subst (λ r. IsRight (CallReplies view handle called buffer r (view_of limits below' tables')) view (view_of limits below' tables')) (sym is_reply)
       (subst (λ b. IsRight (CallReplies view handle called buffer (Refused InsufficientResources buffer) (view_of limits b tables')) view (view_of limits b tables')) (sym reserves.same)
-      (subst (λ t. IsRight (CallReplies view handle called buffer (Refused InsufficientResources buffer) (view_of limits (record below { adapter = record below.adapter { reserved = below'.adapter.reserved } }) t)) view
-      (view_of limits (record below { adapter = record below.adapter { reserved = below'.adapter.reserved } }) t)) (sym keeps.after) (record {
+      (subst (λ t. IsRight (CallReplies view handle called buffer (Refused InsufficientResources buffer) (view_of limits (record below { rooms = below'.rooms; adapter = record below.adapter { reserved = below'.adapter.reserved } }) t)) view
+      (view_of limits (record below { rooms = below'.rooms; adapter = record below.adapter { reserved = below'.adapter.reserved } }) t)) (sym keeps.after) (record {
         told = tells_nothing view;
         replies = record {
           replies = (
@@ -121,7 +122,7 @@ module _ (limits : Limits) (below : DeviceView) (tables : Tables) (handle : Hand
               record {
                 nothing = refl;
                 same_state = refl;
-                unless_write = λ other. ap (λ (b : DeviceView). record below.adapter { reserved = b.adapter.reserved }) (unless_write other);
+                unless_write = λ other. ap (λ (a : AdapterView). record below.adapter { reserved = a.reserved }) (unless_write other);
               },
             ),
           );
@@ -147,7 +148,7 @@ module _ (limits : Limits) (below : DeviceView) (tables : Tables) (handle : Hand
   module _ (below' : DeviceView) (tables' : Tables) (copies : Copies) (spot slot : ℕ) (below1 : DeviceView) (tables1 : Tables) (reserves : Reserves below below') (keeps : KeepsAnswers tables tables')
       (buffers : HasCopies q.kind buffer copies) (admits' : Admits tables' handle q copies spot slot tables1) (sends' : SendsDown below' tables'.next_request spot (request_of limits.sector_size q) buffer below1) where
     abbrev reserved_below : DeviceView
-    reserved_below = record below { adapter = record below.adapter { reserved = below'.adapter.reserved } }
+    reserved_below = record below { rooms = below'.rooms; adapter = record below.adapter { reserved = below'.adapter.reserved } }
 
     abbrev reserved_tables : Tables
     reserved_tables = record tables { untaken = tables'.untaken }
@@ -270,7 +271,7 @@ module _ (limits : Limits) (below : DeviceView) (tables : Tables) (old : Manager
   abbrev Row : ManagerView → Reply → ManagerView → Type 0
   Row v reply new = IsRight (CallReplies v handle (call_on v handle q.kind q.offset buffer q.through) buffer reply new) v new
 
-  pub turned_away_kept : (limits' : Limits) (below' : DeviceView) (tables' : Tables) (reply : Reply) → limits' ≡ limits → Reserves below below' → (q.kind ≢ Write → below' ≡ below) → KeepsAnswers tables tables' → reply ≡ Refused InsufficientResources buffer
+  pub turned_away_kept : (limits' : Limits) (below' : DeviceView) (tables' : Tables) (reply : Reply) → limits' ≡ limits → Reserves below below' → (q.kind ≢ Write → below'.adapter ≡ below.adapter) → KeepsAnswers tables tables' → reply ≡ Refused InsufficientResources buffer
       → IsRight (CallReplies old handle (call_on old handle q.kind q.offset buffer q.through) buffer reply (view_of limits' below' tables')) old (view_of limits' below' tables') × ManagerKept limits' below' tables'
   turned_away_kept limits' below' tables' reply same reserves unless_write keeps is_reply =
       let right : Row (view_of limits below tables) reply (view_of limits below' tables') =
@@ -281,15 +282,15 @@ module _ (limits : Limits) (below : DeviceView) (tables : Tables) (old : Manager
             (ap (λ (t : Tables). t.state) keeps.after),
       )
 
-  pub admitted_kept : (below1 : DeviceView) (tables1 : Tables) (copies : Copies) (below2 : DeviceView) (tables2 : Tables) (limits' : Limits) (below3 : DeviceView) (tables3 : Tables) (id : Id)
+  pub admitted_kept : (below1 : DeviceView) (tables1 : Tables) (copies : Copies) (spot : ℕ) (below2 : DeviceView) (tables2 : Tables) (limits' : Limits) (below3 : DeviceView) (tables3 : Tables) (id : Id)
       → Reserves below below1 → KeepsAnswers tables tables1 → HasCopies q.kind buffer copies
-      → IsSent below1 tables1 handle q (request_of limits.sector_size q) copies buffer id.slot below2 tables2 → id.number ≡ tables1.next_request
+      → IsSent below1 tables1 handle q (request_of limits.sector_size q) copies buffer spot id.slot below2 tables2 → id.number ≡ tables1.next_request
       → limits' ≡ limits → IsSound limits' below3 tables3 → Collects below2 tables2 below3 tables3
       → IsRight (CallReplies old handle (call_on old handle q.kind q.offset buffer q.through) buffer (Requested id) (view_of limits' below3 tables3)) old (view_of limits' below3 tables3) × ManagerKept limits' below3 tables3
-  admitted_kept below1 tables1 copies below2 tables2 limits' below3 tables3 id reserves keeps buffers sent number same sound collects =
+  admitted_kept below1 tables1 copies spot below2 tables2 limits' below3 tables3 id reserves keeps buffers sent number same sound collects =
       let sound' : IsSound limits below3 tables3 = subst (λ (l : Limits). IsSound l below3 tables3) same sound in
       let both : Row (view_of limits below tables) (Requested id) (view_of limits below3 tables3) × AsksInside below3 =
-      admitted_right limits below tables handle q buffer kept admissible told is_called below1 tables1 copies sent.spot id.slot below2 tables2 reserves keeps buffers sent.admits sent.sends
+      admitted_right limits below tables handle q buffer kept admissible told is_called below1 tables1 copies spot id.slot below2 tables2 reserves keeps buffers sent.admits sent.sends
       below3 tables3 id refl number collects sound'.in_state in (
         subst (λ (l : Limits). Row old (Requested id) (view_of l below3 tables3)) (sym same) (subst (λ v. Row v (Requested id) (view_of limits below3 tables3)) shown both.0),
         ManagerKept-collected limits limits' below below2 below3 tables tables2 tables3 false both.0.told same kept both.0.by sound both.1 collects,

@@ -25,12 +25,13 @@ use Rattle.io_manager.specs.declared.cancelling.Place.{Place}
 use Rattle.io_manager.specs.declared.tables.OpenRequest.{OpenRequest}
 use Rattle.io_manager.specs.declared.tables.Tables.{Tables}
 use Rattle.io_manager.specs.Calls.{partition_of}
-use Rattle.io_manager.specs.Cancelling.{HasSome, HasNoneOf, IsOpenAt, IsNotOpenAt, ClosesSlot, HasNoneToMark, CancelsSlot, CancelsUnlessMarked, IsUnmarked, CancelsAll}
-use Rattle.io_manager.specs.Chains.{IsOpenIn}
-use Rattle.io_manager.specs.Collecting.{IsAt, HasNone}
+use Rattle.io_manager.specs.inside.Cancelling.{HasSome, HasNoneOf, IsOpenAt, IsNotOpenAt, ClosesSlot, HasNoneToMark, CancelsSlot, CancelsUnlessMarked, IsUnmarked, CancelsAll}
+use Rattle.io_manager.specs.inside.Chains.{IsOpenIn}
+use Rattle.io_manager.specs.inside.Collecting.{IsAt, HasNone}
 use Rattle.io_manager.specs.Shown.{ManagerView, Holder}
 use Rattle.io_manager.specs.Right.{Told, SameHandles, RefusesAlone, tells_nothing, as_cancel, IsHandleOpen, IsToCancel, CancelsAllOf, CancelsOne, HasTarget, HasOtherNumber, CloseReplies, CancelReplies, MarkReplies, IsRight}
-use Rattle.io_manager.specs.Sound.{rules_of, shown_state, is_gone, holder_of, view_of, IsHeldAt, IsOnMap, IsSound, HasNoneToStart, Collects, ManagerKept}
+use Rattle.io_manager.specs.inside.Sound.{shown_state, is_gone, holder_of, view_of, IsHeldAt, IsOnMap, IsSound, HasNoneToStart, Collects, ManagerKept}
+use Rattle.io_manager.specs.Opening.{rules_of}
 use Rattle.io_manager.proofs.Chained.{still_open, AreChained-closed}
 use Rattle.io_manager.proofs.KeptBack.{settled_none, all_cancelled_none}
 use Rattle.io_manager.proofs.Timely.{reached_timely}

@@ -8,8 +8,8 @@ use Rattle.io_manager.specs.declared.OpenHandle.{OpenHandle}
 use Rattle.io_manager.specs.declared.chains.Chains.{Chains}
 use Rattle.io_manager.specs.declared.tables.OpenRequest.{OpenRequest}
 use Rattle.io_manager.specs.Calls.{partition_at, partition_of}
-use Rattle.io_manager.specs.Cancelling.{HasNoneToMark, IsLowestToMark}
-use Rattle.io_manager.specs.Chains.{IsNextFrom, chain_end, AreEnds, AreLinked, LeadsTo, CanLeave, CanJoin, PutsLast, TakesOut, IsWaiting, IsOpenIn, AreChained}
+use Rattle.io_manager.specs.inside.Cancelling.{HasNoneToMark, IsLowestToMark}
+use Rattle.io_manager.specs.inside.Chains.{IsNextFrom, chain_end, AreEnds, AreLinked, LeadsTo, CanLeave, CanJoin, PutsLast, TakesOut, IsWaiting, IsOpenIn, AreChained}
 use Rattle.io_manager.proofs.Linked.{end_joint, can_leave, can_join, AreLinked-still, AreLinked-less, AreLinked-more, AreLinked-empty}
 
 pub same_item : {X : Type 0} (a b : X) → Some a ≡ Some b → a ≡ b

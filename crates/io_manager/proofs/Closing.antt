@@ -1,5 +1,6 @@
 -- A packet that is handed up is that of one open request, whose slot is given up.
 use Rattle.std.proofs.Common.{◌≡◌, ◌≢◌, ◌<◌, ◌≤◌, ◌⊎◌, inl, inr, ℕ, zero, suc, ◌+◌, Bool, true, false, List, [], ◌∷◌, ◌++◌, Some, None, refl, sym, ◌∙◌, ap, subst, arith, map, length}
+use Rattle.std.specs.Global.{Box}
 use Rattle.std.specs.Prelude.{IsPermutation, IsTrue, All, Contains, ◌↔◌, MatchBool}
 use Rattle.std.specs.List.{list_all}
 use Rattle.std.proofs.lemmas.List.Sorted.{IsPermutation-map, All-permutation, Contains-permutation, length_permutation}
@@ -7,24 +8,23 @@ use Rattle.std.proofs.lemmas.List.Elements.{All-head, All-tail, Contains-append_
 use Rattle.slab.specs.Slab.{Slab, get, slab_len}
 use Rattle.ntstatus.specs.declared.NtStatus.{NtStatus}
 use Rattle.ntstatus.specs.declared.NtStatus.TheVariants.{Success}
-use Rattle.irp.specs.declared.Climb.{Climb}
-use Rattle.irp.specs.declared.Climb.TheVariants.{Routine, Finished}
 use Rattle.irp.specs.declared.Done.{Done}
 use Rattle.irp.specs.declared.Driver.{Driver}
 use Rattle.irp.specs.declared.Irp.{Irp}
 use Rattle.srb.specs.declared.Kind.{Kind}
 use Rattle.srb.specs.declared.Kind.TheVariants.{Read, Write, Flush}
-use Rattle.machine.specs.declared.Request.{Request}
 use Rattle.machine.specs.State.{Mark, OpenRequest as OpenBelow}
 use Rattle.machine.specs.Answering.{answer_bytes, is_done}
 use Rattle.machine.specs.Numbers.{AreDistinct, IsGiven, request_number}
+use Rattle.device.specs.declared.climbing.Climb.{Climb}
+use Rattle.device.specs.declared.climbing.Climb.TheVariants.{Routine, Finished}
 use Rattle.device.specs.View.{DeviceView, payload_bytes, IsTopmost}
 use Rattle.device.specs.Served.{HandsUp}
 use Rattle.io_manager.specs.declared.tables.OpenRequest.{OpenRequest}
 use Rattle.io_manager.specs.declared.tables.Tables.{Tables}
-use Rattle.io_manager.specs.Chains.{TakesOut, IsWaiting, AreChained, AreNumbered}
-use Rattle.io_manager.specs.Sound.{IsHeldAt, AreHeld}
-use Rattle.io_manager.specs.Collecting.{IsAt, AreFilled, Closes, brought}
+use Rattle.io_manager.specs.inside.Chains.{TakesOut, IsWaiting, AreChained, AreNumbered}
+use Rattle.io_manager.specs.inside.Sound.{IsHeldAt, AreHeld}
+use Rattle.io_manager.specs.inside.Collecting.{IsAt, AreFilled, Closes, brought, done_of}
 use Rattle.io_manager.proofs.Chained.{IsKept, AreChained-same, AreChained-less}
 use Rattle.io_manager.proofs.Numbered.{AreNumbered-less}
 
@@ -34,23 +34,30 @@ no_middle : {X : Type 0} (xs : List X) (x : X) (ys : List X) → [] ≡ (xs ++ x
 no_middle [] x ys e = cc
 no_middle (z ∷ zs) x ys e = cc
 
-pub no_routine : (takes_srb : Bool) (old new : DeviceView) (request : Request) (driver : Driver) (irp : Irp) → All IsTopmost old.packets → HandsUp takes_srb old request (Routine driver irp) new → ⊥
-no_routine takes_srb old new request driver irp topmost h =
+pub no_routine : (takes_srb : Bool) (old new : DeviceView) (spot : ℕ) (driver : Driver) (irp : Box Irp) → All IsTopmost old.packets → HandsUp takes_srb old (Routine driver irp) spot new → ⊥
+no_routine takes_srb old new spot driver irp topmost h =
     let top : IsTopmost h.packet = All-head IsTopmost h.packet h.others (All-permutation IsTopmost _ _ h.is_in topmost) in
     no_middle h.climbs.higher h.climbs.own h.climbs.nearer (sym top ∙ h.climbs.are_above)
 
-pub handed : (takes_srb : Bool) (old new free : DeviceView) (request : Request) (climb : Climb) (done : Done) → climb ≡ Finished done → free ≡ new → HandsUp takes_srb old request climb new
-    → HandsUp takes_srb old request (Finished done) free
-handed takes_srb old new free request climb done e same h =
-    let P : Climb → Type 0 = λ x. HandsUp takes_srb old request x new in
-    let Q : DeviceView → Type 0 = λ x. HandsUp takes_srb old request (Finished done) x in
-    subst Q (sym same) (subst P e h)
+pub handed : (takes_srb : Bool) (old new : DeviceView) (climb : Climb) (irp : Box Irp) (spot : ℕ) → climb ≡ Finished irp → HandsUp takes_srb old climb spot new → HandsUp takes_srb old (Finished irp) spot new
+handed takes_srb old new climb irp spot e h = subst (λ x. HandsUp takes_srb old x spot new) e h
 
 -- THE REQUEST OF THE PACKET
 
-module _ (takes_srb : Bool) (old new : DeviceView) (request : Request) (done : Done) (requests : Slab OpenRequest) (h : HandsUp takes_srb old request (Finished done) new) (k : AreHeld requests old.state.requests) where
+module _ (takes_srb : Bool) (old new : DeviceView) (spot : ℕ) (irp : Box Irp) (done : Done) (left : done ≡ done_of irp.value) (requests : Slab OpenRequest) (h : HandsUp takes_srb old (Finished irp) spot new)
+    (k : AreHeld requests old.state.requests) where
+  -- what is left of it is the packet as it was completed
+  pub number_left : done.number ≡ h.packet.number
+  number_left = ap (λ (d : Done). d.number) left ∙ h.climbs.number_is
+
+  pub status_left : done.status ≡ h.status
+  status_left = ap (λ (d : Done). d.status) left ∙ h.climbs.status_is
+
+  pub payload_left : done.payload ≡ h.payload
+  payload_left = ap (λ (d : Done). d.payload) left ∙ h.climbs.payload_is
+
   pub is_ended : h.answers.request.number ≡ done.number
-  is_ended = h.answers.is_number ∙ sym h.climbs.number_is
+  is_ended = h.answers.is_number ∙ sym number_left
 
   pub held_at : IsHeldAt requests h.answers.request
   held_at = All-head (IsHeldAt requests) h.answers.request h.answers.others (All-permutation (IsHeldAt requests) _ _ h.answers.is_open k.held)
@@ -77,14 +84,14 @@ module _ (takes_srb : Bool) (old new : DeviceView) (request : Request) (done : D
       let same : held_at.request ≡ x = only_there slot x there number in
       let kind : held_at.request.kind ≡ Read = ap (λ r. r.kind) same ∙ is_read in
       let below : h.answers.request.request.kind ≡ Read = sym held_at.same_kind ∙ kind in
-      let asked : request.kind ≡ Read = ap (λ q. q.kind) (sym h.is_request) ∙ below in
-      let success : h.status ≡ Success = sym h.climbs.status_is ∙ succeeded in
+      let asked : h.request.kind ≡ Read = ap (λ q. q.kind) (sym h.is_request) ∙ below in
+      let success : h.status ≡ Success = sym status_left ∙ succeeded in
       ap (λ r. length r.label_bytes) (sym same)
       ∙ held_at.label_bytes below
       ∙ ap (λ q. q.length) h.is_request
       ∙ sym (h.filled asked success)
       ∙ ap length (sym (h.brings asked success))
-      ∙ ap (λ p. length (payload_bytes p)) (sym h.climbs.payload_is)
+      ∙ ap (λ p. length (payload_bytes p)) (sym payload_left)
 
   some_held : 0 < slab_len requests
   some_held =

@@ -7,7 +7,8 @@ use Rattle.device.specs.View.{DeviceView}
 use Rattle.pnp.specs.declared.State.{State as PnpState}
 use Rattle.pnp.specs.declared.State.TheVariants.{Started, RemovePending, Removing, Removed}
 use Rattle.io_manager.specs.declared.Limits.{Limits}
-use Rattle.io_manager.specs.Sound.{AreFirsts, EndsInRange, FitsBelow, IsInState}
+use Rattle.io_manager.specs.inside.Sound.{EndsInRange, FitsBelow, IsInState}
+use Rattle.io_manager.specs.Opening.{AreFirsts}
 
 pub FitsBelow-same : (limits : Limits) (below below' : DeviceView) → below'.rules ≡ below.rules → below'.most ≡ below.most → FitsBelow limits below → FitsBelow limits below'
 FitsBelow-same limits below below' rules most h = record {

@@ -15,8 +15,9 @@ use Rattle.device.specs.View.{DeviceView, IsBounded, transfer_length}
 use Rattle.machine.proofs.Places.{IsTakenIn, taken_in}
 use Rattle.io_manager.specs.declared.Limits.{Limits}
 use Rattle.io_manager.specs.declared.tables.Tables.{Tables}
-use Rattle.io_manager.specs.Sound.{rules_of, view_of, IsSound}
-use Rattle.io_manager.specs.Admitting.{request_of, IsKnown, IsAdmissible}
+use Rattle.io_manager.specs.inside.Sound.{view_of, IsSound}
+use Rattle.io_manager.specs.Opening.{rules_of}
+use Rattle.io_manager.specs.inside.Admitting.{request_of, IsKnown, IsAdmissible}
 
 after_true : (b c : Bool) → b ≡ true → (b && c) ≡ false → c ≡ false
 after_true true c h e = e

@@ -8,18 +8,19 @@ use Rattle.std.proofs.lemmas.List.Elements.{All-nil, All-head, All-tail, All-con
 use Rattle.slab.specs.Slab.{Slab, get, slab_len}
 use Rattle.ntstatus.specs.declared.NtStatus.{NtStatus}
 use Rattle.adapter.proofs.Joining.{reserves_none, moves_joined}
-use Rattle.irp.specs.declared.Climb.TheVariants.{Finished}
+use Rattle.std.specs.Global.{Box}
+use Rattle.irp.specs.declared.Irp.{Irp}
+use Rattle.device.specs.declared.climbing.Climb.TheVariants.{Finished}
 use Rattle.irp.specs.declared.Done.{Done}
-use Rattle.machine.specs.declared.Request.{Request}
 use Rattle.pnp.specs.declared.State.{State as PnpState}
 use Rattle.pnp.specs.declared.State.TheVariants.{Removing}
 use Rattle.machine.specs.Rules.{Rules}
 use Rattle.machine.specs.State.{OpenRequest as OpenBelow, State}
 use Rattle.machine.specs.Answering.{AnswersWith, information}
 use Rattle.machine.specs.Numbers.{AreDistinct, HavePlaces, request_number}
-use Rattle.device.specs.View.{DeviceView, IsOrderly, payload_bytes, IsTopmost}
+use Rattle.device.specs.View.{DeviceView, Reserved, IsOrderly, payload_bytes, IsTopmost}
 use Rattle.machine.specs.Sending.{IsStart}
-use Rattle.device.specs.Served.{HandsUp}
+use Rattle.device.specs.Served.{HandsUp, SameRooms}
 use Rattle.machine.specs.Settled.{Settled}
 use Rattle.machine.specs.Step.{Run, as_label}
 use Rattle.machine.proofs.Permuting.{distinct_first}
@@ -29,32 +30,33 @@ use Rattle.io_manager.specs.declared.Limits.{Limits}
 use Rattle.io_manager.specs.declared.tables.OpenRequest.{OpenRequest}
 use Rattle.io_manager.specs.declared.tables.Tables.{Tables}
 use Rattle.io_manager.specs.Shown.{Holder}
-use Rattle.io_manager.specs.Ordering.{inserted, HasOtherNumber}
+use Rattle.io_manager.specs.inside.Ordering.{inserted, HasOtherNumber}
 use Rattle.io_manager.specs.Right.{as_answer, unless_answered, end_labels}
-use Rattle.io_manager.specs.Chains.{AreChained, AreCounted}
-use Rattle.io_manager.specs.Sound.{HasPlaces, WasGiven, AreApart, AreHeld, IsSpotted, IsInState, EndsIf, IsSound, IsSoundWith, SamePlaces, Collects, holder_of}
-use Rattle.io_manager.specs.Collecting.{Closes, EndsRemoval, TakesEnded, Gathers, brought, answer_for, unlabelled}
+use Rattle.io_manager.specs.inside.Chains.{AreChained, AreCounted}
+use Rattle.io_manager.specs.inside.Sound.{HasPlaces, WasGiven, AreApart, AreHeld, IsSpotted, IsInState, EndsIf, IsSound, IsSoundWith, SamePlaces, Collects, holder_of}
+use Rattle.io_manager.specs.inside.Collecting.{Closes, EndsRemoval, TakesEnded, Gathers, brought, answer_for, done_of, unlabelled}
 use Rattle.io_manager.proofs.AdapterJoins.{labels_moved}
 use Rattle.io_manager.proofs.Askings.{KeepsAsked, KeepsAsked-same, KeepsAsked-trans, asks_same, as_many, run_keeps, AreHeld-along}
 use Rattle.io_manager.proofs.Counted.{AreCounted-ended}
-use Rattle.io_manager.proofs.Closing.{held_at, only_there, is_ended, is_given, brings, kept_slot, kept_number, AreHeld-less, AreChained-ended, AreNumbered-ended}
+use Rattle.io_manager.proofs.Closing.{number_left, status_left, payload_left, held_at, only_there, is_ended, is_given, brings, kept_slot, kept_number, AreHeld-less, AreChained-ended, AreNumbered-ended}
 use Rattle.io_manager.proofs.Inserting.{unless_one_more}
 use Rattle.io_manager.proofs.Fitted.{FitsBelow-same, no_length, IsInState-fewer}
 use Rattle.io_manager.proofs.NoneToStart.{handed_still}
 use Rattle.io_manager.proofs.Ordering.{Run-collected, inserted_is, inserted_rises}
 
-module _ (takes_srb : Bool) (old new : DeviceView) (request : Request) (done : Done) (t t' : Tables) (h : HandsUp takes_srb old request (Finished done) new) (k : AreHeld t.requests old.state.requests) (c : Closes t done t') where
+module _ (takes_srb : Bool) (old new : DeviceView) (spot : ℕ) (irp : Box Irp) (done : Done) (left : done ≡ done_of irp.value) (t t' : Tables) (h : HandsUp takes_srb old (Finished irp) spot new)
+    (k : AreHeld t.requests old.state.requests) (c : Closes t done t') where
   -- THE STEP
 
   bytes_are : h.bytes ≡ (answer_for c.request done).bytes
   bytes_are =
-      let there : (held_at takes_srb old new request done t.requests h k).request ≡ c.request = only_there takes_srb old new request done t.requests h k c.slot c.request c.there c.same_number in
-      let kind : h.answers.request.request.kind ≡ c.request.kind = sym (held_at takes_srb old new request done t.requests h k).same_kind ∙ ap (λ r. r.kind) there in
+      let there : (held_at takes_srb old new spot irp done left t.requests h k).request ≡ c.request = only_there takes_srb old new spot irp done left t.requests h k c.slot c.request c.there c.same_number in
+      let kind : h.answers.request.request.kind ≡ c.request.kind = sym (held_at takes_srb old new spot irp done left t.requests h k).same_kind ∙ ap (λ r. r.kind) there in
       brings h.answers.request.request.kind h.status h.answers.request.marks (payload_bytes h.payload) h.bytes h.answers.hands_back h.answers.success
       (λ is_read. h.brings (ap (λ q. q.kind) (sym h.is_request) ∙ is_read))
       ∙ ap (λ x. brought x h.status (payload_bytes h.payload)) kind
-      ∙ ap (λ s. brought c.request.kind s (payload_bytes h.payload)) (sym h.climbs.status_is)
-      ∙ ap (λ p. brought c.request.kind done.status (payload_bytes p)) (sym h.climbs.payload_is)
+      ∙ ap (λ s. brought c.request.kind s (payload_bytes h.payload)) (sym (status_left takes_srb old new spot irp done left t.requests h k))
+      ∙ ap (λ p. brought c.request.kind done.status (payload_bytes p)) (sym (payload_left takes_srb old new spot irp done left t.requests h k))
 
   answered_with : AnswersWith old.rules old.state h.packet.number h.status (information h.answers.request.request h.status) h.bytes h.answered
   answered_with = record { answers = h.answers; informs = refl }
@@ -65,10 +67,11 @@ module _ (takes_srb : Bool) (old new : DeviceView) (request : Request) (done : D
       let Q : NtStatus → Type 0 = λ s. AnswersWith old.rules old.state h.packet.number s done.information (answer_for c.request done).bytes h.answered in
       let I : ℕ → Type 0 = λ n. AnswersWith old.rules old.state h.packet.number h.status n (answer_for c.request done).bytes h.answered in
       let R : List ℕ → Type 0 = λ b. AnswersWith old.rules old.state h.packet.number h.status (information h.answers.request.request h.status) b h.answered in
-      subst P (sym h.climbs.number_is) (subst Q (sym h.climbs.status_is) (subst I (sym h.climbs.information_is) (subst R bytes_are answered_with)))
+      subst P (sym (number_left takes_srb old new spot irp done left t.requests h k)) (subst Q (sym (status_left takes_srb old new spot irp done left t.requests h k)) (subst I (sym (ap (λ (d : Done). d.information) left ∙ h.climbs.information_is)) (subst R bytes_are answered_with)))
 
-  pub takes_ended : IsOrderly old → IsOrderly new → TakesEnded old t new t'
-  takes_ended order order' =
+  -- with its spot vacant again
+  pub takes_ended : IsOrderly old → IsOrderly new → (rooms : List (Option Reserved)) → SameRooms old.rooms rooms → TakesEnded old t (record new { rooms = rooms }) t'
+  takes_ended order order' rooms same_rooms =
       let before : length (h.packet ∷ h.others) ≡ length old.packets = length_permutation _ _ h.is_in in
       let after : length h.others ≡ length new.packets = length_permutation _ _ h.moves.same_packets in
       record {
@@ -79,10 +82,11 @@ module _ (takes_srb : Bool) (old new : DeviceView) (request : Request) (done : D
         answers = answers_are;
         only_starts = h.only_starts;
         same_rules = h.moves.same_rules;
+        same_rooms = same_rooms;
         run = h.moves.run;
         adapter = h.moves.adapter;
         fewer = omega arith;
-        quiet = λ none. handed_still takes_srb old new request (Finished done) h order order' none;
+        quiet = λ none. handed_still takes_srb old new (Finished irp) spot h order order' none;
       }
 
   -- WHAT HOLDS AFTER IT
@@ -94,7 +98,7 @@ module _ (takes_srb : Bool) (old new : DeviceView) (request : Request) (done : D
       (run_keeps old.rules h.answered h.starts new.state h.moves.run)
 
   number_is : h.answers.request.number ≡ done.number
-  number_is = is_ended takes_srb old new request done t.requests h k
+  number_is = is_ended takes_srb old new spot irp done left t.requests h k
 
   held_after : AreDistinct old.state → AreHeld t'.requests new.state.requests
   held_after distinct =
@@ -157,7 +161,7 @@ module _ (takes_srb : Bool) (old new : DeviceView) (request : Request) (done : D
   given_after : AreDistinct old.state → old.state.next_request ≤ t.next_request → All (WasGiven t.next_request) t.untaken.items → All (WasGiven t'.next_request) t'.untaken.items
   given_after distinct rising given =
       let all : All (WasGiven t.next_request) (answer_for c.request done ∷ t.untaken.items) =
-      All-cons (WasGiven t.next_request) (answer_for c.request done) t.untaken.items (is_given takes_srb old new request done t.requests h k distinct t.next_request rising) given in
+      All-cons (WasGiven t.next_request) (answer_for c.request done) t.untaken.items (is_given takes_srb old new spot irp done left t.requests h k distinct t.next_request rising) given in
       let inserted_all : All (WasGiven t.next_request) (inserted (answer_for c.request done) t.untaken.items) =
       All-permutation (WasGiven t.next_request) _ _ (IsPermutation-sym _ _ (inserted_is (answer_for c.request done) t.untaken.items)) all in
       let P : ℕ → List Answer → Type 0 = λ n xs. All (WasGiven n) xs in
@@ -180,9 +184,9 @@ module _ (takes_srb : Bool) (old new : DeviceView) (request : Request) (done : D
       subst (λ hs. AreChained hs t'.requests t'.next_handle t'.chains) (sym c.same_handles)
       (subst (λ n. AreChained t.handles t'.requests n t'.chains) (sym c.same_next_handle) (AreChained-ended t t' done c old.state.requests k chained))
 
-  pub sound_after : (put_by : List Answer) (limits : Limits) → AreDistinct old.state → IsSoundWith put_by limits old t → IsSoundWith t'.answered.items limits new t'
-  sound_after put_by limits distinct s = record {
-    fits = FitsBelow-same limits old new h.moves.same_rules h.moves.same_most s.fits;
+  pub sound_after : (put_by : List Answer) (limits : Limits) → AreDistinct old.state → IsSoundWith put_by limits old t → (rooms : List (Option Reserved)) → IsSoundWith t'.answered.items limits (record new { rooms = rooms }) t'
+  sound_after put_by limits distinct s rooms = record {
+    fits = FitsBelow-same limits old (record new { rooms = rooms }) h.moves.same_rules h.moves.same_most s.fits;
     numbers = record {
       requests = rw c.same_next_request s.numbers.requests;
       handles = rw c.same_next_handle s.numbers.handles;
@@ -223,6 +227,7 @@ gathers_none below tables none = record {
   only_starts = All-nil IsStart;
   rising = rw none tt;
   same_rules = refl;
+  same_rooms = λ spot. refl;
   run = rw none (IsSame-refl below.state);
   adapter = reserves_none below.adapter;
   untaken = rw none (IsPermutation-refl tables.untaken.items);
@@ -303,6 +308,7 @@ module _ (below mid new : DeviceView) (first t t' : Tables) (g : Gathers below f
     only_starts = All-append IsStart g.starts e.starts g.only_starts e.only_starts;
     rising = rw e.closes.answered (inserted_rises (answer_for e.closes.request e.done) t.answered.items (others_put_by apart) g.rising);
     same_rules = e.same_rules ∙ g.same_rules;
+    same_rooms = λ spot. e.same_rooms spot ∙ g.same_rooms spot;
     run = run_more places free;
     adapter = moves_joined below.adapter g.starts mid.adapter e.starts new.adapter g.adapter e.adapter;
     untaken = untaken_more;
@@ -359,6 +365,7 @@ module _ (below mid new : DeviceView) (first t t' t'' : Tables) (g : Gathers bel
     only_starts = g.only_starts;
     rising = g.rising;
     same_rules = ap (λ (v : DeviceView). v.rules) taken ∙ g.same_rules;
+    same_rooms = subst (λ (v : DeviceView). SameRooms below.rooms v.rooms) (sym taken) g.same_rooms;
     run = subst (λ s. Run below.rules below.state (map as_label g.starts ++ map as_answer t.answered.items) s) (sym (ap (λ (v : DeviceView). v.state) taken)) g.run;
     adapter = record { moved = mid.adapter; moves = g.adapter; taken = ap (λ (v : DeviceView). v.adapter) taken };
     labels = e.tells ∙ ap (λ before. before ++ end_labels e.ends) (labels

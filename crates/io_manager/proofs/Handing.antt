@@ -18,12 +18,12 @@ use Rattle.io_manager.specs.declared.tables.Tables.{Tables}
 use Rattle.io_manager.specs.Calls.{number_limit, are_used_up, handle_limit, open_refusal}
 use Rattle.io_manager.specs.Shown.{ManagerView}
 use Rattle.io_manager.specs.Right.{tells_nothing, IsRight, OpenReplies}
-use Rattle.io_manager.specs.Sound.{view_of, IsInState, IsOnMap, IsSound, ManagerKept}
+use Rattle.io_manager.specs.inside.Sound.{view_of, IsInState, IsOnMap, IsSound, ManagerKept}
 use Rattle.pnp.specs.declared.State.{State as PnpState}
 use Rattle.pnp.specs.declared.State.TheVariants.{Started, RemovePending, Removing, Removed}
 use Rattle.machine.specs.Rules.{Rules}
 use Rattle.machine.specs.State.{State}
-use Rattle.io_manager.specs.Admitting.{is_going, handle_refusal, OpensHandle}
+use Rattle.io_manager.specs.inside.Admitting.{is_going, handle_refusal, OpensHandle}
 use Rattle.io_manager.proofs.Chained.{AreChained-opened}
 use Rattle.io_manager.proofs.Counted.{AreCounted-opened}
 use Rattle.io_manager.proofs.Quiet.{right_alone, IsRightBy-unmoved}

@@ -10,7 +10,7 @@ use Rattle.std.proofs.Math.Bool.{or-true}
 use Rattle.std.proofs.lemmas.List.Sorted.{list_any-IsPermutation}
 use Rattle.io_manager.specs.declared.Answer.{Answer}
 use Rattle.io_manager.specs.Shown.{Holder}
-use Rattle.io_manager.specs.Ordering.{inserted, lower_first}
+use Rattle.io_manager.specs.inside.Ordering.{inserted, lower_first}
 use Rattle.io_manager.specs.Right.{is_answer_of, unless_answered, answer_number, AreRising}
 
 pub lower_first_within : (number : ℕ) (answers : List Answer) → lower_first number answers ≤ length answers

@@ -12,7 +12,7 @@ use Rattle.machine.specs.Step.{Run}
 use Rattle.machine.proofs.Same.{IsSame-sym}
 use Rattle.machine.proofs.Permuting.{All-changed}
 use Rattle.io_manager.specs.Right.{as_cancel}
-use Rattle.io_manager.specs.Sound.{IsKeptBack, HasNoneToStart}
+use Rattle.io_manager.specs.inside.Sound.{IsKeptBack, HasNoneToStart}
 use Rattle.io_manager.proofs.Starting.{count_first, count_same}
 use Rattle.io_manager.proofs.Timely.{AreTimely}
 

@@ -17,11 +17,11 @@ use Rattle.machine.specs.Settled.{Settled}
 use Rattle.machine.specs.Step.{Run, as_label}
 use Rattle.machine.proofs.Same.{IsSame-refl, IsSame-sym}
 use Rattle.machine.proofs.Settling.{Settled-same}
-use Rattle.device.specs.View.{DeviceView}
+use Rattle.device.specs.View.{DeviceView, room_at}
 use Rattle.device.specs.Served.{IsActOrFault, fault_of}
 use Rattle.io_manager.specs.declared.Limits.{Limits}
 use Rattle.io_manager.specs.declared.tables.Tables.{Tables}
-use Rattle.io_manager.specs.Sound.{IsSound, TakesLabels, Collects, holder_of}
+use Rattle.io_manager.specs.inside.Sound.{IsSound, TakesLabels, Collects, holder_of}
 use Rattle.io_manager.proofs.Fitted.{FitsBelow-same, no_length}
 use Rattle.io_manager.proofs.Quiet.{none_answered}
 
@@ -85,6 +85,7 @@ module _ (below : DeviceView) (tables : Tables) (below' : DeviceView) (tables' :
     only_starts = All-nil IsStart;
     rising = tt;
     same_rules = ap (λ (v : DeviceView). v.rules) t.taken;
+    same_rooms = λ spot. ap (λ (v : DeviceView). room_at v.rooms spot) t.taken;
     run = subst (λ s. IsSame below.state s) (sym (ap (λ (v : DeviceView). v.state) t.taken)) (IsSame-refl below.state);
     adapter = record { moved = below.adapter; moves = reserves_none below.adapter; taken = ap (λ (v : DeviceView). v.adapter) t.taken };
     labels =

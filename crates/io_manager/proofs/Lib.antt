@@ -6,6 +6,7 @@ pub mod Chained
 pub mod Numbered
 pub mod Counted
 pub mod Over
+pub mod Vacant
 pub mod Askings
 pub mod Starting
 pub mod NoneToStart

@@ -4,7 +4,7 @@ use Rattle.std.specs.Prelude.{slice_index, slice_set}
 use Rattle.std.proofs.lemmas.Bool.{cases_eq}
 use Rattle.std.proofs.lemmas.List.{get_or-set_same, get_or-set_other, length-set}
 use Rattle.io_manager.specs.declared.chains.Chains.{Chains}
-use Rattle.io_manager.specs.Chains.{IsJoint, IsChain, chain_end, AreEnds, AreLinked, CanLeave, CanJoin, PutsLast, TakesOut}
+use Rattle.io_manager.specs.inside.Chains.{IsJoint, IsChain, chain_end, AreEnds, AreLinked, CanLeave, CanJoin, PutsLast, TakesOut}
 use Rattle.io_manager.proofs.Chaining.{joint_next, IsChain-still, IsChain-longer, IsChain-shorter}
 
 -- THE JOINTS

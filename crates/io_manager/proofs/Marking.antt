@@ -23,13 +23,13 @@ use Rattle.io_manager.specs.declared.Limits.{Limits}
 use Rattle.io_manager.specs.declared.cancelling.Place.{Place}
 use Rattle.io_manager.specs.declared.tables.OpenRequest.{OpenRequest}
 use Rattle.io_manager.specs.declared.tables.Tables.{Tables}
-use Rattle.io_manager.specs.Cancelling.{as_marked, IsLowestToMark, MarksAt, CancelsSlot, IsUnmarked, IsBelowUnmarked, CancelsAll}
-use Rattle.io_manager.specs.Chains.{of_handle}
-use Rattle.io_manager.specs.Ordering.{HasOtherNumber}
+use Rattle.io_manager.specs.inside.Cancelling.{as_marked, IsLowestToMark, MarksAt, CancelsSlot, IsUnmarked, IsBelowUnmarked, CancelsAll}
+use Rattle.io_manager.specs.inside.Chains.{of_handle}
+use Rattle.io_manager.specs.inside.Ordering.{HasOtherNumber}
 use Rattle.io_manager.specs.Right.{as_cancel, AreRising, IsAbove}
-use Rattle.io_manager.specs.Sound.{holder_of, holders_of, IsHeldAt, AreHeld, IsSpotted, AreApart, IsSound}
+use Rattle.io_manager.specs.inside.Sound.{holder_of, holders_of, IsHeldAt, AreHeld, IsSpotted, AreApart, IsSound}
 use Rattle.io_manager.specs.declared.chains.Chains.{Chains}
-use Rattle.io_manager.specs.Chains.{IsNumbered, AreNumbered}
+use Rattle.io_manager.specs.inside.Chains.{IsNumbered, AreNumbered}
 use Rattle.io_manager.proofs.Linked.{AreLinked-still}
 use Rattle.io_manager.proofs.Chained.{IsKept, AreChained-less}
 use Rattle.io_manager.proofs.Counted.{AreCounted-same}
@@ -325,6 +325,7 @@ pub IsBeside-trans : (a b c : DeviceView) → IsBeside a b → IsBeside b c → 
 IsBeside-trans a b c p q = record {
   same_rules = q.same_rules ∙ p.same_rules;
   same_packets = IsPermutation-trans _ _ _ q.same_packets p.same_packets;
+  same_rooms = λ spot. q.same_rooms spot ∙ p.same_rooms spot;
   same_submitted = q.same_submitted ∙ p.same_submitted;
   same_most = q.same_most ∙ p.same_most;
   same_adapter = q.same_adapter ∙ p.same_adapter;
@@ -346,7 +347,7 @@ cancels_none below tables handle = record {
   label_places = refl;
   after = refl;
   run = IsSame-refl below.state;
-  beside = record { same_rules = refl; same_packets = IsPermutation-refl _; same_submitted = refl; same_most = refl; same_adapter = refl };
+  beside = record { same_rules = refl; same_packets = IsPermutation-refl _; same_rooms = λ spot. refl; same_submitted = refl; same_most = refl; same_adapter = refl };
 }
 
 module _ (below0 : DeviceView) (tables0 : Tables) (handle : ℕ) (below : DeviceView) (tables : Tables) (h : CancelsAll below0 tables0 handle below tables) (slot : ℕ) (low : IsLowestToMark tables.requests handle slot)

@@ -7,8 +7,7 @@ use Rattle.std.proofs.lemmas.List.Elements.{All-head, All-tail, All-weaker, All-
 use Rattle.ntstatus.specs.declared.NtStatus.{NtStatus}
 use Rattle.srb.specs.declared.DeviceLabel.{DeviceLabel}
 use Rattle.srb.specs.declared.DeviceLabel.TheVariants.{Start, Act, Fault, Return}
-use Rattle.irp.specs.declared.Climb.{Climb}
-use Rattle.machine.specs.declared.Request.{Request}
+use Rattle.device.specs.declared.climbing.Climb.{Climb}
 use Rattle.machine.specs.Rules.{Rules}
 use Rattle.machine.specs.State.{Mark, Untouched, Out, Done, Failed, Back, OpenRequest, State, IsSame}
 use Rattle.machine.specs.Sending.{HasOtherTag, IsStart, IsUnsent, Starts, is_started, sent}
@@ -20,7 +19,7 @@ use Rattle.machine.proofs.Commuting.{out_ends_not}
 use Rattle.machine.proofs.Permuting.{distinct_first, is_first}
 use Rattle.device.specs.View.{DeviceView, IsOrderly}
 use Rattle.device.specs.Served.{HandsUp, StaysIfStarted}
-use Rattle.io_manager.specs.Sound.{IsKeptBack, HasNoneToStart}
+use Rattle.io_manager.specs.inside.Sound.{IsKeptBack, HasNoneToStart}
 use Rattle.io_manager.proofs.Starting.{free_leaves, out_first, unsent_first, HasOutAt, out_along, count_first, count_same, one_more, started_along}
 
 -- WHAT HAS ENDED
@@ -145,9 +144,9 @@ module _ (rules : Rules) (s : State) (number : ℕ) (status : NtStatus) (bytes :
 
 -- A PACKET IS HANDED UP
 
-pub handed_still : (takes_srb : Bool) (old new : DeviceView) (request : Request) (climb : Climb) (h : HandsUp takes_srb old request climb new)
+pub handed_still : (takes_srb : Bool) (old new : DeviceView) (climb : Climb) (spot : ℕ) (h : HandsUp takes_srb old climb spot new)
     → IsOrderly old → IsOrderly new → HasNoneToStart old.rules old.state → (h.starts ≡ []) × HasNoneToStart new.rules new.state
-handed_still takes_srb old new request climb h order order' none =
+handed_still takes_srb old new climb spot h order order' none =
     let within : IsWithin old.rules.window (started_count new.state) =
     subst (λ (r : Rules). IsWithin r.window (started_count new.state)) h.moves.same_rules order'.sending.within_window in
     let no_starts : h.starts ≡ [] =

@@ -21,10 +21,10 @@ use Rattle.io_manager.specs.declared.tables.Tables.{Tables}
 use Rattle.io_manager.specs.declared.Answer.{Answer}
 use Rattle.io_manager.specs.declared.tables.OpenRequest.{OpenRequest}
 use Rattle.io_manager.specs.Right.{AreRising, answer_number}
-use Rattle.io_manager.specs.Inside.{WritesInside}
-use Rattle.io_manager.specs.Sound.{rules_of, shown_state, is_gone, holders_of, view_of, EndsInRange, FitsBelow, HasNumbers, IsHeldAt, AreHeld, HasPlaces, IsSpotted, WasGiven, IsInState, IsSound, ManagerKept}
-use Rattle.io_manager.specs.Opening.{IsUnasked, AreFor, AreEmpty, IsFirstView}
-use Rattle.io_manager.specs.Chains.{IsNumbered}
+use Rattle.io_manager.specs.inside.Inside.{WritesInside}
+use Rattle.io_manager.specs.inside.Sound.{shown_state, is_gone, holders_of, view_of, EndsInRange, FitsBelow, HasNumbers, IsHeldAt, AreHeld, HasPlaces, IsSpotted, WasGiven, IsInState, IsSound, ManagerKept}
+use Rattle.io_manager.specs.Opening.{rules_of, IsUnasked, AreFor, AreEmpty, IsFirstView}
+use Rattle.io_manager.specs.inside.Chains.{IsNumbered}
 use Rattle.io_manager.proofs.Linked.{AreLinked-empty}
 use Rattle.io_manager.proofs.Chained.{none_there, AreChained-empty}
 use Rattle.machine_laws.proofs.DiskMap.{slice_is_part, length-part}

@@ -20,7 +20,7 @@ use Rattle.machine.proofs.Same.{IsSame-refl, IsSame-sym, AnswersWith-same, Run-s
 use Rattle.machine.proofs.Commuting.{swapped, Start-first, Answers-swap, HasPlaces-with_marks}
 use Rattle.io_manager.specs.declared.Answer.{Answer}
 use Rattle.io_manager.specs.Right.{as_answer, answer_number, IsAbove, AreRising}
-use Rattle.io_manager.specs.Ordering.{inserted, HasOtherNumber}
+use Rattle.io_manager.specs.inside.Ordering.{inserted, HasOtherNumber}
 
 module _ (rules : Rules) where
   start_keeps : (s : State) (piece tag : ℕ) (block : List ℕ) (s' : State) → HavePlaces s → Starts rules s piece tag block s' → HavePlaces s'

@@ -17,6 +17,7 @@ use Rattle.srb.specs.declared.DeviceLabel.{DeviceLabel}
 use Rattle.srb.specs.declared.DeviceLabel.TheVariants.{Start, Act, Fault, Return}
 use Rattle.adapter.specs.View.{AdapterView, TagInUse, ReservesMore, NotesReset, met_by_reset, MovesOn, MovesByAll, acted, faulted, in_use_from}
 use Rattle.adapter.specs.Performing.{CarriesOut}
+use Rattle.srb.specs.declared.Srb.{Srb}
 use Rattle.srb.specs.declared.Kind.{Kind}
 use Rattle.srb.specs.declared.Kind.TheVariants.{Read, Write, Flush}
 use Rattle.machine.specs.declared.ClientRequest.{ClientRequest}
@@ -29,7 +30,7 @@ use Rattle.machine.proofs.Placed.{get_or-splice_below, get_or-splice_above}
 use Rattle.machine_laws.proofs.Serving.{IsSized}
 use Rattle.machine_laws.proofs.Sound.{IsSound, IsSound-Step}
 use Rattle.device.specs.View.{KeepsOutside}
-use Rattle.io_manager.specs.Inside.{LieIn, WritesInside, AllWriteInside}
+use Rattle.io_manager.specs.inside.Inside.{LieIn, WritesInside, AllWriteInside}
 use Rattle.io_manager.proofs.Askings.{all_asked, device_keeps}
 
 -- A LIST OF PARTITIONS
@@ -199,7 +200,7 @@ module _ (partitions : List Extent) where
             ∙ performs_outside old.faithful _ old.sector_size old.sectors h.use'.srb.data h.use'.srb.block h.command h.moved h.sectors here h.means h.performs i apart,
       )
   moves_inside old tag (Fault piece) new h starts inside = (
-    subst (AllWriteInside partitions) (sym h.after) (one_changed old.tags h.use' (faulted h.use') h.others h.tags h.is_on.in_use h.in_use (λ k. k) inside),
+    subst (AllWriteInside partitions) (sym h.after) (one_changed old.tags h.use' (faulted h.left h.use') h.others h.tags h.is_on.in_use h.in_use (λ k lba count fua asks. k lba count fua (subst (λ b. AsksToWrite b lba count fua) (ap (λ (srb : Srb). srb.block) h.spoiled.same) asks)) inside),
     λ i apart. ap (λ (v : AdapterView). slice_get v.sectors i) h.after,
   )
   moves_inside old tag (Return piece class) new h starts inside = (

@@ -20,7 +20,7 @@ use Rattle.machine.specs.Step.{DeviceStep, Run, as_label}
 use Rattle.device.specs.View.{IsRead}
 use Rattle.io_manager.specs.declared.Answer.{Answer}
 use Rattle.io_manager.specs.Right.{as_answer, as_cancel}
-use Rattle.io_manager.specs.Sound.{shown_state}
+use Rattle.io_manager.specs.inside.Sound.{shown_state}
 
 -- two states that are the same are shown the same
 pub shown_same : (next : ℕ) (removed : Bool) (s t : State) → IsSame s t → IsSame (shown_state next removed s) (shown_state next removed t)

@@ -10,7 +10,7 @@ use Rattle.machine.specs.State.{State}
 use Rattle.machine.specs.Calling.{refusal, Opens, Admits, Calls}
 use Rattle.machine.specs.Step.{Run}
 use Rattle.machine.proofs.Same.{IsSame-refl}
-use Rattle.io_manager.specs.Sound.{shown_state}
+use Rattle.io_manager.specs.inside.Sound.{shown_state}
 
 none_is : {X : Type 0} (o : Option X) → IsNone o → o ≡ None
 none_is None h = refl

@@ -32,7 +32,8 @@ use Rattle.io_manager.specs.declared.Reply.TheVariants.{Ok as OkReply, Refused}
 use Rattle.io_manager.specs.declared.tables.Tables.{Tables}
 use Rattle.io_manager.specs.Shown.{ManagerView}
 use Rattle.io_manager.specs.Right.{Told, SameHandles, tells_nothing, TellsOne, pnp_state, IsInvalid, IsRecalled, PnpReplies, RecallReplies, IsRight}
-use Rattle.io_manager.specs.Sound.{rules_of, shown_state, is_gone, view_of, IsSpotted, IsInState, IsSound, HasNoneToStart, Collects, ManagerKept}
+use Rattle.io_manager.specs.inside.Sound.{shown_state, is_gone, view_of, IsSpotted, IsInState, IsSound, HasNoneToStart, Collects, ManagerKept}
+use Rattle.io_manager.specs.Opening.{rules_of}
 use Rattle.io_manager.proofs.AdapterJoins.{labels_moved}
 use Rattle.io_manager.proofs.Askings.{AsksSame, asked, AreHeld-along}
 use Rattle.io_manager.proofs.Fitted.{FitsBelow-same}
@@ -269,7 +270,7 @@ module _ (limits : Limits) (below : DeviceView) (tables : Tables) (old : Manager
     resume_sound =
         IsSound-moves limits (record below { state = resumes.resumed }) tables1 resumes.starts below1
         (beside_sound limits below (record below { state = resumes.resumed }) tables tables1 Started Resume kept.sound
-        (record { same_rules = refl; same_packets = IsPermutation-refl _; same_submitted = refl; same_most = refl; same_adapter = refl })
+        (record { same_rules = refl; same_packets = IsPermutation-refl _; same_rooms = λ spot. refl; same_submitted = refl; same_most = refl; same_adapter = refl })
         resumed_asks (resumes.resumes.after.paused, subst IsFalse (sym resumes.resumes.after.removing) (subst (λ p. IsInState p below.state) was kept.sound.in_state).1) moved)
         resumes.moves
 

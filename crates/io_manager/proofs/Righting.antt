@@ -22,9 +22,10 @@ use Rattle.pnp.specs.declared.State.TheVariants.{Removed}
 use Rattle.io_manager.specs.declared.Limits.{Limits}
 use Rattle.io_manager.specs.declared.tables.OpenRequest.{OpenRequest as OpenEntry}
 use Rattle.io_manager.specs.declared.tables.Tables.{Tables}
-use Rattle.io_manager.specs.Inside.{AllWriteInside}
+use Rattle.io_manager.specs.inside.Inside.{AllWriteInside}
 use Rattle.io_manager.specs.Right.{as_answer, labels_of, end_labels, Told, AdapterMoves, IsRightBy, unless_answered}
-use Rattle.io_manager.specs.Sound.{rules_of, shown_state, is_gone, holder_of, holders_of, view_of, IsHeldAt, AreHeld, IsSpotted, IsInState, EndsIf, IsSound, AsksInside, Collects}
+use Rattle.io_manager.specs.inside.Sound.{shown_state, is_gone, holder_of, holders_of, view_of, IsHeldAt, AreHeld, IsSpotted, IsInState, EndsIf, IsSound, AsksInside, Collects}
+use Rattle.io_manager.specs.Opening.{rules_of}
 use Rattle.io_manager.proofs.Over.{labels_over, answers_over}
 use Rattle.io_manager.proofs.Ordering.{Run-split}
 use Rattle.io_manager.proofs.Outside.{HasPartition, stays_inside}

@@ -19,7 +19,8 @@ use Rattle.io_manager.specs.declared.tables.OpenRequest.{OpenRequest as OpenEntr
 use Rattle.io_manager.specs.declared.tables.Tables.{Tables}
 use Rattle.io_manager.specs.Shown.{ManagerView, Holder}
 use Rattle.io_manager.specs.Right.{Told, HasSlot, IsRightBy, FitsTogether}
-use Rattle.io_manager.specs.Sound.{rules_of, is_gone, holder_of, holders_of, view_of, IsHeldAt, IsInState, EndsIf, IsSound, AsksInside, Collects, ManagerKept}
+use Rattle.io_manager.specs.inside.Sound.{is_gone, holder_of, holders_of, view_of, IsHeldAt, IsInState, EndsIf, IsSound, AsksInside, Collects, ManagerKept}
+use Rattle.io_manager.specs.Opening.{rules_of}
 use Rattle.io_manager.proofs.Over.{settled_over, read_over}
 
 -- THE SLOTS OF OPEN REQUESTS

@@ -9,9 +9,9 @@ use Rattle.io_manager.specs.declared.Answer.{Answer}
 use Rattle.io_manager.specs.declared.Limits.{Limits}
 use Rattle.io_manager.specs.declared.tables.OpenRequest.{OpenRequest}
 use Rattle.io_manager.specs.declared.tables.Tables.{Tables}
-use Rattle.io_manager.specs.Ordering.{HasOtherNumber}
+use Rattle.io_manager.specs.inside.Ordering.{HasOtherNumber}
 use Rattle.io_manager.specs.Right.{AreRising, IsAbove, answer_number}
-use Rattle.io_manager.specs.Sound.{WasGiven, AreApart, ManagerKept}
+use Rattle.io_manager.specs.inside.Sound.{WasGiven, AreApart, ManagerKept}
 
 all_but : {X : Type 0} (P : X → Type 0) (xs : List X) (at : ℕ) → All P xs → All P (remove xs at)
 all_but P [] zero all = All-nil _

@@ -8,7 +8,7 @@ use Rattle.io_manager.specs.declared.Limits.{Limits}
 use Rattle.io_manager.specs.declared.tables.Tables.{Tables}
 use Rattle.io_manager.specs.Shown.{ManagerView}
 use Rattle.io_manager.specs.Right.{Told, IsRight, IsRightBy}
-use Rattle.io_manager.specs.Sound.{view_of, IsSound, AsksInside, Collects, ManagerKept}
+use Rattle.io_manager.specs.inside.Sound.{view_of, IsSound, AsksInside, Collects, ManagerKept}
 use Rattle.io_manager.proofs.Righting.{IsServed, told_by, IsRightBy-served}
 use Rattle.io_manager.proofs.Stepping.{ManagerKept-collected}
 

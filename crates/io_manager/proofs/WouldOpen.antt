@@ -20,8 +20,9 @@ use Rattle.io_manager.specs.declared.admission.Asked.{Asked}
 use Rattle.io_manager.specs.declared.tables.Tables.{Tables}
 use Rattle.io_manager.specs.Shown.{ManagerView}
 use Rattle.io_manager.specs.Calls.{are_used_up, partition_of, call_on, without_bytes, opened_as, would_open}
-use Rattle.io_manager.specs.Sound.{EndsInRange, rules_of, view_of, IsSound}
-use Rattle.io_manager.specs.Admitting.{asked_for, IsAdmissible}
+use Rattle.io_manager.specs.inside.Sound.{EndsInRange, view_of, IsSound}
+use Rattle.io_manager.specs.Opening.{rules_of}
+use Rattle.io_manager.specs.inside.Admitting.{asked_for, IsAdmissible}
 use Rattle.io_manager.proofs.Fitting.{AsksBy, asks_whole, no_sectors}
 
 -- BY WHAT IS DECIDED

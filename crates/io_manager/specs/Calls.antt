@@ -1,7 +1,12 @@
 -- What a client's call asks, and what refuses it.
-use Rattle.std.specs.Prelude.{ℕ, ◌/◌, ◌==◌, ◌^◌, nat_le, Bool, List, [], ◌∷◌, Option, Some, None, length, slice_index_or, count_by, is_some, if◌then◌else◌}
+use Rattle.std.specs.Prelude.{ℕ, ◌/◌, ◌==◌, ◌^◌, nat_le, Bool, List, [], ◌∷◌, Option, Some, None, length}
+use Rattle.std.specs.Prelude.{slice_index_or, count_by, is_some, if◌then◌else◌}
 use Rattle.ntstatus.specs.declared.NtStatus.{NtStatus}
-use Rattle.ntstatus.specs.declared.NtStatus.TheVariants.{InvalidHandle as HandleStatus, InvalidParameter as ParameterStatus, DeletePending as PendingStatus, DeviceBusy as BusyStatus, InsufficientResources as ResourcesStatus, InvalidDeviceRequest as RequestStatus, NotFound as FoundStatus}
+use Rattle.ntstatus.specs.declared.NtStatus.TheVariants.{InvalidHandle as HandleStatus}
+use Rattle.ntstatus.specs.declared.NtStatus.TheVariants.{InvalidParameter as ParameterStatus}
+use Rattle.ntstatus.specs.declared.NtStatus.TheVariants.{DeletePending as PendingStatus, DeviceBusy as BusyStatus}
+use Rattle.ntstatus.specs.declared.NtStatus.TheVariants.{InsufficientResources as ResourcesStatus}
+use Rattle.ntstatus.specs.declared.NtStatus.TheVariants.{InvalidDeviceRequest as RequestStatus, NotFound as FoundStatus}
 use Rattle.ntstatus.specs.First.{when, first_some}
 use Rattle.sector.specs.declared.Extent.{Extent}
 use Rattle.srb.specs.declared.Kind.{Kind}
@@ -12,7 +17,9 @@ use Rattle.machine.specs.Cutting.{piece_count}
 use Rattle.machine.specs.Calling.{refusal}
 use Rattle.io_manager.specs.declared.Handle.{Handle}
 use Rattle.io_manager.specs.declared.Refusal.{Refusal}
-use Rattle.io_manager.specs.declared.Refusal.TheVariants.{InvalidHandle, InvalidParameter, DeletePending, DeviceBusy, InsufficientResources, InvalidDeviceRequest, NotFound}
+use Rattle.io_manager.specs.declared.Refusal.TheVariants.{InvalidHandle, InvalidParameter, DeletePending}
+use Rattle.io_manager.specs.declared.Refusal.TheVariants.{DeviceBusy, InsufficientResources, InvalidDeviceRequest}
+use Rattle.io_manager.specs.declared.Refusal.TheVariants.{NotFound}
 use Rattle.io_manager.specs.declared.OpenHandle.{OpenHandle}
 use Rattle.io_manager.specs.Shown.{ManagerView}
 
@@ -72,7 +79,8 @@ asked_on v handle kind offset length' through = record {
 
 -- and with the caller's buffer; a flush is one of no bytes
 abbrev pub call_on : ManagerView → Handle → Kind → ℕ → List ℕ → Bool → ClientRequest
-call_on v handle kind offset buffer through = record (asked_on v handle kind offset (length buffer) through) { bytes = bytes_called kind buffer }
+call_on v handle kind offset buffer through = record (asked_on v handle kind offset (length buffer) through)
+    { bytes = bytes_called kind buffer }
 
 -- the label of a refused call has no bytes: they went back to the caller
 abbrev pub without_bytes : ClientRequest → ClientRequest
@@ -89,7 +97,11 @@ open_refusal v partition = first_some (
 
 -- the sectors of the disk that a request moves, in order; a flush moves none, from where its partition begins
 abbrev pub disk_extent : Rules → ClientRequest → Extent
-disk_extent rules q = record { first = home rules q.partition (first_sector rules q); count = q.length / rules.sector_size }
+disk_extent rules q = record {
+  first = home rules q.partition (first_sector rules q);
+  count = q.length /
+      rules.sector_size;
+}
 
 -- the number of pieces that a request is cut into, and its sectors of the disk
 abbrev pub opened_as : Rules → ClientRequest → ℕ × Extent

@@ -1,12 +1,5 @@
 pub mod Shown
 pub mod Calls
-pub mod Ordering
 pub mod Right
-pub mod Inside
-pub mod Chains
-pub mod Sound
-pub mod Admitting
-pub mod Collecting
-pub mod Cancelling
 pub mod Opening
-pub mod Taking
+pub mod inside

@@ -1,22 +1,37 @@
 -- A manager before its first call.
-use Rattle.std.specs.Prelude.{◌≡◌, ◌<◌, ◌≤◌, [], map, length}
+use Rattle.std.specs.Prelude.{◌≡◌, ◌<◌, ◌≤◌, ℕ, List, [], Some, None, map, length, slice_get}
 use Rattle.machine.specs.Map.{IsMap}
 use Rattle.sector.specs.Extents.{sectors_in}
 use Rattle.machine.specs.State.{opening}
-use Rattle.device.specs.View.{DeviceView}
+use Rattle.sector.specs.declared.Extent.{Extent}
+use Rattle.machine.specs.Rules.{Rules}
+use Rattle.device.specs.View.{DeviceView, room_at}
 use Rattle.pnp.specs.declared.State.TheVariants.{Started}
 use Rattle.io_manager.specs.declared.Limits.{Limits}
 use Rattle.io_manager.specs.declared.tables.Tables.{Tables}
 use Rattle.io_manager.specs.Shown.{ManagerView}
 use Rattle.io_manager.specs.Calls.{number_limit}
-use Rattle.io_manager.specs.Chains.{AreEnds}
-use Rattle.io_manager.specs.Sound.{rules_of, AreFirsts}
+use Rattle.io_manager.specs.inside.Chains.{AreEnds}
+
+-- no spot of the layer is reserved: it has no room that nobody would give back
+abbrev pub HasNoRooms : DeviceView → Type 0
+HasNoRooms below = (spot : ℕ) → room_at below.rooms spot ≡ None
+
+-- at each partition's number stands its first sector
+abbrev pub AreFirsts : List ℕ → List Extent → Type 0
+AreFirsts firsts partitions = (p : ℕ) (extent : Extent) → slice_get partitions p ≡ Some extent
+    → slice_get firsts p ≡ Some extent.first
+
+-- the rules of the manager over those of the device below: open requests are counted
+abbrev pub rules_of : Limits → Rules → Rules
+rules_of limits below = record below { open_requests = Some limits.open_requests }
 
 -- nothing was asked of the device below yet, whose partitions lie on the disk and share no sector
 pub record IsUnasked (below : DeviceView) : Type 0 where
   pub is_map : IsMap (length below.adapter.sectors) below.rules.partitions
   pub state : below.state ≡ opening (map (sectors_in below.adapter.sectors) below.rules.partitions)
   pub no_packets : below.packets ≡ []
+  pub vacant : HasNoRooms below
   pub none_submitted : below.submitted ≡ 0
   pub many : number_limit ≤ below.most
   pub no_labels : below.adapter.labels ≡ []

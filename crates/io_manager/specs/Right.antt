@@ -1,5 +1,7 @@
 -- When a call of the I/O manager, or a step of the adapter, is right.
-use Rattle.std.specs.Prelude.{◌≡◌, ◌≢◌, ◌<◌, ◌⊎◌, ℕ, ◌+◌, ◌==◌, Bool, true, false, List, [], ◌∷◌, ◌++◌, Option, Some, None, Result, map, filter, slice_get, slice_index_or, remove, is_some, IsTrue, IsFalse, All, Contains, IsPermutation, if◌then◌else◌}
+use Rattle.std.specs.Prelude.{◌≡◌, ◌≢◌, ◌<◌, ◌⊎◌, ℕ, ◌+◌, ◌==◌, Bool, true, false, List, [], ◌∷◌, ◌++◌, Option, Some}
+use Rattle.std.specs.Prelude.{None, Result, map, filter, slice_get, slice_index_or, remove, is_some, IsTrue, IsFalse}
+use Rattle.std.specs.Prelude.{All, Contains, IsPermutation, if◌then◌else◌}
 use Rattle.std.specs.List.{list_any}
 use Rattle.std.specs.List.Sorted.{IsStrictlyIncreasing}
 use Rattle.ntstatus.specs.declared.NtStatus.{NtStatus}
@@ -16,7 +18,8 @@ use Rattle.srb.specs.declared.Kind.{Kind}
 use Rattle.srb.specs.declared.Kind.TheVariants.{Write}
 use Rattle.machine.specs.declared.ClientRequest.{ClientRequest}
 use Rattle.machine.specs.declared.Label.{Label}
-use Rattle.machine.specs.declared.Label.TheVariants.{Call, Answer as AnswerLabel, Cancel, Pause, Resume, Remove, Surprise, Removed as RemovedLabel}
+use Rattle.machine.specs.declared.Label.TheVariants.{Call, Answer as AnswerLabel, Cancel, Pause, Resume, Remove}
+use Rattle.machine.specs.declared.Label.TheVariants.{Surprise, Removed as RemovedLabel}
 use Rattle.machine.specs.State.{OpenRequest, Piece, State}
 use Rattle.machine.specs.Calling.{refusal}
 use Rattle.machine.specs.Sending.{HasOtherTag, IsStart}
@@ -31,11 +34,14 @@ use Rattle.io_manager.specs.declared.Answer.{Answer}
 use Rattle.io_manager.specs.declared.Handle.{Handle}
 use Rattle.io_manager.specs.declared.Id.{Id}
 use Rattle.io_manager.specs.declared.Refusal.{Refusal}
-use Rattle.io_manager.specs.declared.Refusal.TheVariants.{InvalidHandle, DeviceBusy, InsufficientResources, InvalidDeviceRequest, NotFound}
+use Rattle.io_manager.specs.declared.Refusal.TheVariants.{InvalidHandle, DeviceBusy, InsufficientResources}
+use Rattle.io_manager.specs.declared.Refusal.TheVariants.{InvalidDeviceRequest, NotFound}
 use Rattle.io_manager.specs.declared.Reply.{Reply}
-use Rattle.io_manager.specs.declared.Reply.TheVariants.{Handle as HandleReply, Ok as OkReply, Request as Requested, Answered, Refused, Ignored}
+use Rattle.io_manager.specs.declared.Reply.TheVariants.{Handle as HandleReply, Ok as OkReply, Request as Requested}
+use Rattle.io_manager.specs.declared.Reply.TheVariants.{Answered, Refused, Ignored}
 use Rattle.io_manager.specs.Shown.{ManagerView, Holder}
-use Rattle.io_manager.specs.Calls.{handle_limit, are_used_up, status_of_refusal, partition_of, without_bytes, open_refusal}
+use Rattle.io_manager.specs.Calls.{handle_limit, are_used_up, status_of_refusal, partition_of, without_bytes}
+use Rattle.io_manager.specs.Calls.{open_refusal}
 
 -- the label of an answer
 abbrev pub as_answer : Answer → Label
@@ -65,8 +71,8 @@ pub record Updates {X : Type 0} (old new : List (Option X)) (slot : ℕ) (item :
 
 -- WHAT A STEP TELLS
 
--- a step's own labels, then the device's, then the answers of requests that were open, and last whether a removal ended; and the
--- requests by slot that were open before it, with the one that it opened
+-- a step's own labels, then the device's, then the answers of requests that were open, and last whether a removal
+-- ended; and the requests by slot that were open before it, with the one that it opened
 pub record Told : Type 0 where
   pub own : List Label
   pub device : List DeviceLabel
@@ -101,7 +107,8 @@ pub record IsUnmoved (old new : ManagerView) (told : Told) : Type 0 where
   pub same_adapter : new.adapter ≡ old.adapter
 
 -- refused for this reason, with no bytes to give back: nothing happened
-pub record RefusesAlone (old : ManagerView) (reason why : Refusal) (bytes : List ℕ) (new : ManagerView) (told : Told) : Type 0 where
+pub record RefusesAlone (old : ManagerView) (reason why : Refusal) (bytes : List ℕ) (new : ManagerView)
+    (told : Told) : Type 0 where
   pub is_reason : reason ≡ why
   pub no_bytes : bytes ≡ []
   pub unmoved : IsUnmoved old new told
@@ -116,7 +123,8 @@ pub record ReservesAlone (old : ManagerView) (kind : Kind) (new : ManagerView) (
   pub unless_write : kind ≢ Write → new.adapter ≡ old.adapter
 
 -- a call that is refused, or one of no bytes: its two labels, and no more; nothing was reserved
-pub record IsAnsweredAtOnce (old : ManagerView) (q : ClientRequest) (status : NtStatus) (new : ManagerView) (told : Told) : Type 0 where
+pub record IsAnsweredAtOnce (old : ManagerView) (q : ClientRequest) (status : NtStatus) (new : ManagerView)
+    (told : Told) : Type 0 where
   pub numbers_last : are_used_up old.state.next_request ≡ false
   pub is_refused : refusal old.rules old.state q ≡ Some status
   pub tells : told ≡ record (tells_nothing old) {
@@ -130,7 +138,8 @@ IsSlotOf None slot = ⊥
 IsSlotOf (Some most) slot = slot < most
 
 -- a call that opens a request, under the next number and in a slot that was free
-pub record IsAdmitted (old : ManagerView) (handle : Handle) (q : ClientRequest) (slot number : ℕ) (told : Told) : Type 0 where
+pub record IsAdmitted (old : ManagerView) (handle : Handle) (q : ClientRequest) (slot number : ℕ)
+    (told : Told) : Type 0 where
   pub numbers_last : are_used_up old.state.next_request ≡ false
   pub not_refused : refusal old.rules old.state q ≡ None
   pub next_number : number ≡ old.state.next_request
@@ -140,18 +149,21 @@ pub record IsAdmitted (old : ManagerView) (handle : Handle) (q : ClientRequest) 
   pub in_range : IsSlotOf old.rules.open_requests slot
   pub holds : Updates old.holders told.admitted slot (Some (record { number = number; handle = handle.number }))
 
--- a call for which there is no number left: nothing happens; or whose memory was refused: a part of a write may have been reserved
+-- a call for which there is no number left: nothing happens; or whose memory was refused: a part of a write may have
+-- been reserved
 abbrev pub IsTurnedAway : ManagerView → ClientRequest → Refusal → ManagerView → Told → Type 0
 IsTurnedAway old q DeviceBusy new told = (are_used_up old.state.next_request ≡ true) × IsUnmoved old new told
 IsTurnedAway old q InsufficientResources new told =
-    (are_used_up old.state.next_request ≡ false) × (refusal old.rules old.state q ≡ None) × ReservesAlone old q.kind new told
+    (are_used_up old.state.next_request ≡ false) × (refusal old.rules old.state q ≡ None)
+    × ReservesAlone old q.kind new told
 IsTurnedAway old q _ new told = ⊥
 
 -- a read, a write or a flush with this buffer
 abbrev pub TransferReplies : ManagerView → Handle → ClientRequest → List ℕ → Reply → ManagerView → Told → Type 0
 TransferReplies old handle q buffer (Requested id) new told = IsAdmitted old handle q id.slot id.number told
 TransferReplies old handle q buffer (Answered answer) new told =
-    IsAnsweredAtOnce old q Success new told × (answer ≡ record { number = old.state.next_request; status = Success; information = 0; bytes = [] })
+    IsAnsweredAtOnce old q Success new told
+    × (answer ≡ record { number = old.state.next_request; status = Success; information = 0; bytes = [] })
 TransferReplies old handle q buffer (Refused reason bytes) new told =
     (bytes ≡ buffer)
     × (IsAnsweredAtOnce old q (status_of_refusal reason) new told ⊎ IsTurnedAway old q reason new told)
@@ -160,7 +172,8 @@ TransferReplies old handle q buffer OkReply new told = ⊥
 TransferReplies old handle q buffer Ignored new told = ⊥
 
 -- its row
-pub record CallReplies (old : ManagerView) (handle : Handle) (q : ClientRequest) (buffer : List ℕ) (reply : Reply) (new : ManagerView) (told : Told) : Type 0 where
+pub record CallReplies (old : ManagerView) (handle : Handle) (q : ClientRequest) (buffer : List ℕ) (reply : Reply)
+    (new : ManagerView) (told : Told) : Type 0 where
   pub replies : TransferReplies old handle q buffer reply new told
   pub handles : SameHandles old new
 
@@ -173,7 +186,8 @@ pub record IsGiven (old : ManagerView) (partition : ℕ) (handle : Handle) (new 
   pub counted : new.next_handle ≡ old.next_handle + 1
   pub was_free : slice_index_or old.handles handle.slot None ≡ None
   pub in_range : handle.slot < handle_limit
-  pub opens : Updates old.handles new.handles handle.slot (Some (record { number = handle.number; partition = partition }))
+  pub opens : Updates old.handles new.handles handle.slot
+      (Some (record { number = handle.number; partition = partition }))
 
 -- an open gives a handle, or is refused and changes nothing
 abbrev pub OpenReplies : ManagerView → ℕ → Reply → ManagerView → Told → Type 0
@@ -294,14 +308,16 @@ pub record TellsOne (old : ManagerView) (label : Label) (told : Told) : Type 0 w
   pub holders : told.admitted ≡ old.holders
 
 -- the call is valid in this state, and none of the device's labels comes
-pub record IsValid (old : ManagerView) (event : Event) (after : PnpState) (label : Label) (new : ManagerView) (told : Told) : Type 0 where
+pub record IsValid (old : ManagerView) (event : Event) (after : PnpState) (label : Label) (new : ManagerView)
+    (told : Told) : Type 0 where
   pub valid : next event (pnp_state old.state) ≡ Some after
   pub tells : TellsOne old label told
   pub no_device : told.device ≡ []
   pub handles : SameHandles old new
 
 -- the call is invalid in this state: nothing happens
-pub record IsInvalid (old : ManagerView) (event : Event) (reason : Refusal) (bytes : List ℕ) (new : ManagerView) (told : Told) : Type 0 where
+pub record IsInvalid (old : ManagerView) (event : Event) (reason : Refusal) (bytes : List ℕ) (new : ManagerView)
+    (told : Told) : Type 0 where
   pub invalid : next event (pnp_state old.state) ≡ None
   pub refuses : RefusesAlone old reason InvalidDeviceRequest bytes new told
 
@@ -372,7 +388,8 @@ ActReplies old tag (Answered answer) new told = ⊥
 ActReplies old tag (Refused reason bytes) new told = ⊥
 
 -- what is booked of a piece is the adapter's alone
-pub record BooksPiece (old : ManagerView) (tag piece : ℕ) (what : Result Entry Completion) (new : ManagerView) : Type 0 where
+pub record BooksPiece (old : ManagerView) (tag piece : ℕ) (what : Result Entry Completion)
+    (new : ManagerView) : Type 0 where
   pub adapter : Books old.adapter tag piece what new.adapter
   pub same : new ≡ record old { adapter = new.adapter }
 
@@ -391,7 +408,8 @@ pub record TellsFinish (old : ManagerView) (tag : ℕ) (told : Told) : Type 0 wh
 -- a return is told, or the tag is free and nothing happens
 abbrev pub FinishReplies : ManagerView → ℕ → Reply → ManagerView → Told → Type 0
 FinishReplies old tag OkReply new told = TellsFinish old tag told × SameHandles old new
-FinishReplies old tag Ignored new told = IsUnmoved old new told × All (HasOtherTag tag) old.state.pieces × SameHandles old new
+FinishReplies old tag Ignored new told = IsUnmoved old new told × All (HasOtherTag tag) old.state.pieces
+    × SameHandles old new
 FinishReplies old tag (HandleReply handle) new told = ⊥
 FinishReplies old tag (Requested id) new told = ⊥
 FinishReplies old tag (Answered answer) new told = ⊥
@@ -426,7 +444,8 @@ MovesWith true old labels new =
     (faulted noted : AdapterView) × MovesByAll old labels faulted × NotesReset faulted noted × ReservesMore noted new
 
 -- and the labels are then taken from its record
-pub record AdapterMoves (reset : Bool) (old : AdapterView) (labels : List DeviceLabel) (new : AdapterView) : Type 0 where
+pub record AdapterMoves (reset : Bool) (old : AdapterView) (labels : List DeviceLabel)
+    (new : AdapterView) : Type 0 where
   pub moved : AdapterView
   pub moves : MovesWith reset old labels moved
   pub taken : new ≡ record moved { labels = [] }
@@ -441,7 +460,8 @@ pub record IsRightBy (reset : Bool) (told : Told) (old new : ManagerView) : Type
   pub adapter : AdapterMoves reset old.adapter told.device new.adapter
   pub outside : KeepsOutside old.rules.partitions old.adapter new.adapter
   -- an open request keeps its slot and its handle until it is answered
-  pub holders : (slot : ℕ) → slice_index_or new.holders slot None ≡ unless_answered told.answers (slice_index_or told.admitted slot None)
+  pub holders : (slot : ℕ) → slice_index_or new.holders slot None
+      ≡ unless_answered told.answers (slice_index_or told.admitted slot None)
   -- each answer of an admitted request waits to be taken
   pub untaken : IsPermutation new.answers (told.answers ++ old.answers)
 
@@ -461,7 +481,8 @@ pub record IsRightReset (old new : ManagerView) : Type 0 where
 
 -- a slot of an open request, by its number
 abbrev pub HasSlot : List (Option Holder) → OpenRequest → Type 0
-HasSlot holders o = (slot : ℕ) × (holder : Holder) × (slice_index_or holders slot None ≡ Some holder) × (holder.number ≡ o.number)
+HasSlot holders o = (slot : ℕ) × (holder : Holder) × (slice_index_or holders slot None ≡ Some holder)
+    × (holder.number ≡ o.number)
 
 -- what is shown fits together
 pub record FitsTogether (v : ManagerView) : Type 0 where
@@ -469,7 +490,8 @@ pub record FitsTogether (v : ManagerView) : Type 0 where
   pub read : IsRead v.rules v.state v.adapter
   -- each open request has a slot, each slot in use an open request, and no two slots the same
   pub has_slot : All (HasSlot v.holders) v.state.requests
-  pub has_request : (slot : ℕ) (holder : Holder) → slice_index_or v.holders slot None ≡ Some holder → Contains (map request_number v.state.requests) holder.number
+  pub has_request : (slot : ℕ) (holder : Holder) → slice_index_or v.holders slot None ≡ Some holder
+      → Contains (map request_number v.state.requests) holder.number
   pub one_slot : (slot other : ℕ) (holder same : Holder) → slice_index_or v.holders slot None ≡ Some holder
       → slice_index_or v.holders other None ≡ Some same → holder.number ≡ same.number → slot ≡ other
   pub rising : AreRising (map answer_number v.answers)
@@ -480,7 +502,8 @@ pub record FitsTogether (v : ManagerView) : Type 0 where
 -- the earliest label leaves
 abbrev pub TakesLabel : ManagerView → Option Label → ManagerView → Type 0
 TakesLabel old None new = (old.labels ≡ []) × (new ≡ old)
-TakesLabel old (Some label) new = (rest : List Label) × (old.labels ≡ label ∷ rest) × (new ≡ record old { labels = rest })
+TakesLabel old (Some label) new = (rest : List Label) × (old.labels ≡ label ∷ rest)
+    × (new ≡ record old { labels = rest })
 
 -- the waiting answer with the lowest number leaves
 abbrev pub TakesAnswer : ManagerView → Option Answer → ManagerView → Type 0
@@ -497,4 +520,5 @@ IsOfAnother number answer = answer.number ≢ number
 abbrev pub TakesAnswerOf : ManagerView → ℕ → Option Answer → ManagerView → Type 0
 TakesAnswerOf old number None new = All (IsOfAnother number) old.answers × (new ≡ old)
 TakesAnswerOf old number (Some answer) new =
-    (at : ℕ) × (slice_get old.answers at ≡ Some answer) × (answer.number ≡ number) × (new ≡ record old { answers = remove old.answers at })
+    (at : ℕ) × (slice_get old.answers at ≡ Some answer) × (answer.number ≡ number)
+    × (new ≡ record old { answers = remove old.answers at })

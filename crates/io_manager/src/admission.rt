@@ -1,4 +1,5 @@
-//! What a call is answered at once, and what one that is admitted opens: its packet, its pieces, its extent on the disk.
+//! What a call is answered at once, and what one that is admitted opens: its packet, its pieces, its extent on the
+//! disk.
 
 ghost use Rattle.std.specs.Prelude.{◌≡◌, ◌<◌, ℕ, Option, false, length, option_map, IfOk};
 ghost use Rattle.machine.specs.Rules.{Rules, home, is_transfer, is_in_bounds, place_count};
@@ -6,8 +7,9 @@ ghost use Rattle.machine.specs.State.{State};
 ghost use Rattle.machine.specs.Calling.{refusal};
 ghost use Rattle.irp.specs.declared.Payload.TheVariants.{Buffer};
 ghost use Rattle.io_manager.specs.Calls.{status_of_refusal};
-ghost use Rattle.io_manager.specs.Sound.{AreFirsts};
-ghost use Rattle.io_manager.specs.Admitting.{asked_for, status_at_once, AreBoundsOf, IsKnown, request_of, HasCopies, first_location, IsOnTop};
+ghost use Rattle.io_manager.specs.Opening.{AreFirsts};
+ghost use Rattle.io_manager.specs.inside.Admitting.{asked_for, status_at_once, AreBoundsOf, IsKnown, request_of};
+ghost use Rattle.io_manager.specs.inside.Admitting.{HasCopies, first_location, IsOnTop};
 
 use crate::{Limits, Refusal};
 use device::{ClientRequest, Kind, Request, major_for};
@@ -95,7 +97,8 @@ impl Asked {
     /// The places of the request: one for each of its sectors; a flush has one, of no sector.
     pub(crate) fn place_count(self, sector_size: u64) -> u64
         requires { 0 < sector_size }
-        ensures { (rules : Rules) (partition : Option ℕ) → rules.sector_size ≡ sector_size → result ≡ place_count rules (asked_for partition self) }
+        ensures { (rules : Rules) (partition : Option ℕ) → rules.sector_size ≡ sector_size
+            → result ≡ place_count rules (asked_for partition self) }
     {
         match self.kind {
             Kind::Read | Kind::Write => self.length / sector_size,
@@ -107,7 +110,8 @@ impl Asked {
 impl Limits {
     /// The sector of the disk where a partition begins, if there is one of this number.
     pub(crate) fn first_sector(&self, partition: Option<u8>) -> u64
-        ensures { (rules : Rules) → AreFirsts self.now.first_sectors rules.partitions → IsKnown (length rules.partitions) partition
+        ensures { (rules : Rules) → AreFirsts self.now.first_sectors rules.partitions
+            → IsKnown (length rules.partitions) partition
             → result ≡ home rules partition 0 }
     {
         let Some(volume) = partition else { return 0 };
@@ -145,7 +149,7 @@ fn moves_bytes(kind: Kind) -> bool
     }
 }
 
-/// What a read, a write or a flush of a partition is answered at once, if anything.
+/// Returns what a read, a write or a flush of a partition is answered at once, if anything.
 pub(crate) fn refusal_of(bounds: &Bounds, partition: Option<u8>, asked: Asked) -> Option<AtOnce>
     requires some_bytes { 0 < bounds.now.sector_size }
     ensures exact { (rules : Rules) (s : State) → AreBoundsOf bounds.now partition rules s
@@ -247,12 +251,12 @@ fn location_of(request: &Request) -> StackLocation
     }
 }
 
-/// The packet of a request, with its caller's buffer.
-pub(crate) fn packet_for(number: u64, request: &Request, buffer: Bytes) -> Irp
-    ensures top { IsOnTop number request.now result }
-    ensures payload { result.payload ≡ Buffer buffer }
+/// A packet becomes that of a request, with its caller's buffer and the first location alone (WDK:
+/// IoGetNextIrpStackLocation).
+pub(crate) fn ready_packet(irp: &mut Irp, number: u64, request: &Request, buffer: Bytes)
+    ensures top { IsOnTop number request.now irp.new }
+    ensures payload { irp.new.payload ≡ Buffer buffer }
 {
-    let mut irp = Irp::new(number as u128, Payload::Buffer(buffer));
+    *irp = Irp::new(number as u128, Payload::Buffer(buffer));
     irp.next_location(location_of(request));
-    irp
 }

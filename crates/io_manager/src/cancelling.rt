@@ -1,11 +1,12 @@
 //! Open requests are cancelled, each by the spot of its packet below.
 
-ghost use Rattle.std.specs.Prelude.{◌≡◌, ◌≤◌, ◌<◌, [], true, is_some, MatchBool, MatchOption};
+ghost use Rattle.std.specs.Prelude.{◌≡◌, ◌≤◌, ◌<◌, true, is_some, MatchBool, MatchOption};
 ghost use Rattle.std.specs.VecDeque.{deque_len, deque_capacity};
 ghost use Rattle.io_manager.specs.Calls.{partition_of};
-ghost use Rattle.io_manager.specs.Chains.{AreChained};
-ghost use Rattle.io_manager.specs.Cancelling.{IsUsed, IsToMark, IsMarkedOrNone, IsLowestToMark, HasNoneToMark, MarksAt, CancelsSlot, CancelsUnlessMarked, CancelsAll};
-ghost use Rattle.io_manager.specs.Sound.{IsSound};
+ghost use Rattle.io_manager.specs.inside.Chains.{AreChained};
+ghost use Rattle.io_manager.specs.inside.Cancelling.{IsUsed, IsToMark, IsMarkedOrNone, IsLowestToMark, HasNoneToMark};
+ghost use Rattle.io_manager.specs.inside.Cancelling.{MarksAt, CancelsSlot, CancelsUnlessMarked, CancelsAll};
+ghost use Rattle.io_manager.specs.inside.Sound.{IsSound};
 
 use crate::Handle;
 use crate::parts::Parts;
@@ -24,7 +25,8 @@ impl Tables {
     pub(crate) fn next_to_mark(&self, handle: Handle) -> Option<usize>
         requires chained { AreChained self.now.handles self.now.requests self.now.next_handle self.now.chains }
         requires open { is_some (partition_of self.now.handles.slots handle) ≡ true }
-        ensures { MatchOption result (HasNoneToMark self.now.requests handle.number) (λ slot. IsLowestToMark self.now.requests handle.number slot) }
+        ensures { MatchOption result (HasNoneToMark self.now.requests handle.number)
+            (λ slot. IsLowestToMark self.now.requests handle.number slot) }
     {
         self.chains.first(handle.slot as usize)
     }
@@ -65,29 +67,28 @@ impl Tables {
 impl<D: Device> Parts<D> {
     /// Cancels an open request.
     pub(crate) fn cancel_slot(&mut self, slot: usize)
-        requires rooms { D.rooms_out self.old.device [] }
         requires sound { IsSound self.old.limits (D.view self.old.device) self.old.tables }
         requires there { IsToMark self.old.tables.requests slot }
         requires label_place { deque_len self.old.tables.labels < deque_capacity self.old.tables.labels }
-        ensures rooms { D.rooms_out self.new.device [] }
         ensures limits { self.new.limits ≡ self.old.limits }
         ensures sound { IsSound self.new.limits (D.view self.new.device) self.new.tables }
-        ensures cancels { CancelsSlot (D.view self.old.device) self.old.tables slot (D.view self.new.device) self.new.tables }
+        ensures cancels { CancelsSlot (D.view self.old.device) self.old.tables slot (D.view self.new.device)
+            self.new.tables }
     {
+        self.device.shows_order();
         let place = self.tables.mark_at(slot);
         self.device.cancel_at(place.spot, place.number as u128);
     }
 
     /// Cancels an open request, unless it is cancelled already.
     pub(crate) fn cancel_if_open(&mut self, slot: usize)
-        requires rooms { D.rooms_out self.old.device [] }
         requires sound { IsSound self.old.limits (D.view self.old.device) self.old.tables }
         requires there { IsUsed self.old.tables.requests slot }
         requires label_place { deque_len self.old.tables.labels < deque_capacity self.old.tables.labels }
-        ensures rooms { D.rooms_out self.new.device [] }
         ensures limits { self.new.limits ≡ self.old.limits }
         ensures sound { IsSound self.new.limits (D.view self.new.device) self.new.tables }
-        ensures cancels { CancelsUnlessMarked (D.view self.old.device) self.old.tables slot (D.view self.new.device) self.new.tables }
+        ensures cancels { CancelsUnlessMarked (D.view self.old.device) self.old.tables slot (D.view self.new.device)
+            self.new.tables }
     {
         if !self.tables.is_marked(slot) {
             self.cancel_slot(slot);
@@ -96,18 +97,18 @@ impl<D: Device> Parts<D> {
 
     /// Cancels all open requests of an open handle that are not cancelled yet, by rising numbers.
     pub(crate) fn cancel_all_of(&mut self, handle: Handle)
-        requires rooms { D.rooms_out self.old.device [] }
         requires sound { IsSound self.old.limits (D.view self.old.device) self.old.tables }
         requires open { is_some (partition_of self.old.tables.handles.slots handle) ≡ true }
         requires untold { deque_len self.old.tables.labels ≡ 0 }
-        ensures rooms { D.rooms_out self.new.device [] }
         ensures limits { self.new.limits ≡ self.old.limits }
         ensures sound { IsSound self.new.limits (D.view self.new.device) self.new.tables }
-        ensures cancels { CancelsAll (D.view self.old.device) self.old.tables handle.number (D.view self.new.device) self.new.tables }
+        ensures cancels { CancelsAll (D.view self.old.device) self.old.tables handle.number (D.view self.new.device)
+            self.new.tables }
         ensures few_labels { deque_len self.new.tables.labels ≤ 64 }
         ensures none_left { HasNoneToMark self.new.tables.requests handle.number }
     {
         'next: while let Some(slot) = self.tables.next_to_mark(handle) {
+            self.device.shows_order();
             self.cancel_slot(slot);
         }
     }

@@ -1,7 +1,7 @@
 //! Chains of open requests, each by rising numbers: one for each handle, or for each remainder of a number by 64.
 
 ghost use Rattle.std.specs.Prelude.{◌≡◌, ◌<◌, false, slice_index, MatchBool};
-ghost use Rattle.io_manager.specs.Chains.{chain_end, LeadsTo, AreEnds, PutsLast, TakesOut, CanJoin, CanLeave};
+ghost use Rattle.io_manager.specs.inside.Chains.{chain_end, LeadsTo, AreEnds, PutsLast, TakesOut, CanJoin, CanLeave};
 
 /// Slots of open requests.
 pub(crate) const REQUEST_LIMIT: usize = 64;
@@ -12,7 +12,8 @@ pub(crate) const CHAIN_LIMIT: usize = 64;
 /// The joints of the chains: one for each slot of a request, and one behind them for each chain, its end.
 const JOINTS: usize = REQUEST_LIMIT + CHAIN_LIMIT;
 
-/// The chains, linked both ways: from an end through the requests and back. A joint in no chain has any links.
+/// The chains, linked both ways: from an end through the requests and back. Links of a joint outside all chains are
+/// arbitrary.
 #[derive(Drop)]
 pub(crate) struct Chains {
     after: [u8; JOINTS],

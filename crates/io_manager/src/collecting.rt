@@ -1,6 +1,7 @@
 //! What becomes of requests that have ended: their slots, their answers, and the labels of a step.
 
-ghost use Rattle.std.specs.Prelude.{◌≡◌, ◌<◌, ◌≤◌, ◌+◌, ◌^◌, ◌++◌, ℕ, true, false, [], is_some, map, length, slice_index, MatchBool, MatchOption};
+ghost use Rattle.std.specs.Prelude.{◌≡◌, ◌<◌, ◌≤◌, ◌+◌, ◌^◌, ◌++◌, ℕ, true, false, [], is_some, map, length};
+ghost use Rattle.std.specs.Prelude.{slice_index, MatchBool, MatchOption};
 ghost use Rattle.std.specs.VecDeque.{deque_len, deque_capacity};
 ghost use Rattle.slab.specs.Slab.{slab_len};
 ghost use Rattle.ntstatus.specs.declared.NtStatus.TheVariants.{Success};
@@ -10,17 +11,18 @@ ghost use Rattle.machine.specs.Step.{as_label};
 ghost use Rattle.device.specs.Served.{HandsUpNone};
 ghost use Rattle.machine.specs.Settled.{Settled};
 ghost use Rattle.io_manager.specs.Calls.{partition_of};
-ghost use Rattle.io_manager.specs.Chains.{AreChained, AreNumbered, AreCounted};
-ghost use Rattle.io_manager.specs.Collecting.{IsAt, HasNone, AreFilled, CountsOut, Closes, EndsRemoval, TakesEnded, Gathers, brought, unlabelled};
+ghost use Rattle.io_manager.specs.inside.Chains.{AreChained, AreNumbered, AreCounted};
+ghost use Rattle.io_manager.specs.inside.Collecting.{IsAt, HasNone, done_of, AreFilled, CountsOut, Closes, EndsRemoval};
+ghost use Rattle.io_manager.specs.inside.Collecting.{TakesEnded, Gathers, brought, unlabelled};
 ghost use Rattle.io_manager.specs.Right.{as_answer, AreRising, answer_number};
-ghost use Rattle.io_manager.specs.Sound.{IsSound, IsSoundWith, TakesLabels, Collects};
+ghost use Rattle.io_manager.specs.inside.Sound.{IsSound, IsSoundWith, TakesLabels, Collects};
 
 use crate::parts::Parts;
 use crate::rising::insert_rising;
 use crate::tables::{OpenRequest, Tables, remainder_of};
 use crate::{Answer, Handle};
-use device::{Device, Kind, Label};
-use irp::{Climb, Done, Payload};
+use device::{Climb, Device, Kind, Label};
+use irp::{Done, Irp, Payload};
 use ntstatus::NtStatus;
 use sector::Bytes;
 use std::alloc::Global;
@@ -34,6 +36,19 @@ fn bytes_of(alloc: Global, payload: Payload) -> Bytes
         Payload::Srb(srb) => srb.data,
         Payload::Buffer(bytes) => bytes,
         Payload::Sent => Bytes::new(Vec::new(alloc)),
+    }
+}
+
+/// Returns what is left of a packet that went out of the stack.
+fn done_of(irp: Box<Irp>) -> Done
+    ensures { result ≡ done_of irp.value }
+{
+    let irp = Box::into_inner(irp);
+    Done {
+        number: irp.number,
+        status: irp.io_status.status,
+        information: irp.io_status.information,
+        payload: irp.payload,
     }
 }
 
@@ -76,9 +91,10 @@ impl Tables {
         None
     }
 
-    /// One request fewer is open on a handle, if that is open still.
+    /// Counts one request fewer on a handle, if it is still open.
     fn count_out(&mut self, handle: Handle)
-        requires { is_some (partition_of self.old.handles.slots handle) ≡ true → (handle.slot < 64) × (0 < slice_index self.old.open_counts handle.slot) }
+        requires { is_some (partition_of self.old.handles.slots handle) ≡ true
+            → (handle.slot < 64) × (0 < slice_index self.old.open_counts handle.slot) }
         ensures counts { CountsOut self.old handle self.new }
         ensures after { self.new ≡ record self.old { open_counts = self.new.open_counts } }
     {
@@ -87,7 +103,7 @@ impl Tables {
         }
     }
 
-    /// Closes a request that has ended: its answer waits to be taken, and its label is put by.
+    /// Closes a request that has ended. Its answer waits to be taken, and its label is deferred.
     fn close(&mut self, done: Done)
         requires number { done.number < 2 ^ 64 }
         requires chained { AreChained self.old.handles self.old.requests self.old.next_handle self.old.chains }
@@ -143,7 +159,7 @@ impl Tables {
     }
 }
 
-/// Tells the answers that were put by, at the end of the labels, which have places for them.
+/// Appends the deferred answers to the labels, which have places for them.
 fn tell_answers(answered: &mut VecDeque<Answer>, labels: &mut VecDeque<Label>)
     requires { deque_len labels.old + deque_len answered.old ≤ deque_capacity labels.old }
     ensures told { labels.new.items ≡ labels.old.items ++ map as_answer answered.old.items }
@@ -169,9 +185,7 @@ fn tell_answers(answered: &mut VecDeque<Answer>, labels: &mut VecDeque<Label>)
 
 /// Moves all labels of the device to the end of these, which have places for them.
 fn move_labels<D: Device>(device: &mut D, labels: &mut VecDeque<Label>)
-    requires rooms { D.rooms_out device.old [] }
     requires places { deque_len labels.old + length (D.view device.old).adapter.labels ≤ deque_capacity labels.old }
-    ensures rooms { D.rooms_out device.new [] }
     ensures moved { labels.new.items ≡ labels.old.items ++ map as_label (D.view device.old).adapter.labels }
     ensures taken { D.view device.new ≡ unlabelled (D.view device.old) }
     ensures places { deque_capacity labels.new ≡ deque_capacity labels.old }
@@ -199,66 +213,69 @@ impl Tables {
 impl<D: Device> Parts<D> {
     /// Takes a request that has ended and closes it; false where there is none.
     fn take_ended(&mut self) -> bool
-        requires rooms { D.rooms_out self.old.device [] }
-        requires sound { IsSoundWith self.old.tables.answered.items self.old.limits (D.view self.old.device) self.old.tables }
+        requires sound { IsSoundWith self.old.tables.answered.items self.old.limits (D.view self.old.device)
+            self.old.tables }
         requires few { deque_len self.old.tables.answered + slab_len self.old.tables.requests ≤ 64 }
         requires rising { AreRising (map answer_number self.old.tables.answered.items) }
-        ensures rooms { D.rooms_out self.new.device [] }
         ensures limits { self.new.limits ≡ self.old.limits }
-        ensures sound { IsSoundWith self.new.tables.answered.items self.new.limits (D.view self.new.device) self.new.tables }
+        ensures sound { IsSoundWith self.new.tables.answered.items self.new.limits (D.view self.new.device)
+            self.new.tables }
         ensures few { deque_len self.new.tables.answered + slab_len self.new.tables.requests ≤ 64 }
-        ensures takes { MatchBool result (TakesEnded (D.view self.old.device) self.old.tables (D.view self.new.device) self.new.tables) (HandsUpNone (D.view self.old.device) (D.view self.new.device)) }
+        ensures takes { MatchBool result
+            (TakesEnded (D.view self.old.device) self.old.tables (D.view self.new.device) self.new.tables)
+            (HandsUpNone (D.view self.old.device) (D.view self.new.device)) }
         ensures same { result ≡ false → self.new.tables ≡ self.old.tables }
     {
+        self.device.shows_order();
         let Some((climb, room)) = self.device.take_done() else {
             return false;
         };
-        self.device.free(room);
-        let Climb::Finished(done) = climb else {
+        let Climb::Finished(irp) = climb else {
             unreachable!()
         };
-        self.tables.close(done);
+        self.device.shows_order();
+        self.device.free(room);
+        self.tables.close(done_of(irp));
         true
     }
 
     /// Takes all requests that have ended, and closes them.
     fn take_all_ended(&mut self)
-        requires rooms { D.rooms_out self.old.device [] }
         requires sound { IsSound self.old.limits (D.view self.old.device) self.old.tables }
-        ensures rooms { D.rooms_out self.new.device [] }
         ensures limits { self.new.limits ≡ self.old.limits }
-        ensures sound { IsSoundWith self.new.tables.answered.items self.new.limits (D.view self.new.device) self.new.tables }
+        ensures sound { IsSoundWith self.new.tables.answered.items self.new.limits (D.view self.new.device)
+            self.new.tables }
         ensures few { deque_len self.new.tables.answered ≤ 64 }
         ensures gathers { Gathers (D.view self.old.device) self.old.tables (D.view self.new.device) self.new.tables }
         ensures settled { Settled (D.view self.new.device).rules (D.view self.new.device).state }
     {
+        self.device.shows_order();
         'ended: while self.take_ended() {}
     }
 
     /// Tells what the device did, where no request can have ended.
     pub(crate) fn tell_device(&mut self)
-        requires rooms { D.rooms_out self.old.device [] }
         requires sound { IsSound self.old.limits (D.view self.old.device) self.old.tables }
         requires few_labels { deque_len self.old.tables.labels ≤ 64 }
-        ensures rooms { D.rooms_out self.new.device [] }
         ensures limits { self.new.limits ≡ self.old.limits }
         ensures sound { IsSound self.new.limits (D.view self.new.device) self.new.tables }
         ensures takes { TakesLabels (D.view self.old.device) self.old.tables (D.view self.new.device) self.new.tables }
     {
+        self.device.shows_order();
         move_labels(&mut self.device, &mut self.tables.labels);
     }
 
-    /// Takes all requests that have ended, tells what the device did, then the answers, and then whether a removal ended.
+    /// Takes all requests that have ended, tells what the device did, then the answers, and then whether a removal
+    /// ended.
     pub(crate) fn collect(&mut self)
-        requires rooms { D.rooms_out self.old.device [] }
         requires sound { IsSound self.old.limits (D.view self.old.device) self.old.tables }
         requires few_labels { deque_len self.old.tables.labels ≤ 64 }
-        ensures rooms { D.rooms_out self.new.device [] }
         ensures limits { self.new.limits ≡ self.old.limits }
         ensures sound { IsSound self.new.limits (D.view self.new.device) self.new.tables }
         ensures collects { Collects (D.view self.old.device) self.old.tables (D.view self.new.device) self.new.tables }
     {
         self.take_all_ended();
+        self.device.shows_order();
         move_labels(&mut self.device, &mut self.tables.labels);
         tell_answers(&mut self.tables.answered, &mut self.tables.labels);
         self.tables.end_removal();

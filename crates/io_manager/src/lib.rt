@@ -1,11 +1,13 @@
-//! The I/O manager of a disk's device stack: handles on its partitions, the requests that are open on them, and the plug
-//! and play calls of its removal. Calls and adapter steps go in; answers, bytes and labels come out.
+//! The I/O manager of a disk's device stack: handles on its partitions, the requests that are open on them, and the
+//! plug and play calls of its removal. Calls and adapter steps go in; answers, bytes and labels come out.
 //!
 //! Each call promises, by its clause `right`, that what it tells is a run of the sector machine of the topmost device,
 //! with open requests counted; that the adapter moved by just the device labels among them; and that the call's row of
 //! the table (`specs/Right`) holds. [`IoManager::shows_whole`] says what holds between two calls: what is shown is
-//! settled, and fits together. It is proved over any device that holds (`Hold`) and takes packets with a buffer. It does
-//! not promise that a request completes, nor an order between requests that overlap.
+//! settled, and fits together. It is proved over any device that holds (`Hold`) and takes packets with a buffer. All
+//! that a request needs is made before it is admitted: its packet (WDK: IoAllocateIrp), its room in the device below,
+//! and the buffers and places of its labels and its answer. It does not promise that a request completes, nor an order
+//! between requests that overlap.
 #![tactic(auto)]
 
 mod admission;
@@ -32,8 +34,8 @@ pub struct Handle {
     pub number: u64,
 }
 
-/// An open request: its slot in the manager's table, and its number. Numbers rise from 1 to 2^62 - 1 and are never given
-/// twice; a slot is.
+/// An open request: its slot in the manager's table, and its number. Numbers rise from 1 to 2^62 - 1 and are never
+/// given twice; a slot is.
 #[derive(Debug, Clone, Copy, PartialEq, Eq)]
 pub struct Id {
     pub slot: u32,
@@ -70,7 +72,7 @@ pub enum Refusal {
     InvalidParameter,
     /// The device is being removed, or is gone.
     DeletePending,
-    /// As many requests are open as the limits allow, or 64 handles; or the numbers are used up.
+    /// The limits allow no more open requests, or 64 handles are open; or the numbers are used up.
     DeviceBusy,
     /// Memory for the call was refused.
     InsufficientResources,
@@ -95,7 +97,7 @@ pub struct Answer {
 /// What a call is answered.
 #[derive(Debug, Drop)]
 pub enum Reply {
-    /// To `open`.
+    /// The handle that `open` gave.
     Handle(Handle),
     /// It was done.
     Ok,

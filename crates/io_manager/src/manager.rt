@@ -1,4 +1,4 @@
-//! Client calls and adapter steps over any device stack. Each leaves it as it has to be between two steps.
+//! Client calls and adapter steps over any device stack. Each call restores the manager's invariant.
 
 ghost use Rattle.std.specs.Prelude.{◌≡◌, ◌<◌, [], false, length, Some, None, MatchOption};
 ghost use Rattle.adapter.specs.View.{IsInOrder};
@@ -8,14 +8,16 @@ ghost use Rattle.srb.specs.declared.Kind.TheVariants.{Read, Write, Flush};
 ghost use Rattle.machine.specs.Settled.{Settled, IsFinished};
 ghost use Rattle.machine_laws.specs.Reached.{IsReached};
 ghost use Rattle.io_manager.specs.Calls.{asked_on, call_on, without_bytes, opened_as, would_open};
-ghost use Rattle.io_manager.specs.Admitting.{asked_for, AreBoundsOf, Decides, IsAdmissible};
-ghost use Rattle.io_manager.specs.Right.{IsRight, IsRightReset, IsHandleOpen, CallReplies, OpenReplies, CloseReplies, CancelReplies, MarkReplies, ActReplies, BooksPiece, FinishReplies, FitsTogether, TakesAnswer, TakesLabel as TakesFirst};
+ghost use Rattle.io_manager.specs.inside.Admitting.{asked_for, AreBoundsOf, Decides, IsAdmissible};
+ghost use Rattle.io_manager.specs.Right.{IsRight, IsRightReset, IsHandleOpen, CallReplies, OpenReplies};
+ghost use Rattle.io_manager.specs.Right.{CloseReplies, CancelReplies, MarkReplies, ActReplies, BooksPiece};
+ghost use Rattle.io_manager.specs.Right.{FinishReplies, FitsTogether, TakesAnswer, TakesLabel as TakesFirst};
 
 use crate::admission::{Asked, Bounds, Decision, refusal_of, request_below, request_for};
 use crate::parts::Parts;
 use crate::tables::{NUMBER_LIMIT, refused, refused_alone};
 use crate::{Answer, Handle, Id, Refusal, Reply};
-use device::{ClientRequest, Device, Kind, Label};
+use device::{ClientRequest, Device, Kind, Label, Shown};
 use sector::{Bytes, Extent};
 use srb::{Completion, Entry, Srb};
 use std::alloc::Global;
@@ -23,30 +25,31 @@ use std::marker::Model;
 
 /// A device stack with the handles and requests that are open on it, between two steps. All labels of a step have to be
 /// taken before the next.
-pub struct IoManager<D: Device> {
+pub struct IoManager<D: Shown> {
     pub(crate) parts: Parts<D>,
 }
 
 // By hand, so that no crate above proves it again, as it would a derived one.
-impl<D: Device> Drop for IoManager<D> {
+impl<D: Shown> Drop for IoManager<D> {
     fn drop(self) {
         let IoManager { parts: _ } = self;
     }
 }
 
-impl<D: Device> Model for IoManager<D> {
-    ghost use Rattle.std.specs.Prelude.{◌≡◌, ◌≤◌, false, []};
+impl<D: Shown> Model for IoManager<D> {
+    ghost use Rattle.std.specs.Prelude.{◌≤◌, IsFalse};
     ghost use Rattle.io_manager.specs.Shown.{ManagerView};
-    ghost use Rattle.io_manager.specs.Sound.{ManagerKept, view_of};
+    ghost use Rattle.io_manager.specs.Opening.{HasNoRooms};
+    ghost use Rattle.io_manager.specs.inside.Sound.{ManagerKept, view_of};
 
     ghost Value = { ManagerView };
 
     ghost view = { λ s. view_of s.parts.limits (D.view s.parts.device) s.parts.tables };
 
     ghost invariant = { λ s. record {
-      takes_buffers : D.TAKES_SRB ≡ false;
-      locations : D.STACK_SIZE ≤ 4;
-      rooms : D.rooms_out s.parts.device [];
+      takes_buffers : IsFalse D.takes_srb;
+      locations : D.stack_size ≤ 4;
+      vacant : HasNoRooms (D.view s.parts.device);
       kept : ManagerKept s.parts.limits (D.view s.parts.device) s.parts.tables;
     } };
 }
@@ -54,8 +57,8 @@ impl<D: Device> Model for IoManager<D> {
 impl<D: Device> IoManager<D> {
     /// Gives a handle on a partition, counted from 0 (WDK: IRP_MJ_CREATE). It takes no memory.
     ///
-    /// Refused, with nothing changed, as `DeletePending` while the device is being removed, `InvalidParameter` where there
-    /// is no such partition, and `DeviceBusy` with 64 handles open or once handle numbers are used up.
+    /// Refused, with nothing changed, as `DeletePending` while the device is being removed, `InvalidParameter` where
+    /// there is no such partition, and `DeviceBusy` with 64 handles open or once handle numbers are used up.
     pub fn open(&mut self, alloc: Global, partition: u8) -> Reply
         requires taken { self.old.labels ≡ [] }
         ensures right { IsRight (OpenReplies self.old partition result self.new) self.old self.new }
@@ -83,12 +86,14 @@ impl<D: Device> IoManager<D> {
 
     /// Reads as many bytes as the buffer has, from byte `offset` of the handle's partition on (WDK: IRP_MJ_READ).
     ///
-    /// Refused, with a label for the call and one for its answer, by the first that fits: `InvalidHandle`, `DeletePending`,
-    /// `InvalidParameter`, `DeviceBusy`. A read of no bytes succeeds at once. With request numbers used up `DeviceBusy`,
-    /// and for want of memory `InsufficientResources`, with nothing changed and no label.
+    /// Refused, with a label for the call and one for its answer, by the first that fits: `InvalidHandle`,
+    /// `DeletePending`, `InvalidParameter`, `DeviceBusy`. A read of no bytes succeeds at once. With request numbers
+    /// used up `DeviceBusy`, and for want of memory `InsufficientResources`, with nothing changed and no label.
     pub fn read(&mut self, alloc: Global, handle: Handle, offset: u64, buffer: Bytes) -> Reply
         requires taken { self.old.labels ≡ [] }
-        ensures right { IsRight (CallReplies self.old handle (call_on self.old handle Read offset buffer false) buffer result self.new) self.old self.new }
+        ensures right { IsRight
+            (CallReplies self.old handle (call_on self.old handle Read offset buffer false) buffer result self.new)
+            self.old self.new }
     {
         let asked = Asked {
             kind: Kind::Read,
@@ -111,7 +116,9 @@ impl<D: Device> IoManager<D> {
         through: bool,
     ) -> Reply
         requires taken { self.old.labels ≡ [] }
-        ensures right { IsRight (CallReplies self.old handle (call_on self.old handle Write offset bytes through) bytes result self.new) self.old self.new }
+        ensures right { IsRight
+            (CallReplies self.old handle (call_on self.old handle Write offset bytes through) bytes result self.new)
+            self.old self.new }
     {
         let asked = Asked {
             kind: Kind::Write,
@@ -126,7 +133,9 @@ impl<D: Device> IoManager<D> {
     /// `InvalidParameter`.
     pub fn flush(&mut self, alloc: Global, handle: Handle) -> Reply
         requires taken { self.old.labels ≡ [] }
-        ensures right { IsRight (CallReplies self.old handle (call_on self.old handle Flush 0 [] false) [] result self.new) self.old self.new }
+        ensures right { IsRight
+            (CallReplies self.old handle (call_on self.old handle Flush 0 [] false) [] result self.new)
+            self.old self.new }
     {
         let asked = Asked {
             kind: Kind::Flush,
@@ -137,9 +146,10 @@ impl<D: Device> IoManager<D> {
         self.call(alloc, handle, asked, Bytes::new(Vec::new(alloc)))
     }
 
-    /// What a read, a write or a flush of so many bytes, from byte `offset` of the handle's partition on, would open if it
-    /// were called now: the number of pieces that its request is cut into, and its sectors of the disk, in order. A flush,
-    /// of no bytes from the first on, has one piece, and an empty extent where the partition begins. It takes no memory.
+    /// Returns what a read, a write or a flush of so many bytes, from byte `offset` of the handle's partition on, would
+    /// open if it were called now: the number of pieces that its request is cut into, and its sectors of the disk, in
+    /// order. A flush, of no bytes from the first on, has one piece, and an empty extent where the partition begins. It
+    /// takes no memory.
     ///
     /// None where the call would be refused or is a read or a write of no bytes, and once request numbers are used up.
     pub fn admits(
@@ -165,9 +175,9 @@ impl<D: Device> IoManager<D> {
         }
     }
 
-    /// Cancels all requests that are open on a handle, by rising numbers, or the one that is given (CancelIoEx). It takes
-    /// no memory, and succeeds where there is one, also one that was cancelled before. Refused, with nothing changed, as
-    /// `InvalidHandle` and `NotFound`.
+    /// Cancels all requests that are open on a handle, by rising numbers, or the one that is given (CancelIoEx). It
+    /// takes no memory, and succeeds where there is one, also one that was cancelled before. Refused, with nothing
+    /// changed, as `InvalidHandle` and `NotFound`.
     pub fn cancel_io_ex(&mut self, alloc: Global, handle: Handle, target: Option<Id>) -> Reply
         requires taken { self.old.labels ≡ [] }
         ensures right { IsRight (CancelReplies self.old handle target result self.new) self.old self.new }
@@ -199,6 +209,7 @@ impl<D: Device> IoManager<D> {
         requires taken { self.old.labels ≡ [] }
         ensures right { IsRight (ActReplies self.old tag result self.new) self.old self.new }
     {
+        self.parts.device.shows_order();
         if !self.parts.device.act(tag) {
             return Reply::Ignored;
         }
@@ -208,13 +219,14 @@ impl<D: Device> IoManager<D> {
 
     /// The piece on a tag that could act, with its SRB.
     pub fn armed(&self, tag: u8) -> Option<(u128, &Srb)>
-        ensures { MatchOption result (HasNoneFresh self.now.adapter tag) (λ found. IsArmed self.now.adapter tag found.0 found.1.now) }
+        ensures { MatchOption result (HasNoneFresh self.now.adapter tag)
+            (λ found. IsArmed self.now.adapter tag found.0 found.1.now) }
     {
         self.parts.device.armed(tag)
     }
 
-    /// Books what the act of a tag's piece did, or how it failed, with an adapter whose sectors stand elsewhere. It takes no
-    /// memory, and changes nothing of the machine.
+    /// Books what the act of a tag's piece did, or how it failed, with an adapter whose sectors stand elsewhere. It
+    /// takes no memory, and changes nothing of the machine.
     pub fn book(&mut self, tag: u8, piece: u128, what: Result<&Entry, Completion>)
         ensures { BooksPiece self.old tag piece (handed what.entry) self.new }
     {
@@ -226,6 +238,7 @@ impl<D: Device> IoManager<D> {
         requires taken { self.old.labels ≡ [] }
         ensures right { IsRight (FinishReplies self.old tag result self.new) self.old self.new }
     {
+        self.parts.device.shows_order();
         if !self.parts.device.finish(tag) {
             return Reply::Ignored;
         }
@@ -238,6 +251,7 @@ impl<D: Device> IoManager<D> {
         requires taken { self.old.labels ≡ [] }
         ensures right { IsRightReset self.old self.new }
     {
+        self.parts.device.shows_order();
         self.parts.device.reset();
         self.parts.tell_device();
     }
@@ -256,8 +270,8 @@ impl<D: Device> IoManager<D> {
         self.parts.tables.untaken.pop_front()
     }
 
-    /// What is shown between two calls is settled and whole, a removal with nothing open has ended, and a run leads to it,
-    /// for who calls this.
+    /// Shows the caller that the view between two calls is settled and whole, that a removal with nothing open has
+    /// ended, and that a run leads to it.
     pub fn shows_whole(&self)
         ensures settled { Settled self.now.rules self.now.state }
         ensures finished { IsFinished self.now.state }
@@ -265,8 +279,7 @@ impl<D: Device> IoManager<D> {
         ensures reached { IsReached self.now.rules self.now.state }
         ensures in_order { IsInOrder self.now.adapter }
     {
-        // The invariant is known where a field is used.
-        let _parts = &self.parts;
+        self.parts.device.shows_order();
     }
 
     /// A read, a write or a flush with this buffer.
@@ -274,7 +287,10 @@ impl<D: Device> IoManager<D> {
         requires taken { self.old.labels ≡ [] }
         requires plain { asked.kind ≡ Flush → (asked.offset ≡ 0) × (buffer ≡ []) }
         requires length { asked.length ≡ length buffer }
-        ensures right { IsRight (CallReplies self.old handle (call_on self.old handle asked.kind asked.offset buffer asked.through) buffer result self.new) self.old self.new }
+        ensures right { IsRight
+            (CallReplies self.old handle
+            (call_on self.old handle asked.kind asked.offset buffer asked.through) buffer result self.new)
+            self.old self.new }
     {
         let partition = self.parts.tables.partition_of(handle);
         match self.decide(partition, asked) {
@@ -292,7 +308,7 @@ impl<D: Device> IoManager<D> {
         }
     }
 
-    /// What is decided of a call on a partition.
+    /// Returns what is decided of a call on a partition.
     fn decide(&self, partition: Option<u8>, asked: Asked) -> Decision
         ensures { Decides self.now (asked_for partition asked) result }
     {
@@ -306,7 +322,7 @@ impl<D: Device> IoManager<D> {
         }
     }
 
-    /// What bounds a request of a client on a partition.
+    /// Returns what bounds a request of a client on a partition.
     fn bounds_of(&self, partition: Option<u8>) -> Bounds
         ensures some_bytes { 0 < result.sector_size }
         ensures bounds { AreBoundsOf result partition self.now.rules self.now.state }
@@ -348,14 +364,18 @@ impl<D: Device> IoManager<D> {
     ) -> Reply
         requires taken { self.old.labels ≡ [] }
         requires admissible { IsAdmissible self.old request }
-        requires is_call { request ≡ without_bytes (call_on self.old handle request.kind request.offset buffer request.through) }
-        ensures right { IsRight (CallReplies self.old handle (call_on self.old handle request.kind request.offset buffer request.through) buffer result self.new) self.old self.new }
+        requires is_call { request ≡ without_bytes
+            (call_on self.old handle request.kind request.offset buffer request.through) }
+        ensures right { IsRight
+            (CallReplies self.old handle
+            (call_on self.old handle request.kind request.offset buffer request.through) buffer result self.new)
+            self.old self.new }
     {
         let below = request_below(self.parts.limits.sector_size, &request);
-        let Ok((room, copies)) = self.parts.reserve(alloc, &below, &buffer) else {
+        let Ok(prepared) = self.parts.reserve(alloc, &below, &buffer) else {
             return refused(Refusal::InsufficientResources, buffer);
         };
-        let id = self.parts.send(handle, request, buffer, room, copies);
+        let id = self.parts.send(handle, request, buffer, prepared);
         self.parts.collect();
         Reply::Request(id)
     }

@@ -1,7 +1,7 @@
 //! A manager before its first call: its tables, empty, over a device of which nothing was asked yet.
 
-ghost use Rattle.std.specs.Prelude.{◌≡◌, ◌≤◌, ◌<◌, ◌^◌, false, [], IfOk};
-ghost use Rattle.io_manager.specs.Sound.{HasPlaces};
+ghost use Rattle.std.specs.Prelude.{◌≡◌, ◌≤◌, [], IfOk, IsFalse};
+ghost use Rattle.io_manager.specs.inside.Sound.{HasPlaces};
 ghost use Rattle.io_manager.specs.Opening.{IsUnasked, AreFor, AreEmpty, IsFirstView};
 
 use crate::Limits;
@@ -9,7 +9,7 @@ use crate::chains::Chains;
 use crate::manager::IoManager;
 use crate::parts::Parts;
 use crate::tables::{HANDLE_LIMIT, LABEL_PLACES, Tables};
-use device::Device;
+use device::{Device, Shown};
 use pnp::State;
 use slab::Slab;
 use std::alloc::{AllocError, Global};
@@ -62,20 +62,20 @@ impl Tables {
 }
 
 impl<D: Device> IoManager<D> {
-    /// A manager over a device of which nothing was asked yet, with places for its 64 handles, its open requests and the
-    /// labels and answers of a step.
+    /// A manager over a device of which nothing was asked yet, with places for its 64 handles, its open requests and
+    /// the labels and answers of a step.
     ///
     /// # Errors
     ///
     /// [`AllocError`] where memory for these was refused.
     pub fn new(alloc: Global, device: D, limits: Limits) -> Result<IoManager<D>, AllocError>
-        requires takes_buffers { D.TAKES_SRB ≡ false }
-        requires locations { D.STACK_SIZE ≤ 4 }
-        requires rooms { D.rooms_out device [] }
+        requires takes_buffers { IsFalse D.takes_srb }
+        requires locations { D.stack_size ≤ 4 }
         requires unasked { IsUnasked (D.view device) }
         requires limits { AreFor (D.view device) limits }
         ensures view { IfOk result (IsFirstView limits (D.view device)) }
     {
+        device.shows_order();
         let tables = Tables::new(alloc, &limits)?;
         let parts = Parts {
             device,

@@ -11,8 +11,8 @@ use pnp::State;
 use std::alloc::Global;
 
 impl<D: Hold> IoManager<D> {
-    /// Asks whether the device may go: it may, and from now on requests are held (WDK: IRP_MN_QUERY_REMOVE_DEVICE). It takes
-    /// no memory. Refused as `InvalidDeviceRequest` but where the device is started, with nothing changed.
+    /// Asks whether the device may go. It may, and new requests are then held (WDK: IRP_MN_QUERY_REMOVE_DEVICE). It
+    /// takes no memory. Unless the device is started it is refused as `InvalidDeviceRequest`, with nothing changed.
     pub fn query_remove(&mut self, alloc: Global) -> Reply
         requires taken { self.old.labels ≡ [] }
         ensures right { IsRight (QueryReplies self.old result self.new) self.old self.new }
@@ -26,8 +26,8 @@ impl<D: Hold> IoManager<D> {
         Reply::Ok
     }
 
-    /// Takes a query back: requests that were held go on (WDK: IRP_MN_CANCEL_REMOVE_DEVICE). It takes no memory. With no
-    /// query pending nothing happens. Refused as `InvalidDeviceRequest` once the device goes, with nothing changed.
+    /// Takes a query back: requests that were held go on (WDK: IRP_MN_CANCEL_REMOVE_DEVICE). It takes no memory. With
+    /// no query pending nothing happens. Refused as `InvalidDeviceRequest` once the device goes, with nothing changed.
     pub fn cancel_remove(&mut self, alloc: Global) -> Reply
         requires taken { self.old.labels ≡ [] }
         ensures right { IsRight (RecallReplies self.old result self.new) self.old self.new }
@@ -64,8 +64,8 @@ impl<D: Device> IoManager<D> {
     }
 
     /// The device was pulled out: it goes as by [`IoManager::remove`], with a query pending or without (WDK:
-    /// IRP_MN_SURPRISE_REMOVAL). It takes no memory. Refused as `InvalidDeviceRequest` where it goes already, with nothing
-    /// changed.
+    /// IRP_MN_SURPRISE_REMOVAL). It takes no memory. Refused as `InvalidDeviceRequest` where it goes already, with
+    /// nothing changed.
     pub fn surprise_remove(&mut self, alloc: Global) -> Reply
         requires taken { self.old.labels ≡ [] }
         ensures right { IsRight (SurpriseReplies self.old result self.new) self.old self.new }

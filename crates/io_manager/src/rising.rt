@@ -2,13 +2,14 @@
 
 ghost use Rattle.std.specs.Prelude.{◌≡◌, ◌<◌, ◌+◌, map};
 ghost use Rattle.std.specs.VecDeque.{deque_len, deque_capacity};
-ghost use Rattle.io_manager.specs.Ordering.{inserted, lower_first};
+ghost use Rattle.io_manager.specs.inside.Ordering.{inserted, lower_first};
 ghost use Rattle.io_manager.specs.Right.{AreRising, answer_number};
 
 use crate::Answer;
 use std::collections::VecDeque;
 
-/// How many of the answers, by rising numbers, have lower ones. It looks from the back, at those that don't alone.
+/// Returns how many of the answers, by rising numbers, have lower ones. It looks from the back, at those that don't
+/// alone.
 fn place_of(answers: &VecDeque<Answer>, number: u64) -> usize
     requires { AreRising (map answer_number answers.now.items) }
     ensures { result ≡ lower_first number answers.now.items }
@@ -20,8 +21,8 @@ fn place_of(answers: &VecDeque<Answer>, number: u64) -> usize
     place
 }
 
-/// Puts an answer behind those with lower numbers, in a queue by rising numbers that has a place for it. Only those with
-/// higher numbers are moved.
+/// Puts an answer behind those with lower numbers, in a queue by rising numbers that has a place for it. Only those
+/// with higher numbers are moved.
 pub(crate) fn insert_rising(answers: &mut VecDeque<Answer>, answer: Answer)
     requires place { deque_len answers.old < deque_capacity answers.old }
     requires rising { AreRising (map answer_number answers.old.items) }

@@ -1,23 +1,24 @@
 //! What the manager keeps beside the device: handles, open requests, the plug and play state, labels and answers.
 
-ghost use Rattle.std.specs.Prelude.{◌≡◌, ◌≤◌, ◌<◌, ◌+◌, ◌^◌, ◌++◌, ◌∷◌, [], true, false, is_some, MatchBool};
+ghost use Rattle.std.specs.Prelude.{◌≡◌, ◌≤◌, ◌<◌, ◌+◌, ◌^◌, ◌++◌, ◌∷◌, [], true, false, is_some, OnOk, MatchBool};
 ghost use Rattle.std.specs.VecDeque.{deque_len, deque_capacity};
-ghost use Rattle.slab.specs.Slab.{HasRoomFor};
+ghost use Rattle.slab.specs.Slab.{HasRoomFor, slab_len};
 ghost use Rattle.io_manager.specs.declared.Reply.TheVariants.{Refused as RefusedReply};
 ghost use Rattle.io_manager.specs.Calls.{partition_of, are_used_up, handle_limit};
-ghost use Rattle.io_manager.specs.Chains.{AreChained, AreNumbered, AreCounted, remainder_of};
-ghost use Rattle.io_manager.specs.Cancelling.{ClosesSlot, HasSome, HasNoneOf, IsOpenAt, IsNotOpenAt};
-ghost use Rattle.io_manager.specs.Admitting.{AnswersAtOnce, Admits, OpensHandle, status_at_once, reply_at_once, is_going};
+ghost use Rattle.io_manager.specs.inside.Chains.{AreChained, AreNumbered, AreCounted, remainder_of};
+ghost use Rattle.io_manager.specs.inside.Cancelling.{ClosesSlot, HasSome, HasNoneOf, IsOpenAt, IsNotOpenAt};
+ghost use Rattle.io_manager.specs.inside.Admitting.{AnswersAtOnce, KeepsAnswers, Admits, OpensHandle, status_at_once};
+ghost use Rattle.io_manager.specs.inside.Admitting.{reply_at_once, is_going};
 
 use crate::admission::{AtOnce, Copies};
-use crate::chains::{CHAIN_LIMIT, Chains};
+use crate::chains::{CHAIN_LIMIT, Chains, REQUEST_LIMIT};
 use crate::{Answer, Handle, Id, OpenHandle, Refusal, Reply};
 use device::{ClientRequest, Kind, Label};
 use ntstatus::NtStatus;
 use pnp::State;
 use sector::Bytes;
 use slab::Slab;
-use std::alloc::Global;
+use std::alloc::{AllocError, Global};
 use std::collections::VecDeque;
 
 /// Numbers of requests and of handles are below this one.
@@ -35,13 +36,13 @@ pub(crate) struct OpenRequest {
     pub(crate) number: u64,
     /// The number of its call's handle.
     pub(crate) handle: u64,
-    /// And its slot.
+    /// The slot of its call's handle.
     pub(crate) handle_slot: u32,
     pub(crate) kind: Kind,
     /// Where the device below has its packet.
     pub(crate) spot: usize,
     pub(crate) cancelled: bool,
-    /// As many bytes as a read brings, for its answer's label; another has none here.
+    /// Room for a read's bytes in its answer's label; empty for other kinds.
     pub(crate) label_bytes: Bytes,
 }
 
@@ -59,7 +60,7 @@ pub(crate) struct Tables {
     pub(crate) chains: Chains,
     /// All open requests, by their number modulo 64.
     pub(crate) by_number: Chains,
-    /// How many requests are open on the handle in each slot.
+    /// By slots: the requests that are open on the handle there.
     pub(crate) open_counts: [u8; HANDLE_LIMIT],
     /// Not yet taken, in order.
     pub(crate) labels: VecDeque<Label>,
@@ -102,7 +103,7 @@ impl Tables {
         }
     }
 
-    /// The device has another state from now on, and its label tells so.
+    /// Sets the PnP state and records its label.
     pub(crate) fn move_to(&mut self, state: State, label: Label)
         requires label_place { deque_len self.old.labels < deque_capacity self.old.labels }
         ensures tells { self.new.labels.items ≡ self.old.labels.items ++ label ∷ [] }
@@ -167,7 +168,8 @@ impl Tables {
         requires open { is_some (partition_of self.now.handles.slots handle) ≡ true }
         requires chained { AreChained self.now.handles self.now.requests self.now.next_handle self.now.chains }
         requires counted { AreCounted self.now.handles self.now.requests self.now.open_counts }
-        ensures { MatchBool result (HasSome self.now.requests handle.number) (HasNoneOf self.now.requests handle.number) }
+        ensures { MatchBool result (HasSome self.now.requests handle.number)
+            (HasNoneOf self.now.requests handle.number) }
     {
         self.open_counts[handle.slot as usize] > 0
     }
@@ -215,6 +217,24 @@ impl Tables {
             }),
             AtOnce::Refused(refusal) => refused(refusal, buffer),
         }
+    }
+
+    /// Makes places for the answers of all open requests and of one more, and for 64 at most.
+    ///
+    /// # Errors
+    ///
+    /// [`AllocError`] where a place lacks and memory for it was refused.
+    pub(crate) fn cover_answers(&mut self) -> Result<(), AllocError>
+        requires few { slab_len self.old.requests < 64 }
+        ensures keeps { KeepsAnswers self.old self.new }
+        ensures places { OnOk result (deque_len self.new.untaken + (slab_len self.new.requests + 1)
+            ≤ deque_capacity self.new.untaken) }
+    {
+        if self.requests.len() < self.untaken.capacity() - self.untaken.len() {
+            return Ok(());
+        }
+        self.untaken.reserve_exact(REQUEST_LIMIT)?;
+        Ok(())
     }
 
     /// Opens a request under the next number, whose packet is at this spot below, tells its call, and gives its slot.

@@ -3,7 +3,7 @@
 ghost use Rattle.std.specs.Prelude.{◌≡◌, ◌≤◌, ◌<◌, [], IfOk, All, MatchOption, length, slice_get, Some};
 ghost use Rattle.std.specs.VecDeque.{deque_capacity};
 ghost use Rattle.io_manager.specs.Right.{IsOfAnother, TakesAnswerOf};
-ghost use Rattle.io_manager.specs.Taking.{IsAt};
+ghost use Rattle.io_manager.specs.inside.Taking.{IsAt};
 
 use crate::Answer;
 use crate::manager::IoManager;
@@ -13,7 +13,7 @@ use std::alloc::{AllocError, Global};
 use std::collections::VecDeque;
 use std::mem;
 
-/// Where the answer of a number waits.
+/// Returns where the answer of a number waits.
 fn place_of(answers: &VecDeque<Answer>, number: u64) -> Option<usize>
     ensures { MatchOption result (All (IsOfAnother number) answers.now.items) (IsAt answers.now.items number) }
 {

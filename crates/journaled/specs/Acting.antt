@@ -15,14 +15,16 @@ use Rattle.sector_journal.specs.Journal.{JournalView, MayArm, Arms, Acts}
 -- IN THE JOURNAL
 
 -- the piece is armed, and then acts or fails
-pub record ActsThere (old : JournalView) (tag piece : ℕ) (srb : Srb) (done : Result ℕ Completion) (new : JournalView) : Type 0 where
+pub record ActsThere (old : JournalView) (tag piece : ℕ) (srb : Srb) (done : Result ℕ Completion)
+    (new : JournalView) : Type 0 where
   pub may : MayArm old tag srb
   pub armed : JournalView
   pub arms : Arms old tag piece srb armed
   pub acts : Acts armed tag piece done new
 
 -- it may not be armed: it fails, and nothing changes
-pub record FailsUnarmed (old : JournalView) (tag : ℕ) (srb : Srb) (done : Result ℕ Completion) (new : JournalView) : Type 0 where
+pub record FailsUnarmed (old : JournalView) (tag : ℕ) (srb : Srb) (done : Result ℕ Completion)
+    (new : JournalView) : Type 0 where
   pub completion : Completion
   pub may_not : ¬ (MayArm old tag srb)
   pub fails : done ≡ Err completion
@@ -46,7 +48,8 @@ IsThat entered (Err completion) (Err booked) = booked ≡ completion
 IsThat entered _ _ = ⊥
 
 -- what came of the tag's piece in the journal is booked
-pub record HasBooked (old : ManagerView) (before : JournalView) (tag : ℕ) (new : ManagerView) (after : JournalView) : Type 0 where
+pub record HasBooked (old : ManagerView) (before : JournalView) (tag : ℕ) (new : ManagerView)
+    (after : JournalView) : Type 0 where
   pub piece : ℕ
   pub srb : Srb
   pub done : Result ℕ Completion
@@ -57,7 +60,8 @@ pub record HasBooked (old : ManagerView) (before : JournalView) (tag : ℕ) (new
   pub books : BooksPiece old tag piece what new
 
 -- there is none that could act, and nothing changes
-pub record HasNoneToBook (old : ManagerView) (before : JournalView) (tag : ℕ) (new : ManagerView) (after : JournalView) : Type 0 where
+pub record HasNoneToBook (old : ManagerView) (before : JournalView) (tag : ℕ) (new : ManagerView)
+    (after : JournalView) : Type 0 where
   pub none : HasNoneFresh old.adapter tag
   pub same_stack : new ≡ old
   pub same_journal : after ≡ before

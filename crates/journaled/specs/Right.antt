@@ -12,7 +12,8 @@ use Rattle.sector_journal.specs.Journal.{JournalView}
 use Rattle.journaled.specs.Shown.{JournaledView, KeepsEntries}
 use Rattle.journaled.specs.Acting.{BooksArmed}
 
--- before an act its tag's piece acts in the journal, and that is booked; before any other event nothing is, and nothing is entered
+-- before an act its tag's piece acts in the journal, and that is booked; before any other event nothing is, and nothing
+-- is entered
 abbrev pub BooksFor : JournaledView → Event → ManagerView → JournalView → Type 0
 BooksFor old (Act tag) booked after = BooksArmed old.stack old.journal tag booked after
 BooksFor old _ booked after = (booked ≡ old.stack) × KeepsEntries old.journal after

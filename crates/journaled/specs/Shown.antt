@@ -24,7 +24,8 @@ pub record IsDiskOf (sectors : List (List ℕ)) (stack : ManagerView) : Type 0 w
   pub many : length sectors ≡ stack.rules.disk_sectors
 
 -- what holds between two calls: the journal was opened with the sectors of the disk, which the partitions lie in
-pub record JournaledKept (opening : List (List ℕ)) (stack : ManagerView) (journal : JournalView) (max_transfer : ℕ) : Type 0 where
+pub record JournaledKept (opening : List (List ℕ)) (stack : ManagerView) (journal : JournalView)
+    (max_transfer : ℕ) : Type 0 where
   pub stands : StandsIn stack journal
   pub map : IsMap stack.rules.disk_sectors stack.rules.partitions
   pub disk : IsDiskOf opening stack

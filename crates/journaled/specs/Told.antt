@@ -19,11 +19,13 @@ pub record IsTold (arrays : List (List (List ℕ))) (trace : List Label) (v : Jo
 
 -- whatever was told goes on with the labels of a step
 abbrev pub TellsOn : JournaledView → JournaledView → Type 0
-TellsOn old new = (arrays : List (List (List ℕ))) (trace : List Label) → IsTold arrays trace old → IsTold arrays (trace ++ new.stack.labels) new
+TellsOn old new = (arrays : List (List (List ℕ))) (trace : List Label) → IsTold arrays trace old
+    → IsTold arrays (trace ++ new.stack.labels) new
 
 -- and stays as it was
 abbrev pub StaysTold : JournaledView → JournaledView → Type 0
-StaysTold old new = (arrays : List (List (List ℕ))) (trace : List Label) → IsTold arrays trace old → IsTold arrays trace new
+StaysTold old new = (arrays : List (List (List ℕ))) (trace : List Label) → IsTold arrays trace old
+    → IsTold arrays trace new
 
 -- so they are a run of the faithful machine, from these sectors to the journal's
 abbrev pub RunsFaithfully : List (List ℕ) → JournaledView → Type 0

@@ -61,7 +61,9 @@ fn transfer<M: Medium, N: Naming>(
     history: &History<N>,
     tag: u8,
 ) -> Option<(u128, Result<u64, Completion>)>
-    ensures { MatchOption result (HasNoneFresh stack.now.adapter tag × (journal.new ≡ journal.old)) (λ done. (srb : SrbView) × IsArmed stack.now.adapter tag done.0 srb × CameTo journal.old tag done.0 srb done.1 journal.new) }
+    ensures { MatchOption result (HasNoneFresh stack.now.adapter tag × (journal.new ≡ journal.old))
+        (λ done. (srb : SrbView) × IsArmed stack.now.adapter tag done.0 srb
+        × CameTo journal.old tag done.0 srb done.1 journal.new) }
 {
     let (piece, srb) = stack.armed(tag)?;
     Some((piece, enter(journal, history, tag, piece, srb)))
@@ -76,7 +78,8 @@ fn book<M: Medium, N: Naming>(
     done: Result<u64, Completion>,
 )
     requires there { IsNumbered journal.now.entered done }
-    ensures { (what : ResultOf Entry CompletionView) × IsThat journal.now.entered done what × BooksPiece stack.old tag piece what stack.new }
+    ensures { (what : ResultOf Entry CompletionView) × IsThat journal.now.entered done what
+        × BooksPiece stack.old tag piece what stack.new }
 {
     match done {
         Ok(number) => stack.book(tag, piece, Ok(&journal.entries()[number as usize].entry)),

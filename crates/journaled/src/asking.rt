@@ -26,7 +26,7 @@ struct Asked {
     extent: Extent,
 }
 
-/// What kind of request an event asks for.
+/// Returns what kind of request an event asks for.
 fn kind_of(event: &Event) -> Option<Kind>
     ensures { IfSome result (λ _. IsTransferEvent event.now) }
 {
@@ -60,8 +60,8 @@ fn asked_by(stack: &Stack<BookedAdapter>, event: &Event) -> Option<Asked>
     Some(Asked { kind, extent })
 }
 
-/// Makes room in the journal for the acts of the request that an event would open now, if it would open one. The request
-/// has the number that is given; its pieces have `max_transfer` sectors at most.
+/// Makes room in the journal for the acts of the request that an event would open now, if it would open one. The
+/// request has the number that is given; its pieces have `max_transfer` sectors at most.
 fn make_room<M: Medium, N: Naming>(
     stack: &Stack<BookedAdapter>,
     journal: &mut Journal<M, N>,

@@ -52,8 +52,8 @@ where
 }
 
 impl<M: Medium, N: Naming> Journaled<M, N> {
-    /// A stack that was just started over an adapter without sectors, and a journal of the sectors of its disk, in which
-    /// nothing was entered yet. `max_transfer` is that of the stack's adapter, in sectors.
+    /// A stack that was just started over an adapter without sectors, and a journal of the sectors of its disk, in
+    /// which nothing was entered yet. `max_transfer` is that of the stack's adapter, in sectors.
     pub fn new(
         stack: Stack<BookedAdapter>,
         journal: Journal<M, N>,
@@ -80,7 +80,8 @@ impl<M: Medium, N: Naming> Journaled<M, N> {
         }
     }
 
-    /// Carries one event out, as [`Stack::step`]. Where it would open a request the journal has room for its acts first.
+    /// Carries one event out, as [`Stack::step`]. Where it would open a request the journal has room for its acts
+    /// first.
     pub fn step(&mut self, alloc: Global, event: Event) -> Reply
         requires taken { self.old.stack.labels ≡ [] }
         ensures right { IsServed self.old event result self.new }
@@ -105,8 +106,8 @@ impl<M: Medium, N: Naming> Journaled<M, N> {
         }
     }
 
-    /// What is shown between two steps is settled and fits together, a removal with nothing open has ended, and a run leads
-    /// to it, for who calls this.
+    /// What is shown between two steps is settled and fits together, a removal with nothing open has ended, and a run
+    /// leads to it: available to the caller.
     pub fn shows_whole(&self)
         ensures settled { Settled self.now.stack.rules self.now.stack.state }
         ensures finished { IsFinished self.now.stack.state }
@@ -116,8 +117,8 @@ impl<M: Medium, N: Naming> Journaled<M, N> {
         self.stack.shows_whole();
     }
 
-    /// The labels so far are a run of the machine whose acts read and write its arrays, from the sectors that the journal was
-    /// opened with to those that it has now; for who calls this.
+    /// The labels so far are a run of the machine whose acts read and write its arrays, from the sectors that the
+    /// journal was opened with to those that it has now: available to the caller.
     pub fn shows_run(&self)
         ensures { RunsFaithfully N.opening self.now }
     {
@@ -158,7 +159,7 @@ impl<M: Medium, N: Naming> Journaled<M, N> {
         self.stack.take_answer()
     }
 
-    /// What the acts did to the sectors, in their order, each with its arming.
+    /// Returns what the acts did to the sectors, in their order, each with its arming.
     pub fn entries(&self) -> &[Entered]
         ensures { result.now ≡ self.now.journal.entered }
     {
@@ -170,7 +171,8 @@ impl<M: Medium, N: Naming> Journaled<M, N> {
         ensures stack { result.0 ≡ self.stack }
         ensures sectors { M.view result.1 ≡ self.journal.medium }
         ensures entries { result.2.items ≡ self.journal.entered }
-        ensures replays { Replays (M.view result.1).sector_size N.opening (entries_in result.2.items) (M.view result.1).sectors }
+        ensures replays { Replays (M.view result.1).sector_size N.opening (entries_in result.2.items)
+            (M.view result.1).sectors }
     {
         let Journaled {
             stack,

@@ -1,8 +1,9 @@
 //! The laws on the entries of a trace that a step goes by.
 
-ghost use Rattle.compose.specs.Journaled.{ArmedMayBeBooked, BookedActsAddEntries, IdleActsKeepEntries, StepsKeepEntries, StepsStayApart};
+ghost use Rattle.compose.specs.Journaled.{ArmedMayBeBooked, BookedActsAddEntries, IdleActsKeepEntries};
+ghost use Rattle.compose.specs.Journaled.{StepsKeepEntries, StepsStayApart};
 
-/// Which steps add an entry, for who calls this.
+/// Shows the caller which steps add an entry.
 pub(crate) fn laws_of_entries()
     ensures kept { StepsKeepEntries }
     ensures idle { IdleActsKeepEntries }

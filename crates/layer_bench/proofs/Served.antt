@@ -1,15 +1,16 @@
 -- What a client knows, from call to call.
-use Rattle.std.proofs.Common.{◌≡◌, ◌≤◌, inl, inr, ℕ, ◌+◌, Bool, true, false, List, [], ◌∷◌, Some, refl, sym, subst, ap, ◌∙◌, arith, map, length}
+use Rattle.std.proofs.Common.{◌≡◌, ◌≤◌, inl, inr, ℕ, ◌+◌, Bool, true, false, List, [], ◌∷◌, Option, Some, refl, sym, subst, ap, ◌∙◌, arith, map, length}
 use Rattle.std.specs.Prelude.{MatchBool}
 use Rattle.srb.specs.declared.DeviceLabel.{DeviceLabel}
 use Rattle.srb.specs.declared.DeviceLabel.TheVariants.{Start, Act, Fault, Return}
 use Rattle.irp.specs.declared.Payload.{Payload}
-use Rattle.irp.specs.declared.Climb.{Climb}
+use Rattle.device.specs.declared.climbing.Climb.{Climb}
 use Rattle.machine.specs.declared.Request.{Request}
 use Rattle.machine.specs.Rules.{Rules, sectors_of}
 use Rattle.machine.specs.State.{State}
 use Rattle.machine.specs.Step.{Run, DeviceStep, as_label}
-use Rattle.device.specs.View.{DeviceView, Packet, IsBounded}
+use Rattle.irp.specs.declared.Irp.{Irp}
+use Rattle.device.specs.View.{DeviceView, Packet, Reserved, AsksInLocation, Carries, IsBounded, IsReady, room_at, request_at, request_of, whole_for}
 use Rattle.device.specs.Served.{Moves, Reserves, Submits, ActsOrFaults, ActsNot, Finishes, FinishesNot, HandsUp}
 use Rattle.adapter.specs.View.{AdapterView}
 use Rattle.port.specs.declared.queues.Sizes.{Sizes}
@@ -51,8 +52,8 @@ keeps_finishes : (v v' : DeviceView) (tag : ℕ) (result : Bool) → MatchBool r
 keeps_finishes v v' tag true h = keeps_moves v v' _ h.moves
 keeps_finishes v v' tag false h = keeps_same v v' h.same
 
-pub keeps_hands : (v v' v'' : DeviceView) (takes : Bool) (request : Request) (climb : Climb) → HandsUp takes v request climb v' → v'' ≡ v' → Keeps v v''
-keeps_hands v v' v'' takes request climb h same =
+pub keeps_hands : (v v' v'' : DeviceView) (takes : Bool) (climb : Climb) (spot : ℕ) → HandsUp takes v climb spot v' → v'' ≡ record v' { rooms = v''.rooms } → Keeps v v''
+keeps_hands v v' v'' takes climb spot h same =
     let k = keeps_moves _ v' h.starts h.moves in
     subst (λ x. Keeps v x) (sym same) (record {
       rules = k.rules;
@@ -156,3 +157,25 @@ served_disk v below a e opened same =
       submitted = omega arith;
       staying = refl;
     }))
+
+-- what a spot is reserved for
+pub asked_at : (rooms : List (Option Reserved)) (spot : ℕ) (request : Request) → room_at rooms spot ≡ Some (whole_for request)
+    → request_at rooms spot ≡ request
+asked_at rooms spot request reserved = ap request_of reserved
+
+pub ready_at : (rooms : List (Option Reserved)) (spot : ℕ) (request : Request) → room_at rooms spot ≡ Some (whole_for request)
+    → IsReady rooms spot
+ready_at rooms spot request reserved = reserved ∙ ap (λ r. Some (whole_for r)) (sym (asked_at rooms spot request reserved))
+
+-- the packet asks for it, and carries what the layer takes
+pub asks_here : (takes brings : Bool) (asked request : Request) (irp : Irp) → brings ≡ takes → asked ≡ request
+    → AsksInLocation brings request irp → AsksInLocation takes asked irp
+asks_here takes brings asked request irp same is h =
+    subst (λ (r : Request). AsksInLocation takes r irp) (sym is) (subst (λ (b : Bool). AsksInLocation b request irp) same h)
+
+pub carries_here : (takes brings : Bool) (rules : Rules) (asked request : Request) (payload : Payload) → brings ≡ takes
+    → rules ≡ rules_for takes → asked ≡ request → Carries brings (rules_for brings) request payload → Carries takes rules asked payload
+carries_here takes brings rules asked request payload same are is h =
+    subst (λ (r : Request). Carries takes rules r payload) (sym is)
+    (subst (λ (x : Rules). Carries takes x request payload) (sym are)
+    (subst (λ (b : Bool). Carries b (rules_for b) request payload) same h))

@@ -1,8 +1,9 @@
 -- What a client with one request open at a time knows of the layer that carries it.
-use Rattle.std.specs.Prelude.{◌≡◌, ◌≤◌, ◌<◌, ◌^◌, ℕ, Bool, true, false, [], IsTrue, IsFalse}
+use Rattle.std.specs.Prelude.{◌≡◌, ◌≤◌, ◌<◌, ◌^◌, ℕ, Bool, true, false, [], length, IsTrue, IsFalse}
+use Rattle.irp.specs.declared.Irp.{Irp}
 use Rattle.machine.specs.declared.Request.{Request}
 use Rattle.machine.specs.Rules.{Rules, is_transfer}
-use Rattle.device.specs.View.{DeviceView}
+use Rattle.device.specs.View.{DeviceView, AsksInLocation, Carries}
 use Rattle.port.specs.declared.queues.Sizes.{Sizes}
 use Rattle.port.specs.Shown.{rules_of}
 use Rattle.class_disk.specs.Shown.{class_rules}
@@ -26,6 +27,14 @@ pub record IsOneSector (r : Request) : Type 0 where
   pub transfer : IsTrue (is_transfer r.kind)
   pub some : r.extent.count ≡ 1
   pub inside : r.extent.first < 8
+
+-- a packet of this number that asks for a request
+pub record Brings (takes_srb : Bool) (number : ℕ) (r : Request) (irp : Irp) : Type 0 where
+  pub number_is : irp.number ≡ number
+  pub fresh : irp.cancelled ≡ false
+  pub locations : length irp.locations.items ≡ 1
+  pub asks : AsksInLocation takes_srb r irp
+  pub carries : Carries takes_srb (rules_for takes_srb) r irp.payload
 
 -- the layer stays, and numbers from this one on were not given
 pub record IsServed (takes_srb : Bool) (v : DeviceView) (next : ℕ) : Type 0 where

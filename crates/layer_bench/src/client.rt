@@ -1,12 +1,12 @@
 //! A client with one request open at a time.
 
-ghost use Rattle.std.specs.Prelude.{◌≡◌, ◌<◌, ◌≤◌, ◌+◌, ◌^◌, [], length, IfOk, OnOk, if◌then◌else◌};
+ghost use Rattle.std.specs.Prelude.{◌≡◌, ◌<◌, ◌≤◌, ◌+◌, ◌^◌, length, IfOk, OnOk, if◌then◌else◌};
 ghost use Rattle.device.specs.View.{Carries, AsksFor, IsBounded, major_of, whole_command};
-ghost use Rattle.layer_bench.specs.Client.{IsOneSector, IsServed, Keeps, port_rules, rules_for, unlabelled};
+ghost use Rattle.layer_bench.specs.Client.{Brings, IsOneSector, IsServed, Keeps, port_rules, rules_for, unlabelled};
 
 use cdb::{Cdb, encode};
-use device::{Device, Kind, Request, major_for};
-use irp::{Climb, Control, Driver, Irp, LocationFlags, Payload, StackLocation};
+use device::{Climb, Device, Kind, Request, major_for};
+use irp::{Control, Driver, Irp, LocationFlags, Payload, StackLocation};
 use ntstatus::NtStatus;
 use sector::{Bytes, Extent};
 use srb::{CommandBlock, Srb, SrbFlags, SrbFunction};
@@ -21,9 +21,8 @@ const SECTOR_SIZE: usize = 512;
 ///
 /// [`AllocError`] where memory for one was refused.
 pub fn carry<D: Device>(alloc: Global, device: &mut D, count: u32) -> Result<u32, AllocError>
-    requires locations { D.STACK_SIZE ≤ 4 }
-    requires rooms { D.rooms_out device.old [] }
-    requires served { IsServed D.TAKES_SRB (D.view device.old) 1 }
+    requires locations { D.stack_size ≤ 4 }
+    requires served { IsServed D.takes_srb (D.view device.old) 1 }
     ensures { IfOk result (λ succeeded. succeeded ≤ count) }
 {
     let mut succeeded = 0_u32;
@@ -37,12 +36,10 @@ pub fn carry<D: Device>(alloc: Global, device: &mut D, count: u32) -> Result<u32
 
 /// Carries the request of a number to its end; true where it succeeded.
 fn carry_one<D: Device>(alloc: Global, device: &mut D, number: u64) -> Result<bool, AllocError>
-    requires locations { D.STACK_SIZE ≤ 4 }
+    requires locations { D.stack_size ≤ 4 }
     requires few { number < 2 ^ 63 }
-    requires rooms { D.rooms_out device.old [] }
-    requires served { IsServed D.TAKES_SRB (D.view device.old) number }
-    ensures rooms { OnOk result (D.rooms_out device.new []) }
-    ensures served { OnOk result (IsServed D.TAKES_SRB (D.view device.new) (number + 1)) }
+    requires served { IsServed D.takes_srb (D.view device.old) number }
+    ensures served { OnOk result (IsServed D.takes_srb (D.view device.new) (number + 1)) }
 {
     submit(alloc, device, number)?;
     take_labels(device);
@@ -55,26 +52,28 @@ fn carry_one<D: Device>(alloc: Global, device: &mut D, number: u64) -> Result<bo
 
 /// Submits the request of a number.
 fn submit<D: Device>(alloc: Global, device: &mut D, number: u64) -> Result<(), AllocError>
-    requires locations { D.STACK_SIZE ≤ 4 }
+    requires locations { D.stack_size ≤ 4 }
     requires few { number < 2 ^ 63 }
-    requires rooms { D.rooms_out device.old [] }
-    requires served { IsServed D.TAKES_SRB (D.view device.old) number }
-    ensures rooms { OnOk result (D.rooms_out device.new []) }
-    ensures served { OnOk result (IsServed D.TAKES_SRB (D.view device.new) (number + 1)) }
+    requires served { IsServed D.takes_srb (D.view device.old) number }
+    ensures served { OnOk result (IsServed D.takes_srb (D.view device.new) (number + 1)) }
 {
     let request = request_of(number);
-    let payload = payload_for(alloc, D::TAKES_SRB, &request)?;
-    let mut irp = Irp::new(number as u128, payload);
-    irp.next_location(own_location(D::TAKES_SRB, &request));
+    let takes_srb = brings_srb(device);
+    let irp = packet_for(alloc, takes_srb, number, &request)?;
     let room = device.reserve(&request)?;
     device.submit(irp, room);
     Ok(())
 }
 
+/// Whether the packets of a layer bring an SRB.
+fn brings_srb<D: Device>(_device: &D) -> bool
+    ensures { result ≡ D.takes_srb }
+{
+    D::TAKES_SRB
+}
+
 /// Takes all labels that the adapter recorded.
 fn take_labels<D: Device>(device: &mut D)
-    requires { D.rooms_out device.old [] }
-    ensures rooms { D.rooms_out device.new [] }
     ensures taken { D.view device.new ≡ unlabelled (D.view device.old) }
 {
     while device.take_label().is_some() {}
@@ -82,8 +81,6 @@ fn take_labels<D: Device>(device: &mut D)
 
 /// Takes the request that has ended; true where there is one and it succeeded.
 fn take_up<D: Device>(device: &mut D) -> bool
-    requires { D.rooms_out device.old [] }
-    ensures rooms { D.rooms_out device.new [] }
     ensures keeps { Keeps (D.view device.old) (D.view device.new) }
 {
     let Some((climb, room)) = device.take_done() else {
@@ -95,7 +92,7 @@ fn take_up<D: Device>(device: &mut D) -> bool
 
 fn is_success(climb: &Climb) -> bool {
     match climb {
-        Climb::Finished(done) => done.status == NtStatus::Success,
+        Climb::Finished(irp) => irp.io_status.status == NtStatus::Success,
         Climb::Routine { driver: _, irp: _ } => false,
     }
 }
@@ -119,7 +116,7 @@ fn request_of(number: u64) -> Request
     }
 }
 
-/// What a packet brings for a request: an SRB where the layer takes one, else a buffer.
+/// Returns what a packet brings for a request: an SRB where the layer takes one, else a buffer.
 fn payload_for(alloc: Global, takes_srb: bool, request: &Request) -> Result<Payload, AllocError>
     requires { IsOneSector request.now }
     ensures { IfOk result (Carries takes_srb (rules_for takes_srb) request.now) }
@@ -166,6 +163,22 @@ fn command(request: &Request) -> Cdb
         Kind::Write => Cdb::Write10 { lba, count, fua },
         Kind::Flush => Cdb::Sync10 { lba: 0, blocks: 0 },
     }
+}
+
+/// A packet of a number that asks for a request.
+fn packet_for(
+    alloc: Global,
+    takes_srb: bool,
+    number: u64,
+    request: &Request,
+) -> Result<Box<Irp>, AllocError>
+    requires { IsOneSector request.now }
+    ensures { IfOk result (λ irp. Brings takes_srb number request.now irp.value) }
+{
+    let payload = payload_for(alloc, takes_srb, request)?;
+    let mut irp = Box::new(alloc, Irp::new(number as u128, payload))?;
+    irp.next_location(own_location(takes_srb, request));
+    Ok(irp)
 }
 
 /// The layer's own location, which asks for the request.

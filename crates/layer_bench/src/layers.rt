@@ -1,14 +1,14 @@
 //! The layers that are measured, over the same small disk in memory.
 
-ghost use Rattle.std.specs.Prelude.{◌≡◌, [], true, false, IfOk};
+ghost use Rattle.std.specs.Prelude.{◌≡◌, true, false, IfOk};
 ghost use Rattle.layer_bench.specs.Client.{IsServed, sizes};
 ghost use Rattle.port.specs.Opening.{IsFresh, sizes_of};
 
 use class_disk::Disk;
-use device::Device;
+use device::Shown;
 use disk::VecDisk;
 use miniport::MemAdapter;
-use port::{Port, PortRoom};
+use port::Port;
 use std::alloc::{AllocError, Global};
 
 /// An adapter of eight sectors of 512 bytes, with two tags.
@@ -27,8 +27,7 @@ fn adapter(alloc: Global) -> Result<MemAdapter<VecDisk>, AllocError>
 
 /// A port over such an adapter.
 pub fn port(alloc: Global) -> Result<Port<MemAdapter<VecDisk>>, AllocError>
-    ensures rooms { IfOk result (λ port. ⟦<Port<MemAdapter<VecDisk>> as Device>⟧.rooms_out port []) }
-    ensures served { IfOk result (λ port. IsServed true (⟦<Port<MemAdapter<VecDisk>> as Device>⟧.view port) 1) }
+    ensures served { IfOk result (λ port. IsServed true (⟦<Port<MemAdapter<VecDisk>> as Shown>⟧.view port) 1) }
 {
     let adapter = adapter(alloc)?;
     let port = Port::new(alloc, adapter)?;
@@ -36,9 +35,8 @@ pub fn port(alloc: Global) -> Result<Port<MemAdapter<VecDisk>>, AllocError>
 }
 
 /// The class driver over such a port.
-pub fn disk(alloc: Global) -> Result<Disk<Port<MemAdapter<VecDisk>>, PortRoom>, AllocError>
-    ensures rooms { IfOk result (λ disk. ⟦<Disk<Port<MemAdapter<VecDisk>>, PortRoom> as Device>⟧.rooms_out disk []) }
-    ensures served { IfOk result (λ disk. IsServed false (⟦<Disk<Port<MemAdapter<VecDisk>>, PortRoom> as Device>⟧.view disk) 1) }
+pub fn disk(alloc: Global) -> Result<Disk<Port<MemAdapter<VecDisk>>>, AllocError>
+    ensures served { IfOk result (λ disk. IsServed false (⟦<Disk<Port<MemAdapter<VecDisk>>> as Shown>⟧.view disk) 1) }
 {
     let adapter = adapter(alloc)?;
     let port = Port::new(alloc, adapter)?;

@@ -4,12 +4,12 @@ use Rattle.std.specs.Prelude.{MatchBool}
 use Rattle.srb.specs.declared.DeviceLabel.{DeviceLabel}
 use Rattle.sector.specs.declared.Extent.{Extent}
 use Rattle.irp.specs.declared.Payload.{Payload}
-use Rattle.irp.specs.declared.Climb.{Climb}
 use Rattle.machine.specs.declared.Request.{Request}
 use Rattle.machine.specs.Rules.{Rules}
+use Rattle.device.specs.declared.climbing.Climb.{Climb}
 use Rattle.hold_filter.proofs.Moving.{run_keeps}
 use Rattle.device.specs.View.{DeviceView, Packet}
-use Rattle.device.specs.Served.{Moves, Reserves, Submits, Finishes, FinishesNot, Resets, ResumesAll, HandsUp, TakesLabel}
+use Rattle.device.specs.Served.{Moves, Reserves, Submits, Finishes, FinishesNot, Frees, Resets, ResumesAll, HandsUp, TakesLabel}
 use Rattle.layer_tests.specs.Known.{AreLike, IsKnown, Keeps}
 
 keeps_moves : (v v' : DeviceView) (labels : List DeviceLabel) → Moves v labels v' → Keeps v v'
@@ -50,10 +50,10 @@ keeps_resets v v' h =
     let k = keeps_moves v (record v' { adapter = h.all_faulted }) _ h.moves in
     record { rules = k.rules; most = k.most; next_request = k.next_request; submitted = k.submitted; paused = k.paused; removing = k.removing }
 
-pub keeps_hands : (v v' v'' : DeviceView) (takes : Bool) (request : Request) (climb : Climb) → HandsUp takes v request climb v' → v'' ≡ v' → Keeps v v''
-keeps_hands v v' v'' takes request climb h same =
+pub keeps_hands : (v v' v'' : DeviceView) (takes : Bool) (climb : Climb) (spot : ℕ) → HandsUp takes v climb spot v' → Frees v' spot v'' → Keeps v v''
+keeps_hands v v' v'' takes climb spot h frees =
     let k = keeps_moves _ v' h.starts h.moves in
-    subst (λ x. Keeps v x) (sym same) (record {
+    subst (λ x. Keeps v x) (sym frees.same) (record {
       rules = k.rules;
       most = k.most;
       next_request = k.next_request ∙ h.answers.after.next_request;

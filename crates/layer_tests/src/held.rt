@@ -1,13 +1,12 @@
 //! A client of a filter: what a filter has beside the calls of a layer.
 
-ghost use Rattle.std.specs.Prelude.{◌≡◌, ◌≤◌, [], false};
+ghost use Rattle.std.specs.Prelude.{◌≡◌, ◌≤◌, false};
 ghost use Rattle.linked.specs.Queue.{VisitsAtMost};
-ghost use Rattle.hold_filter.specs.Books.{visits_of};
 ghost use Rattle.layer_tests.specs.Known.{IsKnown, Keeps};
 
 use crate::session::Session;
 use crate::steps::Step;
-use device::{Device, Hold};
+use device::{Device, Hold, Shown};
 use hold_filter::Filter;
 use irp::Driver;
 use sector::Extent;
@@ -15,15 +14,9 @@ use std::alloc::{AllocError, Global};
 use std::process::Abort;
 
 /// Cancels what is held at a spot, with at most three visits of the queue; true where it was held.
-fn cancel_held<R: Drop, D: Device<Room = R>>(
-    filter: &mut Filter<D, R>,
-    spot: usize,
-    number: u64,
-) -> bool
-    requires rooms { ⟦<Filter<D, R> as Device>⟧.rooms_out filter.old [] }
-    ensures rooms { ⟦<Filter<D, R> as Device>⟧.rooms_out filter.new [] }
-    ensures keeps { Keeps (⟦<Filter<D, R> as Device>⟧.view filter.old) (⟦<Filter<D, R> as Device>⟧.view filter.new) }
-    ensures visits { VisitsAtMost 3 (visits_of filter.old.table) (visits_of filter.new.table) }
+fn cancel_held<D: Device>(filter: &mut Filter<D>, spot: usize, number: u64) -> bool
+    ensures keeps { Keeps (⟦<Filter<D> as Shown>⟧.view filter.old) (⟦<Filter<D> as Shown>⟧.view filter.new) }
+    ensures visits { VisitsAtMost 3 filter.old.queue_visits filter.new.queue_visits }
 {
     filter.cancel_held(spot, number as u128)
 }
@@ -34,12 +27,10 @@ pub(crate) trait Held: Hold {
 
     /// Cancels what is held at a spot; true where it was held.
     fn cancel_at_spot(&mut self, spot: usize, number: u64) -> bool
-        requires rooms { Self.rooms_out self.old [] }
-        ensures rooms { Self.rooms_out self.new [] }
         ensures keeps { Keeps (Self.view self.old) (Self.view self.new) };
 }
 
-impl<R: Drop, D: Device<Room = R>> Held for Filter<D, R> {
+impl<D: Device> Held for Filter<D> {
     fn count_held(&self) -> usize {
         self.held()
     }
@@ -102,8 +93,7 @@ pub(crate) fn try_all_held<D: Held>(
     partitions: &[Extent],
     steps: &[Step],
 ) -> Result<(), AllocError>
-    requires locations { D.STACK_SIZE ≤ 4 }
-    requires rooms { D.rooms_out filter [] }
+    requires locations { D.stack_size ≤ 4 }
     requires known { IsKnown (D.view filter) partitions.now 1 false false }
 {
     let mut session = Session::new(filter, Driver::Filter, partitions);

@@ -1,9 +1,9 @@
 //! The port that each layer stands on.
 
-ghost use Rattle.std.specs.Prelude.{◌≤◌, ◌^◌, [], IfOk};
+ghost use Rattle.std.specs.Prelude.{◌≤◌, ◌^◌, IfOk};
 ghost use Rattle.layer_tests.specs.Fresh.{IsFreshOver};
 
-use device::Device;
+use device::Shown;
 use disk::VecDisk;
 use miniport::MemAdapter;
 use port::Port;
@@ -20,8 +20,7 @@ pub(crate) fn port(
     requires few { sectors ≤ 4096 }
     requires transfer { 1 ≤ transfer }
     requires short { transfer ≤ 64 }
-    ensures rooms { IfOk result (λ port. ⟦<Port<MemAdapter<VecDisk>> as Device>⟧.rooms_out port []) }
-    ensures fresh { IfOk result (λ port. IsFreshOver (⟦<Port<MemAdapter<VecDisk>> as Device>⟧.view port) sectors transfer) }
+    ensures fresh { IfOk result (λ port. IsFreshOver (⟦<Port<MemAdapter<VecDisk>> as Shown>⟧.view port) sectors transfer) }
 {
     let bad = bad.to_vec(alloc)?;
     let Ok(disk) = VecDisk::new(alloc, 512, sectors, bad) else {

@@ -19,4 +19,6 @@ mod session;
 #[cfg(test)]
 mod steps;
 #[cfg(test)]
+mod waiting;
+#[cfg(test)]
 mod windows;

@@ -28,8 +28,7 @@ fn run_over<D: Device>(
     steps: &[Step],
 ) -> Result<(), AllocError>
     requires few { length partitions.now ≤ 4 }
-    requires locations { D.STACK_SIZE ≡ 1 }
-    requires rooms { D.rooms_out disk [] }
+    requires locations { D.stack_size ≡ 1 }
     requires fresh { IsFreshDisk partitions.now (D.view disk) }
     requires known { IsKnown (D.view disk) (record { first = 0; count = 4096 } ∷ []) 1 false false }
 {
@@ -37,7 +36,7 @@ fn run_over<D: Device>(
     let Ok(()) = table.try_extend_from_slice(partitions) else {
         unreachable!()
     };
-    let stack = Partitions::new(disk, table);
+    let stack = Partitions::new(alloc, disk, table);
     try_all(rt, alloc, stack, Driver::Partition, partitions, steps)
 }
 
@@ -171,6 +170,7 @@ fn reaches_the_last_sector(rt: HostRuntime) -> Result<(), Fail> {
         &LAST,
         &[
             Step::Sizes(1, [1, 0, 0], 64, 1 << 96),
+            Step::Reserve(0, Kind::Write, 0, 1),
             Step::Submit(0, Kind::Read, 0, 1, 0xFF),
             Step::Tells(&[Sends(1, &[0x28, 0, 0, 0, 0x0F, 0xFF, 0, 0, 1, 0])]),
             Step::Finish(0, &[Busy(1)]),

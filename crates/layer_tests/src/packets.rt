@@ -86,7 +86,7 @@ fn srb_for(
     })
 }
 
-/// What a packet brings for a request, full of one byte: an SRB where the layer takes one, else a buffer.
+/// Returns what a packet brings for a request, full of one byte: an SRB where the layer takes one, else a buffer.
 fn payload_for(
     alloc: Global,
     takes_srb: bool,
@@ -140,12 +140,12 @@ pub(crate) fn packet_for(
     longest: u64,
     request: &Request,
     byte: u8,
-) -> Result<Irp, AllocError>
+) -> Result<Box<Irp>, AllocError>
     requires { IsAskable partitions.now longest request.now }
-    ensures { IfOk result (Brings form.takes_srb partitions.now longest number request.now) }
+    ensures { IfOk result (λ irp. Brings form.takes_srb partitions.now longest number request.now irp.value) }
 {
     let payload = payload_for(alloc, form.takes_srb, partitions, longest, request, byte)?;
-    let mut irp = Irp::new(number as u128, payload);
+    let mut irp = Box::new(alloc, Irp::new(number as u128, payload))?;
     irp.next_location(own_location(form.driver, form.takes_srb, request));
     Ok(irp)
 }

@@ -1,7 +1,7 @@
 //! Runs of a class driver over a port and an adapter in memory, each call by the contract of a layer.
 
 ghost use Rattle.std.specs.Prelude.{◌≡◌, ◌^◌, [], ◌∷◌, true, false};
-ghost use Rattle.class_disk.specs.Opening.{IsFreshPort};
+ghost use Rattle.class_disk.specs.Opening.{IsFreshPort, TakesParts};
 ghost use Rattle.layer_tests.specs.Known.{IsKnown};
 
 use crate::layers::port;
@@ -18,16 +18,15 @@ use std::process::Abort;
 use std::test::Fail;
 
 /// These steps on a class driver over a port of so many sectors of which nothing was asked yet.
-fn run_over<R: Drop, D: Device<Room = R>>(
+fn run_over<D: Device>(
     rt: &impl Abort,
     alloc: Global,
     port: D,
     sectors: u64,
     steps: &[Step],
 ) -> Result<(), AllocError>
-    requires takes { D.TAKES_SRB ≡ true }
-    requires locations { D.STACK_SIZE ≡ 1 }
-    requires fresh { IsFreshPort (D.rooms_out port) (D.view port) }
+    requires takes { TakesParts D.takes_srb D.stack_size }
+    requires fresh { IsFreshPort (D.view port) }
     requires many { (D.view port).most ≡ 2 ^ 96 }
     requires known { IsKnown (D.view port) (record { first = 0; count = sectors } ∷ []) 1 false false }
 {

@@ -1,11 +1,11 @@
 //! A client of one layer, each call by the contract of a layer.
 
-ghost use Rattle.std.specs.Prelude.{◌≡◌, ◌≤◌, [], false};
+ghost use Rattle.std.specs.Prelude.{◌≡◌, ◌≤◌, false};
 ghost use Rattle.layer_tests.specs.Known.{IsKnown};
 
 use crate::packets::{Form, assert_askable, packet_for};
 use crate::steps::{Step, Told, is_told, is_up, request_of};
-use device::{Device, Kind, Request};
+use device::{Device, Kind, Request, Shown};
 use irp::Driver;
 use ntstatus::NtStatus;
 use sector::Extent;
@@ -15,20 +15,20 @@ use std::process::Abort;
 
 /// A layer, and what its client knows of it.
 #[derive(Drop)]
-pub(crate) struct Session<'a, D: Device> {
+pub(crate) struct Session<'a, D: Shown> {
     pub(crate) device: D,
     form: Form,
     partitions: &'a [Extent],
     /// The next number to be given.
     next: u64,
-    /// By its number, the spot that was answered for a packet.
+    /// By its number, the spot of a packet's room.
     pub(crate) spots: [usize; 65],
     pub(crate) paused: bool,
     pub(crate) removed: bool,
 }
 
-impl<'a, D: Device> Model for Session<'a, D> {
-    ghost use Rattle.std.specs.Prelude.{◌≡◌, ◌≤◌, ℕ, []};
+impl<'a, D: Shown> Model for Session<'a, D> {
+    ghost use Rattle.std.specs.Prelude.{◌≡◌, ◌≤◌, ℕ};
     ghost use Rattle.layer_tests.specs.Known.{IsKnown};
 
     ghost Value = { ℕ };
@@ -36,9 +36,8 @@ impl<'a, D: Device> Model for Session<'a, D> {
     ghost view = { λ s. s.next };
 
     ghost invariant = { λ s. record {
-      form : s.form.takes_srb ≡ D.TAKES_SRB;
-      locations : D.STACK_SIZE ≤ 4;
-      rooms : D.rooms_out s.device [];
+      form : s.form.takes_srb ≡ D.takes_srb;
+      locations : D.stack_size ≤ 4;
       known : IsKnown (D.view s.device) s.partitions.now s.next s.paused s.removed;
     } };
 }
@@ -46,8 +45,7 @@ impl<'a, D: Device> Model for Session<'a, D> {
 impl<'a, D: Device> Session<'a, D> {
     /// A client of a layer of which nothing was asked yet; its packets have the location of this driver.
     pub(crate) fn new(device: D, driver: Driver, partitions: &'a [Extent]) -> Session<'a, D>
-        requires locations { D.STACK_SIZE ≤ 4 }
-        requires rooms { D.rooms_out device [] }
+        requires locations { D.stack_size ≤ 4 }
         requires known { IsKnown (D.view device) partitions.now 1 false false }
     {
         Session {
@@ -86,8 +84,8 @@ impl<'a, D: Device> Session<'a, D> {
             byte,
         )?;
         let room = self.device.reserve(request)?;
-        let spot = self.device.submit(irp, room);
-        self.spots[number as usize] = spot;
+        self.spots[number as usize] = room.spot;
+        self.device.submit(irp, room);
         self.next = number + 1;
         Ok(())
     }
@@ -297,8 +295,7 @@ pub(crate) fn try_all<D: Device>(
     partitions: &[Extent],
     steps: &[Step],
 ) -> Result<(), AllocError>
-    requires locations { D.STACK_SIZE ≤ 4 }
-    requires rooms { D.rooms_out device [] }
+    requires locations { D.stack_size ≤ 4 }
     requires known { IsKnown (D.view device) partitions.now 1 false false }
 {
     let mut session = Session::new(device, driver, partitions);

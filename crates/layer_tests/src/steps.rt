@@ -1,7 +1,7 @@
 //! What is done to a layer and what it must answer, a row each.
 
-use device::{Kind, Request};
-use irp::{Climb, Done, Payload};
+use device::{Climb, Kind, Request};
+use irp::{Irp, Payload};
 use ntstatus::NtStatus;
 use sector::Extent;
 use srb::{Class, DeviceLabel};
@@ -40,9 +40,9 @@ pub(crate) enum Step<'a> {
     Reset(&'a [Told<'a>]),
     Tells(&'a [Told<'a>]),
     Cancel(u64),
-    /// By the spot that was answered for the packet of the first number, the packet of the second.
+    /// By the spot of the first number's packet, the packet of the second.
     CancelAt(u64, u64),
-    /// The packet of the first number and that of the second were answered the same spot.
+    /// The packet of the first number and that of the second have the same spot.
     HaveOneSpot(u64, u64),
     Drain,
     /// A packet comes up: its number and its status.
@@ -68,6 +68,8 @@ pub(crate) enum Step<'a> {
     Resume,
     /// As `CancelAt`, if the packet is held.
     CancelHeld(u64, u64, bool),
+    /// As `CancelAt`, if the packet waits in a port's queue.
+    CancelWaiting(u64, u64, bool),
 }
 
 /// A request of these sectors.
@@ -108,26 +110,26 @@ fn is_back(piece: u128, class: Class, want: &Told) -> bool {
 /// Whether a packet that came up past every routine is as a step wants it.
 pub(crate) fn is_up(climb: Climb, takes_srb: bool, step: &Step) -> bool {
     match climb {
-        Climb::Finished(done) => is_done(&done, takes_srb, step),
+        Climb::Finished(irp) => is_done(&irp, takes_srb, step),
         Climb::Routine { driver: _, irp: _ } => false,
     }
 }
 
-fn is_done(done: &Done, takes_srb: bool, step: &Step) -> bool {
+fn is_done(irp: &Irp, takes_srb: bool, step: &Step) -> bool {
     match step {
-        Step::Done(number, status) => done.number == *number && done.status == *status,
-        Step::FourthDone(status) => done.number == 4 && done.status == *status,
+        Step::Done(number, status) => irp.number == *number && irp.io_status.status == *status,
+        Step::FourthDone(status) => irp.number == 4 && irp.io_status.status == *status,
         Step::Moved(number, status, sectors) => {
-            done.number == *number
-                && done.status == *status
-                && done.information % 512 == 0
-                && done.information / 512 == sectors.len() as u64
-                && are_sectors(bytes_of(&done.payload, takes_srb), *status, sectors)
+            irp.number == *number
+                && irp.io_status.status == *status
+                && irp.io_status.information % 512 == 0
+                && irp.io_status.information / 512 == sectors.len() as u64
+                && are_sectors(bytes_of(&irp.payload, takes_srb), *status, sectors)
         }
         Step::Filled(number, status, byte) => {
-            done.number == *number
-                && done.status == *status
-                && bytes_of(&done.payload, takes_srb).is_some_and(|bytes| is_full(bytes, *byte))
+            irp.number == *number
+                && irp.io_status.status == *status
+                && bytes_of(&irp.payload, takes_srb).is_some_and(|bytes| is_full(bytes, *byte))
         }
         _ => false,
     }

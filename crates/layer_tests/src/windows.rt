@@ -1,6 +1,6 @@
-//! Runs of a filter over a port and an adapter in memory, each call by the contract of a layer.
+//! Runs of a filter over a class driver, a port and an adapter in memory, each call by the contract of a layer.
 
-ghost use Rattle.std.specs.Prelude.{◌≡◌, ◌<◌, [], ◌∷◌, false};
+ghost use Rattle.std.specs.Prelude.{◌≡◌, ◌<◌, [], ◌∷◌, false, IsFalse};
 ghost use Rattle.hold_filter.specs.Opening.{IsFreshBelow};
 ghost use Rattle.layer_tests.specs.Known.{IsKnown};
 
@@ -8,6 +8,7 @@ use crate::held::try_all_held;
 use crate::layers::port;
 use crate::steps::Step;
 use crate::steps::Told::{Acts, Bad, Busy, Faults, Good, Starts};
+use class_disk::Disk;
 use device::{Device, Kind};
 use hold_filter::Filter;
 use ntstatus::NtStatus;
@@ -17,7 +18,7 @@ use std::process::Abort;
 use std::test::Fail;
 
 /// These steps on a filter over a device of four sectors of which nothing was asked yet.
-fn run_over<R: Drop, D: Device<Room = R>>(
+fn run_over<D: Device>(
     rt: &impl Abort,
     alloc: Global,
     device: D,
@@ -25,8 +26,9 @@ fn run_over<R: Drop, D: Device<Room = R>>(
     steps: &[Step],
 ) -> Result<(), AllocError>
     requires some { 0 < window }
-    requires locations { D.STACK_SIZE ≡ 1 }
-    requires fresh { IsFreshBelow (D.rooms_out device) (D.view device) }
+    requires locations { D.stack_size ≡ 1 }
+    requires buffers { IsFalse D.takes_srb }
+    requires fresh { IsFreshBelow (D.view device) }
     requires known { IsKnown (D.view device) (record { first = 0; count = 4 } ∷ []) 1 false false }
 {
     let filter = Filter::new(alloc, device, window);
@@ -34,12 +36,13 @@ fn run_over<R: Drop, D: Device<Room = R>>(
     try_all_held(rt, alloc, filter, &whole, steps)
 }
 
-/// These steps on a filter with this window over a port of four sectors, the last one bad, with two tags.
+/// These steps on a filter with this window over a disk of four sectors, the last one bad, with two tags.
 fn run(rt: &impl Abort, alloc: Global, window: usize, steps: &[Step]) -> Result<(), AllocError>
     requires { 0 < window }
 {
     let port = port(alloc, 4, &[3], 2)?;
-    run_over(rt, alloc, port, window, steps)
+    let disk = Disk::new(alloc, port, 512);
+    run_over(rt, alloc, disk, window, steps)
 }
 
 #[test]
@@ -48,7 +51,7 @@ fn tells_its_sizes(rt: HostRuntime) -> Result<(), Fail> {
         &rt,
         rt.alloc(),
         1,
-        &[Step::Sizes(1, [4, 0, 0], 2, 1 << 96), Step::Holds(0)],
+        &[Step::Sizes(1, [4, 0, 0], 65_536, 1 << 63), Step::Holds(0)],
     )?;
     Ok(())
 }
@@ -75,17 +78,20 @@ fn lets_two_below_first_in_first_out(rt: HostRuntime) -> Result<(), Fail> {
             Step::Done(2, NtStatus::DeviceDataError),
             Step::Tells(&[Starts(3, 1)]),
             Step::Holds(2),
-            Step::Finish(0, &[Busy(1)]),
-            Step::Done(1, NtStatus::DeviceBusy),
-            Step::Tells(&[Starts(4, 0)]),
+            Step::Finish(0, &[Busy(1), Starts(4, 0)]),
+            Step::NoneDone,
+            Step::Act(0, &[Acts(4)]),
+            Step::Finish(0, &[Good(4)]),
+            Step::Done(1, NtStatus::Success),
+            Step::Tells(&[Starts(5, 0)]),
             Step::Holds(1),
             Step::Act(1, &[Acts(3)]),
             Step::Finish(1, &[Good(3)]),
             Step::Moved(3, NtStatus::Success, &[0]),
-            Step::Tells(&[Starts(5, 1)]),
+            Step::Tells(&[Starts(6, 1)]),
             Step::Holds(0),
-            Step::Reset(&[Faults(4), Faults(5)]),
-            Step::Finish(0, &[Bad(4)]),
+            Step::Reset(&[Faults(5), Faults(6)]),
+            Step::Finish(0, &[Bad(5)]),
             Step::Done(4, NtStatus::IoDeviceError),
             Step::NoneDone,
         ],
@@ -93,7 +99,7 @@ fn lets_two_below_first_in_first_out(rt: HostRuntime) -> Result<(), Fail> {
     Ok(())
 }
 
-// Both tags are free, and one more goes below: the window is one.
+// Both tags are free, and one more goes below: the window is one. Rooms that are given back are not counted.
 #[test]
 fn holds_by_its_window(rt: HostRuntime) -> Result<(), Fail> {
     run(
@@ -101,7 +107,9 @@ fn holds_by_its_window(rt: HostRuntime) -> Result<(), Fail> {
         rt.alloc(),
         1,
         &[
+            Step::Reserve(0, Kind::Write, 1, 2),
             Step::Submit(0, Kind::Read, 0, 1, 0xA5),
+            Step::Reserve(0, Kind::Read, 1, 1),
             Step::Submit(0, Kind::Read, 1, 1, 0xA5),
             Step::Tells(&[Starts(1, 0)]),
             Step::Holds(1),
@@ -246,7 +254,7 @@ fn takes_requests_or_no_memory(rt: HostRuntime) -> Result<(), Fail> {
             Step::FourthDone(NtStatus::DeletePending),
             Step::NoneDone,
             Step::Finish(0, &[Busy(1)]),
-            Step::Done(1, NtStatus::DeviceBusy),
+            Step::Done(1, NtStatus::NoSuchDevice),
             Step::NoneDone,
         ],
     );

@@ -443,7 +443,7 @@ fn is_an_adapter_or_no_memory(rt: HostRuntime) -> Result<(), Fail> {
 /// For each label its piece, a letter, and the tag, the first byte of an act or the status of a bad return.
 type Told<'a> = &'a [(u128, char, u8)];
 
-/// What a label says: its piece, a letter, and the bytes of an act.
+/// Returns what a label says: its piece, a letter, and the bytes of an act.
 fn told(rt: &impl Abort, label: DeviceLabel) -> (u128, char, u8) {
     match label {
         DeviceLabel::Start { piece, tag, block } => {
@@ -798,7 +798,7 @@ fn entry(
     })
 }
 
-/// What an SRB comes back with after its act, where this was booked of it.
+/// Returns what an SRB comes back with after its act, where this was booked of it.
 fn comes_back(
     rt: &impl Abort,
     alloc: Global,

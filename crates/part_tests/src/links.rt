@@ -1,5 +1,5 @@
 use linked::{Linked, Numbered};
-use std::alloc::AllocError;
+use std::alloc::{AllocError, Global};
 
 /// An item that is its number.
 #[derive(Drop)]
@@ -24,20 +24,20 @@ fn next(queue: &mut Linked<Item>) -> Option<(usize, u128)> {
 #[test]
 fn the_middle_leaves_and_the_others_keep_their_order(rt: HostRuntime) -> Result<(), AllocError> {
     let mut queue = Linked::new(rt.alloc());
-    queue.reserve(3)?;
-    let first = queue.push_back_reserved(Item { number: 1 });
-    let middle = queue.push_back_reserved(Item { number: 2 });
-    let last = queue.push_back_reserved(Item { number: 3 });
-    assert!(rt; queue.find(2) == Some(middle));
+    queue.cover(5)?;
+    queue.push_back_at(5, Item { number: 1 });
+    queue.push_back_at(0, Item { number: 2 });
+    queue.push_back_at(3, Item { number: 3 });
+    assert!(rt; queue.find(2) == Some(0));
     assert!(rt;
         queue
-            .remove_number(middle, 2)
+            .remove_number(0, 2)
             .is_some_and(|item| item.number == 2)
     );
     assert!(rt; queue.find(2) == None);
     assert!(rt; queue.len() == 2);
-    assert!(rt; next(&mut queue) == Some((first, 1)));
-    assert!(rt; next(&mut queue) == Some((last, 3)));
+    assert!(rt; next(&mut queue) == Some((5, 1)));
+    assert!(rt; next(&mut queue) == Some((3, 3)));
     assert!(rt; next(&mut queue) == None);
     assert!(rt; queue.len() == 0);
     Ok(())
@@ -46,25 +46,32 @@ fn the_middle_leaves_and_the_others_keep_their_order(rt: HostRuntime) -> Result<
 #[test]
 fn an_old_number_finds_nothing_at_a_spot_used_again(rt: HostRuntime) -> Result<(), AllocError> {
     let mut queue = Linked::new(rt.alloc());
-    queue.reserve(1)?;
-    let spot = queue.push_back_reserved(Item { number: 1 });
-    assert!(rt; queue.remove_number(spot, 1).is_some());
-    queue.reserve(1)?;
-    assert!(rt; queue.push_back_reserved(Item { number: 2 }) == spot);
-    assert!(rt; queue.remove_number(spot, 1).is_none());
-    assert!(rt; queue.remove_number(spot, 2).is_some());
-    assert!(rt; queue.remove_number(spot, 2).is_none());
+    queue.cover(0)?;
+    queue.push_back_at(0, Item { number: 1 });
+    assert!(rt; next(&mut queue) == Some((0, 1)));
+    queue.cover(0)?;
+    assert!(rt; queue.len() == 0);
+    queue.push_back_at(0, Item { number: 2 });
+    assert!(rt; queue.remove_number(0, 1).is_none());
+    assert!(rt; queue.remove_number(0, 2).is_some());
+    assert!(rt; queue.remove_number(0, 2).is_none());
     Ok(())
+}
+
+/// A queue of 64 items, each at the spot before its number.
+fn filled(alloc: Global) -> Result<Linked<Item>, AllocError> {
+    let mut queue = Linked::new(alloc);
+    for spot in 0..64_usize {
+        queue.cover(spot)?;
+        let number = spot as u128 + 1;
+        queue.push_back_at(spot, Item { number });
+    }
+    Ok(queue)
 }
 
 #[test]
 fn of_sixty_four_the_others_leave_in_order(rt: HostRuntime) -> Result<(), AllocError> {
-    let mut queue = Linked::new(rt.alloc());
-    for number in 1..65_u8 {
-        queue.reserve(1)?;
-        let number = u128::from(number);
-        queue.push_back_reserved(Item { number });
-    }
+    let mut queue = filled(rt.alloc())?;
     for number in [2, 64, 33] {
         let Some(spot) = queue.find(number) else {
             return Err(AllocError);

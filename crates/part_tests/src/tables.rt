@@ -86,7 +86,7 @@ static CHANGES: [(usize, u8, u8, Change); 20] = [
     (511, 0xAB, 255, Fault(MbrFault::NoSignature)),
 ];
 
-/// What a change of this byte to this value does.
+/// Returns what a change of this byte to this value does.
 fn change_of(byte: usize, value: u8) -> Change {
     for (at, low, high, change) in &CHANGES {
         if *at == byte && *low <= value && value <= *high {

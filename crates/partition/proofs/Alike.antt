@@ -5,10 +5,10 @@ use Rattle.sector.specs.declared.Extent.{Extent}
 use Rattle.machine.specs.Rules.{Rules, as_client}
 use Rattle.machine.specs.State.{OpenRequest, State}
 use Rattle.device.specs.View.{Packet, IsBounded}
-use Rattle.partition.specs.Noted.{asked}
+use Rattle.partition.specs.inside.Noted.{asked}
 use Rattle.partition.specs.OnDisk.{rules_over, on_disk}
 use Rattle.partition.specs.Shown.{called, as_called, on_partitions}
-use Rattle.partition.specs.Kept.{LiesInside}
+use Rattle.partition.specs.inside.Kept.{LiesInside}
 use Rattle.partition.proofs.Noted.{map_same}
 use Rattle.partition.proofs.Steps.{Stands}
 

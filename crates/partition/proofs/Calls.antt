@@ -24,10 +24,10 @@ use Rattle.machine.proofs.Numbers.{AreDistinct-Step, AreDistinct-Admits}
 use Rattle.machine.proofs.Placed.{ArePlaced-Answers, ArePlaced-Opens}
 use Rattle.machine.proofs.Places.{taken_in, IsTakenIn}
 use Rattle.device.specs.View.{Packet, IsBounded}
-use Rattle.partition.specs.Noted.{asked}
+use Rattle.partition.specs.inside.Noted.{asked}
 use Rattle.partition.specs.OnDisk.{rules_over, on_disk}
 use Rattle.partition.specs.Shown.{called, as_called, on_partitions}
-use Rattle.partition.specs.Kept.{LiesInside}
+use Rattle.partition.specs.inside.Kept.{LiesInside}
 use Rattle.partition.proofs.Noted.{asked_behind}
 use Rattle.partition.proofs.Alike.{AreNotedAlike, called_alike, state_alike, Stands-alike, lie_alike}
 use Rattle.partition.proofs.Steps.{Stands, IsSame-up, moved, only_array}

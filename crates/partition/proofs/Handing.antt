@@ -1,5 +1,5 @@
 -- A packet comes back from the layer below, and is handed up.
-use Rattle.std.proofs.Common.{◌≡◌, ◌≢◌, ◌<◌, ℕ, suc, ◌-◌, ◌/◌, Bool, List, ◌∷◌, Option, Some, refl, sym, ◌∙◌, ap, subst, arith, map, length, take, eqb, get_or}
+use Rattle.std.proofs.Common.{◌≡◌, ◌≢◌, ◌<◌, ℕ, suc, ◌-◌, ◌*◌, ◌/◌, Bool, List, [], ◌∷◌, Option, Some, None, refl, sym, ◌∙◌, ap, subst, arith, map, length, take, eqb, get_or}
 use Rattle.std.specs.Prelude.{All, Contains, IsPermutation}
 use Rattle.std.specs.List.{IsDistinct}
 use Rattle.std.proofs.Math.Nat.{mul-div_cancel}
@@ -10,36 +10,41 @@ use Rattle.ntstatus.specs.declared.NtStatus.{NtStatus}
 use Rattle.ntstatus.specs.declared.NtStatus.TheVariants.{Success}
 use Rattle.sector.specs.declared.Extent.{Extent}
 use Rattle.irp.specs.declared.CancelRoutine.{CancelRoutine}
-use Rattle.irp.specs.declared.Climb.{Climb}
-use Rattle.irp.specs.declared.Climb.TheVariants.{Routine, Finished}
-use Rattle.irp.specs.declared.Done.{Done}
+use Rattle.device.specs.declared.climbing.Climb.{Climb}
+use Rattle.device.specs.declared.climbing.Climb.TheVariants.{Routine, Finished}
+use Rattle.device.specs.Climbing.{Climbs, BringsRoutine}
+use Rattle.std.specs.Global.{Box}
 use Rattle.irp.specs.declared.Driver.{Driver}
 use Rattle.irp.specs.declared.Irp.{Irp}
 use Rattle.irp.specs.declared.Payload.{Payload}
 use Rattle.irp.specs.declared.StackLocation.{StackLocation}
-use Rattle.irp.specs.Climb.{above, succeeds, Climbs, BringsRoutine}
+use Rattle.irp.specs.Climb.{above, succeeds}
 use Rattle.irp.specs.Packet.{HasOwn, cancel_routine_of}
-use Rattle.irp.proofs.Returning.{ComesBack as CameBack, comes_back, above_is}
+use Rattle.device.proofs.Returning.{ComesBack as CameBack, comes_back, above_is}
 use Rattle.machine.specs.declared.Request.{Request}
 use Rattle.machine.specs.declared.ClientRequest.{ClientRequest}
 use Rattle.machine.specs.Rules.{Rules, as_client}
-use Rattle.machine.specs.State.{OpenRequest}
+use Rattle.machine.specs.State.{Done, OpenRequest}
 use Rattle.machine.specs.Answering.{information}
 use Rattle.machine.specs.Numbers.{request_number}
 use Rattle.machine.proofs.Permuting.{flips}
 use Rattle.machine.proofs.Placed.{differ_first}
-use Rattle.device.specs.View.{DeviceView, Packet, IsOrderly, IsBounded, sent_bytes, packet_number}
-use Rattle.device.specs.Served.{HandsUp, StaysIfStarted, IsBack}
-use Rattle.partition.specs.Noted.{noted_in, asked}
+use Rattle.srb.specs.declared.Kind.TheVariants.{Read, Flush}
+use Rattle.device.specs.View.{DeviceView, Packet, Reserved, Carries, IsOrderly, IsBounded, sent_bytes, payload_bytes, packet_number}
+use Rattle.device.specs.Served.{HandsUp, Moves, SetsRoom, StaysIfStarted, IsBack, sectors_moved}
+use Rattle.partition.specs.inside.Noted.{noted_in, asked}
 use Rattle.partition.specs.OnDisk.{rules_over, on_disk}
-use Rattle.partition.specs.Shown.{called, as_called, on_partitions, packet_above, view_of}
-use Rattle.partition.specs.Kept.{ComesBack, LiesInside, IsOnDisk}
+use Rattle.partition.specs.Shown.{called, as_called, on_partitions, packet_above, view_of, shown_of}
+use Rattle.partition.specs.inside.Rooms.{for_wanted, rooms_with, wanted_at}
+use Rattle.partition.specs.inside.Kept.{ComesBack, LiesInside, IsOnDisk, IsKept, IsNotedAt}
 use Rattle.partition.proofs.Noted.{Contains-map, asked_behind, asked_same, asked_at, noted_at, front_is}
 use Rattle.partition.proofs.Steps.{Stands}
 use Rattle.partition.proofs.Alike.{AreNotedAlike}
 use Rattle.partition.proofs.Calls.{Answers-over}
 use Rattle.partition.proofs.Settled.{stands, packets_distinct, each}
 use Rattle.partition.proofs.Moving.{GoesOn, MovesOn, moves_on, numbered, open_still}
+use Rattle.partition.proofs.Rooms.{rooms_set}
+use Rattle.partition.proofs.Hand.{kept_with, rooms_more}
 use Rattle.partition.proofs.Submitting.{carries_up}
 
 -- two requests that a client would make alike are the same
@@ -104,7 +109,7 @@ module _ (table : List Extent) (old new : DeviceView) (takes_srb : Bool) (k : Is
   packet_back : (packet : Packet) (others : List Packet) → IsPermutation old.packets (packet ∷ others) → ComesBack packet
   packet_back packet others p = All-head ComesBack packet others (All-permutation ComesBack _ _ p k.packets)
 
-  module _ (below : Request) (climb : Climb) (h : HandsUp takes_srb old below climb new) where
+  module _ (climb : Climb) (spot : ℕ) (h : HandsUp takes_srb old climb spot new) where
     -- what the request has moved
     abbrev informed : ℕ
     informed = information h.answers.request.request h.status
@@ -128,16 +133,16 @@ module _ (table : List Extent) (old new : DeviceView) (takes_srb : Bool) (k : Is
         )
 
   -- so it is not finished below
-  pub not_finished : (below : Request) (climb : Climb) (done : Done) → climb ≡ Finished done → HandsUp takes_srb old below climb new → ⊥
-  not_finished below climb done is h = no_routine is (came_back below climb h).1.climb_is
+  pub not_finished : (climb : Climb) (spot : ℕ) (irp : Box Irp) → climb ≡ Finished irp → HandsUp takes_srb old climb spot new → ⊥
+  not_finished climb spot irp is h = no_routine is (came_back climb spot h).1.climb_is
     where
-      no_routine : {driver : Driver} {irp : Irp} → climb ≡ Finished done → climb ≡ Routine driver irp → ⊥
+      no_routine : {driver : Driver} {other : Box Irp} → climb ≡ Finished irp → climb ≡ Routine driver other → ⊥
       no_routine e f = cc (e, f)
 
   -- what it notes is what it asks for, and what the layer below knows of it
-  noted_request : (below : Request) (climb : Climb) → (h : HandsUp takes_srb old below climb new) → (b : ComesBack h.packet)
+  noted_request : (climb : Climb) (spot : ℕ) → (h : HandsUp takes_srb old climb spot new) → (b : ComesBack h.packet)
       → LiesInside over old.packets h.answers.request × (asked old.packets h.answers.request.number ≡ noted_in b.own)
-  noted_request below climb h b =
+  noted_request climb spot h b =
       let all : All (LiesInside over old.packets) (h.answers.request ∷ h.answers.others) =
       All-permutation (LiesInside over old.packets) _ _ h.answers.is_open k.requests in
       let there : Contains old.packets h.packet =
@@ -170,29 +175,50 @@ module _ (table : List Extent) (old new : DeviceView) (takes_srb : Bool) (k : Is
           behind : (x : OpenRequest) → Contains requests x → Contains (request ∷ requests) x
           behind x (j, low, is) = (suc j, omega arith, is)
 
-  -- a packet and its room, handed up
-  pub record IsHandedUp (below r : Request) (climb : Climb) : Type 0 where
-    pub hands : HandsUp takes_srb (view_of table old) r climb (view_of table new)
-    pub goes : GoesOn table old new
-    pub bounded : IsBounded over r
-    pub is_below : below ≡ on_disk over r
-
   -- where the layer below knows it as its request of the disk
-  hands : (r : Request) (climb climb' : Climb) → IsOrderly new → (h : HandsUp takes_srb old (on_disk over r) climb new)
-      → asked old.packets h.answers.request.number ≡ r → ClimbsUp (on_disk over r) climb h climb'
+  hands : (locations_below : ℕ) (wanted : List (Option Request)) (r : Request) (climb climb' : Climb) (spot : ℕ)
+      → IsKept locations_below table wanted old → IsOrderly new → (h : HandsUp takes_srb old climb spot new)
+      → h.request ≡ on_disk over r → IsBounded over r → wanted_at wanted spot ≡ Some r
+      → asked old.packets h.answers.request.number ≡ r → ClimbsUp climb spot h climb'
       → BringsRoutine h.packet.cancel_routine climb'
-      → HandsUp takes_srb (view_of table old) r climb' (view_of table new) × GoesOn table old new
-  hands r climb climb' o' h notes climbs brings =
+      → HandsUp takes_srb (shown_of table wanted old) climb' spot (shown_of table wanted new) × IsKept locations_below table wanted new
+  hands locations_below wanted r climb climb' spot kept o' h e bounded is_wanted notes climbs brings =
       let s : Stands old.rules table old.packets old.state = stands table old k o in
       let alike : AreNotedAlike old.packets h.others h.answers.others =
       others_alike h.packet h.others h.answers.request h.answers.others h.is_in h.answers.is_number h.answers.is_open in
       let a : _ × _ × Stands old.rules table h.others h.answered =
       Answers-over old.rules table old.packets old.state h.packet.number h.status h.bytes h.answered h.others s h.answers alike in
       let others_back : All ComesBack h.others = All-tail ComesBack h.packet h.others (All-permutation ComesBack _ _ h.is_in k.packets) in
-      let from : DeviceView = record old { state = h.answered; packets = h.others } in
-      let m : MovesOn table from new h.starts = moves_on table from new h.starts a.2 others_back h.moves (numbered new o') in (
+      let from : DeviceView = record old { state = h.answered; packets = h.others; rooms = new.rooms } in
+      let m : MovesOn table from new h.starts = moves_on table from new h.starts a.2 others_back h.moves (numbered new o') in
+      let below : Reserved = record { request = h.request; whole = h.whole } in
+      let room : SetsRoom (rooms_with wanted old.rooms) spot None (Some (record { request = r; whole = h.whole })) (rooms_with wanted new.rooms) =
+      subst (λ (x : Option Reserved). SetsRoom (rooms_with wanted old.rooms) spot None x (rooms_with wanted new.rooms))
+      (ap (λ (w : Option Request). for_wanted (Some below) w) is_wanted)
+      (rooms_set wanted old.rooms new.rooms spot None (Some below) h.room) in
+      let moves : Moves (record (shown_of table wanted old) {
+        state = on_partitions over h.others h.answered;
+        packets = map packet_above h.others;
+        rooms = rooms_with wanted new.rooms;
+      }) h.starts (shown_of table wanted new) = record {
+        same_rules = m.moves.same_rules;
+        same_packets = m.moves.same_packets;
+        same_rooms = λ k. refl;
+        same_submitted = m.moves.same_submitted;
+        same_most = m.moves.same_most;
+        run = m.moves.run;
+        adapter = m.moves.adapter;
+      } in
+      let goes : GoesOn table old new = record { on_disk = m.goes.on_disk; same_rules = m.goes.same_rules } in
+      let noted : All (IsNotedAt wanted) h.others =
+      All-tail (IsNotedAt wanted) h.packet h.others (All-permutation (IsNotedAt wanted) _ _ h.is_in kept.noted) in (
         record {
+          request = r;
           packet = packet_above h.packet;
+          is_spot = h.is_spot;
+          whole = h.whole;
+          is_whole = h.is_whole;
+          room = room;
           others = map packet_above h.others;
           payload = h.payload;
           status = h.status;
@@ -202,76 +228,72 @@ module _ (table : List Extent) (old new : DeviceView) (takes_srb : Bool) (k : Is
           is_in = IsPermutation-map packet_above _ _ h.is_in;
           answers = a.0;
           is_request = ap (λ (x : OpenRequest). x.request) a.1
-              ∙ ap (λ q. called over (asked old.packets h.answers.request.number) q) h.is_request
+              ∙ ap (λ q. called over (asked old.packets h.answers.request.number) q)
+              (h.is_request ∙ ap (λ (q : Request). as_client old.rules q (sent_bytes q.kind h.payload)) e)
               ∙ ap (λ q. called over q (as_client over r (sent_bytes r.kind h.payload))) notes;
-          moved = λ success. ap (λ (x : OpenRequest). x.marks) a.1 ∙ h.moved success;
+          moved = λ success.
+              ap (λ (x : OpenRequest). x.marks) a.1 ∙ h.moved success ∙ ap (λ (q : Request). map Done (sectors_moved old.rules q h.payload)) e;
           busy = λ one back. h.busy one (subst (λ (x : OpenRequest). All IsBack x.marks) a.1 back);
-          carries = λ busy. carries_up old.rules table s.some_bytes s.whole takes_srb r h.payload (h.carries busy);
-          brings = h.brings;
-          filled = h.filled;
-          empty = h.empty;
+          carries = λ busy.
+              carries_up old.rules table s.some_bytes s.whole takes_srb r h.payload
+              (subst (λ (q : Request). Carries takes_srb old.rules q h.payload) e (h.carries busy));
+          brings = subst (λ (q : Request). q.kind ≡ Read → h.status ≡ Success → payload_bytes h.payload ≡ h.bytes) e h.brings;
+          filled = subst (λ (q : Request). q.kind ≡ Read → h.status ≡ Success → length h.bytes ≡ q.extent.count * old.rules.sector_size) e h.filled;
+          empty = subst (λ (q : Request). q.kind ≡ Flush → payload_bytes h.payload ≡ []) e h.empty;
           climbs =
               climbs_too over old.packets h.answers.request a.0.request (packet_above h.packet).above h.packet.number h.status h.payload
               climb' a.1 climbs;
           brings_routine = brings;
           only_starts = h.only_starts;
-          moves = m.moves;
+          moves = moves;
           started_stay =
               each old.rules table h.others (StaysIfStarted new.state) (StaysIfStarted (view_of table new).state)
               (λ x stays started. open_still table from new h.moves.same_rules h.moves.same_packets (numbered new o') x (stays started))
               h.answered.requests h.started_stay;
           still = h.still;
         },
-        record { on_disk = m.goes.on_disk; same_rules = m.goes.same_rules },
+        kept_with locations_below table wanted wanted old new kept goes o'
+            (rooms_more over wanted wanted old.rooms new.rooms spot below h.room (λ other away. refl) r is_wanted bounded e kept.rooms)
+            (All-permutation (IsNotedAt wanted) _ _ (IsPermutation-sym _ _ h.moves.same_packets) noted),
       )
 
-  pub handed_up : (below r : Request) (climb : Climb) (driver : Driver) (irp : Irp) (climb' : Climb) → climb ≡ Routine driver irp
-      → IsOrderly new
-      → HandsUp takes_srb old below climb new
-      → ((higher : List StackLocation) (own : StackLocation) → HasOwn irp higher own → r ≡ noted_in own)
-      → Climbs (above irp) irp.number irp.cancelled irp.io_status.status irp.io_status.information irp.payload climb'
-      → BringsRoutine (cancel_routine_of irp) climb' → IsHandedUp below r climb'
-  handed_up below r climb driver irp climb' is o' h notes climbs brings =
+  pub handed_up : (locations_below : ℕ) (wanted : List (Option Request)) (climb : Climb) (driver : Driver) (irp : Box Irp) (climb' : Climb)
+      (spot : ℕ) → IsKept locations_below table wanted old → climb ≡ Routine driver irp
+      → IsOrderly new → HandsUp takes_srb old climb spot new
+      → Climbs (above irp.value) irp.value.number irp.value.cancelled irp.value.io_status.status irp.value.io_status.information irp.value.payload climb'
+      → BringsRoutine (cancel_routine_of irp.value) climb'
+      → HandsUp takes_srb (shown_of table wanted old) climb' spot (shown_of table wanted new) × IsKept locations_below table wanted new
+  handed_up locations_below wanted climb driver irp climb' spot kept is o' h climbs brings =
       let s : Stands old.rules table old.packets old.state = stands table old k o in
-      let c : (b : ComesBack h.packet) × CameBackFrom below climb h b = came_back below climb h in
+      let c : (b : ComesBack h.packet) × CameBackFrom climb spot h b = came_back climb spot h in
+      let r : Request = noted_in c.0.own in
       let same : c.1.irp ≡ irp = same_irp driver c.0.own.driver irp c.1.irp (sym is ∙ c.1.climb_is) in
-      let has : HasOwn irp c.0.higher c.0.own = subst (λ (p : Irp). HasOwn p c.0.higher c.0.own) same c.1.has_own in
-      let n : LiesInside over old.packets h.answers.request × (asked old.packets h.answers.request.number ≡ noted_in c.0.own) =
-      noted_request below climb h c.0 in
-      let is_noted : asked old.packets h.answers.request.number ≡ r = n.1 ∙ sym (notes c.0.higher c.0.own has) in
-      let is_below : below ≡ on_disk over r =
-      same_client old.rules below (on_disk over r) _ _ s.some_bytes
-      (sym h.is_request ∙ n.0.is_asked ∙ ap (λ q. as_client over (on_disk over q) h.answers.request.request.bytes) is_noted) in
-      let up_climbs : ClimbsUp below climb h climb' =
-      climbs_as irp c.0.higher (packet_above h.packet).above h.packet.number h.answers.request.cancelled h.status (informed below climb h)
+      let has : HasOwn irp.value c.0.higher c.0.own = subst (λ (p : Box Irp). HasOwn p.value c.0.higher c.0.own) same c.1.has_own in
+      let n : LiesInside over old.packets h.answers.request × (asked old.packets h.answers.request.number ≡ r) =
+      noted_request climb spot h c.0 in
+      let is_below : h.request ≡ on_disk over r =
+      same_client old.rules h.request (on_disk over r) _ _ s.some_bytes
+      (sym h.is_request ∙ n.0.is_asked ∙ ap (λ q. as_client over (on_disk over q) h.answers.request.request.bytes) n.1) in
+      let first : IsNotedAt wanted h.packet = All-head (IsNotedAt wanted) h.packet h.others (All-permutation (IsNotedAt wanted) _ _ h.is_in kept.noted) in
+      let is_wanted : wanted_at wanted spot ≡ Some r =
+      ap (wanted_at wanted) (sym h.is_spot) ∙ first ∙ ap (λ (q : Request). Some q) (noted_at h.packet.above c.0.higher c.0.own c.0.is_last) in
+      let up_climbs : ClimbsUp climb spot h climb' =
+      climbs_as irp.value c.0.higher (packet_above h.packet).above h.packet.number h.answers.request.cancelled h.status (informed climb spot h)
       h.payload climb'
-      (above_is irp c.0.higher c.0.own has)
+      (above_is irp.value c.0.higher c.0.own has)
       (ap (λ (xs : List StackLocation). take (length xs - 1) xs) c.0.is_last ∙ front_is c.0.higher c.0.own)
-      (ap (λ (p : Irp). p.number) (sym same) ∙ c.1.number_is)
-      (ap (λ (p : Irp). p.cancelled) (sym same) ∙ c.1.cancelled_is)
-      (ap (λ (p : Irp). p.io_status.status) (sym same) ∙ c.1.status_is)
-      (ap (λ (p : Irp). p.io_status.information) (sym same) ∙ c.1.information_is)
-      (ap (λ (p : Irp). p.payload) (sym same) ∙ c.1.payload_is) climbs in
+      (ap (λ (p : Box Irp). p.value.number) (sym same) ∙ c.1.number_is)
+      (ap (λ (p : Box Irp). p.value.cancelled) (sym same) ∙ c.1.cancelled_is)
+      (ap (λ (p : Box Irp). p.value.io_status.status) (sym same) ∙ c.1.status_is)
+      (ap (λ (p : Box Irp). p.value.io_status.information) (sym same) ∙ c.1.information_is)
+      (ap (λ (p : Box Irp). p.value.payload) (sym same) ∙ c.1.payload_is) climbs in
       let up_brings : BringsRoutine h.packet.cancel_routine climb' =
       subst (λ q. BringsRoutine q climb') (brings_of climb driver irp h.packet.cancel_routine is h.brings_routine) brings in
-      done below r is_below (subst (λ q. IsBounded over q) is_noted n.0.bounded) h is_noted up_climbs up_brings
+      hands locations_below wanted r climb climb' spot kept o' h is_below (subst (λ q. IsBounded over q) n.1 n.0.bounded) is_wanted n.1 up_climbs up_brings
     where
-      same_irp : (d d' : Driver) (p p' : Irp) → Routine d p ≡ Routine d' p' → p' ≡ p
+      same_irp : (d d' : Driver) (p p' : Box Irp) → Routine d p ≡ Routine d' p' → p' ≡ p
       same_irp d d' p p' e = cc (e)
 
-      brings_of : (climb : Climb) (driver : Driver) (irp : Irp) (routine : Option CancelRoutine) → climb ≡ Routine driver irp
-          → BringsRoutine routine climb → cancel_routine_of irp ≡ routine
+      brings_of : (climb : Climb) (driver : Driver) (irp : Box Irp) (routine : Option CancelRoutine) → climb ≡ Routine driver irp
+          → BringsRoutine routine climb → cancel_routine_of irp.value ≡ routine
       brings_of climb driver irp routine is h = subst (λ x. BringsRoutine routine x) is h
-
-      IsHanded : Request → Request → Type 0
-      IsHanded r q = (h : HandsUp takes_srb old q climb new) → asked old.packets h.answers.request.number ≡ r → ClimbsUp q climb h climb'
-          → BringsRoutine h.packet.cancel_routine climb'
-          → HandsUp takes_srb (view_of table old) r climb' (view_of table new) × GoesOn table old new
-
-      done : (below r : Request) → below ≡ on_disk over r → IsBounded over r → (h : HandsUp takes_srb old below climb new)
-          → asked old.packets h.answers.request.number ≡ r → ClimbsUp below climb h climb' → BringsRoutine h.packet.cancel_routine climb'
-          → IsHandedUp below r climb'
-      done below r e bounded h is_noted up_climbs up_brings =
-          let p : HandsUp takes_srb (view_of table old) r climb' (view_of table new) × GoesOn table old new =
-          subst (IsHanded r) (sym e) (λ h. hands r climb climb' o' h) h is_noted up_climbs up_brings in
-          record { hands = p.0; goes = p.1; bounded = bounded; is_below = e }

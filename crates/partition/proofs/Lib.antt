@@ -5,6 +5,7 @@ pub mod Calls
 pub mod Marking
 pub mod Settled
 pub mod Moving
+pub mod Rooms
 pub mod Hand
 pub mod Submitting
 pub mod Handing

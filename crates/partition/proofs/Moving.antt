@@ -1,5 +1,5 @@
 -- What the layer below does is what the partition driver shows.
-use Rattle.std.proofs.Common.{◌≡◌, inl, inr, ℕ, Bool, true, false, List, [], ◌∷◌, Option, Some, None, refl, sym, ◌∙◌, ap, subst, map, get_or, eqb}
+use Rattle.std.proofs.Common.{◌≡◌, inl, inr, ℕ, Bool, true, false, List, [], ◌∷◌, refl, sym, ◌∙◌, ap, subst, map, get_or, eqb}
 use Rattle.std.specs.Prelude.{All, Any, Contains, IsPermutation, MatchBool, ◌⊎◌}
 use Rattle.std.specs.List.{IsDistinct}
 use Rattle.std.proofs.lemmas.List.Sorted.{IsPermutation-sym, IsPermutation-map, All-permutation, Contains-permutation}
@@ -20,13 +20,13 @@ use Rattle.machine.proofs.Permuting.{flips}
 use Rattle.machine.proofs.Placed.{ArePlaced-FreeStep, ArePlaced-Drains}
 use Rattle.machine.specs.declared.Label.TheVariants.{Cancel, Pause, Resume}
 use Rattle.device.specs.View.{DeviceView, Packet, IsOrderly, packet_number}
-use Rattle.device.specs.Served.{Moves, IsBeside, Reserves, IsFreshOn, ActsOrFaults, ActsNot, Finishes, FinishesNot, Resets, CancelsIfOpen, CancelsAt, IsAt, HasOtherNumber, DrainsAll, PausesAll, ResumesAll, HandsUpNone, AwaitsRestart, IsUnfinished, TakesLabel, NoneToCancel}
+use Rattle.device.specs.Served.{Moves, IsBeside, IsFreshOn, ActsOrFaults, ActsNot, Finishes, FinishesNot, Resets, CancelsIfOpen, CancelsAt, IsAt, HasOtherNumber, DrainsAll, PausesAll, ResumesAll, HandsUpNone, AwaitsRestart, IsUnfinished, NoneToCancel}
 use Rattle.machine.specs.Answering.{HasEnded}
-use Rattle.partition.specs.Noted.{asked}
+use Rattle.partition.specs.inside.Noted.{asked}
 use Rattle.partition.specs.OnDisk.{rules_over}
 use Rattle.partition.specs.Shown.{called, as_called, on_partitions, packet_above, view_of}
 use Rattle.partition.specs.Opening.{IsWholeDisk}
-use Rattle.partition.specs.Kept.{ComesBack, LiesInside, IsOnDisk}
+use Rattle.partition.specs.inside.Kept.{ComesBack, LiesInside, IsOnDisk}
 use Rattle.partition.proofs.Noted.{Contains-map, from_map, asked_same}
 use Rattle.partition.proofs.Steps.{Stands, Run-over, Run-keeps, Keeps, moved, only_array}
 use Rattle.partition.proofs.Alike.{AreNotedAlike, state_alike, lie_alike}
@@ -133,6 +133,7 @@ moves_on table from new labels k back h numbers =
       moves = record {
         same_rules = ap (rules_over table) h.same_rules;
         same_packets = IsPermutation-map packet_above _ _ h.same_packets;
+        same_rooms = h.same_rooms;
         same_submitted = h.same_submitted;
         same_most = h.same_most;
         run = subst (λ t. Run over before (map as_label labels) t) same r.0;
@@ -230,6 +231,7 @@ module _ (table : List Extent) (old new : DeviceView) (k : IsOnDisk table old) (
   beside_over h = record {
     same_rules = ap (rules_over table) h.same_rules;
     same_packets = IsPermutation-map packet_above _ _ h.same_packets;
+    same_rooms = h.same_rooms;
     same_submitted = h.same_submitted;
     same_most = h.same_most;
     same_adapter = h.same_adapter;

@@ -11,7 +11,7 @@ use Rattle.std.proofs.lemmas.List.Sorted.{IsPermutation-refl, Contains-permutati
 use Rattle.irp.specs.declared.StackLocation.{StackLocation}
 use Rattle.machine.proofs.Permuting.{distinct_first}
 use Rattle.device.specs.View.{Packet, packet_number}
-use Rattle.partition.specs.Noted.{noted_in, noted_by, noted_last, asked}
+use Rattle.partition.specs.inside.Noted.{noted_in, noted_by, noted_last, asked}
 
 -- LISTS
 

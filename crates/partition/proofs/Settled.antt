@@ -17,11 +17,11 @@ use Rattle.machine.specs.Holding.{is_lower}
 use Rattle.machine.specs.Numbers.{AreDistinct, IsGiven, HasPlaces, request_number}
 use Rattle.sector.specs.Extents.{sectors_in}
 use Rattle.machine.proofs.Permuting.{flips}
-use Rattle.device.specs.View.{DeviceView, Packet, IsRead, IsSending, WaitsForTag, IsOrderly, packet_number}
+use Rattle.device.specs.View.{DeviceView, Packet, IsRead, IsSending, WaitsForTag, IsOrderly, IsOffRooms, packet_number, packet_spot}
 use Rattle.partition.specs.OnDisk.{rules_over}
 use Rattle.partition.specs.Shown.{as_called, on_partitions, packet_above, view_of}
 use Rattle.partition.specs.Opening.{IsWholeDisk}
-use Rattle.partition.specs.Kept.{IsOnDisk}
+use Rattle.partition.specs.inside.Kept.{IsOnDisk}
 use Rattle.partition.proofs.Noted.{maps_are}
 use Rattle.partition.proofs.Steps.{Stands}
 
@@ -169,6 +169,8 @@ IsOrderly-over table v k o = record {
       subst (λ ns. IsPermutation ns (map request_number (view_of table v).state.requests))
       (sym (maps_are packet_above packet_number packet_number (λ p. refl) v.packets))
       (subst (λ ns. IsPermutation (map packet_number v.packets) ns) (sym (numbers_are v.rules table v.packets v.state.requests)) o.packets);
+  spots = subst (IsDistinct eqb) (sym (maps_are packet_above packet_spot packet_spot (λ p. refl) v.packets)) o.spots;
+  vacant = All-map (IsOffRooms v.rooms) packet_above v.packets (λ i d low. o.vacant i d low);
   sending = IsSending-over v.rules table v.packets v.state o.sending;
   labels = o.labels;
   uncounted = o.uncounted;

@@ -33,11 +33,11 @@ use Rattle.machine.proofs.Placed.{ArePlaced-same, ArePlaced-DeviceStep, leaves, 
 use Rattle.machine.proofs.Owners.{Owns, owns}
 use Rattle.machine_laws.proofs.DiskMap.{count_at, home_at, parts, read_at, write_at, home_inside}
 use Rattle.device.specs.View.{Packet}
-use Rattle.partition.specs.Noted.{asked}
+use Rattle.partition.specs.inside.Noted.{asked}
 use Rattle.partition.specs.OnDisk.{rules_over}
 use Rattle.partition.specs.Shown.{as_called, on_partitions}
 use Rattle.partition.specs.Opening.{IsWholeDisk}
-use Rattle.partition.specs.Kept.{LiesInside}
+use Rattle.partition.specs.inside.Kept.{LiesInside}
 use Rattle.partition.proofs.Noted.{Contains-map}
 
 -- THE SECTORS OF NO PARTITION

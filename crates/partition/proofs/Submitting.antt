@@ -1,41 +1,43 @@
 -- A packet is passed on to the layer below.
-use Rattle.std.proofs.Common.{◌≡◌, ◌<◌, ◌≤◌, ℕ, zero, suc, ◌+◌, ◌-◌, ◌*◌, ◌/◌, ◌^◌, Bool, true, false, List, [], ◌∷◌, ◌++◌, Some, refl, sym, ◌∙◌, ap, subst, arith, add-zero, length, take, ◌==◌, bit_and}
+use Rattle.std.proofs.Common.{◌≡◌, ◌<◌, ◌≤◌, ℕ, zero, suc, Option, None, map, ◌+◌, ◌-◌, ◌*◌, ◌/◌, ◌^◌, Bool, true, false, List, [], ◌∷◌, ◌++◌, Some, refl, sym, ◌∙◌, ap, subst, arith, add-zero, length, take, ◌==◌, bit_and}
 use Rattle.std.specs.Prelude.{All, Contains, if◌then◌else◌}
+use Rattle.std.proofs.lemmas.List.Sorted.{IsPermutation-sym, All-permutation}
 use Rattle.std.proofs.Math.Nat.{mul-div_cancel}
 use Rattle.std.proofs.lemmas.List.Elements.{All-cons, All-head, All-tail}
 use Rattle.sector.specs.declared.Extent.{Extent}
-use Rattle.cdb.specs.Meaning.{Means}
+use Rattle.cdb.specs.Meaning.{IsPlain, Means}
 use Rattle.irp.specs.declared.Irp.{Irp}
 use Rattle.irp.specs.declared.Payload.{Payload}
 use Rattle.irp.specs.declared.Payload.TheVariants.{Buffer, Srb as Packed, Sent as AtAdapter}
 use Rattle.irp.specs.declared.StackLocation.{StackLocation}
 use Rattle.irp.specs.Climb.{above}
 use Rattle.irp.specs.Packet.{HasOwn, KeepsAllButLocations}
-use Rattle.irp.proofs.Returning.{above_is, always_asks}
+use Rattle.device.proofs.Returning.{above_is, always_asks}
 use Rattle.srb.specs.declared.Kind.{Kind}
 use Rattle.srb.specs.declared.Kind.TheVariants.{Read, Write, Flush}
 use Rattle.machine.specs.declared.Request.{Request}
-use Rattle.machine.specs.Rules.{Rules, home, as_client}
+use Rattle.machine.specs.Rules.{Rules, home, as_client, sectors_of}
 use Rattle.machine.specs.Calling.{Opens}
 use Rattle.machine.specs.Sending.{command_for, read_command, write_command}
 use Rattle.machine.specs.Solo.{all_places}
 use Rattle.machine.specs.State.{OpenRequest}
 use Rattle.machine.specs.Numbers.{IsGiven}
 use Rattle.machine.specs.Map.{IsPartition}
-use Rattle.device.specs.View.{DeviceView, Packet, IsOrderly, IsBounded, AsksInLocation, Carries, major_of, packet_of, sent_bytes, whole_command}
-use Rattle.device.specs.Served.{StaysOpen, Submits}
-use Rattle.partition.specs.Noted.{noting, passed_on, kind_in, noted_in, asked}
+use Rattle.device.specs.View.{DeviceView, Packet, IsOrderly, IsBounded, AsksInLocation, Carries, major_of, Reserved, packet_of, request_at, request_of, sent_bytes, whole_command, whole_for}
+use Rattle.device.specs.Served.{Moves, SetsRoom, StaysOpen, Submits}
+use Rattle.partition.specs.inside.Noted.{noting, passed_on, kind_in, noted_in, noted_last, asked}
 use Rattle.partition.specs.OnDisk.{rules_over, on_disk}
-use Rattle.partition.specs.Shown.{called, as_called, on_partitions, packet_above, view_of}
+use Rattle.partition.specs.Shown.{called, as_called, on_partitions, packet_above, view_of, shown_of}
 use Rattle.partition.specs.Opening.{IsWholeDisk}
-use Rattle.partition.specs.declared.PartitionRoom.{PartitionRoom}
-use Rattle.partition.specs.Kept.{ComesBack, IsOnDisk, IsRoom, IsInHand}
+use Rattle.partition.specs.inside.Rooms.{for_wanted, rooms_with}
+use Rattle.partition.specs.inside.Kept.{ComesBack, IsOnDisk, IsKept, IsNotedAt}
 use Rattle.machine_laws.proofs.DiskMap.{count_at, home_at}
 use Rattle.partition.proofs.Noted.{asked_first, asked_behind, noted_at, front_is}
 use Rattle.partition.proofs.Steps.{Stands}
 use Rattle.partition.proofs.Calls.{Opens-over}
 use Rattle.partition.proofs.Settled.{stands, each}
-use Rattle.partition.proofs.Hand.{first_fits}
+use Rattle.partition.proofs.Rooms.{rooms_set}
+use Rattle.partition.proofs.Hand.{IsUnder, kept_with, rooms_less}
 use Rattle.partition.proofs.Moving.{GoesOn, MovesOn, moves_on, numbered, open_still}
 
 -- WHERE A REQUEST BEGINS
@@ -60,6 +62,32 @@ begins_within table v r k o b =
     let few : length v.adapter.sectors ≤ 2 ^ 40 = o.adapter.sectors.1 in
     let same : v.rules.disk_sectors ≡ length v.adapter.sectors = o.read.same_sectors in
     omega arith
+
+-- it ends in the disk
+home_ends : (table : List Extent) (p i n size : ℕ) → p < length table → i + n ≤ count_at table p → All (IsPartition size) table
+    → home_at table p i + n ≤ size
+home_ends [] p i n size known low all = absurd (omega arith)
+home_ends (e ∷ es) zero i n size known low all = inside (All-head (IsPartition size) e es all).inside
+  where
+    inside : e.first + e.count ≤ size → e.first + i + n ≤ size
+    inside h = omega arith
+home_ends (e ∷ es) (suc p) i n size known low all = home_ends es p i n size (omega arith) low (All-tail (IsPartition size) e es all)
+
+-- so it is bounded as a request of the disk
+pub bounded_down : (table : List Extent) (v : DeviceView) (r : Request) → IsOnDisk table v → IsBounded (rules_over table v.rules) r
+    → IsBounded v.rules (on_disk (rules_over table v.rules) r)
+bounded_down table v r k b =
+    let within : home_at table r.volume r.extent.first + r.extent.count ≤ v.rules.disk_sectors =
+    home_ends table r.volume r.extent.first r.extent.count v.rules.disk_sectors b.known b.inside k.partitions.each in
+    let whole : sectors_of v.rules (Some 0) ≡ v.rules.disk_sectors = rw k.whole refl in
+    let one : length v.rules.partitions ≡ 1 = rw k.whole refl in
+    record {
+      known = omega (arith, one);
+      some = b.some;
+      none = b.none;
+      inside = subst (λ (n : ℕ). home (rules_over table v.rules) (Some r.volume) r.extent.first + r.extent.count ≤ n) (sym whole) within;
+      short = b.short;
+    }
 
 -- WHAT A PACKET CARRIES
 
@@ -98,8 +126,10 @@ module _ (below : Rules) (table : List Extent) (some : 0 < below.sector_size) (w
     function = h.function;
     flags = h.flags;
     asks = subst (λ command. Means srb.block command) (sym (same_command r)) h.asks;
+    plain = subst (λ command. IsPlain srb.block command) (sym (same_command r)) h.plain;
     data_length = h.data_length;
     label_length = h.label_length;
+    sense = h.sense;
   }
   carries_down true r (Buffer bytes) h = h
   carries_down true r AtAdapter h = h
@@ -113,8 +143,10 @@ module _ (below : Rules) (table : List Extent) (some : 0 < below.sector_size) (w
     function = h.function;
     flags = h.flags;
     asks = subst (λ command. Means srb.block command) (same_command r) h.asks;
+    plain = subst (λ command. IsPlain srb.block command) (same_command r) h.plain;
     data_length = h.data_length;
     label_length = h.label_length;
+    sense = h.sense;
   }
   carries_up true r (Buffer bytes) h = h
   carries_up true r AtAdapter h = h
@@ -175,6 +207,9 @@ module _ (takes_srb : Bool) (rules : Rules) (r : Request) (irp irp' : Irp) (h : 
     always = λ success cancelled. always_asks success cancelled false (record h.own { major = major_of false r.kind });
   }
 
+  pub noted_of : (spot : ℕ) → noted_last (packet_of irp' spot).above ≡ r
+  noted_of spot = noted_at (above irp') h.higher (noting r.kind h.own) above_below ∙ noted_is takes_srb r irp h
+
   pub asked_of : (spot : ℕ) (packets : List Packet) → asked (packet_of irp' spot ∷ packets) irp'.number ≡ r
   asked_of spot packets =
       asked_first (packet_of irp' spot) packets ∙ noted_at (above irp') h.higher (noting r.kind h.own) above_below
@@ -208,25 +243,22 @@ pub record IsHandedDown (table : List Extent) (v : DeviceView) (takes_srb : Bool
   pub carries : Carries takes_srb (rules_over table v.rules) r irp.payload
   pub passed : IsPassedOn r.kind extent irp irp'
 
-pub handed_down : {R : Type 0} (out : List R → Type 0) (request_of : R → Request) (locations_below : ℕ) (table : List Extent)
-    (v : DeviceView) (takes_srb : Bool)
-    (room : PartitionRoom R) (rooms : List (PartitionRoom R)) (extent : Extent) (irp irp' : Irp)
-    → IsInHand out request_of locations_below table v (room ∷ rooms) → ((rooms : List R) → out rooms → IsOrderly v)
-    → extent ≡ (on_disk_of table v room.request).extent → AsksInLocation takes_srb room.request irp
-    → Carries takes_srb (rules_over table v.rules) room.request irp.payload → IsPassedOn room.request.kind extent irp irp'
-    → IsHandedDown table v takes_srb room.request (request_of room.below) extent irp irp'
-handed_down out request_of locations_below table v takes_srb room rooms extent irp irp' h in_order extent_is asks carries passed =
-    let fits : IsRoom request_of (rules_over table v.rules) room = first_fits out request_of locations_below table v room rooms h in
-    record {
-      on_disk = h.on_disk;
-      orderly = in_order _ h.rooms_below;
-      bounded = fits.bounded;
-      is_below = fits.is_below;
-      extent_is = extent_is;
-      asks = asks;
-      carries = carries;
-      passed = passed;
-    }
+pub handed_down : (locations_below : ℕ) (table : List Extent) (wanted : List (Option Request)) (v : DeviceView) (takes_srb : Bool) (spot : ℕ)
+    (reserved : Reserved) (extent : Extent) (irp irp' : Irp)
+    → IsKept locations_below table wanted v → IsUnder table wanted v spot reserved
+    → extent ≡ (on_disk_of table v reserved.request).extent → AsksInLocation takes_srb reserved.request irp
+    → Carries takes_srb (rules_over table v.rules) reserved.request irp.payload → IsPassedOn reserved.request.kind extent irp irp'
+    → IsHandedDown table v takes_srb reserved.request (request_at v.rooms spot) extent irp irp'
+handed_down locations_below table wanted v takes_srb spot reserved extent irp irp' h u extent_is asks carries passed = record {
+  on_disk = h.on_disk;
+  orderly = h.below;
+  bounded = u.bounded;
+  is_below = ap request_of u.is_room;
+  extent_is = extent_is;
+  asks = asks;
+  carries = carries;
+  passed = passed;
+}
 
 module _ (table : List Extent) (v : DeviceView) (takes_srb : Bool) (r below : Request) (extent : Extent) (irp irp' : Irp)
     (h : IsHandedDown table v takes_srb r below extent irp irp') where
@@ -257,7 +289,7 @@ module _ (table : List Extent) (v : DeviceView) (takes_srb : Bool) (r below : Re
           → StaysOpen (view_of table v').state (as_called over v.packets o)
       one o (given, is_open) =
           let packet : Packet = packet_of irp' spot in
-          let from : DeviceView = record v { state = s.opened; packets = packet ∷ v.packets; submitted = v.submitted + 1 } in
+          let from : DeviceView = record v { state = s.opened; packets = packet ∷ v.packets; rooms = v'.rooms; submitted = v.submitted + 1 } in
           let same : asked (packet ∷ v.packets) o.number ≡ asked v.packets o.number =
           asked_behind packet v.packets o.number (λ e. not_given o given e) in
           subst (λ q. Contains (view_of table v').state.requests (record o { request = called over q o.request })) same
@@ -266,9 +298,10 @@ module _ (table : List Extent) (v : DeviceView) (takes_srb : Bool) (r below : Re
           not_given : (o : OpenRequest) → IsGiven v.state.next_request o → irp'.number ≡ o.number → ⊥
           not_given o given e = let n : v.state.next_request ≤ irp'.number = s.opens.new_number in absurd (omega arith)
 
-  pub submits_over : (v' : DeviceView) (spot : ℕ) → IsOrderly v' → Submits v (packet_of irp' spot) below irp'.payload v'
-      → Submits (view_of table v) (packet_of irp spot) r irp.payload (view_of table v') × GoesOn table v v'
-  submits_over v' spot o' submits =
+  pub submits_over : (locations_below : ℕ) (wanted : List (Option Request)) (v' : DeviceView) (spot : ℕ) → IsKept locations_below table wanted v
+      → IsUnder table wanted v spot (whole_for r) → IsOrderly v' → Submits v (packet_of irp' spot) below irp'.payload v'
+      → Submits (shown_of table wanted v) (packet_of irp spot) r irp.payload (shown_of table wanted v') × IsKept locations_below table wanted v'
+  submits_over locations_below wanted v' spot kept u o' submits =
       let s : Submits v (packet_of irp' spot) (on_disk over r) irp'.payload v' =
       subst (λ q. Submits v (packet_of irp' spot) q irp'.payload v') h.is_below submits in
       let packet : Packet = packet_of irp' spot in
@@ -278,21 +311,46 @@ module _ (table : List Extent) (v : DeviceView) (takes_srb : Bool) (r below : Re
       Opens-over v.rules table v.packets v.state packet r (sent_bytes r.kind irp'.payload) s.opened
       (stands table v h.on_disk h.orderly) s.opens h.bounded h.orderly.uncounted
       (asked_of takes_srb over r irp irp' h.asks passed spot v.packets) in
-      let from : DeviceView = record v { state = s.opened; packets = packet ∷ v.packets; submitted = v.submitted + 1 } in
+      let from : DeviceView = record v { state = s.opened; packets = packet ∷ v.packets; rooms = v'.rooms; submitted = v.submitted + 1 } in
       let m : MovesOn table from v' s.starts =
       moves_on table from v' s.starts opened.1
       (All-cons ComesBack packet v.packets (comes_back takes_srb over r irp irp' h.asks passed spot) h.on_disk.packets) s.moves
       (numbered v' o') in
-      let shown : Submits (view_of table v) (packet_above packet) r irp'.payload (view_of table v') = record {
+      let room : SetsRoom (rooms_with wanted v.rooms) spot (Some (whole_for r)) None (rooms_with wanted v'.rooms) =
+      subst (λ (x : Option Reserved). SetsRoom (rooms_with wanted v.rooms) spot x None (rooms_with wanted v'.rooms))
+      (ap (λ (w : Option Request). for_wanted (Some (whole_for (on_disk over r))) w) u.is_wanted)
+      (rooms_set wanted v.rooms v'.rooms spot (Some (whole_for (on_disk over r))) None s.room) in
+      let moves : Moves (record (shown_of table wanted v) {
+        state = on_partitions over (packet ∷ v.packets) s.opened;
+        packets = packet_above packet ∷ map packet_above v.packets;
+        rooms = rooms_with wanted v'.rooms;
+        submitted = v.submitted + 1;
+      }) s.starts (shown_of table wanted v') = record {
+        same_rules = m.moves.same_rules;
+        same_packets = m.moves.same_packets;
+        same_rooms = λ k. refl;
+        same_submitted = m.moves.same_submitted;
+        same_most = m.moves.same_most;
+        run = m.moves.run;
+        adapter = m.moves.adapter;
+      } in
+      let shown : Submits (shown_of table wanted v) (packet_above packet) r irp'.payload (shown_of table wanted v') = record {
+        room = room;
         opened = on_partitions over (packet ∷ v.packets) s.opened;
         starts = s.starts;
         opens = opened.0;
         only_starts = s.only_starts;
-        moves = m.moves;
+        moves = moves;
         others_stay = others_stay_over v' spot o' s;
-      } in (
-        subst (λ payload. Submits (view_of table v) (packet_of irp spot) r payload (view_of table v')) h.passed.kept.payload
-            (subst (λ q. Submits (view_of table v) q r irp'.payload (view_of table v'))
+      } in
+      let goes : GoesOn table v v' = record { on_disk = m.goes.on_disk; same_rules = m.goes.same_rules } in
+      let noted : All (IsNotedAt wanted) (packet ∷ v.packets) =
+      All-cons (IsNotedAt wanted) packet v.packets
+      (u.is_wanted ∙ ap (λ (q : Request). Some q) (sym (noted_of takes_srb over r irp irp' h.asks passed spot))) kept.noted in (
+        subst (λ payload. Submits (shown_of table wanted v) (packet_of irp spot) r payload (shown_of table wanted v')) h.passed.kept.payload
+            (subst (λ q. Submits (shown_of table wanted v) q r irp'.payload (shown_of table wanted v'))
             (packet_is takes_srb over r irp irp' h.asks passed spot) shown),
-        record { on_disk = m.goes.on_disk; same_rules = m.goes.same_rules },
+        kept_with locations_below table wanted wanted v v' kept goes o'
+            (rooms_less over wanted v.rooms v'.rooms spot (Some (whole_for (on_disk over r))) s.room kept.rooms)
+            (All-permutation (IsNotedAt wanted) _ _ (IsPermutation-sym _ _ s.moves.same_packets) noted),
       )

@@ -18,6 +18,7 @@ pub record IsFreshDisk (table : List Extent) (v : DeviceView) : Type 0 where
   pub partitions : IsMap v.rules.disk_sectors table
   pub state : v.state ≡ opening (map (sectors_in v.adapter.sectors) v.rules.partitions)
   pub packets : v.packets ≡ []
+  pub rooms : v.rooms ≡ []
 
 -- what is shown over it: the machine's opening, with the partitions' sectors of the adapter
 abbrev pub opening_view : List Extent → DeviceView → DeviceView

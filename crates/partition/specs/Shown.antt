@@ -1,5 +1,5 @@
 -- What the partition driver shows: the machine of the disk below, with one array a partition.
-use Rattle.std.specs.Prelude.{ℕ, ◌-◌, ◌*◌, List, Some, map, length, take}
+use Rattle.std.specs.Prelude.{ℕ, ◌-◌, ◌*◌, List, Option, Some, map, length, take}
 use Rattle.sector.specs.declared.Extent.{Extent}
 use Rattle.machine.specs.declared.Request.{Request}
 use Rattle.machine.specs.declared.ClientRequest.{ClientRequest}
@@ -8,8 +8,9 @@ use Rattle.machine.specs.State.{OpenRequest, State}
 use Rattle.machine.specs.Sending.{array_at}
 use Rattle.sector.specs.Extents.{sectors_in}
 use Rattle.device.specs.View.{Packet, DeviceView}
-use Rattle.partition.specs.Noted.{asked}
+use Rattle.partition.specs.inside.Noted.{asked}
 use Rattle.partition.specs.OnDisk.{rules_over}
+use Rattle.partition.specs.inside.Rooms.{with_rooms}
 
 -- a request of the disk as its partition's client called it: on the partition and from the sector that its packet notes
 abbrev pub called : Rules → Request → ClientRequest → ClientRequest
@@ -34,10 +35,14 @@ on_partitions rules packets s = record s {
 abbrev pub packet_above : Packet → Packet
 packet_above packet = record packet { above = take (length packet.above - 1) packet.above }
 
--- all that the partition driver shows over a disk that shows v
+-- the partitions' machine over a disk that shows v, with the rooms of the disk
 abbrev pub view_of : List Extent → DeviceView → DeviceView
 view_of table v = record v {
   rules = rules_over table v.rules;
   state = on_partitions (rules_over table v.rules) v.packets v.state;
   packets = map packet_above v.packets;
 }
+
+-- all that the partition driver shows: each room is for the request that its spot is wanted for
+abbrev pub shown_of : List Extent → List (Option Request) → DeviceView → DeviceView
+shown_of table wanted v = with_rooms wanted (view_of table v)

@@ -1,60 +1,77 @@
 //! The partition driver: one volume for each partition of a disk, over the layer that has the whole disk as its one
 //! volume.
 //!
-//! Promises to the layer above, by the contract of [`Device`]: the machine of the layer below, with one array a partition
-//! (`view_of`), which [`Partitions::new`] opens (`opening`). Sector i of a partition is the disk's sector
+//! Promises to the layer above, by the contract of [`Device`]: the machine of the layer below, with one array a
+//! partition (`shown_of`), which [`Partitions::new`] opens (`opening`). Sector i of a partition is the disk's sector
 //! `first + i` (`on_disk`); requests keep their numbers and their spots. No act changes a sector of another partition
-//! (`acts`) or one of none (`outside`). Each call passes on to the layer below with no search and no memory of its own;
-//! what a packet asked for stands in its stack location, which the driver reads when the packet comes back. Over a
-//! layer that holds requests it is one too ([`device::Hold`]).
+//! (`acts`) or one of none (`outside`). Each call passes on to the layer below with no search. What a spot is reserved
+//! for stands in an array by spots, which `reserve` lengthens; no other call takes memory. Over a layer that holds
+//! requests it is one too ([`device::Hold`]).
 //!
 //! Doesn't promise more than the layer below: that a packet comes back, and in which order.
 #![tactic(auto)]
 
-ghost use Rattle.std.specs.Prelude.{◌≡◌, ◌<◌, []};
+ghost use Rattle.std.specs.Prelude.{◌≡◌, ◌<◌};
 ghost use Rattle.partition.specs.Opening.{IsFreshDisk, opening_view};
 
 mod layer;
 mod locations;
+mod wanted;
 
 use arrayvec::ArrayVec;
-use device::{Device, Request};
+use device::{Device, Request, Shown};
 use sector::Extent;
+use std::alloc::Global;
+use std::marker::Model;
 
-/// Places for one request of a partition: those of the layer below, for the same sectors of the disk.
+/// The layer below with its partitions, which are in order between two calls and not within one.
 #[derive(Drop)]
-pub struct PartitionRoom<R: Drop> {
-    request: Request,
-    below: R,
-}
-
-/// The partitions of a disk.
-pub struct Partitions<D: Drop> {
+struct Parts<D: Shown> {
     device: D,
     /// In table order.
     table: ArrayVec<Extent, 4>,
+    /// By spots, the request that the spot was last reserved for.
+    wanted: Vec<Option<Request>>,
+}
+
+/// The partitions of a disk.
+pub struct Partitions<D: Shown> {
+    parts: Parts<D>,
 }
 
 // By hand, so that no crate above proves it again, as it would a derived one.
-impl<D: Drop> Drop for Partitions<D> {
+impl<D: Shown> Drop for Partitions<D> {
     fn drop(self) {
-        let Partitions {
-            device: _,
-            table: _,
-        } = self;
+        let Partitions { parts: _ } = self;
     }
 }
 
+impl<D: Shown> Model for Partitions<D> {
+    ghost use Rattle.device.specs.View.{DeviceView};
+    ghost use Rattle.partition.specs.Shown.{shown_of};
+    ghost use Rattle.partition.specs.inside.Kept.{IsKept};
+
+    ghost Value = { DeviceView };
+
+    ghost view = { λ s. shown_of s.parts.table.items s.parts.wanted.items (D.view s.parts.device) };
+
+    ghost invariant = { λ s. IsKept D.stack_size s.parts.table.items s.parts.wanted.items (D.view s.parts.device) };
+}
+
 impl<D: Device> Partitions<D> {
-    /// The partitions of a table, each a volume by its number in the table, over a disk of which nothing was asked yet. The
-    /// extents lie in the disk, behind its first sector, and share no sector.
-    pub fn new(device: D, table: ArrayVec<Extent, 4>) -> Partitions<D>
-        requires in_order { D.rooms_out device [] }
-        requires locations { 0 < D.STACK_SIZE }
+    /// The partitions of a table, each a volume by its number in the table, over a disk of which nothing was asked yet.
+    /// The extents lie in the disk, behind its first sector, and share no sector.
+    pub fn new(alloc: Global, device: D, table: ArrayVec<Extent, 4>) -> Partitions<D>
+        requires locations { 0 < D.stack_size }
         requires fresh { IsFreshDisk table.items (D.view device) }
-        ensures rooms { ⟦<Partitions<D> as Device>⟧.rooms_out result [] }
-        ensures opening { ⟦<Partitions<D> as Device>⟧.view result ≡ opening_view table.items (D.view device) }
+        ensures opening { result ≡ opening_view table.items (D.view device) }
     {
-        Partitions { device, table }
+        device.shows_order();
+        let parts = Parts {
+            device,
+            table,
+            wanted: Vec::new(alloc),
+        };
+        Partitions { parts }
     }
 }

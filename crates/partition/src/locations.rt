@@ -1,26 +1,15 @@
-// The stack locations of a packet: the partition driver's own, where it notes what it was asked for, and the next driver's.
+// The stack locations of a packet: the partition driver's own, where it notes what it was asked for, and the next
+// driver's.
 ghost use Rattle.std.specs.Prelude.{◌≡◌, ◌<◌, ◌+◌, false, List, [], ◌∷◌, ◌++◌};
 ghost use Rattle.arrayvec.specs.ArrayVec.{array_vec_len};
 ghost use Rattle.irp.specs.declared.StackLocation.{StackLocation};
 ghost use Rattle.irp.specs.Packet.{HasOwn, KeepsAllButLocations};
 ghost use Rattle.irp.specs.Climb.{above};
-ghost use Rattle.partition.specs.Noted.{noting, passed_on, kind_in, noted_in};
+ghost use Rattle.partition.specs.inside.Noted.{noting, passed_on};
 
-use bitflags::Flags;
-use device::{Kind, Request, major_for};
-use irp::{Control, Driver, Irp, LocationFlags, MajorFunction, StackLocation};
+use device::{Kind, major_for};
+use irp::{Control, Driver, Irp, StackLocation};
 use sector::Extent;
-
-/// The kind of request that a function asks for.
-fn kind_of(function: MajorFunction) -> Kind
-    ensures { result ≡ kind_in function }
-{
-    match function {
-        MajorFunction::Read => Kind::Read,
-        MajorFunction::Write => Kind::Write,
-        _ => Kind::Flush,
-    }
-}
 
 /// The last location of a packet.
 fn own_location(irp: &Irp) -> StackLocation
@@ -33,9 +22,9 @@ fn own_location(irp: &Irp) -> StackLocation
     *own
 }
 
-/// Passes a packet on to the next driver, for this extent of the disk. The partition driver notes the kind of the request in
-/// its own location, since a packet with an SRB comes with a function that doesn't tell it, and has its routine called
-/// whatever the outcome (WDK: IoSetCompletionRoutine).
+/// Passes a packet on to the next driver, for this extent of the disk. The partition driver notes the kind of the
+/// request in its own location, since a packet with an SRB comes with a function that doesn't tell it, and has its
+/// routine called whatever the outcome (WDK: IoSetCompletionRoutine).
 pub fn pass_on(irp: &mut Irp, kind: Kind, extent: Extent)
     requires own { 0 < array_vec_len irp.old.locations }
     requires place { array_vec_len irp.old.locations < 4 }
@@ -58,18 +47,4 @@ pub fn pass_on(irp: &mut Irp, kind: Kind, extent: Extent)
         extent,
         ..own
     });
-}
-
-/// The request that the partition driver noted in its own location, the packet's last.
-pub fn noted(irp: &Irp) -> Request
-    requires { 0 < array_vec_len irp.now.locations }
-    ensures { (higher : List StackLocation) (own : StackLocation) → HasOwn irp.now higher own → result ≡ noted_in own }
-{
-    let own = own_location(irp);
-    Request {
-        volume: own.volume,
-        kind: kind_of(own.major),
-        extent: own.extent,
-        through: own.flags.contains(LocationFlags::WRITE_THROUGH),
-    }
 }

@@ -1,6 +1,7 @@
 -- What is booked of a piece stays the adapter's.
-use Rattle.std.proofs.Common.{◌≡◌, ℕ, ◌==◌, Bool, true, false, List, ◌++◌, length, map, Option, Result, Ok, Err, refl, sym, ap, subst, ◌∙◌, arith, if◌then◌else◌}
+use Rattle.std.proofs.Common.{◌≡◌, ℕ, eqb, ◌==◌, Bool, true, false, List, ◌++◌, length, map, Option, Result, Ok, Err, refl, sym, ap, subst, ◌∙◌, arith, if◌then◌else◌}
 use Rattle.std.specs.Prelude.{All}
+use Rattle.std.specs.List.{IsDistinct}
 use Rattle.std.proofs.lemmas.List.{length-map}
 use Rattle.std.proofs.lemmas.List.Elements.{All-map, All-weaker}
 use Rattle.std.proofs.lemmas.Bool.Decides.{Decides-eqb}
@@ -11,19 +12,19 @@ use Rattle.srb.specs.declared.Entry.{Entry as Booked}
 use Rattle.srb.specs.declared.Completion.{Completion}
 use Rattle.srb.specs.Fate.{Fate, Fresh, Acted, Faulted}
 use Rattle.adapter.specs.View.{AdapterView, TagInUse, IsInOrder}
-use Rattle.adapter.specs.Booking.{Books, IsBookable, with_booked, booked_on, with_booking}
+use Rattle.adapter.specs.Booking.{Books, with_booked, booked_on, with_booking}
 use Rattle.adapter.proofs.Booked.{IsAsLong, all_as_long, booked_same}
 use Rattle.irp.specs.declared.Payload.TheVariants.{Srb as Packed}
 use Rattle.machine.specs.declared.Request.{Request}
 use Rattle.machine.specs.Rules.{Rules, as_client}
 use Rattle.machine.specs.State.{OpenRequest, Piece, State}
 use Rattle.machine.specs.Numbers.{AreDistinct}
-use Rattle.device.specs.View.{AsksFor, sent_bytes}
+use Rattle.device.specs.View.{sent_bytes}
 use Rattle.device.specs.Served.{BooksPiece}
 use Rattle.port.specs.declared.queues.Held.{Held}
-use Rattle.port.specs.Books.{Entry, Books as Queues}
-use Rattle.port.specs.Shown.{rules_of, entry_on, waiting_open, done_open, out_open, out_piece, open_on, piece_on, packet, of_packets, of_waiting, of_tag, of_done, requests_of, packets_of, state_of, view_of}
-use Rattle.port.specs.Kept.{asked, PortKept, IsInHand, IsRoom, IsWaiting, IsAtWork, IsDoing}
+use Rattle.port.specs.inside.Books.{Entry, Books as Queues, spot_in}
+use Rattle.port.specs.Shown.{rules_of, entry_on, waiting_open, done_open, open_on, piece_on, packet, of_packets, of_waiting, of_tag, of_done, requests_of, state_of, view_of}
+use Rattle.port.specs.inside.Kept.{asked, PortKept, IsInHand, IsRoom, IsWaiting, IsAtWork, IsDoing, IsTaken}
 use Rattle.port.proofs.Starting.{room_moves, waiting_moves}
 use Rattle.port.proofs.Orderly.{in_hand, maps_are}
 
@@ -57,7 +58,7 @@ entry_same f started (Ok entry) u = refl
 entry_same f started (Err completion) u = refl
 
 doing_same : (rules : Rules) (r : Request) (fate : Fate) (entry : Booked) (srb : Srb) → length entry.bytes ≡ length srb.data → IsDoing rules r fate srb → IsDoing rules r fate (record srb { for_label = entry.bytes })
-doing_same rules r Fresh entry srb long h = record { function = h.function; flags = h.flags; asks = h.asks; data_length = h.data_length; label_length = long ∙ h.data_length }
+doing_same rules r Fresh entry srb long h = record { function = h.function; flags = h.flags; asks = h.asks; plain = h.plain; data_length = h.data_length; label_length = long ∙ h.data_length; sense = h.sense }
 doing_same rules r (Acted moved) entry srb long h = h
 doing_same rules r Faulted entry srb long h = h
 
@@ -113,6 +114,8 @@ module _ (b : Queues) (v : AdapterView) (tag : ℕ) (what : What) where
         ended = k.ended;
         reserved = subst (All (IsRoom rules v')) (sym (packets_same asked)) (All-weaker (IsRoom rules v) (IsRoom rules v') (room_moves rules v v' (λ extent r. r)) (of_packets asked b v) k.reserved);
         rooms_out = All-weaker (IsRoom rules v) (IsRoom rules v') (room_moves rules v v' (λ extent r. r)) rooms k.rooms_out;
+        spots = subst (IsDistinct eqb) (sym (packets_same spot_in)) k.spots;
+        taken = subst (All (IsTaken b.rooms)) (sym (packets_same spot_in)) k.taken;
         removing = k.removing;
         distinct = subst AreDistinct (sym state_same) k.distinct;
         places = let c = k.places in omega arith;

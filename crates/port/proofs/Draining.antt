@@ -20,10 +20,11 @@ use Rattle.port.specs.declared.queues.Held.{Held}
 use Rattle.port.specs.declared.queues.Ended.{Ended}
 use Rattle.port.specs.declared.queues.Outcome.{Outcome}
 use Rattle.port.specs.declared.queues.Outcome.TheVariants.{Returned, Withdrawn, Gone}
-use Rattle.port.specs.Books.{Entry, Books, entry_of, ended_entry}
-use Rattle.port.specs.Turns.{gone, drained, cancelled, is_cancellable, Withdraws}
+use Rattle.port.specs.inside.Books.{Entry, Books, entry_of, ended_entry, spot_in}
+use Rattle.port.specs.inside.Turns.{gone, drained, cancelled, is_cancellable, Withdraws}
 use Rattle.port.specs.Shown.{rules_of, waiting_open, done_open, open_on, packet as packet_as, of_packets, of_waiting, of_tag, of_done, state_of, view_of, requests_of}
-use Rattle.port.specs.Kept.{asked, PortKept, IsInHand, IsRoom, IsWaiting, IsEmptyIfFlush, IsBefore, AreInTurn, HasEnded, HasOutcome}
+use Rattle.port.specs.inside.Kept.{asked, PortKept, IsInHand, IsRoom, IsWaiting, IsEmptyIfFlush, IsBefore, AreInTurn, HasEnded, HasOutcome, IsTaken}
+use Rattle.port.proofs.Places.{distinct_same}
 use Rattle.port.proofs.Lists.{last_front}
 use Rattle.port.proofs.Sizing.{carries_empty}
 use Rattle.port.proofs.Returning.{done_is}
@@ -71,7 +72,7 @@ ended_at_removal rules removing d h = record { bounded = h.bounded; why = by_out
     by_outcome Gone h = refl
 
 gone_ended : (rules : Rules) (v : AdapterView) (held : Held) → IsWaiting rules v held → HasEnded rules true (gone held)
-gone_ended rules v held w = record { bounded = w.room.bounded; why = refl; empty = carries_empty rules held.request held.irp.payload w.carries }
+gone_ended rules v held w = record { bounded = w.room.bounded; why = refl; empty = carries_empty rules held.request held.irp.value.payload w.carries }
 
 kept_drained : (b : Books) (v : AdapterView) (rooms : List Request) → PortKept b v rooms → PortKept (drained b) v rooms
 kept_drained b v rooms k =
@@ -91,6 +92,8 @@ kept_drained b v rooms k =
           (All-weaker (HasEnded rules b.removing) (HasEnded rules true) (ended_at_removal rules b.removing) b.done k.ended)
           (All-map (HasEnded rules true) gone b.waiting (All-weaker (IsWaiting rules v) (λ h. HasEnded rules true (gone h)) (gone_ended rules v) b.waiting k.waiting));
       reserved = All-permutation (IsRoom rules v) _ _ (IsPermutation-sym _ _ (packets_drained asked b v)) k.reserved;
+      spots = distinct_same _ _ (IsPermutation-sym _ _ (packets_drained spot_in b v)) k.spots;
+      taken = All-permutation (IsTaken b.rooms) _ _ (IsPermutation-sym _ _ (packets_drained spot_in b v)) k.taken;
       rooms_out = k.rooms_out;
       removing = λ _. refl;
       distinct = AreDistinct-same _ _ same (record { requests = k.distinct.requests; given = k.distinct.given; pieces = k.distinct.pieces; sent = k.distinct.sent });
@@ -107,7 +110,7 @@ hand_drained b b' v rooms e i = subst (λ x. IsInHand x v rooms) (sym e) (in_han
 pub drains_all : (b b' : Books) (v : AdapterView) → b' ≡ drained b → DrainsAll (view_of b v) (view_of b' v)
 drains_all b b' v e = subst (λ x. DrainsAll (view_of b v) (view_of x v)) (sym e) (record {
   drains = drains b v;
-  beside = record { same_rules = refl; same_packets = packets_drained packet_as b v; same_submitted = refl; same_most = refl; same_adapter = refl };
+  beside = record { same_rules = refl; same_packets = packets_drained packet_as b v; same_rooms = λ _. refl; same_submitted = refl; same_most = refl; same_adapter = refl };
 })
 
 -- WHO CAN BE CANCELLED
@@ -144,14 +147,14 @@ books_withdrawn b waiting withdrawn = record b { waiting = waiting; done = b.don
 
 module _ (b : Books) (v : AdapterView) (number : ℕ) (before : List Held) (held : Held) (behind : List Held) (withdrawn : Ended)
     (waits : b.waiting ≡ before ++ held ∷ behind) (can : is_cancellable number (entry_of held) ≡ true) (same_entry : ended_entry withdrawn ≡ cancelled (entry_of held))
-    (carries : withdrawn.irp.payload ≡ held.irp.payload) (ends : withdrawn.outcome ≡ Withdrawn) where
+    (carries : withdrawn.irp.value.payload ≡ held.irp.value.payload) (ends : withdrawn.outcome ≡ Withdrawn) where
   front : IsPermutation b.waiting (held ∷ (before ++ behind))
   front = subst (λ hs. IsPermutation hs (held ∷ (before ++ behind))) (sym waits) (IsPermutation-middle before held behind)
 
   withdraw_cancels : Cancels (state_of b v) number (state_of (books_withdrawn b (before ++ behind) withdrawn) v)
   withdraw_cancels =
       let rules : Rules = rules_of b.sizes in
-      let is : done_open rules withdrawn ≡ as_cancelled (waiting_open rules held) = done_is rules withdrawn (cancelled (entry_of held)) held.irp.payload Withdrawn same_entry carries ends in
+      let is : done_open rules withdrawn ≡ as_cancelled (waiting_open rules held) = done_is rules withdrawn (cancelled (entry_of held)) held.irp.value.payload Withdrawn same_entry carries ends in
       let more : map (done_open rules) (b.done ++ withdrawn ∷ []) ≡ map (done_open rules) b.done ++ done_open rules withdrawn ∷ [] = map-append (done_open rules) b.done (withdrawn ∷ []) in
       record {
         request = waiting_open rules held;
@@ -204,9 +207,11 @@ module _ (b : Books) (v : AdapterView) (number : ℕ) (before : List Held) (held
           bounded = subst (λ (e : Entry). IsBounded rules e.request) (sym same_entry) w.room.bounded;
           why = subst (HasOutcome rules b.removing withdrawn) (sym ends) (ap (λ (e : Entry). e.cancelled) same_entry);
           empty = subst (λ (p : Payload). IsEmptyIfFlush withdrawn.request (payload_bytes p)) (sym carries)
-              (subst (λ (e : Entry). IsEmptyIfFlush e.request (payload_bytes held.irp.payload)) (sym same_entry) (carries_empty rules held.request held.irp.payload w.carries));
+              (subst (λ (e : Entry). IsEmptyIfFlush e.request (payload_bytes held.irp.value.payload)) (sym same_entry) (carries_empty rules held.request held.irp.value.payload w.carries));
         });
         reserved = All-permutation (IsRoom rules v) _ _ (IsPermutation-sym _ _ (packets_withdrawn asked (λ e. refl))) k.reserved;
+        spots = distinct_same _ _ (IsPermutation-sym _ _ (packets_withdrawn spot_in (λ e. refl))) k.spots;
+        taken = All-permutation (IsTaken b.rooms) _ _ (IsPermutation-sym _ _ (packets_withdrawn spot_in (λ e. refl))) k.taken;
         rooms_out = k.rooms_out;
         removing = λ r. absurd (not_empty (k.removing r));
         distinct = AreDistinct-Step rules (state_of b v) (Cancel number) _ k.distinct (inl (refl, withdraw_cancels));
@@ -220,7 +225,7 @@ module _ (b : Books) (v : AdapterView) (number : ℕ) (before : List Held) (held
   withdrawn_fields : IsCancelled b v number (books_withdrawn b (before ++ behind) withdrawn)
   withdrawn_fields = record {
     rooms = λ rooms i. in_hand (books_withdrawn b (before ++ behind) withdrawn) v rooms (kept_withdrawn rooms i.kept) (λ free. absurd (not_empty (i.busy free)));
-    cancels = record { one_of = inl (withdraw_cancels, record { same_rules = refl; same_packets = packets_withdrawn packet_as (λ e. refl); same_submitted = refl; same_most = refl; same_adapter = refl }) };
+    cancels = record { one_of = inl (withdraw_cancels, record { same_rules = refl; same_packets = packets_withdrawn packet_as (λ e. refl); same_rooms = λ _. refl; same_submitted = refl; same_most = refl; same_adapter = refl }) };
   }
 
 pub cancelled_waiting : (b b' : Books) (v : AdapterView) (number : ℕ) → Withdraws b number b' → IsCancelled b v number b'

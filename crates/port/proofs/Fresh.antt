@@ -1,5 +1,5 @@
 -- A port of which nothing was asked yet.
-use Rattle.std.proofs.Common.{◌≡◌, ◌≤◌, ℕ, Bool, false, List, [], refl, sym, subst, ap, ◌∙◌, arith, length, map}
+use Rattle.std.proofs.Common.{◌≡◌, ◌≤◌, ℕ, Bool, false, List, [], Option, eqb, refl, sym, subst, ap, ◌∙◌, arith, length, map}
 use Rattle.std.proofs.lemmas.List.Elements.{All-nil}
 use Rattle.srb.specs.declared.DeviceLabel.{DeviceLabel}
 use Rattle.adapter.specs.View.{AdapterView, TagInUse, IsInOrder}
@@ -9,16 +9,18 @@ use Rattle.machine.specs.Rules.{Rules}
 use Rattle.sector.specs.Extents.{sectors_in}
 use Rattle.machine.proofs.Numbers.{AreDistinct-opening}
 use Rattle.port.specs.declared.queues.Sizes.{Sizes}
-use Rattle.port.specs.Books.{Books}
-use Rattle.port.specs.Turns.{IsEmpty}
+use Rattle.port.specs.inside.Books.{Books}
+use Rattle.port.specs.inside.Turns.{IsEmpty}
 use Rattle.port.specs.Shown.{rules_of, view_of}
-use Rattle.port.specs.Kept.{IsInHand, IsRoom, IsWaiting, IsAtWork, HasEnded}
+use Rattle.port.specs.inside.Kept.{IsInHand, IsRoom, IsWaiting, IsAtWork, HasEnded, IsTaken}
+use Rattle.std.specs.List.{IsDistinct}
+use Rattle.machine.specs.declared.Request.{Request}
 use Rattle.port.specs.Opening.{IsFresh, sizes_of, opening_view}
 use Rattle.port.proofs.Orderly.{in_hand}
 
 -- the books of empty queues over this adapter
 abbrev books_empty : Books → Sizes → Books
-books_empty b sizes = record b { sizes = sizes; waiting = []; done = []; last_request = 0; next_piece = 1; submitted = 0; removing = false; places = 0 }
+books_empty b sizes = record b { sizes = sizes; waiting = []; done = []; last_request = 0; next_piece = 1; submitted = 0; removing = false; places = 0; rooms = [] }
 
 empty_is : (b : Books) (sizes : Sizes) → IsEmpty sizes b → b ≡ books_empty b sizes
 empty_is b sizes h =
@@ -30,6 +32,11 @@ empty_is b sizes h =
     ∙ ap (λ (x : ℕ). record b { sizes = sizes; waiting = []; done = []; last_request = 0; next_piece = 1; submitted = x }) h.submitted
     ∙ ap (λ (x : Bool). record b { sizes = sizes; waiting = []; done = []; last_request = 0; next_piece = 1; submitted = 0; removing = x }) h.removing
     ∙ ap (λ (x : ℕ). record b { sizes = sizes; waiting = []; done = []; last_request = 0; next_piece = 1; submitted = 0; removing = false; places = x }) h.places
+    ∙ ap (λ (x : List (Option (Option Request))). record b { sizes = sizes; waiting = []; done = []; last_request = 0; next_piece = 1; submitted = 0; removing = false; places = 0; rooms = x }) h.rooms
+
+distinct_none : IsDistinct eqb []
+unfolding IsDistinct
+distinct_none = tt
 
 abbrev view_fresh : AdapterView → AdapterView
 view_fresh v = record v { tags = []; labels = [] }
@@ -54,6 +61,8 @@ hand_empty b v few long order =
       ended = All-nil (HasEnded rules false);
       reserved = All-nil (IsRoom rules (view_fresh v));
       rooms_out = All-nil (IsRoom rules (view_fresh v));
+      spots = distinct_none;
+      taken = All-nil (IsTaken []);
       removing = λ _. refl;
       distinct = AreDistinct-opening (map (sectors_in v.sectors) rules.partitions);
       places = refl;

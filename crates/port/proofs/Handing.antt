@@ -1,5 +1,5 @@
 -- A packet that has ended is handed up; where there is none, the port is settled.
-use Rattle.std.proofs.Common.{◌≡◌, ◌≢◌, ◌<◌, ◌≤◌, inl, inr, ℕ, zero, suc, ◌*◌, ◌^◌, Bool, true, false, List, [], ◌∷◌, ◌++◌, refl, sym, subst, ap, ◌∙◌, arith, map, length, get_or, replicate}
+use Rattle.std.proofs.Common.{◌≡◌, ◌≢◌, ◌<◌, ◌≤◌, inl, inr, ℕ, zero, suc, ◌*◌, ◌^◌, Bool, true, false, List, [], ◌∷◌, ◌++◌, refl, sym, subst, ap, ◌∙◌, arith, map, length, get_or, replicate, Option, Some, None}
 use Rattle.std.specs.Prelude.{◌↔◌, if◌then◌else◌, All, IsTrue, IsPermutation}
 use Rattle.std.specs.List.{list_all}
 use Rattle.std.proofs.lemmas.List.{length-map, nil_from_length}
@@ -9,8 +9,8 @@ use Rattle.ntstatus.specs.declared.NtStatus.{NtStatus}
 use Rattle.ntstatus.specs.declared.NtStatus.TheVariants.{Success, DeviceBusy, Cancelled, NoSuchDevice, DeletePending}
 use Rattle.srb.specs.declared.Class.TheVariants.{Good, Busy, Bad}
 use Rattle.adapter.specs.View.{AdapterView, TagInUse}
-use Rattle.irp.specs.declared.Climb.{Climb}
-use Rattle.irp.specs.Climb.{Climbs, BringsRoutine}
+use Rattle.device.specs.declared.climbing.Climb.{Climb}
+use Rattle.device.specs.Climbing.{Climbs, BringsRoutine}
 use Rattle.irp.specs.declared.Payload.{Payload}
 use Rattle.srb.specs.declared.Kind.TheVariants.{Read}
 use Rattle.machine.specs.declared.Request.{Request}
@@ -31,10 +31,11 @@ use Rattle.port.specs.declared.queues.Held.{Held}
 use Rattle.port.specs.declared.queues.Ended.{Ended}
 use Rattle.port.specs.declared.queues.Outcome.{Outcome}
 use Rattle.port.specs.declared.queues.Outcome.TheVariants.{Returned, Withdrawn, Gone}
-use Rattle.port.specs.Books.{Entry, Books, entry, ended_entry}
-use Rattle.port.specs.Turns.{TakesDone, TakesNone}
+use Rattle.port.specs.inside.Books.{Entry, Books, entry, ended_entry, spot_in}
+use Rattle.port.specs.inside.Turns.{TakesDone, TakesNone, SetsSlot}
 use Rattle.port.specs.Shown.{rules_of, places_of, marks_left, busy_left, status_left, waiting_open, done_open, open_on, piece_on, entry_or_nobody, packet as packet_as, of_packets, of_waiting, of_tag, of_done, state_of, view_of, requests_of}
-use Rattle.port.specs.Kept.{asked, PortKept, IsInHand, IsRoom, IsWaiting, HasOutcome, HasEnded as HasEndedBy, IsAtWork as IsOnTag}
+use Rattle.port.specs.inside.Kept.{asked, PortKept, IsInHand, IsRoom, IsWaiting, HasOutcome, HasEnded as HasEndedBy, IsAtWork as IsOnTag, IsTaken}
+use Rattle.port.proofs.Places.{distinct_same, distinct_left, taken_left, sets_room}
 use Rattle.port.proofs.Lists.{all_done, bytes_done}
 use Rattle.adapter.proofs.Joining.{reserves_none}
 use Rattle.port.proofs.Sizing.{places_some, bytes_short}
@@ -101,7 +102,7 @@ module _ (b : Books) (v : AdapterView) (rooms : List Request) (k : IsInHand b v 
         idle = λ e. subst (All IsHeld) (sym (no_requests e)) (All-nil IsHeld);
         idle_unpaused = λ e _. no_requests e;
         cancelled = all_three b v WaitsIfCancelled
-            (λ i d low is. true_false (get_or b.waiting i d).irp.cancelled is (k.kept.waiting i d low).not_cancelled)
+            (λ i d low is. true_false (get_or b.waiting i d).irp.value.cancelled is (k.kept.waiting i d low).not_cancelled)
             (λ i d low is. out_has i d low) (no_done (λ d. WaitsIfCancelled (done_open rules d)));
         removing = λ removes. all_three b v Waits
             (λ i d low. true_false b.removing removes (stays_by b.removing b.waiting i low k.kept.removing))
@@ -176,27 +177,27 @@ handed_alike rules s o r payload status mark are some waits cause fails carries 
   busy = λ all. told (back_first mark (places_of rules r) some (subst (All IsBack) are all));
 }
 
-handed : (rules : Rules) (s : State) (o : OpenRequest) (d : Ended) (outcome : Outcome) → rules.busy_limit ≤ 1 → 0 < places_of rules d.request → o.late ≡ false → o.cancelled ≡ d.irp.cancelled
-    → o.marks ≡ marks_left rules d.request d.irp.payload outcome → o.busy_returns ≡ busy_left outcome → HasOutcome rules s.removing d outcome → IsHanded rules s o d.request d.irp.payload (status_left outcome)
+handed : (rules : Rules) (s : State) (o : OpenRequest) (d : Ended) (outcome : Outcome) → rules.busy_limit ≤ 1 → 0 < places_of rules d.request → o.late ≡ false → o.cancelled ≡ d.irp.value.cancelled
+    → o.marks ≡ marks_left rules d.request d.irp.value.payload outcome → o.busy_returns ≡ busy_left outcome → HasOutcome rules s.removing d outcome → IsHanded rules s o d.request d.irp.value.payload (status_left outcome)
 handed rules s o d (Returned Good) limit some timely same are busy why = record {
-  ended = subst (All (HasEnded rules s o)) (sym are) (All-map (HasEnded rules s o) Done (sectors_moved rules d.request d.irp.payload) (λ k x low. inl refl));
-  success = (λ _. subst (λ ms. list_all is_done ms ≡ true) (sym are) (all_done (sectors_moved rules d.request d.irp.payload)), λ _. refl);
-  cause = subst (λ ms. HasCause rules s o ms Success) (sym are) (cause_done rules s o (sectors_moved rules d.request d.irp.payload) Success);
+  ended = subst (All (HasEnded rules s o)) (sym are) (All-map (HasEnded rules s o) Done (sectors_moved rules d.request d.irp.value.payload) (λ k x low. inl refl));
+  success = (λ _. subst (λ ms. list_all is_done ms ≡ true) (sym are) (all_done (sectors_moved rules d.request d.irp.value.payload)), λ _. refl);
+  cause = subst (λ ms. HasCause rules s o ms Success) (sym are) (cause_done rules s o (sectors_moved rules d.request d.irp.value.payload) Success);
   carries = λ e. absurd (cc (e));
   brings = λ is _. sym (rw (is, are, all_done, bytes_done) why.0);
   filled = λ is _. why.1 is;
   moved = λ _. are;
-  busy = λ all. absurd (none_back (sectors_moved rules d.request d.irp.payload) (subst (λ n. 0 < n) (sym (length-cut (places_of rules d.request) rules.sector_size (payload_bytes d.irp.payload))) some) (subst (All IsBack) are all));
+  busy = λ all. absurd (none_back (sectors_moved rules d.request d.irp.value.payload) (subst (λ n. 0 < n) (sym (length-cut (places_of rules d.request) rules.sector_size (payload_bytes d.irp.value.payload))) some) (subst (All IsBack) are all));
 }
 handed rules s o d (Returned Busy) limit some timely same are busy why =
-    handed_alike rules s o d.request d.irp.payload DeviceBusy Back are some refl (inr (omega arith, refl)) (λ e. absurd (cc (e))) (λ _. why) (λ _. refl)
+    handed_alike rules s o d.request d.irp.value.payload DeviceBusy Back are some refl (inr (omega arith, refl)) (λ e. absurd (cc (e))) (λ _. why) (λ _. refl)
 handed rules s o d (Returned (Bad completion)) limit some timely same are busy why =
     let b = bad_status completion why in
-    handed_alike rules s o d.request d.irp.payload (status_of_completion completion) (Failed (status_of_completion completion)) are some refl refl b.0 (λ e. absurd (b.1 e)) (λ e. absurd (cc (e)))
+    handed_alike rules s o d.request d.irp.value.payload (status_of_completion completion) (Failed (status_of_completion completion)) are some refl refl b.0 (λ e. absurd (b.1 e)) (λ e. absurd (cc (e)))
 handed rules s o d Withdrawn limit some timely same are busy why =
-    handed_alike rules s o d.request d.irp.payload Cancelled Untouched are some refl (inl (same ∙ why, refl)) (λ e. absurd (cc (e))) (λ e. absurd (cc (e))) (λ e. absurd (cc (e)))
+    handed_alike rules s o d.request d.irp.value.payload Cancelled Untouched are some refl (inl (same ∙ why, refl)) (λ e. absurd (cc (e))) (λ e. absurd (cc (e))) (λ e. absurd (cc (e)))
 handed rules s o d Gone limit some timely same are busy why =
-    handed_alike rules s o d.request d.irp.payload NoSuchDevice Untouched are some refl (inr (why, late_is o.late timely)) (λ e. absurd (cc (e))) (λ e. absurd (cc (e))) (λ e. absurd (cc (e)))
+    handed_alike rules s o d.request d.irp.value.payload NoSuchDevice Untouched are some refl (inr (why, late_is o.late timely)) (λ e. absurd (cc (e))) (λ e. absurd (cc (e))) (λ e. absurd (cc (e)))
   where
     late_is : (late : Bool) → late ≡ false → NoSuchDevice ≡ (if late then DeletePending else NoSuchDevice)
     late_is true e = absurd (cc (e))
@@ -206,27 +207,27 @@ handed rules s o d Gone limit some timely same are busy why =
 pub third_front : {X : Type 0} (first second third : List X) (x : X) → IsPermutation (first ++ (second ++ x ∷ third)) (x ∷ (first ++ (second ++ third)))
 third_front first second third x = IsPermutation-trans _ _ _ (IsPermutation-append_right first _ _ (IsPermutation-middle second x third)) (IsPermutation-middle first x (second ++ third))
 
-abbrev books_left : Books → List Ended → Books
-books_left b rest = record b { done = rest }
+abbrev books_left : Books → List Ended → List (Option (Option Request)) → Books
+books_left b rest slots = record b { done = rest; rooms = slots }
 
-open_left : (b : Books) (v : AdapterView) (d : Ended) (rest : List Ended) → b.done ≡ d ∷ rest → IsPermutation (requests_of b v) (done_open (rules_of b.sizes) d ∷ requests_of (books_left b rest) v)
-open_left b v d rest is =
+open_left : (b : Books) (v : AdapterView) (d : Ended) (rest : List Ended) (slots : List (Option (Option Request))) → b.done ≡ d ∷ rest → IsPermutation (requests_of b v) (done_open (rules_of b.sizes) d ∷ requests_of (books_left b rest slots) v)
+open_left b v d rest slots is =
     let rules : Rules = rules_of b.sizes in
-    subst (λ (ds : List Ended). IsPermutation (map (waiting_open rules) b.waiting ++ (map (open_on rules b.started) v.tags ++ map (done_open rules) ds)) (done_open rules d ∷ requests_of (books_left b rest) v)) (sym is)
+    subst (λ (ds : List Ended). IsPermutation (map (waiting_open rules) b.waiting ++ (map (open_on rules b.started) v.tags ++ map (done_open rules) ds)) (done_open rules d ∷ requests_of (books_left b rest slots) v)) (sym is)
     (third_front (map (waiting_open rules) b.waiting) (map (open_on rules b.started) v.tags) (map (done_open rules) rest) (done_open rules d))
 
-packets_left : {Y : Type 0} (f : Entry → Y) (b : Books) (v : AdapterView) (d : Ended) (rest : List Ended) → b.done ≡ d ∷ rest → IsPermutation (of_packets f b v) (f (ended_entry d) ∷ of_packets f (books_left b rest) v)
-packets_left f b v d rest is =
-    subst (λ (ds : List Ended). IsPermutation (map (of_waiting f) b.waiting ++ (map (of_tag f b.started) v.tags ++ map (of_done f) ds)) (f (ended_entry d) ∷ of_packets f (books_left b rest) v)) (sym is)
+packets_left : {Y : Type 0} (f : Entry → Y) (b : Books) (v : AdapterView) (d : Ended) (rest : List Ended) (slots : List (Option (Option Request))) → b.done ≡ d ∷ rest → IsPermutation (of_packets f b v) (f (ended_entry d) ∷ of_packets f (books_left b rest slots) v)
+packets_left f b v d rest slots is =
+    subst (λ (ds : List Ended). IsPermutation (map (of_waiting f) b.waiting ++ (map (of_tag f b.started) v.tags ++ map (of_done f) ds)) (f (ended_entry d) ∷ of_packets f (books_left b rest slots) v)) (sym is)
     (third_front (map (of_waiting f) b.waiting) (map (of_tag f b.started) v.tags) (map (of_done f) rest) (f (ended_entry d)))
 
-answers_left : (b : Books) (v : AdapterView) (rooms : List Request) (d : Ended) (rest : List Ended) → PortKept b v rooms → b.done ≡ d ∷ rest
-    → IsHanded (rules_of b.sizes) (state_of b v) (done_open (rules_of b.sizes) d) d.request d.irp.payload (status_left d.outcome)
-    → Answers (rules_of b.sizes) (state_of b v) d.irp.number (status_left d.outcome) (answer_bytes d.request.kind (marks_left (rules_of b.sizes) d.request d.irp.payload d.outcome)) (state_of (books_left b rest) v)
-answers_left b v rooms d rest k is h = record {
+answers_left : (b : Books) (v : AdapterView) (rooms : List Request) (d : Ended) (rest : List Ended) (slots : List (Option (Option Request))) → PortKept b v rooms → b.done ≡ d ∷ rest
+    → IsHanded (rules_of b.sizes) (state_of b v) (done_open (rules_of b.sizes) d) d.request d.irp.value.payload (status_left d.outcome)
+    → Answers (rules_of b.sizes) (state_of b v) d.irp.value.number (status_left d.outcome) (answer_bytes d.request.kind (marks_left (rules_of b.sizes) d.request d.irp.value.payload d.outcome)) (state_of (books_left b rest slots) v)
+answers_left b v rooms d rest slots k is h = record {
   request = done_open (rules_of b.sizes) d;
-  others = requests_of (books_left b rest) v;
-  is_open = open_left b v d rest is;
+  others = requests_of (books_left b rest slots) v;
+  is_open = open_left b v d rest slots is;
   is_number = refl;
   ended = h.ended;
   success = h.success;
@@ -235,18 +236,18 @@ answers_left b v rooms d rest k is h = record {
   after = IsSame-refl _;
 }
 
-is_handed : (b : Books) (v : AdapterView) (rooms : List Request) (d : Ended) (rest : List Ended) → PortKept b v rooms → b.done ≡ d ∷ rest
-    → IsHanded (rules_of b.sizes) (state_of b v) (done_open (rules_of b.sizes) d) d.request d.irp.payload (status_left d.outcome)
-is_handed b v rooms d rest k is =
+is_handed : (b : Books) (v : AdapterView) (rooms : List Request) (d : Ended) (rest : List Ended) (slots : List (Option (Option Request))) → PortKept b v rooms → b.done ≡ d ∷ rest
+    → IsHanded (rules_of b.sizes) (state_of b v) (done_open (rules_of b.sizes) d) d.request d.irp.value.payload (status_left d.outcome)
+is_handed b v rooms d rest slots k is =
     let rules : Rules = rules_of b.sizes in
     let e : HasEndedBy rules b.removing d = All-head (HasEndedBy rules b.removing) d rest (subst (All (HasEndedBy rules b.removing)) is k.ended) in
     handed rules (state_of b v) (done_open rules d) d d.outcome (omega arith) (places_some b.sizes d.request (kept_sector_some b v rooms k) e.bounded) refl refl refl refl e.why
 
-kept_left : (b : Books) (v : AdapterView) (rooms : List Request) (d : Ended) (rest : List Ended) → PortKept b v rooms → b.done ≡ d ∷ rest → PortKept (books_left b rest) v (d.request ∷ rooms)
+kept_left : (b : Books) (v : AdapterView) (rooms : List Request) (d : Ended) (rest : List Ended) (slots : List (Option (Option Request))) → PortKept b v rooms → b.done ≡ d ∷ rest → SetsSlot b.rooms d.spot (Some None) (Some (Some d.request)) slots → PortKept (books_left b rest slots) v (d.request ∷ rooms)
 unfolding answers_left
-kept_left b v rooms d rest k is =
+kept_left b v rooms d rest slots k is slot =
     let rules : Rules = rules_of b.sizes in
-    let all : All (IsRoom rules v) (d.request ∷ of_packets asked (books_left b rest) v) = All-permutation (IsRoom rules v) _ _ (packets_left asked b v d rest is) k.reserved in
+    let all : All (IsRoom rules v) (d.request ∷ of_packets asked (books_left b rest slots) v) = All-permutation (IsRoom rules v) _ _ (packets_left asked b v d rest slots is) k.reserved in
     let l = ap (λ (ds : List Ended). length ds) is in
     record {
       adapter = k.adapter;
@@ -258,9 +259,12 @@ kept_left b v rooms d rest k is =
       ended = All-tail (HasEndedBy rules b.removing) d rest (subst (All (HasEndedBy rules b.removing)) is k.ended);
       reserved = All-tail (IsRoom rules v) d.request _ all;
       rooms_out = All-cons (IsRoom rules v) d.request rooms (All-head (IsRoom rules v) d.request _ all) k.rooms_out;
+      spots = distinct_left d.spot (of_packets spot_in (books_left b rest slots) v) (distinct_same _ _ (packets_left spot_in b v d rest slots is) k.spots);
+      taken = taken_left b.rooms d.spot (Some (Some d.request)) slots slot (of_packets spot_in (books_left b rest slots) v)
+          (distinct_same _ _ (packets_left spot_in b v d rest slots is) k.spots) (All-permutation (IsTaken b.rooms) _ _ (packets_left spot_in b v d rest slots is) k.taken);
       removing = k.removing;
-      distinct = AreDistinct-Step rules (state_of b v) (Answer d.irp.number (status_left d.outcome) (information (done_open rules d).request (status_left d.outcome)) (answer_bytes d.request.kind (marks_left rules d.request d.irp.payload d.outcome))) _ k.distinct
-          (inl (refl, record { answers = answers_left b v rooms d rest k is (is_handed b v rooms d rest k is); informs = refl }));
+      distinct = AreDistinct-Step rules (state_of b v) (Answer d.irp.value.number (status_left d.outcome) (information (done_open rules d).request (status_left d.outcome)) (answer_bytes d.request.kind (marks_left rules d.request d.irp.value.payload d.outcome))) _ k.distinct
+          (inl (refl, record { answers = answers_left b v rooms d rest slots k is (is_handed b v rooms d rest slots k is); informs = refl }));
       places = let c = k.places in omega arith;
       submitted = k.submitted;
       accepted = k.accepted;
@@ -269,42 +273,47 @@ kept_left b v rooms d rest k is =
     }
 
 pub hand_left : (b b' : Books) (v : AdapterView) (d : Ended) → TakesDone b d b' → (rooms : List Request) → IsInHand b v rooms → IsInHand b' v (d.request ∷ rooms)
-hand_left b b' v d h rooms k = subst (λ x. IsInHand x v (d.request ∷ rooms)) (sym h.after) (in_hand (books_left b h.rest) v (d.request ∷ rooms) (kept_left b v rooms d h.rest k.kept h.is_front) k.busy)
+hand_left b b' v d h rooms k = subst (λ x. IsInHand x v (d.request ∷ rooms)) (sym h.after) (in_hand (books_left b h.rest b'.rooms) v (d.request ∷ rooms) (kept_left b v rooms d h.rest b'.rooms k.kept h.is_front h.slot) k.busy)
 
 -- the status and the information are as they were computed
 pub hands_up : (b b' : Books) (v : AdapterView) (rooms : List Request) (d : Ended) (status : NtStatus) (bytes_moved : ℕ) (climb : Climb) → IsInHand b v rooms → TakesDone b d b'
     → status ≡ status_left d.outcome → ((rules : Rules) → rules.sector_size ≡ b'.sizes.sector_size → bytes_moved ≡ information (as_client rules d.request []) status)
-    → Climbs (entry d.irp d.request d.spot).above d.irp.number d.irp.cancelled status bytes_moved d.irp.payload climb → BringsRoutine (entry d.irp d.request d.spot).cancel_routine climb → HandsUp true (view_of b v) d.request climb (view_of b' v)
+    → Climbs (entry d.irp.value d.request d.spot).above d.irp.value.number d.irp.value.cancelled status bytes_moved d.irp.value.payload climb → BringsRoutine (entry d.irp.value d.request d.spot).cancel_routine climb → HandsUp true (view_of b v) climb d.spot (view_of b' v)
 unfolding answers_left
 hands_up b b' v rooms d status bytes_moved climb k h status_is moved_is climbs brings =
     let rules : Rules = rules_of b.sizes in
-    let x = is_handed b v rooms d h.rest k.kept h.is_front in
-    subst (λ (y : Books). HandsUp true (view_of b v) d.request climb (view_of y v)) (sym h.after) (record {
+    let x = is_handed b v rooms d h.rest b'.rooms k.kept h.is_front in
+    subst (λ (y : Books). HandsUp true (view_of b v) climb d.spot (view_of y v)) (sym h.after) (record {
+      request = d.request;
+      is_spot = refl;
+      whole = true;
+      is_whole = λ _. refl;
+      room = sets_room b.rooms d.spot (Some None) (Some (Some d.request)) b'.rooms h.slot;
       packet = packet_as (ended_entry d);
-      others = of_packets packet_as (books_left b h.rest) v;
-      payload = d.irp.payload;
+      others = of_packets packet_as (books_left b h.rest b'.rooms) v;
+      payload = d.irp.value.payload;
       status = status_left d.outcome;
-      bytes = answer_bytes d.request.kind (marks_left rules d.request d.irp.payload d.outcome);
-      answered = state_of (books_left b h.rest) v;
+      bytes = answer_bytes d.request.kind (marks_left rules d.request d.irp.value.payload d.outcome);
+      answered = state_of (books_left b h.rest b'.rooms) v;
       starts = [];
-      is_in = packets_left packet_as b v d h.rest h.is_front;
-      answers = answers_left b v rooms d h.rest k.kept h.is_front x;
+      is_in = packets_left packet_as b v d h.rest b'.rooms h.is_front;
+      answers = answers_left b v rooms d h.rest b'.rooms k.kept h.is_front x;
       is_request = refl;
       moved = x.moved;
       busy = λ _. x.busy;
       carries = x.carries;
       brings = x.brings;
       filled = λ is succeeds.
-          let long : length (payload_bytes d.irp.payload) ≡ transfer_length rules d.request = x.filled is succeeds in
+          let long : length (payload_bytes d.irp.value.payload) ≡ transfer_length rules d.request = x.filled is succeeds in
           let whole : transfer_length rules d.request ≡ d.request.extent.count * rules.sector_size = rw is refl in
           ap (λ (bytes : List ℕ). length bytes) (sym (x.brings is succeeds)) ∙ long ∙ whole;
       empty = (All-head (HasEndedBy rules b.removing) d h.rest (subst (All (HasEndedBy rules b.removing)) h.is_front k.kept.ended)).empty;
-      climbs = subst (λ (st : NtStatus). Climbs (entry d.irp d.request d.spot).above d.irp.number d.irp.cancelled st (information (as_client rules d.request []) st) d.irp.payload climb) status_is
-          (subst (λ (n : ℕ). Climbs (entry d.irp d.request d.spot).above d.irp.number d.irp.cancelled status n d.irp.payload climb) (subst (λ (y : Books). bytes_moved ≡ information (as_client (rules_of y.sizes) d.request []) status) h.after (moved_is (rules_of b'.sizes) refl)) climbs);
+      climbs = subst (λ (st : NtStatus). Climbs (entry d.irp.value d.request d.spot).above d.irp.value.number d.irp.value.cancelled st (information (as_client rules d.request []) st) d.irp.value.payload climb) status_is
+          (subst (λ (n : ℕ). Climbs (entry d.irp.value d.request d.spot).above d.irp.value.number d.irp.value.cancelled status n d.irp.value.payload climb) (subst (λ (y : Books). bytes_moved ≡ information (as_client (rules_of y.sizes) d.request []) status) h.after (moved_is (rules_of b'.sizes) refl)) climbs);
       brings_routine = brings;
       only_starts = All-nil IsStart;
-      moves = record { same_rules = refl; same_packets = IsPermutation-refl _; same_submitted = refl; same_most = refl; run = IsSame-refl _; adapter = reserves_none v };
-      started_stay = λ i o low started. All-contains_itself (requests_of (books_left b h.rest) v) i o low;
+      moves = record { same_rules = refl; same_packets = IsPermutation-refl _; same_rooms = λ _. refl; same_submitted = refl; same_most = refl; run = IsSame-refl _; adapter = reserves_none v };
+      started_stay = λ i o low started. All-contains_itself (requests_of (books_left b h.rest b'.rooms) v) i o low;
       still = λ window. (refl, refl);
     })
 

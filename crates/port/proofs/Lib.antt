@@ -19,3 +19,7 @@ pub mod Fresh
 pub mod Queued
 pub mod Spots
 pub mod Booking
+mod Places
+mod Spoiling
+mod Sound
+mod Seeing

@@ -22,11 +22,12 @@ use Rattle.port.specs.declared.queues.Held.{Held}
 use Rattle.port.specs.declared.queues.Ended.{Ended}
 use Rattle.port.specs.declared.queues.Outcome.{Outcome}
 use Rattle.port.specs.declared.queues.Outcome.TheVariants.{Returned, Withdrawn, Gone}
-use Rattle.port.specs.Books.{Entry, Books, entry_of, ended_entry}
-use Rattle.port.specs.Turns.{held_on, cancelled, is_cancellable, CannotCancelHeld, CannotCancelOn, WithdrawsNot, CancelsOn, CancelsEnded, CancelsNoEnded}
-use Rattle.port.specs.Cancelling.{CancelsAt, CancelsNotAt, CancelsNoStarted}
+use Rattle.port.specs.inside.Books.{Entry, Books, entry_of, ended_entry, spot_in}
+use Rattle.port.specs.inside.Turns.{held_on, cancelled, is_cancellable, CannotCancelHeld, CannotCancelOn, WithdrawsNot, CancelsOn, CancelsEnded, CancelsNoEnded}
+use Rattle.port.specs.inside.Cancelling.{CancelsAt, CancelsNotAt, CancelsNoStarted}
 use Rattle.port.specs.Shown.{rules_of, waiting_open, done_open, out_open, out_piece, open_on, entry_on, entry_or_nobody, packet as packet_as, of_packets, of_waiting, of_tag, of_done, state_of, view_of, requests_of}
-use Rattle.port.specs.Kept.{asked, PortKept, IsInHand, IsRoom, IsEmptyIfFlush, IsAtWork, IsDoing, HasEnded, HasOutcome}
+use Rattle.port.specs.inside.Kept.{asked, PortKept, IsInHand, IsRoom, IsEmptyIfFlush, IsAtWork, IsDoing, HasEnded, HasOutcome, IsTaken}
+use Rattle.port.proofs.Places.{distinct_same}
 use Rattle.port.proofs.Lists.{second_front, last_front}
 use Rattle.port.proofs.Tags.{others_same, others_apart}
 use Rattle.port.proofs.Starting.{work_beside}
@@ -120,6 +121,8 @@ module _ (b : Books) (v : AdapterView) (number tag : ℕ) (use' : TagInUse) (oth
             (λ i d below. work_beside rules b.started tag (Some marked) _ (apart i d below) (rest i d below)));
         ended = h.ended;
         reserved = All-permutation (IsRoom rules v) _ _ (IsPermutation-sym _ _ (packets_marked asked (λ e. refl))) h.reserved;
+        spots = distinct_same _ _ (IsPermutation-sym _ _ (packets_marked spot_in (λ e. refl))) h.spots;
+        taken = All-permutation (IsTaken b.rooms) _ _ (IsPermutation-sym _ _ (packets_marked spot_in (λ e. refl))) h.taken;
         rooms_out = h.rooms_out;
         removing = h.removing;
         distinct = AreDistinct-Step rules (state_of b v) (Cancel number) _ h.distinct (inl (refl, mark_cancels));
@@ -133,7 +136,7 @@ module _ (b : Books) (v : AdapterView) (number tag : ℕ) (use' : TagInUse) (oth
   marked_fields : IsCancelled b v number (books_marked b tag marked)
   marked_fields = record {
     rooms = λ rooms i. in_hand (books_marked b tag marked) v rooms (kept_marked rooms i.kept) i.busy;
-    cancels = record { one_of = inl (mark_cancels, record { same_rules = refl; same_packets = packets_marked packet_as (λ e. refl); same_submitted = refl; same_most = refl; same_adapter = refl }) };
+    cancels = record { one_of = inl (mark_cancels, record { same_rules = refl; same_packets = packets_marked packet_as (λ e. refl); same_rooms = λ _. refl; same_submitted = refl; same_most = refl; same_adapter = refl }) };
   }
 
 pub cancelled_out : (b b' : Books) (v : AdapterView) (rooms : List Request) (number tag : ℕ) → IsInHand b v rooms → Any (HasTag tag) v.tags → CancelsOn b tag number b' → IsCancelled b v number b'
@@ -148,7 +151,7 @@ books_ended b done marked = record b { done = done ++ marked ∷ [] }
 
 module _ (b : Books) (v : AdapterView) (number : ℕ) (before : List Ended) (ended : Ended) (behind : List Ended) (marked : Ended)
     (is_done : b.done ≡ before ++ ended ∷ behind) (can : is_cancellable number (ended_entry ended) ≡ true) (same_entry : ended_entry marked ≡ cancelled (ended_entry ended))
-    (carries : marked.irp.payload ≡ ended.irp.payload) (ends : marked.outcome ≡ ended.outcome) where
+    (carries : marked.irp.value.payload ≡ ended.irp.value.payload) (ends : marked.outcome ≡ ended.outcome) where
   front : IsPermutation b.done (ended ∷ (before ++ behind))
   front = subst (λ ds. IsPermutation ds (ended ∷ (before ++ behind))) (sym is_done) (IsPermutation-middle before ended behind)
 
@@ -163,7 +166,7 @@ module _ (b : Books) (v : AdapterView) (number : ℕ) (before : List Ended) (end
   end_cancels : Cancels (state_of b v) number (state_of (books_ended b (before ++ behind) marked) v)
   end_cancels =
       let rules : Rules = rules_of b.sizes in
-      let is : done_open rules marked ≡ as_cancelled (done_open rules ended) = done_is rules marked (cancelled (ended_entry ended)) ended.irp.payload ended.outcome same_entry carries ends in
+      let is : done_open rules marked ≡ as_cancelled (done_open rules ended) = done_is rules marked (cancelled (ended_entry ended)) ended.irp.value.payload ended.outcome same_entry carries ends in
       let rest : List OpenRequest = map (waiting_open rules) b.waiting ++ (map (open_on rules b.started) v.tags ++ map (done_open rules) (before ++ behind)) in
       record {
         request = done_open rules ended;
@@ -201,8 +204,8 @@ module _ (b : Books) (v : AdapterView) (number : ℕ) (before : List Ended) (end
       by_outcome (Returned Good) h =
           let P : Request → Payload → Type 0 =
           λ r p. (concat (sectors_moved rules r p) ≡ payload_bytes p) × (r.kind ≡ Read → length (payload_bytes p) ≡ transfer_length rules r) in
-          subst (λ p. P marked.request p) (sym carries) (subst (λ r. P r ended.irp.payload) (sym request_is) h)
-      by_outcome (Returned Busy) h = subst (λ p. Carries true rules marked.request p) (sym carries) (subst (λ r. Carries true rules r ended.irp.payload) (sym request_is) h)
+          subst (λ p. P marked.request p) (sym carries) (subst (λ r. P r ended.irp.value.payload) (sym request_is) h)
+      by_outcome (Returned Busy) h = subst (λ p. Carries true rules marked.request p) (sym carries) (subst (λ r. Carries true rules r ended.irp.value.payload) (sym request_is) h)
       by_outcome (Returned (Bad completion)) h = h
       by_outcome Withdrawn h = ap (λ (e : Entry). e.cancelled) same_entry
       by_outcome Gone h = h
@@ -225,9 +228,11 @@ module _ (b : Books) (v : AdapterView) (number : ℕ) (before : List Ended) (end
           bounded = subst (λ (x : Entry). IsBounded rules x.request) (sym same_entry) e.bounded;
           why = subst (HasOutcome rules b.removing marked) (sym ends) (why_marked rules b.removing ended.outcome e.why);
           empty = subst (λ (p : Payload). IsEmptyIfFlush marked.request (payload_bytes p)) (sym carries)
-              (subst (λ (x : Entry). IsEmptyIfFlush x.request (payload_bytes ended.irp.payload)) (sym same_entry) e.empty);
+              (subst (λ (x : Entry). IsEmptyIfFlush x.request (payload_bytes ended.irp.value.payload)) (sym same_entry) e.empty);
         });
         reserved = All-permutation (IsRoom rules v) _ _ (IsPermutation-sym _ _ (packets_ended asked (λ e. refl))) k.reserved;
+        spots = distinct_same _ _ (IsPermutation-sym _ _ (packets_ended spot_in (λ e. refl))) k.spots;
+        taken = All-permutation (IsTaken b.rooms) _ _ (IsPermutation-sym _ _ (packets_ended spot_in (λ e. refl))) k.taken;
         rooms_out = k.rooms_out;
         removing = k.removing;
         distinct = AreDistinct-Step rules (state_of b v) (Cancel number) _ k.distinct (inl (refl, end_cancels));
@@ -241,7 +246,7 @@ module _ (b : Books) (v : AdapterView) (number : ℕ) (before : List Ended) (end
   ended_fields : IsCancelled b v number (books_ended b (before ++ behind) marked)
   ended_fields = record {
     rooms = λ rooms i. in_hand (books_ended b (before ++ behind) marked) v rooms (kept_ended rooms i.kept) i.busy;
-    cancels = record { one_of = inl (end_cancels, record { same_rules = refl; same_packets = packets_ended packet_as (λ e. refl); same_submitted = refl; same_most = refl; same_adapter = refl }) };
+    cancels = record { one_of = inl (end_cancels, record { same_rules = refl; same_packets = packets_ended packet_as (λ e. refl); same_rooms = λ _. refl; same_submitted = refl; same_most = refl; same_adapter = refl }) };
   }
 
 pub cancelled_ended : (b b' : Books) (v : AdapterView) (number : ℕ) → CancelsEnded b number b' → IsCancelled b v number b'

@@ -47,12 +47,12 @@ true_false false h k = absurd (cc (h))
 
 -- what ended was started, or cancelled, or waited at a removal
 pub ended_started : (rules : Rules) (d : Ended) → 0 < places_of rules d.request
-    → (d.outcome ≡ Withdrawn → IsTrue d.irp.cancelled) → (d.outcome ≡ Gone → ⊥) → d.irp.cancelled ≡ false → is_started (done_open rules d) ≡ true
+    → (d.outcome ≡ Withdrawn → IsTrue d.irp.value.cancelled) → (d.outcome ≡ Gone → ⊥) → d.irp.value.cancelled ≡ false → is_started (done_open rules d) ≡ true
 ended_started rules d some withdrawn stays timely = by_outcome d.outcome refl
   where
-    by_outcome : (outcome : Outcome) → d.outcome ≡ outcome → not (list_all is_untouched (marks_left rules d.request d.irp.payload d.outcome)) ≡ true
-    by_outcome (Returned Good) is = rw is (done_started (sectors_moved rules d.request d.irp.payload) (rw length-cut some))
+    by_outcome : (outcome : Outcome) → d.outcome ≡ outcome → not (list_all is_untouched (marks_left rules d.request d.irp.value.payload d.outcome)) ≡ true
+    by_outcome (Returned Good) is = rw is (done_started (sectors_moved rules d.request d.irp.value.payload) (rw length-cut some))
     by_outcome (Returned Busy) is = rw is (started_by _ Back _ some refl refl)
     by_outcome (Returned (Bad completion)) is = rw is (started_by _ (Failed _) _ some refl refl)
-    by_outcome Withdrawn is = true_false d.irp.cancelled (withdrawn is) timely
+    by_outcome Withdrawn is = true_false d.irp.value.cancelled (withdrawn is) timely
     by_outcome Gone is = absurd (stays is)

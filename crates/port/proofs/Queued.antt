@@ -1,5 +1,5 @@
 -- The queue of the packets that wait: what its calls mean for the packets.
-use Rattle.std.proofs.Common.{◌≡◌, ◌≢◌, ℕ, Bool, true, false, List, [], ◌∷◌, ◌++◌, map, refl, sym, subst, ap, ◌∙◌}
+use Rattle.std.proofs.Common.{◌≡◌, ◌≢◌, ℕ, arith, length, Bool, true, false, List, [], ◌∷◌, ◌++◌, map, refl, sym, subst, ap, ◌∙◌}
 use Rattle.std.specs.Prelude.{All, MatchBool, IsFalse}
 use Rattle.std.proofs.lemmas.Bool.{eq-eqb}
 use Rattle.std.proofs.lemmas.List.{map-append}
@@ -10,13 +10,13 @@ use Rattle.port.specs.declared.queues.Waiting.{Waiting}
 use Rattle.port.specs.declared.queues.Held.{Held}
 use Rattle.port.specs.declared.queues.Ended.{Ended}
 use Rattle.port.specs.declared.queues.Outcome.TheVariants.{Withdrawn}
-use Rattle.port.specs.Books.{Books, entry_of, ended_entry, held_at}
-use Rattle.port.specs.Turns.{cancelled, is_cancellable, CannotCancelHeld, IsUncancelled, IsPacked, Withdraws, WithdrawsNot, WithdrawsAt, WithdrawsNotAt, IsNotAt}
+use Rattle.port.specs.inside.Books.{Books, entry_of, ended_entry, held_at}
+use Rattle.port.specs.inside.Turns.{cancelled, is_cancellable, CannotCancelHeld, IsUncancelled, IsPacked, Withdraws, WithdrawsNot, WithdrawsAt, WithdrawsNotAt, IsNotAt}
 use Rattle.port.proofs.Draining.{can_facts}
 
 -- the number of a packet that waits
 abbrev pub waiting_number : Waiting → ℕ
-waiting_number w = w.irp.number
+waiting_number w = w.irp.value.number
 
 -- the packets of the entries
 abbrev pub packets_in : Queue Waiting → List Held
@@ -39,11 +39,11 @@ withdrawn_none b b' q q' spot number is h after = record {
 }
 
 -- a packet of the number that is not cancelled yet can be
-can_cancel : (number : ℕ) (held : Held) → held.irp.number ≡ number → IsUncancelled held → is_cancellable number (entry_of held) ≡ true
-can_cancel number held same timely = let equal = eq-eqb held.irp.number number same in rw (equal, timely) refl
+can_cancel : (number : ℕ) (held : Held) → held.irp.value.number ≡ number → IsUncancelled held → is_cancellable number (entry_of held) ≡ true
+can_cancel number held same timely = let equal = eq-eqb held.irp.value.number number same in rw (equal, timely) refl
 
 pub withdrawn : (b b' : Books) (q q' : Queue Waiting) (spot number : ℕ) (item : Waiting) (ended : Ended) (done' : List Ended) → b.waiting ≡ packets_in q → All IsUncancelled b.waiting → RemovesNumber waiting_number q spot number item q'
-    → ended_entry ended ≡ cancelled (entry_of (held_at (spot, item))) → ended.irp.payload ≡ item.irp.payload → ended.outcome ≡ Withdrawn → done' ≡ b.done ++ ended ∷ [] → b' ≡ record b { waiting = packets_in q'; done = done' }
+    → ended_entry ended ≡ cancelled (entry_of (held_at (spot, item))) → ended.irp.value.payload ≡ item.irp.value.payload → ended.outcome ≡ Withdrawn → done' ≡ b.done ++ ended ∷ [] → b' ≡ record b { waiting = packets_in q'; done = done' }
     → WithdrawsAt b spot number b'
 withdrawn b b' q q' spot number item ended done' is timely h entry carries ends more after =
     let r = h.removes in
@@ -70,7 +70,7 @@ withdrawn b b' q q' spot number item ended done' is timely h entry carries ends 
 
 -- THE SEARCH BY NUMBER
 
-cannot : (number : ℕ) (held : Held) → held.irp.number ≢ number → CannotCancelHeld number held
+cannot : (number : ℕ) (held : Held) → held.irp.value.number ≢ number → CannotCancelHeld number held
 cannot number held differs = by_test (is_cancellable number (entry_of held)) refl
   where
     by_test : (can : Bool) → is_cancellable number (entry_of held) ≡ can → IsFalse can
@@ -100,3 +100,8 @@ found b b' q q' number spot false is f h =
     let waits : packets_in q' ≡ before ++ held ∷ behind = ap packets_in f.after ∙ ap (map held_at) f.stood ∙ map-append held_at f.before ((spot, f.item) ∷ f.behind) in
     let not_here : IsNotAt spot number held = All-head (IsNotAt spot number) held (before ++ behind) (All-permutation (IsNotAt spot number) _ _ (IsPermutation-middle before held behind) (subst (λ hs. All (IsNotAt spot number) hs) waits h.none)) in
     absurd (not_here refl f.is_number)
+
+-- in an empty queue nobody waits
+pub none_waits : (entries : List (ℕ × Waiting)) → length entries ≡ 0 → map held_at entries ≡ []
+none_waits [] none = refl
+none_waits (e ∷ rest) none = absurd (omega (arith, none))

@@ -31,11 +31,12 @@ use Rattle.port.specs.declared.queues.Held.{Held}
 use Rattle.port.specs.declared.queues.Ended.{Ended}
 use Rattle.port.specs.declared.queues.Outcome.{Outcome}
 use Rattle.port.specs.declared.queues.Outcome.TheVariants.{Returned, Withdrawn, Gone}
-use Rattle.port.specs.Books.{Entry, Books, entry_of, ended_entry}
-use Rattle.port.specs.Turns.{held_on, EndsAs, Ends}
+use Rattle.port.specs.inside.Books.{Entry, Books, entry_of, ended_entry, spot_in}
+use Rattle.port.specs.inside.Turns.{held_on, EndsAs, Ends, as_returned, sense_left}
 use Rattle.port.specs.Shown.{rules_of, places_of, marks_left, busy_left, open_as, waiting_open, done_open, out_open, out_piece, open_on, piece_on, entry_on, packet as packet_as, of_packets, of_waiting, of_tag, of_done, state_of, view_of, requests_of}
-use Rattle.port.specs.Kept.{asked, PortKept, IsRoom, IsWaiting, IsEmptyIfFlush, IsAtWork, IsDoing, HasEnded, HasOutcome}
-use Rattle.port.specs.Releases.{Releases}
+use Rattle.port.specs.inside.Kept.{asked, PortKept, IsRoom, IsWaiting, IsEmptyIfFlush, IsAtWork, IsDoing, HasEnded, HasOutcome, IsTaken}
+use Rattle.port.proofs.Places.{distinct_same}
+use Rattle.port.specs.inside.Releases.{Releases}
 use Rattle.port.proofs.Lists.{splice_whole, second_front, last_front, length-cut}
 use Rattle.port.proofs.Tags.{others_same, others_apart}
 use Rattle.adapter.proofs.Joining.{moves_one}
@@ -44,8 +45,8 @@ use Rattle.port.proofs.Starting.{work_beside, room_moves, waiting_moves, moves_t
 abbrev pub books_returned : Books → ℕ → Ended → Books
 books_returned b tag ended = record b { started = slice_set b.started tag None; done = b.done ++ ended ∷ [] }
 
-abbrev pub view_returned : AdapterView → List TagInUse → ℕ → Class → AdapterView
-view_returned v tags piece class = record v { tags = tags; labels = v.labels ++ Return piece class ∷ [] }
+abbrev pub view_returned : AdapterView → List TagInUse → ℕ → ℕ → Class → AdapterView
+view_returned v tags failures piece class = record v { tags = tags; failures = failures; labels = v.labels ++ Return piece class ∷ [] }
 
 -- what is shown of the tags: that of the packet on the tag, and the others'
 pub tags_on : {Y : Type 0} (F : Entry → TagInUse → Y) (started : List (Option Held)) (tags : List TagInUse) (use' : TagInUse) (others : List TagInUse) (held : Held)
@@ -94,9 +95,9 @@ with_sense srb sense = record srb { sense = sense }
 abbrev pub done_as : Rules → Entry → Payload → Outcome → OpenRequest
 done_as rules e payload outcome = open_as rules e payload (busy_left outcome) (marks_left rules e.request payload outcome)
 
-pub done_is : (rules : Rules) (d : Ended) (e : Entry) (payload : Payload) (outcome : Outcome) → ended_entry d ≡ e → d.irp.payload ≡ payload → d.outcome ≡ outcome → done_open rules d ≡ done_as rules e payload outcome
+pub done_is : (rules : Rules) (d : Ended) (e : Entry) (payload : Payload) (outcome : Outcome) → ended_entry d ≡ e → d.irp.value.payload ≡ payload → d.outcome ≡ outcome → done_open rules d ≡ done_as rules e payload outcome
 done_is rules d e payload outcome same carries ends =
-    ap (λ (x : Entry). done_as rules x d.irp.payload d.outcome) same ∙ ap (λ (p : Payload). done_as rules e p d.outcome) carries ∙ ap (λ (o : Outcome). done_as rules e payload o) ends
+    ap (λ (x : Entry). done_as rules x d.irp.value.payload d.outcome) same ∙ ap (λ (p : Payload). done_as rules e p d.outcome) carries ∙ ap (λ (o : Outcome). done_as rules e payload o) ends
 
 same_sent : (kind : Kind) (srb : Srb) (sense : Option Sense) → sent_bytes kind (Packed (with_sense srb sense)) ≡ sent_bytes kind (Packed srb)
 same_sent Read srb sense = refl
@@ -109,47 +110,60 @@ busy_is Busy = refl
 busy_is (Bad completion) = refl
 
 -- the marks are those that the class leaves
-leaves_marks : (rules : Rules) (v : AdapterView) (held : Held) (use' : TagInUse) (sense : Option Sense) (class : Class) → MayReturn v use' class → IsDoing rules held.request use'.fate use'.srb
+leaves_marks : (rules : Rules) (failures : ℕ) (held : Held) (use' : TagInUse) (sense : Option Sense) (class : Class) → MayReturn failures use' class → IsDoing rules held.request use'.fate use'.srb
     → LeavesMarks (out_piece rules (entry_of held) use') class (marks_left rules held.request (Packed (with_sense use'.srb sense)) (Returned class))
-leaves_marks rules v held use' sense Good may doing =
+leaves_marks rules failures held use' sense Good may doing =
     let moved : List (List ℕ) = may.0.0 in
     let d : IsDoing rules held.request (Acted moved) use'.srb = subst (λ f. IsDoing rules held.request f use'.srb) may.0.1 doing in
     (moved, may.0.1, ap (λ sectors. map Done sectors) d.1)
-leaves_marks rules v held use' sense Busy may doing = (may.0, refl)
-leaves_marks rules v held use' sense (Bad completion) may doing = (may.1, refl)
+leaves_marks rules failures held use' sense Busy may doing = (may.0, refl)
+leaves_marks rules failures held use' sense (Bad completion) may doing = (may.1, refl)
+
+-- what came back busy has no sense
+abbrev pub IsQuiet : Class → Option Sense → Type 0
+IsQuiet Good sense = Unit {0}
+IsQuiet Busy sense = sense ≡ None
+IsQuiet (Bad completion) sense = Unit {0}
+
+quiet_left : (class : Class) (sense : Option Sense) → IsQuiet class (sense_left class sense)
+quiet_left Good sense = tt
+quiet_left Busy sense = refl
+quiet_left (Bad completion) sense = tt
 
 -- and the packet has ended for that reason
-outcome_is : (rules : Rules) (removing : Bool) (v : AdapterView) (held : Held) (use' : TagInUse) (sense : Option Sense) (class : Class) (ended : Ended) → MayReturn v use' class → IsDoing rules held.request use'.fate use'.srb
+outcome_is : (rules : Rules) (removing : Bool) (failures : ℕ) (held : Held) (use' : TagInUse) (sense : Option Sense) (class : Class) (ended : Ended) → IsQuiet class sense → MayReturn failures use' class → IsDoing rules held.request use'.fate use'.srb
     → EndsAs held (Packed (with_sense use'.srb sense)) (Returned class) ended → HasOutcome rules removing ended ended.outcome
-outcome_is rules removing v held use' sense class ended may doing h =
-    subst (HasOutcome rules removing ended) (sym h.ends) (by_class class may)
+outcome_is rules removing failures held use' sense class ended quiet may doing h =
+    subst (HasOutcome rules removing ended) (sym h.ends) (by_class class quiet may)
   where
     request_is : ended.request ≡ held.request
     request_is = ap (λ (e : Entry). e.request) h.same_entry
 
-    by_class : (class : Class) → MayReturn v use' class → HasOutcome rules removing ended (Returned class)
-    by_class Good may =
+    by_class : (class : Class) → IsQuiet class sense → MayReturn failures use' class → HasOutcome rules removing ended (Returned class)
+    by_class Good quiet may =
         let moved : List (List ℕ) = may.0.0 in
         let d : IsDoing rules held.request (Acted moved) use'.srb = subst (λ f. IsDoing rules held.request f use'.srb) may.0.1 doing in
         let P : Request → Payload → Type 0 =
         λ r p. (concat (sectors_moved rules r p) ≡ payload_bytes p) × (r.kind ≡ Read → length (payload_bytes p) ≡ transfer_length rules r) in
         subst (λ p. P ended.request p) (sym h.carries) (subst (λ r. P r (Packed (with_sense use'.srb sense))) (sym request_is) (ap concat d.1 ∙ sym d.0, d.2))
-    by_class Busy may =
+    by_class Busy quiet may =
         let d : AsksFor rules held.request use'.srb = subst (λ f. IsDoing rules held.request f use'.srb) may.0 doing in
         subst (λ p. Carries true rules ended.request p) (sym h.carries) (subst (λ r. Carries true rules r (Packed (with_sense use'.srb sense))) (sym request_is)
-        (record { function = d.function; flags = d.flags; asks = d.asks; data_length = d.data_length; label_length = d.label_length }))
-    by_class (Bad completion) may = may.1
+        (record { function = d.function; flags = d.flags; asks = d.asks; plain = d.plain; data_length = d.data_length; label_length = d.label_length; sense = quiet }))
+    by_class (Bad completion) quiet may = may.1
 
-pub record Back (b : Books) (v : AdapterView) (tag : ℕ) (use' : TagInUse) (others tags' : List TagInUse) (class : Class) (sense : Option Sense) (held : Held) (ended : Ended) : Type 0 where
+pub record Back (b : Books) (v : AdapterView) (tag : ℕ) (use' : TagInUse) (others tags' : List TagInUse) (failures : ℕ) (class : Class) (sense : Option Sense) (held : Held) (ended : Ended) : Type 0 where
   pub on : IsOn v tag use' others
-  pub may : MayReturn v use' class
+  pub counted : v.failures ≤ failures
+  pub may : MayReturn failures use' class
   pub left : IsPermutation tags' others
   pub held_is : held_on b.started tag ≡ Some held
   pub ends_as : EndsAs held (Packed (with_sense use'.srb sense)) (Returned class) ended
+  pub quiet : IsQuiet class sense
 
-module _ (b : Books) (v : AdapterView) (tag : ℕ) (use' : TagInUse) (others tags' : List TagInUse) (class : Class) (sense : Option Sense) (held : Held) (ended : Ended) where
-  machine_returns : (rooms : List Request) → PortKept b v rooms → Back b v tag use' others tags' class sense held ended
-      → Returns (state_of b v) use'.piece class (state_of (books_returned b tag ended) (view_returned v tags' use'.piece class))
+module _ (b : Books) (v : AdapterView) (tag : ℕ) (use' : TagInUse) (others tags' : List TagInUse) (failures : ℕ) (class : Class) (sense : Option Sense) (held : Held) (ended : Ended) where
+  machine_returns : (rooms : List Request) → PortKept b v rooms → Back b v tag use' others tags' failures class sense held ended
+      → Returns (state_of b v) use'.piece class (state_of (books_returned b tag ended) (view_returned v tags' failures use'.piece class))
   machine_returns rooms k h =
       let rules : Rules = rules_of b.sizes in
       let e : Entry = entry_of held in
@@ -176,12 +190,12 @@ module _ (b : Books) (v : AdapterView) (tag : ℕ) (use' : TagInUse) (others tag
         is_open = second_front (map (waiting_open rules) b.waiting) (map (open_on rules b.started) v.tags) (map (open_on rules b.started) others) (map (done_open rules) b.done) (out_open rules e use')
             (tags_on (out_open rules) b.started v.tags use' others held h.on.in_use on);
         is_owner = refl;
-        leaves = leaves_marks rules v held use' sense class h.may work.1;
+        leaves = leaves_marks rules failures held use' sense class h.may work.1;
         after = record {
           arrays = refl;
           next_request = refl;
           next_piece = refl;
-          requests = subst (λ (y : OpenRequest). IsPermutation (requests_of (books_returned b tag ended) (view_returned v tags' use'.piece class)) (y ∷ (map (waiting_open rules) b.waiting ++ (map (open_on rules b.started) others ++ map (done_open rules) b.done)))) is
+          requests = subst (λ (y : OpenRequest). IsPermutation (requests_of (books_returned b tag ended) (view_returned v tags' failures use'.piece class)) (y ∷ (map (waiting_open rules) b.waiting ++ (map (open_on rules b.started) others ++ map (done_open rules) b.done)))) is
               (put_last rules apart);
           pieces = tags_left (out_piece rules) b.started tag None tags' others apart h.left;
           owed = refl;
@@ -198,8 +212,8 @@ module _ (b : Books) (v : AdapterView) (tag : ℕ) (use' : TagInUse) (others tag
           rw more (IsPermutation-trans _ _ _ (IsPermutation-append_right (map (waiting_open rules) b.waiting) _ _ (IsPermutation-append_left (map (done_open rules) b.done ++ done_open rules ended ∷ []) _ _ (tags_left (out_open rules) b.started tag None tags' others apart h.left)))
           (last_front (map (waiting_open rules) b.waiting) (map (open_on rules b.started) others) (map (done_open rules) b.done) (done_open rules ended)))
 
-  packets_returned : {Y : Type 0} (f : Entry → Y) (rooms : List Request) → PortKept b v rooms → Back b v tag use' others tags' class sense held ended
-      → IsPermutation (of_packets f (books_returned b tag ended) (view_returned v tags' use'.piece class)) (of_packets f b v)
+  packets_returned : {Y : Type 0} (f : Entry → Y) (rooms : List Request) → PortKept b v rooms → Back b v tag use' others tags' failures class sense held ended
+      → IsPermutation (of_packets f (books_returned b tag ended) (view_returned v tags' failures use'.piece class)) (of_packets f b v)
   packets_returned {Y} f rooms k h =
       let on : held_on b.started use'.tag ≡ Some held = subst (λ t. held_on b.started t ≡ Some held) (sym h.on.has_tag) h.held_is in
       let apart : All (HasNotTag tag) others = others_apart v tag use' others k.adapter h.on in
@@ -212,11 +226,11 @@ module _ (b : Books) (v : AdapterView) (tag : ℕ) (use' : TagInUse) (others tag
       second_front (map (of_waiting f) b.waiting) (map (of_tag f b.started) v.tags) (map (of_tag f b.started) others) (map (of_done f) b.done) (f (entry_of held)) (tags_on (λ e u. f e) b.started v.tags use' others held h.on.in_use on) in
       rw more (IsPermutation-trans _ _ _ (subst (λ (e : Entry). IsPermutation shown (f e ∷ (map (of_waiting f) b.waiting ++ (map (of_tag f b.started) others ++ map (of_done f) b.done)))) h.ends_as.same_entry first) (IsPermutation-sym _ _ second))
 
-  kept_returned : (rooms : List Request) → PortKept b v rooms → Back b v tag use' others tags' class sense held ended → length v.labels + (v.depth - length v.tags) + 2 ≤ 64 → IsInOrder (view_returned v tags' use'.piece class)
-      → PortKept (books_returned b tag ended) (view_returned v tags' use'.piece class) rooms
+  kept_returned : (rooms : List Request) → PortKept b v rooms → Back b v tag use' others tags' failures class sense held ended → length v.labels + (v.depth - length v.tags) + 2 ≤ 64 → IsInOrder (view_returned v tags' failures use'.piece class)
+      → PortKept (books_returned b tag ended) (view_returned v tags' failures use'.piece class) rooms
   kept_returned rooms k h space order =
       let rules : Rules = rules_of b.sizes in
-      let v' : AdapterView = view_returned v tags' use'.piece class in
+      let v' : AdapterView = view_returned v tags' failures use'.piece class in
       let apart : All (HasNotTag tag) others = others_apart v tag use' others k.adapter h.on in
       let work = on_tag_work rules b.started v.tags use' others tag held k.at_work h.on.in_use h.on.has_tag h.held_is in
       let rest : All (IsAtWork rules b.started) others = All-tail (IsAtWork rules b.started) use' others (All-permutation (IsAtWork rules b.started) _ _ h.on.in_use k.at_work) in
@@ -232,12 +246,14 @@ module _ (b : Books) (v : AdapterView) (tag : ℕ) (use' : TagInUse) (others tag
         at_work = All-permutation (IsAtWork rules (slice_set b.started tag None)) _ _ (IsPermutation-sym _ _ h.left) (λ i d below. work_beside rules b.started tag None _ (apart i d below) (rest i d below));
         ended = All-push (HasEnded rules b.removing) b.done ended k.ended (record {
           bounded = subst (λ (e : Entry). IsBounded rules e.request) (sym h.ends_as.same_entry) work.0;
-          why = outcome_is rules b.removing v held use' sense class ended h.may work.1 h.ends_as;
+          why = outcome_is rules b.removing failures held use' sense class ended h.quiet h.may work.1 h.ends_as;
           empty = subst (λ (p : Payload). IsEmptyIfFlush ended.request (payload_bytes p)) (sym h.ends_as.carries)
               (subst (λ (e : Entry). IsEmptyIfFlush e.request use'.srb.data) (sym h.ends_as.same_entry) work.2);
         });
         reserved = All-permutation (IsRoom rules v') _ _ (IsPermutation-sym _ _ (packets_returned asked rooms k h))
             (All-weaker (IsRoom rules v) (IsRoom rules v') (room_moves rules v v' (λ extent r. r)) (of_packets asked b v) k.reserved);
+        spots = distinct_same _ _ (IsPermutation-sym _ _ (packets_returned spot_in rooms k h)) k.spots;
+        taken = All-permutation (IsTaken b.rooms) _ _ (IsPermutation-sym _ _ (packets_returned spot_in rooms k h)) k.taken;
         rooms_out = All-weaker (IsRoom rules v) (IsRoom rules v') (room_moves rules v v' (λ extent r. r)) rooms k.rooms_out;
         removing = k.removing;
         distinct = AreDistinct-DeviceStep rules (state_of b v) (Return use'.piece class) _ k.distinct (machine_returns rooms k h);
@@ -248,20 +264,21 @@ module _ (b : Books) (v : AdapterView) (tag : ℕ) (use' : TagInUse) (others tag
         labels = omega (arith, length-append v.labels (Return use'.piece class ∷ []));
       }
 
-  return_moves : (rooms : List Request) → PortKept b v rooms → Back b v tag use' others tags' class sense held ended
-      → Moves (view_of b v) (Return use'.piece class ∷ []) (view_of (books_returned b tag ended) (view_returned v tags' use'.piece class))
+  return_moves : (rooms : List Request) → PortKept b v rooms → Back b v tag use' others tags' failures class sense held ended
+      → Moves (view_of b v) (Return use'.piece class ∷ []) (view_of (books_returned b tag ended) (view_returned v tags' failures use'.piece class))
   return_moves rooms k h = record {
     same_rules = refl;
     same_packets = packets_returned packet_as rooms k h;
+    same_rooms = λ _. refl;
     same_submitted = refl;
     same_most = refl;
-    run = (state_of (books_returned b tag ended) (view_returned v tags' use'.piece class), inl (refl, machine_returns rooms k h), IsSame-refl _);
-    adapter = moves_one v (view_returned v tags' use'.piece class) tag (Return use'.piece class)
-        (record { use' = use'; others = others; tags = tags'; is_on = h.on; is_piece = refl; may = h.may; in_use = h.left; after = refl });
+    run = (state_of (books_returned b tag ended) (view_returned v tags' failures use'.piece class), inl (refl, machine_returns rooms k h), IsSame-refl _);
+    adapter = moves_one v (view_returned v tags' failures use'.piece class) tag (Return use'.piece class)
+        (record { use' = use'; others = others; tags = tags'; failures = failures; is_on = h.on; is_piece = refl; counted = h.counted; may = h.may; in_use = h.left; after = refl });
   }
 
-  finishes_returned : (rooms : List Request) (c : Books) (w : AdapterView) → PortKept b v rooms → Back b v tag use' others tags' class sense held ended
-      → Releases (books_returned b tag ended) (view_returned v tags' use'.piece class) c w → Finishes (view_of b v) tag (view_of c w)
+  finishes_returned : (rooms : List Request) (c : Books) (w : AdapterView) → PortKept b v rooms → Back b v tag use' others tags' failures class sense held ended
+      → Releases (books_returned b tag ended) (view_returned v tags' failures use'.piece class) c w → Finishes (view_of b v) tag (view_of c w)
   finishes_returned rooms c w k h r =
       let rules : Rules = rules_of b.sizes in
       let on : held_on b.started use'.tag ≡ Some held = subst (λ t. held_on b.started t ≡ Some held) (sym h.on.has_tag) h.held_is in
@@ -287,21 +304,23 @@ pub finished : (b b' : Books) (v v' : AdapterView) (rooms : List Request) (tag :
 finished b b' v v' rooms tag srb completion class k space class_is f e order =
     let r = f.returns in
     let u : TagInUse = r.use' in
-    let v'' : AdapterView = view_returned v r.tags u.piece class in
-    let v_is : v' ≡ v'' = r.after ∙ ap (λ (n : ℕ). view_returned v r.tags n (class_of completion)) (sym r.is_piece) ∙ ap (λ (x : Class). view_returned v r.tags u.piece x) (sym class_is) in
-    let back : Back b v tag u r.others r.tags class completion.sense e.held e.ended = record {
+    let v'' : AdapterView = view_returned v r.tags r.failures u.piece class in
+    let v_is : v' ≡ v'' = r.after ∙ ap (λ (n : ℕ). view_returned v r.tags r.failures n (class_of completion)) (sym r.is_piece) ∙ ap (λ (x : Class). view_returned v r.tags r.failures u.piece x) (sym class_is) in
+    let back : Back b v tag u r.others r.tags r.failures class (sense_left class completion.sense) e.held e.ended = record {
       on = r.is_on;
-      may = subst (λ x. MayReturn v u x) (sym class_is) r.may;
+      counted = r.counted;
+      may = subst (λ x. MayReturn r.failures u x) (sym class_is) r.may;
       left = r.in_use;
       held_is = e.on_tag;
-      ends_as = subst (λ (s : Srb). EndsAs e.held (Packed s) (Returned class) e.ended) f.comes_back e.ends_as;
+      ends_as = subst (λ (s : Srb). EndsAs e.held (Packed (as_returned class s)) (Returned class) e.ended) f.comes_back e.ends_as;
+      quiet = quiet_left class completion.sense;
     } in
     let l = length-map v.tags (piece_on (rules_of b.sizes) b.started) in
     let d = k.sizes.depth in
     let room : length v.labels + (v.depth - length v.tags) + 2 ≤ 64 = omega arith in
     subst (λ (x : Books). Finished b v tag x v') (sym e.after) (subst (λ (x : AdapterView). Finished b v tag (books_returned b tag e.ended) x) (sym v_is) (record {
-      kept = λ rs h. kept_returned b v tag u r.others r.tags class completion.sense e.held e.ended rs h back room (subst IsInOrder v_is order);
-      finishes = λ c w releases. finishes_returned b v tag u r.others r.tags class completion.sense e.held e.ended rooms c w k back releases;
+      kept = λ rs h. kept_returned b v tag u r.others r.tags r.failures class (sense_left class completion.sense) e.held e.ended rs h back room (subst IsInOrder v_is order);
+      finishes = λ c w releases. finishes_returned b v tag u r.others r.tags r.failures class (sense_left class completion.sense) e.held e.ended rooms c w k back releases;
     }))
 
 pub finishes_not : (b : Books) (v v' : AdapterView) (tag : ℕ) → AdapterFinishesNot v tag v' → FinishesNot (view_of b v) tag (view_of b v')

@@ -1,5 +1,5 @@
 -- Places made, and given back.
-use Rattle.std.proofs.Common.{◌≡◌, ℕ, ◌+◌, ◌-◌, List, ◌∷◌, sym, subst, arith, length}
+use Rattle.std.proofs.Common.{◌≡◌, ℕ, ◌+◌, ◌-◌, List, ◌∷◌, Option, Some, None, sym, subst, arith, length}
 use Rattle.std.specs.Prelude.{All}
 use Rattle.std.proofs.lemmas.List.Elements.{All-cons, All-tail, All-weaker}
 use Rattle.std.specs.Prelude.{Result, Ok, Err, OnErr}
@@ -9,22 +9,24 @@ use Rattle.srb.specs.declared.Kind.TheVariants.{Write}
 use Rattle.machine.specs.declared.Request.{Request}
 use Rattle.machine.specs.Rules.{Rules}
 use Rattle.device.specs.View.{IsBounded}
-use Rattle.port.specs.Books.{Books}
+use Rattle.port.specs.inside.Books.{Books, spot_in}
 use Rattle.port.specs.Shown.{rules_of, of_packets}
-use Rattle.port.specs.Kept.{asked, PortKept, IsInHand, IsRoom, IsWaiting}
+use Rattle.port.specs.inside.Kept.{asked, PortKept, IsInHand, IsRoom, IsWaiting, IsTaken}
+use Rattle.port.proofs.Places.{taken_stays}
+use Rattle.port.specs.inside.Turns.{AddsPlace, RemovesPlace}
 use Rattle.port.proofs.Starting.{room_moves, waiting_moves}
 use Rattle.port.proofs.Orderly.{in_hand}
 
-abbrev with_places : Books → ℕ → Books
-with_places b places = record b { places = places }
+abbrev with_places : Books → ℕ → List (Option (Option Request)) → Books
+with_places b places slots = record b { places = places; rooms = slots }
 
 abbrev with_reserved : AdapterView → List Extent → AdapterView
 with_reserved v reserved = record v { reserved = reserved }
 
 -- another number of places for other rooms
-kept_places : (b : Books) (v : AdapterView) (places : ℕ) (rooms others : List Request) → length others + b.places ≡ length rooms + places
-    → All (IsRoom (rules_of b.sizes) v) others → PortKept b v rooms → PortKept (with_places b places) v others
-kept_places b v places rooms others counts are k = record {
+kept_places : (b : Books) (v : AdapterView) (places : ℕ) (slots : List (Option (Option Request))) (rooms others : List Request) → length others + b.places ≡ length rooms + places
+    → All (IsRoom (rules_of b.sizes) v) others → All (IsTaken slots) (of_packets spot_in b v) → PortKept b v rooms → PortKept (with_places b places slots) v others
+kept_places b v places slots rooms others counts are taken k = record {
   adapter = k.adapter;
   sizes = k.sizes;
   started = k.started;
@@ -34,6 +36,8 @@ kept_places b v places rooms others counts are k = record {
   ended = k.ended;
   reserved = k.reserved;
   rooms_out = are;
+  spots = k.spots;
+  taken = taken;
   removing = k.removing;
   distinct = k.distinct;
   places = let c = k.places in omega arith;
@@ -56,6 +60,8 @@ kept_reserved b v reserved rooms order lasts k =
       at_work = k.at_work;
       ended = k.ended;
       reserved = All-weaker (IsRoom rules v) (IsRoom rules (with_reserved v reserved)) (room_moves rules v (with_reserved v reserved) lasts) (of_packets asked b v) k.reserved;
+      spots = k.spots;
+      taken = k.taken;
       rooms_out = All-weaker (IsRoom rules v) (IsRoom rules (with_reserved v reserved)) (room_moves rules v (with_reserved v reserved) lasts) rooms k.rooms_out;
       removing = k.removing;
       distinct = k.distinct;
@@ -73,15 +79,17 @@ hand_reserved b v v' rooms h order k =
     (kept_reserved b v h.reserved rooms (subst IsInOrder h.after order) (λ extent r. subst (λ x. IsReserved x extent) h.after (h.lasts extent r)) k.kept) k.busy)
 
 -- one place more, for a request that is bounded and reserved
-pub hand_added : (b b' : Books) (v : AdapterView) (r : Request) (rooms : List Request) → b' ≡ record b { places = b.places + 1 } → IsRoom (rules_of b.sizes) v r → IsInHand b v rooms → IsInHand b' v (r ∷ rooms)
-hand_added b b' v r rooms e room k =
-    subst (λ x. IsInHand x v (r ∷ rooms)) (sym e) (in_hand (with_places b (b.places + 1)) v (r ∷ rooms)
-    (kept_places b v (b.places + 1) rooms (r ∷ rooms) (omega arith) (All-cons (IsRoom (rules_of b.sizes) v) r rooms room k.kept.rooms_out) k.kept) k.busy)
+pub hand_added : (b b' : Books) (v : AdapterView) (r : Request) (spot : ℕ) (rooms : List Request) → AddsPlace b spot r b' → IsRoom (rules_of b.sizes) v r → IsInHand b v rooms → IsInHand b' v (r ∷ rooms)
+hand_added b b' v r spot rooms e room k =
+    subst (λ x. IsInHand x v (r ∷ rooms)) (sym e.after) (in_hand (with_places b (b.places + 1) b'.rooms) v (r ∷ rooms)
+    (kept_places b v (b.places + 1) b'.rooms rooms (r ∷ rooms) (omega arith) (All-cons (IsRoom (rules_of b.sizes) v) r rooms room k.kept.rooms_out)
+    (taken_stays b.rooms spot None (Some (Some r)) b'.rooms e.slot (λ bad. cc (bad)) (of_packets spot_in b v) k.kept.taken) k.kept) k.busy)
 
-pub hand_freed : (b b' : Books) (v : AdapterView) (r : Request) (rooms : List Request) → b' ≡ record b { places = b.places - 1 } → IsInHand b v (r ∷ rooms) → IsInHand b' v rooms
-hand_freed b b' v r rooms e k =
-    subst (λ x. IsInHand x v rooms) (sym e) (in_hand (with_places b (b.places - 1)) v rooms
-    (kept_places b v (b.places - 1) (r ∷ rooms) rooms (let c = k.kept.places in omega arith) (All-tail (IsRoom (rules_of b.sizes) v) r rooms k.kept.rooms_out) k.kept) k.busy)
+pub hand_freed : (b b' : Books) (v : AdapterView) (spot : ℕ) (rooms : List Request) (e : RemovesPlace b spot b') → IsInHand b v (e.request ∷ rooms) → IsInHand b' v rooms
+hand_freed b b' v spot rooms e k =
+    subst (λ x. IsInHand x v rooms) (sym e.after) (in_hand (with_places b (b.places - 1) b'.rooms) v rooms
+    (kept_places b v (b.places - 1) b'.rooms (e.request ∷ rooms) rooms (let c = k.kept.places in omega arith) (All-tail (IsRoom (rules_of b.sizes) v) e.request rooms k.kept.rooms_out)
+    (taken_stays b.rooms spot (Some (Some e.request)) None b'.rooms e.slot (λ bad. cc (bad)) (of_packets spot_in b v) k.kept.taken) k.kept) k.busy)
 
 pub hand_same : (b b' : Books) (v : AdapterView) (rooms : List Request) → b' ≡ b → IsInHand b v rooms → IsInHand b' v rooms
 hand_same b b' v rooms e k = subst (λ x. IsInHand x v rooms) (sym e) k
@@ -93,8 +101,8 @@ on_err (Err x) p = p
 pub hand_after : (b b' : Books) (v v' : AdapterView) (rooms : List Request) → b' ≡ b → ReservesMore v v' → IsInOrder v' → IsInHand b v rooms → IsInHand b' v' rooms
 hand_after b b' v v' rooms e h order k = hand_same b b' v' rooms e (hand_reserved b v v' rooms h order k)
 
-pub hand_made : (b c d : Books) (v v' : AdapterView) (r : Request) (rooms : List Request) → c ≡ b → d ≡ record c { places = c.places + 1 } → ReservesMore v v' → IsInOrder v'
+pub hand_made : (b c d : Books) (v v' : AdapterView) (r : Request) (spot : ℕ) (rooms : List Request) → c ≡ b → AddsPlace c spot r d → ReservesMore v v' → IsInOrder v'
     → IsBounded (rules_of b.sizes) r → (r.kind ≡ Write → IsReserved v' r.extent) → IsInHand b v rooms → IsInHand d v' (r ∷ rooms)
-hand_made b c d v v' r rooms e f h order bounded reserved k =
+hand_made b c d v v' r spot rooms e f h order bounded reserved k =
     let room : IsRoom (rules_of c.sizes) v' r = record { bounded = subst (λ (x : Books). IsBounded (rules_of x.sizes) r) (sym e) bounded; reserved = reserved } in
-    hand_added c d v' r rooms f room (hand_after b c v v' rooms e h order k)
+    hand_added c d v' r spot rooms f room (hand_after b c v v' rooms e h order k)

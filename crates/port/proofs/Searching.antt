@@ -9,8 +9,8 @@ use Rattle.std.proofs.lemmas.Iterator.Adapters.{position_from-zero}
 use Rattle.port.specs.declared.queues.Held.{Held}
 use Rattle.port.specs.declared.queues.Ended.{Ended}
 use Rattle.port.specs.declared.queues.Outcome.TheVariants.{Withdrawn}
-use Rattle.port.specs.Books.{Books, entry_of, ended_entry}
-use Rattle.port.specs.Turns.{gone, drained, cancelled, can_cancel_held, can_cancel_ended, Withdraws, CancelsEnded, CancelsNoEnded}
+use Rattle.port.specs.inside.Books.{Books, entry_of, ended_entry}
+use Rattle.port.specs.inside.Turns.{gone, drained, cancelled, can_cancel_held, can_cancel_ended, Withdraws, CancelsEnded, CancelsNoEnded}
 
 pub drained_by : (b x : Books) (before after : List Held) → b.waiting ≡ before ++ x.waiting → x.done ≡ b.done ++ map gone before → x ≡ record b { waiting = x.waiting; done = x.done }
     → length x.waiting ≡ 0 → length after ≡ 0 → record x { waiting = after; removing = true } ≡ drained b
@@ -43,7 +43,7 @@ split_at {X} xs i x low is =
     sym (take-append-drop i xs) ∙ ap (λ (ys : List X). take i xs ++ ys) (e ∙ ap (λ (y : X). y ∷ drop (i + 1) xs) (sym is) ∙ ap (λ (k : ℕ). x ∷ drop k xs) n)
 
 pub withdraws : (b b' : Books) (number index : ℕ) (held : Held) (withdrawn : Ended) (waiting' : List Held) (done' : List Ended) → Some index ≡ position (can_cancel_held number) b.waiting → held ≡ get_or b.waiting index held
-    → waiting' ≡ remove b.waiting index → ended_entry withdrawn ≡ cancelled (entry_of held) → withdrawn.irp.payload ≡ held.irp.payload → withdrawn.outcome ≡ Withdrawn → done' ≡ b.done ++ withdrawn ∷ []
+    → waiting' ≡ remove b.waiting index → ended_entry withdrawn ≡ cancelled (entry_of held) → withdrawn.irp.value.payload ≡ held.irp.value.payload → withdrawn.outcome ≡ Withdrawn → done' ≡ b.done ++ withdrawn ∷ []
     → b' ≡ record b { waiting = waiting'; done = done' } → Withdraws b number b'
 withdraws b b' number index held withdrawn waiting' done' found is left entry carries ends more after =
     let at = position-Some (can_cancel_held number) b.waiting index held (sym found) in
@@ -61,7 +61,7 @@ withdraws b b' number index held withdrawn waiting' done' found is left entry ca
     }
 
 pub cancels_ended : (b b' : Books) (number index : ℕ) (ended marked : Ended) (done' done'' : List Ended) → Some index ≡ position (can_cancel_ended number) b.done → ended ≡ get_or b.done index ended
-    → done' ≡ remove b.done index → ended_entry marked ≡ cancelled (ended_entry ended) → marked.irp.payload ≡ ended.irp.payload → marked.outcome ≡ ended.outcome → done'' ≡ done' ++ marked ∷ []
+    → done' ≡ remove b.done index → ended_entry marked ≡ cancelled (ended_entry ended) → marked.irp.value.payload ≡ ended.irp.value.payload → marked.outcome ≡ ended.outcome → done'' ≡ done' ++ marked ∷ []
     → b' ≡ record b { done = done'' } → CancelsEnded b number b'
 cancels_ended b b' number index ended marked done' done'' found is left entry carries ends more after =
     let at = position-Some (can_cancel_ended number) b.done index ended (sym found) in

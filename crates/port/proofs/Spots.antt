@@ -13,11 +13,11 @@ use Rattle.device.specs.Served.{IsAt, HasOtherNumber, CancelsIfOpen, CancelsAt, 
 use Rattle.machine.specs.Holding.{Cancels}
 use Rattle.machine.proofs.Permuting.{distinct_first}
 use Rattle.port.specs.declared.queues.Held.{Held}
-use Rattle.port.specs.Books.{Books, entry_of}
-use Rattle.port.specs.Turns.{CannotCancelHeld, CannotCancelOn, WithdrawsAt, WithdrawsNotAt, IsNotAt, is_cancellable, CancelsEnded, CancelsNoEnded}
-use Rattle.port.specs.Cancelling.{IsQueued, CancelsQueued, CancelsAt as CancelsOnTag, CancelsNoStarted}
+use Rattle.port.specs.inside.Books.{Books, entry_of}
+use Rattle.port.specs.inside.Turns.{CannotCancelHeld, CannotCancelOn, WithdrawsAt, WithdrawsNotAt, IsNotAt, is_cancellable, CancelsEnded, CancelsNoEnded}
+use Rattle.port.specs.inside.Cancelling.{IsQueued, CancelsQueued, CancelsAt as CancelsOnTag, CancelsNoStarted}
 use Rattle.port.specs.Shown.{packet as packet_as, packets_of, view_of, of_waiting, of_tag, of_done}
-use Rattle.port.specs.Kept.{IsInHand}
+use Rattle.port.specs.inside.Kept.{IsInHand}
 use Rattle.port.proofs.Lists.{to_front}
 use Rattle.port.proofs.Searching.{split_at}
 use Rattle.port.proofs.Draining.{IsCancelled, cancelled_waiting, can_facts}
@@ -80,7 +80,7 @@ lacks_at b v rooms spot number k there none = λ i d low. by_test i d low (is_ca
     distinct : IsDistinct eqb (map packet_number (packets_of b v))
     distinct = subst (λ ns. IsDistinct eqb ns) (sym (numbers_are b v)) k.kept.distinct.requests
 
-    all_elsewhere : (before : List Held) (held : Held) (behind : List Held) → b.waiting ≡ before ++ held ∷ behind → held.irp.number ≡ number → IsNotAt spot number held → All IsElsewhere (packets_of b v)
+    all_elsewhere : (before : List Held) (held : Held) (behind : List Held) → b.waiting ≡ before ++ held ∷ behind → held.irp.value.number ≡ number → IsNotAt spot number held → All IsElsewhere (packets_of b v)
     all_elsewhere before held behind waits same not_here =
         let front = packet_as (entry_of held) in
         let others = (map (of_waiting packet_as) before ++ map (of_waiting packet_as) behind) ++ rest in

@@ -1,7 +1,7 @@
 -- The packet that waited longest goes to a free tag.
 use Rattle.std.proofs.Common.{◌≡◌, ◌≢◌, ◌<◌, ◌≤◌, ◌⊎◌, inl, inr, ℕ, ◌+◌, Bool, true, false, List, [], ◌∷◌, ◌++◌, Option, Some, None, refl, sym, subst, ap, ◌∙◌, arith, add-one, map, length, get_or, replicate}
 use Rattle.std.proofs.lemmas.Bool.{cases_lt}
-use Rattle.port.specs.Turns as Turn
+use Rattle.port.specs.inside.Turns as Turn
 use Rattle.std.specs.Prelude.{All, Any, IsTrue, IsPermutation, slice_set, slice_index}
 use Rattle.std.proofs.lemmas.List.{length-replicate, get_or-replicate, length-set, get_or-set_same, get_or-set_other, length-append, map-append}
 use Rattle.std.proofs.lemmas.List.Elements.{All-nil, All-cons, All-append, All-map, All-weaker, All-head, All-tail, All-contains_itself}
@@ -34,12 +34,13 @@ use Rattle.machine.proofs.Numbers.{AreDistinct-DeviceStep}
 use Rattle.port.specs.declared.queues.Held.{Held}
 use Rattle.port.specs.declared.queues.Ended.{Ended}
 use Rattle.port.specs.declared.queues.Outcome.TheVariants.{Withdrawn, Gone}
-use Rattle.port.specs.Books.{Entry, Books, entry_of}
-use Rattle.port.specs.Turns.{held_on, IsPacked}
+use Rattle.port.specs.inside.Books.{Entry, Books, entry_of, spot_in}
+use Rattle.port.specs.inside.Turns.{held_on, IsPacked}
 use Rattle.port.specs.declared.queues.Sizes.{Sizes}
 use Rattle.port.specs.Shown.{rules_of, places_of, open_as, waiting_open, done_open, out_open, out_piece, open_on, piece_on, entry_on, state_of, requests_of, of_packets, of_waiting, of_tag, of_done, packet as packet_as}
-use Rattle.port.specs.Kept.{asked, PortKept, IsRoom, IsWaiting, IsEmptyIfFlush, HasEnded, HasOutcome, IsAtWork, IsBefore, AreInTurn}
-use Rattle.port.specs.Releases.{begun_of, Releases, AreLowerInUse}
+use Rattle.port.specs.inside.Kept.{asked, PortKept, IsRoom, IsWaiting, IsEmptyIfFlush, HasEnded, HasOutcome, IsAtWork, IsBefore, AreInTurn, IsTaken}
+use Rattle.port.proofs.Places.{distinct_same}
+use Rattle.port.specs.inside.Releases.{begun_of, Releases, AreLowerInUse}
 use Rattle.port.proofs.Lists.{splice_whole, second_front, contains_behind, contains_through}
 use Rattle.port.proofs.Tags.{others_same, free_leaves}
 use Rattle.adapter.proofs.Joining.{moves_one, moves_joined, reserves_none}
@@ -78,11 +79,11 @@ front_in_turn b v rooms front rest k is stays some =
     (All-map (IsInTurn owner) (done_open (rules_of b.sizes)) b.done
     (All-weaker (HasEnded (rules_of b.sizes) b.removing) (λ d. IsInTurn owner (done_open (rules_of b.sizes) d)) (λ d e lower timely. ended d e timely) b.done k.ended)))
   where
-    ended : (d : Ended) → HasEnded (rules_of b.sizes) b.removing d → d.irp.cancelled ≡ false → is_started (done_open (rules_of b.sizes) d) ≡ true
+    ended : (d : Ended) → HasEnded (rules_of b.sizes) b.removing d → d.irp.value.cancelled ≡ false → is_started (done_open (rules_of b.sizes) d) ≡ true
     ended d e timely = ended_started (rules_of b.sizes) d (places_some b.sizes d.request some e.bounded)
         (λ o. withdrawn d o e.why) (λ o. true_false b.removing (gone d o e.why) stays) timely
       where
-        withdrawn : (d : Ended) → d.outcome ≡ Withdrawn → HasOutcome (rules_of b.sizes) b.removing d d.outcome → IsTrue d.irp.cancelled
+        withdrawn : (d : Ended) → d.outcome ≡ Withdrawn → HasOutcome (rules_of b.sizes) b.removing d d.outcome → IsTrue d.irp.value.cancelled
         withdrawn d o h = subst (HasOutcome (rules_of b.sizes) b.removing d) o h
 
         gone : (d : Ended) → d.outcome ≡ Gone → HasOutcome (rules_of b.sizes) b.removing d d.outcome → IsTrue b.removing
@@ -99,7 +100,7 @@ pub kept_sector_some : (b : Books) (v : AdapterView) (rooms : List Request) → 
 kept_sector_some b v rooms k = let a = sector_some v k.adapter in let e = k.sizes.sector_size in omega arith
 
 -- what the adapter asks for before it takes a piece
-pub front_waits : (b : Books) (v : AdapterView) (rooms : List Request) (front : Held) (rest : List Held) (srb : Srb) → PortKept b v rooms → b.waiting ≡ front ∷ rest → front.irp.payload ≡ Packed srb
+pub front_waits : (b : Books) (v : AdapterView) (rooms : List Request) (front : Held) (rest : List Held) (srb : Srb) → PortKept b v rooms → b.waiting ≡ front ∷ rest → front.irp.value.payload ≡ Packed srb
     → IsRoom (rules_of b.sizes) v front.request × AsksFor (rules_of b.sizes) front.request srb
 front_waits b v rooms front rest srb k is packs =
     let rules : Rules = rules_of b.sizes in
@@ -107,7 +108,7 @@ front_waits b v rooms front rest srb k is packs =
     (w.room, subst (Carries true rules front.request) packs w.carries)
 
 pub packed : (b : Books) (v : AdapterView) (rooms : List Request) → PortKept b v rooms → All IsPacked b.waiting
-packed b v rooms k = All-weaker (IsWaiting (rules_of b.sizes) v) IsPacked (λ h w. has_srb h.irp.payload (rules_of b.sizes) h.request w.carries) b.waiting k.waiting
+packed b v rooms k = All-weaker (IsWaiting (rules_of b.sizes) v) IsPacked (λ h w. has_srb h.irp.value.payload (rules_of b.sizes) h.request w.carries) b.waiting k.waiting
   where
     has_srb : (payload : Payload) (rules : Rules) (r : Request) → Carries true rules r payload → (srb : Srb) × (payload ≡ Packed srb)
     has_srb (Packed srb) rules r c = (srb, refl)
@@ -140,7 +141,7 @@ is_writable sizes v r srb some room asks lba count fua w inside =
 
 -- the machine's start
 pub machine_starts : (b : Books) (v : AdapterView) (rooms : List Request) (front : Held) (rest : List Held) (tag : ℕ) (srb : Srb) (packet : Held) (tags' : List TagInUse)
-    → PortKept b v rooms → b.waiting ≡ front ∷ rest → front.irp.payload ≡ Packed srb → entry_of packet ≡ entry_of front
+    → PortKept b v rooms → b.waiting ≡ front ∷ rest → front.irp.value.payload ≡ Packed srb → entry_of packet ≡ entry_of front
     → tag < v.depth → IsFree v tag → ((lower : ℕ) → lower < tag → Any (UseHasTag lower) v.tags) → IsPermutation tags' (in_use_from v tag b.next_piece srb ∷ v.tags)
     → Starts (rules_of b.sizes) (state_of b v) b.next_piece tag srb.block (state_of (books_started b rest tag packet) (view_started v tags' tag b.next_piece srb))
 machine_starts b v rooms front rest tag srb packet tags' k is packs same low free lower p =
@@ -177,11 +178,11 @@ machine_starts b v rooms front rest tag srb packet tags' k is packs same low fre
         short = places_short b.sizes front.request some (let m = k.adapter.max_transfer.0 in let e = k.sizes.max_transfer in omega arith) w.room.bounded;
         inside = omega arith;
         unsent = all_unsent n;
-        begins = omega arith;
-        spare = λ back. cc (back, ap is_back (get_or-replicate n 0 Untouched Untouched sized));
+        begins = λ grid. omega arith;
+        spare = λ grid back. cc (back, ap is_back (get_or-replicate n 0 Untouched Untouched sized));
         whole = λ _. record { all_places = sym count; not_before = rw untouched_all refl };
       };
-      asks = subst (Means srb.block) (sym (same_command rules front.request (sent_bytes front.request.kind front.irp.payload) front.request.kind refl)) asks.asks;
+      asks = subst (Means srb.block) (sym (same_command rules front.request (sent_bytes front.request.kind front.irp.value.payload) front.request.kind refl)) asks.asks;
       after = record {
         arrays = refl;
         next_request = refl;
@@ -206,7 +207,7 @@ machine_starts b v rooms front rest tag srb packet tags' k is packs same low fre
         let e : x ≡ sent (record { first = 0; count = n }) (waiting_open rules front) =
         ap (λ (e : Entry). out_open rules e (in_use_from v tag b.next_piece srb)) same
         ∙ ap (λ (q : Payload). open_as rules (entry_of front) q 0 (replicate n Out)) (sym packs)
-        ∙ ap (λ (ms : List Mark). open_as rules (entry_of front) front.irp.payload 0 ms) (sym marks) in
+        ∙ ap (λ (ms : List Mark). open_as rules (entry_of front) front.irp.value.payload 0 ms) (sym marks) in
         subst (λ y. IsPermutation (map (waiting_open rules) rest ++ (map (open_on rules (slice_set b.started tag (Some packet))) tags' ++ map (done_open rules) b.done)) (y ∷ (map (waiting_open rules) rest ++ (map (open_on rules b.started) v.tags ++ map (done_open rules) b.done)))) e
         (second_front (map (waiting_open rules) rest) _ _ (map (done_open rules) b.done) x (tags_started (out_open rules) b.started tag packet (in_use_from v tag b.next_piece srb) v.tags tags' inside refl free p))
 
@@ -238,7 +239,7 @@ packets_started f b v front rest tag srb packet tags' is same inside free p =
     (second_front (map (of_waiting f) rest) (map (of_tag f (slice_set b.started tag (Some packet))) tags') (map (of_tag f b.started) v.tags) (map (of_done f) b.done) (f (entry_of packet)) (tags_started (λ e u. f e) b.started tag packet (in_use_from v tag b.next_piece srb) v.tags tags' inside refl free p)))
 
 pub kept_started : (b : Books) (v : AdapterView) (rooms : List Request) (front : Held) (rest : List Held) (tag : ℕ) (srb : Srb) (packet : Held) (tags' : List TagInUse)
-    → PortKept b v rooms → b.waiting ≡ front ∷ rest → front.irp.payload ≡ Packed srb → entry_of packet ≡ entry_of front
+    → PortKept b v rooms → b.waiting ≡ front ∷ rest → front.irp.value.payload ≡ Packed srb → entry_of packet ≡ entry_of front
     → tag < v.depth → IsFree v tag → IsPermutation tags' (in_use_from v tag b.next_piece srb ∷ v.tags)
     → IsInOrder (view_started v tags' tag b.next_piece srb)
     → Starts (rules_of b.sizes) (state_of b v) b.next_piece tag srb.block (state_of (books_started b rest tag packet) (view_started v tags' tag b.next_piece srb))
@@ -273,6 +274,8 @@ kept_started b v rooms front rest tag srb packet tags' k is packs same low free 
       ended = k.ended;
       reserved = All-permutation (IsRoom rules v') _ _ (IsPermutation-sym _ _ (packets_started asked b v front rest tag srb packet tags' is same inside free p))
           (All-weaker (IsRoom rules v) (IsRoom rules v') (room_moves rules v v' (λ extent h. h)) (of_packets asked b v) k.reserved);
+      spots = distinct_same _ _ (IsPermutation-sym _ _ (packets_started spot_in b v front rest tag srb packet tags' is same inside free p)) k.spots;
+      taken = All-permutation (IsTaken b.rooms) _ _ (IsPermutation-sym _ _ (packets_started spot_in b v front rest tag srb packet tags' is same inside free p)) k.taken;
       rooms_out = All-weaker (IsRoom rules v) (IsRoom rules v') (room_moves rules v v' (λ extent h. h)) rooms k.rooms_out;
       removing = λ r. absurd (cc (k.removing r, is));
       distinct = AreDistinct-DeviceStep rules (state_of b v) (Start b.next_piece tag srb.block) _ k.distinct starts;
@@ -295,6 +298,7 @@ start_moves b v front rest tag srb packet tags' is same inside low free few p st
   moves = record {
     same_rules = refl;
     same_packets = packets_started packet_as b v front rest tag srb packet tags' is same inside free p;
+    same_rooms = λ _. refl;
     same_submitted = refl;
     same_most = refl;
     run = (state_of (books_started b rest tag packet) (view_started v tags' tag b.next_piece srb), inl (refl, starts), IsSame-refl _);
@@ -317,7 +321,7 @@ pub record Started (b : Books) (v : AdapterView) (tag : ℕ) (b' : Books) (v' : 
   pub lower : AreLowerInUse b' v' (tag + 1)
 
 started_fields : (b : Books) (v : AdapterView) (rooms : List Request) (front : Held) (rest : List Held) (tag : ℕ) (srb : Srb) (packet : Held) (tags' : List TagInUse)
-    → PortKept b v rooms → b.waiting ≡ front ∷ rest → front.irp.payload ≡ Packed srb → entry_of packet ≡ entry_of front
+    → PortKept b v rooms → b.waiting ≡ front ∷ rest → front.irp.value.payload ≡ Packed srb → entry_of packet ≡ entry_of front
     → tag < v.depth → IsFree v tag → ((lower : ℕ) → lower < tag → Any (UseHasTag lower) v.tags) → IsPermutation tags' (in_use_from v tag b.next_piece srb ∷ v.tags)
     → IsInOrder (view_started v tags' tag b.next_piece srb)
     → Started b v tag (books_started b rest tag packet) (view_started v tags' tag b.next_piece srb)
@@ -354,7 +358,7 @@ pub releases_none : (b : Books) (v : AdapterView) → Releases b v b v
 releases_none b v = record {
   starts = [];
   only_starts = All-nil IsStart;
-  moves = record { same_rules = refl; same_packets = IsPermutation-refl _; same_submitted = refl; same_most = refl; run = IsSame-refl _; adapter = reserves_none v };
+  moves = record { same_rules = refl; same_packets = IsPermutation-refl _; same_rooms = λ _. refl; same_submitted = refl; same_most = refl; run = IsSame-refl _; adapter = reserves_none v };
   stay = All-contains_itself (begun_of b v);
   full = λ all. (refl, refl);
 }
@@ -363,6 +367,7 @@ pub moves_then : (o m n : DeviceView) (xs ys : List DeviceLabel) → Moves o xs 
 moves_then o m n xs ys h k = record {
   same_rules = k.same_rules ∙ h.same_rules;
   same_packets = IsPermutation-trans _ _ _ k.same_packets h.same_packets;
+  same_rooms = λ spot. k.same_rooms spot ∙ h.same_rooms spot;
   same_submitted = k.same_submitted ∙ h.same_submitted;
   same_most = k.same_most ∙ h.same_most;
   run = subst (λ ls. Run o.rules o.state ls n.state) (sym (map-append as_label xs ys)) (Run-append o.rules o.state (map as_label xs) m.state (map as_label ys) n.state h.run (subst (λ r. Run r m.state (map as_label ys) n.state) h.same_rules k.run));

@@ -1,5 +1,6 @@
 -- A packet is taken in.
-use Rattle.std.proofs.Common.{◌≡◌, ◌<◌, ◌≤◌, ◌⊎◌, inl, inr, ℕ, ◌+◌, Bool, true, List, [], ◌∷◌, ◌++◌, None, refl, sym, subst, ap, arith, map, length, length-append}
+use Rattle.std.specs.Global.{Box}
+use Rattle.std.proofs.Common.{◌≡◌, ◌<◌, ◌≤◌, ◌⊎◌, inl, inr, ℕ, ◌+◌, Bool, true, List, [], ◌∷◌, ◌++◌, Option, Some, None, ◌∙◌, refl, sym, subst, ap, arith, map, length, length-append}
 use Rattle.std.specs.Prelude.{All, Contains, IsFalse, IsPermutation}
 use Rattle.std.proofs.lemmas.Bool.{cases_lt}
 use Rattle.std.proofs.lemmas.List.{map-append, append_assoc}
@@ -12,31 +13,32 @@ use Rattle.machine.specs.Rules.{Rules, as_client}
 use Rattle.machine.specs.State.{OpenRequest}
 use Rattle.machine.specs.Calling.{Opens, new_request}
 use Rattle.machine.specs.Numbers.{IsGiven}
-use Rattle.device.specs.View.{Carries, sent_bytes, packet_of}
-use Rattle.device.specs.Served.{Submits}
+use Rattle.device.specs.View.{Carries, sent_bytes, packet_of, whole_for}
+use Rattle.device.specs.Served.{Submits, SetsRoom}
 use Rattle.machine.proofs.Numbers.{AreDistinct-Admits}
 use Rattle.port.specs.declared.queues.Held.{Held}
-use Rattle.port.specs.Books.{held_with, Entry, Books, entry}
-use Rattle.port.specs.Turns.{Queued}
+use Rattle.port.specs.inside.Books.{held_with, Entry, Books, entry, spot_in}
+use Rattle.port.specs.inside.Turns.{Queued, SetsSlot}
 use Rattle.port.specs.Shown.{rules_of, most, waiting_open, open_on, done_open, packet as packet_as, of_packets, of_waiting, of_tag, of_done, state_of, view_of, requests_of}
-use Rattle.port.specs.Kept.{asked, PortKept, IsBusy, IsInHand, IsRoom, IsWaiting, IsBefore, AreInTurn}
-use Rattle.port.specs.Releases.{begun_of, Releases}
+use Rattle.port.specs.inside.Kept.{asked, PortKept, IsBusy, IsInHand, IsRoom, IsWaiting, IsBefore, AreInTurn, IsTaken}
+use Rattle.port.proofs.Places.{distinct_same, spots_more, taken_more, sets_room}
+use Rattle.port.specs.inside.Releases.{begun_of, Releases}
 use Rattle.port.proofs.Lists.{contains_behind}
 use Rattle.port.proofs.Sizing.{not_refused, carries_bytes}
 use Rattle.port.proofs.Starting.{kept_sector_some}
 use Rattle.port.proofs.Opening.{true_false}
 
-abbrev pub books_queued : Books → Irp → Request → ℕ → Books
-books_queued b irp r spot = record b { waiting = b.waiting ++ held_with irp r spot ∷ []; last_request = irp.number; submitted = b.submitted + 1 }
+abbrev pub books_queued : Books → Box Irp → Request → ℕ → List (Option (Option Request)) → Books
+books_queued b irp r spot slots = record b { waiting = b.waiting ++ held_with irp r spot ∷ []; last_request = irp.value.number; submitted = b.submitted + 1; rooms = slots }
 
 abbrev pub numbered_below : ℕ → Held → Type 0
-numbered_below n held = held.irp.number < n
+numbered_below n held = held.irp.value.number < n
 
 -- the last comes after all before it
-turn_push : (waiting : List Held) (held : Held) → All (numbered_below held.irp.number) waiting → AreInTurn waiting → AreInTurn (waiting ++ held ∷ [])
+turn_push : (waiting : List Held) (held : Held) → All (numbered_below held.irp.value.number) waiting → AreInTurn waiting → AreInTurn (waiting ++ held ∷ [])
 turn_push [] held below h = (All-nil (IsBefore held), tt)
 turn_push (x ∷ xs) held below h =
-    (All-push (IsBefore x) xs held h.0 (All-head (numbered_below held.irp.number) x xs below), turn_push xs held (All-tail (numbered_below held.irp.number) x xs below) h.1)
+    (All-push (IsBefore x) xs held h.0 (All-head (numbered_below held.irp.value.number) x xs below), turn_push xs held (All-tail (numbered_below held.irp.value.number) x xs below) h.1)
 
 -- those that wait have numbers that were given
 waiting_given : (rules : Rules) (next : ℕ) (waiting : List Held) (rest : List OpenRequest) → All (IsGiven next) (map (waiting_open rules) waiting ++ rest) → All (numbered_below next) waiting
@@ -47,23 +49,23 @@ waiting_given rules next (x ∷ xs) rest h =
 behind_all : {X : Type 0} (before : List X) (x : X) (rest : List X) → IsPermutation ((before ++ x ∷ []) ++ rest) (x ∷ (before ++ rest))
 behind_all before x rest = rw append_assoc (IsPermutation-middle before x rest)
 
-pub record MayQueue (b : Books) (irp : Irp) (r : Request) : Type 0 where
+pub record MayQueue (b : Books) (irp : Box Irp) (r : Request) : Type 0 where
   pub stays : IsFalse b.removing
-  pub number : b.last_request + 1 ≤ irp.number
+  pub number : b.last_request + 1 ≤ irp.value.number
   pub few : b.submitted < most
-  pub not_cancelled : IsFalse irp.cancelled
-  pub carries : Carries true (rules_of b.sizes) r irp.payload
+  pub not_cancelled : IsFalse irp.value.cancelled
+  pub carries : Carries true (rules_of b.sizes) r irp.value.payload
 
-opens_queued : (b : Books) (v : AdapterView) (irp : Irp) (r : Request) (spot : ℕ) (rooms : List Request) → PortKept b v (r ∷ rooms) → MayQueue b irp r
-    → Opens (rules_of b.sizes) (state_of b v) irp.number (as_client (rules_of b.sizes) r (sent_bytes r.kind irp.payload)) (state_of (books_queued b irp r spot) v)
-opens_queued b v irp r spot rooms k m =
+opens_queued : (b : Books) (v : AdapterView) (irp : Box Irp) (r : Request) (spot : ℕ) (slots : List (Option (Option Request))) (rooms : List Request) → PortKept b v (r ∷ rooms) → MayQueue b irp r
+    → Opens (rules_of b.sizes) (state_of b v) irp.value.number (as_client (rules_of b.sizes) r (sent_bytes r.kind irp.value.payload)) (state_of (books_queued b irp r spot slots) v)
+opens_queued b v irp r spot slots rooms k m =
     let rules : Rules = rules_of b.sizes in
     let room : IsRoom rules v r = All-head (IsRoom rules v) r rooms k.rooms_out in
     let some : 0 < b.sizes.sector_size = kept_sector_some b v (r ∷ rooms) k in
     record {
       new_number = m.number;
-      not_refused = not_refused b.sizes r (sent_bytes r.kind irp.payload) (state_of b v) some room.bounded m.stays;
-      carries = carries_bytes b.sizes r irp.payload room.bounded m.carries;
+      not_refused = not_refused b.sizes r (sent_bytes r.kind irp.value.payload) (state_of b v) some room.bounded m.stays;
+      carries = carries_bytes b.sizes r irp.value.payload room.bounded m.carries;
       after = record {
         arrays = refl;
         next_request = refl;
@@ -78,25 +80,25 @@ opens_queued b v irp r spot rooms k m =
     }
   where
     requests_after : (rules : Rules) → IsPermutation (map (waiting_open rules) (b.waiting ++ held_with irp r spot ∷ []) ++ (map (open_on rules b.started) v.tags ++ map (done_open rules) b.done))
-        (new_request rules (state_of b v) irp.number (as_client rules r (sent_bytes r.kind irp.payload)) ∷ (map (waiting_open rules) b.waiting ++ (map (open_on rules b.started) v.tags ++ map (done_open rules) b.done)))
+        (new_request rules (state_of b v) irp.value.number (as_client rules r (sent_bytes r.kind irp.value.payload)) ∷ (map (waiting_open rules) b.waiting ++ (map (open_on rules b.started) v.tags ++ map (done_open rules) b.done)))
     requests_after rules =
-        let e : waiting_open rules (held_with irp r spot) ≡ new_request rules (state_of b v) irp.number (as_client rules r (sent_bytes r.kind irp.payload)) =
-        ap (λ (flag : Bool). record (new_request rules (state_of b v) irp.number (as_client rules r (sent_bytes r.kind irp.payload))) { cancelled = flag }) m.not_cancelled in
+        let e : waiting_open rules (held_with irp r spot) ≡ new_request rules (state_of b v) irp.value.number (as_client rules r (sent_bytes r.kind irp.value.payload)) =
+        ap (λ (flag : Bool). record (new_request rules (state_of b v) irp.value.number (as_client rules r (sent_bytes r.kind irp.value.payload))) { cancelled = flag }) m.not_cancelled in
         let p : IsPermutation ((map (waiting_open rules) b.waiting ++ waiting_open rules (held_with irp r spot) ∷ []) ++ (map (open_on rules b.started) v.tags ++ map (done_open rules) b.done)) (waiting_open rules (held_with irp r spot) ∷ (map (waiting_open rules) b.waiting ++ (map (open_on rules b.started) v.tags ++ map (done_open rules) b.done))) = behind_all (map (waiting_open rules) b.waiting) (waiting_open rules (held_with irp r spot)) (map (open_on rules b.started) v.tags ++ map (done_open rules) b.done) in
-        subst (λ ws. IsPermutation (ws ++ (map (open_on rules b.started) v.tags ++ map (done_open rules) b.done)) (new_request rules (state_of b v) irp.number (as_client rules r (sent_bytes r.kind irp.payload)) ∷ (map (waiting_open rules) b.waiting ++ (map (open_on rules b.started) v.tags ++ map (done_open rules) b.done)))) (sym (map-append (waiting_open rules) b.waiting (held_with irp r spot ∷ [])))
+        subst (λ ws. IsPermutation (ws ++ (map (open_on rules b.started) v.tags ++ map (done_open rules) b.done)) (new_request rules (state_of b v) irp.value.number (as_client rules r (sent_bytes r.kind irp.value.payload)) ∷ (map (waiting_open rules) b.waiting ++ (map (open_on rules b.started) v.tags ++ map (done_open rules) b.done)))) (sym (map-append (waiting_open rules) b.waiting (held_with irp r spot ∷ [])))
         (subst (λ (x : OpenRequest). IsPermutation ((map (waiting_open rules) b.waiting ++ waiting_open rules (held_with irp r spot) ∷ []) ++ (map (open_on rules b.started) v.tags ++ map (done_open rules) b.done)) (x ∷ (map (waiting_open rules) b.waiting ++ (map (open_on rules b.started) v.tags ++ map (done_open rules) b.done)))) e p)
 
-packets_queued : {Y : Type 0} (f : Entry → Y) (b : Books) (v : AdapterView) (irp : Irp) (r : Request) (spot : ℕ) → IsPermutation (of_packets f (books_queued b irp r spot) v) (f (entry irp r spot) ∷ of_packets f b v)
-packets_queued {Y} f b v irp r spot =
-    subst (λ (ws : List Y). IsPermutation (ws ++ (map (of_tag f b.started) v.tags ++ map (of_done f) b.done)) (f (entry irp r spot) ∷ of_packets f b v)) (sym (map-append (of_waiting f) b.waiting (held_with irp r spot ∷ [])))
-    (behind_all (map (of_waiting f) b.waiting) (f (entry irp r spot)) (map (of_tag f b.started) v.tags ++ map (of_done f) b.done))
+packets_queued : {Y : Type 0} (f : Entry → Y) (b : Books) (v : AdapterView) (irp : Box Irp) (r : Request) (spot : ℕ) (slots : List (Option (Option Request))) → IsPermutation (of_packets f (books_queued b irp r spot slots) v) (f (entry irp.value r spot) ∷ of_packets f b v)
+packets_queued {Y} f b v irp r spot slots =
+    subst (λ (ws : List Y). IsPermutation (ws ++ (map (of_tag f b.started) v.tags ++ map (of_done f) b.done)) (f (entry irp.value r spot) ∷ of_packets f b v)) (sym (map-append (of_waiting f) b.waiting (held_with irp r spot ∷ [])))
+    (behind_all (map (of_waiting f) b.waiting) (f (entry irp.value r spot)) (map (of_tag f b.started) v.tags ++ map (of_done f) b.done))
 
-kept_queued : (b : Books) (v : AdapterView) (irp : Irp) (r : Request) (spot : ℕ) (rooms : List Request) → PortKept b v (r ∷ rooms) → MayQueue b irp r → PortKept (books_queued b irp r spot) v rooms
-kept_queued b v irp r spot rooms k m =
+kept_queued : (b : Books) (v : AdapterView) (irp : Box Irp) (r : Request) (spot : ℕ) (slots : List (Option (Option Request))) (rooms : List Request) → PortKept b v (r ∷ rooms) → MayQueue b irp r → SetsSlot b.rooms spot (Some (Some r)) (Some None) slots → PortKept (books_queued b irp r spot slots) v rooms
+kept_queued b v irp r spot slots rooms k m slot =
     let rules : Rules = rules_of b.sizes in
     let room : IsRoom rules v r = All-head (IsRoom rules v) r rooms k.rooms_out in
-    let below : All (numbered_below irp.number) b.waiting =
-    All-weaker (numbered_below (b.last_request + 1)) (numbered_below irp.number) (λ h low. omega (arith, m.number)) b.waiting (waiting_given rules (b.last_request + 1) b.waiting _ k.distinct.given) in
+    let below : All (numbered_below irp.value.number) b.waiting =
+    All-weaker (numbered_below (b.last_request + 1)) (numbered_below irp.value.number) (λ h low. omega (arith, m.number)) b.waiting (waiting_given rules (b.last_request + 1) b.waiting _ k.distinct.given) in
     let l = length-append b.waiting (held_with irp r spot ∷ []) in
     record {
       adapter = k.adapter;
@@ -106,10 +108,12 @@ kept_queued b v irp r spot rooms k m =
       in_turn = turn_push b.waiting (held_with irp r spot) below k.in_turn;
       at_work = k.at_work;
       ended = k.ended;
-      reserved = All-permutation (IsRoom rules v) _ _ (IsPermutation-sym _ _ (packets_queued asked b v irp r spot)) (All-cons (IsRoom rules v) r (of_packets asked b v) room k.reserved);
+      reserved = All-permutation (IsRoom rules v) _ _ (IsPermutation-sym _ _ (packets_queued asked b v irp r spot slots)) (All-cons (IsRoom rules v) r (of_packets asked b v) room k.reserved);
       rooms_out = All-tail (IsRoom rules v) r rooms k.rooms_out;
+      spots = distinct_same _ _ (IsPermutation-sym _ _ (packets_queued spot_in b v irp r spot slots)) (spots_more b.rooms spot r slots slot (of_packets spot_in b v) k.taken k.spots);
+      taken = All-permutation (IsTaken slots) _ _ (IsPermutation-sym _ _ (packets_queued spot_in b v irp r spot slots)) (taken_more b.rooms spot r slots slot (of_packets spot_in b v) k.taken);
       removing = λ removes. true_false b.removing removes m.stays;
-      distinct = AreDistinct-Admits rules (state_of b v) irp.number (as_client rules r (sent_bytes r.kind irp.payload)) None (state_of (books_queued b irp r spot) v) m.number k.distinct (opens_queued b v irp r spot rooms k m);
+      distinct = AreDistinct-Admits rules (state_of b v) irp.value.number (as_client rules r (sent_bytes r.kind irp.value.payload)) None (state_of (books_queued b irp r spot slots) v) m.number k.distinct (opens_queued b v irp r spot slots rooms k m);
       places = let c = k.places in omega arith;
       submitted = let c = m.few in omega arith;
       accepted = let c = k.accepted in omega arith;
@@ -118,9 +122,9 @@ kept_queued b v irp r spot rooms k m =
     }
 
 -- with a tag free nothing waited; with none free nothing is started
-others_queued : (b : Books) (v : AdapterView) (irp : Irp) (r : Request) (spot : ℕ) (rooms : List Request) (b' : Books) (v' : AdapterView) → PortKept b v (r ∷ rooms) → MayQueue b irp r → IsBusy b v
-    → Releases (books_queued b irp r spot) v b' v' → All (Contains (requests_of b' v')) (requests_of b v)
-others_queued b v irp r spot rooms b' v' k m busy h = by_tags (cases_lt (length v.tags) v.depth)
+others_queued : (b : Books) (v : AdapterView) (irp : Box Irp) (r : Request) (spot : ℕ) (slots : List (Option (Option Request))) (rooms : List Request) (b' : Books) (v' : AdapterView) → PortKept b v (r ∷ rooms) → MayQueue b irp r → IsBusy b v
+    → Releases (books_queued b irp r spot slots) v b' v' → All (Contains (requests_of b' v')) (requests_of b v)
+others_queued b v irp r spot slots rooms b' v' k m busy h = by_tags (cases_lt (length v.tags) v.depth)
   where
     by_tags : (length v.tags < v.depth) ⊎ (v.depth ≤ length v.tags) → All (Contains (requests_of b' v')) (requests_of b v)
     by_tags (inl free) =
@@ -129,34 +133,43 @@ others_queued b v irp r spot rooms b' v' k m busy h = by_tags (cases_lt (length 
         All-weaker (Contains (begun_of b' v')) (Contains (requests_of b' v')) (λ o c. Contains-append_right waiting (begun_of b' v') o c) (begun_of b v) h.stay in
         subst (λ (hs : List Held). All (Contains (requests_of b' v')) (map (waiting_open (rules_of b.sizes)) hs ++ begun_of b v)) (sym (busy free)) stay
     by_tags (inr full) =
-        let opens = opens_queued b v irp r spot rooms k m in
+        let opens = opens_queued b v irp r spot slots rooms k m in
         let same = h.full full in
         subst (λ (x : Books). All (Contains (requests_of x v')) (requests_of b v)) (sym same.0)
-        (subst (λ (y : AdapterView). All (Contains (requests_of (books_queued b irp r spot) y)) (requests_of b v)) (sym same.1)
-        (contains_behind (requests_of b v) (requests_of (books_queued b irp r spot) v) _ opens.after.requests))
+        (subst (λ (y : AdapterView). All (Contains (requests_of (books_queued b irp r spot slots) y)) (requests_of b v)) (sym same.1)
+        (contains_behind (requests_of b v) (requests_of (books_queued b irp r spot slots) v) _ opens.after.requests))
 
-submits_queued : (b : Books) (v : AdapterView) (irp : Irp) (r : Request) (spot : ℕ) (rooms : List Request) (b' : Books) (v' : AdapterView) → PortKept b v (r ∷ rooms) → MayQueue b irp r → IsBusy b v
-    → Releases (books_queued b irp r spot) v b' v' → Submits (view_of b v) (packet_of irp spot) r irp.payload (view_of b' v')
-submits_queued b v irp r spot rooms b' v' k m busy h = record {
-  opened = state_of (books_queued b irp r spot) v;
+-- the room is spent, and no start changes another
+submitted_room : (b : Books) (v : AdapterView) (irp : Box Irp) (r : Request) (spot : ℕ) (slots : List (Option (Option Request))) (b' : Books) (v' : AdapterView) → SetsSlot b.rooms spot (Some (Some r)) (Some None) slots
+    → Releases (books_queued b irp r spot slots) v b' v' → SetsRoom (view_of b v).rooms spot (Some (whole_for r)) None (view_of b' v').rooms
+submitted_room b v irp r spot slots b' v' slot h =
+    let x = sets_room b.rooms spot (Some (Some r)) (Some None) slots slot in
+    record { was = x.was; is = h.moves.same_rooms spot ∙ x.is; others = λ other away. h.moves.same_rooms other ∙ x.others other away }
+
+submits_queued : (b : Books) (v : AdapterView) (irp : Box Irp) (r : Request) (spot : ℕ) (slots : List (Option (Option Request))) (rooms : List Request) (b' : Books) (v' : AdapterView) → PortKept b v (r ∷ rooms) → MayQueue b irp r → IsBusy b v → SetsSlot b.rooms spot (Some (Some r)) (Some None) slots
+    → Releases (books_queued b irp r spot slots) v b' v' → Submits (view_of b v) (packet_of irp.value spot) r irp.value.payload (view_of b' v')
+submits_queued b v irp r spot slots rooms b' v' k m busy slot h = record {
+  room = submitted_room b v irp r spot slots b' v' slot h;
+  opened = state_of (books_queued b irp r spot slots) v;
   starts = h.starts;
-  opens = opens_queued b v irp r spot rooms k m;
+  opens = opens_queued b v irp r spot slots rooms k m;
   only_starts = h.only_starts;
   moves = record {
     same_rules = h.moves.same_rules;
-    same_packets = IsPermutation-trans _ _ _ h.moves.same_packets (packets_queued packet_as b v irp r spot);
+    same_packets = IsPermutation-trans _ _ _ h.moves.same_packets (packets_queued packet_as b v irp r spot slots);
+    same_rooms = λ _. refl;
     same_submitted = h.moves.same_submitted;
     same_most = h.moves.same_most;
     run = h.moves.run;
     adapter = h.moves.adapter;
   };
-  others_stay = others_queued b v irp r spot rooms b' v' k m busy h;
+  others_stay = others_queued b v irp r spot slots rooms b' v' k m busy h;
 }
 
 -- as the queues say it
-pub queued_kept : (b : Books) (v : AdapterView) (irp : Irp) (r : Request) (spot : ℕ) (b' : Books) → Queued b irp r spot b' → MayQueue b irp r → (rooms : List Request) → PortKept b v (r ∷ rooms) → PortKept b' v rooms
-queued_kept b v irp r spot b' q m rooms k = subst (λ x. PortKept x v rooms) (sym q) (kept_queued b v irp r spot rooms k m)
+pub queued_kept : (b : Books) (v : AdapterView) (irp : Box Irp) (r : Request) (spot : ℕ) (b' : Books) → Queued b irp r spot b' → MayQueue b irp r → (rooms : List Request) → PortKept b v (r ∷ rooms) → PortKept b' v rooms
+queued_kept b v irp r spot b' q m rooms k = subst (λ x. PortKept x v rooms) (sym q.after) (kept_queued b v irp r spot b'.rooms rooms k m q.slot)
 
-pub queued_submits : (b : Books) (v : AdapterView) (irp : Irp) (r : Request) (spot : ℕ) (rooms : List Request) (b' c : Books) (v' : AdapterView) → Queued b irp r spot b' → MayQueue b irp r → IsInHand b v (r ∷ rooms)
-    → Releases b' v c v' → Submits (view_of b v) (packet_of irp spot) r irp.payload (view_of c v')
-queued_submits b v irp r spot rooms b' c v' q m k h = submits_queued b v irp r spot rooms c v' k.kept m k.busy (subst (λ x. Releases x v c v') q h)
+pub queued_submits : (b : Books) (v : AdapterView) (irp : Box Irp) (r : Request) (spot : ℕ) (rooms : List Request) (b' c : Books) (v' : AdapterView) → Queued b irp r spot b' → MayQueue b irp r → IsInHand b v (r ∷ rooms)
+    → Releases b' v c v' → Submits (view_of b v) (packet_of irp.value spot) r irp.value.payload (view_of c v')
+queued_submits b v irp r spot rooms b' c v' q m k h = submits_queued b v irp r spot b'.rooms rooms c v' k.kept m k.busy q.slot (subst (λ x. Releases x v c v') q.after h)

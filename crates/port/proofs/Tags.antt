@@ -16,7 +16,7 @@ use Rattle.adapter.specs.Calls.{tag_of}
 use Rattle.machine.proofs.Same.{Any-permutation}
 use Rattle.machine.proofs.Permuting.{distinct_first}
 use Rattle.port.specs.declared.queues.Held.{Held}
-use Rattle.port.specs.Books.{Entry}
+use Rattle.port.specs.inside.Books.{Entry}
 use Rattle.port.specs.Shown.{entry_on}
 
 map_apart : (tags : List TagInUse) → AllPairs HaveOtherTags tags → AllPairs (λ x y. x ≢ y) (map tag_of tags)

@@ -11,25 +11,28 @@ use Rattle.adapter.specs.Performing.{CarriesOut}
 use Rattle.srb.specs.Fate.{Fresh}
 use Rattle.adapter.specs.View.{AdapterView, TagInUse, IsInOrder, IsOn, ActsOn as AdapterActsOn, FaultsOn as AdapterFaultsOn, MovesOn, acted, faulted}
 use Rattle.adapter.specs.Calls.{IsBooked, ActsOrFaults as AdapterActsOrFaults, ActsNot as AdapterActsNot}
+use Rattle.irp.specs.declared.Payload.TheVariants.{Srb as Packed}
 use Rattle.machine.specs.declared.Request.{Request}
 use Rattle.machine.specs.Rules.{Rules, as_client}
 use Rattle.machine.specs.State.{OpenRequest, Piece}
 use Rattle.machine.specs.Sending.{Acts, Faults}
-use Rattle.device.specs.View.{AsksFor, label_places}
+use Rattle.device.specs.View.{AsksFor, label_places, sent_bytes}
 use Rattle.device.specs.Served.{IsAct, IsActOrFault, ActsOrFaults, ActsNot}
 use Rattle.machine.specs.Step.{DeviceStep}
 use Rattle.machine.proofs.Same.{IsSame-refl}
 use Rattle.machine.proofs.Numbers.{AreDistinct-DeviceStep}
 use Rattle.port.specs.declared.queues.Held.{Held}
-use Rattle.port.specs.Books.{Entry, Books, entry_of}
-use Rattle.port.specs.Turns.{held_on}
+use Rattle.port.specs.inside.Books.{Entry, Books, entry_of, spot_in}
+use Rattle.port.specs.inside.Turns.{held_on}
 use Rattle.port.specs.Shown.{rules_of, waiting_open, done_open, out_open, out_piece, open_on, piece_on, packet as packet_as, of_packets, of_waiting, of_done, state_of, view_of, requests_of}
-use Rattle.port.specs.Kept.{asked, PortKept, IsInHand, IsRoom, IsWaiting, IsEmptyIfFlush, IsAtWork, IsDoing}
+use Rattle.port.specs.inside.Kept.{asked, PortKept, IsInHand, IsRoom, IsWaiting, IsEmptyIfFlush, IsAtWork, IsDoing, IsTaken}
+use Rattle.port.proofs.Places.{distinct_same}
 use Rattle.port.proofs.Lists.{second_front}
 use Rattle.adapter.proofs.Joining.{moves_one}
 use Rattle.port.proofs.Starting.{room_moves, waiting_moves, kept_sector_some}
 use Rattle.port.proofs.Returning.{tags_on, on_tag_work, on_tag_some}
 use Rattle.port.proofs.Orderly.{in_hand}
+use Rattle.port.proofs.Spoiling.{spoiled_same, none_as_many}
 use Rattle.port.proofs.Acting.{IsCarried, carried, the_arrays}
 
 -- the view with other sectors, tags and failures, and one label more
@@ -100,6 +103,8 @@ module _ (b : Books) (v : AdapterView) (tag : ℕ) (use' use'' : TagInUse) (othe
             (record { held = held; on_tag = on_after h; bounded = work.0; doing = h.doing; empty = h.empty }) rest);
         ended = k.ended;
         reserved = All-permutation (IsRoom rules v') _ _ (IsPermutation-sym _ _ (packets_turned asked h)) (All-weaker (IsRoom rules v) (IsRoom rules v') (room_moves rules v v' (λ extent r. r)) (of_packets asked b v) k.reserved);
+        spots = distinct_same _ _ (IsPermutation-sym _ _ (packets_turned spot_in h)) k.spots;
+        taken = All-permutation (IsTaken b.rooms) _ _ (IsPermutation-sym _ _ (packets_turned spot_in h)) k.taken;
         rooms_out = All-weaker (IsRoom rules v) (IsRoom rules v') (room_moves rules v v' (λ extent r. r)) rooms k.rooms_out;
         removing = k.removing;
         distinct = AreDistinct-DeviceStep rules (state_of b v) label _ k.distinct step;
@@ -133,6 +138,7 @@ module _ (b : Books) (v : AdapterView) (tag : ℕ) (use' use'' : TagInUse) (othe
       moves = record {
         same_rules = refl;
         same_packets = packets_turned packet_as h;
+        same_rooms = λ _. refl;
         same_submitted = refl;
         same_most = refl;
         run = (state_of b (view_turned v sectors tags' failures label), inl (refl, step), IsSame-refl _);
@@ -214,16 +220,19 @@ faulted_all b v v' rooms tag piece k space a not_booked order =
     let e : Entry = entry_of held in
     let work = on_tag_work rules b.started v.tags a.use' a.others tag held k.at_work a.is_on.in_use a.is_on.has_tag w.1 in
     let label : DeviceLabel = Fault piece in
-    let u : TagInUse = faulted a.use' in
+    let asks : AsksFor rules held.request a.use'.srb = subst (λ f. IsDoing rules held.request f a.use'.srb) a.is_fresh work.1 in
+    let sent : sent_bytes held.request.kind (Packed a.left) ≡ sent_bytes held.request.kind (Packed a.use'.srb) =
+    spoiled_same rules held.request held.request.kind a.use'.srb a.left refl asks.asks a.spoiled in
+    let u : TagInUse = faulted a.left a.use' in
     let x : AdapterView = view_turned v v.sectors a.tags a.failures label in
     let h : Turned b v tag a.use' u a.others a.tags v.sectors held = record {
       on = a.is_on;
       in_use = a.in_use;
       same_tag = refl;
       held_is = w.1;
-      same_open = refl;
+      same_open = ap (λ (bytes : List ℕ). record (out_open rules e a.use') { request = as_client rules held.request bytes }) sent;
       doing = tt;
-      empty = work.2;
+      empty = λ flush. none_as_many a.use'.srb.data a.left.data a.spoiled.as_many (work.2 flush);
       long = refl;
     } in
     let step : Faults (state_of b v) piece (state_of b x) = record {

@@ -1,8 +1,4 @@
-pub mod Books
-pub mod Turns
 pub mod Shown
-pub mod Kept
-pub mod Order
 pub mod Opening
-pub mod Releases
-pub mod Cancelling
+pub mod Seen
+pub mod inside

@@ -28,6 +28,7 @@ opening_view v = record {
   rules = rules_over v;
   state = opening (map (sectors_in v.sectors) (rules_over v).partitions);
   packets = [];
+  rooms = [];
   submitted = 0;
   most = most;
   adapter = v;

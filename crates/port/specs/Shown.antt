@@ -15,15 +15,15 @@ use Rattle.machine.specs.Rules.{Rules, place_count, as_client}
 use Rattle.machine.specs.State.{Mark, Untouched, Out, Done, Failed, Back, OpenRequest, Piece, State}
 use Rattle.machine.specs.Sending.{status_of_completion}
 use Rattle.sector.specs.Extents.{sectors_in}
-use Rattle.device.specs.View.{Packet, DeviceView, sent_bytes}
+use Rattle.device.specs.View.{Packet, DeviceView, sent_bytes, Reserved, whole_for}
 use Rattle.device.specs.Served.{sectors_moved}
 use Rattle.port.specs.declared.queues.Sizes.{Sizes}
 use Rattle.port.specs.declared.queues.Held.{Held}
 use Rattle.port.specs.declared.queues.Ended.{Ended}
 use Rattle.port.specs.declared.queues.Outcome.{Outcome}
 use Rattle.port.specs.declared.queues.Outcome.TheVariants.{Returned, Withdrawn, Gone}
-use Rattle.port.specs.Books.{Entry, Books, entry_of, ended_entry}
-use Rattle.port.specs.Turns.{held_on}
+use Rattle.port.specs.inside.Books.{Entry, Books, entry_of, ended_entry}
+use Rattle.port.specs.inside.Turns.{held_on}
 
 -- one volume, the whole disk; each request goes as one piece, once, and its first busy return ends it
 abbrev pub rules_of : Sizes → Rules
@@ -38,6 +38,7 @@ rules_of sizes = record {
   window = None;
   one_piece = true;
   busy_limit = 1;
+  any_cut = false;
   faithful = sizes.faithful;
 }
 
@@ -88,11 +89,11 @@ open_as rules e payload busy marks = record {
 
 -- the open request of a packet that waits: nothing of it was sent
 abbrev pub waiting_open : Rules → Held → OpenRequest
-waiting_open rules held = open_as rules (entry_of held) held.irp.payload 0 (all_places rules held.request Untouched)
+waiting_open rules held = open_as rules (entry_of held) held.irp.value.payload 0 (all_places rules held.request Untouched)
 
 -- that of a packet that ended
 abbrev pub done_open : Rules → Ended → OpenRequest
-done_open rules d = open_as rules (ended_entry d) d.irp.payload (busy_left d.outcome) (marks_left rules d.request d.irp.payload d.outcome)
+done_open rules d = open_as rules (ended_entry d) d.irp.value.payload (busy_left d.outcome) (marks_left rules d.request d.irp.value.payload d.outcome)
 
 -- stands for the packet of a tag that has none, which is never shown
 abbrev pub nobody : Entry
@@ -154,6 +155,19 @@ of_done f d = f (ended_entry d)
 
 -- WHAT IS SHOWN
 
+-- what is reserved in a slot
+abbrev pub reserved_in : Option (Option Request) → Option Reserved
+reserved_in None = None
+reserved_in (Some None) = None
+reserved_in (Some (Some request)) = Some (whole_for request)
+
+-- the requests of the slots that are reserved
+abbrev pub reserved_of : List (Option (Option Request)) → List Request
+reserved_of [] = []
+reserved_of (None ∷ slots) = reserved_of slots
+reserved_of (Some None ∷ slots) = reserved_of slots
+reserved_of (Some (Some request) ∷ slots) = request ∷ reserved_of slots
+
 -- the open requests: of packets that wait, at the adapter and that ended
 abbrev pub requests_of : Books → AdapterView → List OpenRequest
 requests_of b v =
@@ -192,6 +206,7 @@ view_of b v = record {
   rules = rules_of b.sizes;
   state = state_of b v;
   packets = packets_of b v;
+  rooms = map reserved_in b.rooms;
   submitted = b.submitted;
   most = most;
   adapter = v;

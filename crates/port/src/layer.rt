@@ -1,36 +1,37 @@
 // The port as a layer of the stack.
-ghost use Rattle.std.specs.Prelude.{⊤, map, ◌≡◌, ◌≢◌, ◌<◌, ◌≤◌, ◌*◌, ◌+◌, ◌^◌, ℕ, Bool, true, List, [], ◌∷◌, length, OnOk, OnErr, MatchBool};
-ghost use Rattle.adapter.specs.View.{IsInOrder, IsReserved, ReservesMore};
+ghost use Rattle.std.specs.Prelude.{refl, ◌≡◌, ◌≢◌, ◌<◌, ◌≤◌, ◌*◌, ◌+◌, ◌^◌, ℕ, Bool, true, List, [], ◌∷◌, length};
+ghost use Rattle.std.specs.Prelude.{OnOk, OnErr, MatchBool};
+ghost use Rattle.adapter.specs.View.{IsInOrder, IsReserved, ReservesMore, ReservesNear};
 ghost use Rattle.srb.specs.declared.Kind.TheVariants.{Write};
 ghost use Rattle.machine.specs.declared.Request.{Request};
-ghost use Rattle.port.specs.Books.{books_of, visits_of};
-ghost use Rattle.port.specs.Cancelling.{CancelsQueued, CancelsAt, CancelsNotAt, CancelsNoStarted};
-ghost use Rattle.port.specs.Shown.{view_of};
-ghost use Rattle.port.specs.Turns.{WithdrawsNotAt};
+ghost use Rattle.port.specs.inside.Books.{books_of, visits_of};
+ghost use Rattle.port.specs.inside.Cancelling.{CancelsQueued, CancelsAt, CancelsNotAt, CancelsNoStarted};
+ghost use Rattle.port.specs.inside.Turns.{WithdrawsNotAt};
 ghost use Rattle.linked.specs.Queue.{VisitsAtMost};
-ghost use Rattle.port.specs.Kept.{IsInHand, PortKept};
-ghost use Rattle.port.specs.Releases.{Releases, AreLowerInUse};
-ghost use Rattle.port.specs.Order.{asked_for, rooms_same, any_order_lem};
+ghost use Rattle.port.specs.inside.Kept.{IsInHand, PortKept};
+ghost use Rattle.port.specs.inside.Releases.{Releases, AreLowerInUse};
 
 use crate::queues::{Ended, Sizes};
-use crate::{Port, PortRoom};
+use crate::{Parts, Port};
 use adapter::Adapter;
-use device::{Device, Kind, Request, information};
-use irp::{Climb, Irp, complete};
+use device::{Climb, Device, Kind, Request, Room, Shown, complete, information};
+use irp::Irp;
 use srb::{Completion, DeviceLabel, Entry, Srb};
 use std::alloc::AllocError;
 
 /// Requests that may be submitted in all.
 const MOST: u128 = 1 << 96;
 
-impl<A: Adapter> Port<A> {
+impl<A: Adapter> Parts<A> {
     /// Starts the packet that waited longest on this tag, where one waits and the tag is free.
     fn start_one(&mut self, tag: u8)
         requires kept { (rooms : List Request) × PortKept (books_of self.old.queues) (A.view self.old.adapter) rooms }
         requires tag { tag < (A.view self.old.adapter).depth }
         requires lower { AreLowerInUse (books_of self.old.queues) (A.view self.old.adapter) tag }
-        ensures rooms { (rooms : List Request) → PortKept (books_of self.old.queues) (A.view self.old.adapter) rooms → PortKept (books_of self.new.queues) (A.view self.new.adapter) rooms }
-        ensures releases { Releases (books_of self.old.queues) (A.view self.old.adapter) (books_of self.new.queues) (A.view self.new.adapter) }
+        ensures rooms { (rooms : List Request) → PortKept (books_of self.old.queues) (A.view self.old.adapter) rooms
+            → PortKept (books_of self.new.queues) (A.view self.new.adapter) rooms }
+        ensures releases { Releases (books_of self.old.queues) (A.view self.old.adapter)
+            (books_of self.new.queues) (A.view self.new.adapter) }
         ensures lower { AreLowerInUse (books_of self.new.queues) (A.view self.new.adapter) (tag + 1) }
     {
         if self.adapter.in_use(tag) {
@@ -44,10 +45,15 @@ impl<A: Adapter> Port<A> {
     /// Starts what waits as long as a tag is free, on the lowest free tag each.
     fn start_waiting(&mut self)
         requires { (rooms : List Request) × PortKept (books_of self.old.queues) (A.view self.old.adapter) rooms }
-        ensures rooms { (rooms : List Request) → PortKept (books_of self.old.queues) (A.view self.old.adapter) rooms → IsInHand (books_of self.new.queues) (A.view self.new.adapter) rooms }
-        ensures releases { Releases (books_of self.old.queues) (A.view self.old.adapter) (books_of self.new.queues) (A.view self.new.adapter) }
+        ensures rooms { (rooms : List Request) → PortKept (books_of self.old.queues) (A.view self.old.adapter) rooms
+            → IsInHand (books_of self.new.queues) (A.view self.new.adapter) rooms }
+        ensures releases { Releases (books_of self.old.queues) (A.view self.old.adapter)
+            (books_of self.new.queues) (A.view self.new.adapter) }
     {
         for tag in 0..self.queues.sizes.depth {
+            if self.queues.waiting.len() == 0 {
+                return;
+            }
             self.start_one(tag);
         }
     }
@@ -57,8 +63,10 @@ impl<A: Adapter> Port<A> {
         requires inside { request.now.extent.first + request.now.extent.count ≤ length (A.view self.old.adapter).sectors }
         requires order { IsInOrder (A.view self.old.adapter) }
         ensures queues { books_of self.new.queues ≡ books_of self.old.queues }
-        ensures reserved { OnOk result (request.now.kind ≡ Write → IsReserved (A.view self.new.adapter) request.now.extent) }
+        ensures reserved { OnOk result
+            (request.now.kind ≡ Write → IsReserved (A.view self.new.adapter) request.now.extent) }
         ensures reserves { ReservesMore (A.view self.old.adapter) (A.view self.new.adapter) }
+        ensures near { ReservesNear (A.view self.old.adapter) request.now.extent (A.view self.new.adapter) }
         ensures unless_write { request.now.kind ≢ Write → A.view self.new.adapter ≡ A.view self.old.adapter }
         ensures order { IsInOrder (A.view self.new.adapter) }
         ensures refused { OnErr result (request.now.kind ≡ Write) }
@@ -69,13 +77,17 @@ impl<A: Adapter> Port<A> {
         self.adapter.reserve(request.extent)
     }
 
-    /// Cancels the packet that waits at this spot, where it has this number; false where none does. At most three entries
-    /// of the queue are visited.
+    /// Cancels the packet that waits at this spot, where it has this number; false where none does. At most three
+    /// entries of the queue are visited.
     pub fn cancel_queued(&mut self, spot: usize, number: u128) -> bool
-        requires in_order { (rooms : List Request) × IsInHand (books_of self.old.queues) (A.view self.old.adapter) rooms }
-        ensures rooms { (rooms : List Request) → IsInHand (books_of self.old.queues) (A.view self.old.adapter) rooms → IsInHand (books_of self.new.queues) (A.view self.new.adapter) rooms }
+        requires in_order { (rooms : List Request)
+            × IsInHand (books_of self.old.queues) (A.view self.old.adapter) rooms }
+        ensures rooms { (rooms : List Request) → IsInHand (books_of self.old.queues) (A.view self.old.adapter) rooms
+            → IsInHand (books_of self.new.queues) (A.view self.new.adapter) rooms }
         ensures adapter { A.view self.new.adapter ≡ A.view self.old.adapter }
-        ensures cancels { MatchBool result (CancelsQueued (books_of self.old.queues) (A.view self.old.adapter) spot number (books_of self.new.queues)) (WithdrawsNotAt (books_of self.old.queues) spot number (books_of self.new.queues)) }
+        ensures cancels { MatchBool result
+            (CancelsQueued (books_of self.old.queues) (A.view self.old.adapter) spot number (books_of self.new.queues))
+            (WithdrawsNotAt (books_of self.old.queues) spot number (books_of self.new.queues)) }
         ensures visits { VisitsAtMost 3 (visits_of self.old.queues) (visits_of self.new.queues) }
     {
         self.queues.withdraw_at(spot, number)
@@ -85,7 +97,9 @@ impl<A: Adapter> Port<A> {
     fn cancel_on_tag(&mut self, tag: u8, number: u128) -> bool
         requires { tag < length (books_of self.old.queues).started }
         ensures adapter { A.view self.new.adapter ≡ A.view self.old.adapter }
-        ensures cancels { MatchBool result (CancelsAt (books_of self.old.queues) (A.view self.old.adapter) tag number (books_of self.new.queues)) (CancelsNotAt (books_of self.old.queues) (A.view self.old.adapter) tag number (books_of self.new.queues)) }
+        ensures cancels { MatchBool result
+            (CancelsAt (books_of self.old.queues) (A.view self.old.adapter) tag number (books_of self.new.queues))
+            (CancelsNotAt (books_of self.old.queues) (A.view self.old.adapter) tag number (books_of self.new.queues)) }
     {
         self.adapter.in_use(tag) && self.queues.cancel_on(tag, number)
     }
@@ -94,7 +108,10 @@ impl<A: Adapter> Port<A> {
     fn cancel_started(&mut self, number: u128) -> bool
         requires { (rooms : List Request) × IsInHand (books_of self.old.queues) (A.view self.old.adapter) rooms }
         ensures adapter { A.view self.new.adapter ≡ A.view self.old.adapter }
-        ensures cancels { MatchBool result ((tag : ℕ) × CancelsAt (books_of self.old.queues) (A.view self.old.adapter) tag number (books_of self.new.queues)) (CancelsNoStarted (books_of self.old.queues) (A.view self.old.adapter) number (books_of self.new.queues)) }
+        ensures cancels { MatchBool result
+            ((tag : ℕ)
+            × CancelsAt (books_of self.old.queues) (A.view self.old.adapter) tag number (books_of self.new.queues))
+            (CancelsNoStarted (books_of self.old.queues) (A.view self.old.adapter) number (books_of self.new.queues)) }
     {
         for tag in 0..self.queues.sizes.depth {
             if self.cancel_on_tag(tag, number) {
@@ -105,9 +122,15 @@ impl<A: Adapter> Port<A> {
     }
 }
 
-impl<A: Adapter> Device for Port<A> {
-    type Room = PortRoom;
+impl<A: Adapter> Shown for Port<A> {
+    ghost view = { λ port. port.shown };
 
+    ghost takes_srb = { true };
+
+    ghost stack_size = { 1 };
+}
+
+impl<A: Adapter> Device for Port<A> {
     const TAKES_SRB: bool = true;
 
     ghost TAKES_SRB = { true };
@@ -116,122 +139,119 @@ impl<A: Adapter> Device for Port<A> {
 
     ghost STACK_SIZE = { 1 };
 
-    ghost view = { λ port. view_of (books_of port.queues) (A.view port.adapter) };
-
-    ghost request_of = { λ room. room.request };
-
-    ghost ready = { λ room. ⊤ };
-
-    ghost rooms_out = { λ port rooms. IsInHand (books_of port.queues) (A.view port.adapter) (map asked_for rooms) };
+    fn shows_order(&self) {
+        let _parts = &self.parts;
+    }
 
     fn volumes(&self) -> u8 {
+        // The view is known where a field is used.
+        let _parts = &self.parts;
         1
     }
 
     fn sectors(&self, volume: u8) -> u64 {
         if volume == 0 {
-            self.queues.sizes.sectors
+            self.parts.queues.sizes.sectors
         } else {
             0
         }
     }
 
     fn longest(&self) -> u64 {
-        self.queues.sizes.max_transfer as u64
+        self.parts.queues.sizes.max_transfer as u64
     }
 
     fn most(&self) -> u128 {
+        let _parts = &self.parts;
         MOST
     }
 
-    fn reserve(&mut self, request: &Request) -> Result<PortRoom, AllocError> {
-        self.reserve_extent(request)?;
-        self.queues.add_place()?;
-        Ok(PortRoom { request: *request })
+    fn reserve(&mut self, request: &Request) -> Result<Room, AllocError> {
+        self.parts.reserve_extent(request)?;
+        let spot = self.parts.queues.add_place(*request)?;
+        Ok(Room { spot })
     }
 
-    fn submit(&mut self, irp: Irp, room: PortRoom) -> usize {
-        let spot = self.queues.push(irp, room.request);
-        self.start_waiting();
-        spot
+    fn submit(&mut self, irp: Box<Irp>, room: Room) {
+        self.parts.queues.push(irp, room.spot);
+        self.parts.start_waiting();
     }
 
-    fn free(&mut self, room: PortRoom) {
-        let PortRoom { request: _ } = room;
-        self.queues.remove_place();
+    fn free(&mut self, room: Room) {
+        self.parts.queues.remove_place(room.spot);
     }
 
     fn act(&mut self, tag: u8) -> bool {
-        self.adapter.act(tag)
+        self.parts.adapter.act(tag)
     }
 
     fn armed(&self, tag: u8) -> Option<(u128, &Srb)> {
-        self.adapter.armed(tag)
+        self.parts.adapter.armed(tag)
     }
 
     fn book(&mut self, tag: u8, piece: u128, what: Result<&Entry, Completion>) {
-        self.adapter.book(tag, piece, what);
+        self.parts.adapter.book(tag, piece, what);
     }
 
     fn finish(&mut self, tag: u8) -> bool {
-        let Some((srb, completion)) = self.adapter.finish(tag) else {
+        let Some((srb, completion)) = self.parts.adapter.finish(tag) else {
             return false;
         };
-        self.queues.end(tag, srb, completion.class());
-        self.start_waiting();
+        self.parts.queues.end(tag, srb, completion.class());
+        self.parts.start_waiting();
         true
     }
 
     fn reset(&mut self) {
-        self.adapter.reset();
+        self.parts.adapter.reset();
     }
 
     fn cancel(&mut self, number: u128) {
-        if self.queues.withdraw(number) {
+        if self.parts.queues.withdraw(number) {
             return;
         }
-        if self.cancel_started(number) {
+        if self.parts.cancel_started(number) {
             return;
         }
-        self.queues.cancel_done(number);
+        self.parts.queues.cancel_done(number);
     }
 
     fn cancel_at(&mut self, spot: usize, number: u128) {
-        if self.cancel_queued(spot, number) {
+        if self.parts.cancel_queued(spot, number) {
             return;
         }
-        if self.cancel_started(number) {
+        if self.parts.cancel_started(number) {
             return;
         }
-        self.queues.cancel_done(number);
+        self.parts.queues.cancel_done(number);
     }
 
     fn drain(&mut self) {
-        self.queues.drain();
+        self.parts.queues.drain();
     }
 
-    fn take_done(&mut self) -> Option<(Climb, PortRoom)> {
+    fn take_done(&mut self) -> Option<(Climb, Room)> {
         let Some(
             Ended {
                 irp,
                 request,
-                spot: _,
+                spot,
                 outcome,
             },
-        ) = self.queues.take_done()
+        ) = self.parts.queues.take_done()
         else {
             return None;
         };
         let status = outcome.status();
-        let information = information(self.queues.sizes.sector_size, &request, status);
-        Some((complete(irp, status, information), PortRoom { request }))
+        let information = information(self.parts.queues.sizes.sector_size, &request, status);
+        Some((complete(irp, status, information), Room { spot }))
     }
 
     fn take_label(&mut self) -> Option<DeviceLabel> {
-        self.adapter.take_label()
+        self.parts.adapter.take_label()
     }
 
-    ghost any_order = { λ port some others same out. any_order_lem _ _ _ _ (rooms_same some others same) out };
+    ghost srb_is = { refl };
 
-    ghost in_order = { λ port rooms out. out.orderly };
+    ghost size_is = { refl };
 }

@@ -1,47 +1,57 @@
 //! The port: it queues the packets of the disk, and hands their SRBs to an adapter by tags.
 //!
-//! Promises to the layer above, by the contract of [`Device`]: one volume, which is the whole disk; a packet's SRB is the
-//! one command of its one piece. Packets wait first in, first out, and none waits while a tag is free (`IsSending`); the
-//! front one starts on the lowest free tag. A busy return ends its packet as DEVICE_BUSY, a packet that is cancelled while
-//! it waits ends as REQUEST_FLUSHED, and one that waits at a removal as NO_DEVICE. Each goes up with the cancel routine
-//! that it came with (`brings_routine`). By its spot a packet that waits is found in a few steps
-//! ([`Port::cancel_queued`]). No call but `reserve` takes memory.
+//! Promises to the layer above, by the contract of [`Device`]: one volume, which is the whole disk; a packet's SRB is
+//! the one command of its one piece. Packets wait first in, first out, and none waits while a tag is free
+//! (`IsSending`); the front one starts on the lowest free tag. A busy return ends its packet as DEVICE_BUSY, a packet
+//! that is cancelled while it waits ends as REQUEST_FLUSHED, and one that waits at a removal as NO_DEVICE. Each goes
+//! up with the cancel routine that it came with (`brings_routine`). By its spot a packet that waits is found in a few
+//! steps ([`Port::cancel_queued`]). No call but `reserve` takes memory.
 //!
 //! Doesn't promise that a packet at the adapter ever comes back, nor that packets end in the order in which they came.
 #![tactic(auto)]
 
-ghost use Rattle.std.specs.Prelude.{◌≡◌, ◌≤◌, List, [], IfOk};
-ghost use Rattle.machine.specs.declared.Request.{Request};
+ghost use Rattle.std.specs.Prelude.{[], ◌≡◌, IfOk, MatchBool};
+ghost use Rattle.linked.specs.Queue.{VisitsAtMost};
 ghost use Rattle.port.specs.Opening.{IsFresh, opening_view};
+ghost use Rattle.port.specs.Seen.{CancelsWaiting, CancelsNoneWaiting};
 
 mod layer;
 mod queues;
 mod turns;
 
 use adapter::Adapter;
-use device::{Device, Request};
 use queues::{Queues, Sizes};
 use std::alloc::{AllocError, Global};
+use std::marker::Model;
 
-/// A place for one packet, and for what its request will need at the adapter.
-#[derive(Debug, Drop)]
-pub struct PortRoom {
-    request: Request,
+/// The adapter and the packets, which are in order between two calls of the port and not within one.
+#[derive(Drop)]
+struct Parts<A: Adapter> {
+    adapter: A,
+    queues: Queues,
 }
 
 /// The port of an adapter.
 pub struct Port<A: Adapter> {
-    adapter: A,
-    queues: Queues,
+    parts: Parts<A>,
+}
+
+impl<A: Adapter> Model for Port<A> {
+    ghost use Rattle.port.specs.inside.Books.{books_of, visits_of};
+    ghost use Rattle.port.specs.Seen.{PortView, port_of};
+    ghost use Rattle.port.specs.inside.Kept.{IsSound};
+
+    ghost Value = { PortView };
+
+    ghost view = { λ s. port_of (books_of s.parts.queues) (A.view s.parts.adapter) (visits_of s.parts.queues) };
+
+    ghost invariant = { λ s. IsSound (books_of s.parts.queues) (A.view s.parts.adapter) };
 }
 
 // By hand, so that no crate above proves it again, as it would a derived one.
 impl<A: Adapter> Drop for Port<A> {
     fn drop(self) {
-        let Port {
-            adapter: _,
-            queues: _,
-        } = self;
+        let Port { parts: _ } = self;
     }
 }
 
@@ -54,8 +64,8 @@ impl<A: Adapter> Port<A> {
     /// [`AllocError`] where the memory for the tags was refused.
     pub fn new(alloc: Global, adapter: A) -> Result<Port<A>, AllocError>
         requires { IsFresh (A.view adapter) }
-        ensures rooms { IfOk result (λ port. ⟦<Port<A> as Device>⟧.rooms_out port []) }
-        ensures opening { IfOk result (λ port. ⟦<Port<A> as Device>⟧.view port ≡ opening_view (A.view adapter)) }
+        ensures opening { IfOk result (λ port. port.shown ≡ opening_view (A.view adapter)) }
+        ensures none_waits { IfOk result (λ port. port.waiting ≡ []) }
     {
         let sizes = Sizes {
             sector_size: adapter.sector_size(),
@@ -65,6 +75,17 @@ impl<A: Adapter> Port<A> {
             faithful: adapter.is_faithful(),
         };
         let queues = Queues::new(alloc, sizes)?;
-        Ok(Port { adapter, queues })
+        let parts = Parts { adapter, queues };
+        Ok(Port { parts })
+    }
+
+    /// Cancels the packet that waits at this spot, where it has this number, as `cancel` does. False where none does;
+    /// nothing changes then but visits. At most three entries of the queue are visited.
+    pub fn cancel_queued(&mut self, spot: usize, number: u128) -> bool
+        ensures cancels { MatchBool result (CancelsWaiting self.old spot number self.new)
+            (CancelsNoneWaiting self.old spot number self.new) }
+        ensures visits { VisitsAtMost 3 self.old.visits self.new.visits }
+    {
+        self.parts.cancel_queued(spot, number)
     }
 }

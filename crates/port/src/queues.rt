@@ -1,10 +1,13 @@
 // The port's packets, by where they are: those that wait, those at the adapter by tags, and those that ended.
 ghost use Rattle.std.specs.Prelude.{◌≤◌};
 ghost use Rattle.std.specs.VecDeque.{deque_capacity};
+ghost use Rattle.slab.specs.Slab.{slab_len};
+ghost use Rattle.port.specs.inside.Covered.{AreCovered};
 
 use device::Request;
 use irp::Irp;
 use linked::{Linked, Numbered};
+use slab::Slab;
 use srb::Class;
 use std::collections::VecDeque;
 
@@ -37,12 +40,12 @@ pub enum Outcome {
 /// A packet that waits, with what it asks for.
 #[derive(Debug, Drop)]
 pub struct Waiting {
-    pub irp: Irp,
+    pub irp: Box<Irp>,
     pub request: Request,
 }
 
 impl Numbered for Waiting {
-    ghost number_of = { λ waiting. waiting.irp.number };
+    ghost number_of = { λ waiting. waiting.irp.value.number };
 
     fn number(&self) -> u128 {
         self.irp.number
@@ -52,7 +55,7 @@ impl Numbered for Waiting {
 /// A packet at the adapter, with the spot that it had in the queue.
 #[derive(Debug, Drop)]
 pub struct Held {
-    pub irp: Irp,
+    pub irp: Box<Irp>,
     pub request: Request,
     pub spot: usize,
 }
@@ -60,13 +63,13 @@ pub struct Held {
 /// A packet that ended and was not taken yet.
 #[derive(Debug, Drop)]
 pub struct Ended {
-    pub irp: Irp,
+    pub irp: Box<Irp>,
     pub request: Request,
     pub spot: usize,
     pub outcome: Outcome,
 }
 
-/// The packets, each in one queue, and the places for them, of which none is made but by `add_place`.
+/// The packets, each in one queue, and the places for them. Only `add_place` makes places.
 #[derive(Drop)]
 pub struct Queues {
     pub sizes: Sizes,
@@ -79,8 +82,8 @@ pub struct Queues {
     pub next_piece: u128,
     pub submitted: u128,
     pub removing: bool,
-    /// For the packets here and those that have a room.
-    pub places: usize,
-    ghost waiting_places: { places ≤ waiting.places },
-    ghost done_places: { places ≤ deque_capacity done },
+    /// By spots: the request that a spot is reserved for, or None where a packet has the spot.
+    pub rooms: Slab<Option<Request>>,
+    ghost covered: { AreCovered rooms waiting.places },
+    ghost done_places: { slab_len rooms ≤ deque_capacity done },
 }

@@ -1,17 +1,25 @@
 // What the queues do.
-ghost use Rattle.std.specs.Prelude.{◌≡◌, ◌==◌, ◌&&◌, not, ◌<◌, ◌≤◌, ◌+◌, ◌^◌, ◌-◌, ℕ, [], All, Option, Some, None, IfOk, IsOk, IsSome, OnOk, OnErr, IsTrue, MatchBool, MatchOption, length, position};
+ghost use Rattle.std.specs.Prelude.{◌≡◌, ◌==◌, ◌&&◌, not, ◌<◌, ◌≤◌, ◌+◌, ◌^◌, ◌-◌, ℕ, [], All, Option, Some, None};
+ghost use Rattle.std.specs.Prelude.{IfOk, IsSome, OnOk, OnErr, IsTrue, MatchBool, MatchOption, length, position};
+ghost use Rattle.std.specs.Prelude.{slice_index_or};
 ghost use Rattle.irp.specs.declared.Payload.TheVariants.{Srb as Packed};
 ghost use Rattle.machine.specs.declared.Request.{Request};
-ghost use Rattle.port.specs.Books.{books_of, visits_of, entry, entry_of, HasRoomForMore};
-ghost use Rattle.port.specs.Turns.{IsEmpty, IsPacked, Queued, cancelled, can_cancel_held, can_cancel_ended, held_on, Starts, StartsNot, Ends, TakesDone, TakesNone, drained, IsUncancelled, Withdraws, WithdrawsNot, WithdrawsAt, WithdrawsNotAt, CancelsIn, CancelsNotIn, CancelsOn, CancelsNotOn, CancelsEnded, CancelsNoEnded};
+ghost use Rattle.port.specs.inside.Books.{books_of, visits_of, entry, entry_of};
+ghost use Rattle.port.specs.inside.Turns.{IsEmpty, IsPacked, cancelled, can_cancel_held, can_cancel_ended, held_on};
+ghost use Rattle.port.specs.inside.Turns.{AddsPlace, RemovesPlace, HasOtherSpot, IsEndedTaken, Queued, Starts};
+ghost use Rattle.port.specs.inside.Turns.{StartsNot, Ends, TakesDone, TakesNone, drained, as_returned, IsUncancelled};
+ghost use Rattle.port.specs.inside.Turns.{Withdraws, WithdrawsNot, WithdrawsAt, WithdrawsNotAt, CancelsIn, CancelsNotIn};
+ghost use Rattle.port.specs.inside.Turns.{CancelsOn, CancelsNotOn, CancelsEnded, CancelsNoEnded};
 ghost use Rattle.port.specs.Shown.{status_left};
 ghost use Rattle.linked.specs.Queue.{VisitsAtMost};
+ghost use Rattle.slab.specs.Slab.{get, slab_len, with_value, HasRoomFor};
 
 use crate::queues::{Ended, Held, Outcome, Queues, Sizes, Waiting};
 use device::Request;
 use irp::{Irp, Payload};
 use linked::Linked;
 use ntstatus::NtStatus;
+use slab::Slab;
 use srb::{Class, Srb, SrbStatus};
 use std::alloc::{AllocError, Global};
 use std::collections::VecDeque;
@@ -34,7 +42,7 @@ impl Outcome {
 /// Takes the SRB out of a packet that carries one; all else of the packet stays, its cancel routine too.
 fn take_srb(held: &mut Held) -> Srb
     requires { IsPacked held.old }
-    ensures srb { held.old.irp.payload ≡ Packed result }
+    ensures srb { held.old.irp.value.payload ≡ Packed result }
     ensures same_entry { entry_of held.new ≡ entry_of held.old }
 {
     match mem::replace(&mut held.irp.payload, Payload::Sent) {
@@ -43,10 +51,20 @@ fn take_srb(held: &mut Held) -> Srb
     }
 }
 
+/// The SRB of a piece that came back busy can be sent again: it is as it was, with no sense.
+fn forget_sense(srb: &mut Srb, class: Class)
+    ensures { srb.new ≡ as_returned class srb.old }
+{
+    if let Class::Busy = class {
+        srb.sense = None;
+    }
+}
+
 /// Cancels the packet, whatever becomes of it; its cancel routine stays, and nobody is told.
-fn mark_cancelled(irp: &mut Irp)
-    ensures entry { (request : Request) (spot : ℕ) → entry irp.new request spot ≡ cancelled (entry irp.old request spot) }
-    ensures payload { irp.new.payload ≡ irp.old.payload }
+fn mark_cancelled(irp: &mut Box<Irp>)
+    ensures entry { (request : Request) (spot : ℕ)
+        → entry irp.new.value request spot ≡ cancelled (entry irp.old.value request spot) }
+    ensures payload { irp.new.value.payload ≡ irp.old.value.payload }
 {
     irp.cancelled = true;
 }
@@ -72,6 +90,43 @@ fn cancel_in(place: &mut Option<Held>, number: u128) -> bool
     true
 }
 
+/// How many spots are in use with one more, for which there is room.
+fn count_with_one_more(rooms: &Slab<Option<Request>>) -> usize
+    requires { HasRoomFor rooms.now 1 }
+    ensures { result ≡ slab_len rooms.now + 1 }
+{
+    // A capacity is a number of this type, so the sum is one too.
+    let _capacity = rooms.capacity();
+    rooms.len() + 1
+}
+
+/// Takes the request of a spot that is reserved, for the packet that comes there.
+fn take_room(rooms: &mut Slab<Option<Request>>, spot: usize) -> Request
+    requires { (request : Request) × (get rooms.old spot ≡ Some (Some request)) }
+    ensures was { get rooms.old spot ≡ Some (Some result) }
+    ensures after { rooms.new ≡ with_value rooms.old spot None }
+    ensures count { slab_len rooms.new ≡ slab_len rooms.old }
+{
+    let Some(room) = rooms.get_mut(spot) else {
+        unreachable!()
+    };
+    let Some(request) = room.take() else {
+        unreachable!()
+    };
+    request
+}
+
+/// The spot of a packet is reserved again.
+fn put_room(rooms: &mut Slab<Option<Request>>, spot: usize, request: Request)
+    requires { get rooms.old spot ≡ Some None }
+    ensures after { rooms.new ≡ with_value rooms.old spot (Some request) }
+    ensures count { slab_len rooms.new ≡ slab_len rooms.old }
+{
+    if let Some(room) = rooms.get_mut(spot) {
+        *room = Some(request);
+    }
+}
+
 impl Queues {
     /// Empty queues with places for no packet. Pieces and requests are numbered from 1.
     pub fn new(alloc: Global, sizes: Sizes) -> Result<Queues, AllocError>
@@ -90,47 +145,49 @@ impl Queues {
             next_piece: 1,
             submitted: 0,
             removing: false,
-            places: 0,
+            rooms: Slab::new(alloc),
         })
     }
 
-    /// Makes a place for one more packet.
+    /// Reserves a spot for one more packet.
     ///
     /// # Errors
     ///
     /// [`AllocError`] where a queue has no room for it, and memory was refused.
-    pub fn add_place(&mut self) -> Result<(), AllocError>
+    pub fn add_place(&mut self, request: Request) -> Result<usize, AllocError>
         requires { length (books_of self.old).waiting + length (books_of self.old).done ≤ (books_of self.old).places }
-        ensures added { OnOk result (books_of self.new ≡ record (books_of self.old) { places = (books_of self.old).places + 1 }) }
+        ensures added { IfOk result (λ spot. AddsPlace (books_of self.old) spot request (books_of self.new)) }
         ensures refused { OnErr result (books_of self.new ≡ books_of self.old) }
-        ensures succeeds { HasRoomForMore self.old → IsOk result }
     {
-        let Some(places) = self.places.checked_add(1) else {
-            return Err(AllocError);
-        };
-        self.waiting.reserve(places - self.waiting.len())?;
+        self.rooms.reserve(1)?;
+        let places = count_with_one_more(&self.rooms);
         self.done.reserve(places - self.done.len())?;
-        self.places = places;
-        Ok(())
+        self.waiting.cover(self.rooms.vacant_key())?;
+        Ok(self.rooms.insert_reserved(Some(request)))
     }
 
-    /// Gives a place up.
-    pub fn remove_place(&mut self)
-        requires { 0 < (books_of self.old).places }
-        ensures { books_of self.new ≡ record (books_of self.old) { places = (books_of self.old).places - 1 } }
+    /// Gives a spot up that is reserved.
+    pub fn remove_place(&mut self, spot: usize)
+        requires { (request : Request)
+            × (slice_index_or (books_of self.old).rooms spot None ≡ Some (Some request)) }
+        ensures { RemovesPlace (books_of self.old) spot (books_of self.new) }
     {
-        self.places -= 1;
+        self.rooms.remove(spot);
     }
 
-    /// The packet waits behind all others; the spot that it gets.
-    pub fn push(&mut self, irp: Irp, request: Request) -> usize
-        requires place { length (books_of self.old).waiting < (books_of self.old).places }
+    /// Queues the packet last, at a reserved spot.
+    pub fn push(&mut self, irp: Box<Irp>, spot: usize)
+        requires reserved { (request : Request)
+            × (slice_index_or (books_of self.old).rooms spot None ≡ Some (Some request)) }
+        requires apart { All (HasOtherSpot spot) (books_of self.old).waiting }
         requires few { (books_of self.old).submitted < 2 ^ 127 }
-        ensures { Queued (books_of self.old) irp request result (books_of self.new) }
+        ensures { (request : Request) → slice_index_or (books_of self.old).rooms spot None ≡ Some (Some request)
+            → Queued (books_of self.old) irp request spot (books_of self.new) }
     {
+        let request = take_room(&mut self.rooms, spot);
         self.last_request = irp.number;
         self.submitted += 1;
-        self.waiting.push_back_reserved(Waiting { irp, request })
+        self.waiting.push_back_at(spot, Waiting { irp, request });
     }
 
     /// The packet that waited longest goes to this tag; its piece's number, and its SRB for the adapter.
@@ -138,7 +195,8 @@ impl Queues {
         requires packed { All IsPacked (books_of self.old).waiting }
         requires tag { tag < length (books_of self.old).started }
         requires few { (books_of self.old).next_piece < 2 ^ 127 }
-        ensures { MatchOption result (StartsNot (books_of self.old) (books_of self.new)) (λ start. Starts (books_of self.old) tag start.0 start.1 (books_of self.new)) }
+        ensures { MatchOption result (StartsNot (books_of self.old) (books_of self.new))
+            (λ start. Starts (books_of self.old) tag start.0 start.1 (books_of self.new)) }
     {
         let (spot, Waiting { irp, request }) = self.waiting.pop_front()?;
         let mut held = Held { irp, request, spot };
@@ -150,7 +208,7 @@ impl Queues {
     }
 
     /// The packet on this tag ends as its piece came back.
-    pub fn end(&mut self, tag: u8, srb: Srb, class: Class)
+    pub fn end(&mut self, tag: u8, mut srb: Srb, class: Class)
         requires on_tag { IsSome (held_on (books_of self.old).started tag) }
         requires place { length (books_of self.old).done < (books_of self.old).places }
         ensures { Ends (books_of self.old) tag srb class (books_of self.new) }
@@ -165,6 +223,7 @@ impl Queues {
         else {
             unreachable!()
         };
+        forget_sense(&mut srb, class);
         irp.payload = Payload::Srb(srb);
         let outcome = Outcome::Returned(class);
         self.done.push_back_reserved(Ended {
@@ -175,11 +234,15 @@ impl Queues {
         });
     }
 
-    /// The packet that ended first of those that were not taken.
+    /// The packet that ended first of those that were not taken; its spot is reserved again.
     pub fn take_done(&mut self) -> Option<Ended>
-        ensures { MatchOption result (TakesNone (books_of self.old) (books_of self.new)) (λ ended. TakesDone (books_of self.old) ended (books_of self.new)) }
+        requires { All (IsEndedTaken (books_of self.old).rooms) (books_of self.old).done }
+        ensures { MatchOption result (TakesNone (books_of self.old) (books_of self.new))
+            (λ ended. TakesDone (books_of self.old) ended (books_of self.new)) }
     {
-        self.done.pop_front()
+        let ended = self.done.pop_front()?;
+        put_room(&mut self.rooms, ended.spot, ended.request);
+        Some(ended)
     }
 
     /// Removal: what waits is gone.
@@ -200,7 +263,7 @@ impl Queues {
         self.removing = true;
     }
 
-    /// Where the packet of this number stands that has ended and is not cancelled yet.
+    /// Returns where the packet of this number stands that has ended and is not cancelled yet.
     fn find_done(&self, number: u128) -> Option<usize>
         ensures { result ≡ position (can_cancel_ended number) self.now.done.items }
     {
@@ -213,7 +276,8 @@ impl Queues {
     pub fn withdraw(&mut self, number: u128) -> bool
         requires places { length (books_of self.old).waiting + length (books_of self.old).done ≤ (books_of self.old).places }
         requires not_cancelled { All IsUncancelled (books_of self.old).waiting }
-        ensures { MatchBool result (Withdraws (books_of self.old) number (books_of self.new)) (WithdrawsNot (books_of self.old) number (books_of self.new)) }
+        ensures { MatchBool result (Withdraws (books_of self.old) number (books_of self.new))
+            (WithdrawsNot (books_of self.old) number (books_of self.new)) }
     {
         let Some(spot) = self.waiting.find(number) else {
             return false;
@@ -225,7 +289,8 @@ impl Queues {
     pub fn withdraw_at(&mut self, spot: usize, number: u128) -> bool
         requires places { length (books_of self.old).waiting + length (books_of self.old).done ≤ (books_of self.old).places }
         requires not_cancelled { All IsUncancelled (books_of self.old).waiting }
-        ensures withdraws { MatchBool result (WithdrawsAt (books_of self.old) spot number (books_of self.new)) (WithdrawsNotAt (books_of self.old) spot number (books_of self.new)) }
+        ensures withdraws { MatchBool result (WithdrawsAt (books_of self.old) spot number (books_of self.new))
+            (WithdrawsNotAt (books_of self.old) spot number (books_of self.new)) }
         ensures visits { VisitsAtMost 3 (visits_of self.old) (visits_of self.new) }
     {
         let Some(Waiting { mut irp, request }) = self.waiting.remove_number(spot, number) else {
@@ -245,7 +310,8 @@ impl Queues {
     /// The packet on this tag is cancelled, where it has this number and is not cancelled yet.
     pub fn cancel_on(&mut self, tag: u8, number: u128) -> bool
         requires { tag < length (books_of self.old).started }
-        ensures { MatchBool result (CancelsOn (books_of self.old) tag number (books_of self.new)) (CancelsNotOn (books_of self.old) tag number (books_of self.new)) }
+        ensures { MatchBool result (CancelsOn (books_of self.old) tag number (books_of self.new))
+            (CancelsNotOn (books_of self.old) tag number (books_of self.new)) }
     {
         cancel_in(&mut self.started[tag as usize], number)
     }
@@ -253,7 +319,8 @@ impl Queues {
     /// The packet of this number is cancelled, where it has ended and is not cancelled yet.
     pub fn cancel_done(&mut self, number: u128) -> bool
         requires { length (books_of self.old).done ≤ (books_of self.old).places }
-        ensures { MatchBool result (CancelsEnded (books_of self.old) number (books_of self.new)) (CancelsNoEnded (books_of self.old) number (books_of self.new)) }
+        ensures { MatchBool result (CancelsEnded (books_of self.old) number (books_of self.new))
+            (CancelsNoEnded (books_of self.old) number (books_of self.new)) }
     {
         let Some(index) = self.find_done(number) else {
             return false;

@@ -1,13 +1,36 @@
 -- What was carried out so far is just the events that were taken.
-use Rattle.std.proofs.Common.{◌≡◌, ◌<◌, ◌≤◌, ◌+◌, List, [], ◌∷◌, ◌++◌, sym, ◌∙◌, ap, subst, arith, length, length-append, take}
+use Rattle.std.proofs.Common.{◌≡◌, ◌<◌, ◌≤◌, ◌+◌, false, List, [], ◌∷◌, ◌++◌, refl, sym, ◌∙◌, ap, subst, arith, length, length-append, take, eqb-true}
+use Rattle.std.specs.Prelude.{◌==◌}
 use Rattle.std.specs.Vec.{vec_len, vec_capacity}
-use Rattle.std.proofs.lemmas.List.{map-id}
+use Rattle.std.proofs.lemmas.Bool.Decides.{nat_tests}
+use Rattle.std.proofs.lemmas.List.{map-id, nil_from_length}
 use Rattle.std.proofs.lemmas.Iterator.Adapters.{YieldsList-from_vec}
 use Rattle.std.proofs.lemmas.Iterator.Consumers.{YieldsList-so_far, YieldsList-turn}
+use Rattle.io_manager.specs.Shown.{ManagerView}
 use Rattle.compose.specs.declared.Event.{Event}
+use Rattle.compose.specs.declared.Shown.{Shown}
 use Rattle.compose.specs.Runs.{CarriesAll}
 use Rattle.compose.proofs.Lawful.{CarriesAll-pushed}
 use Rattle.compose.proofs.events.carry_all.Goals as goal
+
+none_carried : (m : ManagerView) (events : List Event) (shown : List Shown) → length events ≡ 0 → shown ≡ [] → CarriesAll m events shown m
+none_carried m events shown none is = subst (λ xs. CarriesAll m events xs m) (sym is) (subst (λ es. CarriesAll m es [] m) (sym (nil_from_length events none)) refl)
+
+pub returns-then-is_empty-clause-carries : goal.returns-then-is_empty-clause-carries
+returns-then-is_empty-clause-carries g c =
+    let none : vec_len c.args.events ≡ 0 = eqb-true (vec_len c.args.events) 0 (sym c.is_empty.ensures ∙ c.if-is_empty.true) in
+    let same : vec_len c.args.events ≡ length c.args.events.items = c.args.events.ok.0 in
+    none_carried c.args.manager.now c.args.events.items c.new.result.items (omega arith) c.new.ensures.items
+
+pub returns-in_default-clause-carries : goal.returns-in_default-clause-carries
+returns-in_default-clause-carries g c =
+    let some : (vec_len c.args.events == 0) ≡ false = sym c.is_empty.ensures ∙ c.if-is_empty.false in
+    let positive : 0 < vec_len c.args.events = grind (arith, nat_tests) in
+    let same : vec_len c.args.events ≡ length c.args.events.items = c.args.events.ok.0 in
+    record {
+      within = omega arith;
+      carries = none_carried c.args.manager.now [] c.new-in_default.result.items refl c.new-in_default.ensures.items;
+    }
 
 pub returns-in_default-spare_labels-clause-carries : goal.returns-in_default-spare_labels-clause-carries
 returns-in_default-spare_labels-clause-carries g c =

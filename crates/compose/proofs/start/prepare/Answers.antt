@@ -1,4 +1,4 @@
-use Rattle.std.proofs.Common.{◌≡◌, Result, Err, rules}
+use Rattle.std.proofs.Common.{◌≡◌, Err, rules}
 use Rattle.compose.specs.Opening.{start_fault_of}
 use Rattle.compose.proofs.Faulting.{start_fault}
 use Rattle.compose.proofs.start.prepare.Goals as goal

@@ -1,6 +1,6 @@
 -- From the back on those that are not lower are passed, and in front of a lower one all are.
 use Rattle.std.proofs.Common.{◌≡◌, ◌<◌, ◌+◌, ◌-◌, ◌≤◌, sym, arith, length}
-use Rattle.io_manager.specs.Ordering.{lower_first}
+use Rattle.io_manager.specs.inside.Ordering.{lower_first}
 use Rattle.io_manager.proofs.Inserting.{lower_first_within, not_lower, all_lower}
 use Rattle.io_manager.proofs.rising.place_of.Goals as goal
 

@@ -1,5 +1,5 @@
 use Rattle.std.proofs.Common.{◌≤◌, length}
-use Rattle.io_manager.specs.Ordering.{lower_first}
+use Rattle.io_manager.specs.inside.Ordering.{lower_first}
 use Rattle.io_manager.proofs.rising.place_of.Given as goal
 
 abbrev pub invariant-loop-place : goal.invariant-loop-place

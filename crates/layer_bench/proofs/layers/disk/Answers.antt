@@ -1,9 +1,9 @@
-use Rattle.port.specs.Books.{books_of}
-use Rattle.port.specs.Shown.{view_of}
 use Rattle.layer_bench.proofs.Served.{served_disk}
 use Rattle.layer_bench.proofs.layers.disk.Goals as goal
 
-pub returns-clause-served : goal.returns-clause-served
-returns-clause-served c =
-    served_disk _ (view_of (books_of c.in_ok-port.port.queues) c.in_ok-port.port.adapter.shown) c.in_ok-adapter.adapter.shown
-    c.new-disk.ensures.opening c.in_ok-port.ensures.opening c.in_ok-adapter.ensures.sizes
+pub returns : goal.returns
+returns c =
+    record {
+      served = served_disk _ c.in_ok-port.port.shown c.in_ok-adapter.adapter.shown
+          c.new-disk.ensures c.in_ok-port.ensures.opening c.in_ok-adapter.ensures.sizes;
+    }

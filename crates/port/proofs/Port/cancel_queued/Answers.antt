@@ -1,9 +1,19 @@
-use Rattle.port.specs.Books.{books_of}
-use Rattle.port.proofs.Spots.{queued}
+use Rattle.port.specs.inside.Books.{books_of}
+use Rattle.port.specs.Shown.{reserved_of}
+use Rattle.port.proofs.Seeing.{queue_seen}
+use Rattle.port.proofs.Sound.{sound_on}
 use Rattle.port.proofs.Port.cancel_queued.Goals as goal
 
-pub returns-clause-rooms : goal.returns-clause-rooms
-returns-clause-rooms g c = (queued (books_of c.args.self.now.queues) (books_of c.withdraw_at.new.self) (g.A.Adapter.view c.args.self.now.adapter) c.args.spot c.args.number c.withdraw_at.result c.withdraw_at.ensures.withdraws).rooms
+pub cancel_queued-requires : goal.cancel_queued-requires
+cancel_queued-requires g c = record { in_order = (reserved_of (books_of c.self.inside.parts.queues).rooms, c.self.invariant) }
+
+pub invariant_of-self : goal.invariant_of-self
+invariant_of-self g c =
+    sound_on (books_of c.self.inside.parts.queues) (books_of c.cancel_queued.new.self.queues) (g.A.Adapter.view c.self.inside.parts.adapter) (g.A.Adapter.view c.cancel_queued.new.self.adapter)
+    (queue_seen (books_of c.self.inside.parts.queues) (books_of c.cancel_queued.new.self.queues) (g.A.Adapter.view c.self.inside.parts.adapter) (g.A.Adapter.view c.cancel_queued.new.self.adapter) c.args.spot c.args.number 0 0 c.cancel_queued.result c.cancel_queued.ensures.adapter c.cancel_queued.ensures.cancels).0
+    (c.cancel_queued.ensures.rooms (reserved_of (books_of c.self.inside.parts.queues).rooms) c.self.invariant)
 
 pub returns-clause-cancels : goal.returns-clause-cancels
-returns-clause-cancels g c = (queued (books_of c.args.self.now.queues) (books_of c.withdraw_at.new.self) (g.A.Adapter.view c.args.self.now.adapter) c.args.spot c.args.number c.withdraw_at.result c.withdraw_at.ensures.withdraws).cancels
+returns-clause-cancels g c =
+    rw (← c.self.view_is)
+    (queue_seen (books_of c.self.inside.parts.queues) (books_of c.cancel_queued.new.self.queues) (g.A.Adapter.view c.self.inside.parts.adapter) (g.A.Adapter.view c.cancel_queued.new.self.adapter) c.args.spot c.args.number _ _ c.cancel_queued.result c.cancel_queued.ensures.adapter c.cancel_queued.ensures.cancels).1

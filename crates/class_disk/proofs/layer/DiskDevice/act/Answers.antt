@@ -1,20 +1,21 @@
-use Rattle.class_disk.specs.Books.{books_of}
+use Rattle.std.proofs.Common.{◌+◌, ◌≤◌, sym, subst}
+use Rattle.device.specs.View.{DeviceView, label_places}
+use Rattle.class_disk.specs.inside.Books.{books_of}
 use Rattle.class_disk.proofs.Acting.{label_place, either_acts}
 use Rattle.class_disk.proofs.layer.DiskDevice.act.Goals as goal
 
-pub act-requires-clause-in_order : goal.act-requires-clause-in_order
-act-requires-clause-in_order g c = (_, c.requires.in_order.1.rooms_out)
+pub act-acted-requires : goal.act-acted-requires
+act-acted-requires g c = record {
+  label_place = label_place _ (books_of c.self.inside.extension.table) c.self.invariant.in_hand 1 (subst (λ (x : DeviceView). label_places x + 1 ≤ 64) (sym c.self.view_is) c.requires.label_place);
+}
 
-pub act-requires-clause-label_place : goal.act-requires-clause-label_place
-act-requires-clause-label_place g c = label_place _ _ _ (g.D.Device.view c.args.self.now.device) (books_of c.args.self.now.table) _ c.requires.in_order.1 1 c.requires.label_place
+pub invariant_of-self : goal.invariant_of-self
+invariant_of-self g c = record {
+  takes = c.self.invariant.takes;
+  in_hand = (either_acts _ (books_of c.self.inside.extension.table) c.self.invariant.in_hand c.args.tag _ c.act-acted.result c.act-acted.ensures.acts c.shows_order.ensures.order).1;
+}
 
-pub returns-clause-rooms : goal.returns-clause-rooms
-returns-clause-rooms g c = λ rooms h.
-    let out = c.act.ensures.rooms _ h.rooms_out in
-    (either_acts _ _ _ (g.D.Device.view c.args.self.now.device) (books_of c.args.self.now.table) rooms h c.args.tag (g.D.Device.rooms_out c.act.new.self) (g.D.Device.view c.act.new.self) c.act.result c.act.ensures.acts (g.met.D.Device.in_order c.act.new.self _ out) out).1
-
-pub returns-clause-acts : goal.returns-clause-acts
-returns-clause-acts g c =
-    let h = c.requires.in_order.1 in
-    let out = c.act.ensures.rooms _ h.rooms_out in
-    (either_acts _ _ _ (g.D.Device.view c.args.self.now.device) (books_of c.args.self.now.table) _ h c.args.tag (g.D.Device.rooms_out c.act.new.self) (g.D.Device.view c.act.new.self) c.act.result c.act.ensures.acts (g.met.D.Device.in_order c.act.new.self _ out) out).0
+pub returns : goal.returns
+returns g c = rw (← c.self.view_is) (record {
+  acts = (either_acts _ (books_of c.self.inside.extension.table) c.self.invariant.in_hand c.args.tag _ c.act-acted.result c.act-acted.ensures.acts c.shows_order.ensures.order).0;
+})

@@ -1,4 +1,4 @@
 use Rattle.class_disk.proofs.layer.DiskDevice.armed.Goals as goal
 
-pub armed-requires : goal.armed-requires
-armed-requires g c = (_, c.requires.1.rooms_out)
+pub returns : goal.returns
+returns g c = rw (← c.self.view_is) c.armed.ensures

@@ -1,11 +1,19 @@
-use Rattle.class_disk.specs.Books.{books_of}
-use Rattle.class_disk.specs.Driver.{view_of}
+use Rattle.std.proofs.Common.{sym, subst}
+use Rattle.device.specs.View.{DeviceView}
+use Rattle.device.specs.Served.{CancelsIfOpen, CancelsAt}
+use Rattle.class_disk.specs.inside.Books.{books_of}
 use Rattle.class_disk.proofs.CancellingAt.{none_cancellable, by_spot}
 use Rattle.class_disk.proofs.layer.DiskDevice.cancel.Goals as goal
 
-pub returns-in-Some-clause-cancels : goal.returns-in-Some-clause-cancels
-returns-in-Some-clause-cancels g c =
-    by_spot (g.D.Device.view c.args.self.now.device) (books_of c.args.self.now.table) c.args.number c.in-Some.slot (view_of (g.D.Device.view c.cancel_at.new.self.device) (books_of c.cancel_at.new.self.table)) c.in-Some.ensures.found c.cancel_at.ensures.cancels
+pub returns-in-Some : goal.returns-in-Some
+returns-in-Some g c = record {
+  cancels =
+      subst (λ (x : DeviceView). CancelsIfOpen x c.args.number c.cancel_at.new.self) c.self.view_is
+      (by_spot (g.D.Shown.view c.self.inside.extension.device) (books_of c.self.inside.extension.table) c.args.number c.in-Some.slot c.cancel_at.new.self c.in-Some.ensures.found
+      (subst (λ (x : DeviceView). CancelsAt x c.in-Some.slot c.args.number c.cancel_at.new.self) (sym c.self.view_is) c.cancel_at.ensures.cancels));
+}
 
-pub returns-in_default-clause-cancels : goal.returns-in_default-clause-cancels
-returns-in_default-clause-cancels g c = none_cancellable (g.D.Device.view c.args.self.now.device) (books_of c.args.self.now.table) c.args.number c.in_default.ensures.none
+pub returns-in_default : goal.returns-in_default
+returns-in_default g c = rw (← c.self.view_is) (record {
+  cancels = none_cancellable (g.D.Shown.view c.self.inside.extension.device) (books_of c.self.inside.extension.table) c.args.number c.in_default.ensures.none;
+})

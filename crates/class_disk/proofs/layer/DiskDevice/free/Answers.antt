@@ -1,28 +1,37 @@
--- The parts' rooms go back below, and the slot is given up.
-use Rattle.std.proofs.Common.{sym, subst}
-use Rattle.std.specs.Prelude.{Contains}
-use Rattle.class_disk.specs.Books.{books_of}
-use Rattle.class_disk.specs.Turns.{RemovesSlot}
-use Rattle.class_disk.proofs.Reserving.{room_first, room_here, slot_vacant, in_hand_freed}
+-- The slot is given up, and the parts' rooms go back below.
+use Rattle.std.proofs.Common.{refl, sym, subst}
+use Rattle.device.specs.View.{DeviceView, IsReserved}
+use Rattle.class_disk.specs.declared.table.Table.{Table}
+use Rattle.class_disk.specs.inside.Books.{books_of}
+use Rattle.class_disk.specs.inside.Driver.{tickets, view_of, IsInHand}
+use Rattle.device.specs.Served.{Frees}
+use Rattle.class_disk.proofs.Standing.{apart_in}
+use Rattle.class_disk.proofs.Reserving.{freed_first, freed_here, frees_above, in_hand_freed}
 use Rattle.class_disk.proofs.layer.DiskDevice.free.Goals as goal
 
-pub free_parts-requires-clause-in_order : goal.free_parts-requires-clause-in_order
-free_parts-requires-clause-in_order g c =
-    (_, room_first (g.D.Device.rooms_out c.args.self.now.device) (books_of c.args.self.now.table) c.args.room c.requires.0 c.requires.1.rooms_out)
+pub give_up-places-requires : goal.give_up-places-requires
+give_up-places-requires g c = subst (λ (x : DeviceView). IsReserved x.rooms c.args.room.spot) (sym c.self.view_is) c.requires.reserved
+
+pub free_parts-requires-clause-out : goal.free_parts-requires-clause-out
+free_parts-requires-clause-out g c =
+    (tickets (books_of c.give_up-places.new.self), freed_first _ (books_of c.self.inside.extension.table) (books_of c.give_up-places.new.self) c.args.room.spot c.give_up-places.result c.give_up-places.ensures c.self.invariant.in_hand.rooms_out)
 
 pub free_parts-requires-clause-here : goal.free_parts-requires-clause-here
-free_parts-requires-clause-here g c = room_here _ (books_of c.args.self.now.table) c.args.room _ c.requires.1.kept
+free_parts-requires-clause-here g c = freed_here _ (books_of c.self.inside.extension.table) (books_of c.give_up-places.new.self) c.args.room.spot c.give_up-places.result c.give_up-places.ensures c.self.invariant.in_hand.kept
 
-pub remove_slot-requires : goal.remove_slot-requires
-remove_slot-requires g c =
-    subst (λ t. Contains (books_of t).vacant c.args.room.slot) (sym c.free_parts.ensures.table)
-    (slot_vacant _ (books_of c.args.self.now.table) c.args.room _ c.requires.1.kept)
+pub invariant_of-self : goal.invariant_of-self
+invariant_of-self g c = record {
+  takes = c.self.invariant.takes;
+  in_hand =
+      subst (λ (t : Table). IsInHand (g.D.Shown.view c.free_parts.new.self.device) (books_of t)) (sym c.free_parts.ensures.table)
+      (in_hand_freed (g.D.Shown.view c.self.inside.extension.device) _ (books_of c.self.inside.extension.table) (books_of c.give_up-places.new.self) c.args.room.spot c.give_up-places.result c.free_parts.ensures.same c.give_up-places.ensures
+      (apart_in _ c.give_up-places.new.self.slots.slots refl refl)
+      (c.free_parts.ensures.out _ (freed_first _ (books_of c.self.inside.extension.table) (books_of c.give_up-places.new.self) c.args.room.spot c.give_up-places.result c.give_up-places.ensures c.self.invariant.in_hand.rooms_out))
+      c.self.invariant.in_hand);
+}
 
-pub returns-clause-rooms : goal.returns-clause-rooms
-returns-clause-rooms g c = λ rooms h.
-    in_hand_freed _ (g.D.Device.rooms_out c.free_parts.new.self.device) _ _ _ _ _ _ c.args.room rooms c.free_parts.ensures.same
-    (subst (λ t. RemovesSlot (books_of t) c.args.room.slot (books_of c.remove_slot.new.self)) c.free_parts.ensures.table
-    c.remove_slot.ensures)
-    (g.met.D.Device.in_order c.args.self.now.device _ h.rooms_out).adapter
-    (c.free_parts.ensures.rooms _
-    (room_first (g.D.Device.rooms_out c.args.self.now.device) (books_of c.args.self.now.table) c.args.room rooms h.rooms_out)) h
+pub returns : goal.returns
+returns g c = rw (← c.self.view_is) (record {
+  frees = subst (λ (t : Table). Frees (view_of (g.D.Shown.view c.self.inside.extension.device) (books_of c.self.inside.extension.table)) c.args.room.spot (view_of (g.D.Shown.view c.free_parts.new.self.device) (books_of t))) (sym c.free_parts.ensures.table)
+      (frees_above (g.D.Shown.view c.self.inside.extension.device) _ (books_of c.self.inside.extension.table) (books_of c.give_up-places.new.self) c.args.room.spot c.give_up-places.result c.free_parts.ensures.same c.give_up-places.ensures);
+})

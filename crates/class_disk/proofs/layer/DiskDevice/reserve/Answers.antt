@@ -1,57 +1,105 @@
--- All parts are made, and a slot; where one of them is refused, all places go back.
-use Rattle.std.proofs.Common.{◌≤◌, refl, sym, subst, length}
-use Rattle.device.specs.Served.{Reserves}
-use Rattle.class_disk.specs.Books.{books_of}
-use Rattle.class_disk.specs.Turns.{AddsSlot, AddsNoSlot}
+-- A slot is made, the parts get their rooms below, and the slot is filled with them.
+use Rattle.std.proofs.Common.{refl, sym, ◌∙◌, ap, subst}
+use Rattle.device.specs.View.{DeviceView, IsBounded}
+use Rattle.class_disk.specs.declared.Sizes.{Sizes}
+use Rattle.class_disk.specs.declared.table.Table.{Table}
+use Rattle.class_disk.specs.inside.Blocks.{AreSizes}
+use Rattle.class_disk.specs.inside.Books.{Books, books_of, held_as}
+use Rattle.class_disk.specs.inside.Midway.{CanCut}
+use Rattle.class_disk.specs.Shown.{class_rules}
+use Rattle.class_disk.specs.inside.Driver.{view_of}
+use Rattle.device.specs.Served.{ReservesNone}
 use Rattle.class_disk.proofs.Cutting.{can_cut}
-use Rattle.class_disk.proofs.NewParts.{new_here, new_ready, new_room}
-use Rattle.class_disk.proofs.Reserving.{in_hand_refused, in_hand_made, adds_none, ended_open, on_err}
+use Rattle.class_disk.proofs.Making.{none_asked}
+use Rattle.device.proofs.Reserving.{near_same}
+use Rattle.class_disk.proofs.NearParts.{near_above}
+use Rattle.class_disk.proofs.NewParts.{new_held}
+use Rattle.class_disk.proofs.Reserving.{ended_open, on_err}
+use Rattle.class_disk.proofs.ReservingAbove.{refused_there, reserved_above}
+use Rattle.class_disk.proofs.SlotFilling.{still_vacant, still_placed, place_there}
+use Rattle.class_disk.proofs.Standing.{apart_in}
 use Rattle.class_disk.proofs.layer.DiskDevice.reserve.Goals as goal
+
+pub make_slot-requires : goal.make_slot-requires
+make_slot-requires g c = ended_open _ (books_of c.self.inside.extension.table) c.self.invariant.in_hand.kept
+
+pub invariant_of-self : goal.invariant_of-self
+invariant_of-self g c = record {
+  takes = c.self.invariant.takes;
+  in_hand = (refused_there (g.D.Shown.view c.self.inside.extension.device) (books_of c.self.inside.extension.table) (books_of c.make_slot.new.self) c.self.invariant.in_hand c.make_slot.ensures.same (g.D.Shown.view c.self.inside.extension.device) _ (books_of c.make_slot.new.self) refl (none_asked (g.D.Shown.view c.self.inside.extension.device) _)).0;
+}
+
+pub returns-in_err-slot-clause-refused : goal.returns-in_err-slot-clause-refused
+returns-in_err-slot-clause-refused g c =
+    let h : ReservesNone c.args.self.now (view_of (g.D.Shown.view c.self.inside.extension.device) (books_of c.make_slot.new.self)) =
+    rw (← c.self.view_is) (refused_there (g.D.Shown.view c.self.inside.extension.device) (books_of c.self.inside.extension.table) (books_of c.make_slot.new.self) c.self.invariant.in_hand c.make_slot.ensures.same (g.D.Shown.view c.self.inside.extension.device) _ (books_of c.make_slot.new.self) refl (none_asked (g.D.Shown.view c.self.inside.extension.device) _)).1 in
+    on_err _ h
+
+pub reserve_parts-requires-clause-in_order : goal.reserve_parts-requires-clause-in_order
+reserve_parts-requires-clause-in_order g c = (_, c.self.invariant.in_hand.rooms_out)
 
 pub reserve_parts-requires-clause-cuts : goal.reserve_parts-requires-clause-cuts
 reserve_parts-requires-clause-cuts g c =
-    let h = c.requires.in_order.1 in
-    can_cut (g.D.Device.view c.args.self.now.device) c.args.self.now.table.sizes c.args.request.now h.port
-    (g.met.D.Device.in_order c.args.self.now.device _ h.rooms_out) h.kept.sizes c.requires.bounded
+    subst (λ (s : Sizes). CanCut s (g.D.Shown.view c.self.inside.extension.device).rules c.args.request.now) (sym (ap (λ (b : Books). b.sizes) c.make_slot.ensures.same.after))
+    (can_cut (g.D.Shown.view c.self.inside.extension.device) c.self.inside.extension.table.sizes c.args.request.now c.self.invariant.in_hand.port c.self.invariant.in_hand.rooms_out.orderly c.self.invariant.in_hand.kept.sizes
+    (subst (λ (x : DeviceView). IsBounded x.rules c.args.request.now) (sym c.self.view_is) c.requires.bounded))
+
+pub invariant_of-self-in_err-parts : goal.invariant_of-self-in_err-parts
+invariant_of-self-in_err-parts g c = record {
+  takes = c.self.invariant.takes;
+  in_hand = (refused_there (g.D.Shown.view c.self.inside.extension.device) (books_of c.self.inside.extension.table) (books_of c.make_slot.new.self) c.self.invariant.in_hand c.make_slot.ensures.same _ _ (books_of c.reserve_parts.new.self.table)
+      (ap (λ (t : Table). books_of t) c.reserve_parts.ensures.table) c.in_err-parts.ensures.refused).0;
+}
 
 pub returns-in_err-parts-clause-refused : goal.returns-in_err-parts-clause-refused
-returns-in_err-parts-clause-refused g c = on_err c.from_residual.result (λ rooms h.
-    let out = c.in_err-parts.ensures.refused _ h.rooms_out in
-    in_hand_refused _ (g.D.Device.rooms_out c.reserve_parts.new.self.device) _ _ _ _ (books_of c.args.self.now.table) _
-    c.reserve_parts.ensures.reserves (g.met.D.Device.in_order c.reserve_parts.new.self.device _ out).adapter rooms
-    (subst (λ t. AddsNoSlot (books_of c.args.self.now.table) (books_of t)) (sym c.reserve_parts.ensures.table)
-    (adds_none (books_of c.args.self.now.table))) out h)
+returns-in_err-parts-clause-refused g c =
+    let h : ReservesNone c.args.self.now (view_of (g.D.Shown.view c.reserve_parts.new.self.device) (books_of c.reserve_parts.new.self.table)) =
+    rw (← c.self.view_is) (refused_there (g.D.Shown.view c.self.inside.extension.device) (books_of c.self.inside.extension.table) (books_of c.make_slot.new.self) c.self.invariant.in_hand c.make_slot.ensures.same _ _ (books_of c.reserve_parts.new.self.table)
+    (ap (λ (t : Table). books_of t) c.reserve_parts.ensures.table) c.in_err-parts.ensures.refused).1 in
+    on_err _ h
 
-pub add_slot-requires : goal.add_slot-requires
-add_slot-requires g c =
-    subst (λ t. length (books_of t).ended ≤ length (books_of t).opens) (sym c.reserve_parts.ensures.table)
-    (ended_open _ (books_of c.args.self.now.table) _ c.requires.in_order.1.kept)
+pub fill-requires-clause-vacant : goal.fill-requires-clause-vacant
+fill-requires-clause-vacant g c = still_vacant c.make_slot.new.self c.reserve_parts.new.self.table c.in_ok-slot.slot c.reserve_parts.ensures.table c.in_ok-slot.ensures.slot
 
-pub free_parts-requires-clause-here : goal.free_parts-requires-clause-here
-free_parts-requires-clause-here g c =
-    new_here g.D.Device.request_of g.D.Device.ready c.args.self.now.table.sizes c.args.request.now _ _ c.in_ok-parts.ensures.parts
+pub fill-requires-clause-place : goal.fill-requires-clause-place
+fill-requires-clause-place g c = still_placed c.make_slot.new.self c.reserve_parts.new.self.table c.reserve_parts.ensures.table c.in_ok-slot.ensures.place
 
-pub returns-in_default-clause-refused : goal.returns-in_default-clause-refused
-returns-in_default-clause-refused g c = λ rooms h.
-    let out = c.free_parts.ensures.rooms _ (c.in_ok-parts.ensures.rooms _ h.rooms_out) in
-    in_hand_refused _ (g.D.Device.rooms_out c.free_parts.new.self.device) _ _ _ _ (books_of c.args.self.now.table) _
-    (subst (Reserves (g.D.Device.view c.args.self.now.device)) (sym c.free_parts.ensures.same) c.reserve_parts.ensures.reserves)
-    (g.met.D.Device.in_order c.free_parts.new.self.device _ out).adapter rooms
-    (subst (λ t. AddsNoSlot (books_of c.args.self.now.table) (books_of t)) (sym c.free_parts.ensures.table)
-    (subst (λ t. AddsNoSlot (books_of t) (books_of c.add_slot.new.self)) c.reserve_parts.ensures.table
-    c.in_default.ensures.refused)) out h
+pub invariant_of-self-2 : goal.invariant_of-self-2
+invariant_of-self-2 g c = record {
+  takes = c.self.invariant.takes;
+  in_hand = (reserved_above (g.D.Shown.view c.self.inside.extension.device) (books_of c.self.inside.extension.table) (books_of c.make_slot.new.self) c.self.invariant.in_hand c.make_slot.ensures.same _ _ (books_of c.reserve_parts.new.self.table)
+      (ap (λ (t : Table). books_of t) c.reserve_parts.ensures.table) (held_as c.in_ok-slot.slot (record { request = c.args.request.now; parts = c.in_ok-parts.parts })) refl c.in_ok-parts.ensures.makes
+      (books_of c.fill.new.self) c.fill.ensures
+      (new_held c.make_slot.new.self.sizes c.args.request.now _ _ (held_as c.in_ok-slot.slot (record { request = c.args.request.now; parts = c.in_ok-parts.parts })) refl
+      (subst (λ (s : Sizes). AreSizes s (class_rules (g.D.Shown.view c.self.inside.extension.device).rules)) (sym (ap (λ (b : Books). b.sizes) c.make_slot.ensures.same.after)) c.self.invariant.in_hand.kept.sizes)
+      (subst (λ (x : DeviceView). IsBounded x.rules c.args.request.now) (sym c.self.view_is) c.requires.bounded) c.in_ok-parts.ensures.parts c.in_ok-parts.ensures.makes.owned)
+      (apart_in _ c.fill.new.self.slots.slots refl refl) (place_there c.make_slot.new.self c.in_ok-slot.ensures.place)).0;
+}
 
-pub returns-clause-ready : goal.returns-clause-ready
-returns-clause-ready g c =
-    new_ready g.D.Device.request_of g.D.Device.ready c.args.self.now.table.sizes c.args.request.now _ _ c.in_ok-parts.ensures.parts
+pub returns-clause-reserved : goal.returns-clause-reserved
+returns-clause-reserved g c =
+    rw (← c.self.view_is) (reserved_above (g.D.Shown.view c.self.inside.extension.device) (books_of c.self.inside.extension.table) (books_of c.make_slot.new.self) c.self.invariant.in_hand c.make_slot.ensures.same _ _ (books_of c.reserve_parts.new.self.table)
+    (ap (λ (t : Table). books_of t) c.reserve_parts.ensures.table) (held_as c.in_ok-slot.slot (record { request = c.args.request.now; parts = c.in_ok-parts.parts })) refl c.in_ok-parts.ensures.makes
+    (books_of c.fill.new.self) c.fill.ensures
+    (new_held c.make_slot.new.self.sizes c.args.request.now _ _ (held_as c.in_ok-slot.slot (record { request = c.args.request.now; parts = c.in_ok-parts.parts })) refl
+    (subst (λ (s : Sizes). AreSizes s (class_rules (g.D.Shown.view c.self.inside.extension.device).rules)) (sym (ap (λ (b : Books). b.sizes) c.make_slot.ensures.same.after)) c.self.invariant.in_hand.kept.sizes)
+    (subst (λ (x : DeviceView). IsBounded x.rules c.args.request.now) (sym c.self.view_is) c.requires.bounded) c.in_ok-parts.ensures.parts c.in_ok-parts.ensures.makes.owned)
+    (apart_in _ c.fill.new.self.slots.slots refl refl) (place_there c.make_slot.new.self c.in_ok-slot.ensures.place)).1
 
-pub returns-clause-rooms : goal.returns-clause-rooms
-returns-clause-rooms g c = λ rooms h.
-    let out = c.in_ok-parts.ensures.rooms _ h.rooms_out in
-    let adds = subst (λ t. AddsSlot (books_of t) c.in-Ok.slot (books_of c.add_slot.new.self)) c.reserve_parts.ensures.table
-    c.in-Ok.ensures.added in
-    in_hand_made _ (g.D.Device.rooms_out c.reserve_parts.new.self.device) _ _ _ _ (books_of c.args.self.now.table) _
-    c.reserve_parts.ensures.reserves (g.met.D.Device.in_order c.reserve_parts.new.self.device _ out).adapter
-    (record { request = c.args.request.now; slot = c.in-Ok.slot; parts = c.in_ok-parts.parts }) rooms adds
-    (new_room g.D.Device.request_of g.D.Device.ready c.args.self.now.table.sizes c.args.request.now _ _ refl h.kept.sizes
-    c.requires.bounded c.in_ok-parts.ensures.parts adds.small) out h
+pub returns-clause-unless_write : goal.returns-clause-unless_write
+returns-clause-unless_write g c = λ other. c.reserve_parts.ensures.unless_write other ∙ ap (λ (x : DeviceView). x.adapter) c.self.view_is
+
+pub returns-in_err-slot-clause-near : goal.returns-in_err-slot-clause-near
+returns-in_err-slot-clause-near g c =
+    near_above (g.D.Shown.view c.self.inside.extension.device) (g.D.Shown.view c.self.inside.extension.device) (books_of c.self.inside.extension.table) (books_of c.make_slot.new.self) _ c.args.request.now c.self.view_is
+    (near_same (g.D.Shown.view c.self.inside.extension.device) (g.D.Shown.view c.self.inside.extension.device) c.args.request.now refl)
+
+pub returns-in_err-parts-clause-near : goal.returns-in_err-parts-clause-near
+returns-in_err-parts-clause-near g c =
+    near_above (g.D.Shown.view c.self.inside.extension.device) (g.D.Shown.view c.reserve_parts.new.self.device) (books_of c.self.inside.extension.table) (books_of c.reserve_parts.new.self.table) _ c.args.request.now c.self.view_is
+    c.reserve_parts.ensures.near
+
+pub returns-clause-near : goal.returns-clause-near
+returns-clause-near g c =
+    near_above (g.D.Shown.view c.self.inside.extension.device) (g.D.Shown.view c.reserve_parts.new.self.device) (books_of c.self.inside.extension.table) (books_of c.fill.new.self) _ c.args.request.now c.self.view_is
+    c.reserve_parts.ensures.near

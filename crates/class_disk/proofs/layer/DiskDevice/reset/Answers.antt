@@ -1,20 +1,22 @@
-use Rattle.class_disk.specs.Books.{books_of}
+use Rattle.std.proofs.Common.{◌+◌, ◌≤◌, sym, subst}
+use Rattle.device.specs.View.{DeviceView, label_places}
+use Rattle.class_disk.specs.inside.Books.{books_of}
 use Rattle.class_disk.proofs.Acting.{label_place}
 use Rattle.class_disk.proofs.Resetting.{resets_above}
 use Rattle.class_disk.proofs.layer.DiskDevice.reset.Goals as goal
 
-pub reset-requires-clause-label_place : goal.reset-requires-clause-label_place
-reset-requires-clause-label_place g c = label_place _ _ _ (g.D.Device.view c.args.self.now.device) (books_of c.args.self.now.table) _ c.requires.in_order.1 _ c.requires.label_place
+pub reset-requires : goal.reset-requires
+reset-requires g c = record {
+  label_place = label_place _ (books_of c.self.inside.extension.table) c.self.invariant.in_hand _ (subst (λ (x : DeviceView). label_places x + x.rules.depth ≤ 64) (sym c.self.view_is) c.requires.label_place);
+}
 
-pub returns-clause-rooms : goal.returns-clause-rooms
-returns-clause-rooms g c = λ rooms h.
-    let out = c.reset.ensures.rooms _ h.rooms_out in
-    (resets_above _ _ _ (g.D.Device.view c.args.self.now.device) (books_of c.args.self.now.table) rooms h (g.D.Device.rooms_out c.reset.new.self) (g.D.Device.view c.reset.new.self) c.reset.ensures.resets
-    (g.met.D.Device.in_order c.reset.new.self _ out) out).1
+pub invariant_of-self : goal.invariant_of-self
+invariant_of-self g c = record {
+  takes = c.self.invariant.takes;
+  in_hand = (resets_above _ (books_of c.self.inside.extension.table) c.self.invariant.in_hand _ c.reset.ensures.resets c.shows_order.ensures.order).1;
+}
 
-pub returns-clause-resets : goal.returns-clause-resets
-returns-clause-resets g c =
-    let h = c.requires.in_order.1 in
-    let out = c.reset.ensures.rooms _ h.rooms_out in
-    (resets_above _ _ _ (g.D.Device.view c.args.self.now.device) (books_of c.args.self.now.table) _ h (g.D.Device.rooms_out c.reset.new.self) (g.D.Device.view c.reset.new.self) c.reset.ensures.resets
-    (g.met.D.Device.in_order c.reset.new.self _ out) out).0
+pub returns : goal.returns
+returns g c = rw (← c.self.view_is) (record {
+  resets = (resets_above _ (books_of c.self.inside.extension.table) c.self.invariant.in_hand _ c.reset.ensures.resets c.shows_order.ensures.order).0;
+})

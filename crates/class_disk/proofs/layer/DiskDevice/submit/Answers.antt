@@ -1,39 +1,56 @@
 -- The request is opened, its parts are sent, and the layer below is asked for what came back: nothing.
-use Rattle.class_disk.specs.Books.{books_of}
-use Rattle.class_disk.proofs.Reserving.{slot_vacant}
-use Rattle.class_disk.proofs.Standing.{rising}
-use Rattle.class_disk.proofs.SubmitDone.{opening, can_settle, all_done, rooms_again}
+use Rattle.std.proofs.Common.{◌≤◌, ◌<◌, refl, sym, subst}
+use Rattle.std.specs.Prelude.{IsFalse}
+use Rattle.device.specs.View.{DeviceView, IsReady}
+use Rattle.class_disk.specs.inside.Books.{books_of}
+use Rattle.class_disk.proofs.Standing.{rising, apart_in}
+use Rattle.class_disk.proofs.SubmitDone.{opening, can_settle, all_done, hand_again, carries_there, submits_there, few_there}
 use Rattle.class_disk.proofs.layer.DiskDevice.submit.Goals as goal
 
-pub open-requires-clause-vacant : goal.open-requires-clause-vacant
-open-requires-clause-vacant g c = slot_vacant _ (books_of c.args.self.now.table) c.args.room _ c.requires.in_order.1.kept
+pub open-requires-clause-ready : goal.open-requires-clause-ready
+open-requires-clause-ready g c = subst (λ (x : DeviceView). IsReady x.rooms c.args.room.spot) (sym c.self.view_is) c.requires.ready
 
-pub send_parts-requires : goal.send_parts-requires
-send_parts-requires g c = (
-  c.requires.in_order.0,
-  opening g.D.Device.request_of g.D.Device.ready (g.D.Device.rooms_out c.args.self.now.device) _ _ _ (books_of c.args.self.now.table) c.args.room c.requires.in_order.0 c.requires.in_order.1 c.args.irp _ c.open.ensures
-      c.requires.number c.requires.not_removing c.requires.not_cancelled c.requires.carries c.requires.ready c.requires.few (g.met.D.Device.any_order c.args.self.now.device)
-      (g.met.D.Device.in_order c.args.self.now.device _ c.requires.in_order.1.rooms_out),
-)
+pub open-requires-clause-few : goal.open-requires-clause-few
+open-requires-clause-few g c = few_there (g.D.Shown.view c.self.inside.extension.device) (books_of c.self.inside.extension.table) _ c.self.view_is c.requires.few
+
+pub send_parts-requires-clause-opening : goal.send_parts-requires-clause-opening
+send_parts-requires-clause-opening g c =
+    opening _ (books_of c.self.inside.extension.table) c.self.invariant.in_hand c.args.room.spot c.args.irp.value (books_of c.open.new.self) c.open.ensures
+    (subst (λ (x : DeviceView). x.state.next_request ≤ c.args.irp.value.number) (sym c.self.view_is) c.requires.number)
+    (subst (λ (x : DeviceView). IsFalse x.state.removing) (sym c.self.view_is) c.requires.not_removing) c.requires.not_cancelled
+    (carries_there (g.D.Shown.view c.self.inside.extension.device) (books_of c.self.inside.extension.table) c.args.room.spot c.args.irp.value (books_of c.open.new.self) c.open.ensures _ c.self.view_is c.requires.carries)
+    (subst (λ (x : DeviceView). x.submitted < x.most) (sym c.self.view_is) c.requires.few)
 
 pub settle-requires : goal.settle-requires
 settle-requires g c =
-    can_settle g.D.Device.request_of g.D.Device.ready (g.D.Device.rooms_out c.args.self.now.device) _ _ _ (books_of c.args.self.now.table) c.args.room c.requires.in_order.0 c.requires.in_order.1 c.args.irp _ c.open.ensures
-    c.requires.number c.requires.not_removing c.requires.not_cancelled c.requires.carries c.requires.ready c.requires.few (g.met.D.Device.any_order c.args.self.now.device)
-    (g.met.D.Device.in_order c.args.self.now.device _ c.requires.in_order.1.rooms_out) (rising 0 c.open.new.self.slots.slots)
-    (g.D.Device.rooms_out c.send_parts.new.self.device) _ (books_of c.send_parts.new.self.table) c.send_parts.ensures
+    can_settle _ (books_of c.self.inside.extension.table) c.self.invariant.in_hand c.args.room.spot c.args.irp.value (books_of c.open.new.self) c.open.ensures
+    (subst (λ (x : DeviceView). x.state.next_request ≤ c.args.irp.value.number) (sym c.self.view_is) c.requires.number)
+    (subst (λ (x : DeviceView). IsFalse x.state.removing) (sym c.self.view_is) c.requires.not_removing) c.requires.not_cancelled
+    (carries_there (g.D.Shown.view c.self.inside.extension.device) (books_of c.self.inside.extension.table) c.args.room.spot c.args.irp.value (books_of c.open.new.self) c.open.ensures _ c.self.view_is c.requires.carries)
+    (subst (λ (x : DeviceView). x.submitted < x.most) (sym c.self.view_is) c.requires.few)
+    (rising 0 c.open.new.self.slots.slots) _ (books_of c.send_parts.new.self.table) (λ from labels so_far opening. c.send_parts.ensures from labels so_far)
 
-pub returns-clause-rooms : goal.returns-clause-rooms
-returns-clause-rooms g c = λ rooms h.
-    rooms_again g.D.Device.request_of g.D.Device.ready (g.D.Device.rooms_out c.args.self.now.device) _ _ _ (books_of c.args.self.now.table) c.args.room rooms h c.args.irp _ c.open.ensures
-    c.requires.number c.requires.not_removing c.requires.not_cancelled c.requires.carries c.requires.ready c.requires.few (g.met.D.Device.any_order c.args.self.now.device)
-    (g.met.D.Device.in_order c.args.self.now.device _ h.rooms_out) (rising 0 c.open.new.self.slots.slots)
-    (g.D.Device.rooms_out c.send_parts.new.self.device) _ (books_of c.send_parts.new.self.table) c.send_parts.ensures (g.D.Device.rooms_out c.settle.new.self.device) _ (books_of c.settle.new.self.table) c.settle.ensures
-    (g.met.D.Device.in_order c.send_parts.new.self.device)
+pub invariant_of-self : goal.invariant_of-self
+invariant_of-self g c = record {
+  takes = c.self.invariant.takes;
+  in_hand = hand_again _ (books_of c.self.inside.extension.table) c.self.invariant.in_hand c.args.room.spot c.args.irp.value (books_of c.open.new.self) c.open.ensures
+      (subst (λ (x : DeviceView). x.state.next_request ≤ c.args.irp.value.number) (sym c.self.view_is) c.requires.number)
+      (subst (λ (x : DeviceView). IsFalse x.state.removing) (sym c.self.view_is) c.requires.not_removing) c.requires.not_cancelled
+      (carries_there (g.D.Shown.view c.self.inside.extension.device) (books_of c.self.inside.extension.table) c.args.room.spot c.args.irp.value (books_of c.open.new.self) c.open.ensures _ c.self.view_is c.requires.carries)
+      (subst (λ (x : DeviceView). x.submitted < x.most) (sym c.self.view_is) c.requires.few)
+      (rising 0 c.open.new.self.slots.slots) _ (books_of c.send_parts.new.self.table) (λ from labels so_far opening. c.send_parts.ensures from labels so_far)
+      _ (books_of c.settle.new.self.table) c.settle.ensures (apart_in _ c.send_parts.new.self.table.slots.slots refl refl);
+}
 
-pub returns-clause-submits : goal.returns-clause-submits
-returns-clause-submits g c =
-    all_done g.D.Device.request_of g.D.Device.ready (g.D.Device.rooms_out c.args.self.now.device) _ _ _ (books_of c.args.self.now.table) c.args.room c.requires.in_order.0 c.requires.in_order.1 c.args.irp _ c.open.ensures
-    c.requires.number c.requires.not_removing c.requires.not_cancelled c.requires.carries c.requires.ready c.requires.few (g.met.D.Device.any_order c.args.self.now.device)
-    (g.met.D.Device.in_order c.args.self.now.device _ c.requires.in_order.1.rooms_out) (rising 0 c.open.new.self.slots.slots)
-    (g.D.Device.rooms_out c.send_parts.new.self.device) _ (books_of c.send_parts.new.self.table) c.send_parts.ensures (g.D.Device.rooms_out c.settle.new.self.device) _ (books_of c.settle.new.self.table) c.settle.ensures
+pub returns : goal.returns
+returns g c = rw (← c.self.view_is) (record {
+  submits =
+      submits_there (g.D.Shown.view c.self.inside.extension.device) (books_of c.self.inside.extension.table) c.args.room.spot c.args.irp.value (books_of c.open.new.self) c.open.ensures _
+      (all_done _ (books_of c.self.inside.extension.table) c.self.invariant.in_hand c.args.room.spot c.args.irp.value (books_of c.open.new.self) c.open.ensures
+      (subst (λ (x : DeviceView). x.state.next_request ≤ c.args.irp.value.number) (sym c.self.view_is) c.requires.number)
+      (subst (λ (x : DeviceView). IsFalse x.state.removing) (sym c.self.view_is) c.requires.not_removing) c.requires.not_cancelled
+      (carries_there (g.D.Shown.view c.self.inside.extension.device) (books_of c.self.inside.extension.table) c.args.room.spot c.args.irp.value (books_of c.open.new.self) c.open.ensures _ c.self.view_is c.requires.carries)
+      (subst (λ (x : DeviceView). x.submitted < x.most) (sym c.self.view_is) c.requires.few)
+      (rising 0 c.open.new.self.slots.slots) _ (books_of c.send_parts.new.self.table) (λ from labels so_far opening. c.send_parts.ensures from labels so_far)
+      _ (books_of c.settle.new.self.table) c.settle.ensures);
+})

@@ -1,6 +1,6 @@
 use Rattle.std.proofs.Common.{◌≡◌, drop}
-use Rattle.class_disk.specs.Parts.{lowest_status}
+use Rattle.class_disk.specs.inside.Parts.{lowest_status}
 use Rattle.class_disk.proofs.requests.Transfer.status.Given as goal
 
 abbrev pub invariant-loop-part : goal.invariant-loop-part
-invariant-loop-part g l = lowest_status l.self.parts.items ≡ lowest_status (drop l.part-index l.part-items)
+invariant-loop-part l = lowest_status l.self.parts.items ≡ lowest_status (drop l.part-index l.part-items)

@@ -1,9 +1,16 @@
-use Rattle.std.proofs.Common.{sym}
-use Rattle.class_disk.proofs.Cancelling.{cancels, cancels_none}
+use Rattle.std.proofs.Common.{true, ap, ◌∙◌}
+use Rattle.irp.specs.declared.Irp.{Irp}
+use Rattle.class_disk.specs.inside.Books.{opened_of}
+use Rattle.class_disk.proofs.Replacing.{stands_there}
+use Rattle.class_disk.proofs.Cancelling.{cancels_there}
 use Rattle.class_disk.proofs.table.Table.cancel.Goals as goal
 
-pub returns-in-Some : goal.returns-in-Some
-returns-in-Some g c = cancels c.args.self.now c.args.slot c.args.number c.in-Some.open.now c.cancel_in.new.open c.cancel_in.result (sym c.in-Some.ensures.value) c.cancel_in.ensures.cancels c.cancel_in.ensures.after
+pub take_open-transfer-requires : goal.take_open-transfer-requires
+take_open-transfer-requires c = let e = c.if-not-can_cancel.ensures in stands_there c.args.self.now c.args.slot e.o e.is_open
 
-pub returns-in-None : goal.returns-in-None
-returns-in-None g c = cancels_none c.args.self.now c.args.slot c.args.number (sym c.in-None.ensures.value)
+pub returns : goal.returns
+returns c =
+    cancels_there c.args.self.now c.take_open-transfer.new.self c.put_open.new.self c.args.slot c.args.number c.take_open-transfer.result _ c.if-not-can_cancel.ensures
+    c.take_open-transfer.ensures.was c.take_open-transfer.ensures.gone
+    (ap (λ (x : Irp). record (opened_of c.take_open-transfer.result) { irp = x }) (c.mark_cancelled.ensures ∙ ap (λ (x : Irp). record x { cancelled = true }) c.deref_mut.ensures.value))
+    c.put_open.ensures

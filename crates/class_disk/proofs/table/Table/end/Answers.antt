@@ -1,39 +1,43 @@
-use Rattle.std.proofs.Common.{◌≡◌, ◌<◌, ◌==◌, ◌-◌, ◌++◌, ◌∷◌, [], true, false, refl, sym, ◌∙◌, ap, subst, Some}
-use Rattle.std.specs.Prelude.{slice_get, if◌then◌else◌}
+use Rattle.std.proofs.Common.{◌≡◌, ◌-◌, ◌==◌, true, false, sym, ◌∙◌, ap, subst}
+use Rattle.std.specs.Prelude.{◌<◌, slice_get}
 use Rattle.std.proofs.lemmas.Option.{slice_get_within}
-use Rattle.class_disk.specs.Books.{Opened, books_of, open_from, put_at}
-use Rattle.class_disk.specs.Turns.{ended_at}
-use Rattle.class_disk.proofs.InSlots.{stands_some, stands_as, put_there}
-use Rattle.class_disk.proofs.EndedSlots.{same_ended}
+use Rattle.class_disk.specs.inside.Books.{Opened, opened_of, books_of}
+use Rattle.class_disk.specs.inside.Turns.{ended_at}
+use Rattle.class_disk.proofs.Replacing.{stands_there, stands_as, replaces, books_replaced, ends_more, ends_last}
 use Rattle.class_disk.proofs.table.Table.end.Goals as goal
 
-pub index_mut-requires : goal.index_mut-requires
-index_mut-requires g c = let p = c.requires.part in stands_some c.args.self.now.slots.slots c.args.id.slot p.0 p.2
+pub take_open-transfer-requires : goal.take_open-transfer-requires
+take_open-transfer-requires c = let (o, part, open', there, few) = c.requires.part in stands_there c.args.self.now c.args.id.slot o open'
 
-pub end_in-requires : goal.end_in-requires
-end_in-requires g c =
-    let p = c.requires.part in
-    let s = stands_as c.args.self.now.slots.slots c.args.id.slot p.0 p.2 c.index_mut.result.now c.index_mut.ensures.value in
-    let there : slice_get s.0.parts.items c.args.id.part ≡ Some p.1 = ap (λ (x : Opened g.row.R.Denot). slice_get x.parts c.args.id.part) s.2 ∙ p.3 in
-    let few : 0 < s.0.unfinished = subst (λ (x : Opened g.row.R.Denot). 0 < x.unfinished) (sym s.2) p.4 in
-    (s.0, (s.1, slice_get_within s.0.parts.items c.args.id.part p.1 there, few))
+pub end-last-requires-clause-part : goal.end-last-requires-clause-part
+end-last-requires-clause-part c =
+    let (o, part, open', there, few) = c.requires.part in
+    let same : opened_of c.take_open-transfer.result ≡ o = stands_as c.args.self.now c.args.id.slot c.take_open-transfer.result o c.take_open-transfer.ensures.was open' in
+    slice_get_within c.take_open-transfer.result.parts.items c.args.id.part part (ap (λ (x : Opened). slice_get x.parts c.args.id.part) same ∙ there)
 
-pub returns-then-end_in : goal.returns-then-end_in
-returns-then-end_in g c = λ o part is_open is_there.
-    let s = stands_as c.args.self.now.slots.slots c.args.id.slot o is_open c.index_mut.result.now c.index_mut.ensures.value in
-    let there : slice_get s.0.parts.items c.args.id.part ≡ Some part = ap (λ (x : Opened g.row.R.Denot). slice_get x.parts c.args.id.part) s.2 ∙ is_there in
-    let b = c.end_in.ensures.ends s.0 part s.1 there in
-    let p = put_there c.args.self.now.slots.slots c.args.id.slot o is_open _ _ b in
-    let last : (o.unfinished - 1 == 0) ≡ true = ap (λ (x : Opened g.row.R.Denot). x.unfinished - 1 == 0) (sym s.2) ∙ sym (c.end_in.ensures.last s.0 s.1) ∙ c.if-end_in.true in
-    same_ended (books_of c.args.self.now) _ _ _ _ _ _ _ (p.0 ∙ ap (λ x. put_at c.args.id.slot (ended_at c.args.id.part c.args.ended part x) (open_from 0 c.args.self.now.slots.slots)) s.2) p.1
-    (c.push_back_reserved.ensures.items ∙ ap (λ b. if b then c.args.self.now.ended.items ++ c.args.id.slot ∷ [] else c.args.self.now.ended.items) (sym last)) c.push_back_reserved.ensures.capacity
+pub end-last-requires-clause-unfinished : goal.end-last-requires-clause-unfinished
+end-last-requires-clause-unfinished c =
+    let (o, part, open', there, few) = c.requires.part in
+    let same : opened_of c.take_open-transfer.result ≡ o = stands_as c.args.self.now c.args.id.slot c.take_open-transfer.result o c.take_open-transfer.ensures.was open' in
+    subst (λ (x : Opened). 0 < x.unfinished) (sym same) few
 
-pub returns-else-end_in : goal.returns-else-end_in
-returns-else-end_in g c = λ o part is_open is_there.
-    let s = stands_as c.args.self.now.slots.slots c.args.id.slot o is_open c.index_mut.result.now c.index_mut.ensures.value in
-    let there : slice_get s.0.parts.items c.args.id.part ≡ Some part = ap (λ (x : Opened g.row.R.Denot). slice_get x.parts c.args.id.part) s.2 ∙ is_there in
-    let b = c.end_in.ensures.ends s.0 part s.1 there in
-    let p = put_there c.args.self.now.slots.slots c.args.id.slot o is_open _ _ b in
-    let last : (o.unfinished - 1 == 0) ≡ false = ap (λ (x : Opened g.row.R.Denot). x.unfinished - 1 == 0) (sym s.2) ∙ sym (c.end_in.ensures.last s.0 s.1) ∙ c.if-end_in.false in
-    same_ended (books_of c.args.self.now) _ _ _ _ _ _ _ (p.0 ∙ ap (λ x. put_at c.args.id.slot (ended_at c.args.id.part c.args.ended part x) (open_from 0 c.args.self.now.slots.slots)) s.2) p.1
-    (ap (λ b. if b then c.args.self.now.ended.items ++ c.args.id.slot ∷ [] else c.args.self.now.ended.items) (sym last)) refl
+pub returns-then-last : goal.returns-then-last
+returns-then-last c = λ o part open' there.
+    let same : opened_of c.take_open-transfer.result ≡ o = stands_as c.args.self.now c.args.id.slot c.take_open-transfer.result o c.take_open-transfer.ensures.was open' in
+    let ends : opened_of c.end-last.new.self ≡ ended_at c.args.id.part c.args.ended part o =
+    c.end-last.ensures.ends part (ap (λ (x : Opened). slice_get x.parts c.args.id.part) same ∙ there) ∙ ap (ended_at c.args.id.part c.args.ended part) same in
+    let last : (o.unfinished - 1 == 0) ≡ true = ap (λ (x : Opened). x.unfinished - 1 == 0) (sym same) ∙ sym c.end-last.ensures.last ∙ c.if-last.true in
+    ends_last (books_of c.args.self.now) (books_of c.put_open.new.self) c.args.id.slot (ended_at c.args.id.part c.args.ended part o) _ _ last
+    (books_replaced c.args.self.now c.put_open.new.self c.args.id.slot c.end-last.new.self (ended_at c.args.id.part c.args.ended part o) ends
+    (replaces c.args.self.now c.take_open-transfer.new.self c.put_open.new.self c.args.id.slot c.take_open-transfer.result c.end-last.new.self c.take_open-transfer.ensures.was c.take_open-transfer.ensures.gone c.put_open.ensures))
+    c.push_back_reserved.ensures.items c.push_back_reserved.ensures.capacity
+
+pub returns-else-last : goal.returns-else-last
+returns-else-last c = λ o part open' there.
+    let same : opened_of c.take_open-transfer.result ≡ o = stands_as c.args.self.now c.args.id.slot c.take_open-transfer.result o c.take_open-transfer.ensures.was open' in
+    let ends : opened_of c.end-last.new.self ≡ ended_at c.args.id.part c.args.ended part o =
+    c.end-last.ensures.ends part (ap (λ (x : Opened). slice_get x.parts c.args.id.part) same ∙ there) ∙ ap (ended_at c.args.id.part c.args.ended part) same in
+    let last : (o.unfinished - 1 == 0) ≡ false = ap (λ (x : Opened). x.unfinished - 1 == 0) (sym same) ∙ sym c.end-last.ensures.last ∙ c.if-last.false in
+    ends_more (books_of c.args.self.now) (books_of c.put_open.new.self) c.args.id.slot (ended_at c.args.id.part c.args.ended part o) last
+    (books_replaced c.args.self.now c.put_open.new.self c.args.id.slot c.end-last.new.self (ended_at c.args.id.part c.args.ended part o) ends
+    (replaces c.args.self.now c.take_open-transfer.new.self c.put_open.new.self c.args.id.slot c.take_open-transfer.result c.end-last.new.self c.take_open-transfer.ensures.was c.take_open-transfer.ensures.gone c.put_open.ensures))

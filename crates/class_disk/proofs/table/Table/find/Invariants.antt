@@ -1,14 +1,16 @@
-use Rattle.std.proofs.Common.{◌≡◌, ℕ, Some, None, Option, All, Contains}
-use Rattle.std.specs.Prelude.{slice_index_or}
-use Rattle.class_disk.specs.declared.requests.Transfer.{Transfer}
-use Rattle.class_disk.specs.Books.{open_from}
-use Rattle.class_disk.specs.Turns.{CannotCancel}
+use Rattle.std.proofs.Common.{◌≡◌, ℕ, Some}
+use Rattle.std.specs.Prelude.{All, Contains}
+use Rattle.slab.specs.Slab.{get}
+use Rattle.class_disk.specs.declared.requests.Slot.{Slot}
+use Rattle.class_disk.specs.inside.Books.{open_from}
+use Rattle.class_disk.specs.inside.Turns.{CannotCancel}
 use Rattle.class_disk.proofs.Cancelling.{open_entries}
 use Rattle.class_disk.proofs.table.Table.find.Given as goal
 
--- what is left stands in the slots, and none can be cancelled where none of what is left can
-abbrev pub invariant-loop-slot : goal.invariant-loop-slot
-invariant-loop-slot g l =
-    (goal.iterator-loop-slot g).can_next l.slot-iterator × (goal.iterator-loop-slot g).is_finite l.slot-iterator
-    × ((key : ℕ) (x : Option (Transfer g.row.R.Denot)) → Contains l.slot-iterator (key, x) → slice_index_or l.self.slots.slots key None ≡ Some x)
-    × (All (CannotCancel l.number) (open_entries l.slot-iterator) → All (CannotCancel l.number) (open_from 0 l.self.slots.slots))
+-- what is left are entries of the slots; where none of them can be cancelled, no open request can
+abbrev pub invariant-loop-key : goal.invariant-loop-key
+invariant-loop-key l =
+    (goal.iterator-loop-key).can_next l.key-iterator ×
+    (goal.iterator-loop-key).is_finite l.key-iterator ×
+    ((key : ℕ) (x : Slot) → Contains l.key-iterator (key, x) → get l.self.slots key ≡ Some x) ×
+    (All (CannotCancel l.number) (open_entries l.key-iterator) → All (CannotCancel l.number) (open_from 0 l.self.slots.slots))

@@ -1,15 +1,15 @@
-use Rattle.std.proofs.Common.{refl, subst, Some}
-use Rattle.std.specs.Prelude.{slice_set}
-use Rattle.class_disk.specs.Books.{Opened}
-use Rattle.class_disk.proofs.SlotChanges.{vacant_there, put_in, Fills}
+use Rattle.std.proofs.Common.{rules, Some, sym, ◌∙◌, ap}
+use Rattle.irp.specs.declared.Irp.{Irp}
+use Rattle.class_disk.proofs.SlotFilling.{ready_there, opens_at}
 use Rattle.class_disk.proofs.table.Table.open.Goals as goal
 
-pub index_mut-requires : goal.index_mut-requires
-index_mut-requires g c = let e = vacant_there c.args.slot c.args.self.now.slots.slots c.requires.vacant in rw e refl
+pub unreachable-requires : goal.unreachable-requires
+unreachable-requires c =
+    let (p, there) = ready_there c.args.self.now c.args.slot c.requires.ready in
+    search rules
 
 pub returns : goal.returns
-returns g c =
-    let e = vacant_there c.args.slot c.args.self.now.slots.slots c.requires.vacant in
-    let f = put_in c.args.slot c.new.result c.args.self.now.slots.slots e in
-    let r = subst (λ (o : Opened g.row.R.Denot). Fills c.args.slot o c.args.self.now.slots.slots (slice_set c.args.self.now.slots.slots c.args.slot (Some (Some c.new.result)))) c.new.ensures f in
-    record { vacant = r.vacant; opens = r.opens; is_open = r.is_open; after = refl }
+returns c =
+    opens_at c.args.self.now c.try_remove.new.self c.insert_reserved-slot.new.self c.args.slot c.insert_reserved-slot.result _ c.in-Some-Reserved.places c.new.result c.args.irp.value
+    (sym c.try_remove.ensures.value ∙ c.in-Some-Reserved.is ∙ ap Some c.in-Some-Reserved.field-0-is) c.try_remove.ensures.updates c.in-Some-Reserved.ensures.key_is_next
+    c.insert_reserved-slot.ensures.key c.insert_reserved-slot.ensures.updates (ap (λ (x : Irp). x.number) c.deref.ensures) c.new.ensures

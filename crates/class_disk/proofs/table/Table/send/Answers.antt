@@ -1,32 +1,32 @@
-use Rattle.std.proofs.Common.{◌≡◌, sym, ◌∙◌, ap, subst, Some}
+use Rattle.std.proofs.Common.{ap, sym, ◌∙◌, subst}
 use Rattle.std.specs.Prelude.{slice_get}
-use Rattle.class_disk.specs.declared.table.Table.{Table}
-use Rattle.class_disk.specs.Books.{Opened, opened_of}
-use Rattle.class_disk.specs.Turns.{IsReadyAt, SendsAs}
-use Rattle.class_disk.proofs.Numbering.{mid_some, mid_as, mid_put}
+use Rattle.class_disk.specs.declared.Sizes.{Sizes}
+use Rattle.class_disk.specs.inside.Books.{Opened, opened_of}
+use Rattle.class_disk.specs.inside.Turns.{IsReadyAt, SendsAs}
+use Rattle.class_disk.proofs.Replacing.{stands_counted, same_counted, sizes_counted, books_counted}
 use Rattle.class_disk.proofs.table.Table.send.Goals as goal
 
-pub index_mut-requires : goal.index_mut-requires
-index_mut-requires g c = let p = c.requires.ready in mid_some c.args.self.now c.take_number-number.new.self c.args.id.slot p.0 c.take_number-number.ensures.after p.1.0
+pub take_open-transfer-requires : goal.take_open-transfer-requires
+take_open-transfer-requires c = let (o, (open', ready)) = c.requires.ready in stands_counted c.args.self.now c.take_number-number.new.self c.args.id.slot c.take_number-number.ensures.after o open'
 
-pub send_in-requires : goal.send_in-requires
-send_in-requires g c =
-    let p = c.requires.ready in
-    let s = mid_as c.args.self.now c.take_number-number.new.self c.args.id.slot p.0 c.take_number-number.ensures.after p.1.0 c.index_mut.result.now c.index_mut.ensures.value in
-    let e : c.take_number-number.new.self.sizes ≡ c.args.self.now.sizes = ap (λ (t : Table g.row.R.Denot). t.sizes) c.take_number-number.ensures.after in
-    let r : IsReadyAt c.args.self.now.sizes (opened_of s.0) c.args.id.part = subst (λ (x : Opened g.row.R.Denot). IsReadyAt c.args.self.now.sizes x c.args.id.part) (sym s.2) p.1.1 in
-    (s.0, (s.1, subst (λ sizes. IsReadyAt sizes (opened_of s.0) c.args.id.part) (sym e) r))
+pub send-packet-requires : goal.send-packet-requires
+send-packet-requires c =
+    let (o, (open', ready)) = c.requires.ready in
+    let same = same_counted c.args.self.now c.take_number-number.new.self c.args.id.slot c.take_number-number.ensures.after c.take_open-transfer.result o c.take_open-transfer.ensures.was open' in
+    let sizes = sizes_counted c.args.self.now c.take_number-number.new.self c.args.id.slot c.take_number-number.ensures.after c.take_open-transfer.new.self c.take_open-transfer.ensures.gone in
+    subst (λ (s : Sizes). IsReadyAt s (opened_of c.take_open-transfer.result) c.args.id.part) (sym sizes)
+    (subst (λ (x : Opened). IsReadyAt c.args.self.now.sizes x c.args.id.part) (sym same) ready)
 
 pub returns : goal.returns
-returns g c = λ o part place is_open is_there ready.
-    let s = mid_as c.args.self.now c.take_number-number.new.self c.args.id.slot o c.take_number-number.ensures.after is_open c.index_mut.result.now c.index_mut.ensures.value in
-    let there : slice_get s.0.parts.items c.args.id.part ≡ Some part = ap (λ (x : Opened g.row.R.Denot). slice_get x.parts c.args.id.part) s.2 ∙ is_there in
-    let e : c.take_number-number.new.self.sizes ≡ c.args.self.now.sizes = ap (λ (t : Table g.row.R.Denot). t.sizes) c.take_number-number.ensures.after in
-    let r = c.send_in.ensures s.0 part place s.1 there ready in
+returns c = λ o part place open' there ready.
+    let same = same_counted c.args.self.now c.take_number-number.new.self c.args.id.slot c.take_number-number.ensures.after c.take_open-transfer.result o c.take_open-transfer.ensures.was open' in
+    let sizes = sizes_counted c.args.self.now c.take_number-number.new.self c.args.id.slot c.take_number-number.ensures.after c.take_open-transfer.new.self c.take_open-transfer.ensures.gone in
+    let s = c.send-packet.ensures part place (ap (λ (x : Opened). slice_get x.parts c.args.id.part) same ∙ there) ready in
     record {
-      o' = r.0;
-      sends = subst (λ number. SendsAs c.args.self.now.sizes o c.args.id.part number part place c.send_in.result r.0) c.take_number-number.ensures.number
-          (subst (λ sizes. SendsAs sizes o c.args.id.part c.take_number-number.result part place c.send_in.result r.0) e
-          (subst (λ (x : Opened g.row.R.Denot). SendsAs c.take_number-number.new.self.sizes x c.args.id.part c.take_number-number.result part place c.send_in.result r.0) s.2 r.1.0));
-      after = mid_put c.args.self.now c.take_number-number.new.self c.args.id.slot o c.take_number-number.ensures.after is_open r.0 c.send_in.new.open r.1.1;
+      o' = opened_of c.send-packet.new.self;
+      sends = subst (λ n. SendsAs c.args.self.now.sizes o c.args.id.part n part place c.send-packet.result (opened_of c.send-packet.new.self)) c.take_number-number.ensures.number
+          (subst (λ (z : Sizes). SendsAs z o c.args.id.part c.take_number-number.result part place c.send-packet.result (opened_of c.send-packet.new.self)) sizes
+          (subst (λ (x : Opened). SendsAs c.take_open-transfer.new.self.sizes x c.args.id.part c.take_number-number.result part place c.send-packet.result (opened_of c.send-packet.new.self)) same s));
+      after = books_counted c.args.self.now c.take_number-number.new.self c.args.id.slot c.take_number-number.ensures.after c.take_open-transfer.new.self c.put_open.new.self c.take_open-transfer.result c.send-packet.new.self
+          c.take_open-transfer.ensures.was c.take_open-transfer.ensures.gone c.put_open.ensures;
     }

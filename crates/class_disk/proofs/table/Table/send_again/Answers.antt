@@ -1,29 +1,33 @@
-use Rattle.std.proofs.Common.{◌≡◌, ◌<◌, sym, ◌∙◌, ap, subst, Some}
-use Rattle.std.specs.Prelude.{slice_get}
-use Rattle.class_disk.specs.Books.{Opened}
-use Rattle.class_disk.specs.Turns.{SendsAgain}
-use Rattle.class_disk.proofs.Numbering.{mid_some, mid_as, mid_put}
+use Rattle.std.proofs.Common.{ap, sym, ◌∙◌, subst}
+use Rattle.std.specs.Prelude.{◌<◌, slice_get}
+use Rattle.class_disk.specs.inside.Books.{Opened, opened_of}
+use Rattle.class_disk.specs.inside.Turns.{SendsAgain}
+use Rattle.class_disk.proofs.Replacing.{stands_counted, same_counted, books_counted}
 use Rattle.class_disk.proofs.table.Table.send_again.Goals as goal
 
-pub index_mut-requires : goal.index_mut-requires
-index_mut-requires g c = let p = c.requires.part in mid_some c.args.self.now c.take_number-number.new.self c.args.id.slot p.0 c.take_number-number.ensures.after p.2
+pub take_open-transfer-requires : goal.take_open-transfer-requires
+take_open-transfer-requires c = let (o, part, open', there, few, fewer) = c.requires.part in stands_counted c.args.self.now c.take_number-number.new.self c.args.id.slot c.take_number-number.ensures.after o open'
 
-pub send_again_in-requires : goal.send_again_in-requires
-send_again_in-requires g c =
-    let p = c.requires.part in
-    let s = mid_as c.args.self.now c.take_number-number.new.self c.args.id.slot p.0 c.take_number-number.ensures.after p.2 c.index_mut.result.now c.index_mut.ensures.value in
-    let there : slice_get s.0.parts.items c.args.id.part ≡ Some p.1 = ap (λ (x : Opened g.row.R.Denot). slice_get x.parts c.args.id.part) s.2 ∙ p.3 in
-    let few : s.0.restarts < 255 = subst (λ (x : Opened g.row.R.Denot). x.restarts < 255) (sym s.2) p.5 in
-    (s.0, p.1, s.1, there, p.4, few)
+pub send_again-packet-requires-clause-part : goal.send_again-packet-requires-clause-part
+send_again-packet-requires-clause-part c =
+    let (o, part, open', there, few, fewer) = c.requires.part in
+    let same = same_counted c.args.self.now c.take_number-number.new.self c.args.id.slot c.take_number-number.ensures.after c.take_open-transfer.result o c.take_open-transfer.ensures.was open' in
+    (part, (ap (λ (x : Opened). slice_get x.parts c.args.id.part) same ∙ there, few))
+
+pub send_again-packet-requires-clause-few : goal.send_again-packet-requires-clause-few
+send_again-packet-requires-clause-few c =
+    let (o, part, open', there, few, fewer) = c.requires.part in
+    let same = same_counted c.args.self.now c.take_number-number.new.self c.args.id.slot c.take_number-number.ensures.after c.take_open-transfer.result o c.take_open-transfer.ensures.was open' in
+    subst (λ (x : Opened). x.restarts < 255) (sym same) fewer
 
 pub returns : goal.returns
-returns g c = λ o part is_open is_there.
-    let s = mid_as c.args.self.now c.take_number-number.new.self c.args.id.slot o c.take_number-number.ensures.after is_open c.index_mut.result.now c.index_mut.ensures.value in
-    let there : slice_get s.0.parts.items c.args.id.part ≡ Some part = ap (λ (x : Opened g.row.R.Denot). slice_get x.parts c.args.id.part) s.2 ∙ is_there in
-    let r = c.send_again_in.ensures s.0 part s.1 there in
+returns c = λ o part open' there.
+    let same = same_counted c.args.self.now c.take_number-number.new.self c.args.id.slot c.take_number-number.ensures.after c.take_open-transfer.result o c.take_open-transfer.ensures.was open' in
+    let s = c.send_again-packet.ensures part (ap (λ (x : Opened). slice_get x.parts c.args.id.part) same ∙ there) in
     record {
-      o' = r.0;
-      sends = subst (λ number. SendsAgain o c.args.id.part number c.args.payload part c.send_again_in.result r.0) c.take_number-number.ensures.number
-          (subst (λ (x : Opened g.row.R.Denot). SendsAgain x c.args.id.part c.take_number-number.result c.args.payload part c.send_again_in.result r.0) s.2 r.1.0);
-      after = mid_put c.args.self.now c.take_number-number.new.self c.args.id.slot o c.take_number-number.ensures.after is_open r.0 c.send_again_in.new.open r.1.1;
+      o' = opened_of c.send_again-packet.new.self;
+      sends = subst (λ n. SendsAgain o c.args.id.part n c.args.packet part c.send_again-packet.result (opened_of c.send_again-packet.new.self)) c.take_number-number.ensures.number
+          (subst (λ (x : Opened). SendsAgain x c.args.id.part c.take_number-number.result c.args.packet part c.send_again-packet.result (opened_of c.send_again-packet.new.self)) same s);
+      after = books_counted c.args.self.now c.take_number-number.new.self c.args.id.slot c.take_number-number.ensures.after c.take_open-transfer.new.self c.put_open.new.self c.take_open-transfer.result c.send_again-packet.new.self
+          c.take_open-transfer.ensures.was c.take_open-transfer.ensures.gone c.put_open.ensures;
     }

@@ -2,8 +2,6 @@ use Rattle.std.proofs.Common.{MatchOption, subst}
 use Rattle.adapter.specs.Calls.{HasNoneFresh}
 use Rattle.adapter.specs.Booking.{IsArmed}
 use Rattle.io_manager.specs.Shown.{ManagerView}
-use Rattle.compose.proofs.JournaledStep.{booked_step, tagged_step}
-use Rattle.compose.proofs.Journaled.{acts_joined, acts_longer}
 use Rattle.compose.proofs.stack.Stack.armed.Goals as goal
 
 pub returns : goal.returns

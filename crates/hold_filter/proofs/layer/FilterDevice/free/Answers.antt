@@ -1,9 +1,26 @@
-use Rattle.std.proofs.Common.{map}
-use Rattle.hold_filter.specs.Books.{books_of}
-use Rattle.hold_filter.specs.Kept.{room_below}
-use Rattle.hold_filter.proofs.Rooms.{hand_freed}
+use Rattle.std.proofs.Common.{ap}
+use Rattle.hold_filter.specs.inside.Books.{books_of}
+use Rattle.hold_filter.specs.Shown.{FilterView}
+use Rattle.hold_filter.proofs.Calls.{reserved_below, freed}
 use Rattle.hold_filter.proofs.layer.FilterDevice.free.Goals as goal
 
-pub returns-clause-rooms : goal.returns-clause-rooms
-returns-clause-rooms g c = λ rooms k.
-    hand_freed g.D.Device.request_of g.D.Device.ready g.D.Device.STACK_SIZE g.D.Device.TAKES_SRB _ (g.D.Device.rooms_out c.free.new.self) _ _ (books_of c.args.self.now.table) _ _ (map room_below rooms) c.free.ensures.rooms c.free.ensures.same c.remove_place.ensures k
+pub free-requires : goal.free-requires
+free-requires g c = record {
+  reserved = reserved_below (g.D.Shown.view c.self.inside.parts.device) (books_of c.self.inside.parts.table) _
+      c.args.room.spot (ap (λ (f : FilterView). f.shown) c.self.view_is) c.requires.reserved;
+}
+
+pub invariant_of-self : goal.invariant_of-self
+invariant_of-self g c =
+    record {
+      buffers = c.self.invariant.buffers;
+      in_hand =
+          (freed _ _ _ _ _ c.args.room.spot (ap (λ (f : FilterView). f.shown) c.self.view_is) c.requires.reserved
+          c.self.invariant.in_hand c.shows_order.ensures.order c.free.ensures.frees).0;
+    }
+
+pub returns : goal.returns
+returns g c = record {
+  frees = (freed _ _ _ _ _ c.args.room.spot (ap (λ (f : FilterView). f.shown) c.self.view_is) c.requires.reserved
+      c.self.invariant.in_hand c.shows_order.ensures.order c.free.ensures.frees).1;
+}

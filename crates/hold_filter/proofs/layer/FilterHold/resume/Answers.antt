@@ -1,20 +1,31 @@
-use Rattle.std.proofs.Common.{map, subst}
-use Rattle.hold_filter.specs.Books.{books_of}
-use Rattle.hold_filter.specs.Shown.{view_of}
-use Rattle.hold_filter.specs.Releases.{Releases}
-use Rattle.hold_filter.specs.Kept.{room_below}
+use Rattle.std.proofs.Common.{ap, subst, sym, ◌∙◌}
+use Rattle.std.specs.Prelude.{All}
+use Rattle.machine.specs.Settled.{WaitsIfCancelled}
+use Rattle.hold_filter.specs.Shown.{FilterView}
+use Rattle.hold_filter.specs.inside.Books.{Books, books_of}
+use Rattle.hold_filter.specs.inside.View.{view_of}
+use Rattle.hold_filter.specs.inside.Kept.{FilterKept}
+use Rattle.hold_filter.specs.inside.Releases.{Releases}
 use Rattle.hold_filter.proofs.Turning.{kept_resumed, resumes}
 use Rattle.hold_filter.proofs.layer.FilterHold.resume.Goals as goal
 
-pub release-requires : goal.release-requires
-release-requires g c =
-    (map room_below c.requires.in_order.0, rw c.resume.ensures (kept_resumed g.D.Device.request_of g.D.Device.ready g.D.Device.STACK_SIZE g.D.Device.TAKES_SRB (g.D.Device.rooms_out c.args.self.now.device) (g.D.Device.rooms_out c.args.self.now.device) (g.D.Device.view c.args.self.now.device) (books_of c.args.self.now.table) _ c.requires.in_order.1 (map room_below c.requires.in_order.0) c.requires.paused c.requires.taken c.requires.in_order.1.kept))
+pub release-requires-clause-kept : goal.release-requires-clause-kept
+release-requires-clause-kept g c =
+    let paused = ap (λ (f : FilterView). f.shown.state.paused) c.self.view_is ∙ c.requires.paused in
+    let taken = subst (λ (f : FilterView). All WaitsIfCancelled f.shown.state.requests)
+    (sym c.self.view_is) c.requires.taken in
+    subst (λ (b : Books). FilterKept g.D.Shown.stack_size (g.D.Shown.view c.self.inside.parts.device) b)
+    (sym c.resume.ensures) (kept_resumed _ _ _ c.self.invariant.in_hand paused taken)
 
-pub returns-clause-rooms : goal.returns-clause-rooms
-returns-clause-rooms g c = λ rooms k.
-    c.release.ensures.rooms (map room_below rooms) (rw c.resume.ensures (kept_resumed g.D.Device.request_of g.D.Device.ready g.D.Device.STACK_SIZE g.D.Device.TAKES_SRB (g.D.Device.rooms_out c.args.self.now.device) (g.D.Device.rooms_out c.args.self.now.device) (g.D.Device.view c.args.self.now.device) (books_of c.args.self.now.table) _ c.requires.in_order.1 (map room_below rooms) c.requires.paused c.requires.taken k.kept))
-
-pub returns-clause-resumes : goal.returns-clause-resumes
-returns-clause-resumes g c =
-    resumes g.D.Device.request_of g.D.Device.ready g.D.Device.STACK_SIZE g.D.Device.TAKES_SRB (g.D.Device.rooms_out c.args.self.now.device) (g.D.Device.rooms_out c.args.self.now.device) (g.D.Device.view c.args.self.now.device) (books_of c.args.self.now.table) _ c.requires.in_order.1 c.requires.paused (g.D.Device.view c.release.new.self.device) (books_of c.release.new.self.table)
-    (subst (λ b. Releases (view_of g.D.Device.request_of (g.D.Device.view c.args.self.now.device) b) (view_of g.D.Device.request_of (g.D.Device.view c.release.new.self.device) (books_of c.release.new.self.table))) c.resume.ensures c.release.ensures.releases)
+pub returns : goal.returns
+returns g c =
+    let paused = ap (λ (f : FilterView). f.shown.state.paused) c.self.view_is ∙ c.requires.paused in
+    let released = subst
+    (λ (b : Books). Releases (view_of (g.D.Shown.view c.self.inside.parts.device) b)
+    (view_of (g.D.Shown.view c.release.new.self.device) (books_of c.release.new.self.table))) c.resume.ensures
+    c.release.ensures.releases in
+    rw (← c.self.view_is)
+    (record {
+      resumes = resumes _ _ _ c.self.invariant.in_hand paused (g.D.Shown.view c.release.new.self.device)
+          (books_of c.release.new.self.table) released;
+    })

@@ -1,4 +1,5 @@
-use Rattle.std.proofs.Common.{[]}
+use Rattle.std.proofs.Common.{sym, subst}
+use Rattle.io_manager.specs.Opening.{HasNoRooms}
 use Rattle.io_manager.proofs.Booking.{kept_booked}
 use Rattle.io_manager.proofs.manager.IoManager.book.Goals as goal
 
@@ -6,6 +7,6 @@ pub invariant_of-self : goal.invariant_of-self
 invariant_of-self g c = record {
   takes_buffers = c.self.invariant.takes_buffers;
   locations = c.self.invariant.locations;
-  rooms = c.book.ensures.rooms [] c.self.invariant.rooms;
-  kept = kept_booked c.self.inside.parts.limits (g.D.Device.view c.self.inside.parts.device) (g.D.Device.view c.book.new.self) c.self.inside.parts.tables c.args.tag c.args.piece _ c.self.invariant.kept c.book.ensures.books;
+  vacant = subst HasNoRooms (sym c.book.ensures.books.same) c.self.invariant.vacant;
+  kept = kept_booked c.self.inside.parts.limits (g.D.Shown.view c.self.inside.parts.device) (g.D.Shown.view c.book.new.self) c.self.inside.parts.tables c.args.tag c.args.piece _ c.self.invariant.kept c.book.ensures.books;
 }

@@ -9,7 +9,7 @@ pub returns-then-is_none : goal.returns-then-is_none
 returns-then-is_none g c = record {
   right =
       subst (λ (reply : Reply). IsRight (CancelReplies c.args.self.now c.args.handle c.args.target reply c.args.self.now) c.args.self.now c.args.self.now) (sym c.refused_alone.ensures)
-      (cancel_invalid c.self.inside.parts.limits (g.D.Device.view c.self.inside.parts.device) c.self.inside.parts.tables c.args.self.now c.self.invariant.kept c.self.view_is c.requires.taken c.args.handle c.args.target (none_of _ _ _ c.is_none.ensures c.if-is_none.true c.partition_of.ensures));
+      (cancel_invalid c.self.inside.parts.limits (g.D.Shown.view c.self.inside.parts.device) c.self.inside.parts.tables c.args.self.now c.self.invariant.kept c.self.view_is c.requires.taken c.args.handle c.args.target (none_of _ _ _ c.is_none.ensures c.if-is_none.true c.partition_of.ensures));
 }
 
 pub cancel_of-requires-clause-open : goal.cancel_of-requires-clause-open

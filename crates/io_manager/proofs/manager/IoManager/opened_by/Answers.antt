@@ -4,14 +4,14 @@ use Rattle.device.specs.View.{DeviceView}
 use Rattle.sector.specs.declared.Extent.{Extent}
 use Rattle.io_manager.specs.Shown.{ManagerView}
 use Rattle.io_manager.specs.Calls.{opened_as}
-use Rattle.io_manager.specs.Admitting.{asked_for, IsAdmissible}
-use Rattle.io_manager.specs.Sound.{view_of}
+use Rattle.io_manager.specs.inside.Admitting.{asked_for, IsAdmissible}
+use Rattle.io_manager.specs.inside.Sound.{view_of}
 use Rattle.io_manager.proofs.WouldOpen.{first_in_range, told_is}
 use Rattle.io_manager.proofs.manager.IoManager.opened_by.Goals as goal
 
 pub overflow_add-first : goal.overflow_add-first
 overflow_add-first g c =
-    let below : DeviceView = g.D.Device.view c.self.inside.parts.device in
+    let below : DeviceView = g.D.Shown.view c.self.inside.parts.device in
     let admissible : IsAdmissible (view_of c.self.inside.parts.limits below c.self.inside.parts.tables) (asked_for c.args.partition c.args.asked) =
     subst (λ (v : ManagerView). IsAdmissible v (asked_for c.args.partition c.args.asked)) (sym c.self.view_is) c.requires in
     let begins : c.first_sector.result ≡ home below.rules c.args.partition 0 = c.first_sector.ensures below.rules c.self.invariant.kept.sound.fits.firsts admissible.known in
@@ -21,7 +21,7 @@ overflow_add-first g c =
 
 pub returns : goal.returns
 returns g c =
-    let below : DeviceView = g.D.Device.view c.self.inside.parts.device in
+    let below : DeviceView = g.D.Shown.view c.self.inside.parts.device in
     let admissible : IsAdmissible (view_of c.self.inside.parts.limits below c.self.inside.parts.tables) (asked_for c.args.partition c.args.asked) =
     subst (λ (v : ManagerView). IsAdmissible v (asked_for c.args.partition c.args.asked)) (sym c.self.view_is) c.requires in
     subst (λ (v : ManagerView). ◌≡◌ {A = ℕ × Extent} (c.div_ceil-pieces.result, record { first = c.first_sector.result + c.args.asked.offset / c.self.inside.parts.limits.sector_size; count = c.args.asked.length / c.self.inside.parts.limits.sector_size }) (opened_as v.rules (asked_for c.args.partition c.args.asked))) c.self.view_is

@@ -7,7 +7,8 @@ use Rattle.io_manager.specs.declared.tables.Tables.{Tables}
 use Rattle.io_manager.specs.declared.Reply.{Reply}
 use Rattle.io_manager.specs.declared.Reply.TheVariants.{Ok as OkReply}
 use Rattle.io_manager.specs.Right.{IsRight, RemoveReplies}
-use Rattle.io_manager.specs.Sound.{view_of, ManagerKept}
+use Rattle.io_manager.specs.inside.Sound.{view_of, ManagerKept}
+use Rattle.io_manager.proofs.Vacant.{vacant_through}
 use Rattle.io_manager.proofs.Removing.{MovedTo, moved_to, invalid_of, valid_of, invalid_right, remove_is, drained_sound, remove_kept}
 use Rattle.io_manager.proofs.manager.IoManager.remove.Goals as goal
 
@@ -15,15 +16,15 @@ pub returns-in_default : goal.returns-in_default
 returns-in_default g c = record {
   right =
       subst (λ (reply : Reply). IsRight (RemoveReplies c.args.self.now reply c.args.self.now) c.args.self.now c.args.self.now) (sym c.refused_alone.ensures)
-      (invalid_right c.self.inside.parts.limits (g.D.Device.view c.self.inside.parts.device) c.self.inside.parts.tables c.args.self.now c.self.invariant.kept c.self.view_is c.requires.taken
+      (invalid_right c.self.inside.parts.limits (g.D.Shown.view c.self.inside.parts.device) c.self.inside.parts.tables c.args.self.now c.self.invariant.kept c.self.view_is c.requires.taken
       RemoveDevice (invalid_of _ _ _ c.remove.ensures c.in_default.is) (λ reply v new told. RemoveReplies v reply new told) (λ new told h. h));
 }
 
 pub collect-requires-clause-sound : goal.collect-requires-clause-sound
 collect-requires-clause-sound g c =
     let tables : Tables = c.self.inside.parts.tables in
-    let below : DeviceView = g.D.Device.view c.self.inside.parts.device in
-    let below1 : DeviceView = g.D.Device.view c.drain.new.self in
+    let below : DeviceView = g.D.Shown.view c.self.inside.parts.device in
+    let below1 : DeviceView = g.D.Shown.view c.drain.new.self in
     let valid : next RemoveDevice tables.state ≡ Some c.in-Ok.removing = valid_of _ _ _ c.remove.ensures c.in-Ok.is in
     let moved : MovedTo tables Removing Remove c.move_to.new.self =
     moved_to tables c.in-Ok.removing Removing Remove c.move_to.new.self (remove_is _ _ valid).1
@@ -32,27 +33,27 @@ collect-requires-clause-sound g c =
     below1 c.move_to.new.self c.drain.ensures.drains Remove moved
 
 kept : (g : _) (c : goal.After-collect g)
-    → IsRight (RemoveReplies c.args.self.now OkReply (view_of c.collect.new.self.limits (g.D.Device.view c.collect.new.self.device) c.collect.new.self.tables)) c.args.self.now
-    (view_of c.collect.new.self.limits (g.D.Device.view c.collect.new.self.device) c.collect.new.self.tables)
-    × ManagerKept c.collect.new.self.limits (g.D.Device.view c.collect.new.self.device) c.collect.new.self.tables
+    → IsRight (RemoveReplies c.args.self.now OkReply (view_of c.collect.new.self.limits (g.D.Shown.view c.collect.new.self.device) c.collect.new.self.tables)) c.args.self.now
+    (view_of c.collect.new.self.limits (g.D.Shown.view c.collect.new.self.device) c.collect.new.self.tables)
+    × ManagerKept c.collect.new.self.limits (g.D.Shown.view c.collect.new.self.device) c.collect.new.self.tables
 kept g c =
     let tables : Tables = c.self.inside.parts.tables in
-    let below : DeviceView = g.D.Device.view c.self.inside.parts.device in
-    let below1 : DeviceView = g.D.Device.view c.drain.new.self in
+    let below : DeviceView = g.D.Shown.view c.self.inside.parts.device in
+    let below1 : DeviceView = g.D.Shown.view c.drain.new.self in
     let valid : next RemoveDevice tables.state ≡ Some c.in-Ok.removing = valid_of _ _ _ c.remove.ensures c.in-Ok.is in
     let moved : MovedTo tables Removing Remove c.move_to.new.self =
     moved_to tables c.in-Ok.removing Removing Remove c.move_to.new.self (remove_is _ _ valid).1
     c.move_to.ensures.tells c.move_to.ensures.label_places c.move_to.ensures.after in
     remove_kept c.self.inside.parts.limits below tables c.args.self.now c.self.invariant.kept c.self.view_is c.requires.taken
     below1 c.move_to.new.self c.drain.ensures.drains (remove_is _ _ valid).0 moved
-    c.collect.new.self.limits (g.D.Device.view c.collect.new.self.device) c.collect.new.self.tables
+    c.collect.new.self.limits (g.D.Shown.view c.collect.new.self.device) c.collect.new.self.tables
     c.collect.ensures.limits c.collect.ensures.sound c.collect.ensures.collects
 
 pub invariant_of-self : goal.invariant_of-self
 invariant_of-self g c = record {
   takes_buffers = c.self.invariant.takes_buffers;
   locations = c.self.invariant.locations;
-  rooms = c.collect.ensures.rooms;
+  vacant = vacant_through (g.D.Shown.view c.self.inside.parts.device) (g.D.Shown.view c.drain.new.self) (g.D.Shown.view c.collect.new.self.device) c.drain.ensures.drains.beside.same_rooms c.collect.ensures.collects.same_rooms c.self.invariant.vacant;
   kept = (kept g c).1;
 }
 

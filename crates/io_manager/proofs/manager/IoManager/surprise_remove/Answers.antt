@@ -7,7 +7,8 @@ use Rattle.io_manager.specs.declared.tables.Tables.{Tables}
 use Rattle.io_manager.specs.declared.Reply.{Reply}
 use Rattle.io_manager.specs.declared.Reply.TheVariants.{Ok as OkReply}
 use Rattle.io_manager.specs.Right.{IsRight, SurpriseReplies}
-use Rattle.io_manager.specs.Sound.{view_of, ManagerKept}
+use Rattle.io_manager.specs.inside.Sound.{view_of, ManagerKept}
+use Rattle.io_manager.proofs.Vacant.{vacant_through}
 use Rattle.io_manager.proofs.Removing.{MovedTo, moved_to, invalid_of, valid_of, invalid_right, surprise_is, drained_sound, surprise_kept}
 use Rattle.io_manager.proofs.manager.IoManager.surprise_remove.Goals as goal
 
@@ -15,15 +16,15 @@ pub returns-in_default : goal.returns-in_default
 returns-in_default g c = record {
   right =
       subst (λ (reply : Reply). IsRight (SurpriseReplies c.args.self.now reply c.args.self.now) c.args.self.now c.args.self.now) (sym c.refused_alone.ensures)
-      (invalid_right c.self.inside.parts.limits (g.D.Device.view c.self.inside.parts.device) c.self.inside.parts.tables c.args.self.now c.self.invariant.kept c.self.view_is c.requires.taken
+      (invalid_right c.self.inside.parts.limits (g.D.Shown.view c.self.inside.parts.device) c.self.inside.parts.tables c.args.self.now c.self.invariant.kept c.self.view_is c.requires.taken
       SurpriseRemove (invalid_of _ _ _ c.surprise_remove.ensures c.in_default.is) (λ reply v new told. SurpriseReplies v reply new told) (λ new told h. h));
 }
 
 pub collect-requires-clause-sound : goal.collect-requires-clause-sound
 collect-requires-clause-sound g c =
     let tables : Tables = c.self.inside.parts.tables in
-    let below : DeviceView = g.D.Device.view c.self.inside.parts.device in
-    let below1 : DeviceView = g.D.Device.view c.drain.new.self in
+    let below : DeviceView = g.D.Shown.view c.self.inside.parts.device in
+    let below1 : DeviceView = g.D.Shown.view c.drain.new.self in
     let valid : next SurpriseRemove tables.state ≡ Some c.in-Ok.removing = valid_of _ _ _ c.surprise_remove.ensures c.in-Ok.is in
     let moved : MovedTo tables Removing Surprise c.move_to.new.self =
     moved_to tables c.in-Ok.removing Removing Surprise c.move_to.new.self (surprise_is _ _ below.state valid c.self.invariant.kept.sound.in_state).0
@@ -32,13 +33,13 @@ collect-requires-clause-sound g c =
     below1 c.move_to.new.self c.drain.ensures.drains Surprise moved
 
 kept : (g : _) (c : goal.After-collect g)
-    → IsRight (SurpriseReplies c.args.self.now OkReply (view_of c.collect.new.self.limits (g.D.Device.view c.collect.new.self.device) c.collect.new.self.tables)) c.args.self.now
-    (view_of c.collect.new.self.limits (g.D.Device.view c.collect.new.self.device) c.collect.new.self.tables)
-    × ManagerKept c.collect.new.self.limits (g.D.Device.view c.collect.new.self.device) c.collect.new.self.tables
+    → IsRight (SurpriseReplies c.args.self.now OkReply (view_of c.collect.new.self.limits (g.D.Shown.view c.collect.new.self.device) c.collect.new.self.tables)) c.args.self.now
+    (view_of c.collect.new.self.limits (g.D.Shown.view c.collect.new.self.device) c.collect.new.self.tables)
+    × ManagerKept c.collect.new.self.limits (g.D.Shown.view c.collect.new.self.device) c.collect.new.self.tables
 kept g c =
     let tables : Tables = c.self.inside.parts.tables in
-    let below : DeviceView = g.D.Device.view c.self.inside.parts.device in
-    let below1 : DeviceView = g.D.Device.view c.drain.new.self in
+    let below : DeviceView = g.D.Shown.view c.self.inside.parts.device in
+    let below1 : DeviceView = g.D.Shown.view c.drain.new.self in
     let valid : next SurpriseRemove tables.state ≡ Some c.in-Ok.removing = valid_of _ _ _ c.surprise_remove.ensures c.in-Ok.is in
     let moved : MovedTo tables Removing Surprise c.move_to.new.self =
     moved_to tables c.in-Ok.removing Removing Surprise c.move_to.new.self (surprise_is _ _ below.state valid c.self.invariant.kept.sound.in_state).0
@@ -47,14 +48,14 @@ kept g c =
     below1 c.move_to.new.self c.drain.ensures.drains (surprise_is _ _ below.state valid c.self.invariant.kept.sound.in_state).2
     (surprise_is _ _ below.state valid c.self.invariant.kept.sound.in_state).1
     (valid ∙ ap Some (surprise_is _ _ below.state valid c.self.invariant.kept.sound.in_state).0) moved
-    c.collect.new.self.limits (g.D.Device.view c.collect.new.self.device) c.collect.new.self.tables
+    c.collect.new.self.limits (g.D.Shown.view c.collect.new.self.device) c.collect.new.self.tables
     c.collect.ensures.limits c.collect.ensures.sound c.collect.ensures.collects
 
 pub invariant_of-self : goal.invariant_of-self
 invariant_of-self g c = record {
   takes_buffers = c.self.invariant.takes_buffers;
   locations = c.self.invariant.locations;
-  rooms = c.collect.ensures.rooms;
+  vacant = vacant_through (g.D.Shown.view c.self.inside.parts.device) (g.D.Shown.view c.drain.new.self) (g.D.Shown.view c.collect.new.self.device) c.drain.ensures.drains.beside.same_rooms c.collect.ensures.collects.same_rooms c.self.invariant.vacant;
   kept = (kept g c).1;
 }
 

@@ -1,7 +1,7 @@
 use Rattle.std.proofs.Common.{rules, arith, ◌≡◌, ◌<◌, ◌≤◌, ◌+◌}
 use Rattle.std.specs.Prelude.{remove}
 use Rattle.std.specs.VecDeque.{deque_len}
-use Rattle.io_manager.specs.Taking.{IsAt}
+use Rattle.io_manager.specs.inside.Taking.{IsAt}
 use Rattle.io_manager.proofs.TakenOut.{with_fewer, of_some}
 use Rattle.io_manager.proofs.manager.IoManager.take_answer_of.Goals as goal
 
@@ -17,6 +17,6 @@ invariant_of-self g c =
     record {
       takes_buffers = c.self.invariant.takes_buffers;
       locations = c.self.invariant.locations;
-      rooms = c.self.invariant.rooms;
+      vacant = c.self.invariant.vacant;
       kept = with_fewer _ _ c.self.inside.parts.tables (record c.self.inside.parts.tables { untaken = c.remove.new.self }) c.in_ok-at.at c.self.invariant.kept items shorter c.remove.ensures.capacity;
     }

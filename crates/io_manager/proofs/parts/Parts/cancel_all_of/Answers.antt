@@ -1,12 +1,12 @@
 -- Each that is cancelled is one fewer that can be.
-use Rattle.std.proofs.Common.{◌≡◌, ◌≤◌, ◌<◌, ◌+◌, ◌∙◌, ℕ, [], true, sym, subst, arith}
+use Rattle.std.proofs.Common.{◌≡◌, ◌≤◌, ◌<◌, ◌+◌, ◌∙◌, ℕ, true, sym, subst, arith}
 use Rattle.std.specs.Prelude.{count_by, is_some}
 use Rattle.std.specs.VecDeque.{deque_len}
 use Rattle.io_manager.specs.declared.Handle.{Handle}
 use Rattle.io_manager.specs.declared.cancelling.Place.{Place}
 use Rattle.io_manager.specs.declared.tables.Tables.{Tables}
 use Rattle.io_manager.specs.Calls.{partition_of}
-use Rattle.io_manager.specs.Cancelling.{MarksAt}
+use Rattle.io_manager.specs.inside.Cancelling.{MarksAt}
 use Rattle.io_manager.proofs.Marking.{is_unmarked, one_fewer, cancels_more}
 use Rattle.io_manager.proofs.parts.Parts.cancel_all_of.Goals as goal
 
@@ -18,21 +18,20 @@ still_open handle old new slot place marks is = subst (λ (t : Tables). is_some 
 
 pub next-smaller : goal.next-smaller
 next-smaller g c =
-    less _ _ (one_fewer (g.D.Device.view c.next.self.device).state c.cancel_slot.ensures.cancels.place.number (g.D.Device.view c.cancel_slot.new.self.device).state c.cancel_slot.ensures.cancels.cancels)
+    less _ _ (one_fewer (g.D.Shown.view c.next.self.device).state c.cancel_slot.ensures.cancels.place.number (g.D.Shown.view c.cancel_slot.new.self.device).state c.cancel_slot.ensures.cancels.cancels)
 
 pub next-preserved : goal.next-preserved
 next-preserved g c =
-    let fewer : count_by is_unmarked (g.D.Device.view c.cancel_slot.new.self.device).state.requests + 1 ≡ count_by is_unmarked (g.D.Device.view c.next.self.device).state.requests =
-    one_fewer (g.D.Device.view c.next.self.device).state c.cancel_slot.ensures.cancels.place.number (g.D.Device.view c.cancel_slot.new.self.device).state c.cancel_slot.ensures.cancels.cancels in
+    let fewer : count_by is_unmarked (g.D.Shown.view c.cancel_slot.new.self.device).state.requests + 1 ≡ count_by is_unmarked (g.D.Shown.view c.next.self.device).state.requests =
+    one_fewer (g.D.Shown.view c.next.self.device).state c.cancel_slot.ensures.cancels.place.number (g.D.Shown.view c.cancel_slot.new.self.device).state c.cancel_slot.ensures.cancels.cancels in
     let more : deque_len c.cancel_slot.new.self.tables.labels ≡ deque_len c.next.self.tables.labels + 1 = c.cancel_slot.ensures.cancels.marks.one_more in
-    let few : deque_len c.next.self.tables.labels + count_by is_unmarked (g.D.Device.view c.next.self.device).state.requests ≤ 64 = c.next.invariant.few in
+    let few : deque_len c.next.self.tables.labels + count_by is_unmarked (g.D.Shown.view c.next.self.device).state.requests ≤ 64 = c.next.invariant.few in
     record {
-      rooms = c.cancel_slot.ensures.rooms;
       limits = c.cancel_slot.ensures.limits ∙ c.next.invariant.limits;
       sound = c.cancel_slot.ensures.sound;
       is_open = still_open c.args.handle _ _ _ _ c.cancel_slot.ensures.cancels.marks c.next.invariant.is_open;
       few = omega arith;
       cancels =
-          cancels_more (g.D.Device.view c.args.self.now.device) c.args.self.now.tables c.args.handle.number (g.D.Device.view c.next.self.device) c.next.self.tables c.next.invariant.cancels c.in-Some.slot c.in-Some.ensures
-          (g.D.Device.view c.cancel_slot.new.self.device) c.cancel_slot.new.self.tables c.cancel_slot.ensures.cancels c.next.invariant.sound.held (g.met.D.Device.in_order c.next.self.device [] c.next.invariant.rooms).none_owed;
+          cancels_more (g.D.Shown.view c.args.self.now.device) c.args.self.now.tables c.args.handle.number (g.D.Shown.view c.next.self.device) c.next.self.tables c.next.invariant.cancels c.in-Some.slot c.in-Some.ensures
+          (g.D.Shown.view c.cancel_slot.new.self.device) c.cancel_slot.new.self.tables c.cancel_slot.ensures.cancels c.next.invariant.sound.held c.shows_order.ensures.order.none_owed;
     }

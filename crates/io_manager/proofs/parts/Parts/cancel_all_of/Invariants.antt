@@ -1,21 +1,20 @@
-use Rattle.std.proofs.Common.{◌≡◌, ◌≤◌, ◌+◌, [], true}
+use Rattle.std.proofs.Common.{◌≡◌, ◌≤◌, ◌+◌, true}
 use Rattle.std.specs.Prelude.{count_by, is_some}
 use Rattle.std.specs.VecDeque.{deque_len}
 use Rattle.io_manager.specs.Calls.{partition_of}
-use Rattle.io_manager.specs.Cancelling.{CancelsAll}
-use Rattle.io_manager.specs.Sound.{IsSound}
+use Rattle.io_manager.specs.inside.Cancelling.{CancelsAll}
+use Rattle.io_manager.specs.inside.Sound.{IsSound}
 use Rattle.io_manager.proofs.Marking.{is_unmarked}
 use Rattle.io_manager.proofs.parts.Parts.cancel_all_of.Given as goal
 
 abbrev pub invariant-next : goal.invariant-next
 invariant-next g l = record {
-  rooms : g.D.Device.rooms_out l.self.device [];
   limits : l.self.limits ≡ l.initial.self.limits;
-  sound : IsSound l.self.limits (g.D.Device.view l.self.device) l.self.tables;
+  sound : IsSound l.self.limits (g.D.Shown.view l.self.device) l.self.tables;
   is_open : is_some (partition_of l.self.tables.handles.slots l.handle) ≡ true;
-  few : deque_len l.self.tables.labels + count_by is_unmarked (g.D.Device.view l.self.device).state.requests ≤ 64;
-  cancels : CancelsAll (g.D.Device.view l.initial.self.device) l.initial.self.tables l.handle.number (g.D.Device.view l.self.device) l.self.tables;
+  few : deque_len l.self.tables.labels + count_by is_unmarked (g.D.Shown.view l.self.device).state.requests ≤ 64;
+  cancels : CancelsAll (g.D.Shown.view l.initial.self.device) l.initial.self.tables l.handle.number (g.D.Shown.view l.self.device) l.self.tables;
 }
 
 abbrev pub decreases-next : goal.decreases-next
-decreases-next g l = count_by is_unmarked (g.D.Device.view l.self.device).state.requests
+decreases-next g l = count_by is_unmarked (g.D.Shown.view l.self.device).state.requests

@@ -2,7 +2,7 @@
 use Rattle.std.proofs.Common.{◌∙◌, refl, ap, subst, map, ◌++◌}
 use Rattle.device.specs.View.{DeviceView}
 use Rattle.io_manager.specs.Right.{as_answer}
-use Rattle.io_manager.specs.Sound.{EndsIf}
+use Rattle.io_manager.specs.inside.Sound.{EndsIf}
 use Rattle.io_manager.proofs.Gathering.{collects, removal_of, told_sound}
 use Rattle.io_manager.proofs.parts.Parts.collect.Goals as goal
 
@@ -12,13 +12,13 @@ returns-clause-collects g c =
     (c.tell_answers.ensures.labels_place ∙ c.move_labels.ensures.places) c.tell_answers.ensures.answered_place
     (c.tell_answers.ensures.told ∙ ap (λ ls. ls ++ map as_answer c.take_all_ended.new.self.tables.answered.items) c.move_labels.ensures.moved)
 
-ended : (g : _) (c : goal.After-end_removal g) → EndsIf c.end_removal.ensures.ends c.take_all_ended.new.self.tables.state (g.D.Device.view c.take_all_ended.new.self.device).state c.end_removal.new.self.state
+ended : (g : _) (c : goal.After-end_removal g) → EndsIf c.end_removal.ensures.ends c.take_all_ended.new.self.tables.state (g.D.Shown.view c.take_all_ended.new.self.device).state c.end_removal.new.self.state
 ended g c =
     subst (λ s. EndsIf c.end_removal.ensures.ends c.take_all_ended.new.self.tables.state s c.end_removal.new.self.state) (ap (λ (v : DeviceView). v.state) c.move_labels.ensures.taken)
-    (removal_of (g.D.Device.view c.take_all_ended.new.self.device) (g.D.Device.view c.move_labels.new.device) c.take_all_ended.new.self.tables _ c.end_removal.new.self c.move_labels.ensures.taken refl c.end_removal.ensures c.take_all_ended.ensures.sound.held)
+    (removal_of (g.D.Shown.view c.take_all_ended.new.self.device) (g.D.Shown.view c.move_labels.new.device) c.take_all_ended.new.self.tables _ c.end_removal.new.self c.move_labels.ensures.taken refl c.end_removal.ensures c.take_all_ended.ensures.sound.held)
 
 pub returns-clause-sound : goal.returns-clause-sound
 returns-clause-sound g c =
-    told_sound c.take_all_ended.new.self.limits (g.D.Device.view c.take_all_ended.new.self.device) (g.D.Device.view c.move_labels.new.device) c.take_all_ended.new.self.tables _ c.end_removal.new.self
+    told_sound c.take_all_ended.new.self.limits (g.D.Shown.view c.take_all_ended.new.self.device) (g.D.Shown.view c.move_labels.new.device) c.take_all_ended.new.self.tables _ c.end_removal.new.self
     c.move_labels.ensures.taken c.take_all_ended.ensures.sound refl c.tell_answers.ensures.none_left c.end_removal.ensures (ended g c)
     (c.tell_answers.ensures.labels_place ∙ c.move_labels.ensures.places) c.tell_answers.ensures.answered_place

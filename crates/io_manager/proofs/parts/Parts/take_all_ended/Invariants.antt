@@ -1,18 +1,17 @@
-use Rattle.std.proofs.Common.{◌≡◌, ◌≤◌, ◌+◌, [], length}
+use Rattle.std.proofs.Common.{◌≡◌, ◌≤◌, ◌+◌, length}
 use Rattle.std.specs.VecDeque.{deque_len}
 use Rattle.slab.specs.Slab.{slab_len}
-use Rattle.io_manager.specs.Collecting.{Gathers}
-use Rattle.io_manager.specs.Sound.{IsSoundWith}
+use Rattle.io_manager.specs.inside.Collecting.{Gathers}
+use Rattle.io_manager.specs.inside.Sound.{IsSoundWith}
 use Rattle.io_manager.proofs.parts.Parts.take_all_ended.Given as goal
 
 abbrev pub invariant-ended : goal.invariant-ended
 invariant-ended g l = record {
-  rooms : g.D.Device.rooms_out l.self.device [];
   limits : l.self.limits ≡ l.initial.self.limits;
-  sound : IsSoundWith l.self.tables.answered.items l.self.limits (g.D.Device.view l.self.device) l.self.tables;
+  sound : IsSoundWith l.self.tables.answered.items l.self.limits (g.D.Shown.view l.self.device) l.self.tables;
   few : deque_len l.self.tables.answered + slab_len l.self.tables.requests ≤ 64;
-  gathers : Gathers (g.D.Device.view l.initial.self.device) l.initial.self.tables (g.D.Device.view l.self.device) l.self.tables;
+  gathers : Gathers (g.D.Shown.view l.initial.self.device) l.initial.self.tables (g.D.Shown.view l.self.device) l.self.tables;
 }
 
 abbrev pub decreases-ended : goal.decreases-ended
-decreases-ended g l = length (g.D.Device.view l.self.device).packets
+decreases-ended g l = length (g.D.Shown.view l.self.device).packets

@@ -1,6 +1,6 @@
 -- The handle is open, so its chain takes one more, and so does that of the number.
 use Rattle.std.proofs.Common.{◌≤◌, arith, slice_index_or, subst, sym, ℕ}
-use Rattle.io_manager.specs.Chains.{CanJoin}
+use Rattle.io_manager.specs.inside.Chains.{CanJoin}
 use Rattle.io_manager.proofs.Chained.{open_in, open_can_join}
 use Rattle.io_manager.proofs.Numbered.{number_can_join}
 use Rattle.io_manager.proofs.Counted.{few_open}

@@ -1,15 +1,8 @@
-use Rattle.partition.proofs.Moving.{cancels_over}
-use Rattle.partition.proofs.Hand.{rooms_after, shown_after}
+use Rattle.partition.proofs.Hand.{cancels_shown}
 use Rattle.partition.proofs.layer.PartitionsDevice.cancel.Goals as goal
 
-pub returns-clause-rooms : goal.returns-clause-rooms
-returns-clause-rooms g c =
-    rooms_after _ _ _ _ _ _ _ (g.met.D.Device.in_order c.args.self.now.device)
-    (g.met.D.Device.in_order c.cancel.new.self) c.cancel.ensures.rooms
-    (λ k o o'. cancels_over _ _ _ k o o' c.args.number c.cancel.ensures.cancels)
+pub invariant_of-self : goal.invariant_of-self
+invariant_of-self g c = (cancels_shown _ _ _ _ _ c.self.invariant c.shows_order.ensures.order c.args.number c.cancel.ensures.cancels).1
 
-pub returns-clause-cancels : goal.returns-clause-cancels
-returns-clause-cancels g c =
-    shown_after _ _ _ _ _ _ _ (g.met.D.Device.in_order c.args.self.now.device)
-    (g.met.D.Device.in_order c.cancel.new.self) c.cancel.ensures.rooms
-    (λ k o o'. cancels_over _ _ _ k o o' c.args.number c.cancel.ensures.cancels) c.requires
+pub returns : goal.returns
+returns g c = rw (← c.self.view_is) (record { cancels = (cancels_shown _ _ _ _ _ c.self.invariant c.shows_order.ensures.order c.args.number c.cancel.ensures.cancels).0 })

@@ -1,15 +1,8 @@
-use Rattle.partition.proofs.Moving.{finishes_over}
-use Rattle.partition.proofs.Hand.{rooms_after, shown_after}
+use Rattle.partition.proofs.Hand.{finishes_shown}
 use Rattle.partition.proofs.layer.PartitionsDevice.finish.Goals as goal
 
-pub returns-clause-rooms : goal.returns-clause-rooms
-returns-clause-rooms g c =
-    rooms_after _ _ _ _ _ _ _ (g.met.D.Device.in_order c.args.self.now.device)
-    (g.met.D.Device.in_order c.finish.new.self) c.finish.ensures.rooms
-    (λ k o o'. finishes_over _ _ _ k o o' c.args.tag c.finish.result c.finish.ensures.finishes)
+pub invariant_of-self : goal.invariant_of-self
+invariant_of-self g c = (finishes_shown _ _ _ _ _ c.self.invariant c.shows_order.ensures.order c.args.tag c.finish-finished.result c.finish-finished.ensures.finishes).1
 
-pub returns-clause-finishes : goal.returns-clause-finishes
-returns-clause-finishes g c =
-    shown_after _ _ _ _ _ _ _ (g.met.D.Device.in_order c.args.self.now.device)
-    (g.met.D.Device.in_order c.finish.new.self) c.finish.ensures.rooms
-    (λ k o o'. finishes_over _ _ _ k o o' c.args.tag c.finish.result c.finish.ensures.finishes) c.requires.in_order
+pub returns : goal.returns
+returns g c = rw (← c.self.view_is) (record { finishes = (finishes_shown _ _ _ _ _ c.self.invariant c.shows_order.ensures.order c.args.tag c.finish-finished.result c.finish-finished.ensures.finishes).0 })

@@ -1,13 +1,13 @@
-use Rattle.std.proofs.Common.{◌∷◌, map}
-use Rattle.partition.specs.Kept.{room_below}
-use Rattle.partition.proofs.Moving.{goes_same}
-use Rattle.partition.proofs.Hand.{hand_with, others_fit}
+use Rattle.std.proofs.Common.{◌≡◌, Some, sym, subst}
+use Rattle.device.specs.View.{DeviceView, room_at}
+use Rattle.partition.proofs.Hand.{under, frees_shown}
 use Rattle.partition.proofs.layer.PartitionsDevice.free.Goals as goal
 
-pub returns-clause-rooms : goal.returns-clause-rooms
-returns-clause-rooms g c = λ rooms h.
-    let before = g.met.D.Device.in_order c.args.self.now.device (map room_below (c.args.room ∷ rooms)) h.rooms_below in
-    let out = c.free.ensures.rooms (map room_below rooms) h.rooms_below in
-    hand_with _ _ _ _ _ _ (g.D.Device.view c.free.new.self) (c.args.room ∷ rooms) rooms h
-    (goes_same _ _ (g.D.Device.view c.free.new.self) h.on_disk before c.free.ensures.same) out
-    (g.met.D.Device.in_order c.free.new.self (map room_below rooms) out) (others_fit _ _ _ _ _ c.args.room rooms h)
+pub free-requires : goal.free-requires
+free-requires g c = record { reserved = (_, (under _ _ _ _ _ c.requires.reserved.0 c.self.invariant (subst (λ (x : DeviceView). room_at x.rooms c.args.room.spot ≡ Some c.requires.reserved.0) (sym c.self.view_is) c.requires.reserved.1)).is_room) }
+
+pub invariant_of-self : goal.invariant_of-self
+invariant_of-self g c = (frees_shown _ _ _ _ _ _ _ c.self.invariant c.shows_order.ensures.order (under _ _ _ _ _ c.requires.reserved.0 c.self.invariant (subst (λ (x : DeviceView). room_at x.rooms c.args.room.spot ≡ Some c.requires.reserved.0) (sym c.self.view_is) c.requires.reserved.1)) c.free.ensures.frees).1
+
+pub returns : goal.returns
+returns g c = rw (← c.self.view_is) (record { frees = (frees_shown _ _ _ _ _ _ _ c.self.invariant c.shows_order.ensures.order (under _ _ _ _ _ c.requires.reserved.0 c.self.invariant (subst (λ (x : DeviceView). room_at x.rooms c.args.room.spot ≡ Some c.requires.reserved.0) (sym c.self.view_is) c.requires.reserved.1)) c.free.ensures.frees).0 })

@@ -1,37 +1,22 @@
-use Rattle.std.proofs.Common.{◌∷◌, map}
-use Rattle.partition.specs.Kept.{room_below}
-use Rattle.partition.proofs.Moving.{hands_up_none}
-use Rattle.partition.proofs.Hand.{hand_with, more_fit}
+use Rattle.std.proofs.Common.{rules, ◌≡◌, None}
+use Rattle.partition.proofs.Hand.{none_shown}
 use Rattle.partition.proofs.Handing.{not_finished, handed_up}
 use Rattle.partition.proofs.layer.PartitionsDevice.take_done.Goals as goal
 
-pub returns-in_default-clause-hands_up : goal.returns-in_default-clause-hands_up
-returns-in_default-clause-hands_up g c =
-    let h = c.requires.1 in
-    (hands_up_none _ _ _ h.on_disk (g.met.D.Device.in_order c.args.self.now.device _ h.rooms_below) c.in_default.ensures.hands_up).0
+pub returns-in_err-climb : goal.returns-in_err-climb
+returns-in_err-climb g c =
+    let given : c.from_residual.result ≡ None = search rules in
+    rw given (rw (← c.self.view_is) (record { hands_up = (none_shown _ _ _ _ _ c.self.invariant c.shows_order.ensures.order c.in_err-climb.ensures.hands_up).0 }))
 
 pub unreachable-requires : goal.unreachable-requires
 unreachable-requires g c =
-    let h = c.requires.1 in
-    let before = g.met.D.Device.in_order c.args.self.now.device _ h.rooms_below in
-    not_finished _ _ _ _ h.on_disk before _ _ _ c.in_default-climb.is c.in-Some.ensures.hands_up
+    not_finished _ _ _ _ c.self.invariant.on_disk c.self.invariant.below c.in_ok-climb.climb c.in_ok-climb.room.spot c.in_default.field-0 c.in_default.is
+    c.in_ok-climb.ensures.hands_up
 
-pub returns-clause-rooms : goal.returns-clause-rooms
-returns-clause-rooms g c = λ rooms h.
-    let before = g.met.D.Device.in_order c.args.self.now.device _ h.rooms_below in
-    let out = c.in-Some.ensures.rooms (map room_below rooms) h.rooms_below in
-    let after = g.met.D.Device.in_order c.take_done.new.self (c.in-Some.below ∷ map room_below rooms) out in
-    let up = handed_up _ _ _ _ h.on_disk before _ _ _ _ c.in-Routine.irp _ c.in-Routine.is after c.in-Some.ensures.hands_up
-    c.noted-request.ensures c.resume.ensures.climbs c.resume.ensures.cancel_routine in
-    hand_with _ _ _ _ _ _ _ rooms _ h up.goes out after
-    (more_fit _ _ _ _ _ _ rooms h (record { bounded = up.bounded; is_below = up.is_below }))
+pub invariant_of-self-2 : goal.invariant_of-self-2
+invariant_of-self-2 g c =
+    (handed_up _ _ _ _ c.self.invariant.on_disk c.self.invariant.below _ _ c.in_ok-climb.climb c.in-Routine.driver c.in-Routine.irp c.resume.result c.in_ok-climb.room.spot c.self.invariant c.in-Routine.is c.shows_order.ensures.order c.in_ok-climb.ensures.hands_up c.resume.ensures.climbs c.resume.ensures.cancel_routine).1
 
-pub returns-clause-hands_up : goal.returns-clause-hands_up
-returns-clause-hands_up g c =
-    let h = c.requires.1 in
-    let before = g.met.D.Device.in_order c.args.self.now.device _ h.rooms_below in
-    let out = c.in-Some.ensures.rooms (map room_below c.requires.0) h.rooms_below in
-    let after = g.met.D.Device.in_order c.take_done.new.self (c.in-Some.below ∷ map room_below c.requires.0) out in
-    let up = handed_up _ _ _ _ h.on_disk before _ _ _ _ c.in-Routine.irp _ c.in-Routine.is after c.in-Some.ensures.hands_up
-    c.noted-request.ensures c.resume.ensures.climbs c.resume.ensures.cancel_routine in
-    up.hands
+pub returns : goal.returns
+returns g c =
+    rw (← c.self.view_is) (record { hands_up = (handed_up _ _ _ _ c.self.invariant.on_disk c.self.invariant.below _ _ c.in_ok-climb.climb c.in-Routine.driver c.in-Routine.irp c.resume.result c.in_ok-climb.room.spot c.self.invariant c.in-Routine.is c.shows_order.ensures.order c.in_ok-climb.ensures.hands_up c.resume.ensures.climbs c.resume.ensures.cancel_routine).0 })

@@ -1,15 +1,8 @@
-use Rattle.partition.proofs.Moving.{pauses_over}
-use Rattle.partition.proofs.Hand.{rooms_after, shown_after}
+use Rattle.partition.proofs.Hand.{pauses_shown}
 use Rattle.partition.proofs.layer.PartitionsHold.pause.Goals as goal
 
-pub returns-clause-rooms : goal.returns-clause-rooms
-returns-clause-rooms g c =
-    rooms_after _ _ _ _ _ _ _ (g.met.D.Device.in_order c.args.self.now.device)
-    (g.met.D.Device.in_order c.pause.new.self) c.pause.ensures.rooms
-    (λ k o o'. pauses_over _ _ _ k o o' c.pause.ensures.pauses)
+pub invariant_of-self : goal.invariant_of-self
+invariant_of-self g c = (pauses_shown _ _ _ _ _ c.self.invariant c.shows_order.ensures.order c.pause.ensures.pauses).1
 
-pub returns-clause-pauses : goal.returns-clause-pauses
-returns-clause-pauses g c =
-    shown_after _ _ _ _ _ _ _ (g.met.D.Device.in_order c.args.self.now.device)
-    (g.met.D.Device.in_order c.pause.new.self) c.pause.ensures.rooms
-    (λ k o o'. pauses_over _ _ _ k o o' c.pause.ensures.pauses) c.requires.in_order
+pub returns : goal.returns
+returns g c = rw (← c.self.view_is) (record { pauses = (pauses_shown _ _ _ _ _ c.self.invariant c.shows_order.ensures.order c.pause.ensures.pauses).0 })

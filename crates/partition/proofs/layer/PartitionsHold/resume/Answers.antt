@@ -1,19 +1,17 @@
-use Rattle.partition.proofs.Moving.{resumes_over}
+use Rattle.std.proofs.Common.{sym, subst}
+use Rattle.std.specs.Prelude.{All}
+use Rattle.machine.specs.Settled.{WaitsIfCancelled}
+use Rattle.device.specs.View.{DeviceView}
 use Rattle.partition.proofs.Taken.{taken_below}
-use Rattle.partition.proofs.Hand.{rooms_after, shown_after}
+use Rattle.partition.proofs.Hand.{resumes_shown}
 use Rattle.partition.proofs.layer.PartitionsHold.resume.Goals as goal
 
 pub resume-requires-clause-taken : goal.resume-requires-clause-taken
-resume-requires-clause-taken g c = taken_below c.args.self.now.table.items (g.D.Device.view c.args.self.now.device) c.requires.taken
+resume-requires-clause-taken g c =
+    taken_below c.self.inside.parts.table.items (g.D.Shown.view c.self.inside.parts.device) (subst (λ (x : DeviceView). All WaitsIfCancelled x.state.requests) (sym c.self.view_is) c.requires.taken)
 
-pub returns-clause-rooms : goal.returns-clause-rooms
-returns-clause-rooms g c =
-    rooms_after _ _ _ _ _ _ _ (g.met.D.Device.in_order c.args.self.now.device)
-    (g.met.D.Device.in_order c.resume.new.self) c.resume.ensures.rooms
-    (λ k o o'. resumes_over _ _ _ k o o' c.resume.ensures.resumes)
+pub invariant_of-self : goal.invariant_of-self
+invariant_of-self g c = (resumes_shown _ _ _ _ _ c.self.invariant c.shows_order.ensures.order c.resume.ensures.resumes).1
 
-pub returns-clause-resumes : goal.returns-clause-resumes
-returns-clause-resumes g c =
-    shown_after _ _ _ _ _ _ _ (g.met.D.Device.in_order c.args.self.now.device)
-    (g.met.D.Device.in_order c.resume.new.self) c.resume.ensures.rooms
-    (λ k o o'. resumes_over _ _ _ k o o' c.resume.ensures.resumes) c.requires.in_order
+pub returns : goal.returns
+returns g c = rw (← c.self.view_is) (record { resumes = (resumes_shown _ _ _ _ _ c.self.invariant c.shows_order.ensures.order c.resume.ensures.resumes).0 })

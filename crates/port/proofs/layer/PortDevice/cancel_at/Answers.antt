@@ -1,20 +1,30 @@
-use Rattle.std.proofs.Common.{map}
-use Rattle.port.specs.Order.{asked_for}
-use Rattle.port.specs.Books.{books_of}
+use Rattle.port.specs.inside.Books.{books_of}
+use Rattle.port.specs.Shown.{reserved_of}
 use Rattle.port.proofs.Spots.{at_queued, at_started, at_last}
+use Rattle.port.proofs.Sound.{sound_on, same_cancelled_at}
+use Rattle.port.proofs.Seeing.{shown_is}
 use Rattle.port.proofs.layer.PortDevice.cancel_at.Goals as goal
 
-pub returns-then-cancel_queued-clause-cancels : goal.returns-then-cancel_queued-clause-cancels
-returns-then-cancel_queued-clause-cancels g c = at_queued (books_of c.args.self.now.queues) (books_of c.cancel_queued.new.self.queues) (g.A.Adapter.view c.args.self.now.adapter) (g.A.Adapter.view c.cancel_queued.new.self.adapter) _ c.args.spot c.args.number c.requires.1 c.cancel_queued.ensures.adapter c.if-cancel_queued.ensures.cancels
+pub invariant_of-self : goal.invariant_of-self
+invariant_of-self g c =
+    sound_on (books_of c.self.inside.parts.queues) (books_of c.cancel_queued.new.self.queues) (g.A.Adapter.view c.self.inside.parts.adapter) (g.A.Adapter.view c.cancel_queued.new.self.adapter) (same_cancelled_at (books_of c.self.inside.parts.queues) (books_of c.cancel_queued.new.self.queues) (g.A.Adapter.view c.self.inside.parts.adapter) (g.A.Adapter.view c.cancel_queued.new.self.adapter) c.args.spot c.args.number (at_queued (books_of c.self.inside.parts.queues) (books_of c.cancel_queued.new.self.queues) (g.A.Adapter.view c.self.inside.parts.adapter) (g.A.Adapter.view c.cancel_queued.new.self.adapter) _ c.args.spot c.args.number c.self.invariant c.cancel_queued.ensures.adapter c.if-cancel_queued.ensures.cancels)) (c.cancel_queued.ensures.rooms (reserved_of (books_of c.self.inside.parts.queues).rooms) c.self.invariant)
 
-pub returns-then-cancel_started-clause-rooms : goal.returns-then-cancel_started-clause-rooms
-returns-then-cancel_started-clause-rooms g c = λ rooms k. (at_started (books_of c.args.self.now.queues) (books_of c.cancel_queued.new.self.queues) (books_of c.cancel_started.new.self.queues) (g.A.Adapter.view c.args.self.now.adapter) (g.A.Adapter.view c.cancel_queued.new.self.adapter) (g.A.Adapter.view c.cancel_started.new.self.adapter) _ c.args.spot c.args.number c.requires.1 c.if-cancel_queued.ensures.cancels c.cancel_queued.ensures.adapter c.cancel_started.ensures.adapter c.if-cancel_started.ensures.cancels).rooms (map asked_for rooms) k
+pub invariant_of-self-then-cancel_started : goal.invariant_of-self-then-cancel_started
+invariant_of-self-then-cancel_started g c =
+    sound_on (books_of c.self.inside.parts.queues) (books_of c.cancel_started.new.self.queues) (g.A.Adapter.view c.self.inside.parts.adapter) (g.A.Adapter.view c.cancel_started.new.self.adapter) (same_cancelled_at (books_of c.self.inside.parts.queues) (books_of c.cancel_started.new.self.queues) (g.A.Adapter.view c.self.inside.parts.adapter) (g.A.Adapter.view c.cancel_started.new.self.adapter) c.args.spot c.args.number (at_started (books_of c.self.inside.parts.queues) (books_of c.cancel_queued.new.self.queues) (books_of c.cancel_started.new.self.queues) (g.A.Adapter.view c.self.inside.parts.adapter) (g.A.Adapter.view c.cancel_queued.new.self.adapter) (g.A.Adapter.view c.cancel_started.new.self.adapter) _ c.args.spot c.args.number c.self.invariant c.if-cancel_queued.ensures.cancels c.cancel_queued.ensures.adapter c.cancel_started.ensures.adapter c.if-cancel_started.ensures.cancels).cancels) ((at_started (books_of c.self.inside.parts.queues) (books_of c.cancel_queued.new.self.queues) (books_of c.cancel_started.new.self.queues) (g.A.Adapter.view c.self.inside.parts.adapter) (g.A.Adapter.view c.cancel_queued.new.self.adapter) (g.A.Adapter.view c.cancel_started.new.self.adapter) _ c.args.spot c.args.number c.self.invariant c.if-cancel_queued.ensures.cancels c.cancel_queued.ensures.adapter c.cancel_started.ensures.adapter c.if-cancel_started.ensures.cancels).rooms (reserved_of (books_of c.self.inside.parts.queues).rooms) c.self.invariant)
 
-pub returns-then-cancel_started-clause-cancels : goal.returns-then-cancel_started-clause-cancels
-returns-then-cancel_started-clause-cancels g c = (at_started (books_of c.args.self.now.queues) (books_of c.cancel_queued.new.self.queues) (books_of c.cancel_started.new.self.queues) (g.A.Adapter.view c.args.self.now.adapter) (g.A.Adapter.view c.cancel_queued.new.self.adapter) (g.A.Adapter.view c.cancel_started.new.self.adapter) _ c.args.spot c.args.number c.requires.1 c.if-cancel_queued.ensures.cancels c.cancel_queued.ensures.adapter c.cancel_started.ensures.adapter c.if-cancel_started.ensures.cancels).cancels
+pub invariant_of-self-2 : goal.invariant_of-self-2
+invariant_of-self-2 g c =
+    sound_on (books_of c.self.inside.parts.queues) (books_of c.cancel_done.new.self) (g.A.Adapter.view c.self.inside.parts.adapter) (g.A.Adapter.view c.cancel_started.new.self.adapter) (same_cancelled_at (books_of c.self.inside.parts.queues) (books_of c.cancel_done.new.self) (g.A.Adapter.view c.self.inside.parts.adapter) (g.A.Adapter.view c.cancel_started.new.self.adapter) c.args.spot c.args.number (at_last (books_of c.self.inside.parts.queues) (books_of c.cancel_queued.new.self.queues) (books_of c.cancel_started.new.self.queues) (books_of c.cancel_done.new.self) (g.A.Adapter.view c.self.inside.parts.adapter) (g.A.Adapter.view c.cancel_queued.new.self.adapter) (g.A.Adapter.view c.cancel_started.new.self.adapter) _ c.args.spot c.args.number c.cancel_done.result c.self.invariant c.if-cancel_queued.ensures.cancels c.cancel_queued.ensures.adapter c.cancel_started.ensures.adapter c.if-cancel_started.ensures.cancels c.cancel_done.ensures).cancels) ((at_last (books_of c.self.inside.parts.queues) (books_of c.cancel_queued.new.self.queues) (books_of c.cancel_started.new.self.queues) (books_of c.cancel_done.new.self) (g.A.Adapter.view c.self.inside.parts.adapter) (g.A.Adapter.view c.cancel_queued.new.self.adapter) (g.A.Adapter.view c.cancel_started.new.self.adapter) _ c.args.spot c.args.number c.cancel_done.result c.self.invariant c.if-cancel_queued.ensures.cancels c.cancel_queued.ensures.adapter c.cancel_started.ensures.adapter c.if-cancel_started.ensures.cancels c.cancel_done.ensures).rooms (reserved_of (books_of c.self.inside.parts.queues).rooms) c.self.invariant)
 
-pub returns-clause-rooms : goal.returns-clause-rooms
-returns-clause-rooms g c = λ rooms k. (at_last (books_of c.args.self.now.queues) (books_of c.cancel_queued.new.self.queues) (books_of c.cancel_started.new.self.queues) (books_of c.cancel_done.new.self) (g.A.Adapter.view c.args.self.now.adapter) (g.A.Adapter.view c.cancel_queued.new.self.adapter) (g.A.Adapter.view c.cancel_started.new.self.adapter) _ c.args.spot c.args.number c.cancel_done.result c.requires.1 c.if-cancel_queued.ensures.cancels c.cancel_queued.ensures.adapter c.cancel_started.ensures.adapter c.if-cancel_started.ensures.cancels c.cancel_done.ensures).rooms (map asked_for rooms) k
+pub returns-then-cancel_queued : goal.returns-then-cancel_queued
+returns-then-cancel_queued g c =
+    rw (← shown_is c.self.view_is) (record { cancels = at_queued (books_of c.self.inside.parts.queues) (books_of c.cancel_queued.new.self.queues) (g.A.Adapter.view c.self.inside.parts.adapter) (g.A.Adapter.view c.cancel_queued.new.self.adapter) _ c.args.spot c.args.number c.self.invariant c.cancel_queued.ensures.adapter c.if-cancel_queued.ensures.cancels })
 
-pub returns-clause-cancels : goal.returns-clause-cancels
-returns-clause-cancels g c = (at_last (books_of c.args.self.now.queues) (books_of c.cancel_queued.new.self.queues) (books_of c.cancel_started.new.self.queues) (books_of c.cancel_done.new.self) (g.A.Adapter.view c.args.self.now.adapter) (g.A.Adapter.view c.cancel_queued.new.self.adapter) (g.A.Adapter.view c.cancel_started.new.self.adapter) _ c.args.spot c.args.number c.cancel_done.result c.requires.1 c.if-cancel_queued.ensures.cancels c.cancel_queued.ensures.adapter c.cancel_started.ensures.adapter c.if-cancel_started.ensures.cancels c.cancel_done.ensures).cancels
+pub returns-then-cancel_started : goal.returns-then-cancel_started
+returns-then-cancel_started g c =
+    rw (← shown_is c.self.view_is) (record { cancels = (at_started (books_of c.self.inside.parts.queues) (books_of c.cancel_queued.new.self.queues) (books_of c.cancel_started.new.self.queues) (g.A.Adapter.view c.self.inside.parts.adapter) (g.A.Adapter.view c.cancel_queued.new.self.adapter) (g.A.Adapter.view c.cancel_started.new.self.adapter) _ c.args.spot c.args.number c.self.invariant c.if-cancel_queued.ensures.cancels c.cancel_queued.ensures.adapter c.cancel_started.ensures.adapter c.if-cancel_started.ensures.cancels).cancels })
+
+pub returns : goal.returns
+returns g c =
+    rw (← shown_is c.self.view_is) (record { cancels = (at_last (books_of c.self.inside.parts.queues) (books_of c.cancel_queued.new.self.queues) (books_of c.cancel_started.new.self.queues) (books_of c.cancel_done.new.self) (g.A.Adapter.view c.self.inside.parts.adapter) (g.A.Adapter.view c.cancel_queued.new.self.adapter) (g.A.Adapter.view c.cancel_started.new.self.adapter) _ c.args.spot c.args.number c.cancel_done.result c.self.invariant c.if-cancel_queued.ensures.cancels c.cancel_queued.ensures.adapter c.cancel_started.ensures.adapter c.if-cancel_started.ensures.cancels c.cancel_done.ensures).cancels })

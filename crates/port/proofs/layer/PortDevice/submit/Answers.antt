@@ -1,23 +1,32 @@
-use Rattle.std.proofs.Common.{arith, map}
-use Rattle.port.specs.Books.{books_of}
-use Rattle.port.proofs.Submitting.{MayQueue, queued_kept, queued_submits}
-use Rattle.port.specs.Order.{asked_for}
+use Rattle.std.proofs.Common.{subst}
+use Rattle.port.specs.inside.Books.{books_of}
+use Rattle.port.specs.Shown.{reserved_of, view_of}
+use Rattle.device.specs.View.{DeviceView, request_at, whole_for, packet_of}
+use Rattle.device.specs.Served.{Submits}
+use Rattle.port.proofs.Submitting.{queued_kept, queued_submits}
+use Rattle.port.proofs.Sound.{slot_at, waiting_away, may_queue, hand_queued, sound_on}
+use Rattle.port.proofs.Seeing.{shown_is}
 use Rattle.port.proofs.layer.PortDevice.submit.Goals as goal
 
-pub push-spot-requires-clause-place : goal.push-spot-requires-clause-place
-push-spot-requires-clause-place g c = let k = c.requires.in_order.1.kept.places in omega arith
+pub push-requires-clause-reserved : goal.push-requires-clause-reserved
+push-requires-clause-reserved g c =
+    (_, (slot_at (books_of c.self.inside.parts.queues) (g.A.Adapter.view c.self.inside.parts.adapter) _ (shown_is c.self.view_is) c.args.room.spot (whole_for (request_at c.args.self.now.shown.rooms c.args.room.spot)) c.requires.ready))
+
+pub push-requires-clause-apart : goal.push-requires-clause-apart
+push-requires-clause-apart g c =
+    waiting_away (books_of c.self.inside.parts.queues) (g.A.Adapter.view c.self.inside.parts.adapter) _ c.args.room.spot (request_at c.args.self.now.shown.rooms c.args.room.spot) (slot_at (books_of c.self.inside.parts.queues) (g.A.Adapter.view c.self.inside.parts.adapter) _ (shown_is c.self.view_is) c.args.room.spot (whole_for (request_at c.args.self.now.shown.rooms c.args.room.spot)) c.requires.ready) c.self.invariant.kept
 
 pub start_waiting-requires : goal.start_waiting-requires
 start_waiting-requires g c =
-    let m : MayQueue (books_of c.args.self.now.queues) c.args.irp c.args.room.request = record { stays = c.requires.not_removing; number = c.requires.number; few = c.requires.few; not_cancelled = c.requires.not_cancelled; carries = c.requires.carries } in
-    (map asked_for c.requires.in_order.0, queued_kept (books_of c.args.self.now.queues) (g.A.Adapter.view c.args.self.now.adapter) c.args.irp c.args.room.request c.push-spot.result _ c.push-spot.ensures m _ c.requires.in_order.1.kept)
+    ((reserved_of (books_of c.push.new.self).rooms), (queued_kept (books_of c.self.inside.parts.queues) (g.A.Adapter.view c.self.inside.parts.adapter) c.args.irp (request_at c.args.self.now.shown.rooms c.args.room.spot) c.args.room.spot (books_of c.push.new.self) (c.push.ensures (request_at c.args.self.now.shown.rooms c.args.room.spot) (slot_at (books_of c.self.inside.parts.queues) (g.A.Adapter.view c.self.inside.parts.adapter) _ (shown_is c.self.view_is) c.args.room.spot (whole_for (request_at c.args.self.now.shown.rooms c.args.room.spot)) c.requires.ready)) (may_queue (books_of c.self.inside.parts.queues) (g.A.Adapter.view c.self.inside.parts.adapter) _ (shown_is c.self.view_is) c.args.irp (request_at c.args.self.now.shown.rooms c.args.room.spot) c.requires.not_removing c.requires.number c.requires.few c.requires.not_cancelled c.requires.carries) (reserved_of (books_of c.push.new.self).rooms) ((hand_queued (books_of c.self.inside.parts.queues) (books_of c.push.new.self) (g.A.Adapter.view c.self.inside.parts.adapter) c.args.irp (request_at c.args.self.now.shown.rooms c.args.room.spot) c.args.room.spot (c.push.ensures (request_at c.args.self.now.shown.rooms c.args.room.spot) (slot_at (books_of c.self.inside.parts.queues) (g.A.Adapter.view c.self.inside.parts.adapter) _ (shown_is c.self.view_is) c.args.room.spot (whole_for (request_at c.args.self.now.shown.rooms c.args.room.spot)) c.requires.ready)) c.self.invariant)).kept))
 
-pub returns-clause-rooms : goal.returns-clause-rooms
-returns-clause-rooms g c = λ rooms k.
-    let m : MayQueue (books_of c.args.self.now.queues) c.args.irp c.args.room.request = record { stays = c.requires.not_removing; number = c.requires.number; few = c.requires.few; not_cancelled = c.requires.not_cancelled; carries = c.requires.carries } in
-    c.start_waiting.ensures.rooms (map asked_for rooms) (queued_kept (books_of c.args.self.now.queues) (g.A.Adapter.view c.args.self.now.adapter) c.args.irp c.args.room.request c.push-spot.result _ c.push-spot.ensures m (map asked_for rooms) k.kept)
+pub invariant_of-self : goal.invariant_of-self
+invariant_of-self g c =
+    sound_on (books_of c.push.new.self) (books_of c.start_waiting.new.self.queues) (g.A.Adapter.view c.self.inside.parts.adapter) (g.A.Adapter.view c.start_waiting.new.self.adapter) c.start_waiting.ensures.releases.moves.same_rooms (c.start_waiting.ensures.rooms (reserved_of (books_of c.push.new.self).rooms) (queued_kept (books_of c.self.inside.parts.queues) (g.A.Adapter.view c.self.inside.parts.adapter) c.args.irp (request_at c.args.self.now.shown.rooms c.args.room.spot) c.args.room.spot (books_of c.push.new.self) (c.push.ensures (request_at c.args.self.now.shown.rooms c.args.room.spot) (slot_at (books_of c.self.inside.parts.queues) (g.A.Adapter.view c.self.inside.parts.adapter) _ (shown_is c.self.view_is) c.args.room.spot (whole_for (request_at c.args.self.now.shown.rooms c.args.room.spot)) c.requires.ready)) (may_queue (books_of c.self.inside.parts.queues) (g.A.Adapter.view c.self.inside.parts.adapter) _ (shown_is c.self.view_is) c.args.irp (request_at c.args.self.now.shown.rooms c.args.room.spot) c.requires.not_removing c.requires.number c.requires.few c.requires.not_cancelled c.requires.carries) (reserved_of (books_of c.push.new.self).rooms) ((hand_queued (books_of c.self.inside.parts.queues) (books_of c.push.new.self) (g.A.Adapter.view c.self.inside.parts.adapter) c.args.irp (request_at c.args.self.now.shown.rooms c.args.room.spot) c.args.room.spot (c.push.ensures (request_at c.args.self.now.shown.rooms c.args.room.spot) (slot_at (books_of c.self.inside.parts.queues) (g.A.Adapter.view c.self.inside.parts.adapter) _ (shown_is c.self.view_is) c.args.room.spot (whole_for (request_at c.args.self.now.shown.rooms c.args.room.spot)) c.requires.ready)) c.self.invariant)).kept))
 
-pub returns-clause-submits : goal.returns-clause-submits
-returns-clause-submits g c =
-    let m : MayQueue (books_of c.args.self.now.queues) c.args.irp c.args.room.request = record { stays = c.requires.not_removing; number = c.requires.number; few = c.requires.few; not_cancelled = c.requires.not_cancelled; carries = c.requires.carries } in
-    queued_submits (books_of c.args.self.now.queues) (g.A.Adapter.view c.args.self.now.adapter) c.args.irp c.args.room.request c.push-spot.result _ _ _ _ c.push-spot.ensures m c.requires.in_order.1 c.start_waiting.ensures.releases
+pub returns : goal.returns
+returns g c =
+    record {
+      submits = subst (λ (x : DeviceView). Submits x (packet_of c.args.irp.value c.args.room.spot) (request_at c.args.self.now.shown.rooms c.args.room.spot) c.args.irp.value.payload (view_of (books_of c.start_waiting.new.self.queues) (g.A.Adapter.view c.start_waiting.new.self.adapter))) (shown_is c.self.view_is)
+          (queued_submits (books_of c.self.inside.parts.queues) (g.A.Adapter.view c.self.inside.parts.adapter) c.args.irp (request_at c.args.self.now.shown.rooms c.args.room.spot) c.args.room.spot (reserved_of (books_of c.push.new.self).rooms) (books_of c.push.new.self) _ _ (c.push.ensures (request_at c.args.self.now.shown.rooms c.args.room.spot) (slot_at (books_of c.self.inside.parts.queues) (g.A.Adapter.view c.self.inside.parts.adapter) _ (shown_is c.self.view_is) c.args.room.spot (whole_for (request_at c.args.self.now.shown.rooms c.args.room.spot)) c.requires.ready)) (may_queue (books_of c.self.inside.parts.queues) (g.A.Adapter.view c.self.inside.parts.adapter) _ (shown_is c.self.view_is) c.args.irp (request_at c.args.self.now.shown.rooms c.args.room.spot) c.requires.not_removing c.requires.number c.requires.few c.requires.not_cancelled c.requires.carries) (hand_queued (books_of c.self.inside.parts.queues) (books_of c.push.new.self) (g.A.Adapter.view c.self.inside.parts.adapter) c.args.irp (request_at c.args.self.now.shown.rooms c.args.room.spot) c.args.room.spot (c.push.ensures (request_at c.args.self.now.shown.rooms c.args.room.spot) (slot_at (books_of c.self.inside.parts.queues) (g.A.Adapter.view c.self.inside.parts.adapter) _ (shown_is c.self.view_is) c.args.room.spot (whole_for (request_at c.args.self.now.shown.rooms c.args.room.spot)) c.requires.ready)) c.self.invariant) c.start_waiting.ensures.releases);
+    }

@@ -1,16 +1,22 @@
-use Rattle.std.proofs.Common.{map}
-use Rattle.port.proofs.Handing.{hands_up_none, hands_up, hand_left, moved_few}
-use Rattle.port.specs.Order.{asked_for}
+use Rattle.port.specs.inside.Books.{books_of}
+use Rattle.port.proofs.Handing.{hands_up_none, hands_up, moved_few}
+use Rattle.port.proofs.Sound.{ended_taken, sound_left}
+use Rattle.port.proofs.Seeing.{shown_is}
 use Rattle.port.proofs.layer.PortDevice.take_done.Goals as goal
 
-pub returns-in_default-clause-hands_up : goal.returns-in_default-clause-hands_up
-returns-in_default-clause-hands_up g c = hands_up_none _ _ _ _ c.requires.1 c.in_default.ensures
+pub take_done-requires : goal.take_done-requires
+take_done-requires g c = ended_taken _ _ _ c.self.invariant.kept
+
+pub returns-in_default : goal.returns-in_default
+returns-in_default g c = rw (← shown_is c.self.view_is) (record { hands_up = hands_up_none _ _ _ _ c.self.invariant c.in_default.ensures })
 
 pub information-information-requires : goal.information-information-requires
-information-information-requires g c = moved_few _ _ _ _ _ c.requires.1 c.in-Some.ensures
+information-information-requires g c = moved_few _ _ _ _ _ c.self.invariant c.in-Some.ensures
 
-pub returns-clause-rooms : goal.returns-clause-rooms
-returns-clause-rooms g c = λ rooms k. hand_left _ _ _ _ c.in-Some.ensures (map asked_for rooms) k
+pub invariant_of-self-2 : goal.invariant_of-self-2
+invariant_of-self-2 g c = sound_left (books_of c.self.inside.parts.queues) _ (g.A.Adapter.view c.self.inside.parts.adapter) _ c.in-Some.ensures c.self.invariant
 
-pub returns-clause-hands_up : goal.returns-clause-hands_up
-returns-clause-hands_up g c = hands_up _ _ _ _ c.in-Some.field-0 _ _ _ c.requires.1 c.in-Some.ensures c.status-status.ensures c.information-information.ensures c.complete.ensures.climbs c.complete.ensures.cancel_routine
+pub returns : goal.returns
+returns g c = rw (← shown_is c.self.view_is) (record {
+  hands_up = hands_up _ _ _ _ c.in-Some.field-0 _ _ _ c.self.invariant c.in-Some.ensures c.status-status.ensures c.information-information.ensures c.complete.ensures.climbs c.complete.ensures.cancel_routine;
+})

@@ -1,8 +1,8 @@
-use Rattle.std.proofs.Common.{map}
-use Rattle.port.specs.Books.{books_of}
+use Rattle.port.specs.inside.Books.{books_of}
+use Rattle.port.specs.Shown.{reserved_of}
 use Rattle.port.proofs.Resetting.{hand_labels}
-use Rattle.port.specs.Order.{asked_for}
 use Rattle.port.proofs.layer.PortDevice.take_label.Goals as goal
 
-pub returns-clause-rooms : goal.returns-clause-rooms
-returns-clause-rooms g c = λ rooms k. hand_labels (books_of c.args.self.now.queues) (g.A.Adapter.view c.args.self.now.adapter) (g.A.Adapter.view c.take_label.new.self) (map asked_for rooms) c.take_label.result c.take_label.ensures.takes c.take_label.ensures.order k
+pub invariant_of-self : goal.invariant_of-self
+invariant_of-self g c =
+    hand_labels (books_of c.self.inside.parts.queues) (g.A.Adapter.view c.self.inside.parts.adapter) (g.A.Adapter.view c.take_label.new.self) (reserved_of (books_of c.self.inside.parts.queues).rooms) c.take_label.result c.take_label.ensures.takes c.take_label.ensures.order c.self.invariant

@@ -2,8 +2,8 @@ use Rattle.std.proofs.Common.{◌++◌, [], ◌∷◌, List, ap, sym, refl, ◌�
 use Rattle.std.proofs.lemmas.List.{append-nil, map-append}
 use Rattle.port.specs.declared.queues.Held.{Held}
 use Rattle.port.specs.declared.queues.Ended.{Ended}
-use Rattle.port.specs.Books.{Books, books_of, held_at}
-use Rattle.port.specs.Turns.{gone}
+use Rattle.port.specs.inside.Books.{Books, books_of, held_at}
+use Rattle.port.specs.inside.Turns.{gone}
 use Rattle.port.proofs.Searching.{drained_by}
 use Rattle.port.proofs.Queued.{popped}
 use Rattle.port.proofs.queues.Queues.drain.Goals as goal

@@ -1,7 +1,7 @@
 use Rattle.std.proofs.Common.{◌≡◌, ◌≤◌, ◌+◌, List, ◌++◌, map, length}
 use Rattle.port.specs.declared.queues.Held.{Held}
-use Rattle.port.specs.Books.{books_of}
-use Rattle.port.specs.Turns.{gone}
+use Rattle.port.specs.inside.Books.{books_of}
+use Rattle.port.specs.inside.Turns.{gone}
 use Rattle.port.proofs.queues.Queues.drain.Given as goal
 
 abbrev pub invariant-loop-spot : goal.invariant-loop-spot
@@ -10,7 +10,7 @@ invariant-loop-spot l = record {
   waited : (books_of l.initial.self).waiting ≡ before ++ (books_of l.self).waiting;
   went : l.self.done.items ≡ l.initial.self.done.items ++ map gone before;
   others : books_of l.self ≡ record (books_of l.initial.self) { waiting = (books_of l.self).waiting; done = l.self.done.items };
-  few : length (books_of l.self).waiting + length l.self.done.items ≤ l.self.places;
+  few : length (books_of l.self).waiting + length l.self.done.items ≤ (books_of l.self).places;
 }
 
 abbrev pub decreases-loop-spot : goal.decreases-loop-spot

@@ -1,5 +1,6 @@
 use Rattle.std.proofs.Common.{refl, ap, map, arith}
-use Rattle.port.specs.Books.{held_at}
+use Rattle.std.specs.Prelude.{is_some, count_by}
+use Rattle.port.specs.inside.Books.{held_at}
 use Rattle.port.proofs.queues.Queues.new.Goals as goal
 
 pub returns : goal.returns
@@ -12,5 +13,6 @@ returns c = record {
   next_piece = refl;
   submitted = refl;
   removing = refl;
-  places = refl;
+  places = ap (count_by is_some) c.new-3.ensures.empty;
+  rooms = c.new-3.ensures.empty;
 }

@@ -1,0 +1,18 @@
+use Rattle.class_disk.specs.inside.Books.{books_of}
+use Rattle.class_disk.proofs.TakingOne.{takes_none_yet, takes_one_more, takes_all}
+use Rattle.class_disk.proofs.Extension.take_withdrawn.Goals as goal
+
+pub loop-init : goal.loop-init
+loop-init g c = takes_none_yet _ (books_of c.args.self.now.table)
+
+pub take_one_withdrawn-requires-clause-midway : goal.take_one_withdrawn-requires-clause-midway
+take_one_withdrawn-requires-clause-midway g c = let (first, labels, m) = c.requires.midway in (_, _, c.loop.invariant.stays first labels m)
+
+pub loop-smaller : goal.loop-smaller
+loop-smaller g c = c.loop-test.ensures.fewer
+
+pub loop-preserved : goal.loop-preserved
+loop-preserved g c = takes_one_more _ (books_of c.args.self.now.table) _ _ _ _ c.loop.invariant c.loop-test.ensures
+
+pub returns : goal.returns
+returns g c = takes_all _ (books_of c.args.self.now.table) _ _ _ _ c.loop.invariant c.loop-test.ensures

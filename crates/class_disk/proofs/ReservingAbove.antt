@@ -1,0 +1,71 @@
+-- A room is made for a request, or none: what the class driver shows.
+use Rattle.std.proofs.Common.{◌≡◌, ◌≤◌, ◌+◌, true, List, ◌∷◌, Some, None, refl, sym, ◌∙◌, ap, subst, arith, length}
+use Rattle.std.specs.Prelude.{IsPermutation}
+use Rattle.adapter.specs.View.{ReservesMore}
+use Rattle.device.specs.View.{DeviceView, room_at, whole_for}
+use Rattle.device.specs.Served.{Reserves, ReservesSpot, ReservesNone, SetsRoom}
+use Rattle.class_disk.specs.declared.parts.PartId.{PartId}
+use Rattle.class_disk.specs.inside.Books.{Books, Held}
+use Rattle.class_disk.specs.Shown.{class_rules}
+use Rattle.class_disk.specs.inside.Turns.{AddsSlot, AddsNoSlot}
+use Rattle.class_disk.specs.inside.Driver.{view_of, IsInHand, IsHeld, tickets}
+use Rattle.class_disk.specs.inside.Midway.{StaysTaken, MakesNone, MakesParts}
+use Rattle.class_disk.proofs.Standing.{IsApart}
+use Rattle.class_disk.proofs.Reserving.{in_hand_refused, in_hand_made}
+
+module _ (v : DeviceView) (b b1 : Books) (h : IsInHand v b) (grows : AddsNoSlot b b1) (v2 : DeviceView) (o2 : List PartId) where
+  stays_from : StaysTaken v b1.owners v2 o2 → StaysTaken v b.owners v2 o2
+  stays_from s = subst (λ o. StaysTaken v o v2 o2) (ap (λ (x : Books). x.owners) grows.after) s
+
+  -- the same is reserved of the adapter as below
+  reserves_above : Reserves v v2 → (b' : Books) → b' ≡ record b { held = b'.held; rooms = b'.rooms; owners = b'.owners; ended_places = b'.ended_places } → Reserves (view_of v b) (view_of v2 b')
+  reserves_above r b' same =
+      let more : ReservesMore v.adapter (record v.adapter { reserved = v2.adapter.reserved }) = subst (ReservesMore v.adapter) (ap (λ (x : DeviceView). x.adapter) r.same) r.adapter in
+      subst (λ (x : DeviceView). Reserves (view_of v b) (view_of x b')) (sym r.same)
+      (subst (λ (x : Books). Reserves (view_of v b) (view_of (record v { rooms = v2.rooms; adapter = record v.adapter { reserved = v2.adapter.reserved } }) x)) (sym same)
+      (record { same = refl; adapter = more }))
+
+  -- none is made
+  pub refused_there : (b2 : Books) → b2 ≡ record b1 { owners = o2 } → MakesNone v b1.owners v2 o2 → IsInHand v2 b2 × ReservesNone (view_of v b) (view_of v2 b2)
+  refused_there b2 after m =
+      let s = stays_from m.stays in
+      let owners : b2.owners ≡ o2 = ap (λ (x : Books). x.owners) after in
+      let rooms : b2.rooms ≡ b.rooms = ap (λ (x : Books). x.rooms) after ∙ ap (λ (x : Books). x.rooms) grows.after in
+      let held : b2.held ≡ b.held = ap (λ (x : Books). x.held) after ∙ ap (λ (x : Books). x.held) grows.after in
+      let places : b2.ended_places ≡ b1.ended_places = ap (λ (x : Books). x.ended_places) after in
+      let short : b2 ≡ record b { owners = o2; ended_places = b1.ended_places } = after ∙ ap (λ (x : Books). record x { owners = o2 }) grows.after in
+      let more : b.ended_places ≤ b2.ended_places = let g = grows.places in omega (arith, places, g) in
+      let whole : b2 ≡ record b { owners = b2.owners; ended_places = b2.ended_places } =
+      short ∙ sym (ap (λ n. record b { owners = o2; ended_places = n }) places) ∙ sym (ap (λ o. record b { owners = o; ended_places = b2.ended_places }) owners) in
+      let full : b2 ≡ record b { held = b2.held; rooms = b2.rooms; owners = b2.owners; ended_places = b2.ended_places } =
+      whole ∙ sym (ap (λ rs. record b { rooms = rs; owners = b2.owners; ended_places = b2.ended_places }) rooms)
+      ∙ sym (ap (λ hs. record b { held = hs; rooms = b2.rooms; owners = b2.owners; ended_places = b2.ended_places }) held) in (
+        in_hand_refused v v2 b b2 h (subst (StaysTaken v b.owners v2) (sym owners) s) whole more (m.out (tickets b) h.rooms_out),
+        record { reserves = reserves_above m.stays.reserves b2 full; room = λ spot. ap (λ rs. room_at rs spot) rooms },
+      )
+
+  -- one is made
+  pub reserved_above : (b2 : Books) → b2 ≡ record b1 { owners = o2 } → (new : Held) → new.whole ≡ true → MakesParts v b1.owners new.slot 0 new.parts v2 o2 → (b3 : Books) → AddsSlot b2 new b3
+      → IsHeld (class_rules v.rules) o2 new → IsApart b3 → length b1.held + length b1.opens + 1 ≤ b1.ended_places
+      → IsInHand v2 b3 × ReservesSpot (view_of v b) new.slot new.request (view_of v2 b3)
+  reserved_above b2 after new is_whole m b3 adds is_held apart few =
+      let s = stays_from m.stays in
+      let from : b3 ≡ record b { held = b3.held; rooms = b3.rooms; owners = o2; ended_places = b1.ended_places } =
+      adds.after ∙ ap (λ (x : Books). record x { held = b3.held; rooms = b3.rooms }) after ∙ ap (λ (x : Books). record x { held = b3.held; rooms = b3.rooms; owners = o2 }) grows.after in
+      let owners : b3.owners ≡ o2 = ap (λ (x : Books). x.owners) from in
+      let places : b3.ended_places ≡ b1.ended_places = ap (λ (x : Books). x.ended_places) from in
+      let full : b3 ≡ record b { held = b3.held; rooms = b3.rooms; owners = b3.owners; ended_places = b3.ended_places } =
+      from ∙ sym (ap (λ n. record b { held = b3.held; rooms = b3.rooms; owners = o2; ended_places = n }) places)
+      ∙ sym (ap (λ o. record b { held = b3.held; rooms = b3.rooms; owners = o; ended_places = b3.ended_places }) owners) in
+      let held : b2.held ≡ b.held = ap (λ (x : Books). x.held) after ∙ ap (λ (x : Books). x.held) grows.after in
+      let rooms : b2.rooms ≡ b.rooms = ap (λ (x : Books). x.rooms) after ∙ ap (λ (x : Books). x.rooms) grows.after in
+      let held1 : b1.held ≡ b.held = ap (λ (x : Books). x.held) grows.after in
+      let opens1 : b1.opens ≡ b.opens = ap (λ (x : Books). x.opens) grows.after in
+      let fits : length b.held + length b.opens + 1 ≤ b3.ended_places = let p = ap length held1 in let q = ap length opens1 in omega (arith, few, p, q, places) in
+      let set : SetsRoom b.rooms new.slot None (Some (whole_for new.request)) b3.rooms =
+      subst (λ rs. SetsRoom rs new.slot None (Some (whole_for new.request)) b3.rooms) rooms
+      (subst (λ w. SetsRoom b2.rooms new.slot None (Some (record { request = new.request; whole = w })) b3.rooms) is_whole adds.room) in (
+        in_hand_made v v2 b b3 h (subst (StaysTaken v b.owners v2) (sym owners) s) new full (subst (λ hs. IsPermutation b3.held (new ∷ hs)) held adds.more) fits
+            (subst (λ o. IsHeld (class_rules v.rules) o new) (sym owners) is_held) apart (m.out (tickets b) h.rooms_out),
+        record { reserves = reserves_above m.stays.reserves b3 full; room = set },
+      )

@@ -1,0 +1,4 @@
+use Rattle.class_disk.proofs.layer.DiskDevice.shows_order.Goals as goal
+
+pub returns : goal.returns
+returns g c = rw (← c.self.view_is) (record { order = c.self.invariant.in_hand.orderly })

@@ -1,0 +1,11 @@
+use Rattle.std.proofs.Common.{ap, arith}
+use Rattle.slab.specs.Slab.{Slab, slab_len}
+use Rattle.class_disk.specs.declared.requests.Slot.{Slot}
+use Rattle.class_disk.proofs.SlotFilling.{few_ended}
+use Rattle.class_disk.proofs.table.Table.make_slot.Goals as goal
+
+pub overflow_sub-count : goal.overflow_sub-count
+overflow_sub-count c =
+    let few = few_ended c.args.self.now c.requires in
+    let same = ap (λ (slots : Slab Slot). slab_len slots) c.reserve.ensures.rest_kept in
+    omega (arith, few, same, c.len-count.ensures, c.len.ensures)

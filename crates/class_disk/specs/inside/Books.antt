@@ -1,0 +1,176 @@
+-- What the class driver has in its table.
+use Rattle.std.specs.Prelude.{◌≡◌, ◌<◌, ◌≤◌, ℕ, ◌+◌, ◌-◌, ◌==◌, Bool, true, false, List, [], ◌∷◌, map}
+use Rattle.std.specs.Prelude.{Option, Some, None, if◌then◌else◌}
+use Rattle.std.specs.VecDeque.{deque_capacity}
+use Rattle.slab.specs.Slab.{HasRoomFor, Updates, get, slab_len}
+use Rattle.irp.specs.declared.Irp.{Irp}
+use Rattle.machine.specs.declared.Request.{Request}
+use Rattle.device.specs.View.{Reserved as DeviceRoom}
+use Rattle.class_disk.specs.declared.Sizes.{Sizes}
+use Rattle.class_disk.specs.declared.parts.Part.{Part}
+use Rattle.class_disk.specs.declared.parts.PartId.{PartId}
+use Rattle.class_disk.specs.declared.requests.Places.{Places}
+use Rattle.class_disk.specs.declared.requests.Slot.{Slot}
+use Rattle.class_disk.specs.declared.requests.Slot.TheVariants.{Reserved, Open, Left}
+use Rattle.class_disk.specs.declared.requests.Transfer.{Transfer}
+use Rattle.class_disk.specs.declared.table.Table.{Table}
+
+-- an open request, with its parts in the order of their places
+pub record Opened : Type 0 where
+  pub irp : Irp
+  pub request : Request
+  pub parts : List Part
+  -- how often parts were sent again, and how many have not ended
+  pub restarts : ℕ
+  pub unfinished : ℕ
+
+-- a slot that has no packet: a request with its parts, each of which can be sent, or was left behind
+pub record Held : Type 0 where
+  pub slot : ℕ
+  pub request : Request
+  pub parts : List Part
+  pub whole : Bool
+
+-- the table, as lists
+pub record Books : Type 0 where
+  pub sizes : Sizes
+  -- the open requests with their slots, by rising slots
+  pub opens : List (ℕ × Opened)
+  -- the slots with no packet, rising
+  pub held : List Held
+  -- what is reserved, by slots
+  pub rooms : List (Option DeviceRoom)
+  -- whose part the room at a spot below is
+  pub owners : List PartId
+  -- the slots of the requests that have ended, the first to end in front
+  pub ended : List ℕ
+  -- as many slots that list has room for
+  pub ended_places : ℕ
+  pub last_request : ℕ
+  -- how many packets were sent below, and one
+  pub next_packet : ℕ
+  pub submitted : ℕ
+  pub removing : Bool
+
+abbrev pub opened_of : Transfer → Opened
+opened_of t = record {
+  irp = t.irp.value;
+  request = t.request;
+  parts = t.parts.items;
+  restarts = t.restarts;
+  unfinished = t.unfinished;
+}
+
+abbrev pub held_as : ℕ → Places → Held
+held_as slot places = record { slot = slot; request = places.request; parts = places.parts.items; whole = true }
+
+abbrev pub left_as : ℕ → Places → Held
+left_as slot places = record { slot = slot; request = places.request; parts = places.parts.items; whole = false }
+
+-- the open requests of these slots, of which the first has this number
+abbrev pub open_from : ℕ → List (Option Slot) → List (ℕ × Opened)
+open_from slot [] = []
+open_from slot (None ∷ rest) = open_from (slot + 1) rest
+open_from slot (Some (Reserved places) ∷ rest) = open_from (slot + 1) rest
+open_from slot (Some (Open t) ∷ rest) = (slot, opened_of t) ∷ open_from (slot + 1) rest
+open_from slot (Some (Left places) ∷ rest) = open_from (slot + 1) rest
+
+-- those of these slots that have no packet
+abbrev pub held_from : ℕ → List (Option Slot) → List Held
+held_from slot [] = []
+held_from slot (None ∷ rest) = held_from (slot + 1) rest
+held_from slot (Some (Reserved places) ∷ rest) = held_as slot places ∷ held_from (slot + 1) rest
+held_from slot (Some (Open t) ∷ rest) = held_from (slot + 1) rest
+held_from slot (Some (Left places) ∷ rest) = left_as slot places ∷ held_from (slot + 1) rest
+
+-- what a room is reserved for
+abbrev pub reserved_for : Held → DeviceRoom
+reserved_for held = record { request = held.request; whole = held.whole }
+
+-- what is reserved in a slot
+abbrev pub room_of : Option Slot → Option DeviceRoom
+room_of None = None
+room_of (Some (Reserved places)) = Some (record { request = places.request; whole = true })
+room_of (Some (Open t)) = None
+room_of (Some (Left places)) = Some (record { request = places.request; whole = false })
+
+-- in front of those behind; none where there are none
+abbrev pub before : Option DeviceRoom → List (Option DeviceRoom) → List (Option DeviceRoom)
+before None [] = []
+before None (room ∷ rooms) = None ∷ room ∷ rooms
+before (Some reserved) rooms = Some reserved ∷ rooms
+
+-- what is reserved, by slots, up to the last
+abbrev pub rooms_from : List (Option Slot) → List (Option DeviceRoom)
+rooms_from [] = []
+rooms_from (slot ∷ rest) = before (room_of slot) (rooms_from rest)
+
+abbrev pub books_of : Table → Books
+books_of table = record {
+  sizes = table.sizes;
+  opens = open_from 0 table.slots.slots;
+  held = held_from 0 table.slots.slots;
+  rooms = rooms_from table.slots.slots;
+  owners = table.owners.items;
+  ended = table.ended.items;
+  ended_places = deque_capacity table.ended;
+  last_request = table.last_request;
+  next_packet = table.next_packet;
+  submitted = table.submitted;
+  removing = table.removing;
+}
+
+-- one slot more needs no memory
+pub record HasRoomForMore (table : Table) : Type 0 where
+  pub slots : slab_len table.slots < table.slots.capacity
+  pub ended : slab_len table.slots < deque_capacity table.ended
+
+-- there is a slot for one more, and a place for it among the ended
+pub record HasPlaceForMore (table : Table) : Type 0 where
+  pub slots : HasRoomFor table.slots 1
+  pub ended : slab_len table.slots + 1 ≤ deque_capacity table.ended
+
+-- the next slot that is filled is this one, and it is there
+pub record IsVacantFor (table : Table) (slot : ℕ) : Type 0 where
+  pub is_next : table.slots.vacant_key ≡ slot
+  pub room : HasRoomFor table.slots 1
+
+-- the open request of a slot is taken out of it; the next that is put there gets it
+pub record TakesOut (old : Table) (slot : ℕ) (new : Table) : Type 0 where
+  pub updates : Updates old.slots new.slots slot None
+  pub vacant : IsVacantFor new slot
+  pub after : new ≡ record old { slots = new.slots }
+
+-- it is put back
+pub record PutsBack (old : Table) (slot : ℕ) (transfer : Transfer) (new : Table) : Type 0 where
+  pub was_vacant : get old.slots slot ≡ None
+  pub updates : Updates old.slots new.slots slot (Some (Open transfer))
+  pub after : new ≡ record old { slots = new.slots }
+
+-- an open request without its slot
+abbrev pub opened : ℕ × Opened → Opened
+opened e = e.1
+
+-- all open requests
+abbrev pub all_open : Books → List Opened
+all_open b = map opened b.opens
+
+-- the slots of those that have ended
+abbrev pub ended_in : List (ℕ × Opened) → List ℕ
+ended_in [] = []
+ended_in (e ∷ rest) = if e.1.unfinished == 0 then e.0 ∷ ended_in rest else ended_in rest
+
+-- how often parts of these may still be sent again
+abbrev pub restarts_left : List (ℕ × Opened) → ℕ
+restarts_left [] = 0
+restarts_left (e ∷ rest) = 16 - e.1.restarts + restarts_left rest
+
+-- the open request in a slot
+abbrev pub open_at : ℕ → List (ℕ × Opened) → Option Opened
+open_at slot [] = None
+open_at slot (e ∷ rest) = if e.0 == slot then Some e.1 else open_at slot rest
+
+-- another one in its place
+abbrev pub put_at : ℕ → Opened → List (ℕ × Opened) → List (ℕ × Opened)
+put_at slot o [] = []
+put_at slot o (e ∷ rest) = if e.0 == slot then (slot, o) ∷ rest else e ∷ put_at slot o rest

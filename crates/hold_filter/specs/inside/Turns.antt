@@ -1,0 +1,116 @@
+-- What each turn of the table does to it.
+use Rattle.std.specs.Prelude.{◌≡◌, ◌≢◌, ◌<◌, ◌≤◌, ◌⊎◌, ℕ, ◌+◌, false, true, List, [], ◌∷◌, ◌++◌, IsTrue, All, Any}
+use Rattle.ntstatus.specs.declared.NtStatus.{NtStatus}
+use Rattle.ntstatus.specs.declared.NtStatus.TheVariants.{Cancelled, DeletePending}
+use Rattle.irp.specs.declared.Irp.{Irp}
+use Rattle.std.specs.Global.{Box}
+use Rattle.device.specs.declared.Room.{Room}
+use Rattle.linked.specs.Queue.{IsVacant}
+use Rattle.hold_filter.specs.declared.table.Held.{Held}
+use Rattle.hold_filter.specs.inside.Books.{Places, Books, held_with}
+
+-- both queues have a place for this spot
+pub record IsCovered (places : Places) (spot : ℕ) : Type 0 where
+  pub in_held : spot < places.held
+  pub in_ended : spot < places.ended
+
+-- no place is lost, and none is made beyond this spot
+pub record Covers (old : Books) (spot : ℕ) (new : Books) : Type 0 where
+  pub more_held : old.places.held ≤ new.places.held
+  pub more_ended : old.places.ended ≤ new.places.ended
+  pub few_held : (new.places.held ≡ old.places.held) ⊎ (new.places.held ≤ spot + 1)
+  pub few_ended : (new.places.ended ≡ old.places.ended) ⊎ (new.places.ended ≤ spot + 1)
+  pub after : new ≡ record old { places = new.places }
+
+-- a packet that is held may go to those that have ended
+pub record MayEnd (b : Books) (e : ℕ × Held) : Type 0 where
+  pub covered : e.0 < b.places.ended
+  pub vacant : IsVacant e.0 b.ended
+
+-- no packet of this number is held
+abbrev pub LacksNumber : ℕ → List (ℕ × Held) → Type 0
+LacksNumber number held = All (λ (e : ℕ × Held). e.1.irp.value.number ≢ number) held
+
+-- one is, at this spot
+abbrev pub HoldsAt : ℕ → ℕ → List (ℕ × Held) → Type 0
+HoldsAt number spot held = Any (λ (e : ℕ × Held). (e.0 ≡ spot) × (e.1.irp.value.number ≡ number)) held
+
+-- nothing is in, and nothing ever was
+abbrev pub empty : ℕ → Books
+empty window = record {
+  window = window;
+  held = [];
+  ended = [];
+  places = record { held = 0; ended = 0 };
+  below = 0;
+  last_number = 0;
+  submitted = 0;
+  paused = false;
+  removing = false;
+}
+
+-- one more was submitted
+abbrev pub counted : ℕ → Books → Books
+counted number b = record b { last_number = number; submitted = b.submitted + 1 }
+
+-- the packet is queued last
+abbrev pub TakesIn : Books → Box Irp → Room → Books → Type 0
+TakesIn old irp room new = new ≡ record old { held = old.held ++ (room.spot, held_with irp room) ∷ [] }
+
+-- the packet that was held longest leaves the queue
+pub record LetsGo (old : Books) (held : Held) (new : Books) : Type 0 where
+  pub spot : ℕ
+  pub rest : List (ℕ × Held)
+  pub is_front : old.held ≡ (spot, held) ∷ rest
+  pub after : new ≡ record old { held = rest }
+
+-- none is held, and nothing changes
+pub record LetsNoneGo (old new : Books) : Type 0 where
+  pub none_held : old.held ≡ []
+  pub same : new ≡ old
+
+-- the packet with its cancel flag set
+abbrev pub marked : Held → Held
+marked held = record held { irp = record held.irp { value = record held.irp.value { cancelled = true } } }
+
+-- the packet that is held at this spot has this number, and is cancelled
+pub record Withdraws (old : Books) (spot number : ℕ) (new : Books) : Type 0 where
+  pub before : List (ℕ × Held)
+  pub held : Held
+  pub behind : List (ℕ × Held)
+  pub was_held : old.held ≡ before ++ (spot, held) ∷ behind
+  pub is_number : held.irp.value.number ≡ number
+  pub after : new ≡ record old { held = before ++ behind; ended = old.ended ++ (spot, marked held) ∷ [] }
+
+-- no packet is held at this spot under this number, and nothing changes
+pub record WithdrawsNot (old : Books) (spot number : ℕ) (new : Books) : Type 0 where
+  pub none : All (λ (e : ℕ × Held). e.0 ≡ spot → e.1.irp.value.number ≢ number) old.held
+  pub same : new ≡ old
+
+-- a packet that was cancelled while it was held leaves
+pub record HandsCancelled (old : Books) (held : Held) (status : NtStatus) (new : Books) : Type 0 where
+  pub spot : ℕ
+  pub rest : List (ℕ × Held)
+  pub is_front : old.ended ≡ (spot, held) ∷ rest
+  pub is_status : status ≡ Cancelled
+  pub after : new ≡ record old { ended = rest }
+
+-- none was; the device is removed, and the packet that was held longest leaves
+pub record HandsRemoved (old : Books) (held : Held) (status : NtStatus) (new : Books) : Type 0 where
+  pub spot : ℕ
+  pub rest : List (ℕ × Held)
+  pub none_ended : old.ended ≡ []
+  pub removing : IsTrue old.removing
+  pub is_front : old.held ≡ (spot, held) ∷ rest
+  pub is_status : status ≡ DeletePending
+  pub after : new ≡ record old { held = rest }
+
+-- a packet leaves that ended here
+abbrev pub Hands : Books → Held → NtStatus → Books → Type 0
+Hands old held status new = HandsCancelled old held status new ⊎ HandsRemoved old held status new
+
+-- none ended here, and nothing changes
+pub record HandsNone (old new : Books) : Type 0 where
+  pub none_ended : old.ended ≡ []
+  pub none_held : IsTrue old.removing → old.held ≡ []
+  pub same : new ≡ old

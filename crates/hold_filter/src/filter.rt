@@ -1,0 +1,86 @@
+// The filter as its owner has it.
+ghost use Rattle.std.specs.Prelude.{◌≡◌, ◌<◌, ◌^◌, [], IsFalse, MatchBool};
+ghost use Rattle.linked.specs.Queue.{VisitsAtMost};
+ghost use Rattle.hold_filter.specs.Shown.{held_count, CancelsHeld, CancelsNone};
+ghost use Rattle.hold_filter.specs.Opening.{IsFreshBelow, opening_over};
+
+use crate::parts::Parts;
+use crate::table::Table;
+use device::{Device, Shown};
+use std::alloc::Global;
+use std::marker::Model;
+
+/// The filter over a device.
+pub struct Filter<D: Shown> {
+    pub(crate) parts: Parts<D>,
+}
+
+// By hand, so that no crate above proves it again, as it would a derived one.
+impl<D: Shown> Drop for Filter<D> {
+    fn drop(self) {
+        let Filter { parts: _ } = self;
+    }
+}
+
+impl<D: Shown> Model for Filter<D> {
+    ghost use Rattle.hold_filter.specs.Shown.{FilterView};
+    ghost use Rattle.hold_filter.specs.inside.Books.{books_of};
+    ghost use Rattle.hold_filter.specs.inside.View.{shown_of};
+    ghost use Rattle.hold_filter.specs.inside.Kept.{IsFilter};
+
+    ghost Value = { FilterView };
+
+    ghost view = { λ s. shown_of (D.view s.parts.device) s.parts.table };
+
+    ghost invariant = { λ s. IsFilter D.takes_srb D.stack_size (D.view s.parts.device) (books_of s.parts.table) };
+}
+
+/// The requests that a device takes in all fit a number.
+fn most_fits<D: Device>(device: &D)
+    ensures fits { (D.view device.now).most < 2 ^ 128 }
+{
+    let _most = device.most();
+}
+
+impl<D: Device> Filter<D> {
+    /// The filter over a device to which nothing was submitted yet and that takes packets without an SRB, with at most
+    /// `window` requests below, one at least. It takes no memory.
+    pub fn new(alloc: Global, device: D, window: usize) -> Filter<D>
+        requires locations { 0 < D.stack_size }
+        requires buffers { IsFalse D.takes_srb }
+        requires device { IsFreshBelow (D.view device) }
+        requires some { 0 < window }
+        ensures opening { result.shown ≡ opening_over window (D.view device) }
+        ensures none_held { result.queue ≡ [] }
+    {
+        device.shows_order();
+        most_fits(&device);
+        let table = Table::new(alloc, window);
+        let parts = Parts { device, table };
+        Filter { parts }
+    }
+
+    /// Cancels the packet of this number that is held and has this spot; false where none does. At most three entries
+    /// of the queue are visited, and two of those that were cancelled.
+    pub fn cancel_held(&mut self, spot: usize, number: u128) -> bool
+        ensures cancels { MatchBool result (CancelsHeld self.old spot number self.new)
+            (CancelsNone self.old spot number self.new) }
+        ensures visits { VisitsAtMost 3 self.old.queue_visits self.new.queue_visits }
+        ensures ended_visits { VisitsAtMost 2 self.old.ended_visits self.new.ended_visits }
+    {
+        self.parts.table.withdraw(spot, number)
+    }
+}
+
+impl<D: Shown> Filter<D> {
+    /// Requests that the filter holds: none once the device is removed, since those that it held have ended.
+    pub fn held(&self) -> usize
+        ensures { result ≡ held_count self.now }
+    {
+        if self.parts.table.removing {
+            0
+        } else {
+            self.parts.table.held.len()
+        }
+    }
+}

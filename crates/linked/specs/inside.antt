@@ -1,0 +1,4 @@
+-- What no reader of the public clauses needs.
+pub mod Chain
+pub mod Links
+pub mod Places

@@ -1,9 +1,0 @@
-use Rattle.new_class_disk.specs.inside.Books.{books_of}
-use Rattle.new_class_disk.proofs.Fresh.{opens_in_hand}
-use Rattle.new_class_disk.proofs.Disk.new.Goals as goal
-
-pub invariant_of-result : goal.invariant_of-result
-invariant_of-result g c = record {
-  takes = c.requires.takes;
-  in_hand = opens_in_hand (g.D.Shown.view c.args.device) _ _ (books_of c.new.result) c.requires.fresh c.shows_order.ensures.order c.new.ensures c.requires.size c.longest.ensures c.sectors.ensures;
-}

@@ -1,4 +1,0 @@
-use Rattle.new_class_disk.proofs.layer.DiskDevice.armed.Goals as goal
-
-pub returns : goal.returns
-returns g c = rw (← c.self.view_is) c.armed.ensures

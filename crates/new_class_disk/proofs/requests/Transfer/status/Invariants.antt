@@ -1,6 +1,0 @@
-use Rattle.std.proofs.Common.{◌≡◌, drop}
-use Rattle.new_class_disk.specs.inside.Parts.{lowest_status}
-use Rattle.new_class_disk.proofs.requests.Transfer.status.Given as goal
-
-abbrev pub invariant-loop-part : goal.invariant-loop-part
-invariant-loop-part l = lowest_status l.self.parts.items ≡ lowest_status (drop l.part-index l.part-items)

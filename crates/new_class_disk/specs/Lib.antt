@@ -1,3 +1,0 @@
-pub mod Opening
-pub mod Shown
-pub mod inside

@@ -1,3 +1,0 @@
-mod Finishing
-pub mod Out
-pub mod Returning

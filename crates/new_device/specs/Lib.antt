@@ -1,4 +1,0 @@
-pub mod Climbing
-pub mod Out
-pub mod Served
-pub mod View

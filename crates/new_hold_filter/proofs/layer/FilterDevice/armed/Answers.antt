@@ -1,4 +1,0 @@
-use Rattle.new_hold_filter.proofs.layer.FilterDevice.armed.Goals as goal
-
-pub returns : goal.returns
-returns g c = rw (← c.self.view_is) c.armed.ensures

@@ -1,8 +1,0 @@
-use Rattle.std.proofs.Common.{MatchOption, subst}
-use Rattle.adapter.specs.Calls.{HasNoneFresh}
-use Rattle.adapter.specs.Booking.{IsArmed}
-use Rattle.new_io_manager.specs.Shown.{ManagerView}
-use Rattle.new_io_manager.proofs.manager.IoManager.armed.Goals as goal
-
-pub returns : goal.returns
-returns g c = subst (λ (v : ManagerView). MatchOption c.armed.result (HasNoneFresh v.adapter c.args.tag) (λ found. IsArmed v.adapter c.args.tag found.0 found.1.now)) c.self.view_is c.armed.ensures

@@ -1,4 +1,0 @@
-pub mod Places
-pub mod Queue
-pub mod Chain
-pub mod Links

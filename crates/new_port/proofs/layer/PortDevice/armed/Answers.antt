@@ -1,5 +1,0 @@
-use Rattle.new_port.proofs.Seeing.{shown_is}
-use Rattle.new_port.proofs.layer.PortDevice.armed.Goals as goal
-
-pub returns : goal.returns
-returns g c = rw (← shown_is c.self.view_is) c.armed.ensures.exact

@@ -1,0 +1,4 @@
+use Rattle.partition.proofs.layer.PartitionsDevice.armed.Goals as goal
+
+pub returns : goal.returns
+returns g c = rw (← c.self.view_is) c.armed.ensures

@@ -1,0 +1,94 @@
+-- What the port has in its queues.
+use Rattle.std.specs.Global.{Box}
+use Rattle.std.specs.Prelude.{ℕ, Bool, List, map, Option}
+use Rattle.irp.specs.declared.CancelRoutine.{CancelRoutine}
+use Rattle.irp.specs.declared.StackLocation.{StackLocation}
+use Rattle.irp.specs.declared.Irp.{Irp}
+use Rattle.irp.specs.Climb.{above as locations_above}
+use Rattle.irp.specs.Packet.{cancel_routine_of}
+use Rattle.machine.specs.declared.Request.{Request}
+use Rattle.slab.specs.Slab.{slab_len}
+use Rattle.port.specs.declared.queues.Sizes.{Sizes}
+use Rattle.port.specs.declared.queues.Waiting.{Waiting}
+use Rattle.port.specs.declared.queues.Held.{Held}
+use Rattle.port.specs.declared.queues.Ended.{Ended}
+use Rattle.port.specs.declared.queues.Queues.{Queues}
+
+-- a packet but for what it carries
+pub record Entry : Type 0 where
+  pub number : ℕ
+  pub above : List StackLocation
+  pub cancelled : Bool
+  -- its cancel routine, if it has one
+  pub cancel_routine : Option CancelRoutine
+  pub request : Request
+  -- where it stood in the queue
+  pub spot : ℕ
+
+-- a packet with its request, as it stands in the books
+abbrev pub entry : Irp → Request → ℕ → Entry
+entry irp request spot = record {
+  number = irp.number;
+  above = locations_above irp;
+  cancelled = irp.cancelled;
+  cancel_routine = cancel_routine_of irp;
+  request = request;
+  spot = spot;
+}
+
+-- what the books say of a packet that waits, or that is at the adapter
+abbrev pub entry_of : Held → Entry
+entry_of held = entry held.irp.value held.request held.spot
+
+-- what they say of one that ended
+abbrev pub ended_entry : Ended → Entry
+ended_entry ended = entry ended.irp.value ended.request ended.spot
+
+-- the packet with its request and its spot
+abbrev pub held_with : Box Irp → Request → ℕ → Held
+held_with irp request spot = record { irp = irp; request = request; spot = spot }
+
+-- the packet of an entry of the queue
+abbrev pub held_at : ℕ × Waiting → Held
+held_at e = held_with e.1.irp e.1.request e.0
+
+-- the queues, each as the list of its packets
+pub record Books : Type 0 where
+  pub sizes : Sizes
+  -- the packets that wait, the one that waited longest first
+  pub waiting : List Held
+  -- by tags, the packets at the adapter; what stands at a free tag says nothing
+  pub started : List (Option Held)
+  -- the packets that ended
+  pub done : List Ended
+  pub last_request : ℕ
+  pub next_piece : ℕ
+  pub submitted : ℕ
+  pub removing : Bool
+  -- as many packets as can be taken in, those that are in and the rooms out among them
+  pub places : ℕ
+  -- by spots: what is reserved, and Some None where a packet has the spot
+  pub rooms : List (Option (Option Request))
+
+-- the books that the queues are
+abbrev pub books_of : Queues → Books
+books_of q = record {
+  sizes = q.sizes;
+  waiting = map held_at q.waiting.entries;
+  started = q.started.items;
+  done = q.done.items;
+  last_request = q.last_request;
+  next_piece = q.next_piece;
+  submitted = q.submitted;
+  removing = q.removing;
+  places = slab_len q.rooms;
+  rooms = q.rooms.slots;
+}
+
+-- how often an entry of the queue was visited
+abbrev pub visits_of : Queues → ℕ
+visits_of q = q.waiting.visits
+
+-- where a packet stood
+abbrev pub spot_in : Entry → ℕ
+spot_in e = e.spot
