@@ -1,6 +1,6 @@
 -- A step of a book.
 use Rattle.std.proofs.Common.{◌≡◌, inl, inr, ℕ, zero, suc, replicate, max, ◌+◌, ◌-◌, ◌<◌, ◌≤◌, Bool, true, false, List, [], ◌∷◌, ◌++◌, length, Option, Some, None, refl, sym, ap, ◌∙◌, subst, arith, length-append}
-use Rattle.std.specs.Prelude.{◌⊎◌, Contains, IfSome, remove, slice_get}
+use Rattle.std.specs.Prelude.{IsFalse, ◌⊎◌, Contains, IfSome, remove, slice_get}
 use Rattle.std.proofs.lemmas.Option.{slice_get_within, get_or_from_slice_get}
 use Rattle.std.proofs.lemmas.List.Elements.{Contains-append_left, Contains-append_right}
 use Rattle.std.proofs.lemmas.List.Sorted.{Contains-permutation, IsPermutation-remove, IsPermutation-sym}
@@ -123,6 +123,7 @@ module _ (laws : Laws) (rules : Rules) (opening : State) (handles : List (Option
         → IsSound rules opening handles count stack' pages' slots'
     sound_after no_handle room = record {
       same_rules = ap (λ v. v.rules) stack_is ∙ right.same_rules ∙ sound.same_rules;
+      on_grid = sound.on_grid;
       as_many = sound.as_many;
       same_handles = ap (λ v. v.handles) stack_is ∙ right.handles no_handle ∙ sound.same_handles;
       taken = ap (λ v. v.labels) stack_is;
@@ -242,6 +243,7 @@ pub sound_first : (rules : Rules) (opening : State) (handles : List (Option Open
     → IsSound rules opening handles count stack pages slots
 sound_first rules opening handles count stack pages slots named first entries owners room most is numbers owner = record {
   same_rules = named.same_rules;
+  on_grid = subst (λ (r : Rules). IsFalse r.any_cut) named.same_rules first.on_grid;
   as_many = named.as_many;
   same_handles = named.same_handles;
   taken = first.no_labels;
@@ -265,6 +267,7 @@ sound_with_room rules opening handles count stack pages slots pages' room ready 
     made : IsSound rules opening handles count stack (record pages { room = room; ready = ready }) slots
     made = record {
       same_rules = sound.same_rules;
+      on_grid = sound.on_grid;
       as_many = sound.as_many;
       same_handles = sound.same_handles;
       taken = sound.taken;
@@ -292,6 +295,7 @@ module _ (rules : Rules) (opening : State) (handles : List (Option OpenHandle)) 
   without : (at : ℕ) (taken : Waiting) → slice_get stack.answers at ≡ Some taken → IsSound rules opening handles count (record stack { answers = remove stack.answers at }) pages slots
   without at taken there = record {
     same_rules = sound.same_rules;
+    on_grid = sound.on_grid;
     as_many = sound.as_many;
     same_handles = sound.same_handles;
     taken = sound.taken;

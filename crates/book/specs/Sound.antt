@@ -1,5 +1,5 @@
 -- What the parts of a book say of each other between two steps.
-use Rattle.std.specs.Prelude.{◌≡◌, Contains, ◌<◌, ◌≤◌, ◌^◌, ℕ, List, [], Option, Some}
+use Rattle.std.specs.Prelude.{◌≡◌, Contains, ◌<◌, ◌≤◌, ◌^◌, ℕ, List, [], Option, Some, IsFalse}
 use Rattle.machine.specs.declared.Label.{Label}
 use Rattle.machine.specs.declared.Label.TheVariants.{Answer}
 use Rattle.machine.specs.Rules.{Rules}
@@ -28,6 +28,8 @@ shown stack pages slots = record { stack = stack; entries = pages.entries; owner
 -- the parts of a book between two steps
 pub record IsSound (rules : Rules) (opening : State) (handles : List (Option OpenHandle)) (count : ℕ) (stack : ManagerView) (pages : PagesView) (slots : SlotsView) : Type 0 where
   pub same_rules : stack.rules ≡ rules
+  -- requests are cut on the grid, so that no labels come without end
+  pub on_grid : IsFalse rules.any_cut
   pub as_many : rules.open_requests ≡ Some count
   pub same_handles : stack.handles ≡ handles
   pub taken : stack.labels ≡ []

@@ -1,4 +1,4 @@
-ghost use Rattle.std.specs.Prelude.{◌≡◌, ◌<◌, ◌≤◌, ◌+◌, ◌∷◌, ℕ, List, [], max, slice_get, All, Contains, IfOk, IfSome, MatchOption, OnOk, Some, None, false, true, length, replicate};
+ghost use Rattle.std.specs.Prelude.{◌≡◌, ◌<◌, ◌≤◌, ◌+◌, ◌∷◌, ℕ, List, [], max, slice_get, All, Contains, IfOk, IfSome, MatchOption, OnOk, Some, None, false, true, length, replicate, IsFalse};
 ghost use Rattle.cancel_marks.specs.Marks.{standing, starting};
 ghost use Rattle.chronicle.specs.Claims.{AllStand};
 ghost use Rattle.machine.specs.Step.{Run};
@@ -103,7 +103,7 @@ fn make_rows<N: Naming>(
     Ok((pages, slots))
 }
 
-// The laws on the numbers of a run, for who calls it.
+// Shows the caller the laws on the numbers of a run.
 fn laws_of_numbers()
     ensures rise { CallsRise }
     ensures count { CallsCount }
@@ -116,6 +116,7 @@ fn laws_of_numbers()
 // A right step of the stack, and what the trace, its rows and the slots go by.
 fn serve_right<A: Adapter>(stack: &mut Stack<A>, alloc: Global, event: Event) -> Reply
     requires taken { stack.old.labels ≡ [] }
+    requires on_grid { IsFalse stack.old.rules.any_cut }
     requires given { (k number : ℕ) → open_at stack.old k ≡ Some number → number < stack.old.state.next_request }
     ensures right { IsRight stack.old event result stack.new }
     ensures serves { Serves stack.old event result stack.new }
@@ -324,14 +325,14 @@ impl<A: Adapter, N: Naming> Book<A, N> {
         })
     }
 
-    /// How many labels the trace has.
+    /// Returns how many labels the trace has.
     pub fn len(&self) -> usize
         ensures { result ≡ length self.now.entries }
     {
         self.pages.len()
     }
 
-    /// What stands at a place of the trace.
+    /// Returns what stands at a place of the trace.
     pub fn entry(&self, place: usize) -> &Entry
         requires { place < length self.now.entries }
         ensures { slice_get self.now.entries place ≡ Some result.now }
@@ -347,8 +348,8 @@ impl<A: Adapter, N: Naming> Book<A, N> {
         self.pages.row(client)
     }
 
-    /// Where the answer to a request stands in the trace, if it has come. It looks through the row of the request's client
-    /// from its end back.
+    /// Returns where the answer to a request stands in the trace, if it has come. It looks through the row of the
+    /// request's client from its end back.
     pub fn answer_place(&self, number: u64) -> Option<usize>
         ensures { MatchOption result (All (IsNoAnswerTo number) (labels_of self.now.entries)) (IsAnswerAt number self.now.entries) }
     {
@@ -510,7 +511,7 @@ impl<A: Adapter, N: Naming> Book<A, N> {
 
     /// Whenever a book is at rest, its trace is a run from the state that it was opened with to the state that the stack
     /// shows, each label in its row; the handles are those that it was opened with; and a slot is armed exactly with the
-    /// open request there. For who calls this.
+    /// open request there. It is available to the caller.
     pub fn shows_whole(&self)
         ensures { IsBook N.rules N.opening N.partitions N.handles self.now }
     {

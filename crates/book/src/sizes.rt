@@ -12,12 +12,12 @@ pub struct Sizes {
     pub longest: u32,
     /// Sectors of the longest piece.
     pub max_transfer: u32,
-    /// As many busy returns end a request.
+    /// Busy returns that end a request.
     pub busy_limit: u32,
 }
 
 impl Sizes {
-    /// How many labels an event may bring, now and later, that were not counted before it.
+    /// Returns how many labels an event may bring, now and later, that were not counted before it.
     pub(crate) fn labels_for(&self, event: &Event) -> usize
         requires { AreSizes self.now }
         ensures { result ≡ brought_by self.now event.now }

@@ -49,7 +49,7 @@ impl<N: Naming> Slots<N> {
         })
     }
 
-    /// How many there are.
+    /// Returns how many there are.
     pub(crate) fn len(&self) -> usize
         ensures count { result ≡ N.slots }
         ensures wide { length self.now.numbers ≡ N.slots }
@@ -57,7 +57,7 @@ impl<N: Naming> Slots<N> {
         self.numbers.len()
     }
 
-    /// A slot is armed exactly with the number in it, for who calls this.
+    /// Shows the caller that a slot is armed exactly with the number in it.
     pub(crate) fn shows_armed(&self)
         ensures { AreArmed self.now.numbers self.now.owner }
     {

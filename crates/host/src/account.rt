@@ -43,7 +43,7 @@ impl<N: Naming> Model for Account<N> {
     ghost invariant = { λ a. AccountKept N.handles N.partitions a.share a.called.list a.answered.list };
 }
 
-/// The laws on the numbers of a run, for who calls it.
+/// Shows the caller the laws on the numbers of a run.
 pub(crate) fn laws_of_numbers()
     ensures count { CallsCount }
 {

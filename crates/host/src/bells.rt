@@ -28,7 +28,7 @@ pub(crate) struct Concerned {
 }
 
 impl Concerned {
-    /// Whom the labels concern that stand in the trace from a place on.
+    /// Returns whom the labels concern that stand in the trace from a place on.
     pub(crate) fn since<A: Adapter, N: Naming>(book: &Book<A, N>, from: usize) -> Concerned {
         let mut concerned = Concerned {
             lanes: 0,

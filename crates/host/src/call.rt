@@ -45,7 +45,7 @@ pub enum Reason {
     /// As the stack refuses calls; `DeletePending` also where the gate is closed, `InsufficientResources` also where memory
     /// for the call's receipts was refused.
     Refused(Why),
-    /// As many tickets of the client are out as it may have, which is 64.
+    /// The client has 64 tickets out, the most that it may have.
     TooManyTickets,
 }
 

@@ -61,7 +61,7 @@ fn collect_one<A: Adapter, N: Naming>(
     all.merge(share.into_part());
 }
 
-// The laws on the end of a removal, for who calls it.
+// Shows the caller the laws on the end of a removal.
 fn laws_of_removals()
     ensures empty { RemovedAreEmpty }
     ensures splits { RunsSplit }

@@ -39,7 +39,7 @@ impl Tags {
         }
     }
 
-    /// What a tag's lane has to do next, if anything. It is told of a piece once.
+    /// Returns what a tag's lane has to do next, if anything. It is told of a piece once.
     fn take(&mut self, tag: u8) -> Option<Step> {
         if let Some(started) = self.started.get_mut(usize::from(tag)) {
             if *started {

@@ -225,7 +225,7 @@ impl<A: Adapter, N: Naming> Host<A, N> {
         )
     }
 
-    // The same, and whom it concerns.
+    // As above, and tells whom it concerns.
     fn step_and_note(&self, book: &mut Book<A, N>, event: Event) -> (Reply, Concerned)
         requires { (is_handle_event event ≡ false) × (call_handle event ≡ None) }
         ensures reply { IsReplyTo event result.0 }

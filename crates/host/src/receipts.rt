@@ -63,7 +63,7 @@ impl<N: Naming> Receipts<N> {
         self.places.as_slice()
     }
 
-    /// One more.
+    /// Keeps one more receipt.
     pub(crate) fn keep(
         &mut self,
         history: &History<Entry, N>,
@@ -79,7 +79,7 @@ impl<N: Naming> Receipts<N> {
         self.room -= 1;
     }
 
-    /// One more, of a place of the trace; and the same once more.
+    /// Claims a place of the trace, keeps the receipt, and returns a copy of the claim.
     pub(crate) fn note<A: Adapter>(
         &mut self,
         history: &History<Entry, N>,

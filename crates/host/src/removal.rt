@@ -72,7 +72,7 @@ impl<A: Adapter, N: Naming> Host<A, N> {
         (reply, from)
     }
 
-    // The same, and whom it concerns.
+    // As above, and tells whom it concerns.
     fn begin_and_note(
         &self,
         book: &mut Book<A, N>,
@@ -106,7 +106,7 @@ impl<A: Adapter, N: Naming> Host<A, N> {
         reply
     }
 
-    // The same, and whom it concerns.
+    // As above, and tells whom it concerns.
     fn query_and_note(
         &self,
         book: &mut Book<A, N>,

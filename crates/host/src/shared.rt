@@ -27,7 +27,7 @@ pub(crate) struct Door<N: Naming> {
 }
 
 impl<N: Naming> Table<N> {
-    /// What is known of the names, for who calls this.
+    /// Shows the caller what is known of the names.
     pub(crate) fn shows_opening(&self)
         ensures slots { N.rules.open_requests ≡ Some N.slots }
         ensures opening { IsOpening N.opening }

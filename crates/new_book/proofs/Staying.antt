@@ -55,7 +55,7 @@ stays_on old new tag (Act piece bytes) u leaves h there =
     subst (λ (v : AdapterView). Contains v.tags u) (sym h.after)
     (after_change old.tags h.tags h.others u h.use' h.is_on.in_use (λ e. leaves (sym h.is_piece ∙ e)) (acted h.moved h.left h.use') h.in_use there)
 stays_on old new tag (Fault piece) u leaves h there =
-    subst (λ (v : AdapterView). Contains v.tags u) (sym h.after) (after_change old.tags h.tags h.others u h.use' h.is_on.in_use (λ e. leaves (sym h.is_piece ∙ e)) (faulted h.use') h.in_use there)
+    subst (λ (v : AdapterView). Contains v.tags u) (sym h.after) (after_change old.tags h.tags h.others u h.use' h.is_on.in_use (λ e. leaves (sym h.is_piece ∙ e)) (faulted h.left h.use') h.in_use there)
 stays_on old new tag (Return piece class) u leaves h there =
     subst (λ (v : AdapterView). Contains v.tags u) (sym h.after) (after_return old.tags h.tags h.others u h.use' h.is_on.in_use (λ e. leaves (sym h.is_piece ∙ e)) h.in_use there)
 

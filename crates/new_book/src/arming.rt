@@ -8,24 +8,18 @@ ghost use Rattle.new_book.specs.Arming.{IsOfOther, IsOfPiece, IsOfThis};
 
 use chronicle::Claims;
 use disk::Medium;
-use sector_journal::{Armed, History, Journal, Naming, OfArmings, OfEntries};
+use sector_journal::{Armed, History, Journal, Naming, OfArmings};
 use std::marker::Model;
 
 /// What was armed on a tag: the journal's receipt, by which its entry is known. Contracts see the claim.
 #[derive(Drop)]
-pub struct Arming<N: Naming>
-where
-    OfArmings<N>: chronicle::Naming,
-{
+pub struct Arming<N: Naming> {
     number: u64,
     piece: u128,
     receipt: Claims<Armed, OfArmings<N>>,
 }
 
-impl<N: Naming> Model for Arming<N>
-where
-    OfArmings<N>: chronicle::Naming,
-{
+impl<N: Naming> Model for Arming<N> {
     ghost use Rattle.std.specs.Prelude.{List, ℕ};
     ghost use Rattle.sector_journal.specs.declared.slots.Armed.{Armed};
     ghost use Rattle.new_book.specs.Arming.{IsReceipt};

@@ -15,7 +15,7 @@ use srb::Kind;
 use std::alloc::{AllocError, Global};
 use traced::Traced;
 
-/// What kind of request an event asks for.
+/// Returns what kind of request an event asks for.
 fn kind_of(event: &Event) -> Option<Kind> {
     match event {
         Event::Read { .. } => Some(Kind::Read),

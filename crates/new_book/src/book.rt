@@ -30,7 +30,7 @@ use chronicle::{Claims, History};
 use compose::{Answer, Event, Reply};
 use disk::Medium;
 use miniport::BookedAdapter;
-use sector_journal::{Entered, Journal, OfArmings, OfEntries};
+use sector_journal::{Entered, Journal, OfEntries};
 use srb::Completion;
 use std::alloc::{AllocError, Global};
 use std::marker::Model;
@@ -39,11 +39,7 @@ use traced::{Entry, Row, Share, Traced};
 
 /// A stack that many threads share under a lock, with its trace, and what was booked of the journal's entries.
 #[derive(Drop)]
-pub struct Book<N: Naming>
-where
-    OfArmings<N>: chronicle::Naming,
-    OfEntries<N>: chronicle::Naming,
-{
+pub struct Book<N: Naming> {
     traced: Traced<BookedAdapter, N>,
     taken: Taken<N>,
     tags: Tags<N>,
@@ -51,11 +47,7 @@ where
     seen: usize,
 }
 
-impl<N: Naming> Model for Book<N>
-where
-    OfArmings<N>: chronicle::Naming,
-    OfEntries<N>: chronicle::Naming,
-{
+impl<N: Naming> Model for Book<N> {
     ghost use Rattle.new_book.specs.Book.{BookView, IsKept, book_of};
 
     ghost Value = { BookView };
@@ -103,14 +95,14 @@ impl<N: Naming> Book<N> {
         })
     }
 
-    /// How many labels the trace has.
+    /// Returns how many labels the trace has.
     pub fn len(&self) -> usize
         ensures { result ≡ length self.now.traced.entries }
     {
         self.traced.len()
     }
 
-    /// What stands at a place of the trace.
+    /// Returns what stands at a place of the trace.
     pub fn entry(&self, place: usize) -> &Entry
         requires { place < length self.now.traced.entries }
         ensures { slice_get self.now.traced.entries place ≡ Some result.now }
@@ -126,7 +118,7 @@ impl<N: Naming> Book<N> {
         self.traced.row(client)
     }
 
-    /// Where the answer to a request stands in the trace, if it has come.
+    /// Returns where the answer to a request stands in the trace, if it has come.
     pub fn answer_place(&self, number: u64) -> Option<usize>
         ensures { MatchOption result (All (IsNoAnswerTo number) (labels_of self.now.traced.entries)) (IsAnswerAt number self.now.traced.entries) }
     {

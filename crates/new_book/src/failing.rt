@@ -109,7 +109,7 @@ pub(crate) fn fail<N: Naming>(
     serve(traced, tags, alloc, history, marks, Event::Act { tag })
 }
 
-/// How a piece fails that made no entry: as it failed in the journal, or because it may not act there.
+/// Returns how a piece fails that made no entry: as it failed in the journal, or because it may not act there.
 pub(crate) fn failure(failed: Option<Completion>) -> Completion
     requires { IfSome failed (λ completion. class_of completion ≡ Bad completion) }
     ensures { class_of result ≡ Bad result }

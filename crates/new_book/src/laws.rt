@@ -2,7 +2,7 @@
 
 ghost use Rattle.new_book.specs.Staying.{ArmedStays};
 
-/// A piece that may act still may after each step that tells nothing of it, for who calls this.
+/// Shows the caller that a piece that may act still may after each step that tells nothing of it.
 #[tactic(auto, using(crate::proofs::Staying::armed_stays))]
 pub fn armed_stays()
     ensures { ArmedStays }

@@ -8,24 +8,18 @@ ghost use Rattle.new_book.specs.Staying.{HaveNoted, piece_of, piece_told};
 use crate::arming::Arming;
 use disk::Medium;
 use machine::Label;
-use sector_journal::{History, Journal, Naming, OfArmings, OfEntries};
+use sector_journal::{History, Journal, Naming};
 use srb::DeviceLabel;
 use std::alloc::{AllocError, Global};
 use std::marker::Model;
 
 /// For each tag the receipt of what was armed there. Nothing but `new` takes memory.
 #[derive(Drop)]
-pub struct Tags<N: Naming>
-where
-    OfArmings<N>: chronicle::Naming,
-{
+pub struct Tags<N: Naming> {
     tags: Vec<Option<Arming<N>>>,
 }
 
-impl<N: Naming> Model for Tags<N>
-where
-    OfArmings<N>: chronicle::Naming,
-{
+impl<N: Naming> Model for Tags<N> {
     ghost use Rattle.std.specs.Prelude.{List, Option, ℕ};
     ghost use Rattle.sector_journal.specs.declared.slots.Armed.{Armed};
 

@@ -6,23 +6,17 @@ ghost use Rattle.new_book.specs.Taken.{BeginsWith, TakesNext, numbered_from};
 
 use chronicle::Claims;
 use disk::Medium;
-use sector_journal::{Entered, History, Journal, Naming, OfArmings, OfEntries};
+use sector_journal::{Entered, History, Journal, Naming, OfEntries};
 use std::marker::Model;
 
 /// For act n of a trace the journal's receipt of number n, from 0. Contracts see the entries.
 #[derive(Drop)]
-pub struct Taken<N: Naming>
-where
-    OfEntries<N>: chronicle::Naming,
-{
+pub struct Taken<N: Naming> {
     receipts: Claims<Entered, OfEntries<N>>,
     count: u64,
 }
 
-impl<N: Naming> Model for Taken<N>
-where
-    OfEntries<N>: chronicle::Naming,
-{
+impl<N: Naming> Model for Taken<N> {
     ghost use Rattle.std.specs.Prelude.{◌≡◌, List, length};
     ghost use Rattle.sector_journal.specs.declared.acted.Entered.{Entered};
     ghost use Rattle.new_book.specs.Taken.{entries_claimed, numbered_from};
@@ -47,14 +41,14 @@ impl<N: Naming> Taken<N> {
         Taken { receipts, count: 0 }
     }
 
-    /// How many entries were booked: the number of the next one.
+    /// Returns how many entries were booked: the number of the next one.
     pub fn len(&self) -> u64
         ensures { result ≡ length self.now }
     {
         self.count
     }
 
-    /// What was booked is the front of the journal's entries, for who holds both locks.
+    /// Shows a holder of both locks that what was booked is the front of the journal's entries.
     pub fn check<M: Medium>(&mut self, journal: &mut Journal<M, N>, words: &History<N>)
         ensures front { BeginsWith journal.old.entered self.old }
         ensures same { (self.new ≡ self.old) × (journal.new ≡ journal.old) }

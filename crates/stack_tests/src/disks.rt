@@ -87,7 +87,7 @@ pub(crate) fn adapter<M: Medium>(
     MemAdapter::new(alloc, medium, max_transfer, 2, false).map_err(no_memory)
 }
 
-/// A medium that refuses to reserve, so many times.
+/// A medium that refuses to reserve, so many times. Nothing is reserved in it until it has refused so often.
 #[derive(Drop)]
 pub(crate) struct Reluctant<M: Medium> {
     pub medium: M,
@@ -95,7 +95,9 @@ pub(crate) struct Reluctant<M: Medium> {
 }
 
 impl<M: Medium> Medium for Reluctant<M> {
-    ghost view = { λ m. M.view m.medium };
+    ghost use Rattle.stack_tests.specs.Reluctance.{reluctant};
+
+    ghost view = { λ m. reluctant m.refusals (M.view m.medium) };
 
     fn sector_size(&self) -> u32 {
         self.medium.sector_size()
@@ -110,6 +112,9 @@ impl<M: Medium> Medium for Reluctant<M> {
     }
 
     fn reserve(&mut self, extent: Extent) -> Result<(), NoMemory> {
+        if extent.count == 0 {
+            return Ok(());
+        }
         if self.refusals > 0 {
             self.refusals -= 1;
             return Err(NoMemory);

@@ -1,6 +1,6 @@
 -- What a book needs of a step, from what its stack promises of it.
 use Rattle.std.proofs.Common.{◌≡◌, ◌≢◌, inl, inr, ℕ, zero, suc, ◌+◌, ◌*◌, ◌/◌, ◌<◌, ◌≤◌, ◌==◌, ◌&&◌, ◌||◌, not, if◌then◌else◌, Bool, true, false, List, [], ◌∷◌, ◌++◌, length, map, Option, Some, None, option_map, slice_index_or, refl, sym, ap, ◌∙◌, subst, arith, append_assoc}
-use Rattle.std.specs.Prelude.{Contains, IsPermutation, ◌⊎◌, All, is_none, min}
+use Rattle.std.specs.Prelude.{IsFalse, Contains, IsPermutation, ◌⊎◌, All, is_none, min}
 use Rattle.std.specs.List.{list_any}
 use Rattle.std.proofs.lemmas.List.Sorted.{Contains-permutation}
 use Rattle.std.proofs.lemmas.List.Elements.{Contains-append_left, Contains-append_right, Contains-append_cases, All-append, All-head, All-tail, All-cons, All-nil}
@@ -545,35 +545,35 @@ pub record Laws : Type 0 where
   pub goes_on : RunsGoOn
 
 -- one label, and behind it none that brings any
-one_brings : Laws → (rules : Rules) (s : State) (label : Label) (labels : List Label) (s' : State) → IsReached rules s → All BringsNone labels → Run rules s (label ∷ labels) s'
+one_brings : Laws → (rules : Rules) → IsFalse rules.any_cut → (s : State) (label : Label) (labels : List Label) (s' : State) → IsReached rules s → All BringsNone labels → Run rules s (label ∷ labels) s'
     → labels_left rules s' + length (label ∷ labels) ≤ labels_left rules s + labels_brought rules s label
-one_brings laws rules s label labels s' reached none (mid, step, run) =
-    let one : labels_left rules mid + 1 ≤ labels_left rules s + labels_brought rules s label = laws.uses rules s label mid reached step in
+one_brings laws rules on_grid s label labels s' reached none (mid, step, run) =
+    let one : labels_left rules mid + 1 ≤ labels_left rules s + labels_brought rules s label = laws.uses rules on_grid s label mid reached step in
     let at : IsReached rules mid = laws.goes_on rules s (label ∷ []) mid reached (mid, step, IsSame-refl mid) in
-    let more : labels_left rules s' + length labels ≤ labels_left rules mid = laws.no_more rules mid labels s' at run none in
+    let more : labels_left rules s' + length labels ≤ labels_left rules mid = laws.no_more rules on_grid mid labels s' at run none in
     omega arith
 
-module _ (laws : Laws) (old : ManagerView) (event : Event) (reply : Reply) (new : ManagerView) (reached : IsReached old.rules old.state) (told : Told) (gist : Gist old event reply new told) where
+module _ (laws : Laws) (old : ManagerView) (event : Event) (reply : Reply) (new : ManagerView) (on_grid : IsFalse old.rules.any_cut) (reached : IsReached old.rules old.state) (told : Told) (gist : Gist old event reply new told) where
   -- how many labels are used up, by the own ones
   uses_up : (own : List Label) → IsOwn old event reply own → Run old.rules old.state (own ++ behind told) new.state
       → labels_left old.rules new.state + length (own ++ behind told) ≤ labels_left old.rules old.state + brought_by (sizes_of old.rules) event
   uses_up own (inl plain) run =
       let none : labels_left old.rules new.state + length (own ++ behind told) ≤ labels_left old.rules old.state =
-      laws.no_more old.rules old.state (own ++ behind told) new.state reached run (All-append BringsNone own (behind told) (plain_brings own plain) (behind_brings told)) in
+      laws.no_more old.rules on_grid old.state (own ++ behind told) new.state reached run (All-append BringsNone own (behind told) (plain_brings own plain) (behind_brings told)) in
       omega arith
   uses_up own (inr (inl (is, query))) run =
       subst (λ (e : Event). labels_left old.rules new.state + length (own ++ behind told) ≤ labels_left old.rules old.state + brought_by (sizes_of old.rules) e) (sym query)
       (subst (λ (ls : List Label). Run old.rules old.state (ls ++ behind told) new.state → labels_left old.rules new.state + length (ls ++ behind told) ≤ labels_left old.rules old.state + 2) (sym is)
-      (λ r. one_brings laws old.rules old.state Pause (behind told) new.state reached (behind_brings told) r) run)
+      (λ r. one_brings laws old.rules on_grid old.state Pause (behind told) new.state reached (behind_brings told) r) run)
   uses_up own (inr (inr (inl (q, is, call)))) run =
       subst (λ (ls : List Label). Run old.rules old.state (ls ++ behind told) new.state → labels_left old.rules new.state + length (ls ++ behind told) ≤ labels_left old.rules old.state + brought_by (sizes_of old.rules) event) (sym is)
       (λ r. let b = call.brings in
-      let one = one_brings laws old.rules old.state (Call old.state.next_request q) (behind told) new.state reached (behind_brings told) r in omega arith) run
+      let one = one_brings laws old.rules on_grid old.state (Call old.state.next_request q) (behind told) new.state reached (behind_brings told) r in omega arith) run
   uses_up own (inr (inr (inr (q, status, is, call, shut)))) run =
       subst (λ (ls : List Label). Run old.rules old.state (ls ++ behind told) new.state → labels_left old.rules new.state + length (ls ++ behind told) ≤ labels_left old.rules old.state + brought_by (sizes_of old.rules) event) (sym is)
       (λ r. let b = call.brings in
       let answer : Label = AnswerLabel old.state.next_request status 0 [] in
-      let one = one_brings laws old.rules old.state (Call old.state.next_request q) (answer ∷ behind told) new.state reached (All-cons BringsNone answer (behind told) tt (behind_brings told)) r in omega arith) run
+      let one = one_brings laws old.rules on_grid old.state (Call old.state.next_request q) (answer ∷ behind told) new.state reached (All-cons BringsNone answer (behind told) tt (behind_brings told)) r in omega arith) run
 
   -- at most one of them is a call
   have_calls : (own : List Label) → IsOwn old event reply own → HaveCallsOf (is_call_event event) (own ++ behind told)
@@ -615,26 +615,26 @@ module _ (laws : Laws) (old : ManagerView) (event : Event) (reply : Reply) (new 
   opens_slot labels is run (Refused why bytes) o = tt
   opens_slot labels is run Ignored o = tt
 
-pub serves : Laws → (old : ManagerView) (event : Event) (reply : Reply) (new : ManagerView) → IsReached old.rules old.state
+pub serves : Laws → (old : ManagerView) (event : Event) (reply : Reply) (new : ManagerView) → IsFalse old.rules.any_cut → IsReached old.rules old.state
     → ((k number : ℕ) → open_at old k ≡ Some number → number < old.state.next_request) → IsRight old event reply new
     → Serves old event reply new
-serves laws old event reply new reached given right =
+serves laws old event reply new on_grid reached given right =
     let f : Facts old event reply new = facts old event reply new right in
     let split : new.labels ≡ f.told.own ++ behind f.told = f.by.in_order ∙ own_first f.told in
     record {
       same_rules = f.by.same_rules;
       run = f.by.run;
       handles = f.gist.handles;
-      calls = subst (HaveCallsOf (is_call_event event)) (sym split) (have_calls laws old event reply new reached f.told f.gist f.told.own f.gist.own);
-      opens = opens_slot laws old event reply new reached f.told f.gist new.labels split f.by.run reply f.gist.opens;
+      calls = subst (HaveCallsOf (is_call_event event)) (sym split) (have_calls laws old event reply new on_grid reached f.told f.gist f.told.own f.gist.own);
+      opens = opens_slot laws old event reply new on_grid reached f.told f.gist new.labels split f.by.run reply f.gist.opens;
       holders = λ k.
           ap (option_map (λ h. h.number)) (f.by.holders k)
           ∙ unless_answers f.told.answers (slice_index_or f.told.admitted k None)
-          ∙ ap (unless_told (map as_answer f.told.answers)) (f.gist.admitted k ∙ sym (own_stays laws old event reply new reached f.told f.gist given f.told.own f.gist.own k))
+          ∙ ap (unless_told (map as_answer f.told.answers)) (f.gist.admitted k ∙ sym (own_stays laws old event reply new on_grid reached f.told f.gist given f.told.own f.gist.own k))
           ∙ sym (behind_told f.told _)
           ∙ sym (told_append f.told.own (behind f.told) _)
           ∙ sym (ap (λ ls. unless_told ls (admitted_at reply k (open_at old k))) split);
       answers = told_or_waited f.told old new split f.by.untaken;
       used_up = subst (λ (ls : List Label). labels_left old.rules new.state + length ls ≤ labels_left old.rules old.state + brought_by (sizes_of old.rules) event) (sym split)
-          (uses_up laws old event reply new reached f.told f.gist f.told.own f.gist.own (subst (λ (ls : List Label). Run old.rules old.state ls new.state) split f.by.run));
+          (uses_up laws old event reply new on_grid reached f.told f.gist f.told.own f.gist.own (subst (λ (ls : List Label). Run old.rules old.state ls new.state) split f.by.run));
     }

@@ -1,5 +1,5 @@
 -- The names of no book, for a type that names one.
-use Rattle.std.specs.Prelude.{true, [], None}
+use Rattle.std.specs.Prelude.{true, false, [], None}
 use Rattle.machine.specs.Rules.{Rules}
 
 -- the rules of no stack
@@ -15,5 +15,6 @@ no_rules = record {
   window = None;
   one_piece = true;
   busy_limit = 0;
+  any_cut = false;
   faithful = true;
 }

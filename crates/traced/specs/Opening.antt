@@ -1,5 +1,5 @@
 -- Handles opened for the clients of a book, on a stack of which nothing was asked yet.
-use Rattle.std.specs.Prelude.{◌≡◌, Contains, ◌<◌, ◌≤◌, ℕ, ◌+◌, List, [], Option, Some, None, count_by, is_some, length, slice_get, slice_index_or}
+use Rattle.std.specs.Prelude.{◌≡◌, Contains, ◌<◌, ◌≤◌, ℕ, ◌+◌, List, [], Option, Some, None, count_by, is_some, length, slice_get, slice_index_or, IsFalse}
 use Rattle.machine.specs.Rules.{Rules}
 use Rattle.machine.specs.State.{opening}
 use Rattle.machine_laws.specs.LabelsLeft.{labels_left}
@@ -15,8 +15,9 @@ use Rattle.traced.specs.declared.opening.OpenFault.{OpenFault}
 use Rattle.traced.specs.declared.opening.OpenFault.TheVariants.{Refused, NoMemory}
 use Rattle.traced.specs.Serving.{open_at}
 
--- a stack of which nothing was asked yet
+-- a stack of which nothing was asked yet. It cuts requests on the grid of the longest transfer
 pub record IsNew (v : ManagerView) : Type 0 where
+  pub on_grid : IsFalse v.rules.any_cut
   pub arrays : List (List (List ℕ))
   pub state : v.state ≡ opening arrays
   pub no_handles : v.handles ≡ []
@@ -27,6 +28,7 @@ pub record IsNew (v : ManagerView) : Type 0 where
 
 -- a stack on which handles were opened, and of which nothing else was asked
 pub record IsFirst (v : ManagerView) : Type 0 where
+  pub on_grid : IsFalse v.rules.any_cut
   pub no_labels : v.labels ≡ []
   pub first : v.state.next_request ≡ 1
   pub none_wait : awaited v.state ≡ []

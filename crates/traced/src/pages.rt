@@ -99,14 +99,14 @@ impl<N: Naming> Pages<N> {
         self.room
     }
 
-    /// How many calls there were.
+    /// Returns how many calls there were.
     pub(crate) fn calls(&self) -> u64
         ensures { result ≡ length self.now.owners }
     {
         self.owners.len() as u64
     }
 
-    /// Each label stands in its row, for who calls this.
+    /// Shows the caller that each label stands in its row.
     pub(crate) fn shows_rows(&self)
         ensures { AreRowed self.now.owners self.now.entries }
     {
@@ -122,7 +122,7 @@ impl<N: Naming> Pages<N> {
         self.rows[client].places()
     }
 
-    /// Where the answer to a request stands, if it has come.
+    /// Returns where the answer to a request stands, if it has come.
     pub(crate) fn answer_place(&self, number: u64) -> Option<usize>
         ensures { MatchOption result (All (IsNoAnswerTo number) (labels_of self.now.entries)) (IsAnswerAt number self.now.entries) }
     {
@@ -143,7 +143,7 @@ impl<N: Naming> Pages<N> {
         }
     }
 
-    /// What stands at a place.
+    /// Returns what stands at a place.
     pub(crate) fn entry(&self, place: usize) -> &Entry
         requires { place < length self.now.entries }
         ensures { slice_get self.now.entries place ≡ Some result.now }
@@ -151,7 +151,7 @@ impl<N: Naming> Pages<N> {
         &self.trace[place]
     }
 
-    /// How many labels there are.
+    /// Returns how many labels there are.
     pub(crate) fn len(&self) -> usize
         ensures { result ≡ length self.now.entries }
     {

@@ -14,7 +14,7 @@ use adapter::Adapter;
 use book::{Book, Entry, Naming, Share};
 use cancel_marks::{Marking, Marks, Seat};
 use chronicle::{History, Opened};
-use compose::{Event, Refusal, Reply};
+use compose::{Event, Id, Refusal, Reply};
 use sector::Bytes;
 use std::alloc::{AllocError, Global};
 use std::process::Abort;
@@ -28,6 +28,10 @@ pub(crate) enum Order {
     /// A write of equal bytes.
     Write(u64, usize, u8),
     Flush,
+    /// CancelIoEx, of the request that is given, or of all that are open on the handle.
+    Cancel(Option<Id>),
+    /// An event that cancels the request of a number.
+    MarkOf(u64),
     Act(u8),
     Finish(u8),
     QueryRemove,
@@ -81,6 +85,13 @@ fn step<A: Adapter, N: Naming>(
             book.step(alloc, history, marks, Some(share), event)
         }
         Order::Flush => book.step(alloc, history, marks, Some(share), Event::Flush { handle }),
+        Order::Cancel(target) => {
+            let event = Event::CancelIoEx { handle, target };
+            book.step(alloc, history, marks, Share::none(), event)
+        }
+        Order::MarkOf(number) => {
+            book.step(alloc, history, marks, Share::none(), Event::Mark { number })
+        }
         Order::Act(tag) => book.step(alloc, history, marks, Share::none(), Event::Act { tag }),
         Order::Finish(tag) => book.step(
             alloc,

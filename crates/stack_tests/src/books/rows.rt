@@ -9,6 +9,7 @@ use crate::books::opened::open_two;
 use crate::disks::{ONE, Reluctant, adapter, disk};
 use cancel_marks::{Marking, Marks, Seat};
 use chronicle::Opened;
+use compose::Id;
 use miniport::Adapter;
 use std::alloc::{AllocError, Global};
 use std::marker::Brand;
@@ -98,6 +99,35 @@ const MARKED: Run = Run {
     transferred: 0,
 };
 
+const WRITE: Option<Id> = Some(Id { slot: 0, number: 1 });
+
+const READ: Option<Id> = Some(Id { slot: 1, number: 2 });
+
+// A write that is marked, and a read that waits for a tag. A cancel of the write on the other's handle finds none, but its
+// step sees the mark; one of the read ends it.
+const CANCELLED: Run = Run {
+    rows: &[
+        Row::Step(0, Order::Write(0, 131_072, 0xA5), "request 1 at 0"),
+        Row::Step(1, Order::Read(0, 512), "request 2 at 1"),
+        Row::Mark(0, 1, Marking::Marked),
+        Row::Step(1, Order::Cancel(WRITE), "refused NotFound 0"),
+        Row::Step(0, Order::Cancel(WRITE), "ok"),
+        Row::Step(1, Order::Cancel(READ), "ok"),
+        Row::Step(0, Order::MarkOf(1), "ok"),
+        Row::Step(0, Order::MarkOf(2), "ignored"),
+        Row::Step(0, Order::Act(0), "ok"),
+        Row::Step(0, Order::Finish(0), "ok"),
+        Row::Step(0, Order::Act(1), "ok"),
+        Row::Step(0, Order::Finish(1), "ok"),
+        Row::Step(0, Order::Cancel(None), "refused NotFound 0"),
+    ],
+    trace: "call 1 of 0 / start 1 / start 2 / call 2 of 1 / cancel 1 / cancel 2 / answer 2 CANCELLED of 1 / act 1 / return 1 / act 2 / return 2 / answer 1 CANCELLED of 0",
+    first: &[0, 11],
+    second: &[3, 6],
+    answered: Some(11),
+    transferred: 0,
+};
+
 // Calls that are answered at once, a slot that is used again, and a removal.
 const REMOVED: Run = Run {
     rows: &[
@@ -136,6 +166,7 @@ fn serves_two_clients(rt: HostRuntime) -> Result<(), Fail> {
 #[test]
 fn cancels_what_was_marked(rt: HostRuntime) -> Result<(), Fail> {
     run_on_disk(&rt, rt.alloc(), &MARKED)?;
+    run_on_disk(&rt, rt.alloc(), &CANCELLED)?;
     Ok(())
 }
 

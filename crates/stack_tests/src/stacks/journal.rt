@@ -193,7 +193,7 @@ fn replay<M: Medium>(
     Ok(())
 }
 
-/// How many rows show an act.
+/// Returns how many rows show an act.
 fn acts_in(rows: &[&[Row]]) -> usize {
     let mut acts: usize = 0;
     for rows in rows {

@@ -43,7 +43,7 @@ const FOUR: Table = Table {
 /// A disk by its table and its bad sector, settings by their two limits, and what stops a start.
 type Start<'a> = (&'a Table, u64, u32, u32, Option<StartFault>);
 
-/// What stops a start, if anything.
+/// Returns what stops a start, if anything.
 fn fault<A: Adapter>(
     alloc: Global,
     adapter: A,

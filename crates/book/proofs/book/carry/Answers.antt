@@ -1,9 +1,14 @@
 use Rattle.std.proofs.Common.{◌≤◌, length, sym, subst}
+use Rattle.std.specs.Prelude.{IsFalse}
+use Rattle.machine.specs.Rules.{Rules}
 use Rattle.book.specs.Pages.{PagesView}
 use Rattle.book.proofs.Arming.{nowhere_joined}
 use Rattle.book.proofs.Booking.{may_note, open_given, sound_after, is_carried, no_call_noted, owners_more}
 use Rattle.book.proofs.Telling.{Laws}
 use Rattle.book.proofs.book.carry.Goals as goal
+
+pub serve_right-reply-requires-clause-on_grid : goal.serve_right-reply-requires-clause-on_grid
+serve_right-reply-requires-clause-on_grid g c = subst (λ (r : Rules). IsFalse r.any_cut) (sym c.requires.sound.same_rules) c.requires.sound.on_grid
 
 pub serve_right-reply-requires-clause-given : goal.serve_right-reply-requires-clause-given
 serve_right-reply-requires-clause-given g c = open_given _ _ _ _ _ _ _ c.requires.sound c.shows_armed.ensures

@@ -1,5 +1,6 @@
 use Rattle.std.proofs.Common.{◌≡◌, ◌<◌, ℕ, inl, inr, ◌∙◌, sym, ap, subst, arith}
 use Rattle.std.specs.Prelude.{◌⊎◌}
+use Rattle.machine.specs.Rules.{Rules}
 use Rattle.book.specs.declared.sizes.Sizes.{Sizes}
 use Rattle.book.specs.Sizes.{sizes_of}
 use Rattle.stack_tests.proofs.disks.start.Goals as goal
@@ -10,6 +11,20 @@ some_bytes n (inr e) = omega arith
 
 sized : ℕ → ℕ → Sizes
 sized bytes sectors = record { sector_size = bytes; longest = 65536; max_transfer = sectors; busy_limit = 17 }
+
+pub returns-in-Ok-clause-new : goal.returns-in-Ok-clause-new
+returns-in-Ok-clause-new g c =
+    let first = c.in-Ok.ensures.view in
+    record {
+      on_grid = ap (λ (r : Rules). r.any_cut) first.rules;
+      arrays = _;
+      state = first.state;
+      no_handles = first.no_handles;
+      first_handle = first.first_handle;
+      no_requests = first.no_requests;
+      no_labels = first.no_labels;
+      no_answers = first.no_answers;
+    }
 
 pub returns-in-Ok-clause-sizes : goal.returns-in-Ok-clause-sizes
 unfolding sized
