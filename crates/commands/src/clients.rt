@@ -25,7 +25,7 @@ use std::thread::Threads;
 /// Sectors of the longest request of a stack.
 const LONGEST: u32 = 65_536;
 
-/// As many busy returns end a request of a stack.
+/// Busy returns that end a request of a stack.
 const BUSY_LIMIT: u32 = 17;
 
 /// Runs so many clients on partition 0 of a stack over a disk in memory, each for so many rounds, and writes what came of

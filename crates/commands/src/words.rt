@@ -128,7 +128,7 @@ fn count_of(word: Option<&str>, most: u16) -> Result<u16, Fault>
     }
 }
 
-/// What it means that the words were refused.
+/// Returns what it means that the words were refused.
 fn fault_of(kind: ErrorKind) -> Fault
     ensures memory { kind ≡ OutOfMemory → result ≡ NoMemory }
     ensures usage { kind ≢ OutOfMemory → result ≡ Usage }

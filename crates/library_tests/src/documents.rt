@@ -270,7 +270,7 @@ const fn extent(first: u64, count: u64) -> Extent {
     Extent { first, count }
 }
 
-/// What sector 0 of the disk of some settings says: these partitions, or this fault.
+/// Returns what sector 0 of the disk of some settings says: these partitions, or this fault.
 fn says(
     rt: &impl Abort,
     alloc: Global,

@@ -8,6 +8,10 @@ mod documents;
 #[cfg(test)]
 mod expect;
 #[cfg(test)]
+mod limits;
+#[cfg(test)]
+mod machines;
+#[cfg(test)]
 mod parts;
 #[cfg(test)]
 mod runs;

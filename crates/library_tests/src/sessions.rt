@@ -555,9 +555,11 @@ struct Counting {
 }
 
 impl Array for Counting {
-    ghost use Rattle.std.specs.Prelude.{if◌then◌else◌};
+    ghost use Rattle.std.specs.Prelude.{if◌then◌else◌, ⊤};
 
     ghost content = { λ a. record { block = (if a.array.long_blocks then 4096 else 512); bytes = a.array.bytes.items } };
+
+    ghost fails = { λ _ _ _. ⊤ };
 
     fn sizes(&self) -> Sizes {
         self.array.sizes()
@@ -624,7 +626,7 @@ const FOUR: [Part; 25] = [
     Fill(0, 12),
 ];
 
-/// What an array is told, and what its fault is answered by.
+/// Returns what an array is told, and what its fault is answered by.
 fn fails_by(
     rt: &impl Abort,
     alloc: Global,

@@ -173,6 +173,7 @@ fn small(alloc: Global) -> Result<MachineRules, AllocError> {
         window: Some(2),
         one_piece: false,
         busy_limit: 2,
+        any_cut: false,
         faithful: true,
     })
 }

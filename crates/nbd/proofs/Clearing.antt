@@ -5,7 +5,7 @@ use Rattle.std.proofs.lemmas.List.{take-take, drop-drop, length-take-le, length-
 use Rattle.nbd.specs.Content.{Content, AreInBounds, IsBlockSize, IsSameOutside, splice, written}
 use Rattle.nbd.specs.declared.requests.ReplyError.{ReplyError}
 use Rattle.nbd.specs.Replies.{failure}
-use Rattle.nbd.specs.Carrying.{IsOfArray, Puts}
+use Rattle.nbd.specs.Carrying.{Clears, Faulting, IsFailure}
 
 -- what stands in front, at its length
 front_add : (T rest : List ℕ) (o k : ℕ) → length T ≡ o → take (o + k) (T ++ rest) ≡ T ++ take k rest
@@ -106,11 +106,15 @@ piece_within c mid o a b n h size whole more piece e =
         subst (Pieces o a b n) (sym s) (λ ho hn ha. (omega arith, omega arith, omega arith)) ho hn ha
 
 -- a piece of zeros that failed
-pub failed_piece : (c mid new : Content) (o a b n : ℕ) (error : ReplyError) → IsOfArray error → o + n ≤ length c.bytes → a + b ≤ n → mid ≡ written c o (replicate a 0)
-    → IsSameOutside mid (o + a) b new → Puts c o (replicate n 0) (failure error) new
-failed_piece c mid new o a b n error of_array fits within e h =
-    let ln : length (replicate {A = ℕ} n 0) ≡ n = length-replicate n 0 in
-    inr (record { error = error; of_array = of_array; is = refl }, subst (λ (k : ℕ). IsSameOutside c o k new) (sym ln) (broken_off c mid new o a b n fits within e h))
+pub failed_piece : (F : Faulting) (c mid new : Content) (o a b n : ℕ) (error : ReplyError) → IsFailure F mid error new → o + n ≤ length c.bytes → a < n → a + b ≤ n
+    → mid ≡ written c o (replicate a 0) → IsSameOutside mid (o + a) b new → Clears F c o n (failure error) new
+failed_piece F c mid new o a b n error failed fits fewer within e h =
+    inr (record {
+      done = a;
+      fewer = fewer;
+      fails = record { error = error; why = subst (λ (x : Content). IsFailure F x error new) e failed; is = refl };
+      outside = broken_off c mid new o a b n fits within e h;
+    })
 
 -- what was written changes nothing outside
 pub written_inside : (c : Content) (o : ℕ) (more : List ℕ) → o + length more ≤ length c.bytes → IsSameOutside c o (length more) (written c o more)

@@ -8,6 +8,7 @@ use Rattle.nbd.specs.declared.options.Next.{Next}
 use Rattle.nbd.specs.declared.options.Next.TheVariants.{Options, Requests, Ended}
 use Rattle.nbd.specs.Content.{Content}
 use Rattle.nbd.specs.Options.{Asked, IsAsked, IsOptionHeader, TakesOption, TakesOptionHeader, greeting, next_of, option_bytes, replies_to, wish_in, wish_of}
+use Rattle.nbd.specs.Carrying.{Faulting}
 use Rattle.nbd.specs.Session.{Begins, Ends, IsTold, said}
 use Rattle.nbd.specs.Handshake.{IsLastEarly, AsksOnce, EndsHaggling, Greets, Haggles, IsLastOption, IsSession, Leads, TakesLastOption, answers_to, EndsGreeting}
 use Rattle.nbd.proofs.Streaming.{takes_more, tells_more}
@@ -102,9 +103,9 @@ greeting_cut i x z end e told = record {
 pub at_sizes : (P : ℕ → ℕ → Type 0) (old : Content) (block size : ℕ) → block ≡ old.block → size ≡ length old.bytes → P block size → P old.block (length old.bytes)
 at_sizes P old block size eb es h = subst (P old.block) es (subst (λ (b : ℕ). P b size) eb h)
 
-pub ends_in_options : (old : Content) (block size : ℕ) (no_zeroes : Bool) (i x j y z : Option (List ℕ)) (end : End) → block ≡ old.block → size ≡ length old.bytes
-    → Greets i x j y no_zeroes → EndsHaggling block size no_zeroes j y end z → IsSession old i x end old z
-ends_in_options old block size no_zeroes i x j y z end eb es g h' =
+pub ends_in_options : (F : Faulting) (old : Content) (block size : ℕ) (no_zeroes : Bool) (i x j y z : Option (List ℕ)) (end : End) → block ≡ old.block → size ≡ length old.bytes
+    → Greets i x j y no_zeroes → EndsHaggling block size no_zeroes j y end z → IsSession F old i x end old z
+ends_in_options F old block size no_zeroes i x j y z end eb es g h' =
     let h : EndsHaggling old.block (length old.bytes) no_zeroes j y end z = at_sizes (λ (b s : ℕ). EndsHaggling b s no_zeroes j y end z) old block size eb es h' in
     let ans = answers_to old.block (length old.bytes) no_zeroes in
     inr (record {
@@ -123,9 +124,9 @@ ends_in_options old block size no_zeroes i x j y z end eb es g h' =
       run = refl;
     })
 
-pub whole_session : (old new : Content) (block size : ℕ) (no_zeroes : Bool) (i x j y k z w : Option (List ℕ)) (end : End) → block ≡ old.block → size ≡ length old.bytes
-    → Greets i x j y no_zeroes → Haggles block size no_zeroes j y k z Requests → Ends old k z end new w → IsSession old i x end new w
-whole_session old new block size no_zeroes i x j y k z w end eb es g h' e =
+pub whole_session : (F : Faulting) (old new : Content) (block size : ℕ) (no_zeroes : Bool) (i x j y k z w : Option (List ℕ)) (end : End) → block ≡ old.block → size ≡ length old.bytes
+    → Greets i x j y no_zeroes → Haggles block size no_zeroes j y k z Requests → Ends F old k z end new w → IsSession F old i x end new w
+whole_session F old new block size no_zeroes i x j y k z w end eb es g h' e =
     let h : Haggles old.block (length old.bytes) no_zeroes j y k z Requests = at_sizes (λ (b s : ℕ). Haggles b s no_zeroes j y k z Requests) old block size eb es h' in
     let ans = answers_to old.block (length old.bytes) no_zeroes in
     inr (record {

@@ -3,3 +3,4 @@ pub mod Clearing
 pub mod Serving
 pub mod Haggling
 pub mod Spelling
+pub mod Overs

@@ -9,15 +9,15 @@ use Rattle.nbd.specs.declared.requests.ReplyError.{ReplyError}
 use Rattle.nbd.specs.Content.{Content}
 use Rattle.nbd.specs.Requests.{command_in, payload_count, payload_of}
 use Rattle.nbd.specs.Replies.{Outcome, failure, reply_bytes}
-use Rattle.nbd.specs.Carrying.{Carries, IsCarried, IsServed}
+use Rattle.nbd.specs.Carrying.{Carries, Faulting, IsCarried, IsServed}
 use Rattle.nbd.specs.Session.{Begins, Ends, Exchange, IsExchange, IsExchanged, IsLast, IsTold, Run, Served, TakesLast, TakesRequest, asked_by, said, told_by}
 use Rattle.nbd.proofs.Streaming.{takes_more, tells_nothing, tells_more}
 
 -- a command that a request asks for, once it was carried out
-pub served : (r : Request) (old new : Content) (input rest : Option (List ℕ)) (o : Outcome) (command : Command) (found : Result Command ReplyError) (block size : ℕ)
+pub served : (F : Faulting) (r : Request) (old new : Content) (input rest : Option (List ℕ)) (o : Outcome) (command : Command) (found : Result Command ReplyError) (block size : ℕ)
     → block ≡ old.block → size ≡ length old.bytes → found ≡ command_in block size r → found ≡ Ok command → payload_count r ≡ payload_of command
-    → IsCarried command old input rest o new → IsServed r old input rest o new
-served r old new input rest o command found block size eb es asked is long h = record {
+    → IsCarried F command old input rest o new → IsServed F r old input rest o new
+served F r old new input rest o command found block size eb es asked is long h = record {
   payload = h.payload;
   long = h.long ∙ sym long;
   taken = h.taken;
@@ -25,7 +25,7 @@ served r old new input rest o command found block size eb es asked is long h = r
 }
   where
     Carried : List ℕ → Result Command ReplyError → Type 0
-    Carried payload f = MatchResult f (λ c. Carries c payload old o new) (λ e. (o ≡ failure e) × (new ≡ old))
+    Carried payload f = MatchResult f (λ c. Carries F c payload old o new) (λ e. (o ≡ failure e) × (new ≡ old))
 
 pub begins_nothing : (x : Option (List ℕ)) → Begins x []
 begins_nothing None = tt
@@ -57,13 +57,13 @@ pub said_append : {X : Type 0} (f : X → List ℕ) (xs ys : List X) → said f 
 said_append f [] ys = refl
 said_append f (x ∷ xs) ys = ap (λ (l : List ℕ). f x ++ l) (said_append f xs ys) ∙ sym (append_assoc (f x) (said f xs) (said f ys))
 
-run_append : (a b c : Content) (xs ys : List Exchange) → Run a xs b → Run b ys c → Run a (xs ++ ys) c
-run_append a b c [] ys h k = subst (λ (s : Content). Run s ys c) h k
-run_append a b c (x ∷ xs) ys h k = (h.0, h.1, run_append h.0 b c xs ys h.2 k)
+run_append : (F : Faulting) (a b c : Content) (xs ys : List Exchange) → Run F a xs b → Run F b ys c → Run F a (xs ++ ys) c
+run_append F a b c [] ys h k = subst (λ (s : Content). Run F s ys c) h k
+run_append F a b c (x ∷ xs) ys h k = (h.0, h.1, run_append F h.0 b c xs ys h.2 k)
 
 -- the session ends before a request is served
-pub ends_at_once : (c : Content) (input out : Option (List ℕ)) (end : End) → TakesLast input end → Ends c input out end c out
-ends_at_once c input out end h = record {
+pub ends_at_once : (F : Faulting) (c : Content) (input out : Option (List ℕ)) (end : End) → TakesLast input end → Ends F c input out end c out
+ends_at_once F c input out end h = record {
   exchanges = [];
   last = h.last;
   run = refl;
@@ -72,31 +72,31 @@ ends_at_once c input out end h = record {
   is_last = h.is_last;
 }
 
-pub ends_unserved : (c new : Content) (input out : Option (List ℕ)) (end : End) → end ≡ Input → new ≡ c → Ends c input out end new out
-ends_unserved c new input out end e same =
-    subst (λ (s : Content). Ends c input out end s out) (sym same) (ends_at_once c input out end (record { last = []; asked = begins_nothing input; is_last = subst (λ (x : End). IsLast x []) (sym e) refl }))
+pub ends_unserved : (F : Faulting) (c new : Content) (input out : Option (List ℕ)) (end : End) → end ≡ Input → new ≡ c → Ends F c input out end new out
+ends_unserved F c new input out end e same =
+    subst (λ (s : Content). Ends F c input out end s out) (sym same) (ends_at_once F c input out end (record { last = []; asked = begins_nothing input; is_last = subst (λ (x : End). IsLast x []) (sym e) refl }))
 
 -- one exchange
-exchange_of : (old new : Content) (input mid rest : Option (List ℕ)) (r : Request) (o : Outcome) (t : TakesRequest input mid r) (s : IsServed r old mid rest o new)
-    → (x : Exchange) × IsExchange old x new × Consumes input rest (asked_by x) × (told_by x ≡ reply_bytes r.cookie o)
-exchange_of old new input mid rest r o t s = (
+exchange_of : (F : Faulting) (old new : Content) (input mid rest : Option (List ℕ)) (r : Request) (o : Outcome) (t : TakesRequest input mid r) (s : IsServed F r old mid rest o new)
+    → (x : Exchange) × IsExchange F old x new × Consumes input rest (asked_by x) × (told_by x ≡ reply_bytes r.cookie o)
+exchange_of F old new input mid rest r o t s = (
   record { header = t.header; request = r; payload = s.payload; outcome = o },
   record { is_request = t.is_request; goes_on = t.goes_on; long = s.long; serves = s.serves },
   takes_more input mid rest t.header s.payload t.taken s.taken,
   refl,
 )
 
-pub exchanged : (old new : Content) (input mid rest out after : Option (List ℕ)) (r : Request) (o : Outcome) → TakesRequest input mid r → IsServed r old mid rest o new
-    → Appends out after (reply_bytes r.cookie o) → IsExchanged old input out new rest after
-exchanged old new input mid rest out after r o t s told =
-    let x = exchange_of old new input mid rest r o t s in
+pub exchanged : (F : Faulting) (old new : Content) (input mid rest out after : Option (List ℕ)) (r : Request) (o : Outcome) → TakesRequest input mid r → IsServed F r old mid rest o new
+    → Appends out after (reply_bytes r.cookie o) → IsExchanged F old input out new rest after
+exchanged F old new input mid rest out after r o t s told =
+    let x = exchange_of F old new input mid rest r o t s in
     record { exchange = x.0; is = x.1; taken = x.2; told = subst (Appends out after) (sym x.3) told }
 
 -- served, but its reply could not be written
-pub ends_untold : (old new : Content) (input mid rest out after : Option (List ℕ)) (r : Request) (o : Outcome) (end : End) → end ≡ Output → TakesRequest input mid r
-    → IsServed r old mid rest o new → Ends old input out end new after
-ends_untold old new input mid rest out after r o end e t s =
-    let x = exchange_of old new input mid rest r o t s in
+pub ends_untold : (F : Faulting) (old new : Content) (input mid rest out after : Option (List ℕ)) (r : Request) (o : Outcome) (end : End) → end ≡ Output → TakesRequest input mid r
+    → IsServed F r old mid rest o new → Ends F old input out end new after
+ends_untold F old new input mid rest out after r o end e t s =
+    let x = exchange_of F old new input mid rest r o t s in
     record {
       exchanges = x.0 ∷ [];
       last = [];
@@ -106,10 +106,10 @@ ends_untold old new input mid rest out after r o end e t s =
       is_last = subst (λ (y : End). IsLast y []) (sym e) refl;
     }
 
-pub served_more : (a b c : Content) (i j k x y z : Option (List ℕ)) → Served a i x b j y → IsExchanged b j y c k z → Served a i x c k z
-served_more a b c i j k x y z s e = record {
+pub served_more : (F : Faulting) (a b c : Content) (i j k x y z : Option (List ℕ)) → Served F a i x b j y → IsExchanged F b j y c k z → Served F a i x c k z
+served_more F a b c i j k x y z s e = record {
   exchanges = s.exchanges ++ (e.exchange ∷ []);
-  run = run_append a b c s.exchanges (e.exchange ∷ []) s.run (c, e.is, refl);
+  run = run_append F a b c s.exchanges (e.exchange ∷ []) s.run (c, e.is, refl);
   taken = subst (Consumes i k) (sym (one_more asked_by s.exchanges e.exchange)) (takes_more i j k (said asked_by s.exchanges) (asked_by e.exchange) s.taken e.taken);
   told = subst (Appends x z) (sym (one_more told_by s.exchanges e.exchange)) (tells_more x y z (said told_by s.exchanges) (told_by e.exchange) s.told e.told);
 }
@@ -117,11 +117,11 @@ served_more a b c i j k x y z s e = record {
     one_more : (f : Exchange → List ℕ) (xs : List Exchange) (x : Exchange) → said f (xs ++ (x ∷ [])) ≡ said f xs ++ f x
     one_more f xs x = said_append f xs (x ∷ []) ∙ ap (λ (l : List ℕ). said f xs ++ l) (append-nil (f x))
 
-pub ends_after : (a b c : Content) (i j x y z : Option (List ℕ)) (end : End) → Served a i x b j y → Ends b j y end c z → Ends a i x end c z
-ends_after a b c i j x y z end s e = record {
+pub ends_after : (F : Faulting) (a b c : Content) (i j x y z : Option (List ℕ)) (end : End) → Served F a i x b j y → Ends F b j y end c z → Ends F a i x end c z
+ends_after F a b c i j x y z end s e = record {
   exchanges = s.exchanges ++ e.exchanges;
   last = e.last;
-  run = run_append a b c s.exchanges e.exchanges s.run e.run;
+  run = run_append F a b c s.exchanges e.exchanges s.run e.run;
   asked =
       subst (Begins i) (sym (ap (λ (l : List ℕ). l ++ e.last) (said_append asked_by s.exchanges e.exchanges) ∙ append_assoc (said asked_by s.exchanges) (said asked_by e.exchanges) e.last))
       (begins_after i j (said asked_by s.exchanges) (said asked_by e.exchanges ++ e.last) s.taken e.asked);

@@ -8,6 +8,7 @@ use Rattle.nbd.specs.declared.options.Next.{Next}
 use Rattle.nbd.specs.declared.options.Next.TheVariants.{Options, Requests, Ended}
 use Rattle.nbd.specs.Content.{Content}
 use Rattle.nbd.specs.Options.{Asked, IsAsked, IsNoOption, are_known, greeting, next_of, option_bytes, replies_to, wants_no_zeroes, wish_of}
+use Rattle.nbd.specs.Carrying.{Faulting}
 use Rattle.nbd.specs.Session.{Begins, Exchange, IsTold, IsLast, Run, asked_by, said, told_by}
 
 -- the replies to an option
@@ -71,7 +72,7 @@ pub record Greets (input out rest after : Option (List ℕ)) (no_zeroes : Bool) 
   pub told : Appends out after greeting
 
 -- a session that came to its options: the bytes with which the stream began, what was written, what became of the array
-pub record Talks (old : Content) (input out : Option (List ℕ)) (end : End) (new : Content) (after : Option (List ℕ)) : Type 0 where
+pub record Talks (F : Faulting) (old : Content) (input out : Option (List ℕ)) (end : End) (new : Content) (after : Option (List ℕ)) : Type 0 where
   pub flags : List ℕ
   pub no_zeroes : Bool
   pub are_flags : AreFlags flags no_zeroes
@@ -84,7 +85,7 @@ pub record Talks (old : Content) (input out : Option (List ℕ)) (end : End) (ne
   pub in_turn : ((next ≡ Requests) × IsLast end last) ⊎ ((exchanges ≡ []) × (((next ≡ Ended end) × (last ≡ [])) ⊎ ((next ≡ Options) × IsLastOption end last)))
   pub asked : Begins input (flags ++ (said option_bytes options ++ (said asked_by exchanges ++ last)))
   pub told : IsTold end out after (greeting ++ (said (answers_to old.block (length old.bytes) no_zeroes) options ++ said told_by exchanges))
-  pub run : Run old exchanges new
+  pub run : Run F old exchanges new
 
 -- four bytes with a flag that isn't known
 pub record AreNoFlags (bytes : List ℕ) : Type 0 where
@@ -109,6 +110,6 @@ pub record EndsEarly (old : Content) (input out : Option (List ℕ)) (end : End)
   pub same : new ≡ old
   pub ended : EndsGreeting input out end after
 
--- a whole session
-abbrev pub IsSession : Content → Option (List ℕ) → Option (List ℕ) → End → Content → Option (List ℕ) → Type 0
-IsSession old input out end new after = EndsEarly old input out end new after ⊎ Talks old input out end new after
+-- a whole session, over an array that may fail so
+abbrev pub IsSession : Faulting → Content → Option (List ℕ) → Option (List ℕ) → End → Content → Option (List ℕ) → Type 0
+IsSession F old input out end new after = EndsEarly old input out end new after ⊎ Talks F old input out end new after

@@ -7,3 +7,4 @@ pub mod Session
 pub mod Options
 pub mod Handshake
 pub mod Laws
+pub mod Over

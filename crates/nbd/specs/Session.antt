@@ -9,7 +9,7 @@ use Rattle.nbd.specs.declared.numbers.TheConstants.{NBD_CMD_DISC, NBD_REQUEST_MA
 use Rattle.nbd.specs.Content.{Content}
 use Rattle.nbd.specs.Requests.{IsRequest, payload_count}
 use Rattle.nbd.specs.Replies.{Outcome, reply_bytes}
-use Rattle.nbd.specs.Carrying.{Serves}
+use Rattle.nbd.specs.Carrying.{Faulting, Serves}
 
 -- a request that was served: its 28 bytes, those that came behind it, and how it ended
 pub record Exchange : Type 0 where
@@ -30,21 +30,21 @@ abbrev pub said : {X : Type 0} → (X → List ℕ) → List X → List ℕ
 said bytes [] = []
 said bytes (x ∷ xs) = bytes x ++ said bytes xs
 
-pub record IsExchange (old : Content) (x : Exchange) (new : Content) : Type 0 where
+pub record IsExchange (F : Faulting) (old : Content) (x : Exchange) (new : Content) : Type 0 where
   pub is_request : IsRequest x.header x.request
   pub goes_on : x.request.kind ≢ NBD_CMD_DISC
   pub long : length x.payload ≡ payload_count x.request
-  pub serves : Serves x.request x.payload old x.outcome new
+  pub serves : Serves F x.request x.payload old x.outcome new
 
 -- the array moved by these, one after the other, and by nothing else
-abbrev pub Run : Content → List Exchange → Content → Type 0
-Run old [] new = new ≡ old
-Run old (x ∷ xs) new = (mid : Content) × IsExchange old x mid × Run mid xs new
+abbrev pub Run : Faulting → Content → List Exchange → Content → Type 0
+Run F old [] new = new ≡ old
+Run F old (x ∷ xs) new = (mid : Content) × IsExchange F old x mid × Run F mid xs new
 
 -- these requests were taken, served and answered, in order
-pub record Served (old : Content) (input out : Option (List ℕ)) (new : Content) (rest after : Option (List ℕ)) : Type 0 where
+pub record Served (F : Faulting) (old : Content) (input out : Option (List ℕ)) (new : Content) (rest after : Option (List ℕ)) : Type 0 where
   pub exchanges : List Exchange
-  pub run : Run old exchanges new
+  pub run : Run F old exchanges new
   pub taken : Consumes input rest (said asked_by exchanges)
   pub told : Appends out after (said told_by exchanges)
 
@@ -76,18 +76,18 @@ IsLast Malformed bytes = IsNoRequest bytes
 IsLast _ bytes = bytes ≡ []
 
 -- how a client's requests ended: these were served, by the bytes with which its stream began, and answered in order
-pub record Ends (old : Content) (input out : Option (List ℕ)) (end : End) (new : Content) (after : Option (List ℕ)) : Type 0 where
+pub record Ends (F : Faulting) (old : Content) (input out : Option (List ℕ)) (end : End) (new : Content) (after : Option (List ℕ)) : Type 0 where
   pub exchanges : List Exchange
   pub last : List ℕ
-  pub run : Run old exchanges new
+  pub run : Run F old exchanges new
   pub asked : Begins input (said asked_by exchanges ++ last)
   pub told : IsTold end out after (said told_by exchanges)
   pub is_last : IsLast end last
 
 -- one exchange
-pub record IsExchanged (old : Content) (input out : Option (List ℕ)) (new : Content) (rest after : Option (List ℕ)) : Type 0 where
+pub record IsExchanged (F : Faulting) (old : Content) (input out : Option (List ℕ)) (new : Content) (rest after : Option (List ℕ)) : Type 0 where
   pub exchange : Exchange
-  pub is : IsExchange old exchange new
+  pub is : IsExchange F old exchange new
   pub taken : Consumes input rest (asked_by exchange)
   pub told : Appends out after (told_by exchange)
 

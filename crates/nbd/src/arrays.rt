@@ -1,7 +1,8 @@
 //! What a server serves.
 
-ghost use Rattle.std.specs.Prelude.{◌≡◌, ◌≤◌, ◌+◌, length, slice_range, IfOk, MatchResult};
+ghost use Rattle.std.specs.Prelude.{◌≡◌, ◌≤◌, ◌+◌, length, slice_range, IfErr, MatchResult};
 ghost use Rattle.nbd.specs.Content.{AreInBounds, Content, IsBlockSize, IsSameOutside, written};
+ghost use Rattle.nbd.specs.declared.arrays.ArrayFault.{ArrayFault};
 
 use crate::numbers::LONGEST;
 use std::alloc::Global;
@@ -37,6 +38,9 @@ pub enum ArrayFault {
 pub trait Array {
     ghost content: { Self → Content };
 
+    // how a call may fail that leaves the second array of the first
+    ghost fails: { Content → Content → ArrayFault → Type 0 };
+
     /// The sizes, which never change.
     fn sizes(&self) -> Sizes
         ensures block { result.block ≡ (content self.now).block }
@@ -51,7 +55,7 @@ pub trait Array {
     fn read(&mut self, alloc: Global, offset: u64, buffer: Vec<u8>) -> Result<Vec<u8>, ArrayFault>
         requires in_bounds { AreInBounds (content self.old).block (length (content self.old).bytes) offset (length buffer.items) }
         requires short { length buffer.items ≤ LONGEST }
-        ensures reads { IfOk result (λ bytes. bytes.items ≡ slice_range (content self.old).bytes offset (offset + length buffer.items)) }
+        ensures reads { MatchResult result (λ bytes. bytes.items ≡ slice_range (content self.old).bytes offset (offset + length buffer.items)) (fails (content self.old) (content self.new)) }
         ensures same { content self.new ≡ content self.old };
 
     /// Writes bytes from byte `offset` on; with `through`, past volatile caches.
@@ -68,7 +72,8 @@ pub trait Array {
     ) -> Result<(), ArrayFault>
         requires in_bounds { AreInBounds (content self.old).block (length (content self.old).bytes) offset (length bytes.items) }
         requires short { length bytes.items ≤ LONGEST }
-        ensures { MatchResult result (λ _. content self.new ≡ written (content self.old) offset bytes.items) (λ _. IsSameOutside (content self.old) offset (length bytes.items) (content self.new)) };
+        ensures written { MatchResult result (λ _. content self.new ≡ written (content self.old) offset bytes.items) (fails (content self.old) (content self.new)) }
+        ensures outside { IfErr result (λ _. IsSameOutside (content self.old) offset (length bytes.items) (content self.new)) };
 
     /// Brings what was written past volatile caches.
     ///
@@ -76,5 +81,6 @@ pub trait Array {
     ///
     /// As [`ArrayFault`] says.
     fn flush(&mut self, alloc: Global) -> Result<(), ArrayFault>
+        ensures fails { IfErr result (fails (content self.old) (content self.new)) }
         ensures same { content self.new ≡ content self.old };
 }

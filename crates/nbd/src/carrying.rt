@@ -3,7 +3,7 @@
 ghost use Rattle.std.specs.Prelude.{◌≡◌, ◌≤◌, ◌<◌, ◌^◌, length, replicate, IfErr, IfOk, MatchResult};
 ghost use Rattle.nbd.specs.Content.{AreInBounds, IsBlockSize, IsSameOutside, written};
 ghost use Rattle.nbd.specs.Replies.{outcome_of};
-ghost use Rattle.nbd.specs.Carrying.{Flushes, Gets, IsCarried, IsOfArray, IsServed, IsWritten, Puts};
+ghost use Rattle.nbd.specs.Carrying.{Clears, Flushes, Gets, IsCarried, IsFailure, IsServed, IsWritten, Puts, error_of};
 ghost use Rattle.nbd.specs.Requests.{IsWithin};
 
 use crate::End;
@@ -29,7 +29,7 @@ pub fn serve_request<R: Read, A: Array>(
     input: &mut R,
     request: Request,
 ) -> Result<Answer, End>
-    ensures served { IfOk result (λ answer. IsServed request (A.content array.old) (R.remaining input.old) (R.remaining input.new) (outcome_of answer) (A.content array.new)) }
+    ensures served { IfOk result (λ answer. IsServed A.fails request (A.content array.old) (R.remaining input.old) (R.remaining input.new) (outcome_of answer) (A.content array.new)) }
     ensures ended { IfErr result (λ end. (end ≡ End.Input) × (A.content array.new ≡ A.content array.old)) }
 {
     match command_of(request, array.sizes()) {
@@ -58,7 +58,7 @@ fn carry_out<R: Read, A: Array>(
     requires within { IsWithin (A.content array.old).block (length (A.content array.old).bytes) command }
     requires block { IsBlockSize (A.content array.old).block }
     requires small { length (A.content array.old).bytes < 2 ^ 64 }
-    ensures carried { IfOk result (λ answer. IsCarried command (A.content array.old) (R.remaining input.old) (R.remaining input.new) (outcome_of answer) (A.content array.new)) }
+    ensures carried { IfOk result (λ answer. IsCarried A.fails command (A.content array.old) (R.remaining input.old) (R.remaining input.new) (outcome_of answer) (A.content array.new)) }
     ensures ended { IfErr result (λ end. (end ≡ End.Input) × (A.content array.new ≡ A.content array.old)) }
 {
     match command {
@@ -81,7 +81,7 @@ fn carry_out<R: Read, A: Array>(
 fn read<A: Array>(alloc: Global, array: &mut A, offset: u64, count: u32) -> Answer
     requires in_bounds { AreInBounds (A.content array.old).block (length (A.content array.old).bytes) offset count }
     requires short { count ≤ LONGEST }
-    ensures { Gets (A.content array.old) offset count (outcome_of result) (A.content array.new) }
+    ensures { Gets A.fails (A.content array.old) offset count (outcome_of result) (A.content array.new) }
 {
     let Some(buffer) = zeros(alloc, count) else {
         return Answer::Refused(ReplyError::Enomem);
@@ -107,7 +107,7 @@ fn write<R: Read, A: Array>(
 ) -> Result<Answer, End>
     requires in_bounds { AreInBounds (A.content array.old).block (length (A.content array.old).bytes) offset count }
     requires short { count ≤ LONGEST }
-    ensures written { IfOk result (λ answer. IsWritten offset count (A.content array.old) (R.remaining input.old) (R.remaining input.new) (outcome_of answer) (A.content array.new)) }
+    ensures written { IfOk result (λ answer. IsWritten A.fails offset count (A.content array.old) (R.remaining input.old) (R.remaining input.new) (outcome_of answer) (A.content array.new)) }
     ensures ended { IfErr result (λ end. (end ≡ End.Input) × (A.content array.new ≡ A.content array.old)) }
 {
     match take_all(alloc, input, count)? {
@@ -120,7 +120,7 @@ fn write<R: Read, A: Array>(
 fn put<A: Array>(alloc: Global, array: &mut A, offset: u64, bytes: Vec<u8>, through: bool) -> Answer
     requires in_bounds { AreInBounds (A.content array.old).block (length (A.content array.old).bytes) offset (length bytes.items) }
     requires short { length bytes.items ≤ LONGEST }
-    ensures { Puts (A.content array.old) offset bytes.items (outcome_of result) (A.content array.new) }
+    ensures { Puts A.fails (A.content array.old) offset bytes.items (outcome_of result) (A.content array.new) }
 {
     match array.write(alloc, offset, bytes, through) {
         Ok(()) => Answer::Done,
@@ -133,7 +133,7 @@ fn clear<A: Array>(alloc: Global, array: &mut A, offset: u64, count: u32, throug
     requires in_bounds { AreInBounds (A.content array.old).block (length (A.content array.old).bytes) offset count }
     requires block { IsBlockSize (A.content array.old).block }
     requires small { length (A.content array.old).bytes < 2 ^ 64 }
-    ensures { Puts (A.content array.old) offset (replicate count 0) (outcome_of result) (A.content array.new) }
+    ensures { Clears A.fails (A.content array.old) offset count (outcome_of result) (A.content array.new) }
 {
     let mut done = 0;
     while done < count {
@@ -160,7 +160,8 @@ fn clear_piece<A: Array>(
 ) -> Result<(), ReplyError>
     requires in_bounds { AreInBounds (A.content array.old).block (length (A.content array.old).bytes) offset count }
     requires short { count ≤ LONGEST }
-    ensures { MatchResult result (λ _. A.content array.new ≡ written (A.content array.old) offset (replicate count 0)) (λ error. IsOfArray error × IsSameOutside (A.content array.old) offset count (A.content array.new)) }
+    ensures cleared { MatchResult result (λ _. A.content array.new ≡ written (A.content array.old) offset (replicate count 0)) (λ error. IsFailure A.fails (A.content array.old) error (A.content array.new)) }
+    ensures outside { IfErr result (λ _. IsSameOutside (A.content array.old) offset count (A.content array.new)) }
 {
     let Some(zeros) = zeros(alloc, count) else {
         return Err(ReplyError::Enomem);
@@ -173,7 +174,7 @@ fn clear_piece<A: Array>(
 
 /// Brings what was written past volatile caches.
 fn flush<A: Array>(alloc: Global, array: &mut A) -> Answer
-    ensures { Flushes (A.content array.old) (outcome_of result) (A.content array.new) }
+    ensures { Flushes A.fails (A.content array.old) (outcome_of result) (A.content array.new) }
 {
     match array.flush(alloc) {
         Ok(()) => Answer::Done,
@@ -183,7 +184,7 @@ fn flush<A: Array>(alloc: Global, array: &mut A) -> Answer
 
 /// The error that a fault is answered by.
 fn error_of(fault: ArrayFault) -> ReplyError
-    ensures { IsOfArray result }
+    ensures { result ≡ error_of fault }
 {
     match fault {
         ArrayFault::NoMemory => ReplyError::Enomem,

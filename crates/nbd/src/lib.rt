@@ -9,26 +9,34 @@
 //! By [`parse_request`], [`command_of`], [`parse_option`], [`write_reply`] and [`write_replies`], what the bytes of requests and
 //! options mean, and what the bytes of replies are; by [`one_spelling`], that a request has one spelling.
 //!
+//! How an array may fail is a relation of its own (`fails` of [`Array`]). A failure is told only where a call of it failed,
+//! by the error of that fault; or as ENOMEM where memory was refused in front of it, and then nothing was done (`Fails` of
+//! `specs/Carrying`).
+//!
 //! Of a reader or a writer that doesn't tell its bytes nothing is promised but what became of the array. Not promised, and
-//! tested: that a flush and a write past caches reach the array as such, and which error a fault is answered by.
+//! tested: that a flush and a write past caches reach the array as such.
 #![tactic(auto)]
 
 mod arrays;
+mod backing;
 mod carrying;
 mod handshake;
 mod laws;
 mod memory;
 mod numbers;
 mod options;
+mod over;
 mod replies;
 mod requests;
 mod session;
 mod streams;
 
 pub use arrays::{Array, ArrayFault, Sizes};
+pub use backing::Backing;
 pub use laws::{one_spelling, written_inside};
 pub use memory::MemArray;
 pub use options::{Next, OptionError, Wish, parse_option, write_replies};
+pub use over::serve_over;
 pub use replies::{Answer, write_reply};
 pub use requests::{Command, ReplyError, Request, command_of, parse_request};
 pub use session::serve;

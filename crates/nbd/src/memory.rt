@@ -19,6 +19,8 @@ impl Array for MemArray {
 
     ghost content = { λ a. record { block = (if a.long_blocks then 4096 else 512); bytes = a.bytes.items } };
 
+    ghost fails = { λ _ _ _. ⊥ };
+
     fn sizes(&self) -> Sizes {
         Sizes {
             block: if self.long_blocks { 4096 } else { 512 },

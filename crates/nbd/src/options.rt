@@ -67,7 +67,7 @@ pub enum Next {
 }
 
 impl Wish {
-    /// What comes after it.
+    /// Returns what comes after it.
     pub fn next(self) -> Next
         ensures { result ≡ next_of self }
     {
@@ -94,7 +94,7 @@ impl OptionError {
     }
 }
 
-/// What an option of this code with these data asks for.
+/// Returns what an option of this code with these data asks for.
 pub fn parse_option(code: u32, bytes: &[u8]) -> Wish
     requires { length bytes.now ≤ LONGEST_OPTION }
     ensures { result ≡ wish_in code bytes.now }
@@ -111,7 +111,7 @@ pub fn parse_option(code: u32, bytes: &[u8]) -> Wish
     }
 }
 
-/// What the data of NBD_OPT_INFO or NBD_OPT_GO ask for.
+/// Returns what the data of NBD_OPT_INFO or NBD_OPT_GO ask for.
 fn parse_info(wish: Wish, bytes: &[u8]) -> Wish
     requires { length bytes.now ≤ LONGEST_OPTION }
     ensures { result ≡ info_in wish bytes.now }
@@ -172,7 +172,7 @@ fn next_header<R: Read>(input: &mut R) -> Result<(u32, u32), End>
     ))
 }
 
-/// What an option asks for that has more data than are looked at.
+/// Returns what an option asks for that has more data than are looked at.
 fn too_long(code: u32) -> Wish
     ensures { (bytes : List ℕ) → LONGEST_OPTION < length bytes → result ≡ wish_in code bytes }
 {
@@ -285,7 +285,7 @@ fn export(size: u64) -> [u8; 10]
     bytes
 }
 
-/// What NBD_INFO_EXPORT tells.
+/// Returns what NBD_INFO_EXPORT tells.
 fn export_info(size: u64) -> [u8; 12]
     ensures { result ≡ big_bytes 2 NBD_INFO_EXPORT ++ export_bytes size }
 {
@@ -296,7 +296,7 @@ fn export_info(size: u64) -> [u8; 12]
     bytes
 }
 
-/// What NBD_INFO_BLOCK_SIZE tells.
+/// Returns what NBD_INFO_BLOCK_SIZE tells.
 fn block_info(block: u32) -> [u8; 14]
     ensures { result ≡ big_bytes 2 NBD_INFO_BLOCK_SIZE ++ block_bytes block }
 {

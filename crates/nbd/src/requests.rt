@@ -102,7 +102,7 @@ pub fn parse_request(bytes: &[u8]) -> Option<Request>
     })
 }
 
-/// What a request asks an array of these sizes for.
+/// Returns what a request asks an array of these sizes for.
 ///
 /// # Errors
 ///

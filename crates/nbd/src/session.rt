@@ -24,7 +24,7 @@ pub fn serve<R: Read, W: Write, A: Array>(
     input: &mut R,
     out: &mut W,
 ) -> End
-    ensures { IsSession (A.content array.old) (R.remaining input.old) (W.contents out.old) result (A.content array.new) (W.contents out.new) }
+    ensures { IsSession A.fails (A.content array.old) (R.remaining input.old) (W.contents out.old) result (A.content array.new) (W.contents out.new) }
 {
     let no_zeroes = match greet(input, out) {
         Ok(no_zeroes) => no_zeroes,
@@ -43,7 +43,7 @@ fn serve_requests<R: Read, W: Write, A: Array>(
     input: &mut R,
     out: &mut W,
 ) -> End
-    ensures { Ends (A.content array.old) (R.remaining input.old) (W.contents out.old) result (A.content array.new) (W.contents out.new) }
+    ensures { Ends A.fails (A.content array.old) (R.remaining input.old) (W.contents out.old) result (A.content array.new) (W.contents out.new) }
 {
     for _ in 0..u64::MAX {
         if let Err(end) = exchange(alloc, array, input, out) {
@@ -64,8 +64,8 @@ fn exchange<R: Read, W: Write, A: Array>(
     input: &mut R,
     out: &mut W,
 ) -> Result<(), End>
-    ensures exchanged { OnOk result (IsExchanged (A.content array.old) (R.remaining input.old) (W.contents out.old) (A.content array.new) (R.remaining input.new) (W.contents out.new)) }
-    ensures ended { IfErr result (λ end. Ends (A.content array.old) (R.remaining input.old) (W.contents out.old) end (A.content array.new) (W.contents out.new)) }
+    ensures exchanged { OnOk result (IsExchanged A.fails (A.content array.old) (R.remaining input.old) (W.contents out.old) (A.content array.new) (R.remaining input.new) (W.contents out.new)) }
+    ensures ended { IfErr result (λ end. Ends A.fails (A.content array.old) (R.remaining input.old) (W.contents out.old) end (A.content array.new) (W.contents out.new)) }
 {
     let request = next_request(input)?;
     let answer = serve_request(alloc, array, input, request)?;
@@ -78,7 +78,7 @@ fn exchange<R: Read, W: Write, A: Array>(
 /// # Errors
 ///
 /// [`End::Left`] at NBD_CMD_DISC, [`End::Malformed`], [`End::Input`].
-fn next_request<R: Read>(input: &mut R) -> Result<Request, End>
+pub(crate) fn next_request<R: Read>(input: &mut R) -> Result<Request, End>
     ensures taken { IfOk result (TakesRequest (R.remaining input.old) (R.remaining input.new)) }
     ensures ended { IfErr result (TakesLast (R.remaining input.old)) }
 {
@@ -96,7 +96,7 @@ fn next_request<R: Read>(input: &mut R) -> Result<Request, End>
 /// # Errors
 ///
 /// [`End::Output`].
-fn tell<W: Write>(out: &mut W, cookie: u64, answer: Answer) -> Result<(), End>
+pub(crate) fn tell<W: Write>(out: &mut W, cookie: u64, answer: Answer) -> Result<(), End>
     ensures told { OnOk result (Appends (W.contents out.old) (W.contents out.new) (reply_bytes cookie (outcome_of answer))) }
     ensures ended { IfErr result (λ end. end ≡ End.Output) }
 {

@@ -64,7 +64,7 @@ fn to_move(kind: Kind, first: u64, count: u32, through: bool) -> Asked
     }
 }
 
-/// What a command asks to move; nothing, of a read capacity.
+/// Returns what a command asks to move; nothing, of a read capacity.
 fn asked_by(command: Cdb) -> Option<Asked>
     ensures { result ≡ asked_by command }
 {
@@ -85,7 +85,7 @@ fn asked_by(command: Cdb) -> Option<Asked>
     }
 }
 
-/// What a block asks to move.
+/// Returns what a block asks to move.
 pub(crate) fn asked_in(block: &[u8]) -> Option<Asked>
     ensures by_meaning { (command : Cdb) → Means block.now command → result ≡ asked_by command }
     ensures asks { IfSome result (λ asked. (command : Cdb) × Means block.now command × (asked_by command ≡ Some asked)) }
@@ -96,7 +96,7 @@ pub(crate) fn asked_in(block: &[u8]) -> Option<Asked>
     }
 }
 
-/// What a block asks for, as C is told it.
+/// Returns what a block asks for, as C is told it.
 fn told_asked(asked: Option<Asked>) -> StackAsked
     ensures { result ≡ shown_asked asked }
 {

@@ -86,7 +86,7 @@ impl StackCompletion {
     }
 }
 
-/// What an SRB asks for, where an entry of all bytes in this place may be of its act, and they are so many.
+/// Returns what an SRB asks for, where an entry of all bytes in this place may be of its act, and they are so many.
 pub(crate) fn asked_of(disk: &DiskOf, srb: &Srb, place: &Place, count: u64) -> Option<Asked>
     ensures { MatchOption result (SuitsNone disk.now srb.now count place.now) (SuitsAs disk.now srb.now count place.now) }
 {

@@ -5,7 +5,7 @@ ghost use Rattle.std.specs.Prelude.{◌≡◌, IfOk, length, min, replicate, tak
 use sector::Bytes;
 use std::alloc::{AllocError, Global};
 
-/// The same bytes, in memory of their own.
+/// Copies the bytes.
 ///
 /// # Errors
 ///

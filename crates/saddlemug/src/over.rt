@@ -166,7 +166,7 @@ impl Over {
         Some((srb, own))
     }
 
-    /// What a piece asks for whose bytes C moved.
+    /// Returns what a piece asks for whose bytes C moved.
     ///
     /// # Errors
     ///

@@ -248,7 +248,7 @@ fn failures_come_up(rt: HostRuntime) {
     );
 }
 
-/// What is answered where these are a disk's sizes and its first sector.
+/// Returns what is answered where these are a disk's sizes and its first sector.
 fn refused(alloc: Global, disk: &StackDisk, first: &[u8]) -> u32 {
     let mut slot = Slot::empty(alloc);
     saddlemug_over_open(alloc, &mut slot, disk, first)

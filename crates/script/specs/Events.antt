@@ -1,5 +1,5 @@
 -- The events that a script asks for.
-use Rattle.std.specs.Prelude.{◌≡◌, ◌≢◌, ◌<◌, ℕ, nat_lt, List, [], Option, Some, None, replicate, slice_get, if◌then◌else◌}
+use Rattle.std.specs.Prelude.{◌≡◌, ◌≢◌, ◌≤◌, ◌<◌, ℕ, nat_lt, List, [], Option, Some, None, replicate, slice_get, if◌then◌else◌, vec_capacity}
 use Rattle.std.specs.BTreeMap.{BTreeMap, get}
 use Rattle.std.specs.Ordering.{nat_cmp}
 use Rattle.io_manager.specs.declared.Handle.{Handle}
@@ -66,6 +66,12 @@ abbrev pub Keeps : Reply → Given → Given → Type 0
 Keeps (HandleReply handle) old new = KeepsHandle handle old.handles new.handles × (new.requests ≡ old.requests)
 Keeps (Requested id) old new = KeepsRequest id old.requests.items new.requests.items × (new.handles ≡ old.handles)
 Keeps _ old new = new ≡ old
+
+-- what a reply gives is kept in new memory: a handle of a new number, or a request whose number has no place
+abbrev pub TakesMemory : Reply → Given → Type 0
+TakesMemory (HandleReply handle) given = get nat_cmp given.handles handle.number ≡ None
+TakesMemory (Requested id) given = vec_capacity given.requests ≤ id.number
+TakesMemory _ given = ⊥
 
 -- the adapter has such a tag: they count from 0, and there are at most 32
 abbrev pub IsTag : ℕ → Type 0

@@ -1,8 +1,9 @@
 //! Handles and requests by their numbers, as replies gave them.
 
-ghost use Rattle.std.specs.Prelude.{◌≡◌, ◌<◌, ℕ, [], OnOk, length};
-ghost use Rattle.std.specs.BTreeMap.{IsEmpty};
-ghost use Rattle.script.specs.Events.{AreNamed, HandlesAreNamed, Keeps, KeepsHandle, KeepsRequest, RequestsAreNamed, given_as, handle_of, id_of, target_of};
+ghost use Rattle.std.specs.Prelude.{◌≡◌, ◌≤◌, ◌<◌, ℕ, [], None, OnErr, OnOk, length, vec_capacity};
+ghost use Rattle.std.specs.BTreeMap.{IsEmpty, get};
+ghost use Rattle.std.specs.Ordering.{nat_cmp};
+ghost use Rattle.script.specs.Events.{AreNamed, HandlesAreNamed, Keeps, KeepsHandle, KeepsRequest, RequestsAreNamed, TakesMemory, given_as, handle_of, id_of, target_of};
 
 use compose::{Handle, Id, Reply};
 use std::alloc::{AllocError, Global};
@@ -33,11 +34,12 @@ impl Given {
     ///
     /// # Errors
     ///
-    /// [`AllocError`] where memory was refused.
+    /// [`AllocError`] where memory for a new handle, or for a request past the places that there are, was refused.
     pub fn keep(&mut self, reply: &Reply) -> Result<(), AllocError>
         requires { AreNamed self.old }
         ensures named { OnOk result (AreNamed self.new) }
         ensures keeps { OnOk result (Keeps reply.now self.old self.new) }
+        ensures refused { OnErr result (TakesMemory reply.now self.old) }
     {
         match reply {
             Reply::Handle(handle) => keep_handle(&mut self.handles, *handle),
@@ -67,7 +69,7 @@ impl Given {
         given_as(self.requests.as_slice(), number).unwrap_or(Id { slot: 0, number })
     }
 
-    /// The one request that a cancel is of, if it is of one.
+    /// Returns the request that a cancel names, if any.
     pub fn target(&self, request: Option<u64>) -> Option<Id>
         requires { AreNamed self.now }
         ensures { result ≡ target_of self.now.requests.items request }
@@ -81,6 +83,7 @@ fn keep_handle(handles: &mut BTreeMap<u64, Handle>, handle: Handle) -> Result<()
     requires { HandlesAreNamed handles.old }
     ensures named { OnOk result (HandlesAreNamed handles.new) }
     ensures kept { OnOk result (KeepsHandle handle handles.old handles.new) }
+    ensures refused { OnErr result (get nat_cmp handles.old handle.number ≡ None) }
 {
     handles.insert(handle.number, handle)?;
     Ok(())
@@ -101,6 +104,7 @@ fn keep_request(requests: &mut Vec<Option<Id>>, id: Id) -> Result<(), AllocError
     requires { RequestsAreNamed requests.old.items }
     ensures named { OnOk result (RequestsAreNamed requests.new.items) }
     ensures kept { OnOk result (KeepsRequest id requests.old.items requests.new.items) }
+    ensures refused { OnErr result (vec_capacity requests.old ≤ id.number) }
 {
     make_place(requests, id.number as usize)?;
     requests[id.number as usize] = Some(id);
@@ -111,6 +115,7 @@ fn keep_request(requests: &mut Vec<Option<Id>>, id: Id) -> Result<(), AllocError
 fn make_place(requests: &mut Vec<Option<Id>>, number: usize) -> Result<(), AllocError>
     ensures place { OnOk result (number < length requests.new.items) }
     ensures same { OnOk result ((n : ℕ) → given_as requests.new.items n ≡ given_as requests.old.items n) }
+    ensures refused { OnErr result (vec_capacity requests.old ≤ number) }
 {
     if number < requests.len() {
         return Ok(());

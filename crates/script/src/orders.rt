@@ -52,20 +52,26 @@ fn is_event(text: &str) -> bool
     !text.is_empty() && !text.starts_with('#')
 }
 
-/// What a line asks for; none where it is no event.
+/// Returns what a line asks for; none where it is no event.
 fn order_of(text: &str) -> Option<Order>
     ensures { Finds (Asks (words_of text.now)) result }
 {
     let mut words = Words::new(text);
     match words.word()? {
+        "act" => Some(Order::Act {
+            tag: last_number(words)?,
+        }),
+        "finish" => Some(Order::Finish {
+            tag: last_number(words)?,
+        }),
+        "read" => read(words),
+        "write" => write(words),
         "open" => Some(Order::Open {
             partition: last_number(words)?,
         }),
         "close" => Some(Order::Close {
             handle: last_number(words)?,
         }),
-        "read" => read(words),
-        "write" => write(words),
         "flush" => Some(Order::Flush {
             handle: last_number(words)?,
         }),
@@ -77,12 +83,6 @@ fn order_of(text: &str) -> Option<Order>
         "cancel-remove" => alone(words, Order::CancelRemove),
         "remove" => alone(words, Order::Remove),
         "surprise-remove" => alone(words, Order::SurpriseRemove),
-        "act" => Some(Order::Act {
-            tag: last_number(words)?,
-        }),
-        "finish" => Some(Order::Finish {
-            tag: last_number(words)?,
-        }),
         "reset" => alone(words, Order::Reset),
         _ => None,
     }
@@ -103,7 +103,7 @@ fn last_number(mut words: Words<'_>) -> Option<u64>
     words.is_at_end().then_some(number)
 }
 
-/// What the words after `read` ask for.
+/// Returns what the words after `read` ask for.
 fn read(mut words: Words<'_>) -> Option<Order>
     ensures { Finds (Asks (codes "read" ∷ words.entry)) result }
 {
@@ -115,7 +115,7 @@ fn read(mut words: Words<'_>) -> Option<Order>
     words.is_at_end().then_some(order)
 }
 
-/// What the words after `write` ask for.
+/// Returns what the words after `write` ask for.
 fn write(mut words: Words<'_>) -> Option<Order>
     ensures { Finds (Asks (codes "write" ∷ words.entry)) result }
 {
@@ -139,7 +139,7 @@ fn through(mut words: Words<'_>) -> Option<bool>
     }
 }
 
-/// What the words after `cancel` ask for.
+/// Returns what the words after `cancel` ask for.
 fn cancel(mut words: Words<'_>) -> Option<Order>
     ensures { Finds (Asks (codes "cancel" ∷ words.entry)) result }
 {

@@ -6,7 +6,7 @@ use Rattle.nbd.specs.Handshake.{IsSession}
 use Rattle.nbd.specs.declared.End.{End}
 use Rattle.serving.specs.declared.faults.Fault.{Fault}
 use Rattle.startup.specs.Reading.{AreRead}
-use Rattle.serving.specs.Serving.{IsServed, IsStartFault, fault_of_end, new_array}
+use Rattle.serving.specs.Serving.{IsServed, IsStartFault, fault_of_end, may_fail, new_array}
 
 module _ (config : Option (List ℕ)) (p : ℕ) (input out : Option (List ℕ)) where
   module _ (settings : Config) (are_read : AreRead config settings) where
@@ -14,7 +14,7 @@ module _ (config : Option (List ℕ)) (p : ℕ) (input out : Option (List ℕ)) 
     without_disk fault why = inl (record { fault = fault; told_is = refl; early = inr (settings, are_read, why); unread = refl; unwritten = refl })
 
     pub with_session : (first last : Content) (end : End) (told : Option Fault) (rest after : Option (List ℕ)) → first ≡ new_array settings p
-        → IsSession first input out end last after → told ≡ fault_of_end end → IsServed config p input out told rest after
+        → IsSession may_fail first input out end last after → told ≡ fault_of_end end → IsServed config p input out told rest after
     with_session first last end told rest after is session ends =
         inr (record {
           settings = settings;
@@ -22,5 +22,5 @@ module _ (config : Option (List ℕ)) (p : ℕ) (input out : Option (List ℕ)) 
           end = end;
           told_is = ends;
           last = last;
-          session = subst (λ (c : Content). IsSession c input out end last after) is session;
+          session = subst (λ (c : Content). IsSession may_fail c input out end last after) is session;
         })

@@ -1,7 +1,8 @@
 -- A session over the disk of some settings.
-use Rattle.std.specs.Prelude.{◌≡◌, ◌≤◌, ◌⊎◌, ℕ, List, Option, Some, None, length}
+use Rattle.std.specs.Prelude.{◌≡◌, ◌≤◌, ◌⊎◌, ℕ, List, Option, Some, None, length, ⊤}
 use Rattle.std.specs.List.{concat}
-use Rattle.io_manager.specs.declared.Refusal.TheVariants.{InvalidParameter}
+use Rattle.ntstatus.specs.declared.NtStatus.TheVariants.{InsufficientResources as NoResources, MediaWriteProtected, NoSuchDevice, DeletePending}
+use Rattle.io_manager.specs.declared.Refusal.TheVariants.{InvalidParameter, InsufficientResources}
 use Rattle.settings.specs.declared.Config.{Config}
 use Rattle.settings.specs.Medium.{extents_of, zeros}
 use Rattle.startup.specs.declared.faults.Fault.TheVariants.{Start}
@@ -9,8 +10,13 @@ use Rattle.startup.specs.Reading.{AreRead, HasFault, IsUnread}
 use Rattle.startup.specs.Started.{IsStartFault as IsStackFault}
 use Rattle.volume.specs.declared.OpenFault.{OpenFault}
 use Rattle.volume.specs.declared.OpenFault.TheVariants.{Start as NotStarted, Refused}
+use Rattle.volume.specs.declared.Fault.{Fault as VolumeFault}
+use Rattle.volume.specs.declared.Fault.TheVariants.{Refused as RefusedCall, Failed as FailedCall}
 use Rattle.volume.specs.Shown.{Content as VolumeContent, extent_at}
 use Rattle.nbd.specs.Content.{Content}
+use Rattle.nbd.specs.Carrying.{Faulting}
+use Rattle.nbd.specs.declared.arrays.ArrayFault.{ArrayFault}
+use Rattle.nbd.specs.declared.arrays.ArrayFault.TheVariants.{NoMemory as OutOfMemory, Protected, Gone, Failed as FailedArray}
 use Rattle.nbd.specs.Handshake.{IsSession}
 use Rattle.nbd.specs.declared.End.{End}
 use Rattle.nbd.specs.declared.End.TheVariants.{Left, Malformed as NoProtocol, Input, Output}
@@ -20,6 +26,20 @@ use Rattle.serving.specs.declared.faults.Fault.TheVariants.{Startup, NoPartition
 -- the bytes of a partition as an array, in blocks of a sector
 abbrev pub array_of : VolumeContent → Content
 array_of c = record { block = c.sector_size; bytes = c.bytes }
+
+-- how it may fail: by any fault
+abbrev pub may_fail : Faulting
+may_fail old new fault = ⊤
+
+-- the one that a failed call of the volume is told as
+abbrev pub told_fault : VolumeFault → ArrayFault
+told_fault (RefusedCall InsufficientResources) = OutOfMemory
+told_fault (RefusedCall _) = FailedArray
+told_fault (FailedCall NoResources) = OutOfMemory
+told_fault (FailedCall MediaWriteProtected) = Protected
+told_fault (FailedCall NoSuchDevice) = Gone
+told_fault (FailedCall DeletePending) = Gone
+told_fault (FailedCall _) = FailedArray
 
 -- that of a partition of these settings, before anything was written: zeros
 abbrev pub new_array : Config → ℕ → Content
@@ -69,7 +89,7 @@ pub record HasSession (config : Option (List ℕ)) (p : ℕ) (input out : Option
   pub end : End
   pub told_is : told ≡ fault_of_end end
   pub last : Content
-  pub session : IsSession (new_array settings p) input out end last after
+  pub session : IsSession may_fail (new_array settings p) input out end last after
 
 -- what was read and written, and what is told at the end
 abbrev pub IsServed : Option (List ℕ) → ℕ → Option (List ℕ) → Option (List ℕ) → Option Fault → Option (List ℕ) → Option (List ℕ) → Type 0

@@ -1,7 +1,7 @@
 //! A volume as the array that a server of NBD serves.
 
 ghost use Rattle.std.specs.Prelude.{◌≡◌};
-ghost use Rattle.serving.specs.Serving.{array_of};
+ghost use Rattle.serving.specs.Serving.{array_of, told_fault};
 
 use adapter::Adapter;
 use compose::Refusal;
@@ -36,7 +36,11 @@ impl<A: Adapter> Served<A> {
 }
 
 impl<A: Adapter> Array for Served<A> {
+    ghost use Rattle.serving.specs.Serving.{may_fail};
+
     ghost content = { λ s. s };
+
+    ghost fails = { may_fail };
 
     fn sizes(&self) -> Sizes {
         let sizes = self.volume.sizes();
@@ -76,8 +80,10 @@ impl<A: Adapter> Array for Served<A> {
     }
 }
 
-/// The fault of an array for one of a volume.
-fn array_fault(fault: Fault) -> ArrayFault {
+/// Returns the fault of an array for one of a volume.
+fn array_fault(fault: Fault) -> ArrayFault
+    ensures { result ≡ told_fault fault }
+{
     match fault {
         Fault::Refused(Refusal::InsufficientResources) => ArrayFault::NoMemory,
         Fault::Failed(NtStatus::InsufficientResources) => ArrayFault::NoMemory,

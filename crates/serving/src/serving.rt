@@ -38,7 +38,7 @@ pub fn serve_disk<C: Read + Drop, R: Read, W: Write>(
     outcome(serve(alloc, &mut disk, input, out))
 }
 
-/// How the program ends for a session that ended so.
+/// Returns how the program ends for a session that ended so.
 fn outcome(end: End) -> Result<(), Fault>
     ensures { result_err result ≡ fault_of_end end }
 {

@@ -89,7 +89,7 @@ fn number(word: &str) -> Result<u8, Fault>
     }
 }
 
-/// What it means that the words were refused.
+/// Returns what it means that the words were refused.
 fn fault_of(kind: ErrorKind) -> Fault
     ensures memory { kind ≡ OutOfMemory → result ≡ NoMemory }
     ensures usage { kind ≢ OutOfMemory → result ≡ Usage }

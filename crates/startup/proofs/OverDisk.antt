@@ -122,7 +122,7 @@ module _ (c : Config) (view : MemView) (new : IsNewAdapter c view)
   pub not_opened : AreInRange c → HasBlankPartitions c view.shown.sectors → (p : ℕ) (why : OpenFault) → IsOpenFaultOver view.shown (limits_of c) p why → IsOpenFault c p why
   not_opened settings blank p (NotStarted fault) h = not_started settings blank fault h.0 h.1
   not_opened settings blank p (Refused InvalidParameter) h = subst (λ (es : List Extent). length es ≤ p) (same_extents h.0 h.1.told) h.2
-  not_opened settings blank p (Refused DeviceBusy) h = tt
+  not_opened settings blank p (Refused DeviceBusy) h = absurd h
   not_opened settings blank p (Refused InsufficientResources) h = tt
   not_opened settings blank p (Refused InvalidHandle) h = absurd h
   not_opened settings blank p (Refused DeletePending) h = absurd h

@@ -57,7 +57,7 @@ pub fn say<F: Write, E: Display>(faults: &mut F, fault: &E) -> io::Result<()>
     faults.flush()
 }
 
-/// What a failed read or write means: want of memory, or else this.
+/// Returns what a failed read or write means: want of memory, or else this.
 pub fn fault_of<E: From<AllocError> + Drop>(error: &io::Error, otherwise: E) -> E
     ensures memory { error_kind error.now ≡ OutOfMemory → (from : AllocError) × E.from_gives from result }
     ensures otherwise { error_kind error.now ≢ OutOfMemory → result ≡ otherwise }

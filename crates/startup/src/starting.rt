@@ -35,7 +35,7 @@ pub fn start(alloc: Global, config: Config) -> Result<Stack<MemAdapter<SparseDis
 ///
 /// # Errors
 ///
-/// [`OpenFault::Start`] as [`start`] says; [`OpenFault::Refused`] as [`Volume::open`] says.
+/// [`OpenFault::Start`] as [`start`] says; [`OpenFault::Refused`] as [`Volume::start`] says.
 pub fn open(
     alloc: Global,
     config: Config,
@@ -53,7 +53,7 @@ pub fn open(
     Ok(volume)
 }
 
-/// How many requests may be open and at work.
+/// Returns how many requests may be open and at work.
 fn limits_of(config: &Config) -> Settings
     ensures { result ≡ limits_of config.now }
 {

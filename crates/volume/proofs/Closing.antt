@@ -137,6 +137,16 @@ silent_open old partition (Requested id) new h = absurd h.replies
 silent_open old partition (Answered answer) new h = absurd h.replies
 silent_open old partition Ignored new h = absurd h.replies
 
+-- no request is called
+pub numbers_open : (old : ManagerView) (partition : ℕ) (reply : Reply) (new : ManagerView) → IsRight (OpenReplies old partition reply new) old new
+    → new.state.next_request ≡ old.state.next_request
+numbers_open old partition (HandleReply given) new h = ap (λ (s : State). s.next_request) h.replies.0.same_state
+numbers_open old partition (Refused reason bytes) new h = ap (λ (s : State). s.next_request) h.replies.1.unmoved.same_state
+numbers_open old partition Done new h = absurd h.replies
+numbers_open old partition (Requested id) new h = absurd h.replies
+numbers_open old partition (Answered answer) new h = absurd h.replies
+numbers_open old partition Ignored new h = absurd h.replies
+
 same_as_itself : (n : ℕ) → (n == n) ≡ true
 same_as_itself n = grind (arith, nat_tests)
 
@@ -161,30 +171,34 @@ given_known old partition h =
 -- why none is given
 pub refused_open : (old : ManagerView) → IsReady old → (partition : ℕ) (reason : Refusal) → open_refusal old partition ≡ Some (status_of_refusal reason) → IsOpenRefusal old partition reason
 refused_open old ready partition reason h =
-    by (are_used_up old.next_handle) old.state.removing (nat_le (length old.rules.partitions) partition) (nat_le handle_limit (count_by is_some old.handles)) ready.idle.not_removing refl reason h
+    by (are_used_up old.next_handle) old.state.removing (nat_le (length old.rules.partitions) partition) (nat_le handle_limit (count_by is_some old.handles)) refl ready.idle.not_removing refl refl reason h
   where
-    by : (used removing past full : Bool) → removing ≡ false → nat_le (length old.rules.partitions) partition ≡ past → (why : Refusal)
+    by : (used removing past full : Bool) → are_used_up old.next_handle ≡ used → removing ≡ false → nat_le (length old.rules.partitions) partition ≡ past
+        → nat_le handle_limit (count_by is_some old.handles) ≡ full → (why : Refusal)
         → first_some (when used BusyStatus ∷ when removing PendingStatus ∷ when past ParameterStatus ∷ when full BusyStatus ∷ []) ≡ Some (status_of_refusal why) → IsOpenRefusal old partition why
-    by used true past full a b why e = absurd (let k : true ≡ false = a in cc)
-    by used false past full a b DeviceBusy e = tt
-    by used false past full a b InsufficientResources e = tt
-    by used false true full a b InvalidParameter e = grind (arith, nat_tests)
-    by true false false full a b InvalidParameter e = absurd (let k : Some BusyStatus ≡ Some ParameterStatus = e in cc)
-    by false false false true a b InvalidParameter e = absurd (let k : Some BusyStatus ≡ Some ParameterStatus = e in cc)
-    by false false false false a b InvalidParameter e = absurd (let k : None ≡ Some ParameterStatus = e in cc)
-    by true false past full a b InvalidHandle e = absurd (let k : Some BusyStatus ≡ Some HandleStatus = e in cc)
-    by false false true full a b InvalidHandle e = absurd (let k : Some ParameterStatus ≡ Some HandleStatus = e in cc)
-    by false false false true a b InvalidHandle e = absurd (let k : Some BusyStatus ≡ Some HandleStatus = e in cc)
-    by false false false false a b InvalidHandle e = absurd (let k : None ≡ Some HandleStatus = e in cc)
-    by true false past full a b DeletePending e = absurd (let k : Some BusyStatus ≡ Some PendingStatus = e in cc)
-    by false false true full a b DeletePending e = absurd (let k : Some ParameterStatus ≡ Some PendingStatus = e in cc)
-    by false false false true a b DeletePending e = absurd (let k : Some BusyStatus ≡ Some PendingStatus = e in cc)
-    by false false false false a b DeletePending e = absurd (let k : None ≡ Some PendingStatus = e in cc)
-    by true false past full a b InvalidDeviceRequest e = absurd (let k : Some BusyStatus ≡ Some RequestStatus = e in cc)
-    by false false true full a b InvalidDeviceRequest e = absurd (let k : Some ParameterStatus ≡ Some RequestStatus = e in cc)
-    by false false false true a b InvalidDeviceRequest e = absurd (let k : Some BusyStatus ≡ Some RequestStatus = e in cc)
-    by false false false false a b InvalidDeviceRequest e = absurd (let k : None ≡ Some RequestStatus = e in cc)
-    by true false past full a b NotFound e = absurd (let k : Some BusyStatus ≡ Some FoundStatus = e in cc)
-    by false false true full a b NotFound e = absurd (let k : Some ParameterStatus ≡ Some FoundStatus = e in cc)
-    by false false false true a b NotFound e = absurd (let k : Some BusyStatus ≡ Some FoundStatus = e in cc)
-    by false false false false a b NotFound e = absurd (let k : None ≡ Some FoundStatus = e in cc)
+    by used true past full u a b f why e = absurd (let k : true ≡ false = a in cc)
+    by used false past full u a b f InsufficientResources e = tt
+    by true false past full u a b f DeviceBusy e = inl (inl u)
+    by false false true full u a b f DeviceBusy e = absurd (let k : Some ParameterStatus ≡ Some BusyStatus = e in cc)
+    by false false false true u a b f DeviceBusy e = inl (inr (grind (arith, nat_tests)))
+    by false false false false u a b f DeviceBusy e = absurd (let k : None ≡ Some BusyStatus = e in cc)
+    by used false true full u a b f InvalidParameter e = grind (arith, nat_tests)
+    by true false false full u a b f InvalidParameter e = absurd (let k : Some BusyStatus ≡ Some ParameterStatus = e in cc)
+    by false false false true u a b f InvalidParameter e = absurd (let k : Some BusyStatus ≡ Some ParameterStatus = e in cc)
+    by false false false false u a b f InvalidParameter e = absurd (let k : None ≡ Some ParameterStatus = e in cc)
+    by true false past full u a b f InvalidHandle e = absurd (let k : Some BusyStatus ≡ Some HandleStatus = e in cc)
+    by false false true full u a b f InvalidHandle e = absurd (let k : Some ParameterStatus ≡ Some HandleStatus = e in cc)
+    by false false false true u a b f InvalidHandle e = absurd (let k : Some BusyStatus ≡ Some HandleStatus = e in cc)
+    by false false false false u a b f InvalidHandle e = absurd (let k : None ≡ Some HandleStatus = e in cc)
+    by true false past full u a b f DeletePending e = absurd (let k : Some BusyStatus ≡ Some PendingStatus = e in cc)
+    by false false true full u a b f DeletePending e = absurd (let k : Some ParameterStatus ≡ Some PendingStatus = e in cc)
+    by false false false true u a b f DeletePending e = absurd (let k : Some BusyStatus ≡ Some PendingStatus = e in cc)
+    by false false false false u a b f DeletePending e = absurd (let k : None ≡ Some PendingStatus = e in cc)
+    by true false past full u a b f InvalidDeviceRequest e = absurd (let k : Some BusyStatus ≡ Some RequestStatus = e in cc)
+    by false false true full u a b f InvalidDeviceRequest e = absurd (let k : Some ParameterStatus ≡ Some RequestStatus = e in cc)
+    by false false false true u a b f InvalidDeviceRequest e = absurd (let k : Some BusyStatus ≡ Some RequestStatus = e in cc)
+    by false false false false u a b f InvalidDeviceRequest e = absurd (let k : None ≡ Some RequestStatus = e in cc)
+    by true false past full u a b f NotFound e = absurd (let k : Some BusyStatus ≡ Some FoundStatus = e in cc)
+    by false false true full u a b f NotFound e = absurd (let k : Some ParameterStatus ≡ Some FoundStatus = e in cc)
+    by false false false true u a b f NotFound e = absurd (let k : Some BusyStatus ≡ Some FoundStatus = e in cc)
+    by false false false false u a b f NotFound e = absurd (let k : None ≡ Some FoundStatus = e in cc)

@@ -1,7 +1,8 @@
 -- How the sizes of a partition are found.
-use Rattle.std.proofs.Common.{◌≡◌, ◌≢◌, ◌<◌, ◌≤◌, ◌↔◌, inl, inr, ℕ, ◌+◌, ◌*◌, ◌/◌, ◌%◌, Bool, true, false, [], refl, sym, ◌∙◌, ap, subst, arith, length}
+use Rattle.std.proofs.Common.{◌≡◌, ◌≢◌, ◌<◌, ◌≤◌, ◌↔◌, inl, inr, ℕ, zero, suc, ◌+◌, ◌-◌, ◌*◌, ◌/◌, ◌%◌, ◌^◌, Bool, true, false, [], refl, sym, ◌∙◌, ap, subst, arith, length}
 use Rattle.std.specs.Prelude.{IsTrue, IsFalse, nat_le, ◌==◌, is_none, Result, Ok, Err, IfOk, IfErr}
 use Rattle.std.proofs.Math.Nat.{mod-add-div', mul-mod_left, mul-div_cancel}
+use native.Mathlib.Nat.{pow-suc}
 use Rattle.srb.specs.declared.Kind.TheVariants.{Read, Write}
 use Rattle.machine.specs.declared.ClientRequest.{ClientRequest}
 use Rattle.machine.specs.Map.{IsPartition}
@@ -11,11 +12,11 @@ use Rattle.io_manager.specs.declared.Handle.{Handle}
 use Rattle.io_manager.specs.declared.Refusal.{Refusal}
 use Rattle.io_manager.specs.declared.Refusal.TheVariants.{InvalidHandle, InvalidParameter, DeletePending, DeviceBusy, InsufficientResources, InvalidDeviceRequest, NotFound}
 use Rattle.io_manager.specs.Shown.{ManagerView}
-use Rattle.io_manager.specs.Calls.{call_on, IsWant}
+use Rattle.io_manager.specs.Calls.{call_on, number_limit}
 use Rattle.volume.specs.Shown.{extent_at, parted_at}
 use Rattle.volume.specs.Ready.{IsReady}
 use Rattle.volume.specs.Working.{Ends, HasReason, Leaves, Turns}
-use Rattle.volume.specs.Opening.{IsLookedAt, IsOn, Reaches}
+use Rattle.volume.specs.Opening.{IsLookedAt, IsOn, IsOpenRefusal, IsWantOf, Reaches, sizing_reads}
 use Rattle.volume.proofs.Disk.{sectors_of-extent}
 use Rattle.volume.proofs.Ending.{Fits, fits}
 use Rattle.volume.proofs.Content.{all_true, at_most_true, some_bytes, zero_true}
@@ -69,14 +70,65 @@ module _ (v : ManagerView) (ready : IsReady v) (handle : Handle) (p : ℕ) (on :
   looked_by answer new h = looked_at v new h.leaves (h.same read_no_write)
 
 -- another reason
-pub is_want : (v : ManagerView) (q : ClientRequest) (reason : Refusal) → HasReason v q reason → reason ≢ InvalidParameter → IsWant reason
+pub is_want : (v : ManagerView) (q : ClientRequest) (reason : Refusal) → HasReason v q reason → reason ≢ InvalidParameter → IsWantOf v 1 reason
 is_want v q InvalidParameter h not = absurd (not refl)
-is_want v q DeviceBusy h not = tt
+is_want v q DeviceBusy h not = let used : number_limit ≤ v.state.next_request = h in omega arith
 is_want v q InsufficientResources h not = tt
 is_want v q InvalidHandle h not = absurd h
 is_want v q DeletePending h not = absurd h
 is_want v q InvalidDeviceRequest h not = absurd h
 is_want v q NotFound h not = absurd h
+
+-- what is lacking later is lacking before as many requests as were made since
+pub wants_more : (v w : ManagerView) (made more all : ℕ) → w.state.next_request ≤ v.state.next_request + made → made + more ≤ all → (reason : Refusal)
+    → IsWantOf w more reason → IsWantOf v all reason
+wants_more v w made more all later few DeviceBusy h = let lacks : number_limit < w.state.next_request + more = h in omega arith
+wants_more v w made more all later few InsufficientResources h = tt
+wants_more v w made more all later few InvalidHandle h = absurd h
+wants_more v w made more all later few InvalidParameter h = absurd h
+wants_more v w made more all later few DeletePending h = absurd h
+wants_more v w made more all later few InvalidDeviceRequest h = absurd h
+wants_more v w made more all later few NotFound h = absurd h
+
+-- what is lacking once a handle was given refuses the volume
+pub refused_sizing : (v w : ManagerView) (p : ℕ) → w.state.next_request ≡ v.state.next_request → (reason : Refusal) → IsWantOf w sizing_reads reason → IsOpenRefusal v p reason
+refused_sizing v w p same DeviceBusy h = inr (subst (λ next. number_limit < next + sizing_reads) same h)
+refused_sizing v w p same InsufficientResources h = tt
+refused_sizing v w p same InvalidHandle h = absurd h
+refused_sizing v w p same InvalidParameter h = absurd h
+refused_sizing v w p same DeletePending h = absurd h
+refused_sizing v w p same InvalidDeviceRequest h = absurd h
+refused_sizing v w p same NotFound h = absurd h
+
+-- a range of 2 to the power of this is halved by as many reads, and so many are left of those that may be made
+pub record Halves (first next low high left : ℕ) : Type 0 where
+  pub wide : high ≤ low + 2 ^ left
+  pub made : next + left ≤ first + 40
+
+-- a read that halves what is left
+pub halved : (first next low middle high left next' : ℕ) → Halves first next low high left → low + (high - low) / 2 ≡ middle → 1 < high - low → next' ≤ next + 1
+    → (less : ℕ) × Halves first next' low middle less × Halves first next' middle high less
+halved first next low middle high zero next' h is wide more = absurd (let w : high ≤ low + 1 = h.wide in omega arith)
+halved first next low middle high (suc less) next' h is wide more =
+    let m : next + suc less ≤ first + 40 = h.made in (
+      less,
+      record { wide = omega (arith, h.wide, is, wide, pow-suc 2 less); made = omega arith },
+      record { wide = omega (arith, h.wide, is, wide, pow-suc 2 less); made = omega arith },
+    )
+
+-- while the range is wide enough to be halved, a read is left
+pub not_last : (first next low high left : ℕ) → Halves first next low high left → 1 < high - low → next ≤ first + 39
+not_last first next low high zero h wide = absurd (let w : high ≤ low + 1 = h.wide in omega arith)
+not_last first next low high (suc left) h wide = let m : next + suc left ≤ first + 40 = h.made in omega arith
+
+-- a look after another
+pub looked_again : (a b c : ManagerView) → IsLookedAt a b → IsLookedAt b c → IsLookedAt a c
+looked_again a b c h k = record {
+  ready = k.ready;
+  same_rules = k.same_rules ∙ h.same_rules;
+  handles = k.handles ∙ h.handles;
+  content = λ p. k.content p ∙ h.content p;
+}
 
 -- THE BYTES OF A SECTOR
 

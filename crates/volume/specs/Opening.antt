@@ -1,5 +1,5 @@
 -- How a volume is opened.
-use Rattle.std.specs.Prelude.{◌≡◌, ◌<◌, ◌≤◌, ℕ, ◌%◌, ◌/◌, List, Some, length}
+use Rattle.std.specs.Prelude.{◌≡◌, ◌<◌, ◌≤◌, ◌⊎◌, ℕ, ◌+◌, ◌%◌, ◌/◌, List, Some, length, count_by, is_some, IsTrue}
 use Rattle.sector.specs.declared.Extent.{Extent}
 use Rattle.adapter.specs.View.{AdapterView}
 use Rattle.machine.specs.Rules.{Rules}
@@ -10,17 +10,36 @@ use Rattle.io_manager.specs.declared.Handle.{Handle}
 use Rattle.io_manager.specs.declared.Refusal.{Refusal}
 use Rattle.io_manager.specs.declared.Refusal.TheVariants.{InvalidParameter, DeviceBusy, InsufficientResources}
 use Rattle.io_manager.specs.Shown.{ManagerView}
-use Rattle.io_manager.specs.Calls.{partition_of}
+use Rattle.io_manager.specs.Calls.{are_used_up, handle_limit, number_limit, partition_of}
 use Rattle.volume.specs.declared.Sizes.{Sizes}
 use Rattle.volume.specs.declared.OpenFault.{OpenFault}
 use Rattle.volume.specs.declared.OpenFault.TheVariants.{Start, Refused as RefusedOpen}
 use Rattle.volume.specs.Shown.{Content, content_of, extent_at, parted_at}
 use Rattle.volume.specs.Ready.{IsReady}
 
--- why a volume could not be opened: there is no such partition; no handle or no number is left; or memory was refused
+-- no handle is left: 64 are open, or their numbers are used up
+abbrev pub LacksHandle : ManagerView → Type 0
+LacksHandle v = IsTrue (are_used_up v.next_handle) ⊎ (handle_limit ≤ count_by is_some v.handles)
+
+-- fewer numbers are left than so many requests take
+abbrev pub LacksNumbers : ManagerView → ℕ → Type 0
+LacksNumbers v count = number_limit < v.state.next_request + count
+
+-- want of numbers for so many requests, or of memory
+abbrev pub IsWantOf : ManagerView → ℕ → Refusal → Type 0
+IsWantOf v count DeviceBusy = LacksNumbers v count
+IsWantOf v count InsufficientResources = Unit {0}
+IsWantOf v count _ = ⊥
+
+-- as many reads of no bytes find the sizes of a partition
+abbrev pub sizing_reads : ℕ
+sizing_reads = 41
+
+-- why a volume could not be opened: there is no such partition; no handle is left, or not as many numbers as its sizes take; or
+-- memory was refused
 abbrev pub IsOpenRefusal : ManagerView → ℕ → Refusal → Type 0
 IsOpenRefusal v p InvalidParameter = length v.rules.partitions ≤ p
-IsOpenRefusal v p DeviceBusy = Unit {0}
+IsOpenRefusal v p DeviceBusy = LacksHandle v ⊎ LacksNumbers v sizing_reads
 IsOpenRefusal v p InsufficientResources = Unit {0}
 IsOpenRefusal v p _ = ⊥
 
@@ -52,10 +71,9 @@ pub record ShowsDisk (disk : AdapterView) (p : ℕ) (shown : Content) : Type 0 w
   pub told : HasPartitions disk partitions
   pub content : shown ≡ parted_at disk.sector_size disk.sectors (extent_at partitions p)
 
--- a partition that a disk doesn't have, or want of numbers or memory
+-- a partition that a disk doesn't have, or want of memory
 abbrev pub IsRefusedOf : AdapterView → ℕ → Refusal → Type 0
 IsRefusedOf disk p InvalidParameter = (partitions : List Extent) × HasPartitions disk partitions × (length partitions ≤ p)
-IsRefusedOf disk p DeviceBusy = Unit {0}
 IsRefusedOf disk p InsufficientResources = Unit {0}
 IsRefusedOf disk p _ = ⊥
 

@@ -175,7 +175,7 @@ pub(crate) fn take_labels<A: Adapter>(stack: &mut Stack<A>) -> u16
     tags
 }
 
-/// As many tags, and that of a piece that the label starts.
+/// Returns how many tags there are at least, with that of a piece that the label starts.
 fn tags_with(label: Label, tags: u16) -> u16
     requires few { tags ≤ 256 }
     ensures below { StartsBelow result label }

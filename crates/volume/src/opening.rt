@@ -1,12 +1,11 @@
 //! How a volume is opened, and how its sizes are found.
 
-ghost use Rattle.std.specs.Prelude.{◌≡◌, ◌≢◌, ◌↔◌, ℕ, false, [], IfErr, IfOk, IsTrue, MatchResult};
+ghost use Rattle.std.specs.Prelude.{◌≡◌, ◌≢◌, ◌≤◌, ◌↔◌, ℕ, ◌+◌, false, [], IfErr, IfOk, IsTrue, MatchResult};
 ghost use Rattle.io_manager.specs.declared.Refusal.TheVariants.{InvalidParameter};
 ghost use Rattle.compose.specs.declared.Event.TheVariants.{Read as ReadEvent};
 ghost use Rattle.volume.specs.Shown.{content_of, extent_at};
 ghost use Rattle.volume.specs.Ready.{IsReady};
-ghost use Rattle.io_manager.specs.Calls.{IsWant};
-ghost use Rattle.volume.specs.Opening.{AreSizes, IsLookedAt, IsOn, IsOpenFault, IsOpenRefusal, Reaches, ShowsDisk};
+ghost use Rattle.volume.specs.Opening.{AreSizes, IsLookedAt, IsOn, IsOpenFault, IsOpenRefusal, IsWantOf, Reaches, ShowsDisk, sizing_reads};
 ghost use Rattle.probe.specs.Exchange.{IsIdle};
 
 use crate::carrying::{carry_out, take_labels};
@@ -26,7 +25,7 @@ impl<A: Adapter> Volume<A> {
     /// # Errors
     ///
     /// The adapter is spent. [`OpenFault::Start`] where no stack could be started, as [`Stack::start`] says;
-    /// [`OpenFault::Refused`] as [`Volume::open`].
+    /// [`OpenFault::Refused`] as [`Volume::open`], but never with [`Refusal::DeviceBusy`].
     pub fn start(
         alloc: Global,
         adapter: A,
@@ -53,12 +52,12 @@ impl<A: Adapter> Volume<A> {
     }
 
     /// A volume of a partition, counted from 0, over a stack on which nothing is open. Its sizes are found by reads of no
-    /// bytes, about forty of them.
+    /// bytes, 41 of them at most.
     ///
     /// # Errors
     ///
-    /// The stack is spent. [`Refusal::InvalidParameter`] just where there is no such partition; [`Refusal::DeviceBusy`] with
-    /// 64 handles open, or once numbers are used up; [`Refusal::InsufficientResources`] where memory was refused.
+    /// The stack is spent. [`Refusal::InvalidParameter`] just where there is no such partition; [`Refusal::DeviceBusy`] just
+    /// with 64 handles open, or where numbers don't suffice; [`Refusal::InsufficientResources`] where memory was refused.
     pub fn open(alloc: Global, stack: Stack<A>, partition: u8) -> Result<Volume<A>, Refusal>
         requires ready { IsReady stack }
         ensures content { IfOk result (λ volume. volume.content ≡ content_of stack partition) }
@@ -95,6 +94,7 @@ fn open_handle<A: Adapter>(
     requires ready { IsReady stack.old }
     ensures ready { IsReady stack.new }
     ensures rules { stack.new.rules ≡ stack.old.rules }
+    ensures numbers { stack.new.state.next_request ≡ stack.old.state.next_request }
     ensures content { content_of stack.new partition ≡ content_of stack.old partition }
     ensures opens { MatchResult result (λ handle. IsOn stack.new handle partition) (IsOpenRefusal stack.old partition) }
 {
@@ -121,7 +121,7 @@ fn sizes_of<A: Adapter>(
     requires on { (p : ℕ) × IsOn stack.old handle p }
     ensures looks { IsLookedAt stack.old stack.new }
     ensures sizes { IfOk result (λ sizes. (p : ℕ) → IsOn stack.old handle p → AreSizes stack.old p sizes) }
-    ensures why { IfErr result IsWant }
+    ensures why { IfErr result (IsWantOf stack.old sizing_reads) }
 {
     let sector_size = match sector_size_of(stack, alloc, handle) {
         Ok(sector_size) => sector_size,
@@ -149,8 +149,9 @@ fn sector_size_of<A: Adapter>(
     requires ready { IsReady stack.old }
     requires on { (p : ℕ) × IsOn stack.old handle p }
     ensures looks { IsLookedAt stack.old stack.new }
+    ensures numbers { stack.new.state.next_request ≤ stack.old.state.next_request + 1 }
     ensures size { IfOk result (λ size. size ≡ stack.old.rules.sector_size) }
-    ensures why { IfErr result IsWant }
+    ensures why { IfErr result (IsWantOf stack.old 1) }
 {
     match reaches(stack, alloc, handle, 512) {
         Ok(true) => Ok(512),
@@ -175,7 +176,7 @@ fn sectors_of<A: Adapter>(
     requires size { sector_size ≡ stack.old.rules.sector_size }
     ensures looks { IsLookedAt stack.old stack.new }
     ensures sectors { IfOk result (λ sectors. (p : ℕ) → IsOn stack.old handle p → sectors ≡ (extent_at stack.old.rules.partitions p).count) }
-    ensures why { IfErr result IsWant }
+    ensures why { IfErr result (IsWantOf stack.old 40) }
 {
     let mut low = 1;
     let mut high = PAST_ALL;
@@ -204,8 +205,9 @@ fn reaches<A: Adapter>(
     requires ready { IsReady stack.old }
     requires on { (p : ℕ) × IsOn stack.old handle p }
     ensures looks { IsLookedAt stack.old stack.new }
+    ensures numbers { stack.new.state.next_request ≤ stack.old.state.next_request + 1 }
     ensures reaches { IfOk result (λ reaches. (p : ℕ) → IsOn stack.old handle p → IsTrue reaches ↔ Reaches stack.old.rules p offset) }
-    ensures why { IfErr result IsWant }
+    ensures why { IfErr result (IsWantOf stack.old 1) }
 {
     let event = empty_read(alloc, handle, offset);
     match carry_out(stack, alloc, event) {

@@ -5,18 +5,18 @@ use Rattle.nbd.proofs.session.exchange.Goals as goal
 pub returns-in_err-request-clause-ended : goal.returns-in_err-request-clause-ended
 returns-in_err-request-clause-ended g c =
     let given : c.from_residual.result ≡ Err c.in_err-request.field-0.0 = search rules in
-    rw given (ends_at_once _ _ _ _ c.in_err-request.ensures.ended)
+    rw given (ends_at_once _ _ _ _ _ c.in_err-request.ensures.ended)
 
 pub returns-in_err-answer-clause-ended : goal.returns-in_err-answer-clause-ended
 returns-in_err-answer-clause-ended g c =
     let given : c.from_residual-in_err-answer.result ≡ Err c.in_err-answer.field-0.0 = search rules in
-    rw given (ends_unserved _ _ _ _ _ c.in_err-answer.ensures.ended.0 c.in_err-answer.ensures.ended.1)
+    rw given (ends_unserved _ _ _ _ _ _ c.in_err-answer.ensures.ended.0 c.in_err-answer.ensures.ended.1)
 
 pub returns-in_err-tell-clause-ended : goal.returns-in_err-tell-clause-ended
 returns-in_err-tell-clause-ended g c =
     let given : c.from_residual-in_err-tell.result ≡ Err c.in_err-tell.field-0.0 = search rules in
-    rw given (ends_untold _ _ _ _ _ _ _ _ _ _ c.in_err-tell.ensures.ended c.in_ok-request.ensures.taken c.in_ok-answer.ensures.served)
+    rw given (ends_untold _ _ _ _ _ _ _ _ _ _ _ c.in_err-tell.ensures.ended c.in_ok-request.ensures.taken c.in_ok-answer.ensures.served)
 
 pub returns-clause-exchanged : goal.returns-clause-exchanged
 returns-clause-exchanged g c =
-    exchanged _ _ _ _ _ _ _ _ _ c.in_ok-request.ensures.taken c.in_ok-answer.ensures.served c.in_ok-tell.ensures.told
+    exchanged _ _ _ _ _ _ _ _ _ _ c.in_ok-request.ensures.taken c.in_ok-answer.ensures.served c.in_ok-tell.ensures.told

@@ -1,0 +1,101 @@
+//! A client's session over storage whose content isn't shown.
+
+ghost use Rattle.std.specs.Prelude.{◌≡◌, IfErr, IfOk, OnOk};
+ghost use Rattle.nbd.specs.Replies.{outcome_of};
+ghost use Rattle.nbd.specs.Over.{EndsOver, IsExchangedOver, IsServedOver, IsSessionOver};
+
+use crate::End;
+use crate::backing::Backing;
+use crate::handshake::{answer_options, greet};
+use crate::replies::Answer;
+use crate::requests::{ReplyError, Request, command_of, payload_count};
+use crate::session::{next_request, tell};
+use crate::streams::{skip, take_all};
+use std::alloc::Global;
+use std::io::{Read, Write};
+
+/// Serves a client as [`serve`](crate::serve), over storage whose content isn't shown.
+pub fn serve_over<R: Read, W: Write, B: Backing>(
+    alloc: Global,
+    backing: &mut B,
+    input: &mut R,
+    out: &mut W,
+) -> End
+    ensures { IsSessionOver B.Carries (B.shape backing.old) backing.old (R.remaining input.old) (W.contents out.old) result backing.new (W.contents out.new) }
+{
+    let no_zeroes = match greet(input, out) {
+        Ok(no_zeroes) => no_zeroes,
+        Err(end) => return end,
+    };
+    match answer_options(input, out, backing.sizes(), no_zeroes) {
+        Ok(()) => serve_requests(alloc, backing, input, out),
+        Err(end) => end,
+    }
+}
+
+/// Serves requests until the client leaves, or can't go on.
+fn serve_requests<R: Read, W: Write, B: Backing>(
+    alloc: Global,
+    backing: &mut B,
+    input: &mut R,
+    out: &mut W,
+) -> End
+    ensures { EndsOver B.Carries (B.shape backing.old) backing.old (R.remaining input.old) (W.contents out.old) result backing.new (W.contents out.new) }
+{
+    for _ in 0..u64::MAX {
+        if let Err(end) = exchange(alloc, backing, input, out) {
+            return end;
+        }
+    }
+    End::Input
+}
+
+/// Serves one request.
+///
+/// # Errors
+///
+/// How the session ends.
+fn exchange<R: Read, W: Write, B: Backing>(
+    alloc: Global,
+    backing: &mut B,
+    input: &mut R,
+    out: &mut W,
+) -> Result<(), End>
+    ensures exchanged { OnOk result (IsExchangedOver B.Carries (B.shape backing.old) backing.old (R.remaining input.old) (W.contents out.old) backing.new (R.remaining input.new) (W.contents out.new)) }
+    ensures ended { IfErr result (λ end. EndsOver B.Carries (B.shape backing.old) backing.old (R.remaining input.old) (W.contents out.old) end backing.new (W.contents out.new)) }
+    ensures same { B.shape backing.new ≡ B.shape backing.old }
+{
+    let request = next_request(input)?;
+    let answer = serve_request(alloc, backing, input, request)?;
+    tell(out, request.cookie, answer)?;
+    Ok(())
+}
+
+/// Does what a request asks for, if it may be done. The bytes behind it are taken in each case.
+///
+/// # Errors
+///
+/// [`End::Input`] where the bytes behind it don't come. The storage is then as it was.
+fn serve_request<R: Read, B: Backing>(
+    alloc: Global,
+    backing: &mut B,
+    input: &mut R,
+    request: Request,
+) -> Result<Answer, End>
+    ensures served { IfOk result (λ answer. IsServedOver B.Carries (B.shape backing.old) request backing.old (R.remaining input.old) (R.remaining input.new) (outcome_of answer) backing.new) }
+    ensures ended { IfErr result (λ end. (end ≡ End.Input) × (backing.new ≡ backing.old)) }
+    ensures same { B.shape backing.new ≡ B.shape backing.old }
+{
+    match command_of(request, backing.sizes()) {
+        Err(error) => {
+            skip(input, payload_count(request))?;
+            Ok(Answer::Refused(error))
+        }
+        Ok(command) => {
+            let Some(payload) = take_all(alloc, input, payload_count(request))? else {
+                return Ok(Answer::Refused(ReplyError::Enomem));
+            };
+            Ok(backing.carry_out(alloc, command, payload))
+        }
+    }
+}
