@@ -1,26 +1,26 @@
 # What words ask of the judge, the answers that take no program, and its answers by an unproved build.
 
-judge_usage='usage: stackjudge check CONFIG TRACE | stackjudge record CONFIG SCRIPT | stackjudge picture [--events] TRACE'
+judge_usage='usage: stackjudge check [--any-cut] CONFIG TRACE | stackjudge record CONFIG SCRIPT | stackjudge picture [--events] TRACE'
 
 # Whether the word `asked` has the words behind it that it takes.
 has_judge_words() {
     case $asked in
-        check | record) [ ${#values[@]} = 2 ] ;;
-        picture) [ ${#values[@]} = 1 ] && [ ${#events[@]} -le 1 ] ;;
+        check | record) [ ${#values[@]} = 2 ] && [ ${#options[@]} -le 1 ] ;;
+        picture) [ ${#values[@]} = 1 ] && [ ${#options[@]} -le 1 ] ;;
         *) false ;;
     esac
 }
 
-# Sets `asked` to check, record, picture or nothing, `values` to its paths, and `events` to its option. Behind `--` no word is
-# an option.
+# Sets `asked` to check, record, picture or nothing, `values` to its paths, and `options` to its option. Behind `--` no word
+# is an option.
 read_judge_words() {
     local word plain=
-    asked=${1-} events=() values=()
+    asked=${1-} options=() values=()
     for word in "${@:2}"; do
         if [ -z "$plain" ] && [ "$word" = -- ]; then
             plain=yes
-        elif [ -z "$plain" ] && [ "$asked $word" = 'picture --events' ]; then
-            events+=("$word")
+        elif [ -z "$plain" ] && [[ "$asked $word" = 'picture --events' || "$asked $word" = 'check --any-cut' ]]; then
+            options+=("$word")
         elif [ -z "$plain" ] && [[ $word = -?* ]]; then
             asked=nothing
         else
@@ -53,7 +53,7 @@ answer_judge_at_once() {
 
 # Standard input is given as a file.
 judge_unproved() {
-    local given=() words=("$asked" config told) told=${values[-1]}
+    local given=() words=("$asked" "${options[@]}" config told) told=${values[-1]}
     make_scratch
     if [ "$told" = - ]; then
         cat > "$scratch/told"
@@ -62,7 +62,7 @@ judge_unproved() {
     is_small "$told" || return 0
     give told "$told"
     if [ "$asked" = picture ]; then
-        words=(picture "${events[@]}" told)
+        words=(picture "${options[@]}" told)
     else
         is_small "${values[0]}" || return 0
         give config "${values[0]}"

@@ -82,12 +82,27 @@ add_wrong_bodies() {
     done < "$top/examples/judged/wrong_bodies"
 }
 
+# Adds a trace of another stack, which cuts requests otherwise than this one: it is refused, and legal where any cut will do.
+add_cuts() {
+    local folder=$top/examples/judged
+    add_case_of cuts.refused check "$folder" "$folder/cut_elsewhere.trace"
+    want cuts.refused 1 << 'END'
+line 4: request 1 asks for it, but no piece begins at its sector 8: it is cut at multiples of 64
+open: request 1, begun
+out: piece 1 of request 1, on tag 0
+END
+    add_case_of cuts.legal check "$folder" "$folder/cut_elsewhere.trace"
+    sed -i '1a --any-cut' "$scratch/cases/cuts.legal.args"
+    want cuts.legal 0 <<< 'legal: 8 labels, 1 requests, 2 pieces'
+}
+
 make_judge_cases() {
     local folder
     mkdir -p "$scratch"/{cases,wanted,found}
     while IFS= read -r folder; do add_recorded "$folder"; done < <(recorded_folders)
     add_picture
     add_wrong_bodies
+    add_cuts
     add_words "$top/launcher/judged_at_once"
 }
 
@@ -100,6 +115,7 @@ count_judge_cases() {
     count_cases "stackjudge, their traces judged" check.
     count_cases "stackjudge, the picture" picture
     count_cases "stackjudge, wrong bodies" wrong.
+    count_cases "stackjudge, cuts of another stack" cuts.
     count_cases "stackjudge, words answered at once" words.
     cp "$scratch"/*.counts "${scratch%/*}"
 }

@@ -37,7 +37,7 @@ const SEED: u64 = 7;
 /// The number of random runs where none is given.
 const RUNS: u64 = 5000;
 
-/// What the command line asks for: a seed, and a number of runs.
+/// Returns what the command line asks for: a seed, and a number of runs.
 fn asked(rt: &HostRuntime) -> Result<(u64, u64), HostileFault> {
     let words = match env::args(rt) {
         Ok(words) => words.collect::<Vec<String>>(rt.alloc())?,

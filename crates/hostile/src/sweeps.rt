@@ -112,7 +112,7 @@ fn fail(alloc: Global, row: &Row, act: u64, tally: &mut Tally) -> Result<bool, H
     Ok(act < acts(&told))
 }
 
-/// How many acts came, with the two of a start.
+/// Returns how many acts came, with the two of a start.
 fn acts(told: &Told) -> u64 {
     let mut acts: u64 = 2;
     for label in &told.labels {

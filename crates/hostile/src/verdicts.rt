@@ -111,6 +111,7 @@ fn rules_of(alloc: Global, layout: &Layout) -> Result<MachineRules, AllocError> 
         window: Some(layout.window as u64),
         one_piece: false,
         busy_limit: BUSY_LIMIT,
+        any_cut: false,
         faithful: true,
     })
 }

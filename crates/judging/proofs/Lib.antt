@@ -7,3 +7,4 @@ mod Emitted
 mod Blaming
 mod SaidOfTraces
 mod Stopping
+mod Flags

@@ -6,9 +6,10 @@ use Rattle.std.proofs.lemmas.Str.{IsUtf8-from_is_utf8}
 use Rattle.settings.specs.declared.Config.{Config}
 use Rattle.startup.specs.Reading.{AreRead, IsAllOf}
 use Rattle.startup.specs.declared.ending.Verdict.{Verdict}
-use Rattle.judging.specs.Checked.{IsCheckFault, IsOutputFault, IsSaid, IsTextFault, IsUnreadTrace, PrintsVerdict}
+use Rattle.judging.specs.Checked.{IsCheckFault, IsFaultBy, IsOutputFault, IsSaid, IsTextFault, IsUnreadTrace, PrintsBy, PrintsVerdict}
 use Rattle.judging.specs.Told.{AreTold}
 use Rattle.judging.specs.declared.told.Told.{Told}
+use Rattle.judging.specs.declared.opened.Standard.{Standard}
 use Rattle.judging.specs.declared.faults.Fault.{Fault}
 use Rattle.judging.specs.declared.faults.Fault.TheVariants.{Usage, Startup, TraceUnreadable, ScriptUnreadable, BadLine, Script, OutputFailed, NoMemory}
 
@@ -40,8 +41,8 @@ module _ (config trace : Option (List ℕ)) (settings : Config) (are_read : AreR
     by_lines OutputFailed bad = absurd bad
 
     module _ (told : Told) (are_told : AreTold (lines text) told) where
-      pub printed : (a b : Option (List ℕ)) (result : Result Verdict Fault) → IfOk result (IsSaid settings told a b) → IfOk result (PrintsVerdict config trace a b)
-      printed a b (Ok verdict) h = record {
+      pub printed : (any_cut : Bool) (a b : Option (List ℕ)) (verdict : Verdict) → IsSaid (record { config = settings; any_cut = any_cut }) told a b verdict → PrintsVerdict any_cut config trace a b verdict
+      printed any_cut a b verdict h = record {
         settings = settings;
         are_read = are_read;
         text = text;
@@ -52,12 +53,31 @@ module _ (config trace : Option (List ℕ)) (settings : Config) (are_read : AreR
         says = h.says;
         appends = h.appends;
       }
-      printed a b (Err fault) h = tt
 
-      unsaid : (fault : Fault) → IsOutputFault fault → IsCheckFault config trace fault
+      pub unsaid : (fault : Fault) → IsOutputFault fault → IsCheckFault config trace fault
       unsaid fault (inl is) = subst (IsCheckFault config trace) (sym is) (settings, are_read, (text, whole, told, are_told))
       unsaid fault (inr is) = subst (IsCheckFault config trace) (sym is) tt
 
-      pub not_said : (result : Result Verdict Fault) → IfErr result IsOutputFault → IfErr result (IsCheckFault config trace)
-      not_said (Ok verdict) h = tt
-      not_said (Err fault) h = unsaid fault h
+-- by a standard, over whatever gave its settings
+pub printed_by : (standard : Standard) (trace : Option (List ℕ)) (text bytes items : List ℕ) (all : IsAllOf trace items) (same_text : text ≡ bytes) (same_bytes : bytes ≡ items)
+    (told : Told) (are_told : AreTold (lines text) told) (a b : Option (List ℕ)) (result : Result Verdict Fault) → IfOk result (IsSaid standard told a b) → IfOk result (PrintsBy standard trace a b)
+printed_by standard trace text bytes items all same_text same_bytes told are_told a b (Ok verdict) h =
+    λ config read. printed config trace standard.config read text bytes items all same_text same_bytes told are_told standard.any_cut a b verdict h
+printed_by standard trace text bytes items all same_text same_bytes told are_told a b (Err fault) h = tt
+
+pub not_said_by : (standard : Standard) (trace : Option (List ℕ)) (text bytes items : List ℕ) (all : IsAllOf trace items) (same_text : text ≡ bytes) (same_bytes : bytes ≡ items)
+    (told : Told) (are_told : AreTold (lines text) told) (result : Result Verdict Fault) → IfErr result IsOutputFault → IfErr result (IsFaultBy standard trace)
+not_said_by standard trace text bytes items all same_text same_bytes told are_told (Ok verdict) h = tt
+not_said_by standard trace text bytes items all same_text same_bytes told are_told (Err fault) h =
+    λ config read. unsaid config trace standard.config read text bytes items all same_text same_bytes told are_told fault h
+
+-- a call of it, over the input that gave the settings
+pub printed_over : (standard : Standard) (config trace a b : Option (List ℕ)) (result : Result Verdict Fault) → AreRead config standard.config → IfOk result (PrintsBy standard trace a b)
+    → IfOk result (PrintsVerdict standard.any_cut config trace a b)
+printed_over standard config trace a b (Ok verdict) read h = h config read
+printed_over standard config trace a b (Err fault) read h = tt
+
+pub fault_over : (standard : Standard) (config trace : Option (List ℕ)) (result : Result Verdict Fault) → AreRead config standard.config → IfErr result (IsFaultBy standard trace)
+    → IfErr result (IsCheckFault config trace)
+fault_over standard config trace (Ok verdict) read h = tt
+fault_over standard config trace (Err fault) read h = h config read

@@ -12,11 +12,10 @@ use Rattle.judge.specs.Refusals.{IsRefusal}
 use Rattle.judge.specs.declared.label_rules.Rule.{Rule}
 use Rattle.judge.specs.declared.stepwise.Refusal.{Refusal}
 use Rattle.judge.specs.declared.stepwise.Refusal.TheVariants as refusal
-use Rattle.settings.specs.declared.Config.{Config}
-use Rattle.startup.specs.Started.{rules_of}
+use Rattle.judging.specs.declared.opened.Standard.{Standard}
 use Rattle.std.specs.Io.KnownBytes.{Appends}
 use Rattle.startup.specs.declared.ending.Verdict.TheVariants.{Failed}
-use Rattle.judging.specs.Checked.{AreJudged, IsFirstBroken, IsFound, IsJudged, IsSaid, arrays_of, refused_line}
+use Rattle.judging.specs.Checked.{AreJudged, IsFirstBroken, IsFound, IsJudged, IsSaid, arrays_of, refused_line, rules_by}
 use Rattle.judging.specs.declared.told.Told.{Told}
 use Rattle.judging.specs.declared.checking.Stop.{Stop}
 
@@ -82,10 +81,10 @@ pub refused_here : (start now : JudgeView) (labels : List Label) (at : ℕ) (lab
 refused_here start now labels at label r rule h low is breaks refuses = stops_here start now labels at label rule h low is (subst (IsRefusal now label) breaks refuses)
 
 -- over the machine of settings
-module _ (c : Config) (j : JudgeView) (arrays : List (List (List ℕ))) (labels : List Label)
-    (rules_are : j.rules ≡ rules_of c) (arrays_are : arrays ≡ arrays_of c) (none : HasTaken j arrays []) where
-  of_settings : (found : Option (ℕ × Rule)) → IsFound j labels found → AreJudged (rules_of c) (arrays_of c) labels found
-  of_settings found is = subst (λ a. AreJudged (rules_of c) a labels found) arrays_are (subst (λ r. AreJudged r arrays labels found) rules_are (is arrays none))
+module _ (c : Standard) (j : JudgeView) (arrays : List (List (List ℕ))) (labels : List Label)
+    (rules_are : j.rules ≡ rules_by c) (arrays_are : arrays ≡ arrays_of c.config) (none : HasTaken j arrays []) where
+  of_settings : (found : Option (ℕ × Rule)) → IsFound j labels found → AreJudged (rules_by c) (arrays_of c.config) labels found
+  of_settings found is = subst (λ a. AreJudged (rules_by c) a labels found) arrays_are (subst (λ r. AreJudged r arrays labels found) rules_are (is arrays none))
 
   pub judged_legal : IsFound j labels None → IsJudged c labels None
   judged_legal is = of_settings None is
@@ -94,11 +93,11 @@ module _ (c : Config) (j : JudgeView) (arrays : List (List (List ℕ))) (labels 
   judged_broken stop is = of_settings (Some (stop.at, stop.rule)) is
 
 -- it is one of the labels
-pub is_within : (c : Config) (labels : List Label) (stop : Stop) → IsJudged c labels (Some stop) → stop.at < length labels
+pub is_within : (c : Standard) (labels : List Label) (stop : Stop) → IsJudged c labels (Some stop) → stop.at < length labels
 is_within c labels stop is = is.stops.within
 
 -- and is told with its line
-pub said_broken : (c : Config) (told : Told) (stop : Stop) (number : ℕ) (sentence : List ℕ) (old new : Option (List ℕ)) → IsJudged c told.labels.items (Some stop)
+pub said_broken : (c : Standard) (told : Told) (stop : Stop) (number : ℕ) (sentence : List ℕ) (old new : Option (List ℕ)) → IsJudged c told.labels.items (Some stop)
     → slice_get told.lines.items stop.at ≡ Some number → Appends old new (refused_line number sentence) → IsSaid c told old new Failed
 said_broken c told stop number sentence old new is there appends = record {
   line = refused_line number sentence;

@@ -23,6 +23,7 @@ use Rattle.startup.specs.declared.ending.Verdict.TheVariants.{Passed, Failed}
 use Rattle.label_text.specs.Lines.{Spells}
 use Rattle.judging.specs.Told.{AreTold, IsFirstBad}
 use Rattle.judging.specs.declared.told.Told.{Told}
+use Rattle.judging.specs.declared.opened.Standard.{Standard}
 use Rattle.judging.specs.declared.checking.Stop.{Stop}
 use Rattle.judging.specs.declared.faults.Fault.{Fault}
 use Rattle.judging.specs.declared.faults.Fault.TheVariants.{Usage, Startup, TraceUnreadable, ScriptUnreadable, BadLine, Script, OutputFailed, NoMemory}
@@ -30,6 +31,10 @@ use Rattle.judging.specs.declared.faults.Fault.TheVariants.{Usage, Startup, Trac
 -- the sectors of each partition of the settings: zeros
 abbrev pub arrays_of : Config → List (List (List ℕ))
 arrays_of c = map (λ extent. zeros c extent.count) (extents_of c)
+
+-- the rules that a trace is judged by: those of the settings, with any cut where that is asked for
+abbrev pub rules_by : Standard → Rules
+rules_by standard = record (rules_of standard.config) { any_cut = standard.any_cut }
 
 -- the machine of the settings before its first label
 abbrev pub opening_of : Config → State
@@ -73,14 +78,14 @@ abbrev pub IsFound : JudgeView → List Label → Option (ℕ × Rule) → Type 
 IsFound judge labels found = (arrays : List (List (List ℕ))) → HasTaken judge arrays [] → AreJudged judge.rules arrays labels found
 
 -- a line that says what the labels of a trace are: a run of the settings' machine, or none from this line on
-abbrev pub Says : Config → Told → Verdict → List ℕ → Type 0
-Says c told Passed line = IsRun (rules_of c) (opening_of c) told.labels.items × (line ≡ legal_line told.labels.items)
-Says c told Failed line =
-    (at : ℕ) × (rule : Rule) × IsFirstBroken (rules_of c) (arrays_of c) told.labels.items at rule
+abbrev pub Says : Standard → Told → Verdict → List ℕ → Type 0
+Says standard told Passed line = IsRun (rules_by standard) (opening_of standard.config) told.labels.items × (line ≡ legal_line told.labels.items)
+Says standard told Failed line =
+    (at : ℕ) × (rule : Rule) × IsFirstBroken (rules_by standard) (arrays_of standard.config) told.labels.items at rule
     × ((number : ℕ) × (slice_get told.lines.items at ≡ Some number) × ((sentence : List ℕ) × (line ≡ refused_line number sentence)))
 
--- the verdict on the trace that an input gives, over the settings that another gives, was printed
-pub record PrintsVerdict (config trace : Option (List ℕ)) (old new : Option (List ℕ)) (verdict : Verdict) : Type 0 where
+-- the verdict on the trace that an input gives, over the settings that another gives, was printed; for any cut or not
+pub record PrintsVerdict (any_cut : Bool) (config trace : Option (List ℕ)) (old new : Option (List ℕ)) (verdict : Verdict) : Type 0 where
   pub settings : Config
   pub are_read : AreRead config settings
   pub text : List ℕ
@@ -88,19 +93,23 @@ pub record PrintsVerdict (config trace : Option (List ℕ)) (old new : Option (L
   pub told : Told
   pub are_told : AreTold (lines text) told
   pub line : List ℕ
-  pub says : Says settings told verdict line
+  pub says : Says (record { config = settings; any_cut = any_cut }) told verdict line
   pub appends : Appends old new line
 
 -- what labels are: a run, or none from the label of this place on, which breaks this rule
-abbrev pub IsJudged : Config → List Label → Option Stop → Type 0
-IsJudged c labels None = IsRun (rules_of c) (opening_of c) labels
-IsJudged c labels (Some stop) = IsFirstBroken (rules_of c) (arrays_of c) labels stop.at stop.rule
+abbrev pub IsJudged : Standard → List Label → Option Stop → Type 0
+IsJudged standard labels None = IsRun (rules_by standard) (opening_of standard.config) labels
+IsJudged standard labels (Some stop) = IsFirstBroken (rules_by standard) (arrays_of standard.config) labels stop.at stop.rule
 
 -- a line that says what they are was printed
-pub record IsSaid (c : Config) (told : Told) (old new : Option (List ℕ)) (verdict : Verdict) : Type 0 where
+pub record IsSaid (standard : Standard) (told : Told) (old new : Option (List ℕ)) (verdict : Verdict) : Type 0 where
   pub line : List ℕ
-  pub says : Says c told verdict line
+  pub says : Says standard told verdict line
   pub appends : Appends old new line
+
+-- the verdict is printed, over whatever gave the settings
+abbrev pub PrintsBy : Standard → Option (List ℕ) → Option (List ℕ) → Option (List ℕ) → Verdict → Type 0
+PrintsBy standard trace old new verdict = (config : Option (List ℕ)) → AreRead config standard.config → PrintsVerdict standard.any_cut config trace old new verdict
 
 -- WHY NOTHING IS SAID
 
@@ -138,3 +147,7 @@ IsCheckFault config trace (BadLine line column) = (settings : Config) × AreRead
 IsCheckFault config trace (Script fault) = ⊥
 IsCheckFault config trace OutputFailed = (settings : Config) × AreRead config settings × ((text : List ℕ) × IsAllOf trace text × (told : Told) × AreTold (lines text) told)
 IsCheckFault config trace NoMemory = Unit {0}
+
+-- the same over whatever gave the settings
+abbrev pub IsFaultBy : Standard → Option (List ℕ) → Fault → Type 0
+IsFaultBy standard trace fault = (config : Option (List ℕ)) → AreRead config standard.config → IsCheckFault config trace fault

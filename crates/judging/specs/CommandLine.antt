@@ -1,6 +1,6 @@
 -- The command line that the program takes, in the words of its parser.
-use Rattle.std.specs.Prelude.{◌≡◌, true, List, Option, Some, codes}
-use Rattle.clap.specs.Words.{App, Row, Rule, Text, first_of, new_app, new_rule, subcommand_of, with_rule, with_subcommand}
+use Rattle.std.specs.Prelude.{◌≡◌, Bool, true, false, List, Option, None, Some, codes}
+use Rattle.clap.specs.Words.{App, Row, Rule, Text, first_of, one_of, new_app, new_rule, subcommand_of, with_rule, with_subcommand}
 use Rattle.clap.specs.Takes.{takes}
 use Rattle.clap.specs.declared.builder.ArgAction.TheVariants.{Set, SetTrue}
 use Rattle.judging.specs.declared.words.asked.Command.{Command}
@@ -10,9 +10,13 @@ use Rattle.judging.specs.declared.words.asked.Command.TheVariants.{Check, Pictur
 abbrev pub word_rule : Text → Rule
 word_rule name = record (new_rule name) { required = true; action = Some Set }
 
--- check CONFIG TRACE
+-- --any-cut, which may be there
+abbrev pub any_cut_rule : Rule
+any_cut_rule = record (new_rule (codes "any-cut")) { long = Some (codes "any-cut"); action = Some SetTrue }
+
+-- check [--any-cut] CONFIG TRACE
 abbrev pub check_words : App
-check_words = with_rule (with_rule (new_app (codes "check")) (word_rule (codes "CONFIG"))) (word_rule (codes "TRACE"))
+check_words = with_rule (with_rule (with_rule (new_app (codes "check")) (word_rule (codes "CONFIG"))) (word_rule (codes "TRACE"))) any_cut_rule
 
 -- record CONFIG SCRIPT
 abbrev pub record_words : App
@@ -30,15 +34,21 @@ picture_words = with_rule (with_rule (new_app (codes "picture")) (word_rule (cod
 abbrev pub program : App
 program = with_subcommand (with_subcommand (with_subcommand (new_app (codes "stackjudge")) check_words.top) record_words.top) picture_words.top
 
--- a command has what the parser found under the names of its words; of --events nothing is said
+-- a flag is as the parser read the text of its argument, and not set where it has none
+abbrev pub IsFlag : Option Text → Bool → Type 0
+IsFlag None flag = flag ≡ false
+IsFlag (Some text) flag = (text ≡ codes "true" → flag ≡ true) × (text ≡ codes "false" → flag ≡ false)
+
+-- a command has what the parser found under the names of its words
 abbrev pub HasWords : List Row → Command → Type 0
-HasWords rows (Check config trace) = (first_of (codes "CONFIG") rows ≡ Some config.now) × (first_of (codes "TRACE") rows ≡ Some trace.now)
+HasWords rows (Check config trace any_cut) = (first_of (codes "CONFIG") rows ≡ Some config.now) × (first_of (codes "TRACE") rows ≡ Some trace.now)
+    × IsFlag (one_of (codes "any-cut") rows) any_cut
 HasWords rows (Record config script) = (first_of (codes "CONFIG") rows ≡ Some config.now) × (first_of (codes "SCRIPT") rows ≡ Some script.now)
-HasWords rows (Picture trace events) = first_of (codes "TRACE") rows ≡ Some trace.now
+HasWords rows (Picture trace events) = (first_of (codes "TRACE") rows ≡ Some trace.now) × IsFlag (one_of (codes "events") rows) events
 
 -- the word that a command begins with
 abbrev pub name_of : Command → Text
-name_of (Check config trace) = codes "check"
+name_of (Check config trace any_cut) = codes "check"
 name_of (Record config script) = codes "record"
 name_of (Picture trace events) = codes "picture"
 

@@ -10,7 +10,7 @@ use Rattle.judging.specs.declared.faults.Fault.TheVariants.{Usage, Startup, Trac
 
 -- the line of a fault, without its end
 abbrev pub line_of : Fault → List ℕ
-line_of Usage = codes "usage: stackjudge check CONFIG TRACE | stackjudge record CONFIG SCRIPT | stackjudge picture [--events] TRACE"
+line_of Usage = codes "usage: stackjudge check [--any-cut] CONFIG TRACE | stackjudge record CONFIG SCRIPT | stackjudge picture [--events] TRACE"
 line_of (Startup fault) = codes "stackjudge: " ++ startup_text fault
 line_of TraceUnreadable = codes "stackjudge: cannot read TRACE"
 line_of ScriptUnreadable = codes "stackjudge: cannot read SCRIPT"

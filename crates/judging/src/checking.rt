@@ -1,47 +1,86 @@
 //! A trace, judged.
 
-ghost use Rattle.std.specs.Prelude.{◌≡◌, IfErr, IfOk, OnOk, count_by, length, string_bytes};
+ghost use Rattle.std.specs.Prelude.{◌≡◌, false, true, IfErr, IfOk, OnOk, count_by, length, string_bytes};
 ghost use Rattle.std.specs.Io.KnownBytes.{Appends};
 ghost use Rattle.startup.specs.Reading.{IsAllOf};
-ghost use Rattle.judging.specs.Checked.{IsCheckFault, IsFound, IsJudged, IsOutputFault, IsSaid, IsUnreadTrace, PrintsVerdict, is_call, is_start, legal_line, refused_line};
+ghost use Rattle.judging.specs.Checked.{IsCheckFault, IsFaultBy, IsFound, IsJudged, IsOutputFault, IsSaid, IsUnreadTrace, PrintsBy, PrintsVerdict, is_call, is_start, legal_line, refused_line};
 ghost use Rattle.judging.specs.declared.faults.Fault.TheVariants.{NoMemory};
 
 use crate::Fault;
-use crate::opened::{arrays_of, rules_of};
+use crate::opened::{Standard, arrays_of, rules_of};
 use crate::told::{Told, told_by};
 use judge::stepwise::{Judge, Refusal};
 use judge::{Machine, Rule};
 use machine::Label;
-use settings::Config;
 use srb::DeviceLabel;
 use startup::{Verdict, contents, fault_of, read_settings};
 use std::alloc::{AllocError, Global};
 use std::io;
 use std::io::{Read, Write};
 
-/// Judges a trace by the machine of some settings, and writes what it is: `legal` with its numbers, or the number of the first
-/// line that no step of the machine allows, a rule that it breaks, and what was open and at the adapter there.
+/// Judges a trace by the machine of some settings, and writes what it is: `legal` with its numbers, or the number of
+/// the first line that no step of the machine allows, a rule that it breaks, and what was open and at the adapter
+/// there.
 ///
 /// # Errors
 ///
-/// The first of these that fits: the settings can't be read, or are refused; the trace can't be read, or has a bad line;
-/// `out` failed. [`Fault::NoMemory`] in place of any of them, where memory was refused, or a count of the trace is full.
+/// The first of these that fits: the settings can't be read, or are refused; the trace can't be read, or has a bad
+/// line; `out` failed. [`Fault::NoMemory`] in place of any of them, where memory was refused, or a count of the trace
+/// is full.
 pub fn check<C: Read + Drop, T: Read + Drop, O: Write>(
     alloc: Global,
     config: C,
     trace: T,
     out: &mut O,
 ) -> Result<Verdict, Fault>
-    ensures printed { IfOk result (PrintsVerdict (C.remaining config) (T.remaining trace) (O.contents out.old) (O.contents out.new)) }
+    ensures printed { IfOk result (PrintsVerdict false (C.remaining config) (T.remaining trace) (O.contents out.old) (O.contents out.new)) }
     ensures fault { IfErr result (IsCheckFault (C.remaining config) (T.remaining trace)) }
 {
-    let config = read_settings(alloc, config)?;
+    let standard = Standard {
+        config: read_settings(alloc, config)?,
+        any_cut: false,
+    };
+    check_by(alloc, &standard, trace, out)
+}
+
+/// The same for a stack that cuts a request anywhere: a piece may begin at any place of it, and start again without
+/// end.
+///
+/// # Errors
+///
+/// As for [`check`].
+pub fn check_any_cut<C: Read + Drop, T: Read + Drop, O: Write>(
+    alloc: Global,
+    config: C,
+    trace: T,
+    out: &mut O,
+) -> Result<Verdict, Fault>
+    ensures printed { IfOk result (PrintsVerdict true (C.remaining config) (T.remaining trace) (O.contents out.old) (O.contents out.new)) }
+    ensures fault { IfErr result (IsCheckFault (C.remaining config) (T.remaining trace)) }
+{
+    let standard = Standard {
+        config: read_settings(alloc, config)?,
+        any_cut: true,
+    };
+    check_by(alloc, &standard, trace, out)
+}
+
+/// Judges a trace by a standard, and writes what it is.
+fn check_by<T: Read + Drop, O: Write>(
+    alloc: Global,
+    standard: &Standard,
+    trace: T,
+    out: &mut O,
+) -> Result<Verdict, Fault>
+    ensures printed { IfOk result (PrintsBy standard.now (T.remaining trace) (O.contents out.old) (O.contents out.new)) }
+    ensures fault { IfErr result (IsFaultBy standard.now (T.remaining trace)) }
+{
     let trace = bytes_of(alloc, trace)?;
     let Ok(text) = std::str::from_utf8(trace.as_slice()) else {
         return Err(Fault::BadLine { line: 1, column: 1 });
     };
     let told = told_by(alloc, text)?;
-    say_verdict(alloc, &config, &told, out)
+    say_verdict(alloc, standard, &told, out)
 }
 
 /// All bytes of a trace.
@@ -59,15 +98,15 @@ pub(crate) fn bytes_of<R: Read + Drop>(alloc: Global, trace: R) -> Result<Vec<u8
 #[tactic(auto, using(crate::proofs::Stopping::is_within, crate::proofs::Stopping::said_broken))]
 fn say_verdict<O: Write>(
     alloc: Global,
-    config: &Config,
+    standard: &Standard,
     told: &Told,
     out: &mut O,
 ) -> Result<Verdict, Fault>
     requires { length told.now.lines.items ≡ length told.now.labels.items }
-    ensures said { IfOk result (IsSaid config.now told.now (O.contents out.old) (O.contents out.new)) }
+    ensures said { IfOk result (IsSaid standard.now told.now (O.contents out.old) (O.contents out.new)) }
     ensures fault { IfErr result IsOutputFault }
 {
-    match judged(alloc, config, told.labels.as_slice())? {
+    match judged(alloc, standard, told.labels.as_slice())? {
         None => {
             say_legal(out, told.labels.as_slice())?;
             Ok(Verdict::Passed)
@@ -90,13 +129,13 @@ struct Stop {
     sentence: String,
 }
 
-/// The first label that no step of the machine of some settings allows, if there is one, and a rule that it breaks.
-fn judged(alloc: Global, config: &Config, labels: &[Label]) -> Result<Option<Stop>, Fault>
-    ensures judged { IfOk result (IsJudged config.now labels.now) }
+/// The first label that no step of a standard's machine allows, if there is one, and a rule that it breaks.
+fn judged(alloc: Global, standard: &Standard, labels: &[Label]) -> Result<Option<Stop>, Fault>
+    ensures judged { IfOk result (IsJudged standard.now labels.now) }
     ensures fault { IfErr result (λ fault. fault ≡ NoMemory) }
 {
-    let rules = rules_of(alloc, config)?;
-    let arrays = arrays_of(alloc, config)?;
+    let rules = rules_of(alloc, standard)?;
+    let arrays = arrays_of(alloc, &standard.config)?;
     let Ok(mut judge) = Judge::new(alloc, rules, arrays) else {
         return Err(Fault::NoMemory);
     };
@@ -180,7 +219,7 @@ fn say_refused<O: Write>(out: &mut O, number: u64, sentence: &String) -> io::Res
     writeln!(out, "line {number}: {sentence}")
 }
 
-/// How many labels are calls.
+/// Returns how many labels are calls.
 fn count_calls(labels: &[Label]) -> usize
     ensures { result ≡ count_by is_call labels.now }
 {
@@ -193,7 +232,7 @@ fn count_calls(labels: &[Label]) -> usize
     count
 }
 
-/// How many labels start a piece.
+/// Returns how many labels start a piece.
 fn count_starts(labels: &[Label]) -> usize
     ensures { result ≡ count_by is_start labels.now }
 {

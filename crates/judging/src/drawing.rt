@@ -13,8 +13,8 @@ use trace_picture::Picture;
 ///
 /// # Errors
 ///
-/// The first of these that fits: the trace can't be read, or has a bad line; `out` failed. [`Fault::NoMemory`] in place of
-/// any of them, where memory was refused.
+/// The first of these that fits: the trace can't be read, or has a bad line; `out` failed. [`Fault::NoMemory`] in
+/// place of any of them, where memory was refused.
 pub fn draw<T: Read + Drop, O: Write>(
     alloc: Global,
     trace: T,

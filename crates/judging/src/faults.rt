@@ -24,7 +24,8 @@ pub enum Fault {
     TraceUnreadable,
     /// The script can't be opened, or not be read to its end.
     ScriptUnreadable,
-    /// The line of a trace, counted from 1, is that of no label: reading stopped at the word that begins in this column.
+    /// The line of a trace, counted from 1, is that of no label: reading stopped at the word that begins in this
+    /// column.
     BadLine { line: u64, column: u64 },
     /// The script has a bad line, or not all could be printed.
     Script(ScriptFault),
@@ -52,7 +53,7 @@ impl fmt::Display for Fault {
     fn fmt<W: fmt::Write>(&self, f: &mut fmt::Formatter<W>) -> fmt::Result {
         match self {
             Fault::Usage => f.write_str(
-                "usage: stackjudge check CONFIG TRACE | stackjudge record CONFIG SCRIPT \
+                "usage: stackjudge check [--any-cut] CONFIG TRACE | stackjudge record CONFIG SCRIPT \
                 | stackjudge picture [--events] TRACE",
             ),
             Fault::Startup(fault) => write!(f, "stackjudge: {fault}"),

@@ -19,7 +19,7 @@ pub enum Input<F: Read + Drop> {
 }
 
 impl<F: Read + Drop> Input<F> {
-    /// What became of opening a file.
+    /// Returns what became of opening a file.
     pub fn of(opened: io::Result<F>) -> Input<F>
         ensures { MatchResult opened (λ file. result ≡ Opened file) (λ error. result ≡ Refused (error_kind error)) }
     {

@@ -3,8 +3,7 @@
 ghost use Rattle.std.specs.Prelude.{◌≡◌, IfOk, map, replicate};
 ghost use Rattle.judge.specs.Views.{rules_of};
 ghost use Rattle.settings.specs.Medium.{extent_of, extents_of, zeros};
-ghost use Rattle.startup.specs.Started.{rules_of as started_rules};
-ghost use Rattle.judging.specs.Checked.{arrays_of};
+ghost use Rattle.judging.specs.Checked.{arrays_of, rules_by};
 
 use judge::{MachineRules, Sectors};
 use sector::{Bytes, Extent};
@@ -17,10 +16,20 @@ const LONGEST: u64 = 65_536;
 /// So many busy returns end a request.
 const BUSY_LIMIT: u64 = 17;
 
-/// The rules of the stack that these settings start.
-pub fn rules_of(alloc: Global, config: &Config) -> Result<MachineRules, AllocError>
-    ensures { IfOk result (λ rules. rules_of rules ≡ started_rules config.now) }
+/// What a trace is judged by.
+#[derive(Debug, Drop)]
+pub struct Standard {
+    /// The settings of a machine.
+    pub config: Config,
+    /// Whether a piece may begin at any place of its request, and start again without end.
+    pub any_cut: bool,
+}
+
+/// The rules of the stack that the settings start, but for how it cuts requests.
+pub fn rules_of(alloc: Global, standard: &Standard) -> Result<MachineRules, AllocError>
+    ensures { IfOk result (λ rules. rules_of rules ≡ rules_by standard.now) }
 {
+    let config = &standard.config;
     Ok(MachineRules {
         sector_size: config.sector_size,
         disk_sectors: config.sectors,
@@ -32,6 +41,7 @@ pub fn rules_of(alloc: Global, config: &Config) -> Result<MachineRules, AllocErr
         window: Some(config.window as u64),
         one_piece: false,
         busy_limit: BUSY_LIMIT,
+        any_cut: standard.any_cut,
         faithful: true,
     })
 }

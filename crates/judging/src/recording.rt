@@ -17,8 +17,8 @@ use std::alloc::Global;
 use std::io;
 use std::io::Write;
 
-/// Carries the lines of a script out, one after the other, and writes the labels of each step, one a line. The writer is
-/// flushed behind the last.
+/// Carries the lines of a script out, one after the other, and writes the labels of each step, one a line. The writer
+/// is flushed behind the last.
 ///
 /// # Errors
 ///

@@ -19,8 +19,8 @@ use std::io::{Read, Write};
 /// # Errors
 ///
 /// The first of these that fits: the settings can't be read, or are refused; the script can't be read, or has a bad
-/// line; no stack of the settings could be started; `out` failed, after a beginning of the text. [`Fault::NoMemory`], or
-/// that of the step, in place of any of them, where memory was refused.
+/// line; no stack of the settings could be started; `out` failed, after a beginning of the text. [`Fault::NoMemory`],
+/// or that of the step, in place of any of them, where memory was refused.
 pub fn record_script<C: Read + Drop, S: Read + Drop, O: Write>(
     alloc: Global,
     config: C,

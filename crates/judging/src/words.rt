@@ -8,7 +8,7 @@ ghost use Rattle.clap.specs.Walk.{rows_of};
 ghost use Rattle.clap.specs.declared.error.ErrorKind.TheVariants.{OutOfMemory};
 ghost use Rattle.judging.specs.declared.faults.Fault.TheVariants.{NoMemory, Usage};
 ghost use Rattle.judging.specs.declared.words.asked.Command.{Command};
-ghost use Rattle.judging.specs.CommandLine.{AsksForNothing, HasWords, IsAsked, IsFoundIn, events_rule, name_of, program, word_rule};
+ghost use Rattle.judging.specs.CommandLine.{AsksForNothing, HasWords, IsAsked, IsFoundIn, any_cut_rule, events_rule, name_of, program, word_rule};
 
 use crate::faults::Fault;
 use crate::words::asked::Command;
@@ -41,7 +41,8 @@ fn grammar<'a>(alloc: Global) -> Result<clap::Command<'a>, AllocError>
 {
     let checks = clap::Command::new(alloc, "check")
         .arg(word(alloc, "CONFIG"))?
-        .arg(word(alloc, "TRACE"))?;
+        .arg(word(alloc, "TRACE"))?
+        .arg(any_cut_flag(alloc))?;
     let records = clap::Command::new(alloc, "record")
         .arg(word(alloc, "CONFIG"))?
         .arg(word(alloc, "SCRIPT"))?;
@@ -52,6 +53,15 @@ fn grammar<'a>(alloc: Global) -> Result<clap::Command<'a>, AllocError>
         .subcommand(checks)?
         .subcommand(records)?
         .subcommand(pictures)
+}
+
+fn any_cut_flag<'a>(alloc: Global) -> Arg<'a>
+    ensures rule { rule_of result ≡ any_cut_rule }
+    ensures local { result.global ≡ false }
+{
+    Arg::new(alloc, "any-cut")
+        .long("any-cut")
+        .action(ArgAction::SetTrue)
 }
 
 fn events_flag<'a>(alloc: Global) -> Arg<'a>
@@ -98,7 +108,12 @@ fn check_of<'a>(words: &ArgMatches<'a>) -> Result<Command<'a>, Fault>
     let Some(trace) = words.get_str("TRACE") else {
         return Err(Fault::Usage);
     };
-    Ok(Command::Check { config, trace })
+    let any_cut = words.get_flag("any-cut");
+    Ok(Command::Check {
+        config,
+        trace,
+        any_cut,
+    })
 }
 
 fn record_of<'a>(words: &ArgMatches<'a>) -> Result<Command<'a>, Fault>
@@ -127,7 +142,7 @@ fn picture_of<'a>(matches: &ArgMatches<'a>) -> Result<Command<'a>, Fault>
     }
 }
 
-/// What it means that the words were refused.
+/// Returns what it means that the words were refused.
 fn fault_of(kind: ErrorKind) -> Fault
     ensures memory { kind ≡ OutOfMemory → result ≡ NoMemory }
     ensures usage { kind ≢ OutOfMemory → result ≡ Usage }

@@ -11,8 +11,6 @@
 
 mod reading;
 mod runs;
-#[cfg(test)]
-mod tests;
 mod words;
 mod writing;
 

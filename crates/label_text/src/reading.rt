@@ -116,7 +116,7 @@ fn alone(words: &mut Words<'_>, label: Label) -> Option<Label>
     words.are_over().then_some(label)
 }
 
-/// What the words behind `call` tell.
+/// Returns what the words behind `call` tell.
 fn call(alloc: Global, words: &mut Words<'_>) -> Result<Option<Label>, AllocError>
     ensures { IfOk result (λ found. found ≡ call_at words.old) }
 {
@@ -239,7 +239,7 @@ fn bytes(alloc: Global, words: &mut Words<'_>) -> Result<Option<Bytes>, AllocErr
     Ok(words.are_over().then_some(Bytes::new(bytes)))
 }
 
-/// What the words behind `start` tell.
+/// Returns what the words behind `start` tell.
 fn start(words: &mut Words<'_>) -> Option<Label>
     ensures { result ≡ start_at words.old }
 {
@@ -296,7 +296,7 @@ fn block_in(digits: &[u8]) -> Option<CommandBlock>
     }
 }
 
-/// What the words behind `act` tell.
+/// Returns what the words behind `act` tell.
 fn act(alloc: Global, words: &mut Words<'_>) -> Result<Option<Label>, AllocError>
     ensures { IfOk result (λ found. found ≡ act_at words.old) }
 {
@@ -309,7 +309,7 @@ fn act(alloc: Global, words: &mut Words<'_>) -> Result<Option<Label>, AllocError
     Ok(Some(Label::Device(DeviceLabel::Act { piece, bytes })))
 }
 
-/// What the words behind `fault` tell.
+/// Returns what the words behind `fault` tell.
 fn fault(words: &mut Words<'_>) -> Option<Label>
     ensures { result ≡ fault_at words.old }
 {
@@ -317,7 +317,7 @@ fn fault(words: &mut Words<'_>) -> Option<Label>
     alone(words, Label::Device(DeviceLabel::Fault { piece }))
 }
 
-/// What the words behind `return` tell.
+/// Returns what the words behind `return` tell.
 fn returned(words: &mut Words<'_>) -> Option<Label>
     ensures { result ≡ return_at words.old }
 {
@@ -326,7 +326,7 @@ fn returned(words: &mut Words<'_>) -> Option<Label>
     Some(Label::Device(DeviceLabel::Return { piece, class }))
 }
 
-/// How a piece came back.
+/// Returns how a piece came back.
 fn class(words: &mut Words<'_>) -> Option<Class>
     ensures { result ≡ class_at words.old }
 {
@@ -379,7 +379,7 @@ fn sense_behind(key: u8, words: &mut Words<'_>) -> Option<Sense>
     words.are_over().then_some(Sense { key, asc, ascq })
 }
 
-/// What the words behind `answer` tell.
+/// Returns what the words behind `answer` tell.
 fn answer(alloc: Global, words: &mut Words<'_>) -> Result<Option<Label>, AllocError>
     ensures { IfOk result (λ found. found ≡ answer_at words.old) }
 {
@@ -432,7 +432,7 @@ fn place_of(word: &str, statuses: &[NtStatus]) -> Option<usize>
     statuses.iter().position(|status| status.name() == word)
 }
 
-/// What the words behind `cancel` tell.
+/// Returns what the words behind `cancel` tell.
 fn cancel(words: &mut Words<'_>) -> Option<Label>
     ensures { result ≡ cancel_at words.old }
 {

@@ -41,7 +41,7 @@ impl<'a> Words<'a> {
         }
     }
 
-    /// Where the part that was taken last begins, in bytes from 1.
+    /// Returns where the part that was taken last begins, in bytes from 1.
     pub fn column(&self) -> u64 {
         self.column
     }
@@ -101,7 +101,7 @@ fn split<'a>(separator: u8, text: &'a str) -> (&'a str, Option<&'a str>)
     }
 }
 
-/// Where the part behind this one begins.
+/// Returns where the part behind this one begins.
 fn behind_of(column: u64, part: &str) -> u64 {
     column.saturating_add(part.len() as u64).saturating_add(1)
 }

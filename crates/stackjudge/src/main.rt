@@ -1,13 +1,13 @@
 //! The program: says whether a trace is a run of the machine that some settings describe, writes the trace of a script,
 //! or draws a trace.
 //!
-//! What its words ask for, what is printed and which line and exit status a fault has is promised by the crate `judging`
-//! ([`command`], [`check`], [`record_script`], [`Fault`]) and by `startup` ([`ended`]). Here are its arguments, files and
-//! output alone, of which nothing is promised: no contract says what a file holds.
+//! What its words ask for, what is printed and which line and exit status a fault has is promised by the crate
+//! `judging` ([`command`], [`check`], [`record_script`], [`Fault`]) and by `startup` ([`ended`]). Here are its
+//! arguments, files and output alone, of which nothing is promised: no contract says what a file holds.
 #![tactic(auto)]
 
 use judging::Fault;
-use judging::checking::check;
+use judging::checking::{check, check_any_cut};
 use judging::drawing::draw;
 use judging::input::open;
 use judging::scripts::record_script;
@@ -29,7 +29,16 @@ fn run(rt: &HostRuntime) -> Result<Verdict, Fault> {
         Err(error) => return Err(fault_of(&error, Fault::Usage)),
     };
     match command(alloc, words.as_slice())? {
-        Command::Check { config, trace } => judge(rt, config, trace),
+        Command::Check {
+            config,
+            trace,
+            any_cut: false,
+        } => judge(rt, config, trace),
+        Command::Check {
+            config,
+            trace,
+            any_cut: true,
+        } => judge_any_cut(rt, config, trace),
         Command::Record { config, script } => write_trace(rt, config, script),
         Command::Picture { trace, events } => draw_trace(rt, trace, events),
     }
@@ -42,6 +51,15 @@ fn judge(rt: &HostRuntime, config: &str, trace: &str) -> Result<Verdict, Fault> 
         return check(rt.alloc(), config, rt.stdin(), &mut rt.stdout());
     }
     check(rt.alloc(), config, open(rt, trace), &mut rt.stdout())
+}
+
+/// Judges the same by any cut.
+fn judge_any_cut(rt: &HostRuntime, config: &str, trace: &str) -> Result<Verdict, Fault> {
+    let config = open(rt, config);
+    if trace == "-" {
+        return check_any_cut(rt.alloc(), config, rt.stdin(), &mut rt.stdout());
+    }
+    check_any_cut(rt.alloc(), config, open(rt, trace), &mut rt.stdout())
 }
 
 /// Writes the trace of the script at a path, or of that of standard input.

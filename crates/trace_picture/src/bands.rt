@@ -44,7 +44,7 @@ fn write_time<W: Write>(out: &mut W, label: u64, layout: &Layout) -> io::Result<
     )
 }
 
-/// How many labels are between two numbers, so that these do not touch.
+/// Returns how many labels are between two numbers, so that these do not touch.
 fn step_of(labels: u64, column: u64) -> u64 {
     let room = text_width(digits(labels));
     for step in STEPS.iter() {
@@ -55,7 +55,7 @@ fn step_of(labels: u64, column: u64) -> u64 {
     100_000
 }
 
-/// Where a band begins, and how wide it is.
+/// Returns where a band begins, and how wide it is.
 fn span_of(band: &Band, scene: Scene<'_>) -> (u64, u64) {
     let end = band.end.unwrap_or(scene.facts.labels.saturating_add(1));
     let x = scene.layout.edge_of(band.start);

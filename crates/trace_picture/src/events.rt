@@ -207,7 +207,7 @@ fn write_instant<W: Write>(
     write_event(out, alloc, &event)
 }
 
-/// What is told of a request.
+/// Returns what is told of a request.
 fn request_args(alloc: Global, request: &Request) -> Result<Value, AllocError> {
     let number = request.number;
     let partition = match request.partition {
@@ -245,7 +245,7 @@ fn write_piece<W: Write>(out: &mut W, scene: Scene<'_>, piece: &Piece) -> io::Re
     Ok(())
 }
 
-/// What is told of a piece.
+/// Returns what is told of a piece.
 fn piece_args(scene: Scene<'_>, piece: &Piece) -> Result<Value, AllocError> {
     let alloc = scene.facts.alloc;
     let request = match piece

@@ -89,7 +89,7 @@ pub struct Layout {
 }
 
 impl Layout {
-    /// Where the parts of a picture stand.
+    /// Returns where the parts of a picture stand.
     pub fn of(facts: &Facts) -> Result<Layout, AllocError> {
         let alloc = facts.alloc;
         let column = column_of(facts.labels);
@@ -131,7 +131,7 @@ impl Layout {
         self.edge_of(label).saturating_add(self.column / 2)
     }
 
-    /// Where the column of a label begins.
+    /// Returns where the column of a label begins.
     pub fn edge_of(&self, label: u64) -> u64 {
         let columns = label.saturating_sub(1);
         self.left
@@ -228,13 +228,13 @@ impl Layout {
         free.unwrap_or(self.rows.len())
     }
 
-    /// Where the number of a request begins, left of its bar.
+    /// Returns where the number of a request begins, left of its bar.
     fn start_of(&self, request: &Request) -> u64 {
         let number = text_width(digits(request.number)).saturating_add(MARK);
         self.x_of(request.call).saturating_sub(number)
     }
 
-    /// Where the status of a request ends, right of its bar.
+    /// Returns where the status of a request ends, right of its bar.
     fn end_of(&self, request: &Request, labels: u64) -> u64 {
         let Some(answer) = request.answer else {
             return self.x_of(labels.saturating_add(1));

@@ -95,7 +95,7 @@ fn write_patch<W: Write>(out: &mut W, patch: &Patch) -> io::Result<()> {
     writeln!(out, "<text x=\"{x}\" y=\"{base}\">{text}</text>")
 }
 
-/// What the rows of tags show.
+/// Returns what the rows of tags show.
 fn write_pieces<W: Write>(out: &mut W) -> io::Result<()> {
     writeln!(out, "<text class=\"c\" x=\"8\" y=\"51\">piece</text>")?;
     for patch in PIECES.iter() {
@@ -121,7 +121,7 @@ fn write_pieces<W: Write>(out: &mut W) -> io::Result<()> {
     writeln!(out, "<text x=\"536\" y=\"51\">fault</text>")
 }
 
-/// What the rows of requests show.
+/// Returns what the rows of requests show.
 fn write_requests<W: Write>(out: &mut W) -> io::Result<()> {
     writeln!(out, "<text class=\"c\" x=\"8\" y=\"75\">request</text>")?;
     write_call(

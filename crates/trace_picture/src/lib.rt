@@ -19,8 +19,6 @@ mod names;
 mod owners;
 mod rows;
 mod svg;
-#[cfg(test)]
-mod tests;
 mod titles;
 
 use facts::Facts;

@@ -87,7 +87,7 @@ pub fn kind_word(kind: Kind) -> &'static str {
     }
 }
 
-/// How a piece came back, if it did.
+/// Returns how a piece came back, if it did.
 pub fn class_word(back: Option<(u64, Class)>) -> &'static str {
     match back {
         Some((_, Class::Good)) => "good",
@@ -132,12 +132,12 @@ fn label_word(word: Word) -> &'static str {
     }
 }
 
-/// How many digits a number has.
+/// Returns how many digits a number has.
 pub fn digits(number: u64) -> u64 {
     Buffer::new().format(number).len() as u64
 }
 
-/// How many digits the number of a piece has.
+/// Returns how many digits the number of a piece has.
 pub fn piece_digits(number: u128) -> u64 {
     match u64::try_from(number) {
         Ok(short) => digits(short),

@@ -190,7 +190,7 @@ impl Search {
         }
     }
 
-    /// Where the partition of a request begins, if that is known.
+    /// Returns where the partition of a request begins, if that is known.
     fn base_of(&self, request: &Request) -> Option<u64> {
         self.bases[request.partition.unwrap_or(0) as usize]
     }
@@ -223,7 +223,7 @@ fn is_open_at(request: &Request, label: u64) -> bool {
     }
 }
 
-/// What a command asks for, if it is a transfer of some sectors or a flush.
+/// Returns what a command asks for, if it is a transfer of some sectors or a flush.
 fn asked_by(command: Option<Cdb>) -> Option<Asked> {
     let (kind, first, count, through) = match command? {
         Cdb::Read10 { lba, count, fua } => (Kind::Read, u64::from(lba), u64::from(count), fua),

@@ -1,28 +1,11 @@
-use Rattle.std.proofs.Common.{◌≡◌, Err, rules}
-use Rattle.judging.proofs.SaidOfTraces.{by_bytes, by_lines, by_reading, not_said, printed}
+use Rattle.std.proofs.Common.{false}
+use Rattle.judging.proofs.SaidOfTraces.{fault_over, printed_over}
 use Rattle.judging.proofs.checking.check.Goals as goal
-
-pub returns-in_err-trace-clause-fault : goal.returns-in_err-trace-clause-fault
-returns-in_err-trace-clause-fault g c =
-    let told : c.from_residual-in_err-trace.result ≡ Err c.in_err-trace.field-0.0 = search rules in
-    rw told (by_reading _ _ c.in_ok-config.config c.in_ok-config.ensures.read c.in_err-trace.field-0.0 c.in_err-trace.ensures.fault)
-
-pub returns-in_default-clause-fault : goal.returns-in_default-clause-fault
-returns-in_default-clause-fault g c =
-    by_bytes _ _ c.in_ok-config.config c.in_ok-config.ensures.read c.as_slice.result.now c.in_ok-trace.trace.items c.in_ok-trace.ensures.all c.as_slice.ensures.value c.in_default.ensures.cases.0
-
-pub returns-in_err-told-clause-fault : goal.returns-in_err-told-clause-fault
-returns-in_err-told-clause-fault g c =
-    let told : c.from_residual-in_err-told.result ≡ Err c.in_err-told.field-0.0 = search rules in
-    rw told (by_lines _ _ c.in_ok-config.config c.in_ok-config.ensures.read c.in-Ok.text.now c.as_slice.result.now c.in_ok-trace.trace.items
-    c.in_ok-trace.ensures.all c.in-Ok.ensures.cases.0 c.as_slice.ensures.value c.in_err-told.field-0.0 c.in_err-told.ensures.fault)
 
 pub returns-clause-printed : goal.returns-clause-printed
 returns-clause-printed g c =
-    printed _ _ c.in_ok-config.config c.in_ok-config.ensures.read c.in-Ok.text.now c.as_slice.result.now c.in_ok-trace.trace.items
-    c.in_ok-trace.ensures.all c.in-Ok.ensures.cases.0 c.as_slice.ensures.value c.in_ok-told.told c.in_ok-told.ensures.told _ _ _ c.say_verdict.ensures.said
+    printed_over (record { config = c.in_ok-read_settings.field-0; any_cut = false }) _ _ _ _ _ c.in_ok-read_settings.ensures.read c.check_by.ensures.printed
 
 pub returns-clause-fault : goal.returns-clause-fault
 returns-clause-fault g c =
-    not_said _ _ c.in_ok-config.config c.in_ok-config.ensures.read c.in-Ok.text.now c.as_slice.result.now c.in_ok-trace.trace.items
-    c.in_ok-trace.ensures.all c.in-Ok.ensures.cases.0 c.as_slice.ensures.value c.in_ok-told.told c.in_ok-told.ensures.told _ c.say_verdict.ensures.fault
+    fault_over (record { config = c.in_ok-read_settings.field-0; any_cut = false }) _ _ _ c.in_ok-read_settings.ensures.read c.check_by.ensures.fault

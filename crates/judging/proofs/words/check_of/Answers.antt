@@ -2,6 +2,7 @@ use Rattle.std.proofs.Common.{◌≡◌, ◌∙◌, Option, None, Some, List, sy
 use Rattle.clap.specs.Words.{Row, Text, found_of}
 use Rattle.clap.specs.Walk.{first_of, rows_of}
 use Rattle.clap.proofs.WalkLemmas.{first_value-rows}
+use Rattle.judging.proofs.Flags.{flag_is}
 use Rattle.judging.specs.CommandLine.{HasWords, name_of}
 use Rattle.judging.specs.declared.words.asked.Command.{Command}
 use Rattle.judging.specs.declared.words.asked.Command.TheVariants.{Check, Picture, Record}
@@ -11,11 +12,15 @@ pub returns-clause-words : goal.returns-clause-words
 returns-clause-words c =
     let found = found_of c.args.words.now in (
       refl,
-      (sym (c.in-Some.ensures ∙ first_value-rows found (codes "CONFIG")), sym (c.in-Some-get_str.ensures ∙ first_value-rows found (codes "TRACE"))),
+      (
+        sym (c.in-Some.ensures ∙ first_value-rows found (codes "CONFIG")),
+        sym (c.in-Some-get_str.ensures ∙ first_value-rows found (codes "TRACE")),
+        flag_is found (codes "any-cut") c.get_flag-any_cut.result c.get_flag-any_cut.ensures.none c.get_flag-any_cut.ensures.value c.get_flag-any_cut.ensures.other,
+      ),
     )
 
 no_config : (rows : List Row) (command : Command) → name_of command ≡ codes "check" → ◌≡◌ {A = Option Text} None (first_of (codes "CONFIG") rows) → HasWords rows command → ⊥
-no_config rows (Check config trace) name none has =
+no_config rows (Check config trace any_cut) name none has =
     let both : ◌≡◌ {A = Option Text} None (Some config.now) = none ∙ has.0 in
     absurd (cc)
 no_config rows (Record config script) name none has =
@@ -24,7 +29,7 @@ no_config rows (Record config script) name none has =
 no_config rows (Picture trace events) name none has = absurd (cc (name))
 
 no_trace : (rows : List Row) (command : Command) → name_of command ≡ codes "check" → ◌≡◌ {A = Option Text} None (first_of (codes "TRACE") rows) → HasWords rows command → ⊥
-no_trace rows (Check config trace) name none has =
+no_trace rows (Check config trace any_cut) name none has =
     let both : ◌≡◌ {A = Option Text} None (Some trace.now) = none ∙ has.1 in
     absurd (cc)
 no_trace rows (Record config other) name none has = absurd (cc (name))

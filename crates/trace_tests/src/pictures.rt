@@ -1,6 +1,5 @@
 //! A small trace, and what its picture and its events have to hold: worked by hand from the sizes in `layout`.
 
-use crate::Picture;
 use cdb::{Cdb, encode};
 use machine::{ClientRequest, Kind, Label};
 use ntstatus::NtStatus;
@@ -8,6 +7,7 @@ use sector::Bytes;
 use srb::{Class, CommandBlock, DeviceLabel};
 use std::alloc::{AllocError, Global};
 use std::test::Fail;
+use trace_picture::Picture;
 
 /// A label, as the table writes it. Requests are of partition 0; offsets and lengths are in bytes.
 #[derive(Clone, Copy)]

@@ -1,36 +1,38 @@
 //! Traces that are judged, and one that is recorded and drawn.
 
-use crate::Fault;
-use crate::checking::check;
-use crate::drawing::draw;
-use crate::scripts::record_script;
-use crate::words::asked::Command;
-use crate::words::command;
+use crate::expect::same;
+use judging::Fault;
+use judging::checking::{check, check_any_cut};
+use judging::drawing::draw;
+use judging::scripts::record_script;
+use judging::words::asked::Command;
+use judging::words::command;
 use startup::Verdict;
 use std::alloc::Global;
-use std::fmt::Debug;
-use std::process::Abort;
 use std::test::Fail;
 
 static CONFIG: &str =
-    "sector_size = 512\nsectors = 4096\nmax_transfer = 64\ndepth = 2\nwindow = 2\n[[partition]]\nfirst = 2048\ncount = 4\n";
+    "sector_size = 512\nsectors = 4096\nmax_transfer = 64\ndepth = 2\nwindow = 2\n\
+    [[partition]]\nfirst = 2048\ncount = 4\n";
 
 static SCRIPT: &str = "open 0\nwrite 1 0 512 a5\nact 0\nfinish 0\n";
 
 /// What comes of the script, and is legal.
 static TRACE: &str =
-    "call 1 write 0 512 in 0 a5*512\nstart 1 tag 0 2a000000080000000100\nact 1 a5*512\nreturn 1 good\nanswer 1 SUCCESS 512\n";
+    "call 1 write 0 512 in 0 a5*512\nstart 1 tag 0 2a000000080000000100\nact 1 a5*512\n\
+    return 1 good\nanswer 1 SUCCESS 512\n";
 
 /// An answer before its time, behind a remark and an empty line.
 static TOO_SOON: &str =
     "# a remark\ncall 1 write 0 512 in 0 a5*512\n\nstart 1 tag 0 2a000000080000000100\nanswer 1 SUCCESS 512\n";
 
-static BAD: &str = "call 1 flush in 0\ncall 2 flush in  0\n";
+/// Its second sector goes first, off the grid of 64 sectors.
+static CUT: &str =
+    "call 1 write 0 1024 in 0 a5*1024\nstart 1 tag 0 2a000000080100000100\nact 1 a5*512\n\
+    return 1 good\nstart 2 tag 0 2a000000080000000100\nact 2 a5*512\nreturn 2 good\n\
+    answer 1 SUCCESS 1024\n";
 
-/// Ends the test, and names both, where what was got is not what was wanted.
-fn same<T: PartialEq + Debug>(rt: &impl Abort, got: &T, wanted: &T) {
-    assert_eq!(rt; got, wanted);
-}
+static BAD: &str = "call 1 flush in 0\ncall 2 flush in  0\n";
 
 /// The verdict on a trace, and whether this is printed.
 fn judged(alloc: Global, trace: &str, wanted: &str) -> Option<(Verdict, bool)> {
@@ -54,6 +56,23 @@ fn the_first_line_that_no_step_allows_is_named_with_its_rule(rt: HostRuntime) ->
         "line 5: its sector 0 is at the adapter\nopen: request 1, begun\nout: piece 1 of request 1, on tag 0\n",
     );
     same(&rt, &got, &Some((Verdict::Failed, true)));
+    Ok(())
+}
+
+/// The verdict where any cut will do, and whether this is printed.
+fn judged_any_cut(alloc: Global, trace: &str, wanted: &str) -> Option<(Verdict, bool)> {
+    let mut out = Vec::new(alloc);
+    let verdict = check_any_cut(alloc, CONFIG.as_bytes(), trace.as_bytes(), &mut out).ok()?;
+    Some((verdict, out.as_slice() == wanted.as_bytes()))
+}
+
+#[test]
+fn a_cut_off_the_grid_is_legal_where_any_will_do(rt: HostRuntime) -> Result<(), Fail> {
+    let legal = "legal: 8 labels, 1 requests, 2 pieces\n";
+    let got = judged_any_cut(rt.alloc(), CUT, legal);
+    same(&rt, &got, &Some((Verdict::Passed, true)));
+    let got = judged(rt.alloc(), CUT, legal);
+    same(&rt, &got, &Some((Verdict::Failed, false)));
     Ok(())
 }
 
@@ -103,21 +122,45 @@ fn a_trace_is_drawn(rt: HostRuntime) -> Result<(), Fail> {
     Ok(())
 }
 
-/// Whether the words ask for a check of these two paths.
-fn asks_for_check(alloc: Global, words: &[&str], paths: (&str, &str)) -> bool {
+/// Whether the words ask for a check of these two paths, and for any cut or not.
+fn asks_for_check(alloc: Global, words: &[&str], paths: (&str, &str), cuts: bool) -> bool {
     match command(alloc, words) {
-        Ok(Command::Check { config, trace }) => (config, trace) == paths,
+        Ok(
+            Command::Check {
+                config,
+                trace,
+                any_cut,
+            },
+        ) => (config, trace) == paths && any_cut == cuts,
         _ => false,
     }
 }
 
 #[test]
 fn words_ask_for_a_check(rt: HostRuntime) -> Result<(), Fail> {
+    let alloc = rt.alloc();
+    let paths = ("config.toml", "-");
     let words = ["stackjudge", "check", "config.toml", "-"];
-    same(
-        &rt,
-        &asks_for_check(rt.alloc(), &words, ("config.toml", "-")),
-        &true,
-    );
+    same(&rt, &asks_for_check(alloc, &words, paths, false), &true);
+    let words = ["stackjudge", "check", "--any-cut", "config.toml", "-"];
+    same(&rt, &asks_for_check(alloc, &words, paths, true), &true);
+    Ok(())
+}
+
+/// Whether the words ask for a picture of this path, as events or not.
+fn asks_for_picture(alloc: Global, words: &[&str], path: &str, as_events: bool) -> bool {
+    match command(alloc, words) {
+        Ok(Command::Picture { trace, events }) => trace == path && events == as_events,
+        _ => false,
+    }
+}
+
+#[test]
+fn words_ask_for_a_picture(rt: HostRuntime) -> Result<(), Fail> {
+    let alloc = rt.alloc();
+    let words = ["stackjudge", "picture", "a"];
+    same(&rt, &asks_for_picture(alloc, &words, "a", false), &true);
+    let words = ["stackjudge", "picture", "a", "--events"];
+    same(&rt, &asks_for_picture(alloc, &words, "a", true), &true);
     Ok(())
 }

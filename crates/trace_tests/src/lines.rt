@@ -1,10 +1,10 @@
 //! Lines of labels, good and bad.
 
-use crate::{LineFault, is_told, read_line, write_line};
+use crate::expect::same;
+use label_text::{LineFault, is_told, read_line, write_line};
 use machine::{ClientRequest, Kind, Label};
 use sector::Bytes;
 use std::alloc::Global;
-use std::fmt::Debug;
 use std::process::Abort;
 use std::test::Fail;
 
@@ -71,11 +71,6 @@ static BAD_LINES: [(&str, u64); 30] = [
     ("pause 1", 7),
     ("cancel 1 ", 10),
 ];
-
-/// Ends the test, and names both, where what was got is not what was wanted.
-fn same<T: PartialEq + Debug>(rt: &impl Abort, got: &T, wanted: &T) {
-    assert_eq!(rt; got, wanted);
-}
 
 /// What is written of the label of a line.
 fn again(alloc: Global, line: &str) -> Result<Vec<u8>, Fail> {

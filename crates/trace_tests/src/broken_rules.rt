@@ -141,6 +141,7 @@ fn small(alloc: Global) -> Result<MachineRules, AllocError> {
         window: Some(4),
         one_piece: false,
         busy_limit: 2,
+        any_cut: false,
         faithful: true,
     })
 }
@@ -173,7 +174,7 @@ fn taken(judge: &mut Judge, alloc: Global, say: Say) -> Result<Option<Rule>, Fai
     }
 }
 
-/// How many of the labels are taken, and the rule that the next one breaks, if there is one.
+/// Returns how many of the labels are taken, and the rule that the next one breaks, if there is one.
 fn stops(judge: &mut Judge, alloc: Global, rows: &[Say]) -> Result<(usize, Option<Rule>), Fail> {
     for (at, say) in rows.iter().enumerate() {
         let rule = taken(judge, alloc, *say)?;
@@ -200,6 +201,18 @@ fn breaks_whole(alloc: Global, rows: &[Say], rule: Rule) -> Result<bool, Fail> {
         .ok_or("no judge")?;
     let seen = stops(&mut judge, alloc, rows)?;
     Ok(seen == (rows.len().saturating_sub(1), Some(rule)))
+}
+
+/// The same, where any cut will do.
+fn breaks_cut(alloc: Global, rows: &[Say], rule: Option<Rule>) -> Result<bool, Fail> {
+    let mut rules = small(alloc)?;
+    rules.any_cut = true;
+    let mut judge = Judge::new(alloc, rules, zeros(alloc)?)
+        .ok()
+        .ok_or("no judge")?;
+    let seen = stops(&mut judge, alloc, rows)?;
+    let last = rows.len().saturating_sub(usize::from(rule.is_some()));
+    Ok(seen == (last, rule))
 }
 
 /// The same, where the judge was given no sectors.
@@ -435,6 +448,12 @@ const READ_SECOND: Cdb = Cdb::Read10 {
     fua: false,
 };
 
+const READ_FIRST: Cdb = Cdb::Read10 {
+    lba: 2,
+    count: 1,
+    fua: false,
+};
+
 /// Of four sectors, too many for a piece.
 const READ_ALL: Cdb = Cdb::Read10 {
     lba: 2,
@@ -536,6 +555,43 @@ fn places_that_do_not_wait(rt: HostRuntime) -> Result<(), Fail> {
         &breaks(alloc, &rows, held(1, Hindrance::Worn { place: 0 }))?,
         &true,
     );
+    Ok(())
+}
+
+#[test]
+fn any_cut_will_do(rt: HostRuntime) -> Result<(), Fail> {
+    let alloc = rt.alloc();
+    let answer = Say::Answer(1, NtStatus::Success, 4, 0, 4);
+    let rows = [
+        READ,
+        Say::Start(1, 0, READ_SECOND),
+        Say::Start(2, 1, READ_FIRST),
+        Say::Act(1, 0, 2),
+        Say::Act(2, 0, 2),
+        Say::Good(2),
+        Say::Good(1),
+        answer,
+    ];
+    same(&rt, &breaks_cut(alloc, &rows, None)?, &true);
+    let rows = [
+        READ,
+        Say::Start(1, 0, READ_BOTH),
+        Say::Busy(1),
+        Say::Start(2, 0, READ_BOTH),
+        Say::Busy(2),
+        Say::Start(3, 0, READ_BOTH),
+        Say::Act(3, 0, 4),
+        Say::Good(3),
+        answer,
+    ];
+    same(&rt, &breaks_cut(alloc, &rows, None)?, &true);
+    let rows = [
+        READ,
+        Say::Start(1, 0, READ_BOTH),
+        Say::Start(2, 1, READ_SECOND),
+    ];
+    let rule = Some(held(1, Hindrance::Out { place: 1 }));
+    same(&rt, &breaks_cut(alloc, &rows, rule)?, &true);
     Ok(())
 }
 
@@ -813,11 +869,15 @@ fn goes_on_after_a_refusal(rt: HostRuntime) -> Result<(), Fail> {
     Ok(())
 }
 
-/// What is left undone at the end of these labels, which are all taken.
+/// Returns what is left undone at the end of these labels, which are all taken.
 fn left(alloc: Global, rows: &[Say]) -> Result<Option<Undone>, Fail> {
-    let mut judge = judge(alloc)?;
+    left_by(&mut judge(alloc)?, alloc, rows)
+}
+
+/// The same, of a judge that was made.
+fn left_by(judge: &mut Judge, alloc: Global, rows: &[Say]) -> Result<Option<Undone>, Fail> {
     for say in rows {
-        if taken(&mut judge, alloc, *say)?.is_some() {
+        if taken(judge, alloc, *say)?.is_some() {
             return Err("a label was refused".into());
         }
     }
@@ -889,6 +949,28 @@ fn what_is_left_undone_with_a_tag_free(rt: HostRuntime) -> Result<(), Fail> {
         &left(alloc, &rows)?,
         &Some(Undone::AtRest { number: 1 }),
     );
+    Ok(())
+}
+
+#[test]
+fn more_is_started_than_the_window_has(rt: HostRuntime) -> Result<(), Fail> {
+    let alloc = rt.alloc();
+    let mut rules = small(alloc)?;
+    rules.window = Some(1);
+    let mut judge = Judge::new(alloc, rules, zeros(alloc)?)
+        .ok()
+        .ok_or("no judge")?;
+    let rows = [
+        READ,
+        Say::Call(2, Kind::Read, 0, 4, 0),
+        Say::Start(1, 0, READ_BOTH),
+        Say::Start(2, 1, READ_BOTH),
+    ];
+    let undone = Undone::Window {
+        window: 1,
+        started: 2,
+    };
+    same(&rt, &left_by(&mut judge, alloc, &rows)?, &Some(undone));
     Ok(())
 }
 
