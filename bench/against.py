@@ -122,7 +122,7 @@ CASES = [
     Case('pauses', pauses(20_000), sizes(2, 2)),
     Case('mixed reads', mixed(10_000)),
     Case('64 sectors', transfers(10_000, 64)),
-    Case('64 pieces', in_pieces(60, 64, 64, False), sizes(1, 1)),
+    Case('64 pieces', in_pieces(60, 64, 64, False), sizes(1, 1, 64, 8192)),
     Case('4096 pieces', in_pieces(4, 4096, 16, False), sizes(1, 1, 16, 70_000)),
     Case('sector pieces', in_pieces(20, 2048, 1, False), sizes(1, 1, 1)),
     Case('their cancel', in_pieces(60, 2048, 1, True), sizes(1, 1, 1)),
