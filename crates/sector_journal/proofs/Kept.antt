@@ -9,7 +9,7 @@ use Rattle.srb.specs.declared.Entry.{Entry}
 use Rattle.srb.specs.declared.Completion.{Completion}
 use Rattle.srb.specs.Replaying.{ReplaysKind, Replays}
 use Rattle.sector.specs.declared.Extent.{Extent}
-use Rattle.sector.specs.Extents.{IsCovered}
+use Rattle.sector.specs.Extents.{IsCovered, IsSector}
 use Rattle.disk.specs.Medium.{MediumView, IsReserved, Reserves}
 use Rattle.sector_journal.specs.declared.acted.Entered.{Entered}
 use Rattle.sector_journal.specs.declared.slots.Armed.{Armed}
@@ -53,6 +53,10 @@ ready_on old new armings tag armed holds may = record {
 
 held_on : (old new : MediumView) (reservations : List Reservation) → Holds old new → All (IsHeld old) reservations → All (IsHeld new) reservations
 held_on old new reservations holds held = All-weaker (IsHeld old) (IsHeld new) (λ r h. record { some = h.some; reserved = λ is. holds.lasts r.extent (h.reserved is) }) reservations held
+
+-- sectors of one size, where the medium's is the same
+of_size : (opening : List (List ℕ)) {size size' : ℕ} → size' ≡ size → All (IsSector size) opening → All (IsSector size') opening
+of_size opening same all = subst (λ (n : ℕ). All (IsSector n) opening) (sym same) all
 
 holds_reserved : (old new : MediumView) (extent : Extent) → new.reserved ≡ old.reserved → IsReserved old extent → IsReserved new extent
 holds_reserved old new extent same h = subst (λ (r : List Extent). IsCovered r extent) (sym same) h
@@ -139,6 +143,7 @@ module _ (opening : List (List ℕ)) (medium medium' : MediumView) (write_protec
             (replays_longer medium.sector_size (entries_in entered) opening medium.sectors medium'.sectors entry kept.replays enters.replays));
         of_armings = of_all medium medium' armings entered' size_is enters.as_many (subst (λ (x : List Entered). AreOfArmings medium armings x) (sym longer) all);
         some = subst (λ (n : ℕ). 1 ≤ n) (sym enters.as_many) kept.some;
+        whole = of_size opening size_is kept.whole;
         ready = λ other a h. ready_on medium medium' armings other a holds (ready_but medium armings slots slots' tag takes.after kept.ready other a h);
         placed = omega (arith, less, long, placed, same);
         counted = omega (arith, less, failures_are, counted);
@@ -161,6 +166,7 @@ module _ (opening : List (List ℕ)) (medium medium' : MediumView) (write_protec
             (subst (λ (x : List (List ℕ)). Replays medium.sector_size opening (entries_in entered) x) (sym sectors_are) kept.replays);
         of_armings = of_all medium medium' armings entered size_is (ap length sectors_are) kept.of_armings;
         some = subst (λ (n : ℕ). 1 ≤ n) (sym (ap length sectors_are)) kept.some;
+        whole = of_size opening size_is kept.whole;
         ready = λ other a h. ready_on medium medium' armings other a holds (ready_but medium armings slots slots' tag takes.after kept.ready other a h);
         placed = omega (arith, less, placed);
         counted = omega (arith, less, more, counted);
@@ -187,6 +193,7 @@ disarmed_kept opening medium entered places slots slots' armings reservations ta
       replays = kept.replays;
       of_armings = kept.of_armings;
       some = kept.some;
+      whole = kept.whole;
       ready = ready_but medium armings slots slots' tag after kept.ready;
       placed = omega (arith, less, placed);
       counted = omega (arith, less, counted);
@@ -199,6 +206,7 @@ released_kept opening medium entered places slots armings reservations reservati
   replays = kept.replays;
   of_armings = kept.of_armings;
   some = kept.some;
+  whole = kept.whole;
   ready = kept.ready;
   placed = kept.placed;
   counted = kept.counted;
@@ -221,6 +229,7 @@ armed_kept opening medium entered places slots slots' armings armings' reservati
       replays = kept.replays;
       of_armings = subst (λ (all : List Armed). AreOfArmings medium all entered) (sym longer) (of_more medium armings armed entered kept.of_armings);
       some = kept.some;
+      whole = kept.whole;
       ready = λ other a h. subst (λ (all : List Armed). MayAct medium all other a) (sym longer) (elim (cases_eq other tag) [
         | inl is ↦
             let put : armed_at slots' other ≡ Some armed = ap (λ n. get_or slots' n None) is ∙ ap (λ (s : List (Option Armed)). get_or s tag None) after ∙ get_or-set_same slots tag (Some armed) None free.0 in
@@ -265,6 +274,7 @@ roomier_kept opening medium medium' entered entered' places places' slots arming
           (subst (λ (x : List Entered). Replays medium.sector_size opening (entries_in x) medium.sectors) (sym same) kept.replays));
       of_armings = of_all medium medium' armings entered' size_is (ap length sectors_are) (subst (λ (x : List Entered). AreOfArmings medium armings x) (sym same) kept.of_armings);
       some = subst (λ (n : ℕ). 1 ≤ n) (sym (ap length sectors_are)) kept.some;
+      whole = of_size opening size_is kept.whole;
       ready = λ tag armed h. ready_on medium medium' armings tag armed holds (kept.ready tag armed h);
       placed = omega (arith, long, more, placed);
       counted = omega (arith, failures_are, counted);
@@ -281,6 +291,7 @@ admitted_kept opening medium medium' entered entered' places places' slots armin
       replays = more_kept.replays;
       of_armings = more_kept.of_armings;
       some = more_kept.some;
+      whole = more_kept.whole;
       ready = more_kept.ready;
       placed = more_kept.placed;
       counted = more_kept.counted;

@@ -11,6 +11,7 @@ use Rattle.srb.specs.declared.Completion.{Completion}
 use Rattle.srb.specs.Replaying.{Replays}
 use Rattle.adapter.specs.Booking.{IsOfSrb}
 use Rattle.sector.specs.declared.Extent.{Extent}
+use Rattle.sector.specs.Extents.{IsSector}
 use Rattle.disk.specs.Medium.{MediumView, IsReserved, Reserves, ReservesNear}
 use Rattle.miniport.specs.Carrying.{IsReady}
 use Rattle.sector_journal.specs.declared.acted.Entered.{Entered}
@@ -87,6 +88,8 @@ pub record JournalKept (opening : List (List ℕ)) (medium : MediumView) (entere
   pub replays : Replays medium.sector_size opening (entries_in entered) medium.sectors
   pub of_armings : AreOfArmings medium armings entered
   pub some : 1 ≤ length medium.sectors
+  -- what it was opened with are sectors of the same size
+  pub whole : All (IsSector medium.sector_size) opening
   pub ready : (tag : ℕ) (armed : Armed) → armed_at slots tag ≡ Some armed → MayAct medium armings tag armed
   -- each armed piece has a place for its entry
   pub placed : length entered + armed_count slots ≤ places

@@ -1,12 +1,13 @@
 //! The journal: what acts did to the sectors, in their order.
 
-ghost use Rattle.std.specs.Prelude.{◌≡◌, ℕ, ◌<◌, ◌≤◌, ◌+◌, ◌-◌, ◌^◌, ◌∷◌, [], None, Some, Ok, length, vec_len, vec_capacity, true, IfOk, OnOk, OnErr, IfSome, MatchOption, MatchBool, slice_get};
+ghost use Rattle.std.specs.Prelude.{◌≡◌, ℕ, ◌<◌, ◌≤◌, ◌+◌, ◌-◌, ◌^◌, ◌∷◌, [], None, Some, Ok, length, vec_len, vec_capacity, true, IfOk, OnOk, OnErr, IfSome, MatchOption, MatchBool, All, slice_get};
 ghost use Rattle.std.specs.Bool.{Decides};
 ghost use Rattle.std.specs.List.{list_any, position};
 ghost use Rattle.std.specs.Option.{option_copied};
 ghost use Rattle.chronicle.specs.Claims.{AllStand};
 ghost use Rattle.sector_journal.specs.declared.acted.Entered.{Entered};
 ghost use Rattle.srb.specs.declared.Kind.{Kind};
+ghost use Rattle.sector.specs.Extents.{IsSector};
 ghost use Rattle.disk.specs.Medium.{IsReserved, IsWithin, Reserves};
 ghost use Rattle.srb.specs.Replaying.{Replays};
 ghost use Rattle.sector_journal.specs.declared.reservation.Reservation.{Reservation};
@@ -237,6 +238,13 @@ impl<M: Medium, N: Naming> Journal<M, N> {
         let _slots = &self.slots;
     }
 
+    /// What the journal was opened with are sectors of the size of its medium's.
+    pub fn shows_opening(&self)
+        ensures { All (IsSector self.now.medium.sector_size) N.opening }
+    {
+        let _slots = &self.slots;
+    }
+
     /// Each entry is of the piece that was armed under the number that it names, and of what its SRB asks for.
     pub fn shows_armings(&self)
         ensures { AreOfArmings self.now.medium self.now.armings self.now.entered }
@@ -432,6 +440,7 @@ impl<M: Medium, N: Naming> Journal<M, N> {
         ensures sectors { M.view result.0 ≡ self.medium }
         ensures entries { result.1.items ≡ self.entered }
         ensures rule { Replays (M.view result.0).sector_size N.opening (entries_in result.1.items) (M.view result.0).sectors }
+        ensures opening { All (IsSector (M.view result.0).sector_size) N.opening }
     {
         let Journal {
             medium,
