@@ -32,8 +32,8 @@ pub struct Layout {
 }
 
 impl Layout {
-    /// Sector 0. Entries have sixteen bytes each from byte 446 on; their type is byte 4, the first sector and the count are
-    /// the bytes from 8 and 12 on, the lowest first.
+    /// Sector 0. Entries have sixteen bytes each from byte 446 on; their type is byte 4, the first sector and the
+    /// count are the bytes from 8 and 12 on, the lowest first.
     fn table(&self) -> [u8; 512] {
         let mut bytes = [0; 512];
         for n in 0..4 {

@@ -1,17 +1,21 @@
-//! Hostile runs of the whole stack, judged. A run is made of steps: client calls, cancels, calls of plug and play, acts,
-//! finishes and resets. There are runs worked by hand, with a reset, a cancel, a close or a removal put in at every place in
-//! turn, and with each act failing in turn; and runs of random settings and steps.
+//! Hostile runs of the whole stack, judged. A run is made of steps: client calls, cancels, calls of plug and play,
+//! acts, finishes and resets. There are runs worked by hand, with a reset, a cancel, a close or a removal put in at
+//! every place in turn, and with each act failing in turn; and runs of random settings and steps.
 //!
-//! Of each run it is asked whether its labels are a run of the sector machine, from sectors of zeros on (`judge`); whether
-//! the machine is settled where they end; whether the answers that were taken after each step are those of its labels; and,
-//! where all that was out came back and nothing is held, whether each request was answered.
+//! Of each run it is asked whether its labels are a run of the sector machine, from sectors of zeros on (`judge`);
+//! whether the machine is settled where they end; whether the answers that were taken after each step are those of
+//! its labels; and, where all that was out came back and nothing is held, whether each request was answered. Each
+//! label of a few random runs is then changed in each of its fields, and judged: it is refused where what came before
+//! leaves it no such value, and the judge of a whole list stops where the one does that takes label by label.
 //!
-//! `hostile` takes a fixed seed, and `hostile SEED RUNS` makes as many random runs as one asks for; run n has the seed
-//! SEED + n, so a wrong one is made again by its own seed and 1. A line is printed for each sweep, and one for the first wrong run
-//! of a sweep; the exit status is 1 where a run was wrong, and 2 where there is no verdict. It promises nothing by contract:
-//! it is a test.
+//! `hostile` takes a fixed seed, and `hostile SEED RUNS` makes as many random runs as one asks for; run n has the
+//! seed SEED + n, so a wrong one is made again by its own seed and 1. A line is printed for each sweep, and one for
+//! the first wrong run of a sweep; the exit status is 1 where a run was wrong, and 2 where there is no verdict. It
+//! promises nothing by contract: it is a test.
 #![tactic(auto)]
 
+mod changed;
+mod changes;
 mod dice;
 mod fault;
 mod layout;
@@ -23,11 +27,13 @@ mod sweeps;
 mod tally;
 mod verdicts;
 
+use crate::changes::changes;
 use crate::fault::HostileFault;
 use crate::random::random_runs;
 use crate::rows::{ROWS, Row};
 use crate::sweeps::{failures, insertions};
-use crate::tally::Tally;
+use crate::tally::Case;
+use crate::verdicts::Wrong;
 use std::env;
 use std::process::ExitCode;
 
@@ -36,6 +42,9 @@ const SEED: u64 = 7;
 
 /// The number of random runs where none is given.
 const RUNS: u64 = 5000;
+
+/// The number of random runs of which each label is changed, of as many as are asked for at most.
+const CHANGED_RUNS: u64 = 10;
 
 /// Returns what the command line asks for: a seed, and a number of runs.
 fn asked(rt: &HostRuntime) -> Result<(u64, u64), HostileFault> {
@@ -56,12 +65,13 @@ fn number(word: &String) -> Result<u64, HostileFault> {
         .map_err(|_| HostileFault::Usage)
 }
 
-/// Names the first wrong run of a tally, and says whether there is one.
-fn is_wrong(rt: &HostRuntime, tally: &Tally) -> Result<bool, HostileFault> {
-    if let Some((case, wrong)) = tally.first {
-        println!(rt; "first wrong: {case}: {wrong}")?;
-    }
-    Ok(tally.wrong > 0)
+/// Names the first wrong run, and says whether there is one.
+fn is_wrong(rt: &HostRuntime, first: Option<(Case, Wrong)>) -> Result<bool, HostileFault> {
+    let Some((case, wrong)) = first else {
+        return Ok(false);
+    };
+    println!(rt; "first wrong: {case}: {wrong}")?;
+    Ok(true)
 }
 
 /// Both sweeps of a row.
@@ -76,8 +86,8 @@ fn sweep(rt: &HostRuntime, row: &Row) -> Result<bool, HostileFault> {
         "{}: {} runs with one act failing, {} started, {} labels, {} wrong",
         row.name, failed.runs, failed.started, failed.labels, failed.wrong
     )?;
-    let first = is_wrong(rt, &inserted)?;
-    let second = is_wrong(rt, &failed)?;
+    let first = is_wrong(rt, inserted.first)?;
+    let second = is_wrong(rt, failed.first)?;
     Ok(first || second)
 }
 
@@ -94,8 +104,25 @@ fn run(rt: &HostRuntime) -> Result<bool, HostileFault> {
         "random: seed {seed}, {} runs, {} started, {} labels, {} wrong",
         tally.runs, tally.started, tally.labels, tally.wrong
     )?;
-    let wrong = is_wrong(rt, &tally)?;
-    Ok(any || wrong)
+    let wrong = is_wrong(rt, tally.first)?;
+    let changed = change(rt, seed, runs.min(CHANGED_RUNS))?;
+    Ok(any || wrong || changed)
+}
+
+/// Each label of some random runs, changed; whether one was judged wrongly.
+fn change(rt: &HostRuntime, seed: u64, runs: u64) -> Result<bool, HostileFault> {
+    let tally = changes(rt.alloc(), seed, runs)?;
+    let refused = tally.there.saturating_add(tally.later);
+    println!(rt;
+        "changed: seed {seed}, {runs} runs, {} labels, {} changes, {} refused there, {} later, {} legal, {} wrong",
+        tally.labels,
+        tally.changes,
+        tally.there,
+        tally.later,
+        tally.changes.saturating_sub(refused),
+        tally.wrong
+    )?;
+    is_wrong(rt, tally.first)
 }
 
 fn main(rt: HostRuntime) -> ExitCode {

@@ -3,7 +3,7 @@
 use crate::dice::Dice;
 use crate::fault::HostileFault;
 use crate::layout::{Layout, NONE_BAD, Partition, SECTOR, adapter};
-use crate::playing::play;
+use crate::playing::{Told, play};
 use crate::steps::{On, Step, Target};
 use crate::sweeps::push_round;
 use crate::tally::{Case, Tally};
@@ -21,6 +21,22 @@ pub fn random_runs(alloc: Global, seed: u64, runs: u64) -> Result<Tally, Hostile
 }
 
 fn random_run(alloc: Global, seed: u64, tally: &mut Tally) -> Result<(), HostileFault> {
+    let run = run_of(alloc, seed)?;
+    let wrong = wrong_of(alloc, &run.layout, run.goes, &run.told)?;
+    tally.add(Case::Seeded { seed }, &run.told, wrong);
+    Ok(())
+}
+
+/// A run that was played.
+#[derive(Debug, Drop)]
+pub struct Run {
+    pub layout: Layout,
+    pub goes: Goes,
+    pub told: Told,
+}
+
+/// The random run of a seed.
+pub fn run_of(alloc: Global, seed: u64) -> Result<Run, HostileFault> {
     let mut dice = Dice::new(seed);
     let layout = layout(&mut dice);
     let goes = if dice.one_of(2) {
@@ -31,13 +47,12 @@ fn random_run(alloc: Global, seed: u64, tally: &mut Tally) -> Result<(), Hostile
     let steps = steps(alloc, &mut dice, &layout, goes)?;
     let adapter = adapter(alloc, &layout)?;
     let told = play(alloc, adapter, layout.settings(), steps.as_slice())?;
-    let wrong = wrong_of(alloc, &layout, goes, &told)?;
-    tally.add(Case::Seeded { seed }, &told, wrong);
-    Ok(())
+    Ok(Run { layout, goes, told })
 }
 
-/// The longest transfer where little is open at once: pieces of two reads are often the same then. The checker follows each
-/// way in which such pieces may be of either read, so where much is open reads of the same sectors have to be rare.
+/// The longest transfer where little is open at once: pieces of two reads are often the same then. The checker
+/// follows each way in which such pieces may be of either read, so where much is open reads of the same sectors have
+/// to be rare.
 const SHORT_TRANSFER: u32 = 4;
 
 fn is_wide(layout: &Layout) -> bool {
@@ -145,7 +160,8 @@ fn push_any(steps: &mut Vec<Step>, dice: &mut Dice, layout: &Layout) -> Result<(
     Ok(())
 }
 
-/// Whether a piece acts before it is finished: else it comes back busy. Of one request alone pieces may come back busy often.
+/// Whether a piece acts before it is finished: else it comes back busy. Of one request alone pieces may come back
+/// busy often.
 fn acts_first(dice: &mut Dice, layout: &Layout) -> bool {
     if layout.open_requests == 1 {
         dice.one_of(30)
@@ -157,8 +173,8 @@ fn acts_first(dice: &mut Dice, layout: &Layout) -> bool {
 /// Pieces of the longest request that dice make: three whole ones and a part.
 const PIECES: u32 = 5;
 
-/// Held requests go on, and then each tag acts and is finished as often as there can be pieces: one piece may be out at a
-/// time.
+/// Held requests go on, and then each tag acts and is finished as often as there can be pieces: one piece may be out
+/// at a time.
 fn push_end(steps: &mut Vec<Step>, layout: &Layout) -> Result<(), AllocError> {
     steps.push(Step::CancelRemove)?;
     for _ in 0..layout.open_requests.saturating_mul(PIECES) {

@@ -1,5 +1,6 @@
-//! How many runs were made, and how many were wrong.
+//! How many runs were made or changed, and how many were wrong.
 
+use crate::changes::Seen;
 use crate::playing::Told;
 use crate::verdicts::Wrong;
 use std::fmt;
@@ -13,6 +14,8 @@ pub enum Case {
     Failing { act: u64 },
     /// The random run of this seed.
     Seeded { seed: u64 },
+    /// The same, with the label of this place changed, both counted from 0.
+    Changed { seed: u64, at: usize, change: usize },
 }
 
 impl fmt::Display for Case {
@@ -21,6 +24,9 @@ impl fmt::Display for Case {
             Case::Inserted { what, before } => write!(f, "{what} before step {before}"),
             Case::Failing { act } => write!(f, "act {act} fails"),
             Case::Seeded { seed } => write!(f, "seed {seed}"),
+            Case::Changed { seed, at, change } => {
+                write!(f, "seed {seed}, change {change} of label {at}")
+            }
         }
     }
 }
@@ -54,6 +60,51 @@ impl Tally {
         self.runs = self.runs.saturating_add(1);
         self.started = self.started.saturating_add(told.is_started as u64);
         self.labels = self.labels.saturating_add(told.labels.len() as u64);
+        let Some(wrong) = wrong else {
+            return;
+        };
+        self.wrong = self.wrong.saturating_add(1);
+        if self.first.is_none() {
+            self.first = Some((case, wrong));
+        }
+    }
+}
+
+/// The changes of labels so far.
+#[derive(Debug, Clone, Copy)]
+pub struct Changes {
+    pub labels: u64,
+    pub changes: u64,
+    /// Those whose label is refused itself.
+    pub there: u64,
+    /// Those of which a later label is refused.
+    pub later: u64,
+    pub wrong: u64,
+    /// The first wrong change.
+    pub first: Option<(Case, Wrong)>,
+}
+
+impl Changes {
+    /// No changes yet.
+    pub fn new() -> Changes {
+        Changes {
+            labels: 0,
+            changes: 0,
+            there: 0,
+            later: 0,
+            wrong: 0,
+            first: None,
+        }
+    }
+
+    /// One change more, of the label of this place.
+    pub fn add(&mut self, case: Case, at: usize, seen: Seen, wrong: Option<Wrong>) {
+        self.changes = self.changes.saturating_add(1);
+        match seen.whole {
+            Some(stop) if stop == at => self.there = self.there.saturating_add(1),
+            Some(_) => self.later = self.later.saturating_add(1),
+            None => {}
+        }
         let Some(wrong) = wrong else {
             return;
         };

@@ -26,6 +26,12 @@ pub enum Wrong {
     Unsettled,
     /// All pieces came back, and a request is still open.
     Unanswered,
+    /// Of a changed run: the judge of a list and the one that takes label by label stop at different places.
+    Judges,
+    /// A label before the one that was changed was refused.
+    Before,
+    /// What came before the changed label leaves it no such value, and it was taken.
+    Taken,
 }
 
 impl fmt::Display for Wrong {
@@ -35,6 +41,9 @@ impl fmt::Display for Wrong {
             Wrong::Label(at) => write!(f, "label {at} is of no step"),
             Wrong::Unsettled => f.write_str("not settled at the end"),
             Wrong::Unanswered => f.write_str("a request has no answer"),
+            Wrong::Judges => f.write_str("the two judges stop at different labels"),
+            Wrong::Before => f.write_str("a label before the changed one is refused"),
+            Wrong::Taken => f.write_str("a label that none may follow is taken"),
         }
     }
 }
@@ -90,7 +99,7 @@ fn is_some_open(labels: &[Label]) -> bool {
 }
 
 /// The rules of a layout's stack.
-fn rules_of(alloc: Global, layout: &Layout) -> Result<MachineRules, AllocError> {
+pub fn rules_of(alloc: Global, layout: &Layout) -> Result<MachineRules, AllocError> {
     let mut partitions = Vec::new(alloc);
     for (first, count) in &layout.partitions {
         if *count > 0 {
@@ -117,7 +126,7 @@ fn rules_of(alloc: Global, layout: &Layout) -> Result<MachineRules, AllocError> 
 }
 
 /// Sectors of zeros for each partition.
-fn zeros(alloc: Global, rules: &MachineRules) -> Result<Vec<Sectors>, AllocError> {
+pub fn zeros(alloc: Global, rules: &MachineRules) -> Result<Vec<Sectors>, AllocError> {
     let mut arrays = Vec::new(alloc);
     for extent in &rules.partitions {
         arrays.push(Sectors::new(sectors_of_zeros(alloc, extent.count)?))?;
