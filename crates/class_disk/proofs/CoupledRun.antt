@@ -171,7 +171,7 @@ module _ (rules : Rules) (many : rules.one_piece ≡ false) (j : Joint) (s : Sta
         step = DeviceStep-same rules (Start number tag block) (above jf) (above j) (above next) (above next) (IsSame-sym _ _ (same_above rules j o f)) (IsSame-refl _)
             (subst (λ n. Starts rules (above jf) n tag block (above next)) (sb.next_piece ∙ sym h.next_number)
             (Starts-above rules j f.whole es f.front f.back j.arrays j.next_piece many o f.again f.pieces tag block h.places known.0 agrees turns (All-head (IsInPieces rules) _ es kf.in_pieces)
-            (lowest_permuted rules.depth tag _ _ (IsPermutation-sym _ _ sb.pieces) h.on_tag) may h.sendable h.asks));
+            (lowest_permuted rules.depth tag _ _ (IsPermutation-sym _ _ sb.pieces) h.on_tag) may h.sendable h.asks h.plain));
         keeps = keeps_with rules j f.whole es f.front f.back o o' f.again f.pieces (p ∷ f.pieces) alike j.arrays (j.next_piece + 1) (All-cons (IsOwnedBy o.number) p f.pieces refl known.1)
             (follows_started rules j f.whole es f.front f.back o o' f.again f.pieces (p ∷ f.pieces) alike (outs_start o h.places.first h.places.count h.sendable.some)) kf;
         like = like_with rules j o f o' (p ∷ f.pieces) j.arrays (j.next_piece + 1) refl;

@@ -7,7 +7,7 @@ use Rattle.std.proofs.lemmas.List.Sorted.{IsPermutation-refl, IsPermutation-sym,
 use Rattle.std.proofs.lemmas.List.Elements.{All-cons, All-contains, All-map, Contains-append_left, Contains-append_right, Contains-get_or}
 use Rattle.sector.specs.Splice.{splice}
 use Rattle.sector.specs.declared.Extent.{Extent}
-use Rattle.cdb.specs.Meaning.{Means}
+use Rattle.cdb.specs.Meaning.{IsPlain, Means}
 use Rattle.srb.specs.declared.Class.{Class}
 use Rattle.srb.specs.declared.Class.TheVariants.{Good, Busy, Bad}
 use Rattle.srb.specs.Fate.{Fresh, Acted, Faulted}
@@ -170,9 +170,9 @@ module _ (rules : Rules) (j : Joint) (e : Divided) (es : List Divided) (front ba
   pub Starts-above : rules.one_piece ≡ false → (o : OpenRequest) (again : ℕ) (ps : List Piece) (tag : ℕ) (block : List ℕ) (places : Extent)
       → IsPartOf rules e.request (length (parts_marks front)) o → o.cancelled ≡ e.cancelled → All (IsAhead j.removing e.number o.number) es → IsInPieces rules (divided_with e front back o again ps)
       → IsLowestFreeTag rules.depth (below (focus arrays next o again ps)).pieces tag → MayStart (below (focus arrays next o again ps)) o → IsSendable (below_rules rules) o places
-      → Means block (command_for (below_rules rules) o.request places o.request.kind)
+      → Means block (command_for (below_rules rules) o.request places o.request.kind) → IsPlain block (command_for (below_rules rules) o.request places o.request.kind)
       → Starts rules (above (focus arrays next o again ps)) next tag block (above (focus arrays (next + 1) (sent places o) again (new_piece (below (focus arrays next o again ps)) tag o places ∷ ps)))
-  Starts-above many o again ps tag block places part same_cancel ahead in_pieces on_tag may sendable asks =
+  Starts-above many o again ps tag block places part same_cancel ahead in_pieces on_tag may sendable asks plain =
       let whole : BeginsWhole o places = begins_whole (below_rules rules) refl o places sendable in
       let outs : length (replicate places.count Out) ≡ places.count = length-replicate places.count Out in
       let fits : places.first + length (replicate places.count Out) ≤ length o.marks = let i = sendable.inside in omega arith in
@@ -212,6 +212,7 @@ module _ (rules : Rules) (j : Joint) (e : Divided) (es : List Divided) (front ba
           whole = λ one. cc (one, many);
         };
         asks = subst (λ z. Means block z) (same_command rules e.request (length (parts_marks front)) o places part) asks;
+        plain = subst (λ z. IsPlain block z) (same_command rules e.request (length (parts_marks front)) o places part) plain;
         after = record {
           arrays = refl;
           next_request = refl;

@@ -3,7 +3,7 @@ use Rattle.std.proofs.Common.{◌≡◌, inl, inr, ℕ, Bool, List, [], ◌∷�
 use Rattle.std.proofs.lemmas.List.Elements.{All-weaker}
 use Rattle.ntstatus.specs.declared.NtStatus.{NtStatus}
 use Rattle.sector.specs.declared.Extent.{Extent}
-use Rattle.cdb.specs.Meaning.{Means}
+use Rattle.cdb.specs.Meaning.{IsPlain, Means}
 use Rattle.srb.specs.declared.DeviceLabel.{DeviceLabel}
 use Rattle.srb.specs.declared.DeviceLabel.TheVariants.{Start, Act, Fault, Return}
 use Rattle.adapter.specs.View.{AdapterView}
@@ -62,6 +62,7 @@ module _ (most : Option ℕ) (below : Rules) where
     may_start = record { not_cancelled = h.may_start.not_cancelled; not_removing = h.may_start.not_removing; not_held = h.may_start.not_held; in_turn = h.may_start.in_turn };
     sendable = record { some = h.sendable.some; short = h.sendable.short; inside = h.sendable.inside; unsent = h.sendable.unsent; begins = h.sendable.begins; spare = h.sendable.spare; whole = h.sendable.whole };
     asks = subst (Means block) (command_is h.owner.request h.places h.owner.request.kind) h.asks;
+    plain = subst (IsPlain block) (command_is h.owner.request h.places h.owner.request.kind) h.plain;
     after = shown_same next removed s' _ h.after;
   }
   device_over next removed s (Act piece bytes) s' h = record {

@@ -65,6 +65,7 @@ start_first rules s r status informed bytes mid k tag block s' h some start =
       may_start = record { not_cancelled = start.may_start.not_cancelled; not_removing = start.may_start.not_removing; not_held = start.may_start.not_held; in_turn = in_turn };
       sendable = start.sendable;
       asks = start.asks;
+      plain = start.plain;
       after = IsSame-refl mid';
     } in
     let answers : Answers rules mid' r status bytes s' = record {

@@ -53,6 +53,7 @@ module _ (f : Frame) (window : Option ℕ) (rules : Rules) where
         };
         sendable = record { some = h.sendable.some; short = h.sendable.short; inside = h.sendable.inside; unsent = h.sendable.unsent; begins = h.sendable.begins; spare = h.sendable.spare; whole = h.sendable.whole };
         asks = h.asks;
+        plain = h.plain;
         after = IsSame-framed f s' _ h.after;
       }
   DeviceStep-framed s (Act number bytes) s' pass h = record {

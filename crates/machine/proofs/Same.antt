@@ -169,6 +169,7 @@ module _ (rules : Rules) (s s' t' : State) (rs : List OpenRequest) (ps : List Pi
     may_start = MayStart-along h.owner h.may_start;
     sendable = h.sendable;
     asks = h.asks;
+    plain = h.plain;
     after = carry s' t' _ (sent h.places h.owner ∷ h.others) (new_piece s tag h.owner h.places ∷ ps) same h.after (IsPermutation-refl _) (IsPermutation-cons _ _ _ q);
   }
 

@@ -8,7 +8,7 @@ use Rattle.sector.specs.Extents.{IsSector}
 use Rattle.sector.specs.Splice.{splice}
 use Rattle.cdb.specs.declared.Cdb.{Cdb}
 use Rattle.cdb.specs.declared.Cdb.TheVariants.{Read10, Write10, Sync10, Read16, Write16, Sync16}
-use Rattle.cdb.specs.Meaning.{Means}
+use Rattle.cdb.specs.Meaning.{IsPlain, Means}
 use Rattle.srb.specs.declared.Completion.{Completion}
 use Rattle.srb.specs.declared.Class.{Class}
 use Rattle.srb.specs.declared.Class.TheVariants.{Good, Busy, Bad}
@@ -113,7 +113,7 @@ sent places o = with_marks places.first (replicate places.count Out) o
 abbrev pub new_piece : State → ℕ → OpenRequest → Extent → Piece
 new_piece s tag o places = record { number = s.next_piece; tag = tag; owner = o.number; places = places; fate = Fresh }
 
--- a piece of an open request starts on the lowest free tag, with a block that asks for its places
+-- a piece of an open request starts on the lowest free tag, with the one plain block that asks for its places
 pub record Starts (rules : Rules) (s : State) (number tag : ℕ) (block : List ℕ) (s' : State) : Type 0 where
   pub owner : OpenRequest
   pub others : List OpenRequest
@@ -124,6 +124,7 @@ pub record Starts (rules : Rules) (s : State) (number tag : ℕ) (block : List �
   pub may_start : MayStart s owner
   pub sendable : IsSendable rules owner places
   pub asks : Means block (command_for rules owner.request places owner.request.kind)
+  pub plain : IsPlain block (command_for rules owner.request places owner.request.kind)
   pub after : IsSame s' (record s {
     next_piece = s.next_piece + 1;
     requests = sent places owner ∷ others;

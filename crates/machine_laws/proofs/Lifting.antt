@@ -68,6 +68,7 @@ module _ (rules : Rules) where
     may_start = record { not_cancelled = h.may_start.not_cancelled; not_removing = h.may_start.not_removing; not_held = h.may_start.not_held; in_turn = h.may_start.in_turn };
     sendable = record { some = h.sendable.some; short = h.sendable.short; inside = h.sendable.inside; unsent = h.sendable.unsent; begins = h.sendable.begins; spare = h.sendable.spare; whole = h.sendable.whole };
     asks = h.asks;
+    plain = h.plain;
     after = IsSame-over before s' _ h.after;
   })
   lift_device s (Act piece bytes) s' h before after moves = record {

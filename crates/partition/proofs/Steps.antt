@@ -12,7 +12,7 @@ use Rattle.sector.specs.declared.Extent.{Extent}
 use Rattle.sector.specs.Extents.{IsIn, sectors_in}
 use Rattle.sector.specs.Splice.{splice}
 use Rattle.sector.proofs.Splicing.{length-splice}
-use Rattle.cdb.specs.Meaning.{Means}
+use Rattle.cdb.specs.Meaning.{IsPlain, Means}
 use Rattle.srb.specs.declared.DeviceLabel.{DeviceLabel}
 use Rattle.srb.specs.declared.DeviceLabel.TheVariants.{Start, Act, Fault, Return}
 use Rattle.srb.specs.declared.Kind.{Kind}
@@ -440,6 +440,7 @@ module _ (below : Rules) (table : List Extent) (packets : List Packet) where
           whole = λ one. record { all_places = (h.sendable.whole one).all_places; not_before = (h.sendable.whole one).not_before };
         };
         asks = subst (λ command. Means block command) same h.asks;
+        plain = subst (λ command. IsPlain block command) same h.plain;
         after = IsSame-up s' _ h.after;
       }
 

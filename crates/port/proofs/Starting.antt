@@ -11,7 +11,7 @@ use Rattle.srb.specs.declared.DeviceLabel.{DeviceLabel}
 use Rattle.srb.specs.declared.DeviceLabel.TheVariants.{Start}
 use Rattle.adapter.specs.View.{AdapterView, TagInUse, IsInOrder, IsFree, HasTag as UseHasTag, HasNotTag, in_use_from, Accepts, IsReserved, IsWritable}
 use Rattle.cdb.specs.declared.Cdb.TheVariants.{Sync10, Sync16}
-use Rattle.cdb.specs.Meaning.{Means, AsksToRead, AsksToWrite}
+use Rattle.cdb.specs.Meaning.{IsPlain, Means, AsksToRead, AsksToWrite}
 use Rattle.sector.specs.declared.Extent.{Extent}
 use Rattle.sector.specs.Splice.{splice}
 use Rattle.irp.specs.declared.Payload.{Payload}
@@ -183,6 +183,7 @@ machine_starts b v rooms front rest tag srb packet tags' k is packs same low fre
         whole = λ _. record { all_places = sym count; not_before = rw untouched_all refl };
       };
       asks = subst (Means srb.block) (sym (same_command rules front.request (sent_bytes front.request.kind front.irp.value.payload) front.request.kind refl)) asks.asks;
+      plain = subst (IsPlain srb.block) (sym (same_command rules front.request (sent_bytes front.request.kind front.irp.value.payload) front.request.kind refl)) asks.plain;
       after = record {
         arrays = refl;
         next_request = refl;

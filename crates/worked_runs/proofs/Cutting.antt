@@ -31,7 +31,7 @@ pub starts_anywhere : StartsAnywhere
 starts_anywhere = (
   _,
   started anywhere _ (opened 1 (write 0 6 three) (Untouched ∷ Untouched ∷ Untouched ∷ [])) [] (record { first = 1; count = 2 }) 0 (write_block 3 2) refl tag_0
-      (IsPermutation-refl _) (search rules) (search rules) (search rules),
+      (IsPermutation-refl _) (search rules) (search rules) (search rules) (search rules),
   IsSame-refl _,
 )
 
@@ -40,6 +40,6 @@ starts_again =
     let rules' : Rules = record small { any_cut = true } in
     let o : OpenRequest = record (opened 1 (write 0 2 (full_of 165)) (Back ∷ [])) { busy_returns = 2 } in (
       _,
-      started rules' _ o [] (one_place 0) 0 (write_block 2 1) refl tag_0 (IsPermutation-refl _) (search rules) (search rules) (search rules),
+      started rules' _ o [] (one_place 0) 0 (write_block 2 1) refl tag_0 (IsPermutation-refl _) (search rules) (search rules) (search rules) (search rules),
       IsSame-refl _,
     )

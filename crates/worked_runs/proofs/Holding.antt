@@ -25,7 +25,7 @@ holds_then_resumes =
       called small _ (read 0 2) refl refl refl,
       (
         _,
-        started small _ (r Untouched) [] (one_place 0) 0 (read_block 2 1) refl tag_0 (IsPermutation-refl _) (search rules) (search rules) (search rules),
+        started small _ (r Untouched) [] (one_place 0) 0 (read_block 2 1) refl tag_0 (IsPermutation-refl _) (search rules) (search rules) (search rules) (search rules),
         (
           _,
           paused small _ refl refl refl,
@@ -46,7 +46,7 @@ holds_then_resumes =
                     resumed small _ refl refl,
                     (
                       _,
-                      started small _ (q Untouched) [] (one_place 0) 0 (read_block 3 1) refl tag_0 (IsPermutation-refl _) (search rules) (search rules) (search rules),
+                      started small _ (q Untouched) [] (one_place 0) 0 (read_block 3 1) refl tag_0 (IsPermutation-refl _) (search rules) (search rules) (search rules) (search rules),
                       (
                         _,
                         acted small _ (k Fresh) [] (q Out) (b ∷ []) array b refl (search rules) (search rules) refl refl (search rules) refl,
@@ -83,10 +83,10 @@ removes_all =
       called small _ (write 0 6 data') refl refl refl,
       (
         _,
-        started small _ (w Untouched Untouched) [] (one_place 0) 0 (write_block 2 1) refl tag_0 (IsPermutation-refl _) (search rules) (search rules) (search rules),
+        started small _ (w Untouched Untouched) [] (one_place 0) 0 (write_block 2 1) refl tag_0 (IsPermutation-refl _) (search rules) (search rules) (search rules) (search rules),
         (
           _,
-          started small _ (w Out Untouched) [] (one_place 1) 1 (write_block 3 1) refl (tag_1 (p Fresh) refl) (IsPermutation-refl _) (search rules) (search rules) (search rules),
+          started small _ (w Out Untouched) [] (one_place 1) 1 (write_block 3 1) refl (tag_1 (p Fresh) refl) (IsPermutation-refl _) (search rules) (search rules) (search rules) (search rules),
           (
             _,
             paused small _ refl refl refl,
@@ -151,4 +151,4 @@ surprises_all =
     let array = sectors 17 34 51 in
     let a = full_of 17 in
     let b = full_of 34 in
-    (_, called small _ (read 0 2) refl refl refl, (_, started small _ (r Untouched) [] (one_place 0) 0 (read_block 2 1) refl tag_0 (IsPermutation-refl _) (search rules) (search rules) (search rules), (_, called small _ (read 2 2) refl refl refl, (_, started small _ (q Untouched) (r Out ∷ []) (one_place 0) 1 (read_block 3 1) refl (tag_1 (p Fresh) refl) (IsPermutation-refl _) (search rules) (search rules) (search rules), (_, called small _ (read 4 2) refl refl refl, (_, surprised small _ refl refl, (_, answered small _ late (q Out ∷ r Out ∷ []) DeletePending [] refl (IsPermutation-refl _) (inr (DeletePending, inr (refl, refl)), tt) (search rules) (inr (refl, refl)) refl, (_, acted small _ (k Fresh) (p Fresh ∷ []) (q Out) (b ∷ []) array b refl (record { is_out = IsPermutation-refl _; is_number = refl; is_fresh = refl }) (search rules) refl refl (search rules) refl, (_, returned small _ (k (Acted (b ∷ []))) (p Fresh ∷ []) (q Out) (r Out ∷ []) Good (Done b ∷ []) refl (IsPermutation-refl _) (IsPermutation-refl _) refl (search rules), (_, answered small _ (q (Done b)) (r Out ∷ []) Success b refl (IsPermutation-refl _) (search rules) (search rules) (search rules) refl, (_, acted small _ (p Fresh) [] (r Out) (a ∷ []) array a refl (search rules) (search rules) refl refl (search rules) refl, (_, returned small _ (p (Acted (a ∷ []))) [] (r Out) [] Good (Done a ∷ []) refl (IsPermutation-refl _) (IsPermutation-refl _) refl (search rules), (_, answered small _ (r (Done a)) [] Success a refl (IsPermutation-refl _) (search rules) (search rules) (search rules) refl, (_, removed small _ refl refl refl refl, IsSame-refl _))))))))))))))
+    (_, called small _ (read 0 2) refl refl refl, (_, started small _ (r Untouched) [] (one_place 0) 0 (read_block 2 1) refl tag_0 (IsPermutation-refl _) (search rules) (search rules) (search rules) (search rules), (_, called small _ (read 2 2) refl refl refl, (_, started small _ (q Untouched) (r Out ∷ []) (one_place 0) 1 (read_block 3 1) refl (tag_1 (p Fresh) refl) (IsPermutation-refl _) (search rules) (search rules) (search rules) (search rules), (_, called small _ (read 4 2) refl refl refl, (_, surprised small _ refl refl, (_, answered small _ late (q Out ∷ r Out ∷ []) DeletePending [] refl (IsPermutation-refl _) (inr (DeletePending, inr (refl, refl)), tt) (search rules) (inr (refl, refl)) refl, (_, acted small _ (k Fresh) (p Fresh ∷ []) (q Out) (b ∷ []) array b refl (record { is_out = IsPermutation-refl _; is_number = refl; is_fresh = refl }) (search rules) refl refl (search rules) refl, (_, returned small _ (k (Acted (b ∷ []))) (p Fresh ∷ []) (q Out) (r Out ∷ []) Good (Done b ∷ []) refl (IsPermutation-refl _) (IsPermutation-refl _) refl (search rules), (_, answered small _ (q (Done b)) (r Out ∷ []) Success b refl (IsPermutation-refl _) (search rules) (search rules) (search rules) refl, (_, acted small _ (p Fresh) [] (r Out) (a ∷ []) array a refl (search rules) (search rules) refl refl (search rules) refl, (_, returned small _ (p (Acted (a ∷ []))) [] (r Out) [] Good (Done a ∷ []) refl (IsPermutation-refl _) (IsPermutation-refl _) refl (search rules), (_, answered small _ (r (Done a)) [] Success a refl (IsPermutation-refl _) (search rules) (search rules) (search rules) refl, (_, removed small _ refl refl refl refl, IsSame-refl _))))))))))))))

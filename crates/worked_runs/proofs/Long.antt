@@ -18,10 +18,10 @@ starts_in_each_form =
       called far _ (read 0 4) refl refl refl,
       (
         _,
-        started far _ (r Untouched Untouched) [] (one_place 0) 0 last_short refl tag_0 (IsPermutation-refl _) (search rules) (search rules) (search rules),
+        started far _ (r Untouched Untouched) [] (one_place 0) 0 last_short refl tag_0 (IsPermutation-refl _) (search rules) (search rules) (search rules) (search rules),
         (
           _,
-          started far _ (r Out Untouched) [] (one_place 1) 1 first_long refl (tag_1 (p Fresh) refl) (IsPermutation-refl _) (search rules) (search rules) (search rules),
+          started far _ (r Out Untouched) [] (one_place 1) 1 first_long refl (tag_1 (p Fresh) refl) (IsPermutation-refl _) (search rules) (search rules) (search rules) (search rules),
           IsSame-refl _,
         ),
       ),
@@ -35,7 +35,7 @@ flushes_far =
       called far _ flush refl refl refl,
       (
         _,
-        started far _ (f Untouched) [] (one_place 0) 0 long_sync_block refl tag_0 (IsPermutation-refl _) (search rules) (search rules) (search rules),
+        started far _ (f Untouched) [] (one_place 0) 0 long_sync_block refl tag_0 (IsPermutation-refl _) (search rules) (search rules) (search rules) (search rules),
         (
           _,
           acted far _ (p Fresh) [] (f Out) ([] ∷ []) (sectors 17 34 51) [] refl (search rules) (search rules) refl refl (search rules) refl,

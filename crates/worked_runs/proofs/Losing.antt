@@ -28,10 +28,10 @@ reaches_cut =
       called small _ (write 0 6 (full_of 165 ++ full_of 165 ++ full_of 165)) refl refl refl,
       (
         _,
-        started small _ (w false Untouched Untouched) [] (one_place 0) 0 (write_block 2 1) refl tag_0 (IsPermutation-refl _) (search rules) (search rules) (search rules),
+        started small _ (w false Untouched Untouched) [] (one_place 0) 0 (write_block 2 1) refl tag_0 (IsPermutation-refl _) (search rules) (search rules) (search rules) (search rules),
         (
           _,
-          started small _ (w false Out Untouched) [] (one_place 1) 1 (write_block 3 1) refl (tag_1 (p Fresh) refl) (IsPermutation-refl _) (search rules) (search rules) (search rules),
+          started small _ (w false Out Untouched) [] (one_place 1) 1 (write_block 3 1) refl (tag_1 (p Fresh) refl) (IsPermutation-refl _) (search rules) (search rules) (search rules) (search rules),
           (
             _,
             cancelled small _ (w false Out Out) [] refl (IsPermutation-refl _) refl,
@@ -92,7 +92,7 @@ reaches_last_unsent =
       called pairs _ (read 0 6) refl refl refl,
       (
         _,
-        started pairs _ (r Untouched Untouched) [] first_two 0 (read_block 2 2) refl tag_0 (IsPermutation-refl _) (search rules) (search rules) (search rules),
+        started pairs _ (r Untouched Untouched) [] first_two 0 (read_block 2 2) refl tag_0 (IsPermutation-refl _) (search rules) (search rules) (search rules) (search rules),
         (
           _,
           acted pairs _ (p Fresh) [] (r Out Out) low array (full_of 17 ++ full_of 34) refl (search rules) (search rules) refl refl (search rules) refl,
@@ -120,10 +120,10 @@ reaches_both_back =
       called small _ (read 0 4) refl refl refl,
       (
         _,
-        started small _ (r Untouched Untouched) [] (one_place 0) 0 (read_block 2 1) refl tag_0 (IsPermutation-refl _) (search rules) (search rules) (search rules),
+        started small _ (r Untouched Untouched) [] (one_place 0) 0 (read_block 2 1) refl tag_0 (IsPermutation-refl _) (search rules) (search rules) (search rules) (search rules),
         (
           _,
-          started small _ (r Out Untouched) [] (one_place 1) 1 (read_block 3 1) refl (tag_1 (p Fresh) refl) (IsPermutation-refl _) (search rules) (search rules) (search rules),
+          started small _ (r Out Untouched) [] (one_place 1) 1 (read_block 3 1) refl (tag_1 (p Fresh) refl) (IsPermutation-refl _) (search rules) (search rules) (search rules) (search rules),
           (
             _,
             acted small _ (k Fresh) (p Fresh ∷ []) (r Out Out) (b ∷ []) array b refl (search rules) (search rules) refl refl (search rules) refl,
@@ -159,7 +159,7 @@ reaches_one_of_two =
       called small _ (read 0 2) refl refl refl,
       (
         _,
-        started small _ (r Untouched) [] (one_place 0) 0 (read_block 2 1) refl tag_0 (IsPermutation-refl _) (search rules) (search rules) (search rules),
+        started small _ (r Untouched) [] (one_place 0) 0 (read_block 2 1) refl tag_0 (IsPermutation-refl _) (search rules) (search rules) (search rules) (search rules),
         (
           _,
           called small _ (read 0 2) refl refl refl,
@@ -194,7 +194,7 @@ reaches_waits_behind =
       called one_below _ (read 0 2) refl refl refl,
       (
         _,
-        started one_below _ (r Untouched) [] (one_place 0) 0 (read_block 2 1) refl tag_0 (IsPermutation-refl _) (search rules) (search rules) (search rules),
+        started one_below _ (r Untouched) [] (one_place 0) 0 (read_block 2 1) refl tag_0 (IsPermutation-refl _) (search rules) (search rules) (search rules) (search rules),
         (
           _,
           called one_below _ (read 2 2) refl refl refl,

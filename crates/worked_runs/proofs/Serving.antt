@@ -26,7 +26,7 @@ writes_then_reads =
       called small _ (write 0 2 (full_of 165)) refl refl refl,
       (
         _,
-        started small _ (w Untouched) [] (one_place 0) 0 (write_block 2 1) refl tag_0 (IsPermutation-refl _) (search rules) (search rules) (search rules),
+        started small _ (w Untouched) [] (one_place 0) 0 (write_block 2 1) refl tag_0 (IsPermutation-refl _) (search rules) (search rules) (search rules) (search rules),
         (
           _,
           acted small _ (p Fresh) [] (w Out) sector (sectors 165 0 0) (full_of 165) refl (search rules) (search rules) refl refl (search rules) refl,
@@ -41,7 +41,7 @@ writes_then_reads =
                 called small _ (read 0 2) refl refl refl,
                 (
                   _,
-                  started small _ (r Untouched) [] (one_place 0) 0 (read_block 2 1) refl tag_0 (IsPermutation-refl _) (search rules) (search rules) (search rules),
+                  started small _ (r Untouched) [] (one_place 0) 0 (read_block 2 1) refl tag_0 (IsPermutation-refl _) (search rules) (search rules) (search rules) (search rules),
                   (
                     _,
                     acted small _ (k Fresh) [] (r Out) sector (sectors 165 0 0) (full_of 165) refl (search rules) (search rules) refl refl (search rules) refl,
@@ -79,10 +79,10 @@ joins_in_order =
       called pairs _ (read 0 6) refl refl refl,
       (
         _,
-        started pairs _ (r Untouched Untouched Untouched) [] first_two 0 (read_block 2 2) refl tag_0 (IsPermutation-refl _) (search rules) (search rules) (search rules),
+        started pairs _ (r Untouched Untouched Untouched) [] first_two 0 (read_block 2 2) refl tag_0 (IsPermutation-refl _) (search rules) (search rules) (search rules) (search rules),
         (
           _,
-          started pairs _ (r Out Out Untouched) [] (one_place 2) 1 (read_block 4 1) refl (tag_1 (p Fresh) refl) (IsPermutation-refl _) (search rules) (search rules) (search rules),
+          started pairs _ (r Out Out Untouched) [] (one_place 2) 1 (read_block 4 1) refl (tag_1 (p Fresh) refl) (IsPermutation-refl _) (search rules) (search rules) (search rules) (search rules),
           (
             _,
             acted pairs _ (k Fresh) (p Fresh ∷ []) (r Out Out Out) high array (full_of 51) refl (search rules) (search rules) refl refl (search rules) refl,
@@ -116,7 +116,7 @@ flushes =
       called small _ flush refl refl refl,
       (
         _,
-        started small _ (f Untouched) [] (one_place 0) 0 sync_block refl tag_0 (IsPermutation-refl _) (search rules) (search rules) (search rules),
+        started small _ (f Untouched) [] (one_place 0) 0 sync_block refl tag_0 (IsPermutation-refl _) (search rules) (search rules) (search rules) (search rules),
         (
           _,
           acted small _ (p Fresh) [] (f Out) ([] ∷ []) zeros [] refl (search rules) (search rules) refl refl (search rules) refl,
@@ -164,7 +164,7 @@ writes_through = (
   called small _ written_through refl refl refl,
   (
     _,
-    started small _ (opened 1 written_through (Untouched ∷ [])) [] (one_place 0) 0 _ refl tag_0 (IsPermutation-refl _) (search rules) (search rules) (search rules),
+    started small _ (opened 1 written_through (Untouched ∷ [])) [] (one_place 0) 0 _ refl tag_0 (IsPermutation-refl _) (search rules) (search rules) (search rules) (search rules),
     written 1 0 true false,
   ),
 )
@@ -176,13 +176,13 @@ sends_again =
       called small _ (write 0 2 (full_of 165)) refl refl refl,
       (
         _,
-        started small _ (w 0 Untouched) [] (one_place 0) 0 (write_block 2 1) refl tag_0 (IsPermutation-refl _) (search rules) (search rules) (search rules),
+        started small _ (w 0 Untouched) [] (one_place 0) 0 (write_block 2 1) refl tag_0 (IsPermutation-refl _) (search rules) (search rules) (search rules) (search rules),
         (
           _,
           returned small _ (piece_of 1 0 1 0 Fresh) [] (w 0 Out) [] Busy (Back ∷ []) refl (IsPermutation-refl _) (IsPermutation-refl _) refl (search rules),
           (
             _,
-            started small _ (w 1 Back) [] (one_place 0) 0 (write_block 2 1) refl tag_0 (IsPermutation-refl _) (search rules) (search rules) (search rules),
+            started small _ (w 1 Back) [] (one_place 0) 0 (write_block 2 1) refl tag_0 (IsPermutation-refl _) (search rules) (search rules) (search rules) (search rules),
             written 2 1 false false,
           ),
         ),
@@ -196,7 +196,7 @@ succeeds_though_cancelled =
       called small _ (write 0 2 (full_of 165)) refl refl refl,
       (
         _,
-        started small _ (w Untouched) [] (one_place 0) 0 (write_block 2 1) refl tag_0 (IsPermutation-refl _) (search rules) (search rules) (search rules),
+        started small _ (w Untouched) [] (one_place 0) 0 (write_block 2 1) refl tag_0 (IsPermutation-refl _) (search rules) (search rules) (search rules) (search rules),
         (
           _,
           cancelled small _ (w Out) [] refl (IsPermutation-refl _) refl,

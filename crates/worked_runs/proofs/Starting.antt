@@ -41,7 +41,7 @@ reaches_first_bad =
       called small _ (write 0 4 (full_of 165 ++ full_of 165)) refl refl refl,
       (
         _,
-        started small _ (w Untouched) [] (one_place 0) 0 (write_block 2 1) refl tag_0 (IsPermutation-refl _) (search rules) (search rules) (search rules),
+        started small _ (w Untouched) [] (one_place 0) 0 (write_block 2 1) refl tag_0 (IsPermutation-refl _) (search rules) (search rules) (search rules) (search rules),
         (
           _,
           faulted small _ (p Fresh) [] refl (search rules),
@@ -72,7 +72,7 @@ sends_the_other =
     let k : Fate → Piece = λ fate. piece_of 2 0 1 1 fate in
     let sector = full_of 165 ∷ [] in (
       _,
-      started small _ (w Untouched) [] (one_place 1) 0 (write_block 3 1) refl tag_0 (IsPermutation-refl _) (search rules) (search rules) (search rules),
+      started small _ (w Untouched) [] (one_place 1) 0 (write_block 3 1) refl tag_0 (IsPermutation-refl _) (search rules) (search rules) (search rules) (search rules),
       (
         _,
         acted small _ (k Fresh) [] (w Out) sector (sectors 0 165 0) (full_of 165) refl (search rules) (search rules) refl refl (search rules) refl,
@@ -132,7 +132,7 @@ reaches_removing_out =
       called small _ (read 0 2) refl refl refl,
       (
         _,
-        started small _ (r Untouched) [] (one_place 0) 0 (read_block 2 1) refl tag_0 (IsPermutation-refl _) (search rules) (search rules) (search rules),
+        started small _ (r Untouched) [] (one_place 0) 0 (read_block 2 1) refl tag_0 (IsPermutation-refl _) (search rules) (search rules) (search rules) (search rules),
         (
           _,
           paused small _ refl refl refl,

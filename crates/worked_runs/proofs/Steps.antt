@@ -1,12 +1,15 @@
 -- One step for each label, from what allows it; the state after is told.
-use Rattle.std.proofs.Common.{◌≡◌, ◌<◌, ◌+◌, ℕ, true, false, List, [], ◌∷◌, Some, None, refl, sym, subst, inl, inr, length, map, arith, rules, lit<}
-use Rattle.std.specs.Prelude.{IsPermutation, IsNone, IsTrue, IsFalse, Contains, ◌↔◌, if◌then◌else◌}
+use Rattle.std.proofs.Common.{◌≡◌, ◌<◌, ◌+◌, ℕ, Bool, true, false, List, [], ◌∷◌, Some, None, refl, sym, subst, inl, inr, length, map, arith, rules, lit<}
+use Rattle.std.specs.Prelude.{IsPermutation, IsNone, IsTrue, IsFalse, Contains, ◌↔◌, if◌then◌else◌, nat_lt, slice_index}
 use Rattle.std.specs.List.{AllByRecursion, list_all, concat}
+use Rattle.std.proofs.lemmas.Bool.{both_ways, ltb-true}
+use Rattle.std.proofs.lemmas.List.Folds.{list_all_at}
 use Rattle.std.proofs.lemmas.List.Elements.{All-cons, All-nil, All-from_recursion}
 use Rattle.ntstatus.specs.declared.NtStatus.{NtStatus}
 use Rattle.ntstatus.specs.declared.NtStatus.TheVariants.{Success}
 use Rattle.sector.specs.declared.Extent.{Extent}
-use Rattle.cdb.specs.Meaning.{Means}
+use Rattle.cdb.specs.declared.Cdb.{Cdb}
+use Rattle.cdb.specs.Meaning.{IsPlain, IsZeroAt, Means, size_of, option_byte, unused}
 use Rattle.srb.specs.declared.Class.{Class}
 use Rattle.srb.specs.declared.DeviceLabel.TheVariants.{Start, Act, Fault, Return}
 use Rattle.srb.specs.Fate.{Acted, Faulted}
@@ -28,12 +31,31 @@ called rules s q free allowed carries =
     let opens : Opens rules s s.next_request q s' = record { new_number = omega arith; not_refused = allowed; carries = carries; after = IsSame-refl _ } in
     inl (free, record { next_number = refl; admits = subst (λ answer. Admits rules s s.next_request q answer s') (sym allowed) opens })
 
+-- what it takes for a block to be plain, as a computation
+pub record IsSpelled (block : List ℕ) (command : Cdb) : Type 0 where
+  pub are_bytes : list_all (λ byte. nat_lt byte 256) block ≡ true
+  pub no_more : length block ≡ size_of command
+  pub option : slice_index block 1 ≡ option_byte command
+  pub unused_bytes : AllByRecursion (IsZeroAt block) (unused command)
+
+plain_block : (block : List ℕ) (command : Cdb) → IsSpelled block command → IsPlain block command
+plain_block block command h = record {
+  are_bytes = λ k below. by (nat_lt (slice_index block k) 256) k refl below;
+  no_more = h.no_more;
+  option = h.option;
+  unused_bytes = All-from_recursion _ _ h.unused_bytes;
+}
+  where
+    by : (b : Bool) (k : ℕ) → nat_lt (slice_index block k) 256 ≡ b → k < length block → slice_index block k < 256
+    by true k e below = ltb-true _ _ e
+    by false k e below = absurd (both_ways _ (list_all_at (λ byte. nat_lt byte 256) block k 0 below e) h.are_bytes)
+
 pub started : (rules : Rules) (s : State) (owner : OpenRequest) (others : List OpenRequest) (places : Extent) (tag : ℕ) (block : List ℕ)
     → IsNone s.owed → IsLowestFreeTag rules.depth s.pieces tag → IsPermutation s.requests (owner ∷ others) → MayStart s owner → IsSendable rules owner places
-    → Means block (command_for rules owner.request places owner.request.kind)
+    → Means block (command_for rules owner.request places owner.request.kind) → IsSpelled block (command_for rules owner.request places owner.request.kind)
     → Step rules s (Device (Start s.next_piece tag block))
     (record s { next_piece = s.next_piece + 1; requests = sent places owner ∷ others; pieces = new_piece s tag owner places ∷ s.pieces })
-started rules s owner others places tag block free on_tag is_open may_start sendable asks = inl (
+started rules s owner others places tag block free on_tag is_open may_start sendable asks spelled = inl (
   free,
   record {
     owner = owner;
@@ -45,6 +67,7 @@ started rules s owner others places tag block free on_tag is_open may_start send
     may_start = may_start;
     sendable = sendable;
     asks = asks;
+    plain = plain_block block _ spelled;
     after = IsSame-refl _;
   },
 )
