@@ -2,7 +2,6 @@
 use Rattle.std.proofs.Common.{◌≡◌, inl, inr, ℕ, List, Option, Some, None, refl}
 use Rattle.std.specs.Prelude.{◌↔◌, Result, IsNone, IfSome, MatchOption, option_map}
 use Rattle.cdb.specs.declared.Cdb.{Cdb}
-use Rattle.cdb.specs.declared.CdbFault.{CdbFault}
 use Rattle.srb.specs.declared.DeviceLabel.{DeviceLabel}
 use Rattle.srb.specs.declared.DeviceLabel.TheVariants as device
 use Rattle.machine.specs.declared.Label.{Label}
@@ -14,6 +13,7 @@ use Rattle.machine.specs.Pieces.{ArePlaced}
 use Rattle.machine.specs.Step.{FreeStep, OwingStep, Step, Run}
 use Rattle.machine.proofs.Numbers.{AreDistinct-opening, AreDistinct-Run}
 use Rattle.machine.proofs.Placed.{ArePlaced-opening, ArePlaced-Run}
+use Rattle.judge.specs.declared.start_rules.StartRule.{StartRule}
 use Rattle.judge.specs.declared.label_rules.Rule.{Rule}
 use Rattle.judge.specs.declared.label_rules.Rule.TheVariants as rule
 use Rattle.judge.specs.Breaking.{HasStep, IsReached, Breaks, BreaksRemoval, BreaksOwed}
@@ -32,14 +32,14 @@ lifted : {R : Type 0} (wrap : R → Rule) (P Q : Type 0) (B : R → Type 0) (C :
 lifted wrap P Q B C None h f g = f h
 lifted wrap P Q B C (Some r) h f g = g r h
 
-module _ (rules : Rules) (s : State) (d : AreDistinct s) (whole : HaveAllPlaces rules s) (placed : ArePlaced s) (read : Result Cdb CdbFault) where
+module _ (rules : Rules) (s : State) (d : AreDistinct s) (whole : HaveAllPlaces rules s) (placed : ArePlaced s) (read : Result Cdb StartRule) where
   module _ (e : s.owed ≡ None) where
     free_of : (l : Label) → (s' : State) × FreeStep rules s l s' → HasStep rules s l
     free_of l h = (h.0, inl (rw e refl, h.1))
 
     device_named : (l : DeviceLabel) → IsDeviceRead l read → MatchOption (device_rule rules s read l) (HasStep rules s (label.Device l)) (Breaks rules s (label.Device l))
     device_named (device.Start number tag block) is =
-        lifted rule.Start _ _ _ (Breaks rules s (label.Device (device.Start number tag block))) _ (starts_named rules s whole number tag block read is.command is.fault)
+        lifted rule.Start _ _ _ (Breaks rules s (label.Device (device.Start number tag block))) _ (starts_named rules s whole number tag block read is)
         (free_of (label.Device (device.Start number tag block))) (λ r h. h)
     device_named (device.Act number bytes) is =
         lifted rule.Act _ _ _ (Breaks rules s (label.Device (device.Act number bytes))) _ (acts_named rules s d whole placed number bytes) (free_of (label.Device (device.Act number bytes))) (λ r h. h)
@@ -68,7 +68,7 @@ module _ (rules : Rules) (s : State) (d : AreDistinct s) (whole : HaveAllPlaces 
       by None e = free_named e l is
       by (Some owed) e = lifted rule.Owed ((s' : State) × OwingStep s l s') (HasStep rules s l) (BreaksOwed s l) (Breaks rules s l) (owing_rule owed l) (owed_named rules s owed e l) (λ h. (h.0, inr h.1)) (λ r h. h)
 
-module _ (rules : Rules) (s : State) (l : Label) (read : Result Cdb CdbFault) (is : IsReadOf l read) (reached : IsReached rules s) where
+module _ (rules : Rules) (s : State) (l : Label) (read : Result Cdb StartRule) (is : IsReadOf l read) (reached : IsReached rules s) where
   named : MatchOption (label_rule rules s read l) (HasStep rules s l) (Breaks rules s l)
   named =
       let arrays : List (List (List ℕ)) = reached.0 in

@@ -11,7 +11,6 @@ use Rattle.ntstatus.specs.declared.NtStatus.{NtStatus}
 use Rattle.ntstatus.specs.declared.NtStatus.TheVariants.{Success}
 use Rattle.sector.specs.declared.Extent.{Extent}
 use Rattle.cdb.specs.declared.Cdb.{Cdb}
-use Rattle.cdb.specs.Meaning.{Means}
 use Rattle.srb.specs.declared.Class.{Class}
 use Rattle.srb.specs.declared.Class.TheVariants.{Good, Busy, Bad}
 use Rattle.srb.specs.declared.DeviceLabel.{DeviceLabel}
@@ -33,7 +32,7 @@ use Rattle.machine.specs.Step.{DeviceStep, FreeStep, OwingStep, Step}
 use Rattle.machine.proofs.Same.{IsSame-trans, IsSame-reordered}
 use Rattle.judge.specs.Picking.{only, choices}
 use Rattle.judge.specs.Deciding.{same_status, same_truth, has_ended, may_end_as, is_lowest_free, may_start, startable_at, startable, sectors_moved, may_move, is_bad}
-use Rattle.judge.specs.Next.{admitted, called, answered_of, answered, repaid, started_by, started_of, started_each, started, arrays_after, acted_by, acted_of, acted, faulted_of, faulted, marks_of_fate, marks_left, returned_by, returned_of, returned, by_cancel_of, by_cancel, by_pause, by_resume, by_removal, by_surprise, by_end, device_next, free_next, owing_next, next_of, next, IsDeviceCommand, IsCommandOf}
+use Rattle.judge.specs.Next.{admitted, called, answered_of, answered, repaid, started_by, started_of, started_each, started, arrays_after, acted_by, acted_of, acted, faulted_of, faulted, marks_of_fate, marks_left, returned_by, returned_of, returned, by_cancel_of, by_cancel, by_pause, by_resume, by_removal, by_surprise, by_end, device_next, free_next, owing_next, next_of, next, IsBlockOf, IsDeviceCommand, IsCommandOf}
 use Rattle.judge.proofs.Picking.{Gives, gives_only, at_taken, chosen, Among, among_option, among_flat_map}
 use Rattle.judge.proofs.Deciding.{decides_status, decides_both_ways, decides_lowest, decides_all_ended, decides_lowest_free, decides_may_start, decides_sendable}
 use Rattle.judge.proofs.Asking.{places_found}
@@ -105,14 +104,14 @@ module _ (rules : Rules) (s : State) (d : AreDistinct s) (whole : HaveAllPlaces 
       by Read e = cc (e)
       by Write e = cc (e)
 
-  starts : (number tag : ℕ) (block : List ℕ) (command : Option Cdb) → ((c : Cdb) → (command ≡ Some c) ↔ Means block c) → Starts rules s number tag block s' → Among (IsSame s') (started rules s number tag command)
+  starts : (number tag : ℕ) (block : List ℕ) (command : Option Cdb) → ((c : Cdb) → (command ≡ Some c) ↔ IsBlockOf block c) → Starts rules s number tag block s' → Among (IsSame s') (started rules s number tag command)
   starts number tag block command means h = by (eqb number s.next_piece && is_lowest_free rules.depth s.pieces tag) passes
     where
       passes : (eqb number s.next_piece && is_lowest_free rules.depth s.pieces tag) ≡ true
       passes = and_from (eqb number s.next_piece) _ (eq-eqb _ _ h.next_number) ((decides_lowest_free rules.depth s.pieces tag).1 h.on_tag)
 
       asked : command ≡ Some (command_for rules h.owner.request h.places h.owner.request.kind)
-      asked = (means (command_for rules h.owner.request h.places h.owner.request.kind)).1 h.asks
+      asked = (means (command_for rules h.owner.request h.places h.owner.request.kind)).1 (record { asks = h.asks; plain = h.plain })
 
       found : startable rules s command h.owner ≡ Some h.places
       found =

@@ -6,7 +6,6 @@ use Rattle.std.proofs.lemmas.Bool.{both_ways}
 use Rattle.std.proofs.lemmas.List.Folds.{Any-from_list_any}
 use Rattle.std.proofs.lemmas.List.Elements.{All-contains, Contains-get_or}
 use Rattle.cdb.specs.declared.Cdb.{Cdb}
-use Rattle.cdb.specs.declared.CdbFault.{CdbFault}
 use Rattle.machine.specs.declared.Label.{Label}
 use Rattle.machine.specs.Rules.{Rules}
 use Rattle.machine.specs.State.{State, IsSame, opening}
@@ -14,6 +13,7 @@ use Rattle.machine.specs.Step.{Step, Run}
 use Rattle.machine.proofs.Same.{IsSame-refl, Step-same, Run-append}
 use Rattle.judge.specs.Next.{AreNext}
 use Rattle.judge.specs.Judging.{AreReached, IsRun}
+use Rattle.judge.specs.declared.start_rules.StartRule.{StartRule}
 use Rattle.judge.specs.declared.label_rules.Rule.{Rule}
 use Rattle.judge.specs.Breaking.{HasStep, IsReached, Breaks}
 use Rattle.judge.specs.Following.{JudgeView, HasTaken, Takes, GoesTo, AreAlike, IsRefused, Refuses, AllReached, HasNoStep, BreaksThere, StopsAll, Goes, SomeGoes}
@@ -81,7 +81,7 @@ module _ (j : JudgeView) where
 
 -- THE RULE THAT IS NAMED AT ALL STATES
 
-module _ (rules : Rules) (l : Label) (read : Result Cdb CdbFault) (is : IsReadOf l read) where
+module _ (rules : Rules) (l : Label) (read : Result Cdb StartRule) (is : IsReadOf l read) where
   goes_so : (s : State) → IsReached rules s → goes_by rules read l s ≡ true → HasStep rules s l
   goes_so s reached e = (exactly rules s l read is reached).0 (none_is _ e)
     where

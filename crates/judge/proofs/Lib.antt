@@ -19,6 +19,7 @@ pub mod Refuting
 pub mod Named
 pub mod NamedPieces
 pub mod NamedStarts
+pub mod ReadBlocks
 pub mod Broken
 pub mod Followed
 pub mod Differing

@@ -11,9 +11,7 @@ use Rattle.std.proofs.lemmas.List.Folds.{Any-from_list_any}
 use Rattle.std.proofs.lemmas.List.Quantifiers.{position-Some}
 use Rattle.sector.specs.declared.Extent.{Extent}
 use Rattle.cdb.specs.declared.Cdb.{Cdb}
-use Rattle.cdb.specs.declared.CdbFault.{CdbFault}
-use Rattle.cdb.specs.Meaning.{Means}
-use Rattle.cdb.specs.Faults.{HasFault}
+use Rattle.cdb.specs.Meaning.{IsPlain, Means}
 use Rattle.srb.specs.declared.Kind.{Kind}
 use Rattle.srb.specs.declared.Kind.TheVariants.{Read, Write, Flush}
 use Rattle.machine.specs.Rules.{Rules}
@@ -29,8 +27,9 @@ use Rattle.judge.specs.declared.start_rules.Misfit.{Misfit}
 use Rattle.judge.specs.declared.start_rules.Misfit.TheVariants as misfit
 use Rattle.judge.specs.declared.start_rules.Hindrance.{Hindrance}
 use Rattle.judge.specs.declared.start_rules.Hindrance.TheVariants as hindrance
-use Rattle.judge.specs.Breaking.{Asks, NoneAsks, IsMisfit, IsAmong, Hinders, AllHeld, HoldsOne, BreaksStartOf}
+use Rattle.judge.specs.Breaking.{Asks, NoneAsks, IsMisfit, IsAmong, Hinders, AllHeld, HoldsOne, BreaksBlock, BreaksStartOf}
 use Rattle.judge.specs.StartRuling.{lowest_free, used_rule, lower_rule, tag_rule, is_inside, asked_inside, asked, flag_hindrance, is_before, turn_hindrance, is_sent, sent_as, sent_hindrance, grid_hindrance, whole_hindrance, cut_hindrance, places_hindrance, hindrance_of, same_kind, has_kind, kind_of, is_in_form, span_of, is_in_range, has_blocks, blocks_misfit, kind_misfit, misfit_of, may_go, is_asked, held_by_one, held_rule, asked_rule, command_rule, block_rule, starting_rule}
+use Rattle.judge.specs.LabelRuling.{IsReadAs}
 use Rattle.judge.proofs.AllPlaces.{HasAllPlaces, HaveAllPlaces}
 use Rattle.judge.proofs.Deciding.{decides_tag, decides_turn, decides_true, decides_may_start, decides_sendable}
 use Rattle.judge.proofs.Asking.{places_ask, places_found}
@@ -236,7 +235,7 @@ module _ (rules : Rules) (s : State) where
     abbrev Broken : StartRule → Type 0
     Broken r = BreaksStartOf rules s number tag block r
 
-    module _ (next : number ≡ s.next_piece) (free : IsLowestFreeTag rules.depth s.pieces tag) (command : Cdb) (means : Means block command) (only_it : (c : Cdb) → Means block c → command ≡ c) where
+    module _ (next : number ≡ s.next_piece) (free : IsLowestFreeTag rules.depth s.pieces tag) (command : Cdb) (means : Means block command) (own : IsPlain block command) (only_it : (c : Cdb) → Means block c → command ≡ c) where
       start_by : (o : OpenRequest) (places : Extent) → Contains s.requests o → command ≡ command_for rules o.request places o.request.kind → MayStart s o → IsSendable rules o places → CanStart
       start_by o places there is may send =
           let p : (others : List OpenRequest) × IsPermutation s.requests (o ∷ others) = first_of s.requests o there in (
@@ -251,6 +250,7 @@ module _ (rules : Rules) (s : State) where
               may_start = may;
               sendable = send;
               asks = subst (λ c. Means block c) is means;
+              plain = subst (λ c. IsPlain block c) is own;
               after = IsSame-refl _;
             },
           )
@@ -396,13 +396,19 @@ module _ (rules : Rules) (s : State) where
         by false e = (refl, refl, ltb-false _ _ e)
         by true e = used (ltb-true _ _ e) (find (has_tag tag) s.pieces) refl
 
-    module _ (read : Result Cdb CdbFault) (right : (c : Cdb) → (read ≡ Ok c) ↔ Means block c) (fault : (f : CdbFault) → (read ≡ Err f) ↔ HasFault block f) where
+    -- a rule that the block breaks by itself
+    by_block : (r : StartRule) → BreaksBlock block r → Broken r
+    by_block (start_rule.Block fault) h = h
+    by_block (start_rule.NotPlain d) h = h
+    by_block _ h = absurd h
+
+    module _ (read : Result Cdb StartRule) (is : IsReadAs block read) where
       block_named : number ≡ s.next_piece → IsLowestFreeTag rules.depth s.pieces tag → MatchOption (block_rule rules s read) CanStart Broken
       block_named next free = by read refl
         where
-          by : (r : Result Cdb CdbFault) → read ≡ r → MatchOption (block_rule rules s r) CanStart Broken
-          by (Ok command) e = command_named next free command ((right command).0 e) (λ c m. cc (e, (right c).1 m))
-          by (Err f) e = ((fault f).0 e, λ c m. cc (e, (right c).1 m))
+          by : (r : Result Cdb StartRule) → read ≡ r → MatchOption (block_rule rules s r) CanStart Broken
+          by (Ok command) e = command_named next free command ((is.command command).0 e).asks ((is.command command).0 e).plain (λ c m. is.only command c e m)
+          by (Err r) e = by_block r (is.broken r e)
 
       pub starts_named : MatchOption (starting_rule rules s number tag read) ((s' : State) × Starts rules s number tag block s') (BreaksStartOf rules s number tag block)
       starts_named = by (number == s.next_piece) refl

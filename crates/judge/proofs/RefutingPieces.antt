@@ -93,6 +93,7 @@ module _ (rules : Rules) (s : State) where
       let any = step.on_tag.lowest lowest low in
       All-contains (HasOtherTag lowest) s.pieces any.1 h.1.free (any.0, any.2, any.3) any.4
   refutes_start number tag block (start_rule.Block fault) h s' step = h.1 _ step.asks
+  refutes_start number tag block (start_rule.NotPlain d) h s' step = h.1 _ step.asks step.plain
   refutes_start number tag block (start_rule.NotAsked misfit) h s' step =
       h.0 step.owner step.places (record { is_there = there step.owner step.others step.is_open; some = step.sendable.some; inside = step.sendable.inside; means = step.asks })
   refutes_start number tag block (start_rule.Held n hindrance) h s' step =

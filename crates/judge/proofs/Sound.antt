@@ -11,7 +11,6 @@ use Rattle.ntstatus.specs.declared.NtStatus.{NtStatus}
 use Rattle.ntstatus.specs.declared.NtStatus.TheVariants.{Success}
 use Rattle.sector.specs.declared.Extent.{Extent}
 use Rattle.cdb.specs.declared.Cdb.{Cdb}
-use Rattle.cdb.specs.Meaning.{Means}
 use Rattle.srb.specs.declared.Completion.{Completion}
 use Rattle.srb.specs.declared.Class.{Class}
 use Rattle.srb.specs.declared.Class.TheVariants.{Good, Busy, Bad}
@@ -31,7 +30,7 @@ use Rattle.machine.specs.Step.{DeviceStep, FreeStep, OwingStep, Step}
 use Rattle.machine.proofs.Same.{IsSame-refl, IsSame-reordered}
 use Rattle.judge.specs.Picking.{only, choices}
 use Rattle.judge.specs.Deciding.{has_number, is_piece, same_status, same_truth, has_ended, has_cause, may_end_as, may_answer, is_lowest_free, may_start, startable_at, startable, places_for, sectors_moved, is_bad}
-use Rattle.judge.specs.Next.{admitted, called, answered_of, answered, repaid, started_of, started_each, started, arrays_after, acted_by, acted_of, acted, faulted_of, faulted, marks_of_fate, marks_left, returned_with, returned_by, returned_of, returned, by_cancel_of, by_cancel, by_pause, by_resume, by_removal, by_surprise, by_end, device_next, free_next, owing_next, next_of, next, IsDeviceCommand, IsCommandOf}
+use Rattle.judge.specs.Next.{admitted, called, answered_of, answered, repaid, started_of, started_each, started, arrays_after, acted_by, acted_of, acted, faulted_of, faulted, marks_of_fate, marks_left, returned_with, returned_by, returned_of, returned, by_cancel_of, by_cancel, by_pause, by_resume, by_removal, by_surprise, by_end, device_next, free_next, owing_next, next_of, next, IsBlockOf, IsDeviceCommand, IsCommandOf}
 use Rattle.judge.proofs.Picking.{if_only, at_found, choices_are, all_option, all_flat_map}
 use Rattle.judge.proofs.Deciding.{decides_status, decides_both_ways, decides_lowest, decides_all_ended, decides_lowest_free, decides_may_start, decides_sendable}
 use Rattle.judge.proofs.Asking.{Asks, places_ask}
@@ -134,7 +133,7 @@ module _ (rules : Rules) (s : State) where
           let both : _ × _ = and_parts (may_start s o) _ e in
           record { asked = ap Some (sym h); may = (decides_may_start s o).0 both.0; sendable = (decides_sendable rules o places).0 both.1 })
 
-  starts : (number tag : ℕ) (block : List ℕ) (command : Option Cdb) → ((c : Cdb) → (command ≡ Some c) ↔ Means block c) → AllByRecursion (Starts rules s number tag block) (started rules s number tag command)
+  starts : (number tag : ℕ) (block : List ℕ) (command : Option Cdb) → ((c : Cdb) → (command ≡ Some c) ↔ IsBlockOf block c) → AllByRecursion (Starts rules s number tag block) (started rules s number tag command)
   starts number tag block command means = by (eqb number s.next_piece && is_lowest_free rules.depth s.pieces tag) refl
     where
       started_so : number ≡ s.next_piece → is_lowest_free rules.depth s.pieces tag ≡ true → (o : OpenRequest) (others : List OpenRequest) → IsPermutation s.requests (o ∷ others)
@@ -150,7 +149,8 @@ module _ (rules : Rules) (s : State) where
           is_open = p;
           may_start = h.may;
           sendable = h.sendable;
-          asks = (means (command_for rules o.request places o.request.kind)).0 h.asked;
+          asks = ((means (command_for rules o.request places o.request.kind)).0 h.asked).asks;
+          plain = ((means (command_for rules o.request places o.request.kind)).0 h.asked).plain;
           after = IsSame-reordered (record s { next_piece = s.next_piece + 1 }) _ _ _ _ (to_front others (sent places o)) (to_front s.pieces (new_piece s tag o places));
         },
         tt,

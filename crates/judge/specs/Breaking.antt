@@ -6,7 +6,7 @@ use Rattle.ntstatus.specs.declared.NtStatus.TheVariants.{Success}
 use Rattle.sector.specs.declared.Extent.{Extent}
 use Rattle.sector.specs.Extents.{IsSector}
 use Rattle.cdb.specs.declared.Cdb.{Cdb}
-use Rattle.cdb.specs.Meaning.{Means}
+use Rattle.cdb.specs.Meaning.{IsPlain, Means}
 use Rattle.cdb.specs.Faults.{HasFault}
 use Rattle.srb.specs.declared.Completion.{Completion}
 use Rattle.srb.specs.declared.Class.{Class}
@@ -222,12 +222,28 @@ AllHeld rules s block = (o : OpenRequest) (places : Extent) → Asks rules s blo
 abbrev pub HoldsOne : Rules → State → List ℕ → ℕ → Hindrance → Type 0
 HoldsOne rules s block number h = (o : OpenRequest) × (places : Extent) × Asks rules s block o places × (o.number ≡ number) × Hinders rules s o places h
 
+-- the block asks for a command, and this is the first byte in which it isn't the command's plain block
+pub record IsNotPlainAt (block : List ℕ) (d : Difference) : Type 0 where
+  pub command : Cdb
+  pub own : List ℕ
+  pub asks : Means block command
+  pub is_own : Means own command
+  pub is_plain : IsPlain own command
+  pub differs : Differs own block d
+
+-- it is no start's block, whatever the state
+abbrev pub BreaksBlock : List ℕ → StartRule → Type 0
+BreaksBlock block (start_rule.Block fault) = HasFault block fault × ((c : Cdb) → ¬ (Means block c))
+BreaksBlock block (start_rule.NotPlain d) = IsNotPlainAt block d × ((c : Cdb) → Means block c → ¬ (IsPlain block c))
+BreaksBlock block _ = ⊥
+
 abbrev pub BreaksStartOf : Rules → State → ℕ → ℕ → List ℕ → StartRule → Type 0
 BreaksStartOf rules s number tag block (start_rule.Number due told) = (due ≡ s.next_piece) × (told ≡ number) × (told ≢ due)
 BreaksStartOf rules s number tag block (start_rule.Depth t depth) = (t ≡ tag) × (depth ≡ rules.depth) × (depth ≤ t)
 BreaksStartOf rules s number tag block (start_rule.TagInUse t n) = (t ≡ tag) × (piece : Piece) × Contains s.pieces piece × (piece.tag ≡ t) × (piece.number ≡ n)
 BreaksStartOf rules s number tag block (start_rule.Tag lowest told) = (told ≡ tag) × IsLowestFreeTag rules.depth s.pieces lowest × (lowest < told)
-BreaksStartOf rules s number tag block (start_rule.Block fault) = HasFault block fault × ((c : Cdb) → ¬ (Means block c))
+BreaksStartOf rules s number tag block (start_rule.Block fault) = BreaksBlock block (start_rule.Block fault)
+BreaksStartOf rules s number tag block (start_rule.NotPlain d) = BreaksBlock block (start_rule.NotPlain d)
 BreaksStartOf rules s number tag block (start_rule.NotAsked misfit) = NoneAsks rules s block × IsMisfit s misfit
 BreaksStartOf rules s number tag block (start_rule.Held n h) = AllHeld rules s block × HoldsOne rules s block n h
 

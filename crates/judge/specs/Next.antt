@@ -4,7 +4,7 @@ use Rattle.std.specs.List.{flat_map}
 use Rattle.ntstatus.specs.declared.NtStatus.{NtStatus}
 use Rattle.sector.specs.declared.Extent.{Extent}
 use Rattle.cdb.specs.declared.Cdb.{Cdb}
-use Rattle.cdb.specs.Meaning.{Means}
+use Rattle.cdb.specs.Meaning.{IsPlain, Means}
 use Rattle.srb.specs.declared.Class.{Class}
 use Rattle.srb.specs.declared.Class.TheVariants.{Good, Busy, Bad}
 use Rattle.srb.specs.declared.DeviceLabel.{DeviceLabel}
@@ -160,7 +160,7 @@ by_end s = only (s.removing && (not s.removed && (length s.requests == 0))) (rec
 
 -- EACH LABEL
 
--- by a label of the adapter; a start goes by the command that its block asks for
+-- by a label of the adapter; a start goes by the command whose plain block it has
 abbrev pub device_next : Rules → Option Cdb → State → DeviceLabel → List State
 device_next rules command s (Start number tag block) = started rules s number tag command
 device_next rules command s (Act number bytes) = option_to_list (acted rules s number bytes)
@@ -194,9 +194,14 @@ next rules command label s = next_of rules command s label s.owed
 
 -- THE COMMAND OF A START
 
--- the command that the block of a start asks for, if there is one
+-- the block asks for this command, and is the plain one
+pub record IsBlockOf (block : List ℕ) (command : Cdb) : Type 0 where
+  pub asks : Means block command
+  pub plain : IsPlain block command
+
+-- the command whose plain block the start has, if there is one
 abbrev pub IsDeviceCommand : DeviceLabel → Option Cdb → Type 0
-IsDeviceCommand (Start number tag block) command = (c : Cdb) → (command ≡ Some c) ↔ Means block c
+IsDeviceCommand (Start number tag block) command = (c : Cdb) → (command ≡ Some c) ↔ IsBlockOf block c
 IsDeviceCommand (Act number bytes) command = Unit {0}
 IsDeviceCommand (Fault number) command = Unit {0}
 IsDeviceCommand (Return number class) command = Unit {0}

@@ -4,7 +4,6 @@ use Rattle.std.specs.List.{find, list_any, position}
 use Rattle.std.specs.Option.{option_or}
 use Rattle.sector.specs.declared.Extent.{Extent}
 use Rattle.cdb.specs.declared.Cdb.{Cdb}
-use Rattle.cdb.specs.declared.CdbFault.{CdbFault}
 use Rattle.cdb.specs.declared.Cdb.TheVariants.{Read10, Write10, Sync10, ReadCapacity10, Read16, Write16, Sync16, ReadCapacity16}
 use Rattle.srb.specs.declared.Kind.{Kind}
 use Rattle.srb.specs.declared.Kind.TheVariants.{Read, Write, Flush}
@@ -203,12 +202,12 @@ abbrev pub command_rule : Rules → State → Cdb → Option StartRule
 command_rule rules s command =
     if list_any (may_go rules s command) s.requests then None else asked_rule rules s command (find (is_asked rules command) s.requests)
 
--- by what the block was read as
-abbrev pub block_rule : Rules → State → Result Cdb CdbFault → Option StartRule
+-- by the command that was read, or the rule that the block breaks
+abbrev pub block_rule : Rules → State → Result Cdb StartRule → Option StartRule
 block_rule rules s (Ok command) = command_rule rules s command
-block_rule rules s (Err fault) = Some (start_rule.Block fault)
+block_rule rules s (Err rule) = Some rule
 
-abbrev pub starting_rule : Rules → State → ℕ → ℕ → Result Cdb CdbFault → Option StartRule
+abbrev pub starting_rule : Rules → State → ℕ → ℕ → Result Cdb StartRule → Option StartRule
 starting_rule rules s number tag block =
     if not (number == s.next_piece) then Some (start_rule.Number s.next_piece number)
     else option_or (tag_rule rules.depth s.pieces tag) (block_rule rules s block)

@@ -2,15 +2,17 @@
 
 ghost use Rattle.std.specs.Prelude.{◌≡◌, ◌↔◌, None, IfSome, Result};
 ghost use Rattle.judge.specs.Breaking.{HasStep, IsReached, Breaks, BreakingRefutes};
-ghost use Rattle.judge.specs.LabelRuling.{IsReadOf, IsReadAs, device_rule, free_rule, label_rule, goes_by};
+ghost use Rattle.judge.specs.LabelRuling.{IsReadOf, device_rule, free_rule, label_rule, goes_by};
 ghost use Rattle.judge.specs.Views.{rules_of};
 
 use crate::label_rules::Rule;
 use crate::machine_state::Machine;
+use crate::reading::read_as;
 use crate::rules::MachineRules;
-use cdb::{Cdb, CdbFault, decode};
+use crate::start_rules::StartRule;
+use cdb::{Cdb, CdbFault};
 use machine::Label;
-use srb::{CommandBlock, DeviceLabel};
+use srb::DeviceLabel;
 
 /// A rule that a label breaks refutes each step by it.
 #[tactic(auto, using(crate::proofs::Refuting::refutes_all))]
@@ -18,20 +20,13 @@ pub fn breaking_refutes()
     ensures { BreakingRefutes }
 {}
 
-/// Returns what a block is read as.
-fn read_as(block: &CommandBlock) -> Result<Cdb, CdbFault>
-    ensures { IsReadAs block.now result }
-{
-    decode(block.as_slice())
-}
-
 /// Returns what the block of a start is read as.
-pub(crate) fn read_of(label: &Label) -> Result<Cdb, CdbFault>
+pub(crate) fn read_of(label: &Label) -> Result<Cdb, StartRule>
     ensures { IsReadOf label.now result }
 {
     match label {
         Label::Device(DeviceLabel::Start { block, .. }) => read_as(block),
-        _ => Err(CdbFault::ShortCdb),
+        _ => Err(StartRule::Block(CdbFault::ShortCdb)),
     }
 }
 
@@ -40,7 +35,7 @@ impl Machine {
     fn broken_device(
         &self,
         rules: &MachineRules,
-        read: Result<Cdb, CdbFault>,
+        read: Result<Cdb, StartRule>,
         label: &DeviceLabel,
     ) -> Option<Rule>
         ensures { result ≡ device_rule (rules_of rules.now) self.now read label.now }
@@ -65,7 +60,7 @@ impl Machine {
     fn broken_free(
         &self,
         rules: &MachineRules,
-        read: Result<Cdb, CdbFault>,
+        read: Result<Cdb, StartRule>,
         label: &Label,
     ) -> Option<Rule>
         ensures { result ≡ free_rule (rules_of rules.now) self.now read label.now }
@@ -100,7 +95,7 @@ impl Machine {
     pub(crate) fn broken_by(
         &self,
         rules: &MachineRules,
-        read: Result<Cdb, CdbFault>,
+        read: Result<Cdb, StartRule>,
         label: &Label,
     ) -> Option<Rule>
         ensures { result ≡ label_rule (rules_of rules.now) self.now read label.now }
@@ -115,7 +110,7 @@ impl Machine {
     pub(crate) fn goes(
         &self,
         rules: &MachineRules,
-        read: Result<Cdb, CdbFault>,
+        read: Result<Cdb, StartRule>,
         label: &Label,
     ) -> bool
         ensures { result ≡ goes_by (rules_of rules.now) read label.now self.now }

@@ -16,7 +16,7 @@ use crate::open::Open;
 use crate::pieces::Started;
 use crate::rules::MachineRules;
 use crate::start_rules::{Hindrance, Misfit, StartRule};
-use cdb::{Cdb, CdbFault};
+use cdb::Cdb;
 use machine::Kind;
 use sector::Extent;
 
@@ -291,12 +291,12 @@ impl Machine {
     }
 
     /// Returns what is wrong with a start with a block that was read so.
-    fn broken_block(&self, rules: &MachineRules, block: Result<Cdb, CdbFault>) -> Option<StartRule>
+    fn broken_block(&self, rules: &MachineRules, block: Result<Cdb, StartRule>) -> Option<StartRule>
         ensures { result ≡ block_rule (rules_of rules.now) self.now block }
     {
         match block {
             Ok(command) => self.broken_command(rules, command),
-            Err(fault) => Some(StartRule::Block(fault)),
+            Err(rule) => Some(rule),
         }
     }
 
@@ -306,7 +306,7 @@ impl Machine {
         rules: &MachineRules,
         number: u128,
         tag: u8,
-        block: Result<Cdb, CdbFault>,
+        block: Result<Cdb, StartRule>,
     ) -> Option<StartRule>
         ensures { result ≡ starting_rule (rules_of rules.now) self.now number tag block }
     {

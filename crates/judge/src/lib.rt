@@ -5,7 +5,8 @@
 //! the labels (`IsRun`), and then has all states that do, each in one order of its requests and pieces (`AreReached`); else
 //! it names the first label that no step allows (`StopsAt`). `Machine::is_settled` says whether a state is `Settled`.
 //! Most labels lead to one state at most. A start may lead to several, one for each request that may make it: the blocks of
-//! two flushes, or of two reads of one sector, are the same. The checker follows each of them.
+//! two flushes, or of two reads of one sector, are the same. The checker follows each of them. A block has to be the plain
+//! one of its command (`IsBlockOf`): of one that holds more, [`StartRule::NotPlain`] tells the first such byte.
 //!
 //! `Machine::broken` names a rule that a label breaks: none exactly where some step goes by it (`exact`), else one that it
 //! breaks there (`breaks`), which refutes each step (`breaking_refutes`). [`stepwise::Judge`] takes labels one by one
@@ -38,6 +39,7 @@ mod open;
 mod piece_rules;
 mod pieces;
 mod places;
+mod reading;
 mod rules;
 mod sameness;
 mod sectors;

@@ -1,5 +1,6 @@
 //! The rules that a start can break.
 
+use crate::label_rules::Difference;
 use cdb::CdbFault;
 use machine::Kind;
 use std::fmt;
@@ -18,8 +19,13 @@ pub enum StartRule {
     TagInUse { tag: u8, piece: u128 },
     #[error("tag {lowest} is free, and lower than tag {told}")]
     Tag { lowest: u8, told: u8 },
+    /// The block asks for no command.
     #[error("{0}")]
     Block(CdbFault),
+    /// A block holds its command and nothing else: 0 in each bit that is no field of it, as DPO and the CONTROL byte (SBC,
+    /// SAM), and no byte behind it.
+    #[error("the block holds more than its command: {0}")]
+    NotPlain(Difference),
     /// No open request asks for the block.
     #[error("{0}")]
     NotAsked(Misfit),

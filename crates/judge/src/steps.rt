@@ -1,37 +1,26 @@
 //! The machines that a label leads to.
 
-ghost use Rattle.std.specs.Prelude.{◌≡◌, ◌++◌, ◌↔◌, IfOk, OnOk, Some, option_to_list};
+ghost use Rattle.std.specs.Prelude.{◌≡◌, ◌++◌, IfOk, OnOk, option_to_list};
 ghost use Rattle.std.specs.List.{flat_map};
-ghost use Rattle.cdb.specs.declared.Cdb.{Cdb};
-ghost use Rattle.cdb.specs.Meaning.{Means};
 ghost use Rattle.judge.specs.Next.{device_next, free_next, owing_next, next, IsCommandOf, AreNext};
 ghost use Rattle.judge.specs.Views.{rules_of, owed_of};
 
 use crate::NoVerdict;
+use crate::breaking::read_of;
 use crate::machine_state::{Debt, Machine};
 use crate::rules::MachineRules;
-use cdb::{Cdb, decode};
+use cdb::Cdb;
 use machine::Label;
-use srb::{CommandBlock, DeviceLabel};
+use srb::DeviceLabel;
 use std::alloc::Global;
 
-/// The command that a block asks for.
-fn decoded(block: &CommandBlock) -> Option<Cdb>
-    ensures { (c : Cdb) → (result ≡ Some c) ↔ Means block.now c }
-{
-    match decode(block.as_slice()) {
-        Ok(command) => Some(command),
-        Err(_) => None,
-    }
-}
-
-/// The command that the block of a start asks for.
+/// The command whose plain block a start has.
 pub(crate) fn command_of(label: &Label) -> Option<Cdb>
     ensures { IsCommandOf label.now result }
 {
-    match label {
-        Label::Device(DeviceLabel::Start { block, .. }) => decoded(block),
-        _ => None,
+    match read_of(label) {
+        Ok(command) => Some(command),
+        Err(_) => None,
     }
 }
 

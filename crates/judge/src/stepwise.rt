@@ -19,9 +19,10 @@ use crate::label_rules::Rule;
 use crate::machine_state::{Machine, Sectors};
 use crate::rules::MachineRules;
 use crate::sameness::distinct;
+use crate::start_rules::StartRule;
 use crate::steps::all_next;
 use crate::undone_rules::Undone;
-use cdb::{Cdb, CdbFault};
+use cdb::Cdb;
 use machine::Label;
 use std::alloc::Global;
 use std::marker::Model;
@@ -59,7 +60,7 @@ impl Model for Judge {
 /// Whether the label goes from some of the machines, where the block of a start was read so.
 fn goes(
     rules: &MachineRules,
-    read: Result<Cdb, CdbFault>,
+    read: Result<Cdb, StartRule>,
     machines: &[Machine],
     label: &Label,
 ) -> bool
@@ -73,7 +74,7 @@ fn goes(
 /// The rule that the label breaks at the first of the machines, if it goes from none.
 fn broken_at_all(
     rules: &MachineRules,
-    read: Result<Cdb, CdbFault>,
+    read: Result<Cdb, StartRule>,
     machines: &[Machine],
     label: &Label,
 ) -> Option<Rule>

@@ -25,6 +25,8 @@ enum Say {
     StartCapacity(u128, u8),
     /// With an empty block.
     StartNothing(u128, u8),
+    /// With a block of these bytes.
+    StartBytes(u128, u8, &'static [u8]),
     /// Piece, the byte that is repeated, how often.
     Act(u128, u8, usize),
     Fault(u128),
@@ -82,6 +84,16 @@ fn bad(srb_status: u8) -> Class {
     })
 }
 
+fn start_of(piece: u128, tag: u8, told: &[u8]) -> Label {
+    let mut block = ArrayVec::new();
+    let _fits = block.try_extend_from_slice(told);
+    Label::Device(DeviceLabel::Start {
+        piece,
+        tag,
+        block: CommandBlock::new(block),
+    })
+}
+
 fn label(alloc: Global, say: Say) -> Result<Label, AllocError> {
     Ok(match say {
         Say::Call(number, kind, offset, length, carried) => {
@@ -102,6 +114,7 @@ fn label(alloc: Global, say: Say) -> Result<Label, AllocError> {
             tag,
             block: CommandBlock::new(ArrayVec::new()),
         }),
+        Say::StartBytes(piece, tag, told) => start_of(piece, tag, told),
         Say::Act(piece, byte, count) => Label::Device(DeviceLabel::Act {
             piece,
             bytes: bytes(alloc, byte, count)?,
@@ -362,6 +375,48 @@ fn rules_of_numbers_and_tags(rt: HostRuntime) -> Result<(), Fail> {
         )?,
         &true,
     );
+    Ok(())
+}
+
+/// Blocks of [`READ_BOTH`] that hold more: DPO, a CONTROL byte, a byte behind the tenth.
+static SPARE: [(&[u8], Difference); 3] = [
+    (
+        &[0x28, 0x10, 0, 0, 0, 2, 0, 0, 2, 0],
+        Difference {
+            at: 1,
+            due: Some(0),
+            told: Some(0x10),
+        },
+    ),
+    (
+        &[0x28, 0, 0, 0, 0, 2, 0, 0, 2, 4],
+        Difference {
+            at: 9,
+            due: Some(0),
+            told: Some(4),
+        },
+    ),
+    (
+        &[0x28, 0, 0, 0, 0, 2, 0, 0, 2, 0, 0],
+        Difference {
+            at: 10,
+            due: None,
+            told: Some(0),
+        },
+    ),
+];
+
+#[test]
+fn rules_of_spare_bits(rt: HostRuntime) -> Result<(), Fail> {
+    let alloc = rt.alloc();
+    for (block, difference) in &SPARE {
+        let rule = Rule::Start(StartRule::NotPlain(*difference));
+        same(
+            &rt,
+            &breaks(alloc, &[READ, Say::StartBytes(1, 0, *block)], rule)?,
+            &true,
+        );
+    }
     Ok(())
 }
 

@@ -57,7 +57,7 @@ static CALLS: [(Rule, &str); 7] = [
     ),
 ];
 
-static STARTS: [(Rule, &str); 14] = [
+static STARTS: [(Rule, &str); 16] = [
     (
         Rule::Start(StartRule::Number { due: 7, told: 9 }),
         "this is piece 7, and not 9",
@@ -77,6 +77,22 @@ static STARTS: [(Rule, &str); 14] = [
     (
         Rule::Start(StartRule::Block(CdbFault::InvalidField)),
         "a field of the command block is not supported",
+    ),
+    (
+        Rule::Start(StartRule::NotPlain(Difference {
+            at: 9,
+            due: Some(0),
+            told: Some(4),
+        })),
+        "the block holds more than its command: byte 9 is 04, and 00 is due",
+    ),
+    (
+        Rule::Start(StartRule::NotPlain(Difference {
+            at: 10,
+            due: None,
+            told: Some(0),
+        })),
+        "the block holds more than its command: byte 10 is 00, and the bytes end before it",
     ),
     (
         Rule::Start(StartRule::NotAsked(Misfit::Command)),
