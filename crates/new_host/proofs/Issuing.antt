@@ -1,0 +1,78 @@
+-- A call that was taken in, and its receipt.
+use Rattle.std.proofs.Common.{◌≡◌, ℕ, ◌-◌, ◌<◌, ◌≤◌, List, [], ◌∷◌, ◌++◌, length, Option, Some, sym, ap, ◌∙◌, subst}
+use Rattle.std.specs.Prelude.{slice_get}
+use Rattle.std.proofs.lemmas.Option.{slice_get_within}
+use Rattle.machine.specs.declared.ClientRequest.{ClientRequest}
+use Rattle.machine.specs.declared.Label.{Label}
+use Rattle.machine.specs.declared.Label.TheVariants.{Call as CallLabel}
+use Rattle.io_manager.specs.declared.OpenHandle.{OpenHandle}
+use Rattle.chronicle.specs.Claims.{AllStand}
+use Rattle.traced.specs.declared.Entry.{Entry}
+use Rattle.traced.specs.Shares.{ShareView}
+use Rattle.new_host.specs.Receipts.{Receipt, ReceiptsView, AreBelow, Answers, receipt}
+use Rattle.new_host.specs.Accounts.{AccountKept}
+use Rattle.new_host.specs.Calls.{HasCounted, Stands}
+use Rattle.new_host.proofs.Keeping.{below_more, below_stand}
+use Rattle.new_host.proofs.Accounts.{account_answered, account_called, receipt_is}
+
+-- what was noted of a place
+abbrev pub IsNoted : List Entry → ℕ → List Receipt → Type 0
+IsNoted es place claim = (e : Entry) × (slice_get es place ≡ Some e) × (claim ≡ (place, e) ∷ [])
+
+-- a call's receipt, above all before
+pub record IsReceived (handles : List (Option OpenHandle)) (partitions : List ℕ) (share share' : ShareView) (called called' answered answered' claim : List Receipt) (place number : ℕ) (q : ClientRequest) : Type 0 where
+  pub claim_is : claim ≡ receipt place (CallLabel number q) share.client
+  pub above_calls : AreBelow place called
+  pub above_answers : AreBelow place answered
+  pub list : called' ≡ called ++ claim
+  pub kept : AccountKept handles partitions share' called' answered'
+
+pub received : (handles : List (Option OpenHandle)) (partitions : List ℕ) (share share' : ShareView) (called checked noted answered answered' : ReceiptsView) (claim : List Receipt) (es mid end new : List Entry) (place number : ℕ) (q : ClientRequest)
+    → AccountKept handles partitions share called.list answered.list → AllStand es called.list → mid ≡ es → checked ≡ called → AllStand mid answered.list → end ≡ mid → answered' ≡ answered → length end ≤ place → Stands new place (CallLabel number q) share.client → HasCounted share 1 share'
+    → IsNoted new place claim → noted ≡ record { list = checked.list ++ claim; room = checked.room - 1 } → IsReceived handles partitions share share' called.list noted.list answered.list answered'.list claim place number q
+received handles partitions share share' called checked noted answered answered' claim es mid end new place number q kept stand same_es same stand_answers same_mid same_answers late stands counted entry noted_is = record {
+  claim_is = claim_is;
+  above_calls = below_more (length es) place called.list below late';
+  above_answers = below_more (length mid) place answered.list (below_stand mid answered.list stand_answers) late_mid;
+  list = list;
+  kept = subst (λ (r : ReceiptsView). AccountKept handles partitions share' noted.list r.list) (sym same_answers)
+      (subst (λ (l : List Receipt). AccountKept handles partitions share' l answered.list) (sym list) (account_called handles partitions share share' called.list answered.list claim (length es) place number q kept counted claim_is below late'));
+}
+  where
+    claim_is : claim ≡ receipt place (CallLabel number q) share.client
+    claim_is = receipt_is new place (CallLabel number q) share.client entry.0 claim stands entry.1 entry.2
+
+    below : AreBelow (length es) called.list
+    below = below_stand es called.list stand
+
+    late_mid : length mid ≤ place
+    late_mid = subst (λ (xs : List Entry). length xs ≤ place) same_mid late
+
+    late' : length es ≤ place
+    late' = subst (λ (xs : List Entry). length xs ≤ place) same_es late_mid
+
+    list : noted.list ≡ called.list ++ claim
+    list = ap (λ (r : ReceiptsView). r.list) noted_is ∙ ap (λ (r : ReceiptsView). r.list ++ claim) same
+
+-- where something stands, there is an entry
+pub stands_within : (es es' : List Entry) (place : ℕ) (label : Label) (client : ℕ) → es' ≡ es → Stands es place label client → place < length es'
+stands_within es es' place label client same stands = subst (λ (xs : List Entry). place < length xs) (sym same) (slice_get_within es place _ stands)
+
+-- an answer's receipt
+pub record IsAnswerReceived (handles : List (Option OpenHandle)) (partitions : List ℕ) (client : ℕ) (share' : ShareView) (called answered answered' claim : List Receipt) (place : ℕ) (label : Label) : Type 0 where
+  pub claim_is : claim ≡ receipt place label client
+  pub list : answered' ≡ answered ++ receipt place label client
+  pub kept : AccountKept handles partitions share' called answered'
+
+pub answer_received : (handles : List (Option OpenHandle)) (partitions : List ℕ) (share share' : ShareView) (called : List Receipt) (answered noted : ReceiptsView) (claim : List Receipt) (es es' : List Entry) (place : ℕ) (label : Label)
+    → AccountKept handles partitions share' called answered.list → share'.client ≡ share.client → es' ≡ es → Stands es place label share.client → Answers label → IsNoted es' place claim
+    → noted ≡ record { list = answered.list ++ claim; room = answered.room - 1 } → IsAnswerReceived handles partitions share.client share' called answered.list noted.list claim place label
+answer_received handles partitions share share' called answered noted claim es es' place label kept client same stands answers entry noted_is = record {
+  claim_is = claim_is;
+  list = ap (λ (r : ReceiptsView). r.list) noted_is ∙ ap (λ c. answered.list ++ c) claim_is;
+  kept = subst (λ (r : ReceiptsView). AccountKept handles partitions share' called r.list) (sym noted_is)
+      (account_answered handles partitions share' called answered.list claim place label kept (claim_is ∙ ap (receipt place label) (sym client)) answers);
+}
+  where
+    claim_is : claim ≡ receipt place label share.client
+    claim_is = receipt_is es' place label share.client entry.0 claim (subst (λ (xs : List Entry). Stands xs place label share.client) (sym same) stands) entry.1 entry.2

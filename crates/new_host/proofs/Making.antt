@@ -1,0 +1,47 @@
+-- Clients that are made one by one.
+use Rattle.std.proofs.Common.{◌≡◌, ◌≢◌, ℕ, ◌+◌, ◌<◌, List, [], ◌∷◌, ◌++◌, length, Option, Some, sym, ap, ◌∙◌, subst, arith, length-append}
+use Rattle.std.specs.Prelude.{All, option_to_list}
+use Rattle.std.proofs.lemmas.List.{get_or_append_left}
+use Rattle.std.proofs.lemmas.List.Elements.{All-nil, All-cons, All-head, All-tail}
+use Rattle.std.proofs.Math.Seq.{get_or-append_seam}
+use mathlib.Core.Logic.{dite}
+use native.Mathlib.Decide.{ℕ_discrete}
+use Rattle.atomic_table.specs.Seated.{TableId}
+use Rattle.remove_lock.specs.Gate.{Standing as PassStanding}
+use Rattle.cancel_marks.specs.Marks.{Standing as SeatStanding}
+use Rattle.new_host.specs.Accounts.{AccountView}
+use Rattle.new_host.specs.Clients.{ClientKept, ClientView, client_at, fresh}
+use Rattle.new_host.specs.Opening.{IsClientPass}
+
+module _ {A : Type 0} (P : A → Type 0) where
+  last_of : (ys : List A) (y : A) → All P (ys ++ y ∷ []) → P y × All P ys
+  last_of [] y all = (All-head P y [] all, All-nil P)
+  last_of (x ∷ ys) y all =
+      let r = last_of ys y (All-tail P x (ys ++ y ∷ []) all) in
+      (r.0, All-cons P x ys (All-head P x (ys ++ y ∷ []) all) r.1)
+
+  -- what was popped
+  pub popped : (old new : List A) (o : Option A) (x : A) → o ≡ Some x → old ≡ new ++ option_to_list o → All P old → P x × All P new
+  popped old new o x is items all = last_of new x (subst (All P) (items ∙ ap (λ (p : Option A). new ++ option_to_list p) is) all)
+
+pub one_less : {A : Type 0} (old new : List A) (o : Option A) (x : A) → o ≡ Some x → old ≡ new ++ option_to_list o → length old ≡ length new + 1
+one_less old new o x is items = ap length (items ∙ ap (λ p. new ++ option_to_list p) is) ∙ length-append new (x ∷ [])
+
+pub new_client : (gate marks : TableId) (account : AccountView) (pass : PassStanding) (seat : SeatStanding) → IsClientPass gate pass → seat.table ≡ marks → ClientKept gate marks account pass seat 0
+new_client gate marks account pass seat is table = record {
+  gate_is = ap (λ p. p.gate) is;
+  quota = ap (λ p. p.view.quota) is;
+  out_is = sym (ap (λ p. p.view.holds) is);
+  few = omega arith;
+  seat_is = table;
+  room = omega arith;
+}
+
+pub numbered_more : (clients : List ClientView) (x : ClientView) (n : ℕ) → length clients ≡ n → ((k : ℕ) → k < n → (client_at clients k).client ≡ k) → x.client ≡ n → (k : ℕ) → k < n + 1 → (client_at (clients ++ x ∷ []) k).client ≡ k
+numbered_more clients x n long all is k less =
+    dite (ℕ_discrete k n)
+    (λ (e : k ≡ n). ap (λ (v : ClientView). v.client) (ap (client_at (clients ++ x ∷ [])) (e ∙ sym long) ∙ get_or-append_seam clients x [] (fresh 0)) ∙ is ∙ sym e)
+    (λ (ne : k ≢ n).
+    let front : k < n = omega arith in
+    let inside : k < length clients = omega (arith, long) in
+    ap (λ (v : ClientView). v.client) (get_or_append_left clients (x ∷ []) (fresh 0) k inside) ∙ all k front)

@@ -1,0 +1,251 @@
+-- Steps that tell of no call.
+use Rattle.std.proofs.Common.{◌≡◌, ℕ, zero, suc, Bool, true, false, if◌then◌else◌, List, [], ◌∷◌, ◌++◌, length, map, Option, Some, None, refl, sym, ap, ◌∙◌, subst, arith, append_assoc, inl, inr}
+use Rattle.std.specs.Prelude.{◌⊎◌}
+use Rattle.std.proofs.lemmas.List.{append-nil}
+use Rattle.srb.specs.declared.DeviceLabel.{DeviceLabel}
+use Rattle.machine.specs.declared.Label.{Label}
+use Rattle.machine.specs.declared.Label.TheVariants.{Call, Device, Answer as AnswerLabel, Cancel, Pause, Resume, Remove, Surprise, Removed}
+use Rattle.machine.specs.Step.{as_label}
+use Rattle.machine_laws.specs.NumberLaws.{CallsCount, call_numbers}
+use Rattle.io_manager.specs.declared.Answer.{Answer}
+use Rattle.io_manager.specs.declared.Reply.{Reply}
+use Rattle.io_manager.specs.declared.Reply.TheVariants.{Handle, Ok as OkReply, Request, Answered, Refused, Ignored}
+use Rattle.io_manager.specs.Right.{MarkReplies, Told, CancelsOne, as_answer, end_labels, labels_of}
+use Rattle.io_manager.specs.Shown.{ManagerView}
+use Rattle.srb.specs.declared.Entry.{Entry as Booked}
+use Rattle.compose.specs.declared.Event.{Event}
+use Rattle.compose.specs.declared.Event.TheVariants.{Mark}
+use Rattle.compose.specs.Journaled.{IsNoAct}
+use Rattle.new_book.specs.Acting.{ActsEntry}
+use Rattle.new_book.specs.Book.{BookView, AreBooked, HoldsFailure, IsLastAct, ServesAfter, ServesEvent}
+use Rattle.traced.specs.declared.Entry.{Entry}
+use Rattle.traced.specs.Entries.{entry, is_call, row_of}
+use Rattle.traced.specs.Pages.{PagesView, noted, noted_all, owners_after}
+use Rattle.traced.specs.Told.{AreNoCalls}
+use Rattle.traced.specs.Traced.{TracedView, AreLooked, CarriesSeen, IsCarried, IsLooked, IsServed, pages_of}
+
+-- LABELS
+
+pub no_calls_append : (xs ys : List Label) → AreNoCalls xs → AreNoCalls ys → AreNoCalls (xs ++ ys)
+no_calls_append [] ys a b = b
+no_calls_append (Call n q ∷ xs) ys a b = absurd a
+no_calls_append (Device l ∷ xs) ys a b = no_calls_append xs ys a b
+no_calls_append (AnswerLabel n s i bs ∷ xs) ys a b = no_calls_append xs ys a b
+no_calls_append (Cancel n ∷ xs) ys a b = no_calls_append xs ys a b
+no_calls_append (Pause ∷ xs) ys a b = no_calls_append xs ys a b
+no_calls_append (Resume ∷ xs) ys a b = no_calls_append xs ys a b
+no_calls_append (Remove ∷ xs) ys a b = no_calls_append xs ys a b
+no_calls_append (Surprise ∷ xs) ys a b = no_calls_append xs ys a b
+no_calls_append (Removed ∷ xs) ys a b = no_calls_append xs ys a b
+
+no_calls_numbers : (xs : List Label) → AreNoCalls xs → length (call_numbers xs) ≡ 0
+no_calls_numbers [] a = refl
+no_calls_numbers (Call n q ∷ xs) a = absurd a
+no_calls_numbers (Device l ∷ xs) a = no_calls_numbers xs a
+no_calls_numbers (AnswerLabel n s i bs ∷ xs) a = no_calls_numbers xs a
+no_calls_numbers (Cancel n ∷ xs) a = no_calls_numbers xs a
+no_calls_numbers (Pause ∷ xs) a = no_calls_numbers xs a
+no_calls_numbers (Resume ∷ xs) a = no_calls_numbers xs a
+no_calls_numbers (Remove ∷ xs) a = no_calls_numbers xs a
+no_calls_numbers (Surprise ∷ xs) a = no_calls_numbers xs a
+no_calls_numbers (Removed ∷ xs) a = no_calls_numbers xs a
+
+devices_call_none : (labels : List DeviceLabel) → AreNoCalls (map as_label labels)
+devices_call_none [] = tt
+devices_call_none (l ∷ ls) = devices_call_none ls
+
+answers_call_none : (answers : List Answer) → AreNoCalls (map as_answer answers)
+answers_call_none [] = tt
+answers_call_none (a ∷ more) = answers_call_none more
+
+end_calls_none : (ends : Bool) → AreNoCalls (end_labels ends)
+end_calls_none true = tt
+end_calls_none false = tt
+
+-- what is told but for a step's own labels
+pub rest_calls_none : (told : Told) → AreNoCalls ((map as_label told.device ++ map as_answer told.answers) ++ end_labels told.ends)
+rest_calls_none told =
+    no_calls_append (map as_label told.device ++ map as_answer told.answers) (end_labels told.ends)
+    (no_calls_append (map as_label told.device) (map as_answer told.answers) (devices_call_none told.device) (answers_call_none told.answers))
+    (end_calls_none told.ends)
+
+told_calls_none : (told : Told) → AreNoCalls told.own → AreNoCalls (labels_of told)
+told_calls_none told own =
+    no_calls_append ((told.own ++ map as_label told.device) ++ map as_answer told.answers) (end_labels told.ends)
+    (no_calls_append (told.own ++ map as_label told.device) (map as_answer told.answers)
+    (no_calls_append told.own (map as_label told.device) own (devices_call_none told.device))
+    (answers_call_none told.answers))
+    (end_calls_none told.ends)
+
+-- ENTRIES
+
+-- none of these entries is a call
+abbrev pub NoCalls : List Entry → Type 0
+NoCalls [] = Unit {0}
+NoCalls (e ∷ es) = (is_call e.label ≡ false) × NoCalls es
+
+pub none_both : (xs ys : List Entry) → NoCalls xs → NoCalls ys → NoCalls (xs ++ ys)
+none_both [] ys a b = b
+none_both (x ∷ xs) ys a b = (a.0, none_both xs ys a.1 b)
+
+-- what labels without calls add to the pages
+pub record IsQuiet (client : ℕ) (p : PagesView) (labels : List Label) : Type 0 where
+  pub more : List Entry
+  pub entries : (noted_all client p labels).entries ≡ p.entries ++ more
+  pub none : NoCalls more
+  pub owners : (noted_all client p labels).owners ≡ p.owners
+
+quiet_next : (client : ℕ) (p : PagesView) (label : Label) (labels : List Label) → is_call label ≡ false → owners_after client p.owners label ≡ p.owners → IsQuiet client (noted client p label) labels
+    → IsQuiet client p (label ∷ labels)
+quiet_next client p label labels none same rest = record {
+  more = entry label (row_of (owners_after client p.owners label) label) ∷ rest.more;
+  entries = rest.entries ∙ append_assoc p.entries (entry label (row_of (owners_after client p.owners label) label) ∷ []) rest.more;
+  none = (none, rest.none);
+  owners = rest.owners ∙ same;
+}
+
+pub quiet : (client : ℕ) (p : PagesView) (labels : List Label) → AreNoCalls labels → IsQuiet client p labels
+quiet client p [] none = record { more = []; entries = sym (append-nil p.entries); none = tt; owners = refl }
+quiet client p (Call n q ∷ ls) none = absurd none
+quiet client p (Device l ∷ ls) none = quiet_next client p (Device l) ls refl refl (quiet client (noted client p (Device l)) ls none)
+quiet client p (AnswerLabel n s i b ∷ ls) none = quiet_next client p (AnswerLabel n s i b) ls refl refl (quiet client (noted client p (AnswerLabel n s i b)) ls none)
+quiet client p (Cancel n ∷ ls) none = quiet_next client p (Cancel n) ls refl refl (quiet client (noted client p (Cancel n)) ls none)
+quiet client p (Pause ∷ ls) none = quiet_next client p Pause ls refl refl (quiet client (noted client p Pause) ls none)
+quiet client p (Resume ∷ ls) none = quiet_next client p Resume ls refl refl (quiet client (noted client p Resume) ls none)
+quiet client p (Remove ∷ ls) none = quiet_next client p Remove ls refl refl (quiet client (noted client p Remove) ls none)
+quiet client p (Surprise ∷ ls) none = quiet_next client p Surprise ls refl refl (quiet client (noted client p Surprise) ls none)
+quiet client p (Removed ∷ ls) none = quiet_next client p Removed ls refl refl (quiet client (noted client p Removed) ls none)
+
+-- LOOKS AT THE MARKS
+
+-- no call came
+pub record Still (old new : TracedView) : Type 0 where
+  pub more : List Entry
+  pub entries : new.entries ≡ old.entries ++ more
+  pub none : NoCalls more
+  pub owners : new.owners ≡ old.owners
+  pub handles : new.stack.handles ≡ old.stack.handles
+  pub rules : new.stack.rules ≡ old.stack.rules
+  pub next : new.stack.state.next_request ≡ old.stack.state.next_request
+
+still_same : (old new : TracedView) → new.entries ≡ old.entries → new.owners ≡ old.owners → new.stack ≡ old.stack → Still old new
+still_same old new entries owners stack = record {
+  more = [];
+  entries = entries ∙ sym (append-nil old.entries);
+  none = tt;
+  owners = owners;
+  handles = ap (λ v. v.handles) stack;
+  rules = ap (λ v. v.rules) stack;
+  next = ap (λ v. v.state.next_request) stack;
+}
+
+still_then : (a b c : TracedView) → Still a b → Still b c → Still a c
+still_then a b c x y = record {
+  more = x.more ++ y.more;
+  entries = y.entries ∙ ap (λ es. es ++ y.more) x.entries ∙ append_assoc a.entries x.more y.more;
+  none = none_both x.more y.more x.none y.none;
+  owners = y.owners ∙ x.owners;
+  handles = y.handles ∙ x.handles;
+  rules = y.rules ∙ x.rules;
+  next = y.next ∙ x.next;
+}
+
+mark_own : (old : ManagerView) (number : ℕ) (told : Told) → CancelsOne old number told → AreNoCalls told.own
+mark_own old number told c = subst AreNoCalls (sym c.own) (go c.request.cancelled)
+  where
+    go : (b : Bool) → AreNoCalls (if b then [] else Cancel number ∷ [])
+    go true = tt
+    go false = tt
+
+mark_tells : (old : ManagerView) (number : ℕ) (reply : Reply) (new : ManagerView) (told : Told) → MarkReplies old number reply new told → AreNoCalls told.own × (new.handles ≡ old.handles)
+mark_tells old number OkReply new told r = (mark_own old number told r.0, r.1.handles)
+mark_tells old number Ignored new told r = (subst AreNoCalls (sym (ap (λ t. t.own) r.0.nothing)) tt, r.2.handles)
+mark_tells old number (Handle h) new told r = absurd r
+mark_tells old number (Request id) new told r = absurd r
+mark_tells old number (Answered a) new told r = absurd r
+mark_tells old number (Refused why bs) new told r = absurd r
+
+still_marked : CallsCount → (old : TracedView) (number : ℕ) (reply : Reply) (new : TracedView) → IsCarried 0 old (Mark number) reply new → Still old new
+still_marked count old number reply new c =
+    let m = mark_tells old.stack number reply c.stepped c.right.told c.right.replies in
+    let none : AreNoCalls c.stepped.labels = subst AreNoCalls (sym c.right.by.in_order) (told_calls_none c.right.told m.0) in
+    let q = quiet 0 (pages_of old) c.stepped.labels none in
+    let rise = count old.stack.rules old.stack.state c.stepped.labels c.stepped.state c.right.by.run in
+    let zeros = no_calls_numbers c.stepped.labels none in
+    let next : c.stepped.state.next_request ≡ old.stack.state.next_request = omega (arith, rise, zeros) in
+    record {
+      more = q.more;
+      entries = c.entries ∙ q.entries;
+      none = q.none;
+      owners = c.owners ∙ q.owners;
+      handles = ap (λ v. v.handles) c.stack ∙ m.1;
+      rules = ap (λ v. v.rules) c.stack ∙ c.right.by.same_rules;
+      next = ap (λ v. v.state.next_request) c.stack ∙ next;
+    }
+
+still_looked : CallsCount → (slot : ℕ) (old new : TracedView) → IsLooked slot old new → Still old new
+still_looked count slot old new l = go l.seen l.carries
+  where
+    go : (seen : Option ℕ) → CarriesSeen seen (record old { marks = l.looked }) new → Still old new
+    go None e = still_same old new (ap (λ b. b.entries) e) (ap (λ b. b.owners) e) (ap (λ b. b.stack) e)
+    go (Some number) c =
+        let s = still_marked count (record old { marks = l.looked }) number c.0 new c.1 in
+        record { more = s.more; entries = s.entries; none = s.none; owners = s.owners; handles = s.handles; rules = s.rules; next = s.next }
+
+pub still_all : CallsCount → (slots : ℕ) (old new : TracedView) → AreLooked slots old new → Still old new
+still_all count zero old new e = still_same old new (ap (λ b. b.entries) e) (ap (λ b. b.owners) e) (ap (λ b. b.stack) e)
+still_all count (suc slot) old new l = still_then old l.0 new (still_all count slot old l.0 l.1) (still_looked count slot l.0 new l.2)
+
+-- ENTRIES ARE BOOKED
+
+-- the act of an entry tells of itself alone
+still_acted : CallsCount → (old : TracedView) (booked : Booked) (new : TracedView) → ActsEntry old booked new → Still old new
+still_acted count old booked new acts =
+    let held : TracedView = acts.held in
+    let c = acts.carried in
+    let stack : held.stack ≡ record old.stack { adapter = held.stack.adapter } = acts.holds.books.same in
+    let none : AreNoCalls c.stepped.labels = subst AreNoCalls (sym acts.tells) tt in
+    let q = quiet 0 (pages_of held) c.stepped.labels none in
+    let rise = count held.stack.rules held.stack.state c.stepped.labels c.stepped.state c.right.by.run in
+    let zeros = no_calls_numbers c.stepped.labels none in
+    let next : c.stepped.state.next_request ≡ held.stack.state.next_request = omega (arith, rise, zeros) in
+    record {
+      more = q.more;
+      entries = c.entries ∙ q.entries ∙ ap (λ (v : TracedView). v.entries ++ q.more) acts.holds.same;
+      none = q.none;
+      owners = c.owners ∙ q.owners ∙ ap (λ (v : TracedView). v.owners) acts.holds.same;
+      handles = ap (λ (v : ManagerView). v.handles) c.stack ∙ c.right.replies.1.handles ∙ ap (λ (v : ManagerView). v.handles) stack;
+      rules = ap (λ (v : ManagerView). v.rules) c.stack ∙ c.right.by.same_rules ∙ ap (λ (v : ManagerView). v.rules) stack;
+      next = ap (λ (v : ManagerView). v.state.next_request) c.stack ∙ next ∙ ap (λ (v : ManagerView). v.state.next_request) stack;
+    }
+
+still_booked : CallsCount → (many : ℕ) (old new : BookView) → AreBooked many old new → Still old.traced new.traced
+still_booked count zero old new same = let e : new.traced ≡ old.traced = ap (λ (b : BookView). b.traced) same in still_same old.traced new.traced (ap (λ (v : TracedView). v.entries) e) (ap (λ (v : TracedView). v.owners) e) (ap (λ (v : TracedView). v.stack) e)
+still_booked count (suc many) old new (mid, before, (tag, one)) = still_then old.traced mid.traced new.traced (still_booked count many old mid before) (still_acted count mid.traced one.next.entry new.traced one.acts)
+
+-- the marks, and then the entries
+pub still_before : CallsCount → (slots many : ℕ) (old : BookView) (marked : TracedView) (booked : BookView) → AreLooked slots old.traced marked → AreBooked many (record old { traced = marked }) booked → Still old.traced booked.traced
+still_before count slots many old marked booked looks books =
+    still_then old.traced marked booked.traced (still_all count slots old.traced marked looks) (still_booked count many (record old { traced = marked }) booked books)
+
+-- what goes before an event that is no act
+pub record GoesBefore (old : TracedView) (event : Event) (reply : Reply) (new : TracedView) : Type 0 where
+  pub mid : TracedView
+  pub still : Still old mid
+  pub served : IsServed 0 mid event reply new
+
+pub goes_before : CallsCount → (slots : ℕ) (old : BookView) (marked : TracedView) (event : Event) (reply : Reply) (new : BookView) → IsNoAct event → AreLooked slots old.traced marked
+    → ServesAfter (record old { traced = marked }) event reply new → GoesBefore old.traced event reply new.traced
+goes_before count slots old marked event reply new other looks after = go after.serves
+  where
+    held_same : (held : TracedView) → HoldsFailure after.booked.traced event held → held ≡ after.booked.traced
+    held_same held (inl same) = same
+    held_same held (inr (tag, piece, completion, is, holds)) = absurd (subst IsNoAct is other)
+
+    go : ServesEvent after.booked event reply new ⊎ IsLastAct after.count (record old { traced = marked }) after.booked event reply new → GoesBefore old.traced event reply new.traced
+    go (inl serves) = record {
+      mid = after.booked.traced;
+      still = still_before count slots after.count old marked after.booked looks after.books;
+      served = subst (λ (v : TracedView). IsServed 0 v event reply new.traced) (held_same serves.held serves.holds) serves.served;
+    }
+    go (inr last) = absurd (subst IsNoAct last.is_act other)

@@ -1,0 +1,125 @@
+-- What a step that is no client's replies.
+use Rattle.std.proofs.Common.{◌≡◌, ◌⊎◌, ℕ, true, List, [], Option, Some, None, refl, inl, inr, sym, subst}
+use Rattle.std.specs.Borrow.{MutBor}
+use Rattle.io_manager.specs.declared.Refusal.{Refusal}
+use Rattle.io_manager.specs.declared.Refusal.TheVariants.{InsufficientResources, InvalidDeviceRequest}
+use Rattle.io_manager.specs.declared.Reply.{Reply}
+use Rattle.io_manager.specs.declared.Reply.TheVariants.{Handle as HandleReply, Ok as OkReply, Request as Requested, Answered, Refused, Ignored}
+use Rattle.io_manager.specs.Shown.{ManagerView}
+use Rattle.io_manager.specs.Right.{Told, QueryReplies, RecallReplies, RemoveReplies, SurpriseReplies, ActReplies, FinishReplies, RefusesAlone}
+use Rattle.compose.specs.declared.Event.{Event}
+use Rattle.compose.specs.declared.Event.TheVariants.{Open, Close, Read, Write, Flush, CancelIoEx, Mark, QueryRemove, CancelRemove, Remove, SurpriseRemove, Act, Finish, Reset}
+use Rattle.compose.specs.Right.{IsRight}
+use Rattle.traced.specs.Shares.{ShareView}
+use Rattle.traced.specs.Traced.{TracedView, IsServed, bytes_of, may_want}
+use Rattle.new_book.specs.Book.{BookView, IsLastAct, IsStepped, ServesAfter, ServesEvent}
+use Rattle.new_host.specs.Replies.{IsPnpReply, IsReplyTo, IsTagReply}
+
+invalid : (old : ManagerView) (reason : Refusal) (bytes : List ℕ) (new : ManagerView) (told : Told) → RefusesAlone old reason InvalidDeviceRequest bytes new told → IsPnpReply (Refused reason bytes)
+invalid old reason bytes new told r =
+    let why = r.is_reason in
+    let none = r.no_bytes in
+    let same : Refused reason bytes ≡ Refused InvalidDeviceRequest [] = cc in
+    inr same
+
+query_reply : (old : ManagerView) (reply : Reply) (new : ManagerView) (told : Told) → QueryReplies old reply new told → IsPnpReply reply
+query_reply old OkReply new told r = inl refl
+query_reply old (Refused reason bytes) new told r = invalid old reason bytes new told r.refuses
+query_reply old (HandleReply given) new told r = absurd r
+query_reply old (Requested id) new told r = absurd r
+query_reply old (Answered answer) new told r = absurd r
+query_reply old Ignored new told r = absurd r
+
+remove_reply : (old : ManagerView) (reply : Reply) (new : ManagerView) (told : Told) → RemoveReplies old reply new told → IsPnpReply reply
+remove_reply old OkReply new told r = inl refl
+remove_reply old (Refused reason bytes) new told r = invalid old reason bytes new told r.refuses
+remove_reply old (HandleReply given) new told r = absurd r
+remove_reply old (Requested id) new told r = absurd r
+remove_reply old (Answered answer) new told r = absurd r
+remove_reply old Ignored new told r = absurd r
+
+surprise_reply : (old : ManagerView) (reply : Reply) (new : ManagerView) (told : Told) → SurpriseReplies old reply new told → IsPnpReply reply
+surprise_reply old OkReply new told r = inl refl
+surprise_reply old (Refused reason bytes) new told r = invalid old reason bytes new told r.refuses
+surprise_reply old (HandleReply given) new told r = absurd r
+surprise_reply old (Requested id) new told r = absurd r
+surprise_reply old (Answered answer) new told r = absurd r
+surprise_reply old Ignored new told r = absurd r
+
+recall_reply : (old : ManagerView) (reply : Reply) (new : ManagerView) (told : Told) → RecallReplies old reply new told → IsPnpReply reply
+recall_reply old OkReply new told r = inl refl
+recall_reply old (Refused reason bytes) new told r = invalid old reason bytes new told r.refuses
+recall_reply old (HandleReply given) new told r = absurd r
+recall_reply old (Requested id) new told r = absurd r
+recall_reply old (Answered answer) new told r = absurd r
+recall_reply old Ignored new told r = absurd r
+
+act_reply : (old : ManagerView) (tag : ℕ) (reply : Reply) (new : ManagerView) (told : Told) → ActReplies old tag reply new told → IsTagReply reply
+act_reply old tag OkReply new told r = inl refl
+act_reply old tag Ignored new told r = inr refl
+act_reply old tag (HandleReply given) new told r = absurd r
+act_reply old tag (Requested id) new told r = absurd r
+act_reply old tag (Answered answer) new told r = absurd r
+act_reply old tag (Refused reason bytes) new told r = absurd r
+
+finish_reply : (old : ManagerView) (tag : ℕ) (reply : Reply) (new : ManagerView) (told : Told) → FinishReplies old tag reply new told → IsTagReply reply
+finish_reply old tag OkReply new told r = inl refl
+finish_reply old tag Ignored new told r = inr refl
+finish_reply old tag (HandleReply given) new told r = absurd r
+finish_reply old tag (Requested id) new told r = absurd r
+finish_reply old tag (Answered answer) new told r = absurd r
+finish_reply old tag (Refused reason bytes) new told r = absurd r
+
+-- a right step
+right_reply : (event : Event) (reply : Reply) (old new : ManagerView) → IsRight old event reply new → IsReplyTo event reply
+right_reply QueryRemove reply old new r = inl (query_reply old reply new r.told r.replies)
+right_reply CancelRemove reply old new r = recall_reply old reply new r.told r.replies
+right_reply Remove reply old new r = remove_reply old reply new r.told r.replies
+right_reply SurpriseRemove reply old new r = surprise_reply old reply new r.told r.replies
+right_reply (Act tag) reply old new r = act_reply old tag reply new r.told r.replies
+right_reply (Finish tag) reply old new r = finish_reply old tag reply new r.told r.replies
+right_reply Reset reply old new r = r.0
+right_reply (Open partition) reply old new r = tt
+right_reply (Close handle) reply old new r = tt
+right_reply (Read handle offset buffer) reply old new r = tt
+right_reply (Write handle offset bytes through) reply old new r = tt
+right_reply (Flush handle) reply old new r = tt
+right_reply (CancelIoEx handle target) reply old new r = tt
+right_reply (Mark number) reply old new r = tt
+
+-- want of memory for the trace
+wanting_reply : (event : Event) (reply : Reply) → may_want event ≡ true → reply ≡ Refused InsufficientResources (bytes_of event) → IsReplyTo event reply
+wanting_reply QueryRemove reply may is = inr is
+wanting_reply CancelRemove reply may is = absurd (cc)
+wanting_reply Remove reply may is = absurd (cc)
+wanting_reply SurpriseRemove reply may is = absurd (cc)
+wanting_reply (Act tag) reply may is = absurd (cc)
+wanting_reply (Finish tag) reply may is = absurd (cc)
+wanting_reply Reset reply may is = absurd (cc)
+wanting_reply (Open partition) reply may is = tt
+wanting_reply (Close handle) reply may is = tt
+wanting_reply (Read handle offset buffer) reply may is = tt
+wanting_reply (Write handle offset bytes through) reply may is = tt
+wanting_reply (Flush handle) reply may is = tt
+wanting_reply (CancelIoEx handle target) reply may is = tt
+wanting_reply (Mark number) reply may is = tt
+
+served_reply : (event : Event) (reply : Reply) (old new : TracedView) → IsServed 0 old event reply new → IsReplyTo event reply
+served_reply event reply old new (inl c) = right_reply event reply old.stack c.stepped c.right
+served_reply event reply old new (inr w) = wanting_reply event reply w.wants w.replies
+
+last_reply : (many : ℕ) (before booked : BookView) (event : Event) (reply : Reply) (new : BookView) → IsLastAct many before booked event reply new → IsReplyTo event reply
+last_reply many before booked event reply new last = subst (λ (e : Event). IsReplyTo e reply) (sym last.is_act) (inl last.replies)
+
+after_reply : (old : BookView) (event : Event) (reply : Reply) (new : BookView) → ServesAfter old event reply new → IsReplyTo event reply
+after_reply old event reply new after = go after.serves
+  where
+    go : ServesEvent after.booked event reply new ⊎ IsLastAct after.count old after.booked event reply new → IsReplyTo event reply
+    go (inl serves) = served_reply event reply serves.held new.traced serves.served
+    go (inr last) = last_reply after.count old after.booked event reply new last
+
+-- the step of a book without a share
+pub stepped_reply : (slots : ℕ) (share : Option (MutBor ShareView)) (left : Unit {0} ⊎ ((MutBor ShareView × Unit {0}) ⊎ ⊥)) (old : BookView) (event : Event) (reply : Reply) (new : BookView)
+    → share ≡ None → IsStepped slots share left old event reply new → IsReplyTo event reply
+stepped_reply slots None left old event reply new none stepped = after_reply (record old { traced = stepped.marked }) event reply new stepped.serves
+stepped_reply slots (Some share) left old event reply new none stepped = absurd (cc (none))

@@ -1,0 +1,96 @@
+-- A client's call, and what the trace tells of it.
+use Rattle.std.specs.Prelude.{◌≡◌, ◌≤◌, ◌<◌, ◌^◌, ℕ, ◌+◌, Bool, false, true, List, [], Option, Some, None, length, slice_get}
+use Rattle.srb.specs.declared.Kind.{Kind}
+use Rattle.srb.specs.declared.Kind.TheVariants.{Read as ReadKind, Write as WriteKind, Flush as FlushKind}
+use Rattle.machine.specs.declared.ClientRequest.{ClientRequest}
+use Rattle.machine.specs.declared.Label.{Label}
+use Rattle.machine.specs.declared.Label.TheVariants.{Call as CallLabel, Answer as AnswerLabel}
+use Rattle.machine_laws.specs.NumberLaws.{AnswersOnce, AnswersWereCalled, CallsOnce}
+use Rattle.io_manager.specs.declared.Handle.{Handle}
+use Rattle.io_manager.specs.declared.Reply.{Reply}
+use Rattle.io_manager.specs.declared.Reply.TheVariants.{Request as Requested, Answered, Refused}
+use Rattle.io_manager.specs.Calls.{IsWant, bytes_called, status_of_refusal, without_bytes}
+use Rattle.io_manager.specs.Right.{as_answer}
+use Rattle.compose.specs.declared.Event.{Event}
+use Rattle.compose.specs.declared.Event.TheVariants.{Read as ReadEvent, Write as WriteEvent, Flush as FlushEvent}
+use Rattle.traced.specs.declared.Entry.{Entry}
+use Rattle.traced.specs.Entries.{entry, is_call}
+use Rattle.traced.specs.Shares.{ShareView}
+use Rattle.new_host.specs.declared.call.Call.{Call}
+use Rattle.new_host.specs.declared.call.Call.TheVariants.{Read, Write, Flush}
+
+-- the event of a call on a handle
+abbrev pub event_of : Handle → Call → Event
+event_of handle (Read offset buffer) = ReadEvent handle offset buffer
+event_of handle (Write offset bytes through) = WriteEvent handle offset bytes through
+event_of handle Flush = FlushEvent handle
+
+-- the caller's bytes
+abbrev pub buffer_of : Call → List ℕ
+buffer_of (Read offset buffer) = buffer
+buffer_of (Write offset bytes through) = bytes
+buffer_of Flush = []
+
+abbrev pub asked : ℕ → Kind → ℕ → List ℕ → Bool → ClientRequest
+asked partition kind offset buffer through = record {
+  partition = Some partition;
+  kind = kind;
+  offset = offset;
+  length = length buffer;
+  through = through;
+  bytes = bytes_called kind buffer;
+}
+
+-- the request that a call hands in, on a partition
+abbrev pub request_of : ℕ → Call → ClientRequest
+request_of partition (Read offset buffer) = asked partition ReadKind offset buffer false
+request_of partition (Write offset bytes through) = asked partition WriteKind offset bytes through
+request_of partition Flush = asked partition FlushKind 0 [] false
+
+-- WHAT IS TOLD OF A CALL
+
+-- the first call from a place on, or that there is none
+abbrev pub FindsCall : ℕ → List Entry → Option ℕ → Type 0
+FindsCall from entries (Some place) = (from ≤ place) × ((e : Entry) × (slice_get entries place ≡ Some e) × (is_call e.label ≡ true))
+FindsCall from entries None = (place : ℕ) (e : Entry) → from ≤ place → slice_get entries place ≡ Some e → is_call e.label ≡ false
+
+-- the label stands at the place, in the client's row
+abbrev pub Stands : List Entry → ℕ → Label → ℕ → Type 0
+Stands entries place label client = slice_get entries place ≡ Some (entry label (Some client))
+
+-- the share has counted so many calls
+pub record HasCounted (old : ShareView) (calls : ℕ) (new : ShareView) : Type 0 where
+  pub client : new.client ≡ old.client
+  pub handle : new.handle ≡ old.handle
+  pub more : new.calls ≡ old.calls + calls
+
+-- a request was opened
+pub record IsOpened (slots : ℕ) (old new : ShareView) (q : ClientRequest) (entries : List Entry) (slot number place : ℕ) : Type 0 where
+  pub counted : HasCounted old 1 new
+  pub called : Stands entries place (CallLabel number q) old.client
+  pub in_range : slot < slots
+  pub some_number : 0 < number
+  pub small : number < 2 ^ 62
+
+-- a call was answered at once, with its answer right behind it
+pub record IsAnsweredAtOnce (old new : ShareView) (q : ClientRequest) (entries : List Entry) (number : ℕ) (answer : Label) (place : ℕ) : Type 0 where
+  pub counted : HasCounted old 1 new
+  pub called : Stands entries place (CallLabel number (without_bytes q)) old.client
+  pub answered : Stands entries (place + 1) answer old.client
+
+-- what the trace tells of a call, by its reply and the place of its label
+abbrev pub IsTold : ℕ → ShareView → ShareView → ClientRequest → List ℕ → List Entry → Reply → Option ℕ → Type 0
+IsTold slots old new q buffer entries (Requested id) (Some place) = IsOpened slots old new q entries id.slot id.number place
+IsTold slots old new q buffer entries (Answered answer) (Some place) = IsAnsweredAtOnce old new q entries answer.number (as_answer answer) place
+IsTold slots old new q buffer entries (Refused reason bytes) (Some place) =
+    (bytes ≡ buffer) × ((number : ℕ) × IsAnsweredAtOnce old new q entries number (AnswerLabel number (status_of_refusal reason) 0 []) place)
+IsTold slots old new q buffer entries (Refused reason bytes) None = (bytes ≡ buffer) × IsWant reason × HasCounted old 0 new
+IsTold slots old new q buffer entries _ _ = ⊥
+
+-- WHAT IS TOLD OF AN ANSWER
+
+-- the laws on the answers of a run
+pub record AnswerLaws : Type 0 where
+  pub calls : CallsOnce
+  pub answers : AnswersOnce
+  pub called : AnswersWereCalled

@@ -1,0 +1,60 @@
+-- A keeper, and its receipts: of each pause, and of the end of a removal.
+use Rattle.std.specs.Prelude.{◌≡◌, ◌≢◌, ◌≤◌, ℕ, Bool, true, false, List, [], ◌∷◌, ◌++◌, Option, Some, None, slice_get}
+use Rattle.machine.specs.declared.Label.{Label}
+use Rattle.machine.specs.declared.Label.TheVariants.{Pause as PauseLabel, Removed as RemovedLabel}
+use Rattle.remove_lock.specs.declared.rule.View.{View as PassView}
+use Rattle.io_manager.specs.declared.Reply.{Reply}
+use Rattle.io_manager.specs.declared.Reply.TheVariants.{Ok as OkReply}
+use Rattle.traced.specs.declared.Entry.{Entry}
+use Rattle.traced.specs.Entries.{entry}
+use Rattle.new_host.specs.declared.notice.Notice.{Notice}
+use Rattle.new_host.specs.declared.notice.Notice.TheVariants.{Pause, Removed}
+use Rattle.new_host.specs.Receipts.{Receipt, AreBelow}
+
+-- what a keeper knows of the gate, and its receipts
+pub record KeeperView : Type 0 where
+  pub pass : PassView
+  pub told : List Receipt
+
+abbrev pub label_of : Notice → Label
+label_of Pause = PauseLabel
+label_of Removed = RemovedLabel
+
+abbrev pub is_pause : Label → Bool
+is_pause PauseLabel = true
+is_pause _ = false
+
+abbrev pub is_removed : Label → Bool
+is_removed RemovedLabel = true
+is_removed _ = false
+
+-- the label is this notice's
+abbrev pub is_notice : Notice → Label → Bool
+is_notice Pause label = is_pause label
+is_notice Removed label = is_removed label
+
+-- no such label stands at a place from this one on
+abbrev pub HasNone : Notice → ℕ → List Entry → Type 0
+HasNone notice from entries = (place : ℕ) (e : Entry) → from ≤ place → slice_get entries place ≡ Some e → is_notice notice e.label ≡ false
+
+-- the first from a place on, or that there is none
+abbrev pub FindsNotice : Notice → ℕ → List Entry → Option ℕ → Type 0
+FindsNotice notice from entries (Some place) = (from ≤ place) × ((e : Entry) × (slice_get entries place ≡ Some e) × (is_notice notice e.label ≡ true))
+FindsNotice notice from entries None = HasNone notice from entries
+
+-- one receipt of this label, which stands in no client's row, at a place from this one on
+pub record IsNoticed (from : ℕ) (label : Label) (claim : List Receipt) : Type 0 where
+  pub place : ℕ
+  pub late : from ≤ place
+  pub claim_is : claim ≡ (place, entry label None) ∷ []
+
+-- one receipt more, of this label, at a place above all before
+pub record HasNoted (label : Label) (old new : List Receipt) : Type 0 where
+  pub place : ℕ
+  pub above : AreBelow place old
+  pub adds : new ≡ old ++ (place, entry label None) ∷ []
+
+-- such a receipt where a keeper's call was accepted, and else none
+pub record HasNotedIfOk (label : Label) (reply : Reply) (old new : List Receipt) : Type 0 where
+  pub accepted : reply ≡ OkReply → HasNoted label old new
+  pub otherwise : reply ≢ OkReply → new ≡ old

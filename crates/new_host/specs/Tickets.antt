@@ -1,0 +1,31 @@
+-- A ticket: a call that was issued.
+use Rattle.std.specs.Prelude.{◌≡◌, ◌<◌, ◌^◌, ℕ, ◌+◌, List, Option, Some, None}
+use Rattle.machine.specs.declared.ClientRequest.{ClientRequest}
+use Rattle.machine.specs.declared.Label.TheVariants.{Call as CallLabel}
+use Rattle.io_manager.specs.declared.Answer.{Answer}
+use Rattle.io_manager.specs.Right.{as_answer}
+use Rattle.new_host.specs.Receipts.{Receipt, receipt}
+
+-- its client, its request's number, the place of its call, its slot while it is open, and the receipt of its call
+pub record TicketView : Type 0 where
+  pub client : ℕ
+  pub number : ℕ
+  pub place : ℕ
+  pub slot : Option ℕ
+  pub call : List Receipt
+
+-- the slot of the request, where one was opened and not answered at once
+abbrev pub slot_of : ℕ → Option (Answer × List Receipt) → Option ℕ
+slot_of slot None = Some slot
+slot_of slot (Some early) = None
+
+-- a request that was opened can be marked, and an answer that came with the call stands right behind it
+abbrev pub IsStage : ℕ → ℕ → ℕ → ℕ → ℕ → Option (Answer × List Receipt) → Type 0
+IsStage slots client number place slot None = (slot < slots) × (0 < number) × (number < 2 ^ 62)
+IsStage slots client number place slot (Some early) = (place + 1 < 2 ^ 64) × (early.0.number ≡ number) × (early.1 ≡ receipt (place + 1) (as_answer early.0) client)
+
+-- the receipt is that of its call
+pub record TicketKept (slots client number place : ℕ) (claim : List Receipt) (slot : ℕ) (early : Option (Answer × List Receipt)) : Type 0 where
+  pub request : ClientRequest
+  pub receipt_is : claim ≡ receipt place (CallLabel number request) client
+  pub stage : IsStage slots client number place slot early

@@ -1,0 +1,353 @@
+ghost use Rattle.std.specs.Prelude.{◌≡◌, ◌<◌, ◌≤◌, ◌+◌, ◌-◌, ◌^◌, ◌++◌, ◌↔◌, ℕ, [], IfErr, IfOk, IfSome, IfNone, IsTrue, OnOk, length, slice_index_or};
+ghost use Rattle.machine.specs.declared.ClientRequest.{ClientRequest};
+ghost use Rattle.machine.specs.declared.Label.TheVariants.{Call as CallLabel};
+ghost use Rattle.machine_laws.specs.NumberLaws.{CallsCount};
+ghost use Rattle.io_manager.specs.Right.{as_answer};
+ghost use Rattle.traced.specs.Opening.{IsOpenOn};
+ghost use Rattle.new_host.specs.Accounts.{IsCalled, IsTaken, IsTurnedDown};
+ghost use Rattle.new_host.specs.Calls.{AnswerLaws, FindsCall, IsTold, Stands, buffer_of, request_of};
+ghost use Rattle.new_host.specs.Receipts.{none_yet, receipt};
+ghost use Rattle.new_host.specs.Opening.{IsHandleFor};
+
+use crate::bells::Concerned;
+use crate::call::{Answered, Call, Places, Reason, Refusal};
+use crate::host::Host;
+use crate::name::Naming;
+use crate::receipts::Receipts;
+use crate::ticket::Ticket;
+use chronicle::{Claims, History};
+use compose::{Answer, Handle, Reply};
+use disk::Medium;
+use machine::Label;
+use new_book::Book;
+use std::alloc::{AllocError, Global};
+use std::marker::Model;
+use std::sync::Wait;
+use std::sync::ledger::Share as Part;
+use std::thread;
+use traced::{Entry, Share};
+
+/// A client's share of the book, and its receipts.
+#[derive(Drop)]
+pub(crate) struct Account<N: Naming> {
+    pub share: Share<N>,
+    pub called: Receipts<N>,
+    pub answered: Receipts<N>,
+}
+
+impl<N: Naming> Model for Account<N> {
+    ghost use Rattle.new_host.specs.Accounts.{AccountView, AccountKept};
+
+    ghost Value = { AccountView };
+
+    ghost view = { λ a. record { share = a.share; called = a.called; answered = a.answered } };
+
+    ghost invariant = { λ a. AccountKept N.handles N.partitions a.share a.called.list a.answered.list };
+}
+
+/// Shows the caller the laws on the numbers of a run.
+pub(crate) fn laws_of_numbers()
+    ensures count { CallsCount }
+{
+    machine_laws::numbers_rise();
+}
+
+// Those on its answers.
+fn laws_of_answers()
+    ensures laws { AnswerLaws }
+{
+    machine_laws::numbers_are_used_once();
+    machine_laws::calls_await_answers();
+}
+
+// The place of the first call from a place of the trace on.
+fn find_call<N: Naming>(book: &Book<N>, from: usize) -> Option<usize>
+    ensures finds { FindsCall from book.now.traced.entries result }
+    ensures fits { IfSome result (λ place. place + 1 < 2 ^ 64) }
+{
+    for place in from..book.len() {
+        if let Label::Call { .. } = &book.entry(place).label {
+            return Some(place);
+        }
+    }
+    None
+}
+
+// Carries a call out, and finds its label.
+fn carry_call<M: Medium, N: Naming, R: Wait>(
+    rt: &R,
+    host: &Host<M, N>,
+    book: &mut Book<N>,
+    share: &mut Share<N>,
+    call: Call,
+) -> (Reply, Option<usize>)
+    requires open { IsOpenOn N.handles share.old.handle (slice_index_or N.partitions share.old.client 0) }
+    ensures late { IfSome result.1 (λ place. length book.old.traced.entries ≤ place) }
+    ensures fits { IfSome result.1 (λ place. place + 1 < 2 ^ 64) }
+    ensures told { IsTold N.slots share.old share.new (request_of (slice_index_or N.partitions share.old.client 0) call) (buffer_of call) book.new.traced.entries result.0 result.1 }
+{
+    laws_of_numbers();
+    host.table.shows_opening();
+    book.shows_whole();
+    let from = book.len();
+    let event = call.on(share.handle());
+    let reply = book.step(
+        rt,
+        host.alloc,
+        &host.history,
+        &host.table.marks,
+        &host.journal,
+        &host.words,
+        Some(share),
+        event,
+    );
+    book.shows_whole();
+    let place = find_call(book, from);
+    (reply, place)
+}
+
+// Takes the answer of a request whose call stands at this place, with its own place.
+fn take_answer<M: Medium, N: Naming>(
+    host: &Host<M, N>,
+    book: &mut Book<N>,
+    number: u64,
+    call: usize,
+) -> Option<(usize, Answer)>
+    requires called { (q : ClientRequest) × (client : ℕ) × Stands book.old.traced.entries call (CallLabel number q) client }
+    ensures entries { book.new.traced.entries ≡ book.old.traced.entries }
+    ensures answer { IfSome result (λ r. (r.1.number ≡ number) × (call < r.0) × ((client : ℕ) (q : ClientRequest) → Stands book.old.traced.entries call (CallLabel number q) client → Stands book.old.traced.entries r.0 (as_answer r.1) client)) }
+{
+    laws_of_answers();
+    host.table.shows_opening();
+    book.shows_whole();
+    let answer = book.take_answer(number)?;
+    let Some(place) = book.answer_place(number) else {
+        unreachable!()
+    };
+    Some((place, answer))
+}
+
+impl<N: Naming> Account<N> {
+    /// That of a client that has called nothing.
+    pub(crate) fn new(
+        alloc: Global,
+        client: usize,
+        handle: Handle,
+        part: Part<N>,
+        called: Claims<Entry, N>,
+        answered: Claims<Entry, N>,
+    ) -> Account<N>
+        requires client { client < length N.partitions }
+        requires handle { IsHandleFor N.partitions N.handles client handle }
+        requires part { (part.parts ≡ 1) × (part.amount ≡ 0) }
+        requires claims { (called ≡ []) × (answered ≡ []) }
+        ensures { result ≡ record { share = record { client = client; handle = handle; calls = 0 }; called = none_yet; answered = none_yet } }
+    {
+        Account {
+            share: Share::new(client, handle, part),
+            called: Receipts::new(alloc, called),
+            answered: Receipts::new(alloc, answered),
+        }
+    }
+
+    /// Makes the places of a call's two receipts, beside those of so many answers that are still to come.
+    pub(crate) fn make_places(&mut self, awaited: usize) -> Result<(), AllocError>
+        requires { awaited ≤ 64 }
+        ensures share { self.new.share ≡ self.old.share }
+        ensures lists { (self.new.called.list ≡ self.old.called.list) × (self.new.answered.list ≡ self.old.answered.list) }
+        ensures no_less { self.old.answered.room ≤ self.new.answered.room }
+        ensures room { OnOk result ((0 < self.new.called.room) × (awaited < self.new.answered.room)) }
+    {
+        self.called.reserve(1)?;
+        self.answered.reserve(awaited + 1)?;
+        Ok(())
+    }
+
+    // Makes the place of an answer's receipt, unless there is one.
+    fn make_place(&mut self) -> Result<(), AllocError>
+        ensures share { self.new.share ≡ self.old.share }
+        ensures called { self.new.called ≡ self.old.called }
+        ensures list { self.new.answered.list ≡ self.old.answered.list }
+        ensures no_less { self.old.answered.room ≤ self.new.answered.room }
+        ensures room { OnOk result (0 < self.new.answered.room) }
+    {
+        self.answered.reserve(1)?;
+        Ok(())
+    }
+
+    /// Waits until there is a place for the receipt of one answer more. For a ticket that is out there is one.
+    pub(crate) fn await_place<R: Wait>(&mut self, rt: &R)
+        ensures share { self.new.share ≡ self.old.share }
+        ensures called { self.new.called ≡ self.old.called }
+        ensures list { self.new.answered.list ≡ self.old.answered.list }
+        ensures no_less { self.old.answered.room ≤ self.new.answered.room }
+        ensures room { 0 < self.new.answered.room }
+    {
+        for _ in rt.forever() {
+            if self.make_place().is_ok() {
+                return;
+            }
+            thread::yield_now();
+        }
+        unreachable!()
+    }
+
+    /// The part of `issue` that has the book.
+    pub(crate) fn issue_in<M: Medium, R: Wait>(
+        &mut self,
+        rt: &R,
+        host: &Host<M, N>,
+        book: &mut Book<N>,
+        call: Call,
+    ) -> Result<Ticket<N>, Refusal>
+        requires room { (0 < self.old.called.room) × (0 < self.old.answered.room) }
+        ensures issued { IfOk result (λ t. IsCalled (slice_index_or N.partitions self.old.share.client 0) self.old t call self.new) }
+        ensures refused { IfErr result (λ r. IsTurnedDown (slice_index_or N.partitions self.old.share.client 0) self.old call r self.new) }
+    {
+        self.called.check(&host.history, book);
+        self.answered.check(&host.history, book);
+        let client = self.share.client();
+        let (reply, place) = carry_call(rt, host, book, &mut self.share, call);
+        let Some(place) = place else {
+            let Reply::Refused { refusal, bytes } = reply else {
+                unreachable!()
+            };
+            return Err(Refusal {
+                reason: Reason::Refused(refusal),
+                bytes,
+                places: None,
+            });
+        };
+        let claim = self.called.note(&host.history, book, place);
+        match reply {
+            Reply::Request(id) => Ok(Ticket {
+                client,
+                number: id.number,
+                place,
+                claim,
+                slot: id.slot as usize,
+                early: None,
+            }),
+            Reply::Answered(answer) => {
+                let number = answer.number;
+                let told = book.claim(&host.history, place + 1);
+                Ok(Ticket {
+                    client,
+                    number,
+                    place,
+                    claim,
+                    slot: 0,
+                    early: Some((answer, told)),
+                })
+            }
+            Reply::Refused { refusal, bytes } => {
+                self.answered.note(&host.history, book, place + 1);
+                Err(Refusal {
+                    reason: Reason::Refused(refusal),
+                    bytes,
+                    places: Some(Places {
+                        call: place,
+                        answer: place + 1,
+                    }),
+                })
+            }
+            Reply::Handle(_) | Reply::Ok | Reply::Ignored => unreachable!(),
+        }
+    }
+
+    /// The same, and whom the call concerns.
+    pub(crate) fn issue_and_note<M: Medium, R: Wait>(
+        &mut self,
+        rt: &R,
+        host: &Host<M, N>,
+        book: &mut Book<N>,
+        call: Call,
+    ) -> (Result<Ticket<N>, Refusal>, Concerned)
+        requires room { (0 < self.old.called.room) × (0 < self.old.answered.room) }
+        ensures issued { IfOk result.0 (λ t. IsCalled (slice_index_or N.partitions self.old.share.client 0) self.old t call self.new) }
+        ensures refused { IfErr result.0 (λ r. IsTurnedDown (slice_index_or N.partitions self.old.share.client 0) self.old call r self.new) }
+    {
+        let from = book.len();
+        let issued = self.issue_in(rt, host, book, call);
+        (issued, Concerned::since(book, from))
+    }
+
+    /// Waits for the answer to a call of this account.
+    pub(crate) fn answer_of<M: Medium, R: Wait>(
+        &mut self,
+        rt: &R,
+        host: &Host<M, N>,
+        ticket: Ticket<N>,
+    ) -> Answered
+        requires ticket { ticket.client ≡ self.old.share.client }
+        requires room { 0 < self.old.answered.room }
+        ensures taken { IsTaken self.old ticket.number ticket.place result self.new }
+    {
+        let Ticket {
+            number,
+            place,
+            claim,
+            early,
+            ..
+        } = ticket;
+        if let Some((answer, told)) = early {
+            return self.keep_answer(&host.history, place, place + 1, answer, told);
+        }
+        let mut claim = claim;
+        let client = self.share.client();
+        let mut book = host.book.lock(rt);
+        for _ in rt.forever() {
+            if let Some(answered) = self.answer_in(host, &mut book, number, place, &mut claim) {
+                return answered;
+            }
+            book = host.bells.client(client).wait(rt, book);
+        }
+        unreachable!()
+    }
+
+    // The part of `wait` that has the book.
+    fn answer_in<M: Medium>(
+        &mut self,
+        host: &Host<M, N>,
+        book: &mut Book<N>,
+        number: u64,
+        call: usize,
+        claim: &mut Claims<Entry, N>,
+    ) -> Option<Answered>
+        requires claim { (q : ClientRequest) × (claim.old ≡ receipt call (CallLabel number q) self.old.share.client) }
+        requires room { 0 < self.old.answered.room }
+        ensures claim { claim.new ≡ claim.old }
+        ensures taken { IfSome result (λ answered. IsTaken self.old number call answered self.new) }
+        ensures none { IfNone result (self.new ≡ self.old) }
+    {
+        book.check(&host.history, claim);
+        let (place, answer) = take_answer(host, book, number, call)?;
+        let told = book.claim(&host.history, place);
+        Some(self.keep_answer(&host.history, call, place, answer, told))
+    }
+
+    // An answer that stands in the trace, with its receipt.
+    fn keep_answer(
+        &mut self,
+        history: &History<Entry, N>,
+        call: usize,
+        place: usize,
+        answer: Answer,
+        claim: Claims<Entry, N>,
+    ) -> Answered
+        requires claim { claim ≡ receipt place (as_answer answer) self.old.share.client }
+        requires room { 0 < self.old.answered.room }
+        ensures result { result ≡ record { answer = answer; places = record { call = call; answer = place } } }
+        ensures share { (self.new.share ≡ self.old.share) × (self.new.called ≡ self.old.called) }
+        ensures kept { self.new.answered ≡ record { list = self.old.answered.list ++ claim; room = self.old.answered.room - 1 } }
+    {
+        self.answered.keep(history, place, claim);
+        Answered {
+            answer,
+            places: Places {
+                call,
+                answer: place,
+            },
+        }
+    }
+}

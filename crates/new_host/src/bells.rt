@@ -1,0 +1,179 @@
+//! Who is woken by a step. Each lane, each client, the worker and the keeper sleep on a condition of their own, which is rung
+//! where a label concerns them and at no other time.
+
+use crate::name::Naming;
+use lanes::Woken;
+use machine::Label;
+use new_book::Book;
+use srb::DeviceLabel;
+use std::alloc::{AllocError, Global};
+use std::sync::{Condvar, Mutex, Wait};
+use traced::Entry;
+
+/// The most tags that an adapter has.
+const TAGS: usize = 32;
+
+/// The bit of a lane or a client.
+fn bit(number: usize) -> u64 {
+    if number < 64 { 1 << number } else { 0 }
+}
+
+/// Whom the labels of a step concern: the lanes of tags on which a piece was started, the clients that were answered, and
+/// everybody once the removal has ended.
+#[derive(Debug, Clone, Copy)]
+pub(crate) struct Concerned {
+    lanes: u64,
+    clients: u64,
+    is_removed: bool,
+}
+
+impl Concerned {
+    /// Returns whom the labels concern that stand in the trace from a place on.
+    pub(crate) fn since<N: Naming>(book: &Book<N>, from: usize) -> Concerned {
+        let mut concerned = Concerned {
+            lanes: 0,
+            clients: 0,
+            is_removed: false,
+        };
+        for place in from..book.len() {
+            concerned.note(book.entry(place));
+        }
+        concerned
+    }
+
+    fn note(&mut self, entry: &Entry) {
+        match &entry.label {
+            Label::Device(DeviceLabel::Start { tag, .. }) => self.lanes |= bit(usize::from(*tag)),
+            Label::Answer { .. } => self.note_answer(entry.row),
+            Label::Removed => self.is_removed = true,
+            _ => {}
+        }
+    }
+
+    fn note_answer(&mut self, row: Option<usize>) {
+        if let Some(client) = row {
+            self.clients |= bit(client);
+        }
+    }
+}
+
+/// How often the worker was rung for, and whether the removal has ended.
+#[derive(Debug, Clone, Copy, Drop)]
+struct Rung {
+    count: u64,
+    is_removed: bool,
+}
+
+/// The conditions.
+#[derive(Drop)]
+pub(crate) struct Bells {
+    /// By tags.
+    lanes: Vec<Condvar>,
+    /// By clients.
+    clients: Vec<Condvar>,
+    keeper: Condvar,
+    rung: Mutex<Rung>,
+    worker: Condvar,
+}
+
+/// So many conditions.
+fn conditions(alloc: Global, count: usize) -> Result<Vec<Condvar>, AllocError> {
+    let mut all = Vec::new(alloc);
+    for _ in 0..count {
+        all.push(Condvar::new())?;
+    }
+    Ok(all)
+}
+
+impl Bells {
+    /// Those of so many clients.
+    ///
+    /// # Errors
+    ///
+    /// Where memory was refused.
+    pub(crate) fn new(alloc: Global, clients: usize) -> Result<Bells, AllocError> {
+        let lanes = conditions(alloc, TAGS)?;
+        let clients = conditions(alloc, clients)?;
+        Ok(Bells {
+            lanes,
+            clients,
+            keeper: Condvar::new(),
+            rung: Mutex::new(Rung {
+                count: 0,
+                is_removed: false,
+            }),
+            worker: Condvar::new(),
+        })
+    }
+
+    /// That of a tag's lane.
+    pub(crate) fn lane(&self, tag: u8) -> &Condvar {
+        self.lanes.get(usize::from(tag)).unwrap_or(&self.keeper)
+    }
+
+    /// That of a client.
+    pub(crate) fn client(&self, client: usize) -> &Condvar {
+        self.clients.get(client).unwrap_or(&self.keeper)
+    }
+
+    /// That of the keeper.
+    pub(crate) fn keeper(&self) -> &Condvar {
+        &self.keeper
+    }
+
+    /// Wakes whom a step concerns. It is called with the book's lock given back.
+    pub(crate) fn ring<R: Wait>(&self, rt: &R, concerned: Concerned) {
+        if concerned.is_removed {
+            return self.ring_all(rt);
+        }
+        ring_some(&self.lanes, concerned.lanes);
+        ring_some(&self.clients, concerned.clients);
+    }
+
+    fn ring_all<R: Wait>(&self, rt: &R) {
+        ring_some(&self.lanes, u64::MAX);
+        ring_some(&self.clients, u64::MAX);
+        self.keeper.notify_all();
+        self.rung.lock(rt).is_removed = true;
+        self.worker.notify_all();
+    }
+
+    /// Wakes the worker.
+    pub(crate) fn ring_worker<R: Wait>(&self, rt: &R) {
+        self.count_ring(rt);
+        self.worker.notify_all();
+    }
+
+    fn count_ring<R: Wait>(&self, rt: &R) {
+        let mut rung = self.rung.lock(rt);
+        rung.count = rung.count.wrapping_add(1);
+    }
+
+    /// The worker sleeps until it was rung for more often than it heard, or the removal has ended.
+    pub(crate) fn rest<R: Wait>(&self, rt: &R, heard: u64) -> Woken {
+        let mut rung = self.rung.lock(rt);
+        for _ in rt.forever() {
+            let Rung { count, is_removed } = *rung;
+            if is_removed || count != heard {
+                return Woken {
+                    heard: count,
+                    is_removed,
+                };
+            }
+            rung = self.worker.wait(rt, rung);
+        }
+        unreachable!()
+    }
+}
+
+/// Rings those whose bit is set.
+fn ring_some(conditions: &[Condvar], which: u64) {
+    if which == 0 {
+        return;
+    }
+    for number in 0..conditions.len() {
+        if which & bit(number) != 0 {
+            conditions[number].notify_all();
+        }
+    }
+}

@@ -1,0 +1,101 @@
+//! A client's call, and what it is told.
+
+ghost use Rattle.std.specs.Prelude.{◌≡◌, None};
+ghost use Rattle.new_host.specs.Calls.{buffer_of, event_of};
+
+use compose::{Answer, Event, Handle, Refusal as Why};
+use sector::Bytes;
+use std::alloc::Global;
+
+/// What a client asks of its partition. Offsets and lengths are in bytes.
+#[derive(Debug, Drop)]
+pub enum Call {
+    /// A read of as many bytes as the buffer has (WDK: IRP_MJ_READ).
+    Read {
+        offset: u64,
+        buffer: Bytes,
+    },
+    /// A write of these bytes, past volatile caches if `through` (WDK: IRP_MJ_WRITE, SL_WRITE_THROUGH).
+    Write {
+        offset: u64,
+        bytes: Bytes,
+        through: bool,
+    },
+    /// A flush of the disk's caches (WDK: IRP_MJ_FLUSH_BUFFERS).
+    Flush,
+}
+
+/// The places of a call and of its answer in the trace, counted from 0.
+#[derive(Debug, Clone, Copy, PartialEq, Eq)]
+pub struct Places {
+    pub call: usize,
+    pub answer: usize,
+}
+
+/// How a call that was issued ended.
+#[derive(Debug, Drop)]
+pub struct Answered {
+    pub answer: Answer,
+    pub places: Places,
+}
+
+/// Why there is no ticket.
+#[derive(Debug, Clone, Copy, PartialEq, Eq)]
+pub enum Reason {
+    /// As the stack refuses calls; `DeletePending` also where the gate is closed, `InsufficientResources` also where memory
+    /// for the call's receipts was refused.
+    Refused(Why),
+    /// The client has 64 tickets out, the most that it may have.
+    TooManyTickets,
+}
+
+/// A call for which there is no ticket, with the caller's bytes. Where the call reached the trace it has the places of the
+/// two labels there.
+#[derive(Debug, Drop)]
+pub struct Refusal {
+    pub reason: Reason,
+    pub bytes: Bytes,
+    pub places: Option<Places>,
+}
+
+impl Call {
+    /// The call as an event on a handle.
+    pub(crate) fn on(self, handle: Handle) -> Event
+        ensures { result ≡ event_of handle self }
+    {
+        match self {
+            Call::Read { offset, buffer } => Event::Read {
+                handle,
+                offset,
+                buffer,
+            },
+            Call::Write {
+                offset,
+                bytes,
+                through,
+            } => Event::Write {
+                handle,
+                offset,
+                bytes,
+                through,
+            },
+            Call::Flush => Event::Flush { handle },
+        }
+    }
+
+    /// The refusal of a call that did not reach the book.
+    pub(crate) fn refused(self, alloc: Global, reason: Reason) -> Refusal
+        ensures { result ≡ record { reason = reason; bytes = buffer_of self; places = None } }
+    {
+        let bytes = match self {
+            Call::Read { buffer, .. } => buffer,
+            Call::Write { bytes, .. } => bytes,
+            Call::Flush => Bytes::new(Vec::new(alloc)),
+        };
+        Refusal {
+            reason,
+            bytes,
+            places: None,
+        }
+    }
+}

@@ -1,0 +1,162 @@
+ghost use Rattle.std.specs.Prelude.{◌≡◌, ◌-◌, IfErr, IfOk, slice_index_or};
+ghost use Rattle.remove_lock.specs.Answers.{IsHeld};
+ghost use Rattle.new_host.specs.Clients.{HasNoHold, IsIssued, IsMarked, IsRefused, IsWaited};
+ghost use Rattle.new_host.specs.Receipts.{places_of};
+
+use crate::account::Account;
+use crate::call::{Answered, Call, Reason, Refusal};
+use crate::host::Host;
+use crate::name::Naming;
+use crate::ticket::Ticket;
+use cancel_marks::{Marking, Seat};
+use compose::Refusal as Why;
+use disk::Medium;
+use remove_lock::{AcquireFault, Pass};
+use std::marker::Model;
+use std::sync::Wait;
+
+/// A client of a host. Contracts see it as its number, its receipts, and what it knows of the gate and of the marks.
+#[derive(Drop)]
+pub struct Client<N: Naming> {
+    pub(crate) account: Account<N>,
+    pub(crate) pass: Pass,
+    pub(crate) seat: Seat,
+    // its tickets that are not waited for yet
+    pub(crate) out: usize,
+}
+
+impl<N: Naming> Model for Client<N> {
+    ghost use Rattle.new_host.specs.Clients.{ClientView, ClientKept};
+
+    ghost Value = { ClientView };
+
+    ghost view = { λ c. record {
+      client = c.account.share.client;
+      called = c.account.called.list;
+      answered = c.account.answered.list;
+      pass = c.pass.view;
+      seat = c.seat.view;
+    } };
+
+    ghost invariant = { λ c. ClientKept N.gate N.marks c.account c.pass c.seat c.out };
+}
+
+// Takes a hold on the gate for a ticket.
+fn take_hold<M: Medium, N: Naming>(host: &Host<M, N>, pass: &mut Pass) -> Result<(), Reason>
+    requires gate { pass.old.gate ≡ N.gate }
+    ensures gate { pass.new.gate ≡ N.gate }
+    ensures held { IfOk result (λ _. IsHeld pass.old.view pass.new.view) }
+    ensures refused { IfErr result (λ reason. HasNoHold reason pass.old.view pass.new.view) }
+{
+    match host.door.gate.acquire(pass) {
+        Ok(()) => Ok(()),
+        Err(AcquireFault::DeletePending) => Err(Reason::Refused(Why::DeletePending)),
+        Err(AcquireFault::TooManyHolds) => Err(Reason::TooManyTickets),
+    }
+}
+
+// Gives the hold of a ticket back, of so many; how many are left.
+fn give_back<M: Medium, N: Naming>(host: &Host<M, N>, pass: &mut Pass, out: usize) -> usize
+    requires gate { pass.old.gate ≡ N.gate }
+    requires out { out ≡ pass.old.view.holds }
+    ensures gate { pass.new.gate ≡ N.gate }
+    ensures quota { pass.new.view.quota ≡ pass.old.view.quota }
+    ensures holds { (result ≡ pass.new.view.holds) × (result ≡ out - 1) }
+{
+    if out == 0 {
+        return 0;
+    }
+    host.door.gate.release(pass);
+    out - 1
+}
+
+impl<N: Naming> Client<N> {
+    /// Its number, from 0.
+    pub fn client(&self) -> usize
+        ensures { result ≡ self.now.client }
+    {
+        self.account.share.client()
+    }
+
+    /// The places of its calls in the trace, rising.
+    pub fn calls(&self) -> &[usize]
+        ensures { result.now ≡ places_of self.now.called }
+    {
+        self.account.called.places()
+    }
+
+    /// The places of the answers to its calls, in the order in which it was told of them.
+    pub fn answers(&self) -> &[usize]
+        ensures { result.now ≡ places_of self.now.answered }
+    {
+        self.account.answered.places()
+    }
+
+    /// Issues a call on the client's partition. The ticket holds the gate until it was waited for.
+    ///
+    /// # Errors
+    ///
+    /// As the stack refuses calls, with the places of both labels where it has them. Before the book is asked:
+    /// `InsufficientResources` where memory for the receipts was refused, `DeletePending` where the gate is closed, and
+    /// [`Reason::TooManyTickets`] with 64 tickets out.
+    pub fn issue<M: Medium, R: Wait>(
+        &mut self,
+        rt: &R,
+        host: &Host<M, N>,
+        call: Call,
+    ) -> Result<Ticket<N>, Refusal>
+        ensures issued { IfOk result (λ t. IsIssued (slice_index_or N.partitions self.old.client 0) self.old t call self.new) }
+        ensures refused { IfErr result (λ r. IsRefused (slice_index_or N.partitions self.old.client 0) self.old call r self.new) }
+    {
+        let Ok(()) = self.account.make_places(self.out) else {
+            return Err(call.refused(host.alloc, Reason::Refused(Why::InsufficientResources)));
+        };
+        match take_hold(host, &mut self.pass) {
+            Ok(()) => {}
+            Err(reason) => return Err(call.refused(host.alloc, reason)),
+        }
+        let (issued, concerned) = self
+            .account
+            .issue_and_note(rt, host, &mut host.book.lock(rt), call);
+        host.bells.ring(rt, concerned);
+        match issued {
+            Ok(ticket) => {
+                self.out += 1;
+                Ok(ticket)
+            }
+            Err(refusal) => {
+                host.door.gate.release(&mut self.pass);
+                Err(refusal)
+            }
+        }
+    }
+
+    /// Waits for the answer to a call of this client. It takes no memory.
+    pub fn wait<M: Medium, R: Wait>(
+        &mut self,
+        rt: &R,
+        host: &Host<M, N>,
+        ticket: Ticket<N>,
+    ) -> Answered
+        requires ticket { ticket.client ≡ self.old.client }
+        ensures waited { IsWaited self.old ticket result self.new }
+    {
+        self.account.await_place(rt);
+        let answered = self.account.answer_of(rt, host, ticket);
+        self.out = give_back(host, &mut self.pass, self.out);
+        answered
+    }
+
+    /// Marks the ticket's request for cancellation, with no lock: `Gone` where it was answered.
+    pub fn mark_cancel<M: Medium>(&mut self, host: &Host<M, N>, ticket: &Ticket<N>) -> Marking
+        ensures marked { IsMarked ticket.now.slot ticket.now.number self.old.seat result self.new.seat }
+        ensures same { self.new ≡ record self.old { seat = self.new.seat } }
+    {
+        if ticket.early.is_some() {
+            return Marking::Gone;
+        }
+        host.table
+            .marks
+            .mark(&mut self.seat, ticket.slot, ticket.number)
+    }
+}

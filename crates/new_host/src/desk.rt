@@ -1,0 +1,165 @@
+//! The host as the desk of its lanes: a lane's piece acts under the journal's lock alone, and then its act is booked.
+
+ghost use Rattle.std.specs.Prelude.{◌≡◌, IfSome};
+ghost use Rattle.srb.specs.declared.Class.TheVariants.{Bad};
+ghost use Rattle.srb.specs.Fate.{class_of};
+
+use crate::bells::Concerned;
+use crate::host::Host;
+use crate::name::Naming;
+use compose::Event;
+use disk::Medium;
+use lanes::{Desk, Step, Woken};
+use machine::Label;
+use new_book::Book;
+use srb::{Completion, DeviceLabel};
+use std::sync::{Mutex, Wait};
+
+/// What the trace has told of the tags.
+#[derive(Debug, Drop)]
+struct Tags {
+    // So many labels were looked at.
+    seen: usize,
+    // By tag: a piece was started of which no lane was told.
+    started: [bool; 32],
+    removed: bool,
+}
+
+impl Tags {
+    /// Looks at the labels that have come since.
+    fn catch_up<N: Naming>(&mut self, book: &Book<N>) {
+        for place in self.seen..book.len() {
+            match &book.entry(place).label {
+                Label::Device(DeviceLabel::Start { tag, .. }) => self.start(*tag),
+                Label::Removed => self.removed = true,
+                _ => {}
+            }
+        }
+        self.seen = book.len();
+    }
+
+    fn start(&mut self, tag: u8) {
+        if let Some(started) = self.started.get_mut(usize::from(tag)) {
+            *started = true;
+        }
+    }
+
+    /// Returns what a tag's lane has to do next, if anything. It is told of a piece once.
+    fn take(&mut self, tag: u8) -> Option<Step> {
+        if let Some(started) = self.started.get_mut(usize::from(tag)) {
+            if *started {
+                *started = false;
+                return Some(Step::Ready);
+            }
+        }
+        if self.removed {
+            Some(Step::Ended)
+        } else {
+            None
+        }
+    }
+}
+
+/// The tags, under a lock that is taken by who has the book.
+#[derive(Drop)]
+pub(crate) struct Board {
+    tags: Mutex<Tags>,
+}
+
+impl Board {
+    /// Of a book with no label.
+    pub(crate) fn blank() -> Board {
+        Board {
+            tags: Mutex::new(Tags {
+                seen: 0,
+                started: [false; 32],
+                removed: false,
+            }),
+        }
+    }
+
+    fn take<N: Naming, R: Wait>(&self, rt: &R, book: &Book<N>, tag: u8) -> Option<Step> {
+        let mut tags = self.tags.lock(rt);
+        tags.catch_up(book);
+        tags.take(tag)
+    }
+}
+
+impl<M: Medium, N: Naming> Host<M, N> {
+    // The piece of a tag acts in the journal, under its lock alone: how it failed, where it did.
+    fn transfer<R: Wait>(&self, rt: &R, tag: u8) -> Option<Completion>
+        ensures { IfSome result (λ completion. class_of completion ≡ Bad completion) }
+    {
+        let mut journal = self.journal.lock(rt);
+        let piece = journal.armed(tag)?.piece;
+        match journal.act(&self.words, tag, piece)? {
+            Ok(_) => None,
+            Err(completion) => Some(completion),
+        }
+    }
+
+    // The piece of a tag failed in the journal.
+    fn fail<R: Wait>(&self, rt: &R, tag: u8, completion: Completion)
+        requires { class_of completion ≡ Bad completion }
+    {
+        let concerned = self.fail_in(rt, &mut self.book.lock(rt), tag, completion);
+        self.bells.ring(rt, concerned);
+    }
+
+    fn fail_in<R: Wait>(
+        &self,
+        rt: &R,
+        book: &mut Book<N>,
+        tag: u8,
+        completion: Completion,
+    ) -> Concerned
+        requires { class_of completion ≡ Bad completion }
+    {
+        let from = book.len();
+        book.act_failed(
+            rt,
+            self.alloc,
+            &self.history,
+            &self.table.marks,
+            &self.journal,
+            &self.words,
+            tag,
+            completion,
+        );
+        Concerned::since(book, from)
+    }
+}
+
+impl<M: Medium, N: Naming> Desk for Host<M, N> {
+    fn next<R: Wait>(&self, rt: &R, tag: u8) -> Step {
+        let mut book = self.book.lock(rt);
+        for _ in rt.forever() {
+            if let Some(step) = self.board.take(rt, &book, tag) {
+                return step;
+            }
+            book = self.bells.lane(tag).wait(rt, book);
+        }
+        unreachable!()
+    }
+
+    fn act<R: Wait>(&self, rt: &R, tag: u8) {
+        match self.transfer(rt, tag) {
+            Some(completion) => self.fail(rt, tag, completion),
+            None => {
+                self.step(rt, Event::Act { tag });
+            }
+        }
+    }
+
+    fn finish<R: Wait>(&self, rt: &R, tag: u8) {
+        self.step(rt, Event::Finish { tag });
+    }
+
+    fn ring<R: Wait>(&self, rt: &R) {
+        self.bells.ring_worker(rt);
+    }
+
+    fn rest<R: Wait>(&self, rt: &R, heard: u64) -> Woken {
+        self.bells.rest(rt, heard)
+    }
+}

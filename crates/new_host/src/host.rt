@@ -1,0 +1,272 @@
+ghost use Rattle.std.specs.Prelude.{◌≡◌, ◌+◌, [], All, IfOk, None, false, length};
+ghost use mathlib.Core.Logic.{inl};
+ghost use Rattle.cancel_marks.specs.Marks.{IsOther};
+ghost use Rattle.new_book.specs.Book.{IsStepped, call_handle};
+ghost use Rattle.traced.specs.Serving.{is_handle_event};
+ghost use Rattle.new_host.specs.Clients.{AreNumbered};
+ghost use Rattle.new_host.specs.Opening.{AreHandlesFor, IsClientPass, IsJournalFor};
+ghost use Rattle.new_host.specs.Replies.{IsReplyTo};
+ghost use Rattle.compose.specs.declared.Event.TheVariants.{Act, Finish, Reset};
+
+use crate::account::Account;
+use crate::bells::{Bells, Concerned};
+use crate::client::Client;
+use crate::desk::Board;
+use crate::name::Naming;
+use crate::opened::{HostFault, Opened};
+use crate::shared::{Disk, Door, Table};
+use cancel_marks::Seat;
+use chronicle::{Claims, History, Whole};
+use compose::{Event, Handle, Reply};
+use disk::Medium;
+use new_book::Book;
+use remove_lock::Pass;
+use sector_journal::{Journal, OfArmings, OfEntries};
+use std::alloc::{AllocError, Global};
+use std::marker::{Model, PhantomData};
+use std::sync::ledger::Share as Part;
+use std::sync::{Mutex, Wait};
+use traced::{Entry, Share, Traced};
+
+/// A book and its journal, each under its lock, and what threads share beside them.
+#[derive(Drop)]
+pub struct Host<M: Medium, N: Naming>
+where
+    OfArmings<N>: chronicle::Naming,
+    OfEntries<N>: chronicle::Naming,
+{
+    pub(crate) book: Mutex<Book<N>>,
+    // Where both locks are held, the book's was taken first.
+    pub(crate) journal: Mutex<Journal<M, N>>,
+    pub(crate) words: sector_journal::History<N>,
+    pub(crate) bells: Bells,
+    pub(crate) history: History<Entry, N>,
+    pub(crate) table: Table<N>,
+    pub(crate) door: Door<N>,
+    pub(crate) disk: Disk<N>,
+    pub(crate) board: Board,
+    pub(crate) alloc: Global,
+}
+
+/// The right to remove the device and to close the host: the part of the ledger that no client has, and a pass of the gate.
+/// Contracts see it as what it knows of the gate, and its receipts.
+#[derive(Drop)]
+pub struct Keeper<N: Naming> {
+    pub(crate) part: Part<N>,
+    pub(crate) pass: Pass,
+    pub(crate) told: Claims<Entry, N>,
+}
+
+impl<N: Naming> Model for Keeper<N> {
+    ghost use Rattle.std.specs.Prelude.{◌≡◌};
+    ghost use Rattle.new_host.specs.Keepers.{KeeperView};
+
+    ghost Value = { KeeperView };
+
+    ghost view = { λ k. record { pass = k.pass.view; told = k.told } };
+
+    ghost invariant = { λ k. (k.part.parts ≡ 1) × (k.part.amount ≡ 0) × (k.pass.gate ≡ N.gate) };
+}
+
+// A client for each handle, with a part of the ledger, a seat and a pass.
+fn make_clients<N: Naming>(
+    alloc: Global,
+    history: &History<Entry, N>,
+    whole: &mut Whole<Entry, N>,
+    all: &mut Part<N>,
+    handles: Vec<Handle>,
+    seats: Vec<Seat>,
+    passes: &mut Vec<Pass>,
+) -> Result<Vec<Client<N>>, AllocError>
+    requires handles { AreHandlesFor N.partitions N.handles handles.items }
+    requires seats { (length seats.items ≡ length N.partitions) × All (IsOther N.marks) seats.items }
+    requires passes { (length passes.old.items ≡ length N.partitions + 1) × All (IsClientPass N.gate) passes.old.items }
+    requires parts { (all.old.parts ≡ length N.partitions + 1) × (all.old.amount ≡ 0) }
+    ensures whole { whole.new ≡ whole.old }
+    ensures rest { IfOk result (λ _. (all.new.parts ≡ 1) × (all.new.amount ≡ 0)) }
+    ensures passes { IfOk result (λ _. (length passes.new.items ≡ 1) × All (IsClientPass N.gate) passes.new.items) }
+    ensures clients { IfOk result (λ v. AreNumbered (length N.partitions) v.items) }
+{
+    let mut clients = Vec::new(alloc);
+    let mut seats = seats;
+    for c in 0..handles.len() {
+        clients.reserve(1)?;
+        let (Some(seat), Some(pass)) = (seats.pop(), passes.pop()) else {
+            unreachable!()
+        };
+        let account = Account::new(
+            alloc,
+            c,
+            handles[c],
+            all.split_off(1, 0),
+            whole.no_claims(history),
+            whole.no_claims(history),
+        );
+        clients.push_reserved(Client {
+            account,
+            pass,
+            seat,
+            out: 0,
+        });
+    }
+    Ok(clients)
+}
+
+// A client for each handle, and the pass that is left for the keeper.
+fn hand_out<N: Naming>(
+    alloc: Global,
+    history: &History<Entry, N>,
+    whole: &mut Whole<Entry, N>,
+    all: &mut Part<N>,
+    handles: Vec<Handle>,
+    seats: Vec<Seat>,
+    passes: Vec<Pass>,
+) -> Result<(Vec<Client<N>>, Pass), AllocError>
+    requires handles { AreHandlesFor N.partitions N.handles handles.items }
+    requires seats { (length seats.items ≡ length N.partitions) × All (IsOther N.marks) seats.items }
+    requires passes { (length passes.items ≡ length N.partitions + 1) × All (IsClientPass N.gate) passes.items }
+    requires parts { (all.old.parts ≡ length N.partitions + 1) × (all.old.amount ≡ 0) }
+    ensures whole { whole.new ≡ whole.old }
+    ensures rest { IfOk result (λ _. (all.new.parts ≡ 1) × (all.new.amount ≡ 0)) }
+    ensures pass { IfOk result (λ r. IsClientPass N.gate r.1) }
+    ensures clients { IfOk result (λ r. AreNumbered (length N.partitions) r.0.items) }
+{
+    let mut passes = passes;
+    let clients = make_clients(alloc, history, whole, all, handles, seats, &mut passes)?;
+    let Some(pass) = passes.pop() else {
+        unreachable!()
+    };
+    Ok((clients, pass))
+}
+
+impl<M: Medium, N: Naming> Host<M, N> {
+    /// A host of a stack and of the journal of its disk, in which nothing was entered, with its keeper and its clients,
+    /// client c over the partition that was given as number c.
+    ///
+    /// # Errors
+    ///
+    /// [`HostFault::NoMemory`].
+    pub fn new(
+        alloc: Global,
+        opened: Opened,
+        journal: Journal<M, N>,
+        words: sector_journal::History<N>,
+    ) -> Result<(Host<M, N>, Keeper<N>, Vec<Client<N>>), HostFault>
+        requires named { opened ≡ record { rules = N.rules; opening = N.start; partitions = N.partitions; handles = N.handles; marks = N.marks; slots = N.slots; table = N.table; name = N.name; parts = N.parts; gate = N.gate } }
+        requires disk { IsJournalFor N.rules journal }
+        ensures clients { IfOk result (λ r. AreNumbered (length N.partitions) r.2.items) }
+        ensures keeper { IfOk result (λ r. r.1.told ≡ []) }
+    {
+        let Opened {
+            stack,
+            handles,
+            partitions,
+            sizes,
+            slots,
+            history,
+            ledger,
+            marks,
+            owner,
+            seats,
+            gate,
+            passes,
+        } = opened;
+        journal.shows_rule();
+        journal.shows_opening();
+        let disk = Disk::new();
+        let count = partitions.len();
+        let (history, mut whole) = history.named::<N>();
+        let (tally, mut all) = ledger.open::<N>();
+        let bells = Bells::new(alloc, count)?;
+        let (clients, pass) = hand_out(
+            alloc, &history, &mut whole, &mut all, handles, seats, passes,
+        )?;
+        let told = whole.no_claims(&history);
+        let traced = Traced::new(alloc, stack, whole, owner, tally, count, slots, sizes)?;
+        let mut journal = journal;
+        let book = Book::new(alloc, traced, &mut journal, &words)?;
+        let host = Host {
+            book: Mutex::new(book),
+            journal: Mutex::new(journal),
+            words,
+            bells,
+            history,
+            table: Table {
+                marks,
+                of: PhantomData,
+            },
+            door: Door {
+                gate,
+                of: PhantomData,
+            },
+            disk,
+            board: Board::blank(),
+            alloc,
+        };
+        let keeper = Keeper {
+            part: all,
+            pass,
+            told,
+        };
+        Ok((host, keeper, clients))
+    }
+
+    /// The adapter carries out the command of the piece on a tag, or fails it; `Ignored` where there is none.
+    pub fn act<R: Wait>(&self, rt: &R, tag: u8) -> Reply
+        ensures reply { IsReplyTo (Act tag) result }
+    {
+        self.step(rt, Event::Act { tag })
+    }
+
+    /// The adapter hands the piece on a tag back; `Ignored` where there is none.
+    pub fn finish<R: Wait>(&self, rt: &R, tag: u8) -> Reply
+        ensures reply { IsReplyTo (Finish tag) result }
+    {
+        self.step(rt, Event::Finish { tag })
+    }
+
+    /// The adapter is reset.
+    pub fn reset<R: Wait>(&self, rt: &R) -> Reply
+        ensures reply { IsReplyTo Reset result }
+    {
+        self.step(rt, Event::Reset)
+    }
+
+    // The part of a step that has the book.
+    pub(crate) fn step_in<R: Wait>(&self, rt: &R, book: &mut Book<N>, event: Event) -> Reply
+        requires { (is_handle_event event ≡ false) × (call_handle event ≡ None) }
+        ensures stepped { IsStepped N.slots None (inl tt) book.old event result book.new }
+        ensures reply { IsReplyTo event result }
+    {
+        book.step(
+            rt,
+            self.alloc,
+            &self.history,
+            &self.table.marks,
+            &self.journal,
+            &self.words,
+            Share::none(),
+            event,
+        )
+    }
+
+    // As above, and tells whom it concerns.
+    fn step_and_note<R: Wait>(&self, rt: &R, book: &mut Book<N>, event: Event) -> (Reply, Concerned)
+        requires { (is_handle_event event ≡ false) × (call_handle event ≡ None) }
+        ensures reply { IsReplyTo event result.0 }
+    {
+        let from = book.len();
+        let reply = self.step_in(rt, book, event);
+        (reply, Concerned::since(book, from))
+    }
+
+    // A step that is no client's, of which those are told whom it concerns.
+    pub(crate) fn step<R: Wait>(&self, rt: &R, event: Event) -> Reply
+        requires { (is_handle_event event ≡ false) × (call_handle event ≡ None) }
+        ensures reply { IsReplyTo event result }
+    {
+        let (reply, concerned) = self.step_and_note(rt, &mut self.book.lock(rt), event);
+        self.bells.ring(rt, concerned);
+        reply
+    }
+}

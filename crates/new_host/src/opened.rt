@@ -1,0 +1,245 @@
+ghost use Rattle.std.specs.Prelude.{◌≡◌, ◌≤◌, ◌+◌, Some, All, IfOk, IfErr, IsFalse, length, max};
+ghost use Rattle.cancel_marks.specs.Marks.{IsOther, standing, starting};
+ghost use Rattle.traced.specs.Opening.{AreOpened, IsNew};
+ghost use Rattle.traced.specs.Sizes.{AreSizes, sizes_of};
+ghost use Rattle.new_host.specs.Opening.{IsClientPass, IsGear, IsHostFault, client_limit};
+ghost use Rattle.new_host.specs.declared.opened.HostFault.TheVariants.{NoMemory};
+
+use cancel_marks::{Marks, Seat};
+use compose::{Handle, Stack};
+use miniport::BookedAdapter;
+use remove_lock::{Gate, Pass};
+use std::alloc::{AllocError, Global};
+use std::marker::{Brand, Model};
+use std::sync::ledger::{Blank, Ledger};
+use thiserror::Error;
+use traced::{Entry, OpenFault, Sizes, open_handles};
+
+/// At most so many clients.
+const CLIENTS: usize = 64;
+
+/// A client has at most so many tickets out.
+const TICKETS: u32 = 64;
+
+/// Why there is no host.
+#[derive(Debug, Clone, Copy, PartialEq, Eq, Drop, Error)]
+pub enum HostFault {
+    /// More than 64 clients.
+    #[error("more than 64 clients")]
+    TooManyClients,
+    /// The stack doesn't have the partition of one of them.
+    #[error("no such partition")]
+    NoPartition,
+    /// Memory was refused.
+    #[error("no memory")]
+    NoMemory,
+}
+
+impl From<AllocError> for HostFault {
+    ghost use Rattle.std.specs.Prelude.{◌≡◌};
+    ghost use Rattle.new_host.specs.declared.opened.HostFault.TheVariants.{NoMemory};
+
+    ghost from_gives = { λ _ fault. fault ≡ NoMemory };
+
+    fn from(_refused: AllocError) -> HostFault {
+        HostFault::NoMemory
+    }
+}
+
+/// A stack with a handle open for each client, and all that its threads will share, which has no name yet. Contracts see it
+/// as the names that a host of it has.
+pub struct Opened {
+    pub(crate) stack: Stack<BookedAdapter>,
+    pub(crate) handles: Vec<Handle>,
+    pub(crate) partitions: Vec<u8>,
+    pub(crate) sizes: Sizes,
+    pub(crate) slots: usize,
+    pub(crate) history: chronicle::Opened<Entry>,
+    pub(crate) ledger: Blank,
+    pub(crate) marks: Marks,
+    pub(crate) owner: Seat,
+    pub(crate) seats: Vec<Seat>,
+    pub(crate) gate: Gate,
+    pub(crate) passes: Vec<Pass>,
+}
+
+impl Model for Opened {
+    ghost use Rattle.new_host.specs.Opening.{IsReady, Names};
+
+    ghost Value = { Names };
+
+    ghost view = { λ o. record {
+      rules = o.stack.rules;
+      opening = o.stack.state;
+      partitions = o.partitions.items;
+      handles = o.stack.handles;
+      marks = o.marks.0;
+      slots = o.slots;
+      table = o.history;
+      name = o.ledger.name;
+      parts = o.ledger.parts;
+      gate = o.gate;
+    } };
+
+    ghost invariant = { λ o. IsReady o.partitions.items o.stack o.handles.items o.sizes o.slots o.ledger.parts o.marks o.owner o.seats.items o.gate o.passes.items };
+}
+
+// A table of so many slots, with the owner's seat and one for each client.
+fn make_marks(
+    alloc: Global,
+    slots: usize,
+    clients: usize,
+) -> Result<(Marks, Seat, Vec<Seat>), HostFault>
+    requires few { clients ≤ client_limit }
+    ensures slots { IfOk result (λ r. r.0.1 ≡ slots) }
+    ensures owner { IfOk result (λ r. r.1 ≡ standing r.0.0 0 (starting (max slots 1))) }
+    ensures count { IfOk result (λ r. length r.2.items ≡ clients) }
+    ensures seats { IfOk result (λ r. All (IsOther r.0.0) r.2.items) }
+    ensures fault { IfErr result (λ fault. fault ≡ NoMemory) }
+{
+    let Ok((marks, mut seats)) = Marks::new(alloc, slots, clients + 1) else {
+        return Err(HostFault::NoMemory);
+    };
+    let owner = seats.remove(0);
+    Ok((marks, owner, seats))
+}
+
+// An open gate, with a pass for each client and one for the keeper.
+fn make_gate(alloc: Global, clients: usize) -> Result<(Gate, Vec<Pass>), HostFault>
+    requires few { clients ≤ client_limit }
+    ensures count { IfOk result (λ r. length r.1.items ≡ clients + 1) }
+    ensures passes { IfOk result (λ r. All (IsClientPass r.0) r.1.items) }
+    ensures fault { IfErr result (λ fault. fault ≡ NoMemory) }
+{
+    let quotas = Vec::from_elem(alloc, TICKETS, clients + 1)?;
+    match Gate::new(alloc, quotas.as_slice()) {
+        Ok((gate, passes)) => Ok((gate, passes)),
+        Err(_) => Err(HostFault::NoMemory),
+    }
+}
+
+/// What the threads of a host will share, a handle, a seat and a pass for each client, and a list of their partitions.
+#[derive(Drop)]
+struct Gear {
+    partitions: Vec<u8>,
+    handles: Vec<Handle>,
+    marks: Marks,
+    owner: Seat,
+    seats: Vec<Seat>,
+    gate: Gate,
+    passes: Vec<Pass>,
+}
+
+// All of it, for clients on these partitions, with their handles open on the stack.
+fn make_gear(
+    alloc: Global,
+    stack: &mut Stack<BookedAdapter>,
+    slots: usize,
+    partitions: &[u8],
+) -> Result<Gear, HostFault>
+    requires { IsNew stack.old }
+    ensures few { IfOk result (λ _. length partitions.now ≤ client_limit) }
+    ensures gear { IfOk result (λ gear. IsGear partitions.now slots gear) }
+    ensures opened { IfOk result (λ gear. AreOpened partitions.now gear.handles.items stack.old stack.new) }
+    ensures apart { IfOk result (λ _. IsFalse stack.old.adapter.faithful → IsFalse stack.new.adapter.faithful) }
+    ensures fault { IfErr result (IsHostFault stack.old.rules partitions.now) }
+{
+    if partitions.len() > CLIENTS {
+        return Err(HostFault::TooManyClients);
+    }
+    let (marks, owner, seats) = make_marks(alloc, slots, partitions.len())?;
+    let (gate, passes) = make_gate(alloc, partitions.len())?;
+    let mut kept = Vec::new(alloc);
+    kept.extend_from_slice(partitions)?;
+    let handles = match open_handles(alloc, stack, partitions) {
+        Ok(handles) => handles,
+        Err(OpenFault::Refused(_)) => return Err(HostFault::NoPartition),
+        Err(OpenFault::NoMemory) => return Err(HostFault::NoMemory),
+    };
+    Ok(Gear {
+        partitions: kept,
+        handles,
+        marks,
+        owner,
+        seats,
+        gate,
+        passes,
+    })
+}
+
+impl Opened {
+    /// Opens handle c + 1 on `partitions[c]` for client c, on a stack as it was started over an adapter without sectors, of
+    /// these sizes and so many slots for open requests; and makes what the threads of a host will share.
+    ///
+    /// # Errors
+    ///
+    /// [`HostFault::TooManyClients`] for more than 64 partitions; [`HostFault::NoPartition`] where the stack doesn't have
+    /// one of them; [`HostFault::NoMemory`].
+    pub fn new(
+        alloc: Global,
+        stack: Stack<BookedAdapter>,
+        sizes: Sizes,
+        slots: usize,
+        partitions: &[u8],
+    ) -> Result<Opened, HostFault>
+        requires new { IsNew stack }
+        requires apart { IsFalse stack.adapter.faithful }
+        requires sizes { (sizes ≡ sizes_of stack.rules) × AreSizes sizes }
+        requires slots { stack.rules.open_requests ≡ Some slots }
+        ensures partitions { IfOk result (λ o. (o.partitions ≡ partitions.now) × (o.parts ≡ length partitions.now + 1)) }
+        ensures stack { IfOk result (λ o. (o.rules ≡ stack.rules) × (o.opening ≡ stack.state)) }
+        ensures fault { IfErr result (IsHostFault stack.rules partitions.now) }
+    {
+        let mut stack = stack;
+        let gear = make_gear(alloc, &mut stack, slots, partitions)?;
+        let history = chronicle::Opened::new(alloc)?;
+        Ok(Opened {
+            stack,
+            handles: gear.handles,
+            partitions: gear.partitions,
+            sizes,
+            slots,
+            history,
+            ledger: Blank::new(partitions.len() as u64 + 1),
+            marks: gear.marks,
+            owner: gear.owner,
+            seats: gear.seats,
+            gate: gear.gate,
+            passes: gear.passes,
+        })
+    }
+
+    /// Ends what no host is made of.
+    pub fn end(self) {
+        let Opened {
+            stack: _,
+            handles: _,
+            partitions: _,
+            sizes: _,
+            slots: _,
+            history,
+            ledger,
+            marks: _,
+            owner: _,
+            seats: _,
+            gate: _,
+            passes: _,
+        } = self;
+        end_history::<Brand>(history);
+        end_ledger::<Brand>(ledger);
+    }
+}
+
+// A history that nobody wants.
+fn end_history<N: chronicle::Naming>(history: chronicle::Opened<Entry>)
+    requires { history ≡ N.table }
+{
+    let (_history, _whole) = history.named::<N>();
+}
+
+// A ledger that nobody wants.
+fn end_ledger<L: Ledger>(ledger: Blank)
+    requires { (ledger.name ≡ L.name) × (ledger.parts ≡ L.parts) }
+{
+    let (_tally, _all) = ledger.open::<L>();
+}
