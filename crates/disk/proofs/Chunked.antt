@@ -15,8 +15,9 @@ use Rattle.sector.specs.Extents.{IsIn}
 use Rattle.sector.specs.Splice.{splice}
 use Rattle.sector.proofs.Splicing.{length-splice, range_apart}
 use borrow.Rule.Slice.PartMut.{put_mid}
-use Rattle.disk.specs.Chunks.{length-chunk_bytes}
-use Rattle.disk.specs.Sparse.{AreWhole, ByNumber, PutsBytes, PutsZeros, chunk_bytes, chunk_length, chunk_of, held, sector_at}
+use Rattle.disk.specs.inside.Chunks.{length-chunk_bytes}
+use Rattle.disk.specs.Sparse.{ByNumber, chunk_bytes, chunk_length, chunk_of, held, sector_at}
+use Rattle.disk.specs.inside.Sparse.{AreWhole, PutsBytes, PutsZeros}
 
 -- the bytes that stand in an option, or zeros, are as many as are asked for
 length_or_zeros : (found : Option (List ℕ)) (n : ℕ) → ForSome found (λ bytes. length bytes ≡ n) → length (unwrap_or found (replicate n 0)) ≡ n

@@ -11,7 +11,7 @@ use Rattle.std.specs.BTreeMap.{get, keys}
 use Rattle.sector.specs.declared.Extent.{Extent}
 use Rattle.disk.specs.declared.chunks.Chunks.{Chunks}
 use Rattle.disk.specs.Sparse.{ByNumber, held}
-use Rattle.disk.specs.SparseDisk.{Overwrites}
+use Rattle.disk.specs.inside.SparseDisk.{Overwrites}
 
 -- a part of a part
 part_of_part : (bytes : List ℕ) (start end from n : ℕ) → from + n ≤ end - start

@@ -5,8 +5,9 @@ use Rattle.std.specs.BTreeMap.{IsEmpty}
 use Rattle.sector.specs.declared.Extent.{Extent}
 use Rattle.sector.specs.Extents.{IsIn}
 use Rattle.disk.specs.declared.chunks.Chunks.{Chunks}
-use Rattle.disk.specs.Sparse.{ByNumber, PutsZeros, held}
-use Rattle.disk.specs.SparseDisk.{AreThere, HasPartOf, IsThere, Makes, MakesOf, MakesOne}
+use Rattle.disk.specs.Sparse.{ByNumber, held}
+use Rattle.disk.specs.inside.Sparse.{PutsZeros}
+use Rattle.disk.specs.inside.SparseDisk.{AreThere, HasPartOf, IsThere, Makes, MakesOf, MakesOne}
 use Rattle.disk.proofs.Chunked.{held-empty, held-unchanged}
 
 -- zeros at one number make that chunk alone

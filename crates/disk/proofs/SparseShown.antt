@@ -20,7 +20,8 @@ use Rattle.disk.specs.declared.sparse_disk.SparseDisk.{SparseDisk}
 use Rattle.disk.specs.Medium.{IsReserved, IsWithin, Reserves, ReservesNear, ReservesOnly, StartsWith, bytes_at}
 use Rattle.disk.specs.Sparse.{ByNumber, chunk_length, chunk_of, held}
 use Rattle.disk.specs.declared.bad_list.BadList.{BadList}
-use Rattle.disk.specs.SparseDisk.{AreThere, HasPartOf, HasSameSizes, IsThere, Makes, MakesOf, Overwrites, bytes_of, sector_of, sectors_of, shown}
+use Rattle.disk.specs.SparseDisk.{sector_of, sectors_of, shown}
+use Rattle.disk.specs.inside.SparseDisk.{AreThere, HasPartOf, HasSameSizes, IsThere, Makes, MakesOf, Overwrites, bytes_of}
 use Rattle.disk.proofs.Chunked.{held-empty, map_range-append}
 use Rattle.disk.proofs.Cutting.{length-first_chunks, concat-first_chunks, first_chunks-zeros}
 use Rattle.disk.proofs.Overwriting.{some_found, some_mapped}

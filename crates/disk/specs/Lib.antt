@@ -1,5 +1,5 @@
-pub mod Chunks
 pub mod Medium
 pub mod Sparse
 pub mod SparseDisk
 pub mod VecDisk
+pub mod inside

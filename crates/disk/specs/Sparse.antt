@@ -1,11 +1,10 @@
 -- The sectors of a disk in chunks of 64, of which only some are there.
-use Rattle.std.specs.Prelude.{◌≡◌, ◌≢◌, ℕ, ◌-◌, ◌*◌, ◌/◌, ◌%◌, min, List, length, replicate, take, drop, Option, Some, unwrap_or}
-use Rattle.std.specs.Option.{ForSome, option_map}
+use Rattle.std.specs.Prelude.{ℕ, ◌-◌, ◌*◌, ◌/◌, ◌%◌, min, List, replicate, take, drop, Option, unwrap_or}
+use Rattle.std.specs.Option.{option_map}
 use Rattle.std.specs.Ordering.{nat_cmp}
 use Rattle.std.specs.Global.{Vec}
-use Rattle.std.specs.BTreeMap.{BTreeMap, get, keys}
+use Rattle.std.specs.BTreeMap.{BTreeMap, get}
 use Rattle.sector.specs.declared.Extent.{Extent}
-use Rattle.sector.specs.Splice.{splice}
 
 -- the sectors of a chunk: 64 of them, or what is left of the disk
 abbrev pub chunk_of : ℕ → ℕ → Extent
@@ -23,10 +22,6 @@ held chunks number = option_map (λ bytes. bytes.items) (get nat_cmp chunks numb
 abbrev pub chunk_length : ℕ → ℕ → ℕ → ℕ
 chunk_length size sectors number = (chunk_of sectors number).count * size
 
--- a chunk that is there has the bytes of all its sectors
-abbrev pub AreWhole : ℕ → ℕ → ByNumber → Type 0
-AreWhole size sectors chunks = (number : ℕ) → ForSome (held chunks number) (λ bytes. length bytes ≡ chunk_length size sectors number)
-
 -- the bytes of a chunk: zeros if it isn't there
 abbrev pub chunk_bytes : ℕ → ℕ → ByNumber → ℕ → List ℕ
 chunk_bytes size sectors chunks number = unwrap_or (held chunks number) (replicate (chunk_length size sectors number) 0)
@@ -34,14 +29,3 @@ chunk_bytes size sectors chunks number = unwrap_or (held chunks number) (replica
 -- the bytes of a sector are a part of its chunk's
 abbrev pub sector_at : ℕ → ℕ → ByNumber → ℕ → List ℕ
 sector_at size sectors chunks sector = take size (drop (sector % 64 * size) (chunk_bytes size sectors chunks (sector / 64)))
-
--- so many zeros stand at the number if nothing stood there, and all else stays
-pub record PutsZeros (count number : ℕ) (old new : ByNumber) : Type 0 where
-  pub here : held new number ≡ Some (unwrap_or (held old number) (replicate count 0))
-  pub others : (other : ℕ) → other ≢ number → held new other ≡ held old other
-
--- bytes stand over a part of those at the number, and all else stays
-pub record PutsBytes (number start : ℕ) (bytes : List ℕ) (old new : ByNumber) : Type 0 where
-  pub here : held new number ≡ option_map (λ before. splice before start bytes) (held old number)
-  pub others : (other : ℕ) → other ≢ number → held new other ≡ held old other
-  pub same_keys : keys new ≡ keys old

@@ -4,7 +4,8 @@ ghost use Rattle.std.specs.Prelude.{◌≡◌, ℕ, ◌+◌, ◌*◌, ◌/◌, �
 ghost use Rattle.std.specs.Option.{ForSome};
 ghost use Rattle.std.specs.Ordering.{nat_cmp};
 ghost use Rattle.std.specs.BTreeMap.{get, IsEmpty};
-ghost use Rattle.disk.specs.Sparse.{AreWhole, PutsBytes, PutsZeros, chunk_of, held};
+ghost use Rattle.disk.specs.Sparse.{chunk_of, held};
+ghost use Rattle.disk.specs.inside.Sparse.{AreWhole, PutsBytes, PutsZeros};
 
 use crate::places::places;
 use sector::Extent;
@@ -26,7 +27,8 @@ pub(crate) struct Chunks {
 
 impl Chunks {
     ghost use Rattle.std.specs.List.{concat};
-    ghost use Rattle.disk.specs.SparseDisk.{AreThere, IsThere, Makes, MakesOf, MakesOne, Overwrites, sectors_of};
+    ghost use Rattle.disk.specs.SparseDisk.{sectors_of};
+    ghost use Rattle.disk.specs.inside.SparseDisk.{AreThere, IsThere, Makes, MakesOf, MakesOne, Overwrites};
 
     /// A disk of which no chunk is there.
     pub fn new(alloc: Global, sector_size: u32, sectors: u64) -> Chunks

@@ -78,7 +78,7 @@ impl SparseDisk {
 
 impl Medium for SparseDisk {
     ghost use Rattle.disk.specs.SparseDisk.{shown};
-    ghost use Rattle.disk.specs.Chunks.{All-sectors_in_chunks};
+    ghost use Rattle.disk.specs.inside.Chunks.{All-sectors_in_chunks};
 
     ghost view = { shown };
 

@@ -92,7 +92,7 @@ impl VecDisk {
 impl Medium for VecDisk {
     ghost use Rattle.disk.specs.Medium.{IsWithin, IsReserved, Reserves, ReservesNear};
     ghost use Rattle.disk.specs.VecDisk.{shown};
-    ghost use Rattle.disk.specs.Chunks.{All-first_chunks};
+    ghost use Rattle.disk.specs.inside.Chunks.{All-first_chunks};
 
     ghost view = { shown };
 

@@ -6,7 +6,8 @@ use Rattle.std.proofs.lemmas.Str.{IsUtf8-from_is_utf8}
 use Rattle.settings.specs.declared.Config.{Config}
 use Rattle.startup.specs.Reading.{AreRead, IsAllOf}
 use Rattle.startup.specs.declared.ending.Verdict.{Verdict}
-use Rattle.judging.specs.Checked.{IsCheckFault, IsFaultBy, IsOutputFault, IsSaid, IsTextFault, IsUnreadTrace, PrintsBy, PrintsVerdict}
+use Rattle.judging.specs.Checked.{IsCheckFault, PrintsVerdict}
+use Rattle.judging.specs.inside.Checked.{IsFaultBy, IsOutputFault, IsSaid, IsTextFault, IsUnreadTrace, PrintsBy}
 use Rattle.judging.specs.Told.{AreTold}
 use Rattle.judging.specs.declared.told.Told.{Told}
 use Rattle.judging.specs.declared.opened.Standard.{Standard}

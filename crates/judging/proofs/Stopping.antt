@@ -15,7 +15,8 @@ use Rattle.judge.specs.declared.stepwise.Refusal.TheVariants as refusal
 use Rattle.judging.specs.declared.opened.Standard.{Standard}
 use Rattle.std.specs.Io.KnownBytes.{Appends}
 use Rattle.startup.specs.declared.ending.Verdict.TheVariants.{Failed}
-use Rattle.judging.specs.Checked.{AreJudged, IsFirstBroken, IsFound, IsJudged, IsSaid, arrays_of, refused_line, rules_by}
+use Rattle.judging.specs.Checked.{IsFirstBroken, arrays_of, refused_line, rules_by}
+use Rattle.judging.specs.inside.Checked.{AreJudged, IsFound, IsJudged, IsSaid}
 use Rattle.judging.specs.declared.told.Told.{Told}
 use Rattle.judging.specs.declared.checking.Stop.{Stop}
 

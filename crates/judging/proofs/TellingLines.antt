@@ -13,7 +13,7 @@ use Rattle.std.proofs.lemmas.List.Elements.{All-nil, All-cons, filter-append}
 use Rattle.std.proofs.Math.Seq.{drop-cons}
 use Rattle.machine.specs.declared.Label.{Label}
 use Rattle.label_text.specs.Lines.{Spells, is_told}
-use Rattle.judging.specs.Checked.{IsLineFault, IsTextFault}
+use Rattle.judging.specs.inside.Checked.{IsLineFault, IsTextFault}
 use Rattle.judging.specs.Told.{IsBad, IsFirstBad, numbers_from}
 use Rattle.judging.specs.declared.faults.Fault.{Fault}
 use Rattle.judging.specs.declared.faults.Fault.TheVariants.{Usage, Startup, TraceUnreadable, ScriptUnreadable, BadLine, Script, OutputFailed, NoMemory}

@@ -1,5 +1,5 @@
 -- What is said of a trace, and why nothing is.
-use Rattle.std.specs.Prelude.{◌≡◌, ◌⊎◌, ℕ, Bool, true, false, List, [], ◌∷◌, ◌++◌, Option, None, Some, codes, count_by, length, map, slice_get, take}
+use Rattle.std.specs.Prelude.{◌≡◌, ◌⊎◌, ℕ, Bool, true, false, List, [], ◌∷◌, ◌++◌, Option, Some, codes, count_by, length, map, slice_get, take}
 use Rattle.std.specs.Fmt.{decimal}
 use Rattle.std.specs.Io.KnownBytes.{Appends}
 use Rattle.std.specs.Str.{is_utf8}
@@ -12,7 +12,6 @@ use Rattle.machine.specs.Rules.{Rules}
 use Rattle.machine.specs.Step.{Run}
 use Rattle.judge.specs.Judging.{IsRun, StopsAt}
 use Rattle.judge.specs.Breaking.{Breaks}
-use Rattle.judge.specs.Following.{HasTaken, JudgeView}
 use Rattle.judge.specs.declared.label_rules.Rule.{Rule}
 use Rattle.settings.specs.declared.Config.{Config}
 use Rattle.settings.specs.Medium.{extents_of, zeros}
@@ -20,11 +19,9 @@ use Rattle.startup.specs.Reading.{AreRead, HasFault, IsAllOf}
 use Rattle.startup.specs.Started.{rules_of}
 use Rattle.startup.specs.declared.ending.Verdict.{Verdict}
 use Rattle.startup.specs.declared.ending.Verdict.TheVariants.{Passed, Failed}
-use Rattle.label_text.specs.Lines.{Spells}
 use Rattle.judging.specs.Told.{AreTold, IsFirstBad}
 use Rattle.judging.specs.declared.told.Told.{Told}
 use Rattle.judging.specs.declared.opened.Standard.{Standard}
-use Rattle.judging.specs.declared.checking.Stop.{Stop}
 use Rattle.judging.specs.declared.faults.Fault.{Fault}
 use Rattle.judging.specs.declared.faults.Fault.TheVariants.{Usage, Startup, TraceUnreadable, ScriptUnreadable, BadLine, Script, OutputFailed, NoMemory}
 
@@ -68,15 +65,6 @@ pub record IsFirstBroken (rules : Rules) (arrays : List (List (List ℕ))) (labe
   pub reached : Run rules (opening arrays) (take at labels) state
   pub broken : Breaks rules state label rule
 
--- labels are a run, or these are the first that is broken and its rule
-abbrev pub AreJudged : Rules → List (List (List ℕ)) → List Label → Option (ℕ × Rule) → Type 0
-AreJudged rules arrays labels None = IsRun rules (opening arrays) labels
-AreJudged rules arrays labels (Some found) = IsFirstBroken rules arrays labels found.0 found.1
-
--- the same of a judge that has taken no label, whatever its sectors
-abbrev pub IsFound : JudgeView → List Label → Option (ℕ × Rule) → Type 0
-IsFound judge labels found = (arrays : List (List (List ℕ))) → HasTaken judge arrays [] → AreJudged judge.rules arrays labels found
-
 -- a line that says what the labels of a trace are: a run of the settings' machine, or none from this line on
 abbrev pub Says : Standard → Told → Verdict → List ℕ → Type 0
 Says standard told Passed line = IsRun (rules_by standard) (opening_of standard.config) told.labels.items × (line ≡ legal_line told.labels.items)
@@ -96,42 +84,7 @@ pub record PrintsVerdict (any_cut : Bool) (config trace : Option (List ℕ)) (ol
   pub says : Says (record { config = settings; any_cut = any_cut }) told verdict line
   pub appends : Appends old new line
 
--- what labels are: a run, or none from the label of this place on, which breaks this rule
-abbrev pub IsJudged : Standard → List Label → Option Stop → Type 0
-IsJudged standard labels None = IsRun (rules_by standard) (opening_of standard.config) labels
-IsJudged standard labels (Some stop) = IsFirstBroken (rules_by standard) (arrays_of standard.config) labels stop.at stop.rule
-
--- a line that says what they are was printed
-pub record IsSaid (standard : Standard) (told : Told) (old new : Option (List ℕ)) (verdict : Verdict) : Type 0 where
-  pub line : List ℕ
-  pub says : Says standard told verdict line
-  pub appends : Appends old new line
-
--- the verdict is printed, over whatever gave the settings
-abbrev pub PrintsBy : Standard → Option (List ℕ) → Option (List ℕ) → Option (List ℕ) → Verdict → Type 0
-PrintsBy standard trace old new verdict = (config : Option (List ℕ)) → AreRead config standard.config → PrintsVerdict standard.any_cut config trace old new verdict
-
 -- WHY NOTHING IS SAID
-
--- the line of this number spells no label, or memory was refused
-abbrev pub IsLineFault : List ℕ → ℕ → Fault → Type 0
-IsLineFault text number (BadLine line column) = (line ≡ number) × ((label : Label) → ¬ (Spells text label))
-IsLineFault text number NoMemory = Unit {0}
-IsLineFault text number _ = ⊥
-
--- the first bad line of a text, or want of memory
-abbrev pub IsTextFault : List (List ℕ) → Fault → Type 0
-IsTextFault lines (BadLine line column) = IsFirstBad lines line
-IsTextFault lines NoMemory = Unit {0}
-IsTextFault lines _ = ⊥
-
--- all bytes of a trace could not be had
-abbrev pub IsUnreadTrace : Fault → Type 0
-IsUnreadTrace fault = (fault ≡ TraceUnreadable) ⊎ (fault ≡ NoMemory)
-
--- the output failed, or memory was refused
-abbrev pub IsOutputFault : Fault → Type 0
-IsOutputFault fault = (fault ≡ OutputFailed) ⊎ (fault ≡ NoMemory)
 
 -- the line of this number is blamed: the first bad one, or line 1 of a text that is not UTF-8
 abbrev pub IsBlamed : List ℕ → ℕ → Type 0
@@ -147,7 +100,3 @@ IsCheckFault config trace (BadLine line column) = (settings : Config) × AreRead
 IsCheckFault config trace (Script fault) = ⊥
 IsCheckFault config trace OutputFailed = (settings : Config) × AreRead config settings × ((text : List ℕ) × IsAllOf trace text × (told : Told) × AreTold (lines text) told)
 IsCheckFault config trace NoMemory = Unit {0}
-
--- the same over whatever gave the settings
-abbrev pub IsFaultBy : Standard → Option (List ℕ) → Fault → Type 0
-IsFaultBy standard trace fault = (config : Option (List ℕ)) → AreRead config standard.config → IsCheckFault config trace fault

@@ -3,7 +3,8 @@
 ghost use Rattle.std.specs.Prelude.{◌≡◌, false, true, IfErr, IfOk, OnOk, count_by, length, string_bytes};
 ghost use Rattle.std.specs.Io.KnownBytes.{Appends};
 ghost use Rattle.startup.specs.Reading.{IsAllOf};
-ghost use Rattle.judging.specs.Checked.{IsCheckFault, IsFaultBy, IsFound, IsJudged, IsOutputFault, IsSaid, IsUnreadTrace, PrintsBy, PrintsVerdict, is_call, is_start, legal_line, refused_line};
+ghost use Rattle.judging.specs.Checked.{IsCheckFault, PrintsVerdict, is_call, is_start, legal_line, refused_line};
+ghost use Rattle.judging.specs.inside.Checked.{IsFaultBy, IsFound, IsJudged, IsOutputFault, IsSaid, IsUnreadTrace, PrintsBy};
 ghost use Rattle.judging.specs.declared.faults.Fault.TheVariants.{NoMemory};
 
 use crate::Fault;

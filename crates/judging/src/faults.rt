@@ -1,7 +1,7 @@
 //! Why the program ends early.
 
 ghost use Rattle.std.specs.Prelude.{◌≡◌};
-ghost use Rattle.judging.specs.Faults.{is_usage};
+ghost use Rattle.judging.specs.inside.Faults.{is_usage};
 ghost use Rattle.startup.specs.declared.faults.Fault.TheVariants.{Start};
 ghost use Rattle.judging.specs.declared.faults.Fault.TheVariants.{NoMemory, Script, Startup};
 
@@ -46,7 +46,7 @@ impl Ending for Fault {
 /// The line that the program says, without its end.
 impl fmt::Display for Fault {
     ghost use Rattle.std.specs.Prelude.{Some};
-    ghost use Rattle.judging.specs.Faults.{line_of};
+    ghost use Rattle.judging.specs.inside.Faults.{line_of};
 
     ghost output = { λ fault. Some (line_of fault) };
 
@@ -117,7 +117,7 @@ impl From<ScriptFault> for Fault {
 /// What a failed write means: a writer that holds what it is given may want memory.
 impl From<io::Error> for Fault {
     ghost use Rattle.std.specs.IoError.{error_kind};
-    ghost use Rattle.judging.specs.Faults.{IsOfWrite};
+    ghost use Rattle.judging.specs.inside.Faults.{IsOfWrite};
 
     ghost from_gives = { λ error fault. IsOfWrite (error_kind error) fault };
 

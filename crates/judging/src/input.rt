@@ -31,7 +31,7 @@ impl<F: Read + Drop> Input<F> {
 }
 
 impl<F: Read + Drop> Read for Input<F> {
-    ghost use Rattle.judging.specs.Input.{remaining_of};
+    ghost use Rattle.judging.specs.inside.Input.{remaining_of};
 
     ghost remaining = { remaining_of F.remaining };
 

@@ -3,7 +3,7 @@
 ghost use Rattle.std.specs.Prelude.{◌≡◌, ◌∷◌, [], ◌++◌, IfErr, IfOk, OnOk, length};
 ghost use Rattle.std.specs.Str.Lines.{lines};
 ghost use Rattle.label_text.specs.Lines.{Spells};
-ghost use Rattle.judging.specs.Checked.{IsLineFault, IsTextFault};
+ghost use Rattle.judging.specs.inside.Checked.{IsLineFault, IsTextFault};
 ghost use Rattle.judging.specs.Told.{AreTold};
 
 use crate::Fault;

@@ -4,7 +4,7 @@ use Rattle.std.specs.Option.{option_and_then, option_map}
 use Rattle.std.proofs.lemmas.Bool.Decides.{nat_tests}
 use Rattle.std.proofs.lemmas.List.Elements.{All-cons, All-nil, All-head, All-tail}
 use Rattle.label_text.specs.Runs.{digit_of, hex_bytes, hex_of}
-use Rattle.label_text.specs.Reading.{byte_in, byte_of, bytes_in, digit_in}
+use Rattle.label_text.specs.inside.Reading.{byte_in, byte_of, bytes_in, digit_in}
 use Rattle.label_text.proofs.Numbers.{IsAbove}
 use Rattle.label_text.proofs.Found.{map_some, then_some_of}
 

@@ -1,7 +1,7 @@
 -- What follows where something was found.
 use Rattle.std.proofs.Common.{◌≡◌, Bool, List, [], ◌∷◌, ℕ, Option, Some, None, ap, cond, drop, false, true, refl, slice_get}
 use Rattle.std.specs.Option.{option_and_then, option_map}
-use Rattle.label_text.specs.Reading.{at_end}
+use Rattle.label_text.specs.inside.Reading.{at_end}
 
 pub then_some_of : {A B : Type 0} (f : A → Option B) (found : Option A) (y : B) → option_and_then f found ≡ Some y → (x : A) × (found ≡ Some x) × (f x ≡ Some y)
 then_some_of f None y h = absurd (cc (h))

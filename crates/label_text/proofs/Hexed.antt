@@ -5,7 +5,7 @@ use Rattle.std.proofs.lemmas.Bool.Decides.{nat_tests}
 use Rattle.std.specs.Io.KnownBytes.{Appends}
 use Rattle.std.specs.Option.{option_and_then, option_map}
 use Rattle.label_text.specs.Runs.{hex_bytes, hex_of}
-use Rattle.label_text.specs.Reading.{block_in, byte_of, bytes_in, short_block}
+use Rattle.label_text.specs.inside.Reading.{block_in, byte_of, bytes_in, short_block}
 use Rattle.label_text.proofs.Printed.{both, nothing}
 
 -- the digits of all bytes are written but for those of the rest

@@ -9,8 +9,8 @@ use Rattle.std.proofs.Math.ListN.{drop_of_length-le}
 use Rattle.std.specs.Bool.{⊤}
 use Rattle.std.specs.Io.KnownBytes.{Appends}
 use Rattle.label_text.specs.Runs.{Run, expanded, joined, runs_of, run_text, runs_text}
-use Rattle.label_text.specs.Spacing.{comma}
-use Rattle.label_text.specs.Reading.{is_last, may_follow}
+use Rattle.label_text.specs.inside.Spacing.{comma}
+use Rattle.label_text.specs.inside.Reading.{is_last, may_follow}
 use Rattle.label_text.proofs.Printed.{both, nothing}
 
 abbrev pub run : ℕ → ℕ → Run

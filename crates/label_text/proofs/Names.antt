@@ -7,7 +7,7 @@ use Rattle.std.proofs.lemmas.Slice.Eq.{bytes_eq-Decides}
 use Rattle.ntstatus.specs.declared.NtStatus.{NtStatus}
 use Rattle.ntstatus.specs.declared.NtStatus.TheVariants.{Success, Pending, DeviceBusy, InvalidHandle, InvalidParameter, NoSuchDevice, InvalidDeviceRequest, NonexistentSector, MoreProcessingRequired, DeletePending, InsufficientResources, DeviceDataError, MediaWriteProtected, DeviceNotReady, Cancelled, IoDeviceError, NotFound}
 use Rattle.ntstatus.specs.Codes.{name_of}
-use Rattle.label_text.specs.Reading.{status_in, statuses}
+use Rattle.label_text.specs.inside.Reading.{status_in, statuses}
 
 pub status_is : (s : NtStatus) → status_in (name_of s) ≡ Some s
 status_is Success = refl

@@ -11,7 +11,7 @@ use Rattle.std.proofs.lemmas.Fmt.{decimal_is_IsNumeral_wide, parse-decimal_wide}
 use Rattle.std.proofs.lemmas.List.Elements.{All-cons, All-nil}
 use Rattle.std.proofs.lemmas.Slice.Eq.{bytes_eq-Decides}
 use Rattle.std.proofs.lemmas.Str.Parse.{digit_from_value}
-use Rattle.label_text.specs.Reading.{number_in}
+use Rattle.label_text.specs.inside.Reading.{number_in}
 
 -- all bytes are above this one
 abbrev pub IsAbove : ℕ → List ℕ → Type 0

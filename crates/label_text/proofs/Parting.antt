@@ -3,7 +3,7 @@ use Rattle.std.proofs.Common.{◌≡◌, ◌<◌, ◌==◌, ◌+◌, ◌∙◌, 
 use Rattle.std.specs.List.{position_or_len, before_first, after_first, onto_first, join_with_byte}
 use Rattle.std.proofs.lemmas.List.Splits.{slice_split_at, slice_split_first, slice_split_none}
 use Rattle.std.proofs.lemmas.List.Elements.{All-head, All-tail}
-use Rattle.label_text.specs.Reading.{parted}
+use Rattle.label_text.specs.inside.Reading.{parted}
 
 -- the byte stands nowhere in a part
 abbrev pub IsFree : ℕ → List ℕ → Type 0

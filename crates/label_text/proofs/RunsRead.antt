@@ -7,7 +7,7 @@ use Rattle.std.proofs.lemmas.Bool.Decides.{nat_tests}
 use Rattle.std.proofs.lemmas.List.Elements.{All-append, All-cons, All-nil, All-head, All-tail, All-weaker}
 use Rattle.std.proofs.lemmas.List.Splits.{join_with_byte-slice_split}
 use Rattle.label_text.specs.Runs.{AreBytes, IsShort, Run, expanded, hex_of, run_text, runs_of, runs_text}
-use Rattle.label_text.specs.Reading.{at_end, byte_at, byte_in, bytes_after, may_follow, number_at, number_in, parted, run_at, run_in, runs_in}
+use Rattle.label_text.specs.inside.Reading.{at_end, byte_at, byte_in, bytes_after, may_follow, number_at, number_in, parted, run_at, run_in, runs_in}
 use Rattle.label_text.proofs.Digits.{hex_above, hex_is, hex_some}
 use Rattle.label_text.proofs.Found.{end_some, first_is, if_some, map_some, then_some_of}
 use Rattle.label_text.proofs.Numbers.{IsAbove, decimal_above, number_is, number_some}

@@ -3,7 +3,7 @@ use Rattle.std.proofs.Common.{◌≡◌, ◌++◌, ◌∙◌, ℕ, List, [], ◌
 use Rattle.std.proofs.lemmas.List.{append_assoc, append-nil}
 use Rattle.std.specs.Option.{option_and_then, option_map}
 use Rattle.label_text.specs.Runs.{Run}
-use Rattle.label_text.specs.Reading.{bytes_after, may_follow, parted, run_in, runs_in}
+use Rattle.label_text.specs.inside.Reading.{bytes_after, may_follow, parted, run_in, runs_in}
 
 -- what is read of a word begins with these bytes
 abbrev pub AreTaken : List ℕ → List ℕ → Option ℕ → List (List ℕ) → Type 0

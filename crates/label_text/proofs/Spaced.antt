@@ -3,7 +3,7 @@ use Rattle.std.proofs.Common.{◌≡◌, ◌++◌, ◌∙◌, ℕ, List, [], ◌
 use Rattle.std.specs.List.{join_with_byte}
 use Rattle.std.proofs.lemmas.List.{append_assoc}
 use Rattle.label_text.specs.Lines.{Words, line_end}
-use Rattle.label_text.specs.Spacing.{spaced, spaced_before}
+use Rattle.label_text.specs.inside.Spacing.{spaced, spaced_before}
 
 -- a word and those behind it are a line
 pub line_is : (verb : List ℕ) (words : Words) → verb ++ spaced words ≡ join_with_byte 32 (verb ∷ words) ++ line_end

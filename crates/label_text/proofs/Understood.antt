@@ -21,7 +21,7 @@ use Rattle.machine.specs.declared.Label.{Label}
 use Rattle.machine.specs.declared.Label.TheVariants.{Call, Device, Answer, Cancel, Pause, Resume, Remove, Surprise, Removed}
 use Rattle.label_text.specs.Runs.{AreBytes, hex_bytes, hex_of}
 use Rattle.label_text.specs.Lines.{BlockFits, ClassFits, Fits, PartitionFits, SenseFits, Spells, Words, block_words, class_words, extent_words, kind_word, partition_word, runs_words, sense_words, through_words, words_of}
-use Rattle.label_text.specs.Reading.{act_at, answer_at, at_end, behind, behind_extent, behind_head, behind_placed, block_at, block_in, byte_at, byte_in, bytes_at, bytes_in, call_at, cancel_at, class_at, class_by, completion_at, extent_at, fault_at, flushed_at, head_at, in_partition_at, is_next, is_some_extent, kind_in, label_at, label_by, label_in, number_at, number_in, outcome_at, parted, partition_in, placed_at, return_at, runs_in, sense_at, sense_behind, sense_from, short_block, short_by, start_at, status_in, tag_at, two_at, with_bytes}
+use Rattle.label_text.specs.inside.Reading.{act_at, answer_at, at_end, behind, behind_extent, behind_head, behind_placed, block_at, block_in, byte_at, byte_in, bytes_at, bytes_in, call_at, cancel_at, class_at, class_by, completion_at, extent_at, fault_at, flushed_at, head_at, in_partition_at, is_next, is_some_extent, kind_in, label_at, label_by, label_in, number_at, number_in, outcome_at, parted, partition_in, placed_at, return_at, runs_in, sense_at, sense_behind, sense_from, short_block, short_by, start_at, status_in, tag_at, two_at, with_bytes}
 use Rattle.label_text.specs.declared.reading.Head.{Head}
 use Rattle.label_text.proofs.Digits.{hex_bytes_some, hex_some}
 use Rattle.label_text.proofs.Found.{end_some, first_is, if_none, if_some, map_some, then_some_of}

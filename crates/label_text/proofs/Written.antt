@@ -21,7 +21,7 @@ use Rattle.machine.specs.declared.Label.{Label}
 use Rattle.machine.specs.declared.Label.TheVariants.{Call, Device, Answer, Cancel, Pause, Resume, Remove, Surprise, Removed}
 use Rattle.label_text.specs.Runs.{AreBytes, digit_of, hex_bytes, hex_of, runs_of, runs_text}
 use Rattle.label_text.specs.Lines.{BlockFits, ClassFits, Fits, PartitionFits, RequestFits, SenseFits, Words, block_words, class_words, extent_words, kind_word, partition_word, request_words, runs_words, sense_words, through_words, verb_of, words_behind, words_of}
-use Rattle.label_text.specs.Reading.{behind, behind_extent, behind_head, behind_placed, block_at, byte_in, bytes_at, bytes_in, class_at, extent_at, flushed_at, head_at, in_partition_at, is_next, is_some_extent, kind_in, label_at, number_in, partition_in, placed_at, sense_at, sense_behind, short_block, status_in, two_at, with_bytes}
+use Rattle.label_text.specs.inside.Reading.{behind, behind_extent, behind_head, behind_placed, block_at, byte_in, bytes_at, bytes_in, class_at, extent_at, flushed_at, head_at, in_partition_at, is_next, is_some_extent, kind_in, label_at, number_in, partition_in, placed_at, sense_at, sense_behind, short_block, status_in, two_at, with_bytes}
 use Rattle.label_text.specs.declared.reading.Head.{Head}
 use Rattle.label_text.proofs.Digits.{hex_above, hex_bytes_above, hex_bytes_is, hex_is}
 use Rattle.label_text.proofs.Names.{status_is}

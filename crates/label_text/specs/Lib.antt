@@ -1,5 +1,4 @@
 pub mod Runs
 pub mod Lines
-pub mod Spacing
 pub mod Faults
-pub mod Reading
+pub mod inside

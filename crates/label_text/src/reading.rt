@@ -6,7 +6,7 @@ ghost use Rattle.machine.specs.declared.Label.{Label};
 ghost use Rattle.label_text.specs.declared.LineFault.TheVariants.{NoMemory};
 ghost use Rattle.label_text.specs.Faults.{IsFaultOf};
 ghost use Rattle.label_text.specs.Lines.{Spells, is_told};
-ghost use Rattle.label_text.specs.Reading.{act_at, answer_at, at_end, behind_extent, behind_head, block_at, block_in, bytes_at, call_at, cancel_at, class_at, completion_at, extent_at, fault_at, head_at, in_partition_at, kind_in, label_at, named, outcome_at, partition_in, place_of, return_at, sense_at, sense_behind, sense_from, short_by, start_at, status_in, tag_at, two_at};
+ghost use Rattle.label_text.specs.inside.Reading.{act_at, answer_at, at_end, behind_extent, behind_head, block_at, block_in, bytes_at, call_at, cancel_at, class_at, completion_at, extent_at, fault_at, head_at, in_partition_at, kind_in, label_at, named, outcome_at, partition_in, place_of, return_at, sense_at, sense_behind, sense_from, short_by, start_at, status_in, tag_at, two_at};
 
 use crate::LineFault;
 use crate::runs::expanded;

@@ -4,8 +4,8 @@ ghost use Rattle.std.specs.Prelude.{◌≡◌, ◌≢◌, ◌<◌, ◌≤◌, �
 ghost use Rattle.std.specs.Fmt.{decimal};
 ghost use Rattle.std.specs.Io.KnownBytes.{Appends};
 ghost use Rattle.label_text.specs.Runs.{hex_of, runs_of, runs_text};
-ghost use Rattle.label_text.specs.Spacing.{comma};
-ghost use Rattle.label_text.specs.Reading.{may_follow, run_in, run_told, runs_in};
+ghost use Rattle.label_text.specs.inside.Spacing.{comma};
+ghost use Rattle.label_text.specs.inside.Reading.{may_follow, run_in, run_told, runs_in};
 
 use crate::words::Words;
 use crate::writing::{write_byte, write_number};

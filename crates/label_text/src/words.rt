@@ -2,7 +2,7 @@
 
 ghost use Rattle.std.specs.Prelude.{◌≡◌, ◌<◌, ℕ, List, IfSome, drop, option_copied, slice_get};
 ghost use Rattle.std.specs.Str.{bytes_eq};
-ghost use Rattle.label_text.specs.Reading.{behind, byte_at, byte_in, byte_of, digit_in, is_end, is_next, number_at, number_in, parted, parts_left, SplitsFirst, TakesFirst};
+ghost use Rattle.label_text.specs.inside.Reading.{behind, byte_at, byte_in, byte_of, digit_in, is_end, is_next, number_at, number_in, parted, parts_left, SplitsFirst, TakesFirst};
 
 use itoa::{Buffer, Integer};
 use std::marker::Model;

@@ -8,7 +8,7 @@ ghost use Rattle.machine.specs.declared.Label.TheVariants.{Device};
 ghost use Rattle.srb.specs.declared.Class.TheVariants.{Bad};
 ghost use Rattle.label_text.specs.Runs.{digit_of, hex_bytes, hex_of};
 ghost use Rattle.label_text.specs.Lines.{Fits, Spells, block_words, class_words, extent_words, kind_word, line_end, line_of, partition_word, request_words, runs_words, sense_words, through_words, verb_of, words_behind};
-ghost use Rattle.label_text.specs.Spacing.{spaced, spaced_before};
+ghost use Rattle.label_text.specs.inside.Spacing.{spaced, spaced_before};
 
 use crate::runs::write_runs;
 use itoa::{Buffer, Integer};

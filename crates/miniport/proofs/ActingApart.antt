@@ -19,7 +19,7 @@ use Rattle.adapter.specs.View.{TagInUse, AdapterView, IsInOrder, IsOn, IsAsBooke
 use Rattle.adapter.specs.Calls.{IsBooked, ActsOrFaults, ActsNot}
 use Rattle.adapter.specs.Booking.{MayBeOf, IsOfSrb}
 use Rattle.adapter.proofs.Booked.{on_tag_once, is_there}
-use Rattle.disk.specs.Chunks.{All-first_chunks}
+use Rattle.disk.specs.inside.Chunks.{All-first_chunks}
 use Rattle.disk.specs.Medium.{MediumView, HasWholeSectors}
 use Rattle.disk.proofs.Cutting.{length-first_chunks, concat-first_chunks}
 use Rattle.miniport.specs.declared.on_tag.OnTag.{OnTag}
@@ -28,13 +28,15 @@ use Rattle.miniport.specs.declared.on_tag.Booking.{Booking}
 use Rattle.miniport.specs.declared.on_tag.Booking.TheVariants.{Nothing, Bytes, Failure}
 use Rattle.miniport.specs.declared.carrying.Outcome.{Outcome}
 use Rattle.miniport.specs.declared.carrying.Outcome.TheVariants.{Moved, Failed}
-use Rattle.miniport.specs.Apart.{apart, EndsFailed, EndsUnbooked, EndsAsBooked, ActsApartIn, moved_as_booked}
+use Rattle.miniport.specs.Apart.{apart}
+use Rattle.miniport.specs.inside.Apart.{EndsFailed, EndsUnbooked, EndsAsBooked, ActsApartIn, moved_as_booked}
 use Rattle.miniport.specs.Carrying.{disk_of}
 use Rattle.miniport.specs.Faults.{Disk, fault_of, fault_of_command, is_execute, is_past_end, is_write, fits, invalid_request, error}
 use Rattle.miniport.specs.Moving.{moved_by}
 use Rattle.miniport.specs.Once.{hardware_error}
-use Rattle.miniport.specs.Slots.{Table, piece_at, in_use_of, tags_of, has_bytes, with_slot, with_moved, with_failed}
-use Rattle.miniport.specs.Memory.{MemView, AdapterKept, HasBooked, shown_of, view_of, PutsBack, ActsNotIn}
+use Rattle.miniport.specs.inside.Slots.{Table, piece_at, in_use_of, tags_of, has_bytes, with_slot, with_moved, with_failed}
+use Rattle.miniport.specs.Memory.{MemView, shown_of, view_of}
+use Rattle.miniport.specs.inside.Memory.{AdapterKept, HasBooked, PutsBack, ActsNotIn}
 use Rattle.miniport.proofs.Acts.{is_below, table_moved, table_failed, whole_bytes, acts_not}
 use Rattle.miniport.proofs.Bad.{fault_is_bad}
 use Rattle.miniport.proofs.Keeping.{in_order, moved_piece, failed_piece, move_kept, fail_kept}

@@ -19,8 +19,9 @@ use Rattle.miniport.specs.declared.carrying.Outcome.TheVariants.{Moved, Failed}
 use Rattle.adapter.specs.Calls.{ActsOrFaults, ActsNot}
 use Rattle.miniport.specs.Carrying.{disk_of, emptied}
 use Rattle.miniport.specs.Moving.{moved_by}
-use Rattle.miniport.specs.Slots.{Table, HasNoneUntouched, piece_at, in_use_of, fate_of, tags_of, with_slot, with_moved, with_failed}
-use Rattle.miniport.specs.Memory.{AdapterKept, shown_of, view_of, ActsByTable, PutsBack, ActsIn, ActsNotIn}
+use Rattle.miniport.specs.inside.Slots.{Table, HasNoneUntouched, piece_at, in_use_of, fate_of, tags_of, with_slot, with_moved, with_failed}
+use Rattle.miniport.specs.Memory.{shown_of, view_of, ActsByTable}
+use Rattle.miniport.specs.inside.Memory.{AdapterKept, PutsBack, ActsIn, ActsNotIn}
 use Rattle.miniport.proofs.Bad.{fault_is_bad}
 use Rattle.miniport.proofs.Keeping.{moved_piece, failed_piece, move_kept, fail_kept}
 use Rattle.adapter.proofs.Performing.{Performs-length}

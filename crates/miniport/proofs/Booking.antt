@@ -11,7 +11,7 @@ use Rattle.disk.specs.Medium.{MediumView}
 use Rattle.miniport.specs.declared.on_tag.OnTag.{OnTag}
 use Rattle.miniport.specs.declared.on_tag.Progress.{Progress}
 use Rattle.miniport.specs.declared.on_tag.Progress.TheVariants.{Untouched}
-use Rattle.miniport.specs.Slots.{Table, HasNoneUntouched, piece_at, in_use_of, tags_of, fate_of}
+use Rattle.miniport.specs.inside.Slots.{Table, HasNoneUntouched, piece_at, in_use_of, tags_of, fate_of}
 use Rattle.miniport.specs.Memory.{MemView, shown_of, view_of}
 use Rattle.miniport.proofs.TagsInUse.{taken_first}
 use Rattle.miniport.proofs.Acts.{none_fresh}

@@ -15,9 +15,11 @@ use Rattle.miniport.specs.declared.on_tag.OnTag.{OnTag}
 use Rattle.miniport.specs.declared.on_tag.Progress.{Progress}
 use Rattle.miniport.specs.declared.on_tag.Progress.TheVariants.{Untouched}
 use Rattle.miniport.specs.declared.on_tag.Booking.TheVariants.{Bytes, Failure}
-use Rattle.miniport.specs.Apart.{apart, SuitsPiece, CanBook, CannotBook, BooksIn}
-use Rattle.miniport.specs.Slots.{Table, piece_at, in_use_of, tags_of, fate_of, booked_piece, with_slot}
-use Rattle.miniport.specs.Memory.{MemView, AdapterKept, IsPieceRight, HasBooked, failures_left, left_by, shown_of, view_of}
+use Rattle.miniport.specs.Apart.{apart}
+use Rattle.miniport.specs.inside.Apart.{SuitsPiece, CanBook, CannotBook, BooksIn}
+use Rattle.miniport.specs.inside.Slots.{Table, piece_at, in_use_of, tags_of, fate_of, booked_piece, with_slot}
+use Rattle.miniport.specs.Memory.{MemView, shown_of, view_of}
+use Rattle.miniport.specs.inside.Memory.{AdapterKept, IsPieceRight, HasBooked, failures_left, left_by}
 use Rattle.miniport.proofs.TagsInUse.{taken_first, tags_differ}
 use Rattle.miniport.proofs.Pieces.{pieces_set, left_after_set}
 use Rattle.miniport.proofs.Keeping.{in_order}

@@ -7,8 +7,9 @@ use Rattle.adapter.specs.View.{IsInOrder}
 use Rattle.adapter.specs.Calls.{ActsOrFaults, ActsNot}
 use Rattle.disk.specs.Medium.{MediumView, HasWholeSectors}
 use Rattle.miniport.specs.declared.on_tag.OnTag.{OnTag}
-use Rattle.miniport.specs.Slots.{Table, Fails, HasNoneUntouched, in_use_of, tags_of, with_failed}
-use Rattle.miniport.specs.Memory.{MemView, AdapterKept, FailsWith, shown_of, view_of}
+use Rattle.miniport.specs.inside.Slots.{Table, Fails, HasNoneUntouched, in_use_of, tags_of, with_failed}
+use Rattle.miniport.specs.Memory.{MemView, FailsWith, shown_of, view_of}
+use Rattle.miniport.specs.inside.Memory.{AdapterKept}
 use Rattle.miniport.proofs.Acts.{is_below, none_fresh, table_failed}
 use Rattle.miniport.proofs.Keeping.{failed_piece, fail_kept, in_order}
 use Rattle.miniport.proofs.Showing.{not_booked, faults, fails_by}

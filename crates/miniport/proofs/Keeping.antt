@@ -14,8 +14,9 @@ use Rattle.miniport.specs.declared.on_tag.Progress.{Progress}
 use Rattle.miniport.specs.declared.on_tag.Progress.TheVariants.{Untouched, Moved, Failed}
 use Rattle.miniport.specs.Carrying.{IsReady, emptied}
 use Rattle.miniport.specs.Moving.{moved_by}
-use Rattle.miniport.specs.Slots.{Table, piece_at, new_piece, with_new, with_moved, with_failed, with_returned, with_reset, slot_after_reset, labels_of_reset}
-use Rattle.miniport.specs.Memory.{AdapterKept, IsPieceRight, ArePiecesRight, failures_left, left_by, shown_of}
+use Rattle.miniport.specs.inside.Slots.{Table, piece_at, new_piece, with_new, with_moved, with_failed, with_returned, with_reset, slot_after_reset, labels_of_reset}
+use Rattle.miniport.specs.Memory.{shown_of}
+use Rattle.miniport.specs.inside.Memory.{AdapterKept, IsPieceRight, ArePiecesRight, failures_left, left_by}
 use Rattle.miniport.proofs.TagsInUse.{tags_below, tags_differ, is_used}
 use Rattle.miniport.proofs.Pieces.{pieces_set, pieces_emptied, pieces_along, more_failures, other_medium, pieces_reset, left_after_set, left_after_reset}
 use Rattle.miniport.proofs.Resetting.{few_labels}

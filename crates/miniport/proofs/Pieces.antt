@@ -14,8 +14,8 @@ use Rattle.miniport.specs.declared.on_tag.Progress.{Progress}
 use Rattle.miniport.specs.declared.on_tag.Progress.TheVariants.{Untouched, Moved, Failed}
 use Rattle.miniport.specs.Faults.{bus_reset}
 use Rattle.miniport.specs.Carrying.{IsReady}
-use Rattle.miniport.specs.Slots.{piece_at, slot_after_reset, progress_after_reset, failures_of_reset}
-use Rattle.miniport.specs.Memory.{IsPieceRight, ArePiecesRight, failures_left, left_by}
+use Rattle.miniport.specs.inside.Slots.{piece_at, slot_after_reset, progress_after_reset, failures_of_reset}
+use Rattle.miniport.specs.inside.Memory.{IsPieceRight, ArePiecesRight, failures_left, left_by}
 
 -- a slot that is set to something right
 pub pieces_set : (m : MediumView) (f : ℕ) (slots : List (Option OnTag)) (i : ℕ) (on : OnTag) → ArePiecesRight m f slots → IsPieceRight m f on

@@ -17,7 +17,7 @@ use Rattle.miniport.specs.declared.on_tag.OnTag.{OnTag}
 use Rattle.miniport.specs.declared.on_tag.Progress.{Progress}
 use Rattle.miniport.specs.declared.on_tag.Progress.TheVariants.{Untouched, Moved, Failed}
 use Rattle.adapter.specs.Calls.{Resets, after_reset, srb_after_reset, fate_after_reset, is_fresh_use, fault_of}
-use Rattle.miniport.specs.Slots.{Table, piece_at, in_use_of, fate_of, tags_of, labels_by, slot_completion, slot_after_reset, progress_after_reset, failures_of_reset, labels_of_reset, with_reset}
+use Rattle.miniport.specs.inside.Slots.{Table, piece_at, in_use_of, fate_of, tags_of, labels_by, slot_completion, slot_after_reset, progress_after_reset, failures_of_reset, labels_of_reset, with_reset}
 use Rattle.miniport.specs.Memory.{shown_of, view_of, is_unmet, due_after_reset, ResetsAll}
 use Rattle.miniport.specs.Faults.{bus_reset}
 use Rattle.adapter.proofs.Joining.{reserves_none, unspoiled}

@@ -9,7 +9,7 @@ use Rattle.srb.specs.declared.DeviceLabel.{DeviceLabel}
 use Rattle.miniport.specs.declared.on_tag.OnTag.{OnTag}
 use Rattle.miniport.specs.declared.on_tag.Progress.{Progress}
 use Rattle.miniport.specs.declared.on_tag.Progress.TheVariants.{Untouched, Moved, Failed}
-use Rattle.miniport.specs.Slots.{Table, piece_at, labels_by, slot_after_reset, failures_of_reset, labels_of_reset, with_slot, with_reset_counted, with_reset_at, with_first_reset}
+use Rattle.miniport.specs.inside.Slots.{Table, piece_at, labels_by, slot_after_reset, failures_of_reset, labels_of_reset, with_slot, with_reset_counted, with_reset_at, with_first_reset}
 
 -- the piece taken off its tag, counted and put back
 pub reset_one : (t : Table) (tag : ℕ) (on after : OnTag) → piece_at t.slots tag ≡ Some on → Some after ≡ slot_after_reset (Some on)

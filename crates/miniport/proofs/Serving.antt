@@ -10,8 +10,9 @@ use Rattle.disk.specs.Medium.{MediumView, HasWholeSectors, Reserves as MediumRes
 use Rattle.miniport.specs.declared.on_tag.OnTag.{OnTag}
 use Rattle.adapter.specs.Calls.{ActsOrFaults, ActsNot, Finishes, FinishesNot, Resets}
 use Rattle.miniport.specs.Faults.{busy}
-use Rattle.miniport.specs.Slots.{Table, ComesBack, piece_at, tags_of, completion_of, with_new, with_returned, with_reset}
-use Rattle.miniport.specs.Memory.{MemView, AdapterKept, shown_of, view_of, Dues, SameDues, ActsByTable, ActsIn, ActsNotIn, ResetsAll}
+use Rattle.miniport.specs.inside.Slots.{Table, ComesBack, piece_at, tags_of, completion_of, with_new, with_returned, with_reset}
+use Rattle.miniport.specs.Memory.{MemView, shown_of, view_of, Dues, SameDues, ActsByTable, ResetsAll}
+use Rattle.miniport.specs.inside.Memory.{AdapterKept, ActsIn, ActsNotIn}
 use Rattle.miniport.proofs.Acts.{LeftByAct, act_leaves, acts_not, is_below}
 use Rattle.miniport.proofs.Keeping.{in_order, empty_slot, accept_kept, finish_kept, reset_kept, is_short}
 use Rattle.miniport.proofs.Pieces.{pieces_along, other_medium}

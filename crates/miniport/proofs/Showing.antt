@@ -21,8 +21,9 @@ use Rattle.adapter.specs.Calls.{Finishes, IsBooked}
 use Rattle.miniport.specs.Carrying.{emptied, disk_of}
 use Rattle.miniport.specs.Faults.{fault_of, Decodes, success, busy, bus_reset}
 use Rattle.miniport.specs.Moving.{moved_by}
-use Rattle.miniport.specs.Slots.{Table, piece_at, in_use_of, fate_of, tags_of, new_piece, with_new, with_moved, with_failed, with_returned, completion_of, completion_by, slot_completion}
-use Rattle.miniport.specs.Memory.{shown_of, view_of, new_view, Dues, ActsByTable, EndsBy, IsPieceRight}
+use Rattle.miniport.specs.inside.Slots.{Table, piece_at, in_use_of, fate_of, tags_of, new_piece, with_new, with_moved, with_failed, with_returned, completion_of, completion_by, slot_completion}
+use Rattle.miniport.specs.Memory.{shown_of, view_of, new_view, Dues, ActsByTable, EndsBy}
+use Rattle.miniport.specs.inside.Memory.{IsPieceRight}
 use Rattle.miniport.proofs.TagsInUse.{taken_first, filled}
 use Rattle.miniport.proofs.Keeping.{moved_piece, failed_piece}
 

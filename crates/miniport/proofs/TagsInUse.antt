@@ -9,7 +9,7 @@ use Rattle.std.proofs.lemmas.List.Sorted.{IsPermutation-refl, IsPermutation-cons
 use Rattle.adapter.specs.View.{TagInUse, HasTag, HasNotTag, HaveOtherTags, IsBelow}
 use Rattle.miniport.specs.declared.on_tag.OnTag.{OnTag}
 use Rattle.adapter.specs.Calls.{tag_of, is_fresh_use}
-use Rattle.miniport.specs.Slots.{piece_at, in_use_of, tags_of}
+use Rattle.miniport.specs.inside.Slots.{piece_at, in_use_of, tags_of}
 
 -- a piece among the tags in use, and the others
 pub taken : (size k : ℕ) (slots : List (Option OnTag)) (i : ℕ) (on : OnTag) → piece_at slots i ≡ Some on

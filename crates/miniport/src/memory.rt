@@ -6,11 +6,12 @@ ghost use Rattle.miniport.specs.declared.on_tag.Progress.TheVariants.{Untouched}
 ghost use Rattle.std.specs.Prelude.{◌==◌, true, Some};
 ghost use Rattle.std.specs.Bool.{Decides};
 ghost use Rattle.adapter.specs.Booking.{handed};
-ghost use Rattle.miniport.specs.Apart.{CanBook, CannotBook, BooksIn, ActsApartIn, EndsAsBooked, EndsUnbooked, SuitsPiece, failed_as, moved_as_booked as as_moved};
-ghost use Rattle.miniport.specs.Slots.{with_moved, with_failed, piece_at};
+ghost use Rattle.miniport.specs.inside.Apart.{CanBook, CannotBook, BooksIn, ActsApartIn, EndsAsBooked, EndsUnbooked, SuitsPiece, failed_as, moved_as_booked as as_moved};
+ghost use Rattle.miniport.specs.inside.Slots.{with_moved, with_failed, piece_at};
 ghost use Rattle.miniport.specs.declared.on_tag.OnTag.{OnTag};
 ghost use Rattle.miniport.specs.Carrying.{IsReady, emptied, sizes_of};
-ghost use Rattle.miniport.specs.Memory.{MemView, view_of, new_view, AdapterKept, PutsBack, ActsIn, ActsNotIn};
+ghost use Rattle.miniport.specs.Memory.{MemView, view_of, new_view};
+ghost use Rattle.miniport.specs.inside.Memory.{AdapterKept, PutsBack, ActsIn, ActsNotIn};
 
 use crate::carrying::{Outcome, carry_out};
 use crate::check::Sizes;

@@ -37,7 +37,7 @@ pub(crate) struct OnTag {
 }
 
 impl OnTag {
-    ghost use Rattle.miniport.specs.Slots.{completion_of};
+    ghost use Rattle.miniport.specs.inside.Slots.{completion_of};
 
     /// The completion with which the piece would come back now.
     pub fn completion(&self) -> Completion

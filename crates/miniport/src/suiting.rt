@@ -5,7 +5,7 @@ ghost use Rattle.std.specs.Bool.{Decides};
 ghost use Rattle.srb.specs.declared.Class.TheVariants.{Bad};
 ghost use Rattle.srb.specs.Fate.{class_of};
 ghost use Rattle.adapter.specs.Booking.{IsOfSrb, Suits, handed};
-ghost use Rattle.miniport.specs.Suiting.{agree, is_at, is_as_long, is_transfer_of, is_flush_of, may_be_of};
+ghost use Rattle.miniport.specs.inside.Suiting.{agree, is_at, is_as_long, is_transfer_of, is_flush_of, may_be_of};
 
 use crate::check::Sizes;
 use cdb::{Cdb, decode};

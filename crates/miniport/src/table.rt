@@ -3,11 +3,11 @@
 ghost use Rattle.std.specs.Prelude.{◌≡◌, ◌≤◌, ◌<◌, ◌^◌, ◌+◌, ◌++◌, ◌∷◌, [], List, ℕ, Some, None, is_some, IsTrue, IfOk, length, replicate, get_or, vec_len, Ok, MatchBool, MatchOption, if◌then◌else◌};
 ghost use Rattle.std.specs.VecDeque.{deque_len, deque_capacity};
 ghost use Rattle.srb.specs.declared.DeviceLabel.{DeviceLabel};
-ghost use Rattle.miniport.specs.Slots.{Table, ComesBack, Fails, HasNoneUntouched, piece_at, progress_after_reset, labels_by, slot_after_reset, with_reset_counted, with_slot, with_new, with_moved, with_failed, with_returned, with_reset, with_reset_at};
+ghost use Rattle.miniport.specs.inside.Slots.{Table, ComesBack, Fails, HasNoneUntouched, piece_at, progress_after_reset, labels_by, slot_after_reset, with_reset_counted, with_slot, with_new, with_moved, with_failed, with_returned, with_reset, with_reset_at};
 ghost use Rattle.miniport.specs.declared.on_tag.OnTag.{OnTag};
 ghost use Rattle.miniport.specs.declared.on_tag.Progress.TheVariants.{Untouched};
 ghost use Rattle.adapter.specs.Booking.{handed};
-ghost use Rattle.miniport.specs.Slots.{HasRoomFor, booked_piece};
+ghost use Rattle.miniport.specs.inside.Slots.{HasRoomFor, booked_piece};
 
 use crate::completion::met_reset;
 use crate::on_tag::{Booking, OnTag, Progress};

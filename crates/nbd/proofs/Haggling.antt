@@ -7,10 +7,13 @@ use Rattle.nbd.specs.declared.options.Wish.{Wish}
 use Rattle.nbd.specs.declared.options.Next.{Next}
 use Rattle.nbd.specs.declared.options.Next.TheVariants.{Options, Requests, Ended}
 use Rattle.nbd.specs.Content.{Content}
-use Rattle.nbd.specs.Options.{Asked, IsAsked, IsOptionHeader, TakesOption, TakesOptionHeader, greeting, next_of, option_bytes, replies_to, wish_in, wish_of}
+use Rattle.nbd.specs.Options.{Asked, IsAsked, IsOptionHeader, greeting, next_of, option_bytes, replies_to, wish_in, wish_of}
+use Rattle.nbd.specs.inside.Options.{TakesOption, TakesOptionHeader}
 use Rattle.nbd.specs.Carrying.{Faulting}
-use Rattle.nbd.specs.Session.{Begins, Ends, IsTold, said}
-use Rattle.nbd.specs.Handshake.{IsLastEarly, AsksOnce, EndsHaggling, Greets, Haggles, IsLastOption, IsSession, Leads, TakesLastOption, answers_to, EndsGreeting}
+use Rattle.nbd.specs.Session.{Begins, IsTold, said}
+use Rattle.nbd.specs.inside.Session.{Ends}
+use Rattle.nbd.specs.Handshake.{IsLastEarly, IsLastOption, IsSession, Leads, answers_to, EndsGreeting}
+use Rattle.nbd.specs.inside.Handshake.{AsksOnce, EndsHaggling, Greets, Haggles, TakesLastOption}
 use Rattle.nbd.proofs.Streaming.{takes_more, tells_more}
 use Rattle.nbd.proofs.Serving.{begins_after, begins_nothing, begins_with, said_append, told_after, told_nothing}
 

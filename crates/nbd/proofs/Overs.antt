@@ -11,11 +11,14 @@ use Rattle.nbd.specs.declared.requests.ReplyError.TheVariants.{Enomem}
 use Rattle.nbd.specs.declared.options.Next.TheVariants.{Requests}
 use Rattle.nbd.specs.Requests.{command_in, payload_count}
 use Rattle.nbd.specs.Replies.{Outcome, failure, reply_bytes}
-use Rattle.nbd.specs.Streams.{Skips}
+use Rattle.nbd.specs.inside.Streams.{Skips}
 use Rattle.nbd.specs.Options.{greeting, option_bytes}
-use Rattle.nbd.specs.Session.{Begins, Exchange, IsLast, IsTold, TakesLast, TakesRequest, asked_by, said, told_by}
-use Rattle.nbd.specs.Handshake.{EndsHaggling, Greets, Haggles, answers_to}
-use Rattle.nbd.specs.Over.{CarriesOver, EndsOver, IsExchangeOver, IsExchangedOver, IsServedOver, IsSessionOver, RunOver, ServedOver}
+use Rattle.nbd.specs.Session.{Begins, Exchange, IsLast, IsTold, asked_by, said, told_by}
+use Rattle.nbd.specs.inside.Session.{TakesLast, TakesRequest}
+use Rattle.nbd.specs.Handshake.{answers_to}
+use Rattle.nbd.specs.inside.Handshake.{EndsHaggling, Greets, Haggles}
+use Rattle.nbd.specs.Over.{CarriesOver, IsExchangeOver, IsSessionOver, RunOver}
+use Rattle.nbd.specs.inside.Over.{EndsOver, IsExchangedOver, IsServedOver, ServedOver}
 use Rattle.nbd.proofs.Streaming.{takes_more, tells_more}
 use Rattle.nbd.proofs.Serving.{begins_after, begins_nothing, begins_with, said_append, told_after, told_nothing}
 

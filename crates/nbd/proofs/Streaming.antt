@@ -1,7 +1,7 @@
 -- Bytes taken from a reader, one part after another.
 use Rattle.std.proofs.Common.{◌≡◌, ◌+◌, ℕ, List, [], ◌++◌, append-nil, Option, None, Some, refl, sym, subst, ◌∙◌, ap, append_assoc, length-append, arith}
 use Rattle.std.specs.Io.KnownBytes.{Consumes, Appends}
-use Rattle.nbd.specs.Streams.{Skips}
+use Rattle.nbd.specs.inside.Streams.{Skips}
 
 pub takes_nothing : (x : Option (List ℕ)) → Consumes x x []
 takes_nothing None = tt

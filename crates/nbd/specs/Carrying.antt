@@ -1,6 +1,5 @@
 -- What a request does to an array, and how it ends.
-use Rattle.std.specs.Prelude.{◌≡◌, ◌⊎◌, ◌<◌, ℕ, ◌+◌, List, [], length, slice_range, replicate, Option, MatchResult}
-use Rattle.std.specs.Io.KnownBytes.{Consumes}
+use Rattle.std.specs.Prelude.{◌≡◌, ◌⊎◌, ◌<◌, ℕ, ◌+◌, List, [], length, slice_range, replicate, MatchResult}
 use Rattle.nbd.specs.declared.requests.Request.{Request}
 use Rattle.nbd.specs.declared.requests.ReplyError.{ReplyError}
 use Rattle.nbd.specs.declared.requests.ReplyError.TheVariants.{Eperm, Eio, Enomem, Eshutdown}
@@ -9,7 +8,7 @@ use Rattle.nbd.specs.declared.arrays.ArrayFault.TheVariants.{NoMemory, Protected
 use Rattle.nbd.specs.declared.requests.Command.{Command}
 use Rattle.nbd.specs.declared.requests.Command.TheVariants.{Read, Write, Flush, WriteZeroes}
 use Rattle.nbd.specs.Content.{Content, IsSameOutside, written}
-use Rattle.nbd.specs.Requests.{command_in, payload_count, payload_of}
+use Rattle.nbd.specs.Requests.{command_in}
 use Rattle.nbd.specs.Replies.{Outcome, success, failure}
 
 -- how a call of an array may fail that leaves the second array of the first
@@ -75,24 +74,3 @@ Carries F (WriteZeroes offset count through) payload old o new = Clears F old of
 abbrev pub Serves : Faulting → Request → List ℕ → Content → Outcome → Content → Type 0
 Serves F r payload old o new =
     MatchResult (command_in old.block (length old.bytes) r) (λ command. Carries F command payload old o new) (λ e. (o ≡ failure e) × (new ≡ old))
-
--- a request was served: the bytes behind it were taken, and no others
-pub record IsServed (F : Faulting) (r : Request) (old : Content) (input rest : Option (List ℕ)) (o : Outcome) (new : Content) : Type 0 where
-  pub payload : List ℕ
-  pub long : length payload ≡ payload_count r
-  pub taken : Consumes input rest payload
-  pub serves : Serves F r payload old o new
-
--- so many bytes came, and were written from this one on, or it failed
-pub record IsWritten (F : Faulting) (offset count : ℕ) (old : Content) (input rest : Option (List ℕ)) (o : Outcome) (new : Content) : Type 0 where
-  pub payload : List ℕ
-  pub long : length payload ≡ count
-  pub taken : Consumes input rest payload
-  pub puts : Puts F old offset payload o new
-
--- a command was carried out: the bytes that come with it were taken, and no others
-pub record IsCarried (F : Faulting) (command : Command) (old : Content) (input rest : Option (List ℕ)) (o : Outcome) (new : Content) : Type 0 where
-  pub payload : List ℕ
-  pub long : length payload ≡ payload_of command
-  pub taken : Consumes input rest payload
-  pub carries : Carries F command payload old o new

@@ -1,6 +1,5 @@
 -- What is said before a client's requests.
 use Rattle.std.specs.Prelude.{◌≡◌, ◌⊎◌, ℕ, Bool, List, [], ◌∷◌, ◌++◌, length, Option, IsTrue, IsFalse}
-use Rattle.std.specs.Io.KnownBytes.{Appends, Consumes}
 use Rattle.byteorder.specs.Endian.{big_from}
 use Rattle.nbd.specs.declared.End.{End}
 use Rattle.nbd.specs.declared.End.TheVariants.{Left, Malformed}
@@ -27,49 +26,11 @@ IsLastOption Left bytes = ⊥
 IsLastOption Malformed bytes = IsNoOption bytes
 IsLastOption _ bytes = bytes ≡ []
 
--- a stream began with such bytes
-pub record TakesLastOption (input : Option (List ℕ)) (end : End) : Type 0 where
-  pub last : List ℕ
-  pub asked : Begins input last
-  pub is_last : IsLastOption end last
-
--- one option was taken and answered
-pub record AsksOnce (block size : ℕ) (no_zeroes : Bool) (input out rest after : Option (List ℕ)) (next : Next) : Type 0 where
-  pub option : Asked
-  pub is : IsAsked option
-  pub next_is : next ≡ next_of (wish_of option)
-  pub taken : Consumes input rest (option_bytes option)
-  pub told : Appends out after (answers_to block size no_zeroes option)
-
--- options were taken and answered, in order
-pub record Haggles (block size : ℕ) (no_zeroes : Bool) (input out rest after : Option (List ℕ)) (next : Next) : Type 0 where
-  pub options : List Asked
-  pub leads : Leads options next
-  pub taken : Consumes input rest (said option_bytes options)
-  pub told : Appends out after (said (answers_to block size no_zeroes) options)
-
--- the session ended among the options: by one of them, or where none came
-pub record EndsHaggling (block size : ℕ) (no_zeroes : Bool) (input out : Option (List ℕ)) (end : End) (after : Option (List ℕ)) : Type 0 where
-  pub options : List Asked
-  pub next : Next
-  pub last : List ℕ
-  pub why : ((next ≡ Ended end) × (last ≡ [])) ⊎ ((next ≡ Options) × IsLastOption end last)
-  pub leads : Leads options next
-  pub asked : Begins input (said option_bytes options ++ last)
-  pub told : IsTold end out after (said (answers_to block size no_zeroes) options)
-
 -- the four bytes of a client's flags
 pub record AreFlags (bytes : List ℕ) (no_zeroes : Bool) : Type 0 where
   pub long : length bytes ≡ 4
   pub known : IsTrue (are_known (big_from 0 4 bytes))
   pub wants : no_zeroes ≡ wants_no_zeroes (big_from 0 4 bytes)
-
--- the server greeted, and the client's flags were taken
-pub record Greets (input out rest after : Option (List ℕ)) (no_zeroes : Bool) : Type 0 where
-  pub flags : List ℕ
-  pub are_flags : AreFlags flags no_zeroes
-  pub taken : Consumes input rest flags
-  pub told : Appends out after greeting
 
 -- a session that came to its options: the bytes with which the stream began, what was written, what became of the array
 pub record Talks (F : Faulting) (old : Content) (input out : Option (List ℕ)) (end : End) (new : Content) (after : Option (List ℕ)) : Type 0 where

@@ -2,9 +2,9 @@ pub mod Content
 pub mod Requests
 pub mod Replies
 pub mod Carrying
-pub mod Streams
 pub mod Session
 pub mod Options
 pub mod Handshake
 pub mod Laws
 pub mod Over
+pub mod inside

@@ -1,6 +1,5 @@
 -- What the bytes of an option ask for, and the bytes of its reply.
-use Rattle.std.specs.Prelude.{◌≡◌, ◌≢◌, ℕ, ◌+◌, ◌*◌, ◌==◌, ◌||◌, Bool, not, nat_lt, if◌then◌else◌, List, [], ◌++◌, length, replicate, bit_and, Option}
-use Rattle.std.specs.Io.KnownBytes.{Consumes}
+use Rattle.std.specs.Prelude.{◌≡◌, ◌≢◌, ℕ, ◌+◌, ◌*◌, ◌==◌, ◌||◌, Bool, not, nat_lt, if◌then◌else◌, List, [], ◌++◌, length, replicate, bit_and}
 use Rattle.byteorder.specs.Endian.{big_from, big_bytes}
 use Rattle.nbd.specs.declared.End.TheVariants.{Left, Malformed}
 use Rattle.nbd.specs.declared.options.Wish.{Wish}
@@ -10,8 +9,6 @@ use Rattle.nbd.specs.declared.options.OptionError.TheVariants.{Unsupported, Inva
 use Rattle.nbd.specs.declared.options.Next.{Next}
 use Rattle.nbd.specs.declared.options.Next.TheVariants.{Options, Requests, Ended}
 use Rattle.nbd.specs.declared.numbers.TheConstants.{NBDMAGIC, IHAVEOPT, NBD_REP_MAGIC, NBD_FLAG_FIXED_NEWSTYLE, NBD_FLAG_NO_ZEROES, NBD_FLAG_C_FIXED_NEWSTYLE, NBD_FLAG_C_NO_ZEROES, NBD_OPT_EXPORT_NAME, NBD_OPT_ABORT, NBD_OPT_LIST, NBD_OPT_INFO, NBD_OPT_GO, NBD_REP_ACK, NBD_REP_SERVER, NBD_REP_INFO, NBD_REP_ERR_UNSUP, NBD_REP_ERR_INVALID, NBD_REP_ERR_UNKNOWN, NBD_REP_ERR_TOO_BIG, NBD_INFO_EXPORT, NBD_INFO_BLOCK_SIZE, NBD_FLAG_HAS_FLAGS, NBD_FLAG_SEND_FLUSH, NBD_FLAG_SEND_FUA, NBD_FLAG_SEND_WRITE_ZEROES, LONGEST, LONGEST_OPTION}
-
--- GREETING
 
 -- the server's first bytes: its two magic numbers and its handshake flags
 abbrev pub greeting : List ℕ
@@ -111,12 +108,6 @@ pub record IsNoOption (bytes : List ℕ) : Type 0 where
   pub long : length bytes ≡ 16
   pub other : big_from 0 8 bytes ≢ IHAVEOPT
 
--- such a header was taken
-pub record TakesOptionHeader (input rest : Option (List ℕ)) (code count : ℕ) : Type 0 where
-  pub header : List ℕ
-  pub is_header : IsOptionHeader header code count
-  pub taken : Consumes input rest header
-
 -- an option that was taken
 pub record Asked : Type 0 where
   pub header : List ℕ
@@ -131,11 +122,3 @@ option_bytes a = a.header ++ a.content
 
 abbrev pub wish_of : Asked → Wish
 wish_of a = wish_in a.code a.content
-
--- an option of this code was taken, that asks for this
-pub record TakesOption (input rest : Option (List ℕ)) (code : ℕ) (wish : Wish) : Type 0 where
-  pub content : List ℕ
-  pub header : List ℕ
-  pub is_header : IsOptionHeader header code (length content)
-  pub wish_is : wish ≡ wish_in code content
-  pub taken : Consumes input rest (header ++ content)

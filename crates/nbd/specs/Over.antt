@@ -1,6 +1,5 @@
 -- A session over storage whose content isn't shown: what each command does to it is told by a relation of the storage's own.
 use Rattle.std.specs.Prelude.{◌≡◌, ◌≢◌, ◌⊎◌, ℕ, Bool, List, [], ◌∷◌, ◌++◌, length, Option, MatchResult}
-use Rattle.std.specs.Io.KnownBytes.{Appends, Consumes}
 use Rattle.nbd.specs.declared.End.{End}
 use Rattle.nbd.specs.declared.arrays.Sizes.{Sizes}
 use Rattle.nbd.specs.declared.requests.Request.{Request}
@@ -25,13 +24,6 @@ module _ {S : Type 0} (Carries : Command → List ℕ → S → Outcome → S �
   ServesOver r payload old o new =
       MatchResult (command_in sizes.block sizes.bytes r) (λ command. CarriesOver command payload old o new) (λ e. (o ≡ failure e) × (new ≡ old))
 
-  -- a request was served: the bytes behind it were taken, and no others
-  pub record IsServedOver (r : Request) (old : S) (input rest : Option (List ℕ)) (o : Outcome) (new : S) : Type 0 where
-    pub payload : List ℕ
-    pub long : length payload ≡ payload_count r
-    pub taken : Consumes input rest payload
-    pub serves : ServesOver r payload old o new
-
   pub record IsExchangeOver (old : S) (x : Exchange) (new : S) : Type 0 where
     pub is_request : IsRequest x.header x.request
     pub goes_on : x.request.kind ≢ NBD_CMD_DISC
@@ -42,29 +34,6 @@ module _ {S : Type 0} (Carries : Command → List ℕ → S → Outcome → S �
   abbrev pub RunOver : S → List Exchange → S → Type 0
   RunOver old [] new = new ≡ old
   RunOver old (x ∷ xs) new = (mid : S) × IsExchangeOver old x mid × RunOver mid xs new
-
-  -- these requests were taken, served and answered, in order
-  pub record ServedOver (old : S) (input out : Option (List ℕ)) (new : S) (rest after : Option (List ℕ)) : Type 0 where
-    pub exchanges : List Exchange
-    pub run : RunOver old exchanges new
-    pub taken : Consumes input rest (said asked_by exchanges)
-    pub told : Appends out after (said told_by exchanges)
-
-  -- one exchange
-  pub record IsExchangedOver (old : S) (input out : Option (List ℕ)) (new : S) (rest after : Option (List ℕ)) : Type 0 where
-    pub exchange : Exchange
-    pub is : IsExchangeOver old exchange new
-    pub taken : Consumes input rest (asked_by exchange)
-    pub told : Appends out after (told_by exchange)
-
-  -- how a client's requests ended
-  pub record EndsOver (old : S) (input out : Option (List ℕ)) (end : End) (new : S) (after : Option (List ℕ)) : Type 0 where
-    pub exchanges : List Exchange
-    pub last : List ℕ
-    pub run : RunOver old exchanges new
-    pub asked : Begins input (said asked_by exchanges ++ last)
-    pub told : IsTold end out after (said told_by exchanges)
-    pub is_last : IsLast end last
 
   -- a session that came to its options
   pub record TalksOver (old : S) (input out : Option (List ℕ)) (end : End) (new : S) (after : Option (List ℕ)) : Type 0 where

@@ -1,6 +1,6 @@
 -- What is said in a session, and what it does to the array.
 use Rattle.std.specs.Prelude.{◌≡◌, ◌≢◌, ℕ, List, [], ◌∷◌, ◌++◌, length, Option, None, Some, ⊤}
-use Rattle.std.specs.Io.KnownBytes.{Appends, Consumes}
+use Rattle.std.specs.Io.KnownBytes.{Appends}
 use Rattle.byteorder.specs.Endian.{big_from}
 use Rattle.nbd.specs.declared.End.{End}
 use Rattle.nbd.specs.declared.End.TheVariants.{Left, Malformed, Output}
@@ -41,13 +41,6 @@ abbrev pub Run : Faulting → Content → List Exchange → Content → Type 0
 Run F old [] new = new ≡ old
 Run F old (x ∷ xs) new = (mid : Content) × IsExchange F old x mid × Run F mid xs new
 
--- these requests were taken, served and answered, in order
-pub record Served (F : Faulting) (old : Content) (input out : Option (List ℕ)) (new : Content) (rest after : Option (List ℕ)) : Type 0 where
-  pub exchanges : List Exchange
-  pub run : Run F old exchanges new
-  pub taken : Consumes input rest (said asked_by exchanges)
-  pub told : Appends out after (said told_by exchanges)
-
 -- a stream, where its bytes are known, begins with these
 abbrev pub Begins : Option (List ℕ) → List ℕ → Type 0
 Begins None bytes = ⊤
@@ -74,32 +67,3 @@ abbrev pub IsLast : End → List ℕ → Type 0
 IsLast Left bytes = IsDisconnect bytes
 IsLast Malformed bytes = IsNoRequest bytes
 IsLast _ bytes = bytes ≡ []
-
--- how a client's requests ended: these were served, by the bytes with which its stream began, and answered in order
-pub record Ends (F : Faulting) (old : Content) (input out : Option (List ℕ)) (end : End) (new : Content) (after : Option (List ℕ)) : Type 0 where
-  pub exchanges : List Exchange
-  pub last : List ℕ
-  pub run : Run F old exchanges new
-  pub asked : Begins input (said asked_by exchanges ++ last)
-  pub told : IsTold end out after (said told_by exchanges)
-  pub is_last : IsLast end last
-
--- one exchange
-pub record IsExchanged (F : Faulting) (old : Content) (input out : Option (List ℕ)) (new : Content) (rest after : Option (List ℕ)) : Type 0 where
-  pub exchange : Exchange
-  pub is : IsExchange F old exchange new
-  pub taken : Consumes input rest (asked_by exchange)
-  pub told : Appends out after (told_by exchange)
-
--- 28 bytes that are a request and no disconnect were taken
-pub record TakesRequest (input rest : Option (List ℕ)) (request : Request) : Type 0 where
-  pub header : List ℕ
-  pub is_request : IsRequest header request
-  pub goes_on : request.kind ≢ NBD_CMD_DISC
-  pub taken : Consumes input rest header
-
--- the bytes with which a stream began end the requests
-pub record TakesLast (input : Option (List ℕ)) (end : End) : Type 0 where
-  pub last : List ℕ
-  pub asked : Begins input last
-  pub is_last : IsLast end last

@@ -3,7 +3,8 @@
 ghost use Rattle.std.specs.Prelude.{◌≡◌, ◌≤◌, ◌<◌, ◌^◌, length, replicate, IfErr, IfOk, MatchResult};
 ghost use Rattle.nbd.specs.Content.{AreInBounds, IsBlockSize, IsSameOutside, written};
 ghost use Rattle.nbd.specs.Replies.{outcome_of};
-ghost use Rattle.nbd.specs.Carrying.{Clears, Flushes, Gets, IsCarried, IsFailure, IsServed, IsWritten, Puts, error_of};
+ghost use Rattle.nbd.specs.Carrying.{Clears, Flushes, Gets, IsFailure, Puts, error_of};
+ghost use Rattle.nbd.specs.inside.Carrying.{IsCarried, IsServed, IsWritten};
 ghost use Rattle.nbd.specs.Requests.{IsWithin};
 
 use crate::End;

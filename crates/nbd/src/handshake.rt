@@ -5,7 +5,8 @@ ghost use Rattle.std.specs.Io.KnownBytes.{Appends};
 ghost use Rattle.nbd.specs.declared.options.Next.TheVariants.{Requests};
 ghost use Rattle.nbd.specs.Options.{greeting, replies_to};
 ghost use Rattle.nbd.specs.Session.{IsTold};
-ghost use Rattle.nbd.specs.Handshake.{AsksOnce, EndsGreeting, EndsHaggling, Greets, Haggles, TakesLastOption};
+ghost use Rattle.nbd.specs.Handshake.{EndsGreeting};
+ghost use Rattle.nbd.specs.inside.Handshake.{AsksOnce, EndsHaggling, Greets, Haggles, TakesLastOption};
 
 use crate::End;
 use crate::arrays::Sizes;

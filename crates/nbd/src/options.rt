@@ -3,8 +3,9 @@
 ghost use Rattle.std.specs.Prelude.{◌≡◌, ◌≤◌, ◌<◌, ◌^◌, ◌++◌, ℕ, List, true, length, IfErr, IfOk, OnOk};
 ghost use Rattle.std.specs.Io.KnownBytes.{Appends};
 ghost use Rattle.byteorder.specs.Endian.{big_bytes};
-ghost use Rattle.nbd.specs.Handshake.{TakesLastOption};
-ghost use Rattle.nbd.specs.Options.{block_bytes, export_bytes, info_in, info_replies, next_of, option_error_number, option_header, option_reply, replies_to, TakesOption, TakesOptionHeader, wish_in};
+ghost use Rattle.nbd.specs.inside.Handshake.{TakesLastOption};
+ghost use Rattle.nbd.specs.Options.{block_bytes, export_bytes, info_in, info_replies, next_of, option_error_number, option_header, option_reply, replies_to, wish_in};
+ghost use Rattle.nbd.specs.inside.Options.{TakesOption, TakesOptionHeader};
 
 use crate::End;
 use crate::arrays::Sizes;

@@ -2,7 +2,8 @@
 
 ghost use Rattle.std.specs.Prelude.{◌≡◌, IfErr, IfOk, OnOk};
 ghost use Rattle.nbd.specs.Replies.{outcome_of};
-ghost use Rattle.nbd.specs.Over.{EndsOver, IsExchangedOver, IsServedOver, IsSessionOver};
+ghost use Rattle.nbd.specs.Over.{IsSessionOver};
+ghost use Rattle.nbd.specs.inside.Over.{EndsOver, IsExchangedOver, IsServedOver};
 
 use crate::End;
 use crate::backing::Backing;

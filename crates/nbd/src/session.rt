@@ -4,7 +4,7 @@ ghost use Rattle.std.specs.Prelude.{◌≡◌, IfErr, IfOk, MatchResult, OnOk};
 ghost use Rattle.std.specs.Io.KnownBytes.{Appends};
 ghost use Rattle.nbd.specs.Replies.{outcome_of, reply_bytes};
 ghost use Rattle.nbd.specs.Handshake.{IsSession};
-ghost use Rattle.nbd.specs.Session.{Ends, IsExchanged, TakesLast, TakesRequest};
+ghost use Rattle.nbd.specs.inside.Session.{Ends, IsExchanged, TakesLast, TakesRequest};
 
 use crate::End;
 use crate::arrays::Array;

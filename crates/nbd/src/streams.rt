@@ -2,7 +2,7 @@
 
 ghost use Rattle.std.specs.Prelude.{◌≡◌, ◌≤◌, IfErr, IfOk, IfSome, MatchOption, OnOk, replicate};
 ghost use Rattle.std.specs.Io.KnownBytes.{Consumes};
-ghost use Rattle.nbd.specs.Streams.{Skips, Takes};
+ghost use Rattle.nbd.specs.inside.Streams.{Skips, Takes};
 
 use crate::End;
 use crate::numbers::LONGEST;

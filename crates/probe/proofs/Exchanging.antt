@@ -21,7 +21,8 @@ use Rattle.adapter.specs.View.{AdapterView, TagInUse, HasNotTag, IsFree, Accepts
 use Rattle.adapter.specs.Performing.{Performs, CarriesOut}
 use Rattle.adapter.specs.Calls.{ActsOrFaults, ActsNot, Finishes, FinishesNot}
 use Rattle.adapter.proofs.Joining.{reserves_none}
-use Rattle.probe.specs.Exchange.{IsIdle, Looks, LooksBy, IsActOrFault, Exchanges, bytes_brought, Brings, AsksOnce, Fails}
+use Rattle.probe.specs.Exchange.{IsIdle, LooksBy, IsActOrFault, Exchanges}
+use Rattle.probe.specs.inside.Exchange.{Looks, bytes_brought, Brings, AsksOnce, Fails}
 
 -- a list in which one item stands is just that item
 pub just_one : {X : Type 0} (x y : X) (xs ys : List X) → IsPermutation xs (x ∷ []) → IsPermutation xs (y ∷ ys) → (x ≡ y) × (ys ≡ [])

@@ -8,8 +8,10 @@ use Rattle.adapter.specs.View.{AdapterView}
 use Rattle.probe.specs.declared.ProbeFault.{ProbeFault}
 use Rattle.probe.specs.declared.ProbeFault.TheVariants.{Device as DeviceFault, Mbr as TableFault, NoMemory}
 use Rattle.probe.specs.declared.capacity.Capacity.{Capacity}
-use Rattle.probe.specs.Exchange.{Exchanges, IsSameDisk, IsAskFault}
-use Rattle.probe.specs.Capacity.{is_long, long_capacity, IsToldShort, TellsCapacity, IsCapacityFault}
+use Rattle.probe.specs.Exchange.{Exchanges, IsSameDisk}
+use Rattle.probe.specs.inside.Exchange.{IsAskFault}
+use Rattle.probe.specs.Capacity.{is_long, long_capacity, TellsCapacity}
+use Rattle.probe.specs.inside.Capacity.{IsToldShort, IsCapacityFault}
 use Rattle.probe.specs.Probing.{IsTableFault, IsProbeFault}
 use Rattle.probe.proofs.Reading.{same_table}
 

@@ -7,7 +7,8 @@ use Rattle.machine.specs.Map.{IsMap}
 use Rattle.adapter.specs.View.{AdapterView}
 use Rattle.mbr.specs.declared.MbrFault.{MbrFault}
 use Rattle.mbr.specs.Faults.{told_by}
-use Rattle.probe.specs.Exchange.{IsSameDisk, bytes_brought}
+use Rattle.probe.specs.Exchange.{IsSameDisk}
+use Rattle.probe.specs.inside.Exchange.{bytes_brought}
 use Rattle.probe.specs.Probing.{HasPartitions, sector_zero, table_read, told_partitions}
 
 -- a read of the first sector brings its bytes, or none where there is no sector

@@ -1,16 +1,12 @@
 -- The sizes of a disk, and the commands that ask for them.
-use Rattle.std.specs.Prelude.{◌≡◌, ◌<◌, ◌⊎◌, ℕ, ◌+◌, ◌-◌, ◌^◌, Bool, true, false, nat_le, min, IsTrue, if◌then◌else◌}
+use Rattle.std.specs.Prelude.{◌≡◌, ◌⊎◌, ℕ, ◌^◌, Bool, true, false, nat_le, IsTrue, if◌then◌else◌}
 use Rattle.std.specs.Prelude.{length}
-use Rattle.ntstatus.specs.declared.NtStatus.{NtStatus}
 use Rattle.cdb.specs.declared.Cdb.{Cdb}
 use Rattle.cdb.specs.declared.Cdb.TheVariants.{ReadCapacity10, ReadCapacity16}
 use Rattle.srb.specs.declared.Completion.{Completion}
 use Rattle.srb.specs.declared.Class.TheVariants.{Good, Bad}
 use Rattle.adapter.specs.View.{AdapterView}
-use Rattle.probe.specs.declared.ProbeFault.{ProbeFault}
-use Rattle.probe.specs.declared.ProbeFault.TheVariants.{Device as DeviceFault, Mbr as TableFault, NoMemory}
-use Rattle.probe.specs.declared.capacity.Capacity.{Capacity}
-use Rattle.probe.specs.Exchange.{Exchanges, IsOfFailure}
+use Rattle.probe.specs.Exchange.{Exchanges}
 
 -- the disk has more sectors than READ CAPACITY(10) can tell of
 abbrev pub is_long : AdapterView → Bool
@@ -23,16 +19,6 @@ long_capacity = ReadCapacity16 32
 -- how many commands ask for the capacity: one, and one more where that can't tell it
 abbrev pub asked_for_capacity : AdapterView → ℕ
 asked_for_capacity disk = if is_long disk then 2 else 1
-
--- what READ CAPACITY(10) tells of the sizes: no more sectors than 2^32, which stands for as many or more
-pub record IsToldShort (disk : AdapterView) (capacity : Capacity) : Type 0 where
-  pub sectors : capacity.sectors ≡ min (length disk.sectors - 1) (2 ^ 32 - 1) + 1
-  pub sector_size : capacity.sector_size ≡ disk.sector_size
-
--- the sizes of a disk
-pub record IsCapacityOf (disk : AdapterView) (capacity : Capacity) : Type 0 where
-  pub sectors : capacity.sectors ≡ length disk.sectors
-  pub sector_size : capacity.sector_size ≡ disk.sector_size
 
 -- the commands that ask for the capacity came back good: the first, and the second where the disk is long
 abbrev pub TellsCapacity : Bool → AdapterView → AdapterView → Type 0
@@ -51,18 +37,6 @@ abbrev pub MissesCapacity : AdapterView → Completion → AdapterView → Type 
 MissesCapacity disk completion after =
     Exchanges disk ReadCapacity10 (Bad completion) after ⊎ (IsTrue (is_long disk) × MissesLong disk completion after)
 
--- a command that asks for the capacity failed with this status
-pub record FailsCapacity (disk : AdapterView) (status : NtStatus) (after : AdapterView) : Type 0 where
-  pub failure : IsOfFailure status
-  pub counted : disk.failures < after.failures
-  pub misses : MissesCapacity disk failure.completion after
-
 -- memory was refused for one of them: the first, or the second of a long disk after the first was good
 abbrev pub LacksCapacity : AdapterView → AdapterView → Type 0
 LacksCapacity disk after = (after ≡ disk) ⊎ (IsTrue (is_long disk) × Exchanges disk ReadCapacity10 Good after)
-
--- why the capacity is not known: a command failed, or was not sent
-abbrev pub IsCapacityFault : AdapterView → ProbeFault → AdapterView → Type 0
-IsCapacityFault disk (DeviceFault status) after = FailsCapacity disk status after
-IsCapacityFault disk (TableFault fault) after = ⊥
-IsCapacityFault disk NoMemory after = LacksCapacity disk after

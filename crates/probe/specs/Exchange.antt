@@ -1,6 +1,5 @@
 -- A command sent to an adapter that has no other, what it brings, and its way back.
-use Rattle.std.specs.Prelude.{◌≡◌, ◌<◌, ◌≤◌, ℕ, ◌+◌, ◌*◌, List, [], ◌∷◌, None, length, slice_range}
-use Rattle.std.specs.List.{concat}
+use Rattle.std.specs.Prelude.{◌≡◌, ◌≤◌, ℕ, ◌+◌, ◌*◌, List, [], ◌∷◌, None, length}
 use Rattle.ntstatus.specs.declared.NtStatus.{NtStatus}
 use Rattle.ntstatus.specs.Table.{status_of}
 use Rattle.cdb.specs.declared.Cdb.{Cdb}
@@ -13,12 +12,9 @@ use Rattle.srb.specs.declared.DeviceLabel.{DeviceLabel}
 use Rattle.srb.specs.declared.DeviceLabel.TheVariants.{Start, Act, Fault, Return}
 use Rattle.srb.specs.declared.Completion.{Completion}
 use Rattle.srb.specs.declared.Class.{Class}
-use Rattle.srb.specs.declared.Class.TheVariants.{Good, Busy, Bad}
+use Rattle.srb.specs.declared.Class.TheVariants.{Bad}
 use Rattle.srb.specs.Fate.{class_of}
 use Rattle.adapter.specs.View.{AdapterView, Accepts, MovesByAll}
-use Rattle.adapter.specs.Performing.{capacity_data, long_capacity_data}
-use Rattle.probe.specs.declared.ProbeFault.{ProbeFault}
-use Rattle.probe.specs.declared.ProbeFault.TheVariants.{Device as DeviceFault, Mbr as TableFault, NoMemory}
 
 -- an adapter with nothing on its tags, whose labels were all taken
 pub record IsIdle (view : AdapterView) : Type 0 where
@@ -26,28 +22,6 @@ pub record IsIdle (view : AdapterView) : Type 0 where
   pub no_labels : view.labels ≡ []
 
 -- WHAT A COMMAND BRINGS
-
--- a command that changes no sector
-abbrev pub Looks : Cdb → Type 0
-Looks (Read10 lba count fua) = Unit {0}
-Looks (Write10 lba count fua) = ⊥
-Looks (Sync10 lba blocks) = Unit {0}
-Looks ReadCapacity10 = Unit {0}
-Looks (Read16 lba count fua) = Unit {0}
-Looks (Write16 lba count fua) = ⊥
-Looks (Sync16 lba blocks) = Unit {0}
-Looks (ReadCapacity16 allocation) = Unit {0}
-
--- the bytes that a command brings from the disk; none for a write or a flush
-abbrev pub bytes_brought : AdapterView → Cdb → List ℕ
-bytes_brought disk (Read10 lba count fua) = concat (slice_range disk.sectors lba (lba + count))
-bytes_brought disk (Write10 lba count fua) = []
-bytes_brought disk (Sync10 lba blocks) = []
-bytes_brought disk ReadCapacity10 = capacity_data disk.sector_size disk.sectors
-bytes_brought disk (Read16 lba count fua) = concat (slice_range disk.sectors lba (lba + count))
-bytes_brought disk (Write16 lba count fua) = []
-bytes_brought disk (Sync16 lba blocks) = []
-bytes_brought disk (ReadCapacity16 allocation) = long_capacity_data allocation disk.sector_size disk.sectors
 
 -- how many they are: of READ CAPACITY(10) eight, of READ CAPACITY(16) as many as are asked for, of a read its sectors
 abbrev pub brought_length : AdapterView → Cdb → ℕ
@@ -111,19 +85,6 @@ pub record IsSameDisk (asked : ℕ) (old new : AdapterView) : Type 0 where
   pub accepted : new.accepted ≤ old.accepted + asked
   pub failures : old.failures ≤ new.failures
 
--- what a command brought that came back in this class
-abbrev pub Brings : AdapterView → Cdb → List ℕ → Class → AdapterView → Type 0
-Brings old command bytes Good new = bytes ≡ bytes_brought old command
-Brings old command bytes Busy new = ⊥
-Brings old command bytes (Bad completion) new = old.failures < new.failures
-
--- a command was sent to an idle adapter, and came back
-pub record AsksOnce (old : AdapterView) (command : Cdb) (srb : Srb) (completion : Completion)
-    (new : AdapterView) : Type 0 where
-  pub same : IsSameDisk 1 old (record new { labels = [] })
-  pub brings : Brings old command srb.data (class_of completion) new
-  pub exchanged : Exchanges old command (class_of completion) (record new { labels = [] })
-
 -- WHY IT LED NO FURTHER
 
 -- the status of a completion that is neither good nor busy
@@ -131,15 +92,3 @@ pub record IsOfFailure (status : NtStatus) : Type 0 where
   pub completion : Completion
   pub is_bad : class_of completion ≡ Bad completion
   pub means : status ≡ status_of completion.srb_status completion.scsi_status completion.sense
-
--- a command came back bad, as a completion of this status, and the adapter counted a failure
-pub record Fails (disk : AdapterView) (command : Cdb) (status : NtStatus) (after : AdapterView) : Type 0 where
-  pub failure : IsOfFailure status
-  pub counted : disk.failures < after.failures
-  pub exchanged : Exchanges disk command (Bad failure.completion) after
-
--- why a command brought nothing: it failed, or memory was refused and it was not sent
-abbrev pub IsAskFault : Cdb → AdapterView → ProbeFault → AdapterView → Type 0
-IsAskFault command disk (DeviceFault status) after = Fails disk command status after
-IsAskFault command disk (TableFault fault) after = ⊥
-IsAskFault command disk NoMemory after = after ≡ disk

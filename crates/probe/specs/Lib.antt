@@ -1,3 +1,4 @@
 pub mod Exchange
 pub mod Capacity
 pub mod Probing
+pub mod inside

@@ -13,7 +13,8 @@ use Rattle.mbr.specs.Faults.{told_by}
 use Rattle.probe.specs.declared.Probed.{Probed}
 use Rattle.probe.specs.declared.ProbeFault.{ProbeFault}
 use Rattle.probe.specs.declared.ProbeFault.TheVariants.{Device as DeviceFault, Mbr as TableFault, NoMemory}
-use Rattle.probe.specs.Exchange.{Exchanges, Fails, IsOfFailure}
+use Rattle.probe.specs.Exchange.{Exchanges, IsOfFailure}
+use Rattle.probe.specs.inside.Exchange.{Fails}
 use Rattle.probe.specs.Capacity.{is_long, asked_for_capacity, TellsCapacity, MissesCapacity, LacksCapacity}
 
 -- the first sector of a disk, where the partition table stands

@@ -4,8 +4,10 @@ ghost use Rattle.std.specs.Prelude.{◌≡◌, ◌<◌, ◌^◌, [], IfOk, IfErr
 ghost use Rattle.srb.specs.declared.Class.TheVariants.{Good};
 ghost use Rattle.adapter.specs.View.{IsInOrder};
 ghost use Rattle.probe.specs.declared.ProbeFault.TheVariants.{NoMemory};
-ghost use Rattle.probe.specs.Exchange.{IsIdle, Looks, IsReading, AsksOnce, bytes_brought, brought_length, Exchanges};
-ghost use Rattle.probe.specs.Exchange.{IsSameDisk, IsAskFault};
+ghost use Rattle.probe.specs.Exchange.{IsIdle, IsReading, brought_length, Exchanges};
+ghost use Rattle.probe.specs.inside.Exchange.{Looks, AsksOnce, bytes_brought};
+ghost use Rattle.probe.specs.Exchange.{IsSameDisk};
+ghost use Rattle.probe.specs.inside.Exchange.{IsAskFault};
 
 use crate::ProbeFault;
 use adapter::Adapter;

@@ -5,8 +5,10 @@ ghost use Rattle.byteorder.specs.Endian.{big_number};
 ghost use Rattle.cdb.specs.declared.Cdb.TheVariants.{ReadCapacity10};
 ghost use Rattle.srb.specs.declared.Class.TheVariants.{Good};
 ghost use Rattle.adapter.specs.View.{IsInOrder};
-ghost use Rattle.probe.specs.Exchange.{IsIdle, IsSameDisk, Exchanges, IsAskFault};
-ghost use Rattle.probe.specs.Capacity.{IsToldShort, IsCapacityOf, IsCapacityFault, TellsCapacity, is_long};
+ghost use Rattle.probe.specs.Exchange.{IsIdle, IsSameDisk, Exchanges};
+ghost use Rattle.probe.specs.inside.Exchange.{IsAskFault};
+ghost use Rattle.probe.specs.Capacity.{TellsCapacity, is_long};
+ghost use Rattle.probe.specs.inside.Capacity.{IsToldShort, IsCapacityOf, IsCapacityFault};
 ghost use Rattle.probe.specs.Capacity.{long_capacity, asked_for_capacity};
 
 use crate::ProbeFault;

@@ -4,7 +4,7 @@ ghost use Rattle.std.specs.Prelude.{◌≡◌, ◌<◌, ◌^◌, IfOk, IfErr, On
 ghost use Rattle.srb.specs.declared.Class.TheVariants.{Good};
 ghost use Rattle.adapter.specs.View.{IsInOrder};
 ghost use Rattle.probe.specs.Exchange.{IsIdle, IsSameDisk, Exchanges};
-ghost use Rattle.probe.specs.Capacity.{IsCapacityOf};
+ghost use Rattle.probe.specs.inside.Capacity.{IsCapacityOf};
 ghost use Rattle.probe.specs.Probing.{HasPartitions, IsProbed, IsReadBy, IsTableFault, IsProbeFault, asked_by_probe};
 ghost use Rattle.probe.specs.Probing.{table_read};
 

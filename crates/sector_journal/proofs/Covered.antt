@@ -19,7 +19,8 @@ use Rattle.sector_journal.specs.Entering.{named, Names}
 use Rattle.sector_journal.specs.Reserving.{covers, is_write, lies_in}
 use Rattle.sector_journal.specs.Slots.{armed_count, IsFree}
 use Rattle.sector_journal.specs.Stocking.{Room, pieces_at}
-use Rattle.sector_journal.specs.Journal.{JournalView, CanEnter, IsHeld, MayArm, Arms}
+use Rattle.sector_journal.specs.Journal.{JournalView, IsHeld, MayArm, Arms}
+use Rattle.sector_journal.specs.inside.Journal.{CanEnter}
 
 -- whatever the block asks for, it names this
 abbrev pub AlwaysNames : List ℕ → Kind × Extent → Type 0

@@ -16,7 +16,8 @@ use Rattle.sector_journal.specs.declared.slots.Armed.{Armed}
 use Rattle.sector_journal.specs.declared.reservation.Reservation.{Reservation}
 use Rattle.sector_journal.specs.Entering.{Enters, Refuses}
 use Rattle.sector_journal.specs.Slots.{armed_at, armed_count, one_if_armed, IsFree, Takes}
-use Rattle.sector_journal.specs.Journal.{CanEnter, MayAct, IsHeld, IsOfArming, AreOfArmings, JournalKept, entries_in, of_arming}
+use Rattle.sector_journal.specs.Journal.{IsHeld, IsOfArming, AreOfArmings, entries_in, of_arming}
+use Rattle.sector_journal.specs.inside.Journal.{CanEnter, MayAct, JournalKept}
 use Rattle.sector_journal.proofs.Counting.{clear_count, put_count, within_slots}
 
 -- AN ENTRY AT THE END

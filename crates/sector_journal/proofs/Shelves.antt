@@ -7,7 +7,8 @@ use Rattle.std.proofs.lemmas.List.Folds.{position_or_len-set, position_or_len_pu
 use Rattle.std.proofs.lemmas.List.Sums.{prefix_len-le-length}
 use Rattle.std.proofs.lemmas.List.Quantifiers.{position-Some}
 use Rattle.sector_journal.specs.Reserving.{of_length}
-use Rattle.sector_journal.specs.Stocking.{Room, IsOfLength, TakesOne, is_for, pieces_on, pieces_at}
+use Rattle.sector_journal.specs.Stocking.{Room, is_for, pieces_on, pieces_at}
+use Rattle.sector_journal.specs.inside.Stocking.{IsOfLength, TakesOne}
 
 abbrev no_room : Room
 no_room = record { bytes = 0; pieces = 0 }

@@ -1,24 +1,19 @@
 -- What a journal shows, and what its calls do.
 use Rattle.std.specs.Prelude.{◌≡◌, ◌≢◌, ◌≤◌, ◌<◌, ◌^◌, ℕ, ◌+◌, ◌-◌, Bool, true, List, [], ◌∷◌, ◌++◌, length, map, All, Option, Some, None, Result, Ok, Err, MatchOption, replicate, slice_get, slice_set}
 use Rattle.std.specs.List.{list_any, position, remove, sum_by}
-use Rattle.cdb.specs.declared.Cdb.{Cdb}
-use Rattle.cdb.specs.Meaning.{Means}
 use Rattle.srb.specs.declared.Srb.{Srb}
 use Rattle.srb.specs.declared.Kind.{Kind}
 use Rattle.srb.specs.declared.Kind.TheVariants.{Read, Write, Flush}
 use Rattle.srb.specs.declared.Entry.{Entry}
 use Rattle.srb.specs.declared.Completion.{Completion}
-use Rattle.srb.specs.Replaying.{Replays}
 use Rattle.adapter.specs.Booking.{IsOfSrb}
 use Rattle.sector.specs.declared.Extent.{Extent}
-use Rattle.sector.specs.Extents.{IsSector}
 use Rattle.disk.specs.Medium.{MediumView, IsReserved, Reserves, ReservesNear}
-use Rattle.miniport.specs.Carrying.{IsReady}
 use Rattle.sector_journal.specs.declared.acted.Entered.{Entered}
 use Rattle.sector_journal.specs.declared.slots.Armed.{Armed}
 use Rattle.sector_journal.specs.declared.reservation.Reservation.{Reservation}
 use Rattle.sector_journal.specs.Arming.{AskTheSame}
-use Rattle.sector_journal.specs.Entering.{named, Names, Enters, Refuses}
+use Rattle.sector_journal.specs.Entering.{Names, Enters, Refuses}
 use Rattle.sector_journal.specs.Slots.{armed_at, armed_count, IsFree}
 use Rattle.sector_journal.specs.Reserving.{covers, is_of, pieces_of, pieces_with}
 use Rattle.sector_journal.specs.Stocking.{Room, pieces_at}
@@ -49,17 +44,6 @@ entries_of journal = entries_in journal.entered
 
 -- WHAT ALWAYS HOLDS
 
--- what an armed piece has
-pub record CanEnter (medium : MediumView) (armed : Armed) : Type 0 where
-  pub ready : IsReady medium armed.srb
-  pub names : (command : Cdb) → Means armed.srb.block command → (what : Kind × Extent) × (named command ≡ Some what)
-
--- the piece that may act on a tag, and its place among all armings
-pub record MayAct (medium : MediumView) (armings : List Armed) (tag : ℕ) (armed : Armed) : Type 0 where
-  pub can_enter : CanEnter medium armed
-  pub is_tag : armed.tag ≡ tag
-  pub noted : slice_get armings armed.number ≡ Some armed
-
 -- the entry is of the piece that was armed under this number, and of what its SRB asks for
 pub record IsOfArming (size sectors : ℕ) (armings : List Armed) (entered : Entered) : Type 0 where
   pub armed : Armed
@@ -82,20 +66,6 @@ abbrev pub HoldsNear : MediumView → Kind → Extent → MediumView → Type 0
 HoldsNear old Write extent new = ReservesNear old extent new
 HoldsNear old Read extent new = new ≡ old
 HoldsNear old Flush extent new = new ≡ old
-
--- the entries give the sectors, replayed from those that the journal was opened with; and whatever is armed can act
-pub record JournalKept (opening : List (List ℕ)) (medium : MediumView) (entered : List Entered) (places : ℕ) (slots : List (Option Armed)) (armings : List Armed) (reservations : List Reservation) : Type 0 where
-  pub replays : Replays medium.sector_size opening (entries_in entered) medium.sectors
-  pub of_armings : AreOfArmings medium armings entered
-  pub some : 1 ≤ length medium.sectors
-  -- what it was opened with are sectors of the same size
-  pub whole : All (IsSector medium.sector_size) opening
-  pub ready : (tag : ℕ) (armed : Armed) → armed_at slots tag ≡ Some armed → MayAct medium armings tag armed
-  -- each armed piece has a place for its entry
-  pub placed : length entered + armed_count slots ≤ places
-  -- no more acts failed than were armed
-  pub counted : medium.failures + armed_count slots ≤ length armings
-  pub held : All (IsHeld medium) reservations
 
 -- THE CALLS
 

@@ -1,7 +1,7 @@
 pub mod Arming
 pub mod Entering
 pub mod Journal
-pub mod Naming
 pub mod Reserving
 pub mod Slots
 pub mod Stocking
+pub mod inside

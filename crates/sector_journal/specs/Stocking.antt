@@ -1,20 +1,11 @@
 -- The buffers of pieces that may yet be armed.
-use Rattle.std.specs.Prelude.{◌≡◌, ℕ, ◌+◌, List, length, Bool, ◌==◌, Option, Some, None, get_or}
+use Rattle.std.specs.Prelude.{ℕ, List, Bool, ◌==◌, Option, Some, None, get_or}
 use Rattle.std.specs.List.{position}
 
 -- for so many pieces of so many bytes there are buffers
 pub record Room : Type 0 where
   pub bytes : ℕ
   pub pieces : ℕ
-
--- a buffer of this length
-abbrev pub IsOfLength : List ℕ → ℕ → Type 0
-IsOfLength buffer long = length buffer ≡ long
-
--- the buffer of one piece is taken
-pub record TakesOne (old new : Room) : Type 0 where
-  pub same : new.bytes ≡ old.bytes
-  pub less : new.pieces + 1 ≡ old.pieces
 
 abbrev pub is_for : ℕ → Room → Bool
 is_for long room = room.bytes == long

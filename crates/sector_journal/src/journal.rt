@@ -16,7 +16,8 @@ ghost use Rattle.sector_journal.specs.Arming.{IsCopy};
 ghost use Rattle.sector_journal.specs.Journal.{Acts, Admits, AreOfArmings, Arms, Disarms, GainsRoom, HoldsNear, IsNew, MayArm, Releases, entries_in, entries_of};
 ghost use Rattle.sector_journal.specs.Reserving.{covers, is_of, of_length};
 ghost use Rattle.sector_journal.specs.Slots.{HasNone, armed_at};
-ghost use Rattle.sector_journal.specs.Stocking.{IsOfLength, pieces_at};
+ghost use Rattle.sector_journal.specs.Stocking.{pieces_at};
+ghost use Rattle.sector_journal.specs.inside.Stocking.{IsOfLength};
 
 use crate::acted::Entered;
 use crate::entering::{enter, named_in};
@@ -54,7 +55,8 @@ impl<M: Medium, N: Naming> Model for Journal<M, N> {
     ghost use Rattle.std.specs.Prelude.{◌≡◌, length, vec_capacity};
     ghost use Rattle.std.specs.List.{sum_by};
     ghost use Rattle.sector_journal.specs.Reserving.{pieces_of};
-    ghost use Rattle.sector_journal.specs.Journal.{JournalKept, JournalView};
+    ghost use Rattle.sector_journal.specs.Journal.{JournalView};
+    ghost use Rattle.sector_journal.specs.inside.Journal.{JournalKept};
 
     ghost Value = { JournalView };
 

@@ -15,7 +15,7 @@ pub struct Opened {
 }
 
 impl Model for Opened {
-    ghost use Rattle.sector_journal.specs.Naming.{Names};
+    ghost use Rattle.sector_journal.specs.inside.Naming.{Names};
 
     ghost Value = { Names };
 

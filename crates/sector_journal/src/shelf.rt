@@ -1,7 +1,7 @@
 //! Buffers of one length.
 
 ghost use Rattle.std.specs.Prelude.{◌≡◌, ◌≤◌, ◌<◌, ◌+◌, ◌-◌, IfOk, OnOk, OnErr, MatchOption, length, vec_len, All};
-ghost use Rattle.sector_journal.specs.Stocking.{IsOfLength, TakesOne};
+ghost use Rattle.sector_journal.specs.inside.Stocking.{IsOfLength, TakesOne};
 
 use sector::Bytes;
 use std::alloc::{AllocError, Global};
@@ -19,7 +19,8 @@ pub(crate) struct Shelf {
 
 impl Model for Shelf {
     ghost use Rattle.std.specs.Prelude.{All, length};
-    ghost use Rattle.sector_journal.specs.Stocking.{IsOfLength, Room};
+    ghost use Rattle.sector_journal.specs.Stocking.{Room};
+    ghost use Rattle.sector_journal.specs.inside.Stocking.{IsOfLength};
 
     ghost Value = { Room };
 

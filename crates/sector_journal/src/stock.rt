@@ -3,7 +3,8 @@
 ghost use Rattle.std.specs.Prelude.{◌≡◌, ◌≢◌, ◌≤◌, ◌<◌, ◌+◌, ◌-◌, ℕ, [], Some, IfOk, OnOk, OnErr, MatchOption, length};
 ghost use Rattle.std.specs.List.{position};
 ghost use Rattle.sector_journal.specs.Reserving.{of_length};
-ghost use Rattle.sector_journal.specs.Stocking.{IsOfLength, is_for, pieces_at};
+ghost use Rattle.sector_journal.specs.Stocking.{is_for, pieces_at};
+ghost use Rattle.sector_journal.specs.inside.Stocking.{IsOfLength};
 
 use crate::reservation::Batch;
 use crate::shelf::Shelf;

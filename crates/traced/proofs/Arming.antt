@@ -4,7 +4,8 @@ use Rattle.std.proofs.lemmas.Bool.Decides.{nat_tests}
 use mathlib.Core.Logic.{dite}
 use native.Mathlib.Decide.{ℕ_discrete}
 use Rattle.cancel_marks.specs.declared.rule.View.{View}
-use Rattle.traced.specs.Slots.{SlotsView, number_at, ArmedBelow, LooksNowhere, unless_number}
+use Rattle.traced.specs.Slots.{LooksNowhere}
+use Rattle.traced.specs.inside.Slots.{SlotsView, number_at, ArmedBelow, unless_number}
 
 -- the slots below this one were gone through
 pub record HasRetired (number slot : ℕ) (old new : SlotsView) : Type 0 where

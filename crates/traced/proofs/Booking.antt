@@ -9,7 +9,8 @@ use Rattle.machine.specs.declared.Label.TheVariants.{Call, Device, Answer, Cance
 use Rattle.cancel_marks.specs.declared.rule.View.{View}
 use Rattle.io_manager.specs.Shown.{ManagerView}
 use Rattle.traced.specs.Pages.{PagesView, noted, noted_all}
-use Rattle.traced.specs.Slots.{SlotsView, number_at, AreArmed, ArmedBelow, IsArmedAs, LooksNowhere}
+use Rattle.traced.specs.Slots.{IsArmedAs, LooksNowhere}
+use Rattle.traced.specs.inside.Slots.{SlotsView, number_at, AreArmed, ArmedBelow}
 use Rattle.traced.specs.Told.{MayNoteAll}
 use Rattle.machine.specs.Rules.{Rules}
 use Rattle.machine.specs.State.{State}
@@ -29,14 +30,17 @@ use Rattle.compose.specs.declared.Event.{Event}
 use Rattle.compose.specs.declared.Event.TheVariants.{Open, Close, Read, Write, Flush, CancelIoEx, Mark, QueryRemove, CancelRemove, Remove as RemoveEvent, SurpriseRemove, Act, Finish, Reset}
 use Rattle.compose.specs.StepLaws.{IsTransferEvent, StepsTakeNoMemory}
 use Rattle.compose.specs.Right.{IsRight}
-use Rattle.traced.specs.Sizes.{sizes_of, brought_by}
-use Rattle.traced.specs.Serving.{unless_told, open_at, admitted_at, is_call_event, is_handle_event, HaveOneCall, HaveCallsOf, Serves}
+use Rattle.traced.specs.Sizes.{sizes_of}
+use Rattle.traced.specs.inside.Sizes.{brought_by}
+use Rattle.traced.specs.Serving.{open_at, is_call_event, is_handle_event}
+use Rattle.traced.specs.inside.Serving.{unless_told, admitted_at, HaveOneCall, HaveCallsOf, Serves}
 use Rattle.traced.specs.declared.Entry.{Entry}
 use Rattle.traced.specs.Entries.{labels_of, entry, row_of}
 use Rattle.traced.specs.Pages.{owners_after}
 use Rattle.traced.specs.Traced.{TracedView, pages_of, IsCarried, IsServed, may_want}
 use Rattle.traced.specs.Opening.{IsFirst}
-use Rattle.traced.specs.Sound.{IsNamed, IsSound, IsGivenBelow, shown}
+use Rattle.traced.specs.Sound.{IsNamed}
+use Rattle.traced.specs.inside.Sound.{IsSound, IsGivenBelow, shown}
 use Rattle.traced.specs.Told.{AreTold, AreNoCalls, MayCall}
 use Rattle.traced.proofs.Telling.{Laws, no_calls_may, told_first, told_all, room_noted, labels_noted}
 

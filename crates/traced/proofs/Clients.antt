@@ -18,7 +18,8 @@ use Rattle.ntstatus.specs.declared.NtStatus.TheVariants.{InvalidParameter as Par
 use Rattle.io_manager.specs.Calls.{are_used_up, handle_limit, open_refusal}
 use Rattle.io_manager.specs.Right.{Updates, unless_answered}
 use Rattle.io_manager.specs.Shown.{ManagerView, Holder}
-use Rattle.traced.specs.Opening.{IsNew, IsFirst, IsOpenOn, AreOpened, KeepsAll, OpensOne}
+use Rattle.traced.specs.Opening.{IsNew, IsFirst, IsOpenOn, AreOpened}
+use Rattle.traced.specs.inside.Opening.{KeepsAll, OpensOne}
 use Rattle.traced.proofs.Noting.{get_front, get_last, some_is}
 
 -- ONE HANDLE

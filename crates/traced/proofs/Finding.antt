@@ -5,7 +5,8 @@ use Rattle.std.proofs.lemmas.List.Elements.{All-cons, All-nil}
 use Rattle.machine.specs.declared.Label.{Label}
 use Rattle.machine.specs.declared.Label.TheVariants.{Call, Device, Answer, Cancel, Pause, Resume, Remove, Surprise, Removed}
 use Rattle.traced.specs.declared.Entry.{Entry}
-use Rattle.traced.specs.Entries.{owner_of, WasCalled, row_of, HasOwner, AreRowed, is_row, places, labels_of, IsAnswerTo, IsNoAnswerTo, IsAnswerAt, HasNoAnswer}
+use Rattle.traced.specs.Entries.{owner_of, WasCalled, row_of, HasOwner, AreRowed, is_row, places, labels_of, IsAnswerTo, IsNoAnswerTo, IsAnswerAt}
+use Rattle.traced.specs.inside.Entries.{HasNoAnswer}
 use Rattle.traced.proofs.Noting.{some_is, same_row}
 
 -- PLACES OF A ROW

@@ -38,10 +38,12 @@ use Rattle.io_manager.specs.Right.{as_answer, as_cancel, Told, end_labels, label
 use Rattle.compose.specs.declared.Event.{Event}
 use Rattle.compose.specs.declared.Event.TheVariants.{Open, Close, Read, Write, Flush, CancelIoEx, Mark, QueryRemove, CancelRemove, Remove, SurpriseRemove, Act, Finish, Reset}
 use Rattle.compose.specs.Right.{IsRight}
-use Rattle.traced.specs.Sizes.{sizes_of, labels_of_call, labels_of_transfer, brought_by}
-use Rattle.traced.specs.Slots.{unless_number}
+use Rattle.traced.specs.Sizes.{sizes_of}
+use Rattle.traced.specs.inside.Sizes.{labels_of_call, labels_of_transfer, brought_by}
+use Rattle.traced.specs.inside.Slots.{unless_number}
 use Rattle.traced.specs.Told.{AreNoCalls}
-use Rattle.traced.specs.Serving.{open_at, is_call_event, is_handle_event, admitted_at, unless_told, HaveOneCall, HaveCallsOf, OpensSlot, Serves}
+use Rattle.traced.specs.Serving.{open_at, is_call_event, is_handle_event}
+use Rattle.traced.specs.inside.Serving.{admitted_at, unless_told, HaveOneCall, HaveCallsOf, OpensSlot, Serves}
 
 -- LISTS OF LABELS
 

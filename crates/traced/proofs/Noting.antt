@@ -10,8 +10,10 @@ use Rattle.machine.specs.declared.Label.{Label}
 use Rattle.machine.specs.declared.Label.TheVariants.{Call, Device, Answer, Cancel, Pause, Resume, Remove, Surprise, Removed}
 use Rattle.traced.specs.declared.Entry.{Entry}
 use Rattle.traced.specs.Entries.{entry, owner_of, WasCalled, row_of, HasOwner, AreRowed, is_row, is_call, is_answer, places, count_of, is_call_of, is_answer_of}
-use Rattle.traced.specs.Rows.{RowView, blank, row_at, called, answered, IsRowAt, rows_after, MayStand}
-use Rattle.traced.specs.Pages.{PagesView, owners_after, ready_after, IsAwaited, MayNote, IsNext, HasPlaces, IsReady, AreKept}
+use Rattle.traced.specs.Rows.{RowView, blank, row_at, IsRowAt}
+use Rattle.traced.specs.inside.Rows.{called, answered, rows_after, MayStand}
+use Rattle.traced.specs.Pages.{PagesView, owners_after, ready_after, AreKept}
+use Rattle.traced.specs.inside.Pages.{IsAwaited, MayNote, IsNext, HasPlaces, IsReady}
 
 pub some_is : {A : Type 0} {x y : A} → Some x ≡ Some y → x ≡ y
 some_is {A} {x} {y} e = cc

@@ -13,7 +13,8 @@ use Rattle.machine.specs.Step.{Step, Run}
 use Rattle.machine_laws.specs.NumberLaws.{CallsRise, CallsCount, CallsAwait, awaited, call_numbers, answer_numbers}
 use Rattle.traced.specs.declared.Entry.{Entry}
 use Rattle.traced.specs.Entries.{entry, owner_of, WasCalled, row_of, is_row, is_call, is_answer, calls, labels_of, count_of, is_call_of, is_answer_of}
-use Rattle.traced.specs.Pages.{PagesView, owners_after, ready_after, noted, noted_all, MayNote}
+use Rattle.traced.specs.Pages.{PagesView, owners_after, ready_after, noted, noted_all}
+use Rattle.traced.specs.inside.Pages.{MayNote}
 use Rattle.traced.specs.Told.{one_of, awaited_of, AreTold, AreNoCalls, MayCall, MayNoteAll}
 use Rattle.traced.proofs.Noting.{owner_front, count_snoc, same_row}
 

@@ -82,8 +82,3 @@ pub record IsAnswerAt (number : ℕ) (entries : List Entry) (place : ℕ) : Type
   pub entry : Entry
   pub there : slice_get entries place ≡ Some entry
   pub answers : IsAnswerTo number entry.label
-
--- at none of a row's places, from the k-th of them on, stands the answer to the request
-abbrev pub HasNoAnswer : ℕ → List Entry → List ℕ → ℕ → Type 0
-HasNoAnswer number entries row from =
-    (k place : ℕ) (e : Entry) → from ≤ k → slice_get row k ≡ Some place → slice_get entries place ≡ Some e → IsNoAnswerTo number e.label

@@ -4,9 +4,9 @@ pub mod Pages
 pub mod Told
 pub mod Shares
 pub mod Slots
-pub mod Naming
 pub mod Sizes
 pub mod Serving
 pub mod Opening
 pub mod Traced
 pub mod Sound
+pub mod inside

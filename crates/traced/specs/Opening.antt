@@ -1,5 +1,5 @@
 -- Handles opened for the clients of a book, on a stack of which nothing was asked yet.
-use Rattle.std.specs.Prelude.{◌≡◌, Contains, ◌<◌, ◌≤◌, ℕ, ◌+◌, List, [], Option, Some, None, count_by, is_some, length, slice_get, slice_index_or, IsFalse}
+use Rattle.std.specs.Prelude.{◌≡◌, Contains, ◌<◌, ◌≤◌, ℕ, ◌+◌, List, [], Option, Some, None, length, slice_get, slice_index_or, IsFalse}
 use Rattle.machine.specs.Rules.{Rules}
 use Rattle.machine.specs.State.{opening}
 use Rattle.machine_laws.specs.LabelsLeft.{labels_left}
@@ -8,8 +8,7 @@ use Rattle.io_manager.specs.declared.Answer.{Answer}
 use Rattle.io_manager.specs.declared.Handle.{Handle}
 use Rattle.io_manager.specs.declared.OpenHandle.{OpenHandle}
 use Rattle.io_manager.specs.declared.Refusal.TheVariants.{InvalidParameter, DeviceBusy}
-use Rattle.io_manager.specs.Calls.{handle_limit, status_of_refusal, open_refusal}
-use Rattle.io_manager.specs.Right.{Updates}
+use Rattle.io_manager.specs.Calls.{handle_limit}
 use Rattle.io_manager.specs.Shown.{ManagerView}
 use Rattle.traced.specs.declared.opening.OpenFault.{OpenFault}
 use Rattle.traced.specs.declared.opening.OpenFault.TheVariants.{Refused, NoMemory}
@@ -78,28 +77,6 @@ IsOpenFault rules partitions NoMemory = Unit {0}
 
 -- ONE HANDLE
 
--- nothing but the handles changed
-pub record KeepsAll (old new : ManagerView) : Type 0 where
-  pub same_rules : new.rules ≡ old.rules
-  pub same_state : new.state ≡ old.state
-  pub no_labels : new.labels ≡ []
-  pub same_open : (k : ℕ) → open_at new k ≡ open_at old k
-  pub same_answers : (answer : Answer) → Contains new.answers answer → Contains old.answers answer
-
--- a handle more, under the next number and in a slot that was free
-pub record OpensOne (old : ManagerView) (partition : ℕ) (handle : Handle) (new : ManagerView) : Type 0 where
-  pub keeps : KeepsAll old new
-  pub few : count_by is_some old.handles < handle_limit
-  pub number : handle.number ≡ old.next_handle
-  pub counted : new.next_handle ≡ old.next_handle + 1
-  pub was_free : slice_index_or old.handles handle.slot None ≡ None
-  pub opens : Updates old.handles new.handles handle.slot (Some (record { number = handle.number; partition = partition }))
-
 -- neither the rules nor the state changed
 abbrev pub IsSame : ManagerView → ManagerView → Type 0
 IsSame old new = (new.rules ≡ old.rules) × (new.state ≡ old.state)
-
--- none, and why
-abbrev pub RefusesOne : ManagerView → ℕ → OpenFault → ManagerView → Type 0
-RefusesOne old partition NoMemory new = ⊥
-RefusesOne old partition (Refused reason) new = (open_refusal old partition ≡ Some (status_of_refusal reason)) × IsSame old new

@@ -6,7 +6,8 @@ use Rattle.machine.specs.State.{State}
 use Rattle.machine_laws.specs.NumberLaws.{awaited}
 use Rattle.traced.specs.declared.Entry.{Entry}
 use Rattle.traced.specs.Entries.{owner_of, WasCalled, is_row, calls, count_of, is_call_of, is_answer_of}
-use Rattle.traced.specs.Pages.{PagesView, noted, MayNote}
+use Rattle.traced.specs.Pages.{PagesView, noted}
+use Rattle.traced.specs.inside.Pages.{MayNote}
 
 -- one for a number of a row, and none for another
 abbrev pub one_of : List ℕ → ℕ → ℕ → ℕ

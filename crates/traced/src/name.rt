@@ -4,7 +4,7 @@ ghost use Rattle.atomic_table.specs.Seated.{TableId};
 ghost use Rattle.machine.specs.Rules.{Rules};
 ghost use Rattle.machine.specs.State.{State, opening};
 ghost use Rattle.chronicle.specs.History.{no_table};
-ghost use Rattle.traced.specs.Naming.{no_rules};
+ghost use Rattle.traced.specs.inside.Naming.{no_rules};
 
 use std::marker::Brand;
 use std::sync::ledger::Ledger;

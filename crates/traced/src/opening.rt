@@ -3,7 +3,8 @@
 ghost use Rattle.std.specs.Prelude.{◌≡◌, [], IfOk, IfErr, IsFalse, MatchResult};
 ghost use Rattle.compose.specs.declared.Event.TheVariants.{Open};
 ghost use Rattle.compose.specs.Right.{IsRight};
-ghost use Rattle.traced.specs.Opening.{AreOpened, IsNew, IsOpenFault, IsSame, OpensOne, RefusesOne};
+ghost use Rattle.traced.specs.Opening.{AreOpened, IsNew, IsOpenFault, IsSame};
+ghost use Rattle.traced.specs.inside.Opening.{OpensOne, RefusesOne};
 
 use adapter::Adapter;
 use compose::{Event, Handle, Refusal, Reply, Stack};

@@ -1,9 +1,11 @@
 ghost use Rattle.std.specs.Prelude.{◌≡◌, ◌<◌, ◌≤◌, ◌+◌, ◌-◌, ◌∷◌, [], ℕ, Some, None, true, false, All, MatchBool, MatchOption, IfOk, IfSome, OnOk, length, slice_get, vec_len, vec_capacity};
 ghost use Rattle.chronicle.specs.Claims.{AllStand};
 ghost use Rattle.traced.specs.declared.Entry.{Entry};
-ghost use Rattle.traced.specs.Entries.{AreRowed, HasNoAnswer, IsAnswerAt, IsAnswerTo, IsNoAnswerTo, WasCalled, is_call, labels_of, owner_of, places, row_of};
-ghost use Rattle.traced.specs.Pages.{ArePages, IsNext, MayNote, owners_after, noted, ready_after};
-ghost use Rattle.traced.specs.Rows.{MayStand, rows_after};
+ghost use Rattle.traced.specs.Entries.{AreRowed, IsAnswerAt, IsAnswerTo, IsNoAnswerTo, WasCalled, is_call, labels_of, owner_of, places, row_of};
+ghost use Rattle.traced.specs.inside.Entries.{HasNoAnswer};
+ghost use Rattle.traced.specs.Pages.{owners_after, noted, ready_after};
+ghost use Rattle.traced.specs.inside.Pages.{ArePages, IsNext, MayNote};
+ghost use Rattle.traced.specs.inside.Rows.{MayStand, rows_after};
 
 use crate::Entry;
 use crate::name::Naming;
@@ -29,7 +31,8 @@ pub(crate) struct Pages<N: Naming> {
 
 impl<N: Naming> Model for Pages<N> {
     ghost use Rattle.std.specs.Prelude.{◌≡◌, ◌+◌, ◌-◌, ◌≤◌, length, vec_len, vec_capacity};
-    ghost use Rattle.traced.specs.Pages.{AreKept, IsReady, PagesView};
+    ghost use Rattle.traced.specs.Pages.{AreKept, PagesView};
+    ghost use Rattle.traced.specs.inside.Pages.{IsReady};
 
     ghost Value = { PagesView };
 

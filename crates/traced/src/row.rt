@@ -1,5 +1,6 @@
 ghost use Rattle.std.specs.Prelude.{◌≡◌, ◌<◌, ◌≤◌, ◌+◌, OnOk, OnErr, IfOk, replicate};
-ghost use Rattle.traced.specs.Rows.{blank, called, answered};
+ghost use Rattle.traced.specs.Rows.{blank};
+ghost use Rattle.traced.specs.inside.Rows.{called, answered};
 
 use std::alloc::{AllocError, Global};
 use std::marker::Model;

@@ -1,5 +1,6 @@
 ghost use Rattle.std.specs.Prelude.{◌≡◌, ◌<◌, ◌^◌};
-ghost use Rattle.traced.specs.Sizes.{AreSizes, brought_by, labels_of_call, labels_of_transfer};
+ghost use Rattle.traced.specs.Sizes.{AreSizes};
+ghost use Rattle.traced.specs.inside.Sizes.{brought_by, labels_of_call, labels_of_transfer};
 
 use compose::Event;
 

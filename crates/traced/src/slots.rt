@@ -1,6 +1,7 @@
 ghost use Rattle.std.specs.Prelude.{◌≡◌, ◌<◌, ◌^◌, ℕ, Some, IfOk, length, replicate, None, max, slice_set, ◌==◌, if◌then◌else◌};
 ghost use Rattle.cancel_marks.specs.Marks.{arming, slot_at, starting, standing};
-ghost use Rattle.traced.specs.Slots.{AreArmed, ArmedBelow, Leaves, LooksAt, LooksNowhere, number_at, unless_number};
+ghost use Rattle.traced.specs.Slots.{LooksAt, LooksNowhere};
+ghost use Rattle.traced.specs.inside.Slots.{AreArmed, ArmedBelow, Leaves, number_at, unless_number};
 
 use crate::name::Naming;
 use cancel_marks::{Marks, Seat};
@@ -18,7 +19,7 @@ pub(crate) struct Slots<N: Naming> {
 
 impl<N: Naming> Model for Slots<N> {
     ghost use Rattle.std.specs.Prelude.{◌≡◌, ◌≤◌, length};
-    ghost use Rattle.traced.specs.Slots.{AreArmed, SlotsView};
+    ghost use Rattle.traced.specs.inside.Slots.{AreArmed, SlotsView};
 
     ghost Value = { SlotsView };
 

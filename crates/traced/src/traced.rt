@@ -16,12 +16,17 @@ ghost use Rattle.traced.specs.Opening.{AreClientsOf, IsFirst};
 ghost use Rattle.traced.specs.Traced.{AreLooked, AreRowsOf, IsTraced, IsCarried, IsLooked, IsServed, IsWanting, HasCounted, bytes_of, may_want};
 ghost use Rattle.traced.specs.declared.Entry.{Entry as EntryView};
 ghost use Rattle.traced.specs.Entries.{IsAnswerAt, IsNoAnswerTo, calls, labels_of, places};
-ghost use Rattle.traced.specs.Pages.{MayNote, noted_all};
-ghost use Rattle.traced.specs.Sizes.{AreSizes, brought_by, sizes_of};
-ghost use Rattle.traced.specs.Serving.{Serves, admitted_at, is_call_event, is_handle_event, open_at, unless_told};
-ghost use Rattle.traced.specs.Slots.{ArmedBelow, LooksNowhere, number_at};
+ghost use Rattle.traced.specs.Pages.{noted_all};
+ghost use Rattle.traced.specs.inside.Pages.{MayNote};
+ghost use Rattle.traced.specs.Sizes.{AreSizes, sizes_of};
+ghost use Rattle.traced.specs.inside.Sizes.{brought_by};
+ghost use Rattle.traced.specs.Serving.{is_call_event, is_handle_event, open_at};
+ghost use Rattle.traced.specs.inside.Serving.{Serves, admitted_at, unless_told};
+ghost use Rattle.traced.specs.Slots.{LooksNowhere};
+ghost use Rattle.traced.specs.inside.Slots.{ArmedBelow, number_at};
 ghost use Rattle.traced.specs.Told.{AreTold, MayCall, MayNoteAll};
-ghost use Rattle.traced.specs.Sound.{IsNamed, IsSound, MayArm, IsGivenBelow, shown, unless_label};
+ghost use Rattle.traced.specs.Sound.{IsNamed};
+ghost use Rattle.traced.specs.inside.Sound.{IsSound, MayArm, IsGivenBelow, shown, unless_label};
 
 use crate::Entry;
 use crate::name::Naming;
@@ -68,7 +73,7 @@ impl<A: Adapter, N: Naming> Model for Traced<A, N> {
     ghost use Rattle.traced.specs.Traced.{TracedView};
     ghost use Rattle.traced.specs.Opening.{AreClientsOf};
     ghost use Rattle.traced.specs.Sizes.{AreSizes, sizes_of};
-    ghost use Rattle.traced.specs.Sound.{IsSound, shown};
+    ghost use Rattle.traced.specs.inside.Sound.{IsSound, shown};
 
     ghost Value = { TracedView };
 

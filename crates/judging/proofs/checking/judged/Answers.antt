@@ -1,5 +1,5 @@
 use Rattle.std.proofs.Common.{rules, ◌≡◌, ◌∙◌, subst, Some}
-use Rattle.judging.specs.Checked.{IsFound}
+use Rattle.judging.specs.inside.Checked.{IsFound}
 use Rattle.judging.proofs.Stopping.{judged_broken, judged_legal}
 use Rattle.judging.proofs.checking.judged.Goals as goal
 

@@ -1,5 +1,5 @@
 use Rattle.std.proofs.Common.{◌≡◌, ap, sym, ◌∙◌}
-use Rattle.label_text.specs.Reading.{label_at, parted}
+use Rattle.label_text.specs.inside.Reading.{label_at, parted}
 use Rattle.label_text.proofs.Understood.{none_spelled, only_one, read_spells}
 use Rattle.label_text.proofs.reading.read_line.Goals as goal
 

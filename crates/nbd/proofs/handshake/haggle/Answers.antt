@@ -3,7 +3,7 @@ use Rattle.nbd.specs.declared.End.TheVariants.{Input}
 use Rattle.nbd.proofs.Serving.{told_nothing}
 use Rattle.nbd.proofs.Haggling.{cut_short, ends_among_options}
 use Rattle.std.proofs.Common.{subst}
-use Rattle.nbd.specs.Handshake.{Haggles}
+use Rattle.nbd.specs.inside.Handshake.{Haggles}
 use Rattle.nbd.proofs.Haggling.{ends_by_option, haggles_more}
 use Rattle.nbd.proofs.handshake.haggle.Goals as goal
 

@@ -1,5 +1,5 @@
 use Rattle.nbd.specs.declared.options.Next.TheVariants.{Options}
-use Rattle.nbd.specs.Handshake.{Haggles}
+use Rattle.nbd.specs.inside.Handshake.{Haggles}
 use Rattle.nbd.proofs.handshake.haggle.Given as goal
 
 abbrev pub invariant-loop : goal.invariant-loop

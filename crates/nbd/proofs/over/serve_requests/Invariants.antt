@@ -1,5 +1,5 @@
 use Rattle.std.proofs.Common.{◌≡◌}
-use Rattle.nbd.specs.Over.{ServedOver}
+use Rattle.nbd.specs.inside.Over.{ServedOver}
 use Rattle.nbd.proofs.over.serve_requests.Given as goal
 
 abbrev pub invariant-loop : goal.invariant-loop

@@ -1,4 +1,4 @@
-use Rattle.nbd.specs.Session.{Served}
+use Rattle.nbd.specs.inside.Session.{Served}
 use Rattle.nbd.proofs.session.serve_requests.Given as goal
 
 abbrev pub invariant-loop : goal.invariant-loop

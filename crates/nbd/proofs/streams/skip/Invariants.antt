@@ -1,5 +1,5 @@
 use Rattle.std.proofs.Common.{◌≤◌, ◌-◌}
-use Rattle.nbd.specs.Streams.{Skips}
+use Rattle.nbd.specs.inside.Streams.{Skips}
 use Rattle.nbd.proofs.streams.skip.Given as goal
 
 abbrev pub invariant-loop-left : goal.invariant-loop-left

@@ -1,5 +1,5 @@
 use Rattle.std.proofs.Common.{◌≡◌, ◌+◌, All, length}
-use Rattle.sector_journal.specs.Stocking.{IsOfLength}
+use Rattle.sector_journal.specs.inside.Stocking.{IsOfLength}
 use Rattle.sector_journal.proofs.shelf.fill.Given as goal
 
 abbrev pub invariant-loop : goal.invariant-loop

@@ -1,5 +1,5 @@
 use Rattle.std.proofs.Common.{◌≤◌, length}
-use Rattle.traced.specs.Entries.{HasNoAnswer}
+use Rattle.traced.specs.inside.Entries.{HasNoAnswer}
 use Rattle.traced.proofs.pages.last_answer.Given as goal
 
 abbrev pub invariant-loop-left : goal.invariant-loop-left

@@ -1,6 +1,6 @@
 use Rattle.std.proofs.Common.{◌≡◌}
 use Rattle.traced.specs.Traced.{AreLooked}
-use Rattle.traced.specs.Sound.{IsSound, shown}
+use Rattle.traced.specs.inside.Sound.{IsSound, shown}
 use Rattle.traced.proofs.traced.look_all.Given as goal
 
 abbrev pub invariant-loop-slot : goal.invariant-loop-slot

@@ -1,5 +1,5 @@
 use Rattle.std.proofs.Common.{◌*◌, ap, subst}
-use Rattle.disk.specs.Sparse.{AreWhole, PutsZeros}
+use Rattle.disk.specs.inside.Sparse.{AreWhole, PutsZeros}
 use Rattle.disk.proofs.Chunked.{on_each, whole_unchanged, whole_with_zeros}
 use Rattle.disk.proofs.chunks.Chunks.make.Goals as goal
 

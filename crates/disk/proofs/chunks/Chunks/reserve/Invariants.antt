@@ -1,5 +1,5 @@
 use Rattle.std.proofs.Common.{◌≡◌, ℕ, ◌+◌, ◌/◌, ◌≤◌, ◌<◌}
-use Rattle.disk.specs.SparseDisk.{IsThere, Makes, MakesOf}
+use Rattle.disk.specs.inside.SparseDisk.{IsThere, Makes, MakesOf}
 use Rattle.disk.proofs.chunks.Chunks.reserve.Given as goal
 
 -- the chunks of all sectors before the rest are there

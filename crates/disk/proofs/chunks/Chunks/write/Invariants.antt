@@ -1,5 +1,5 @@
 use Rattle.std.proofs.Common.{◌≡◌, ◌+◌, ◌-◌, ◌≤◌}
-use Rattle.disk.specs.SparseDisk.{Overwrites}
+use Rattle.disk.specs.inside.SparseDisk.{Overwrites}
 use Rattle.disk.proofs.chunks.Chunks.write.Given as goal
 
 -- the sectors before the rest are written

@@ -1,5 +1,5 @@
 use Rattle.std.specs.Simd.{first_chunks}
-use Rattle.disk.specs.Chunks.{All-first_chunks}
+use Rattle.disk.specs.inside.Chunks.{All-first_chunks}
 use Rattle.disk.proofs.Cutting.{length-first_chunks, concat-first_chunks}
 use Rattle.disk.proofs.SparseShown.{shown_written, there_from_reserved, within_chunks, writes_sectors}
 use Rattle.disk.proofs.sparse_disk.SparseDiskMedium.write.Goals as goal

@@ -1,7 +1,7 @@
 use Rattle.std.proofs.Common.{ap, ◌∙◌}
 use Rattle.std.specs.Simd.{first_chunks}
 use Rattle.sector.specs.Splice.{splice}
-use Rattle.disk.specs.Chunks.{All-first_chunks}
+use Rattle.disk.specs.inside.Chunks.{All-first_chunks}
 use Rattle.disk.specs.VecDisk.{shown}
 use Rattle.disk.proofs.Cutting.{length-first_chunks, concat-first_chunks, sectors_written}
 use Rattle.disk.proofs.Shown.{within_sectors}

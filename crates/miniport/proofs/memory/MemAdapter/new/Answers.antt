@@ -1,5 +1,5 @@
 use Rattle.std.proofs.Common.{ap, ◌∙◌}
-use Rattle.miniport.specs.Slots.{Table}
+use Rattle.miniport.specs.inside.Slots.{Table}
 use Rattle.miniport.specs.Memory.{view_of}
 use Rattle.miniport.proofs.Showing.{shown_new}
 use Rattle.miniport.proofs.memory.MemAdapter.new.Goals as goal

@@ -1,7 +1,8 @@
 use Rattle.std.proofs.Common.{◌≡◌, ◌≤◌, ◌*◌, ℕ, Bool, arith, subst}
 use Rattle.disk.specs.Medium.{MediumView}
-use Rattle.miniport.specs.Slots.{Table}
-use Rattle.miniport.specs.Memory.{MemView, AdapterKept, view_of}
+use Rattle.miniport.specs.inside.Slots.{Table}
+use Rattle.miniport.specs.Memory.{MemView, view_of}
+use Rattle.miniport.specs.inside.Memory.{AdapterKept}
 use Rattle.miniport.proofs.Serving.{order_seen}
 use Rattle.miniport.proofs.memory.MemAdapterAdapter.failures.Goals as goal
 

@@ -1,5 +1,5 @@
 use Rattle.std.proofs.Common.{arith, ap, ◌∙◌}
-use Rattle.miniport.specs.Slots.{Table, with_reset_at}
+use Rattle.miniport.specs.inside.Slots.{Table, with_reset_at}
 use Rattle.miniport.proofs.Resetting.{labels_so_far, failures_so_far, one_more}
 use Rattle.miniport.proofs.table.TagTable.reset.Goals as goal
 

@@ -1,5 +1,5 @@
 use Rattle.std.proofs.Common.{◌≡◌}
-use Rattle.miniport.specs.Slots.{with_first_reset}
+use Rattle.miniport.specs.inside.Slots.{with_first_reset}
 use Rattle.miniport.proofs.table.TagTable.reset.Given as goal
 
 abbrev pub invariant-loop-tag : goal.invariant-loop-tag

@@ -1,5 +1,5 @@
 use Rattle.std.proofs.Common.{ap, ◌∙◌, sym, Some}
-use Rattle.miniport.specs.Slots.{Table, with_slot, with_reset_counted}
+use Rattle.miniport.specs.inside.Slots.{Table, with_slot, with_reset_counted}
 use Rattle.miniport.proofs.Resetting.{reset_one}
 use Rattle.miniport.proofs.table.TagTable.reset_at.Goals as goal
 

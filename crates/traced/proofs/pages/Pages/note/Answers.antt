@@ -1,6 +1,7 @@
 use Rattle.std.proofs.Common.{rules, ◌≡◌, ◌-◌, false, sym, ap, subst, length, vec_len, vec_capacity}
 use Rattle.traced.specs.Entries.{is_call}
-use Rattle.traced.specs.Pages.{PagesView, MayNote}
+use Rattle.traced.specs.Pages.{PagesView}
+use Rattle.traced.specs.inside.Pages.{MayNote}
 use Rattle.traced.proofs.Noting.{stands, keeps, stays_ready}
 use Rattle.traced.proofs.pages.Pages.note.Goals as goal
 

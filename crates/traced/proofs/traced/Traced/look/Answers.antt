@@ -1,6 +1,6 @@
 use Rattle.std.proofs.Common.{subst}
 use Rattle.traced.specs.Traced.{TracedView, AreLooked}
-use Rattle.traced.specs.Sound.{shown}
+use Rattle.traced.specs.inside.Sound.{shown}
 use Rattle.traced.proofs.traced.Traced.look.Goals as goal
 
 pub returns-clause-looked : goal.returns-clause-looked

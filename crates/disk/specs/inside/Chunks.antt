@@ -7,7 +7,8 @@ use Rattle.std.proofs.Common.{arith, length-drop, mul-le-mul_right}
 use Rattle.std.proofs.lemmas.List.{length-replicate, length-take-le}
 use Rattle.std.proofs.lemmas.List.Elements.{All-nil, All-cons}
 use Rattle.sector.specs.Extents.{IsSector}
-use Rattle.disk.specs.Sparse.{AreWhole, ByNumber, chunk_bytes, chunk_length, held, sector_at}
+use Rattle.disk.specs.Sparse.{ByNumber, chunk_bytes, chunk_length, held, sector_at}
+use Rattle.disk.specs.inside.Sparse.{AreWhole}
 
 pub All-first_chunks : (size count : ℕ) (bytes : List ℕ) → length bytes ≡ count * size
     → All (IsSector size) (first_chunks size count bytes)

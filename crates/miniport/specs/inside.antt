@@ -1,0 +1,5 @@
+-- What no reader of the public clauses needs.
+pub mod Apart
+pub mod Memory
+pub mod Slots
+pub mod Suiting

@@ -1,0 +1,7 @@
+-- What no reader of the public clauses needs.
+pub mod Carrying
+pub mod Handshake
+pub mod Options
+pub mod Over
+pub mod Session
+pub mod Streams

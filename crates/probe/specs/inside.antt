@@ -1,0 +1,3 @@
+-- What no reader of the public clauses needs.
+pub mod Capacity
+pub mod Exchange

@@ -1,0 +1,10 @@
+-- What no reader of the public clauses needs.
+pub mod Entries
+pub mod Naming
+pub mod Opening
+pub mod Pages
+pub mod Rows
+pub mod Serving
+pub mod Sizes
+pub mod Slots
+pub mod Sound
