@@ -44,7 +44,7 @@ pub record IsFlushOf (bytes : List ℕ) (lba count : ℕ) (entry : Entry) : Type
   pub none : length bytes ≡ 0
   pub none_booked : length entry.bytes ≡ 0
 
--- the entry may be of an act of this command, sent with these bytes, on a disk of so many sectors
+-- the entry may be of an act of this command, sent with these bytes, on a disk of this many sectors
 abbrev pub MayBeOf : ℕ → ℕ → List ℕ → Entry → Cdb → Type 0
 MayBeOf size sectors bytes entry (Read10 lba count fua) = IsTransferOf size sectors bytes Read lba count entry
 MayBeOf size sectors bytes entry (Write10 lba count fua) = IsTransferOf size sectors bytes Write lba count entry × (entry.bytes ≡ bytes)

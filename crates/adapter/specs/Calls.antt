@@ -26,7 +26,7 @@ pub record ActsOrFaults (old : AdapterView) (tag : ℕ) (new : AdapterView) : Ty
 abbrev pub HasNoneFresh : AdapterView → ℕ → Type 0
 HasNoneFresh view tag = (use' : TagInUse) (others : List TagInUse) → IsOn view tag use' others → use'.fate ≢ Fresh
 
--- and nothing changes
+-- nothing changes
 pub record ActsNot (old : AdapterView) (tag : ℕ) (new : AdapterView) : Type 0 where
   pub none_fresh : HasNoneFresh old tag
   pub same : new ≡ old

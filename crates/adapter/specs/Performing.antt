@@ -19,7 +19,7 @@ long_capacity_data allocation size sectors = take allocation (big_bytes 8 (lengt
 abbrev pub HandsOver : List (List ℕ) → ℕ → ℕ → List (List ℕ) → List (List ℕ) → Type 0
 HandsOver sectors lba count moved after = (lba + count ≤ length sectors) × (moved ≡ slice_range sectors lba (lba + count)) × (after ≡ sectors)
 
--- so many whole sectors of these bytes, which lie in the disk
+-- these bytes are this many whole sectors, which lie in the disk
 abbrev pub IsCut : ℕ → List (List ℕ) → List ℕ → ℕ → ℕ → List (List ℕ) → Type 0
 IsCut size sectors bytes lba count moved = (lba + count ≤ length sectors) × (concat moved ≡ bytes) × (length moved ≡ count) × All (IsSector size) moved
 
@@ -40,7 +40,7 @@ Performs size sectors bytes (Write16 lba count fua) moved after = Replaces size 
 Performs size sectors bytes (Sync16 lba blocks) moved after = (moved ≡ [] ∷ []) × (after ≡ sectors)
 Performs size sectors bytes (ReadCapacity16 allocation) moved after = (moved ≡ long_capacity_data allocation size sectors ∷ []) × (after ≡ sectors)
 
--- so many whole sectors that lie in the disk; who is told of its sectors hands them over
+-- this many whole sectors, which lie in the disk; the teller of its sectors hands them over
 abbrev pub HandsOverIfTold : Bool → ℕ → List (List ℕ) → ℕ → ℕ → List (List ℕ) → Type 0
 HandsOverIfTold told size sectors lba count moved =
     (lba + count ≤ length sectors) × (length moved ≡ count) × All (IsSector size) moved × (IsTrue told → moved ≡ slice_range sectors lba (lba + count))

@@ -45,7 +45,7 @@ pub record AdapterView : Type 0 where
   pub failures : ℕ
   -- the extents whose writing was reserved
   pub reserved : List Extent
-  -- sectors are reserved in runs of so many, counted from sector 0
+  -- sectors are reserved in runs of this many, counted from sector 0
   pub run : ℕ
   -- recorded and not yet taken, the earliest first
   pub labels : List DeviceLabel
@@ -78,7 +78,7 @@ pub record IsInOrder (view : AdapterView) : Type 0 where
 abbrev pub HasTag : ℕ → TagInUse → Type 0
 HasTag tag use' = use'.tag ≡ tag
 
--- its tag is another
+-- it has another tag
 abbrev pub HasNotTag : ℕ → TagInUse → Type 0
 HasNotTag tag use' = use'.tag ≢ tag
 
@@ -97,7 +97,7 @@ pub record IsSpoiled (before after : Srb) : Type 0 where
   pub as_many : length after.data ≡ length before.data
   pub of_write : (lba count : ℕ) (fua : Bool) → AsksToWrite before.block lba count fua → after.data ≡ before.data
 
--- its piece never acts, and has this SRB from now on
+-- its piece never acts, and this SRB is left to it
 abbrev pub faulted : Srb → TagInUse → TagInUse
 faulted srb use' = record use' { fate = Faulted; srb = srb }
 
@@ -199,7 +199,7 @@ pub record FaultsOn (old : AdapterView) (tag piece : ℕ) (new : AdapterView) : 
 abbrev pub IsBusReset : Completion → Type 0
 IsBusReset completion = bit_and completion.srb_status 63 ≡ 14
 
--- how a piece may come back with so many failures counted: good where it acted and met no reset, busy where it did nothing, bad
+-- how a piece may come back with this many failures counted: good where it acted and met no reset, busy where it did nothing, bad
 -- where failures were counted since it was accepted; after a reset as BUS_RESET
 abbrev pub MayReturn : ℕ → TagInUse → Class → Type 0
 MayReturn failures use' Good = ((moved : List (List ℕ)) × (use'.fate ≡ Acted moved)) × IsFalse use'.was_reset

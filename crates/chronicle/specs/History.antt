@@ -50,7 +50,7 @@ module _ {E : Type 0} where
   abbrev pub Kept : State (Unit {0}) (View E) → Type 0
   Kept s = HistoryKept s.views
 
-  -- What each of the two kinds of step tells the seat: these entries were added behind all others
+  -- What each of the two kinds of step tells the seat: these entries were added at the end
   abbrev pub Adds : List E → Step (Unit {0}) → Sat E → ℕ → Sat E → Type 0
   Adds more s me found after = after ≡ (record me.0 { entries = me.0.entries ++ more }, me.1)
 

@@ -6,7 +6,7 @@
 //! prove to who has the lock, though nothing is known of what lies under a lock but its type's invariant.
 //!
 //! What is promised to the crate above, of any type of entry:
-//! - only `Whole::add` changes the list, and it adds just its entry behind all others (`add`); there is one `Whole` of a
+//! - only `Whole::add` changes the list, and it adds just its entry, at the end (`add`); there is one `Whole` of a
 //!   history (`one_whole`);
 //! - a claim is given on an entry that stands at its place (`claim`), and claims come from claims alone (`join`, `again`);
 //! - whatever was claimed stands in the list whenever one looks (`check`, `claims_stand`).
@@ -126,7 +126,7 @@ impl<E> Opened<E> {
 }
 
 impl<E, N: Naming> Whole<E, N> {
-    /// Adds an entry behind all others.
+    /// Adds an entry at the end.
     pub fn add(&mut self, history: &History<E, N>, entry: &E)
         ensures { self.new ≡ self.old ++ entry.now ∷ [] }
     {
@@ -169,7 +169,7 @@ impl<E, N: Naming> Whole<E, N> {
         *claims = self.compare(history, taken);
     }
 
-    // The same of claims that are handed in and back.
+    // The same, for claims that are handed in and back.
     #[tactic(auto, using(crate::proofs::Steps::gathers, crate::proofs::Steps::parts))]
     fn compare(&mut self, history: &History<E, N>, claims: Claims<E, N>) -> Claims<E, N>
         ensures same { (self.new ≡ self.old) × (result ≡ claims) }

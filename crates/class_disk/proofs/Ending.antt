@@ -57,7 +57,7 @@ all_one mark (m ∷ marks) all =
     let more : marks ≡ replicate (length marks) mark = all_one mark marks (All-tail (Is mark) m marks all) in
     rw e (ap (λ ms. mark ∷ ms) more)
 
--- so many of them
+-- this many of them
 so_many : (mark : Mark) (marks : List Mark) (count : ℕ) → length marks ≡ count → All (Is mark) marks → marks ≡ replicate count mark
 so_many mark marks count long all = subst (λ n. marks ≡ replicate n mark) long (all_one mark marks all)
 

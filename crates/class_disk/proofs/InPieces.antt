@@ -58,7 +58,7 @@ more_left : (left : ℕ) → 0 < left → one_if_more left ≡ 1
 more_left zero some = absurd (omega arith)
 more_left (suc left) some = let more : (suc left == 0) ≡ false = search (rules, tests) in ap (λ b. if b then 0 else 1) more
 
--- so many pieces make these places
+-- this many pieces make these places
 abbrev made_of : ℕ → ℕ → ℕ
 made_of longest places = places / longest + one_if_more (places % longest)
 

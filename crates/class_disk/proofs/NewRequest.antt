@@ -58,7 +58,7 @@ pub places_by_request : (rules : Rules) (parts : List Part) → map (places_of r
 places_by_request rules [] = refl
 places_by_request rules (part ∷ parts) = ap (λ ns. places_of rules part ∷ ns) (places_by_request rules parts)
 
--- so many sectors from this piece on
+-- this many sectors from this piece on
 pub left_from : (extent : Extent) (limit a n : ℕ) → extent.count ≤ (a + n) * limit → total (map (λ k. (piece_of extent limit k).count) (range_with_len a n)) ≡ extent.count - a * limit
 left_from extent limit a zero past = let e : (a + 0) * limit ≡ a * limit = ap (λ x. x * limit) (omega arith) in omega (arith, e)
 left_from extent limit a (suc n) past =

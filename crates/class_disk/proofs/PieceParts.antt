@@ -15,7 +15,7 @@ use Rattle.class_disk.specs.inside.Joint.{IsPartOf}
 use Rattle.class_disk.specs.PortRules.{below_rules}
 use Rattle.class_disk.proofs.Admitting.{sectors_are}
 
--- these bytes are what those have from a place on, for so many places
+-- these bytes are what those have from a place on, for this many places
 abbrev pub AreBytesFrom : (size at count : ℕ) (bytes whole : List ℕ) → Type 0
 AreBytesFrom size at count bytes whole = (a n : ℕ) → a + n ≤ count → slice_range bytes (a * size) ((a + n) * size) ≡ slice_range whole ((at + a) * size) ((at + a + n) * size)
 

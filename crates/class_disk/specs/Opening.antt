@@ -4,7 +4,7 @@ use Rattle.machine.specs.State.{opening}
 use Rattle.device.specs.View.{DeviceView}
 use Rattle.class_disk.specs.Shown.{class_rules, IsPort}
 
--- as many requests may be submitted, over a layer that takes so many
+-- the requests that may be submitted, over a layer that takes this many
 abbrev pub most_over : ℕ → ℕ
 most_over most_below = min (most_below / 2 ^ 17) (2 ^ 63)
 

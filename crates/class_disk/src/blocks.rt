@@ -99,7 +99,7 @@ fn write_of(lba: u64, count: u64, fua: bool) -> Cdb
     }
 }
 
-/// A flush of a whole disk of so many sectors, likewise.
+/// A flush of a whole disk of this many sectors, likewise.
 fn flush_of(disk_sectors: u64) -> Cdb
     ensures { result ≡ flush_command disk_sectors }
 {
@@ -110,7 +110,7 @@ fn flush_of(disk_sectors: u64) -> Cdb
     }
 }
 
-/// The command that asks for all of a request of a disk of so many sectors.
+/// The command that asks for all of a request of a disk of this many sectors.
 fn command_of(disk_sectors: u64, request: &Request) -> Cdb
     requires { FitsBlock request.now }
     ensures { result ≡ disk_command disk_sectors request.now request.now.kind }
@@ -134,7 +134,7 @@ fn direction(kind: Kind) -> SrbFlags
     }
 }
 
-/// The SRB of a request of a disk of so many sectors, with its two buffers, each of the request's length.
+/// The SRB of a request of a disk of this many sectors, with its two buffers, each of the request's length.
 pub fn srb_for(disk_sectors: u64, request: &Request, data: Bytes, for_label: Bytes) -> Srb
     requires fits { FitsBlock request.now }
     requires volume { request.now.volume ≡ 0 }

@@ -81,7 +81,7 @@ abbrev pub IsOfPiece : ℕ → ℕ → Result Entry Completion → Type 0
 IsOfPiece tag piece (Ok entry) = (entry.piece ≡ piece) × (entry.tag ≡ tag)
 IsOfPiece tag piece (Err completion) = Unit {0}
 
--- the entries with that of what was booked, if it is one
+-- the entries, and the one that was booked, if it is one
 abbrev pub with_entry : List Entry → Result Entry Completion → List Entry
 with_entry entries (Ok entry) = entries ++ entry ∷ []
 with_entry entries (Err completion) = entries

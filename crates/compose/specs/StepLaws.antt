@@ -1,4 +1,4 @@
--- Laws of every right step, for who keeps the trace of a stack.
+-- Laws of every right step. A crate that keeps the trace of a stack rests on them.
 use Rattle.std.specs.Prelude.{◌≡◌, ◌⊎◌, ℕ, List, [], ◌∷◌, All, Contains, MatchOption}
 use Rattle.ntstatus.specs.declared.NtStatus.{NtStatus}
 use Rattle.sector.specs.declared.Extent.{Extent}
@@ -60,7 +60,7 @@ StepsLeaveAnswers =
     → IsAnsweredBy reply ⊎ Contains new.answers
     (record { number = number; status = status; information = informed; bytes = bytes })
 
--- the request whose call the step tells under this number opens as so many pieces, on these sectors of the disk
+-- the request whose call the step tells under this number opens as this many pieces, on these sectors of the disk
 pub record OpensAs (rules : Rules) (told : ℕ × Extent) (number : ℕ) (labels : List Label) : Type 0 where
   pub q : ClientRequest
   pub is_called : Contains labels (Call number q)

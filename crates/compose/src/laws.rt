@@ -9,7 +9,7 @@ pub fn steps_call_once()
     ensures { StepsCallOnce }
 {}
 
-/// Of all events only a read, a write and a flush are refused for want of memory.
+/// Only a read, a write and a flush are refused for want of memory.
 pub fn steps_take_no_memory()
     ensures { StepsTakeNoMemory }
 {}

@@ -62,7 +62,7 @@ home_at rules volume i = cases (slice_get rules.partitions volume)
     cases None = refl
     cases (Some e) = refl
 
--- so many sectors further
+-- this many sectors further
 pub home_further : (rules : Rules) (volume i n : ℕ) → home rules (Some volume) (i + n) ≡ home rules (Some volume) i + n
 home_further rules volume i n = home_at rules volume (i + n) ∙ by (slice_get rules.partitions volume) ∙ ap (λ m. m + n) (sym (home_at rules volume i))
   where

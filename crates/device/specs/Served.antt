@@ -229,7 +229,7 @@ pub record ResumesAll (old new : DeviceView) : Type 0 where
 abbrev pub IsBack : Mark → Type 0
 IsBack mark = mark ≡ Back
 
--- as many parts of one length
+-- a number of parts of one length
 abbrev pub cut : ℕ → ℕ → List ℕ → List (List ℕ)
 cut zero size bytes = []
 cut (suc count) size bytes = take size bytes ∷ cut count size (drop size bytes)

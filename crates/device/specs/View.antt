@@ -69,7 +69,7 @@ pub record DeviceView : Type 0 where
   pub packets : List Packet
   -- by spots, what is reserved; the spot of a packet is not reserved
   pub rooms : List (Option Reserved)
-  -- how many requests were submitted so far, and how many may be
+  -- the requests submitted so far, and the most that may be
   pub submitted : ℕ
   pub most : ℕ
   -- the adapter below, with the labels that it recorded and that nobody took yet

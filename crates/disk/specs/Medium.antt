@@ -15,7 +15,7 @@ pub record MediumView : Type 0 where
   pub bad : List ℕ
   -- the extents whose writing was reserved
   pub reserved : List Extent
-  -- sectors are reserved in runs of so many, counted from sector 0
+  -- sectors are reserved in runs of this many, counted from sector 0
   pub run : ℕ
   -- the calls that failed
   pub failures : ℕ

@@ -18,7 +18,7 @@ ByNumber = BTreeMap ℕ (Vec ℕ)
 abbrev pub held : ByNumber → ℕ → Option (List ℕ)
 held chunks number = option_map (λ bytes. bytes.items) (get nat_cmp chunks number)
 
--- as many bytes as a chunk's sectors have
+-- the number of bytes in a chunk
 abbrev pub chunk_length : ℕ → ℕ → ℕ → ℕ
 chunk_length size sectors number = (chunk_of sectors number).count * size
 

@@ -16,7 +16,7 @@ sector_of chunks sector = sector_at chunks.sector_size chunks.sectors chunks.by_
 abbrev pub sectors_of : Chunks → Extent → List (List ℕ)
 sectors_of chunks extent = map (sector_of chunks) (range_with_len extent.first extent.count)
 
--- a disk, of whose sectors those may be written whose chunk is there
+-- a disk where a sector may be written if its chunk is there
 abbrev pub shown : SparseDisk → MediumView
 shown disk = record {
   sector_size = disk.chunks.sector_size;

@@ -151,7 +151,7 @@ impl Chunks {
     }
 }
 
-/// Puts so many zeros at a number, unless something is there.
+/// Puts this many zeros at a number, unless something is there.
 fn put_zeros(
     alloc: Global,
     chunks: &mut BTreeMap<u64, Vec<u8>>,

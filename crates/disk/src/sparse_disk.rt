@@ -27,8 +27,8 @@ impl SparseDisk {
     ghost use Rattle.disk.specs.Medium.{IsBlank, ReservesOnly, StartsWith};
     ghost use Rattle.disk.specs.SparseDisk.{shown};
 
-    /// A disk of so many sectors of zeros, each of `sector_size` bytes, in which the sectors of the list are bad. Numbers that
-    /// are no sectors of it say nothing. It takes no memory.
+    /// A disk of this many sectors of zeros, each of `sector_size` bytes, in which the sectors of the list are bad. Numbers
+    /// that are no sectors of it say nothing. It takes no memory.
     pub fn new(alloc: Global, sector_size: u32, sectors: u64, bad: Vec<u64>) -> SparseDisk
         ensures blank { IsBlank (shown result) sector_size sectors }
         ensures bad { (sector : ℕ) → Contains (shown result).bad sector ↔ Contains bad.items sector }
@@ -41,7 +41,7 @@ impl SparseDisk {
         }
     }
 
-    /// The same disk with some whole sectors at its start, which are put there before the bad list counts: they stand in
+    /// Puts whole sectors at the disk's start before the bad list counts: they stand in
     /// bad sectors too.
     ///
     /// # Errors

@@ -22,8 +22,8 @@ impl VecDisk {
     ghost use Rattle.disk.specs.Medium.{IsBlank, StartsWith, IsWithin, IsReserved, HasBad, failed};
     ghost use Rattle.disk.specs.VecDisk.{shown};
 
-    /// A disk of so many sectors of zeros, each of `sector_size` bytes, in which the sectors of the list are bad. It has fewer
-    /// than 2^64 bytes. Numbers that are no sectors of it say nothing.
+    /// A disk of this many sectors of zeros, each of `sector_size` bytes, in which the sectors of the list are bad. It has
+    /// fewer than 2^64 bytes. Numbers that are no sectors of it say nothing.
     ///
     /// # Errors
     ///
@@ -42,7 +42,7 @@ impl VecDisk {
         VecDisk::starting_with(alloc, sector_size, sectors, &[], bad)
     }
 
-    /// The same disk with some bytes at its start, which are put there before the bad list counts: they stand in bad
+    /// Puts bytes at the disk's start before the bad list counts: they stand in bad
     /// sectors too.
     ///
     /// # Errors

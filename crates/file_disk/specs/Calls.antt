@@ -4,13 +4,13 @@ use Rattle.file_disk.specs.declared.storage.Failure.{Failure}
 
 -- a call, and what came of it
 pub data Call : Type 0 where
-  -- so many bytes from this one on were asked for, and these came
+  -- this many bytes were asked for from this one on, and these came
   ReadAt : (offset count : ℕ) (gave : Result (List ℕ) Failure) → Call
-  -- these bytes were told, from this one on, and so many were taken
+  -- these bytes were told, from this one on, and this many were taken
   WriteAt : (offset : ℕ) (bytes : List ℕ) (took : Result ℕ Failure) → Call
   Sync : (fault : Option Failure) → Call
 
--- what came, where so many bytes stand at the buffer's start
+-- what came, where this many bytes stand at the buffer's start
 abbrev pub given : Result ℕ Failure → List ℕ → Result (List ℕ) Failure
 given (Ok n) buffer = Ok (take n buffer)
 given (Err why) buffer = Err why
@@ -23,7 +23,7 @@ pub record Since (old new : List Call) (Made : List Call → Type 0) : Type 0 wh
 
 -- READS
 
--- of so many bytes from this one on these came so far: each call asked for all that was left
+-- these bytes came so far of a read from this one on: each call asked for all that was left
 abbrev pub Reads : ℕ → ℕ → List ℕ → List Call → Type 0
 Reads offset count got [] = got ≡ []
 Reads offset count got (ReadAt at asked (Ok gave) ∷ calls) =
@@ -46,7 +46,7 @@ StopsReading offset count _ = ⊥
 
 -- WRITES
 
--- of these bytes so many were taken so far, from this one on: each call was told all that was left, in its place
+-- this many of these bytes were taken so far, from this one on: each call was given all that was left, in its place
 abbrev pub Writes : ℕ → List ℕ → ℕ → List Call → Type 0
 Writes offset bytes taken [] = taken ≡ 0
 Writes offset bytes taken (WriteAt at told (Ok took) ∷ calls) =

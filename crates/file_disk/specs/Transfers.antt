@@ -58,7 +58,7 @@ hardware_fault = error 4 0x00 0x00
 
 -- WHAT THE CALLS OF A TASK ARE
 
--- so many bytes from this one on were read, or a call gave nothing
+-- this many bytes were read from this one on, or a call gave nothing
 abbrev pub ReadsBytes : ℕ → ℕ → Result (List ℕ) Completion → List Call → Type 0
 ReadsBytes offset count (Ok bytes) calls = (length bytes ≡ count) × ReadsAll offset bytes calls
 ReadsBytes offset count (Err completion) calls = (completion ≡ read_fault) × StopsReading offset count calls

@@ -236,7 +236,7 @@ impl<S: Storage + Drop> FileDisk<S> {
         }
     }
 
-    /// Room for so many bytes. It takes no memory where as much was taken back.
+    /// Room for this many bytes. It takes no memory where as much was taken back.
     ///
     /// # Errors
     ///

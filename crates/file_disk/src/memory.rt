@@ -30,12 +30,12 @@ impl MemoryFile {
         }
     }
 
-    /// The same, of which a call moves so many bytes at most.
+    /// The same file, where a call moves at most this many bytes.
     pub fn in_steps(self, longest: usize) -> MemoryFile {
         MemoryFile { longest, ..self }
     }
 
-    /// The same, whose call number `before` fails, counted from 0.
+    /// The same file, where call number `before` fails, counted from 0.
     pub fn failing(self, before: u64) -> MemoryFile {
         MemoryFile {
             before: Some(before),
@@ -43,7 +43,7 @@ impl MemoryFile {
         }
     }
 
-    /// The same, which can't be written.
+    /// The same file, which can't be written.
     pub fn write_protected(self) -> MemoryFile {
         MemoryFile {
             protected: true,
@@ -79,7 +79,7 @@ impl MemoryFile {
     }
 }
 
-/// Copies the bytes from `offset` on into the buffer, so many at most: how many.
+/// Copies the bytes from `offset` on into the buffer, at most this many. Returns their number.
 fn copy_from(bytes: &[u8], offset: u64, longest: usize, buffer: &mut [u8]) -> usize
     ensures { result ≤ length buffer.old }
 {
@@ -89,7 +89,7 @@ fn copy_from(bytes: &[u8], offset: u64, longest: usize, buffer: &mut [u8]) -> us
     count
 }
 
-/// Copies the first of these over the bytes from `offset` on, so many at most: how many.
+/// Copies the first of these over the bytes from `offset` on, at most this many. Returns their number.
 fn copy_to(bytes: &mut [u8], offset: u64, longest: usize, told: &[u8]) -> usize
     ensures { result ≤ length told.now }
 {

@@ -9,7 +9,7 @@ use crate::storage::{Failure, Storage};
 ///
 /// # Errors
 ///
-/// That of the call that failed, or [`Failure::Failed`] where one gave nothing.
+/// The failure of the call that failed, or [`Failure::Failed`] where one gave nothing.
 pub fn read_all<S: Storage>(storage: &mut S, offset: u64, buffer: &mut [u8]) -> Result<(), Failure>
     requires { offset + length buffer.old < 2 ^ 64 }
     ensures { MatchResult result (λ _. Since (S.calls storage.old) (S.calls storage.new) (ReadsAll offset buffer.new)) (λ why. Since (S.calls storage.old) (S.calls storage.new) (StopsReading offset (length buffer.old))) }
@@ -29,7 +29,7 @@ pub fn read_all<S: Storage>(storage: &mut S, offset: u64, buffer: &mut [u8]) -> 
 ///
 /// # Errors
 ///
-/// That of the call that failed, or [`Failure::Failed`] where one took nothing.
+/// The failure of the call that failed, or [`Failure::Failed`] where one took nothing.
 pub fn write_all<S: Storage>(storage: &mut S, offset: u64, bytes: &[u8]) -> Result<(), Failure>
     requires { offset + length bytes.now < 2 ^ 64 }
     ensures { MatchResult result (λ _. Since (S.calls storage.old) (S.calls storage.new) (WritesAll offset bytes.now)) (λ why. Since (S.calls storage.old) (S.calls storage.new) (StopsWriting offset bytes.now why)) }

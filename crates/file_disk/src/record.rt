@@ -41,21 +41,21 @@ impl Record {
         ensures { self.new.calls ≡ call_of _numbers.now _bytes.now ∷ self.old.calls }
     {}
 
-    /// Notes a read of so many bytes that gave these.
+    /// Notes a read of this many bytes that gave these.
     pub fn note_read(&mut self, offset: u64, count: u64, gave: &[u8])
         ensures { self.new.calls ≡ ReadAt offset count (Ok gave.now) ∷ self.old.calls }
     {
         self.note(&read_numbers(offset, count, DONE), gave);
     }
 
-    /// Notes a read of so many bytes that failed.
+    /// Notes a read of this many bytes that failed.
     pub fn note_failed_read(&mut self, offset: u64, count: u64, why: Failure)
         ensures { self.new.calls ≡ ReadAt offset count (Err why) ∷ self.old.calls }
     {
         self.note(&read_numbers(offset, count, code_of(why)), &[]);
     }
 
-    /// Notes a write of these bytes that took so many of them.
+    /// Notes a write of these bytes that took this many of them.
     pub fn note_write(&mut self, offset: u64, bytes: &[u8], took: u64)
         ensures { self.new.calls ≡ WriteAt offset bytes.now (Ok took) ∷ self.old.calls }
     {
@@ -95,14 +95,14 @@ fn code_of(why: Failure) -> u64
     }
 }
 
-/// Returns the numbers of a read of so many bytes.
+/// Returns the numbers of a read of this many bytes.
 fn read_numbers(offset: u64, count: u64, code: u64) -> [u64; 4]
     ensures { result ≡ 0 ∷ offset ∷ count ∷ code ∷ [] }
 {
     [0, offset, count, code]
 }
 
-/// Returns the numbers of a write that took so many bytes.
+/// Returns the numbers of a write that took this many bytes.
 fn write_numbers(offset: u64, took: u64, code: u64) -> [u64; 4]
     ensures { result ≡ 1 ∷ offset ∷ took ∷ code ∷ [] }
 {

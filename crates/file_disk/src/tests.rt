@@ -49,7 +49,7 @@ fn same<T: PartialEq + Debug>(rt: &impl Abort, got: &T, wanted: &T) {
     assert_eq!(rt; got, wanted);
 }
 
-/// An SRB with so many bytes of 9.
+/// An SRB with this many bytes of 9.
 fn srb(alloc: Global, block: &[u8; 10], flags: u8, count: usize) -> Result<Srb, Fail>
     requires { count < 2 ^ 20 }
 {

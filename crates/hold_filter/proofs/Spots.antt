@@ -56,7 +56,7 @@ module _ (rules : Rules) (rooms : List (Option Reserved)) (packets : List Packet
     ended_own = k.ended_own;
   }
 
-  -- a packet is held, behind all others
+  -- a packet is queued last
   pub kept_in : (x : Held) → HasRoom rooms x → All (IsOff (spot_in x)) (map packet_in held ++ map packet_in ended)
       → RoomsKept rules rooms packets (held ++ (x.room.spot, x) ∷ []) ended places
   kept_in x is off =

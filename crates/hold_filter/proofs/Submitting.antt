@@ -1,4 +1,4 @@
--- A packet is taken in: it is held, behind all others, or goes below at once.
+-- A packet is taken in: it is queued last, or goes below at once.
 use Rattle.std.proofs.Common.{◌≡◌, ◌<◌, ◌≤◌, inl, inr, ℕ, ◌+◌, Bool, true, false, List, [], ◌∷◌, ◌++◌}
 use Rattle.std.proofs.Common.{Some, None, refl, sym, subst, ap, ◌∙◌, arith, map, length, length-append}
 use Rattle.std.specs.Prelude.{All, Contains, IsPermutation, IsFalse, ◌||◌, ◌&&◌, not, nat_lt}

@@ -17,7 +17,7 @@ pub record FilterView : Type 0 where
   pub queue_visits : ℕ
   pub ended_visits : ℕ
 
--- how many packets are held: at a removal all that were have ended
+-- the number of held packets: at a removal all that were have ended
 abbrev pub held_count : FilterView → ℕ
 held_count f = if f.shown.state.removing then 0 else length f.queue
 

@@ -11,7 +11,7 @@ use crate::verdicts::{Goes, wrong_of};
 use compose::{Handle, Id};
 use std::alloc::{AllocError, Global};
 
-/// So many runs, from this seed on.
+/// This many runs, from this seed on.
 pub fn random_runs(alloc: Global, seed: u64, runs: u64) -> Result<Tally, HostileFault> {
     let mut tally = Tally::new();
     for n in 0..runs {

@@ -38,7 +38,7 @@ const INSERTIONS: [Insertion; 4] = [
     },
 ];
 
-/// After a row each tag acts and is finished so many times: no row has more pieces.
+/// After a row each tag acts and is finished this many times: no row has more pieces.
 const ROUNDS: usize = 8;
 
 /// One more than the acts of the longest row.

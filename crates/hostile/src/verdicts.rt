@@ -12,7 +12,7 @@ use std::fmt;
 /// Sectors of the longest request.
 const LONGEST: u64 = 65_536;
 
-/// So many busy returns end a request.
+/// This many busy returns end a request.
 const BUSY_LIMIT: u64 = 17;
 
 /// What is wrong with a run.

@@ -149,7 +149,7 @@ module _ (takes_srb : Bool) (old new : DeviceView) (spot : ℕ) (irp : Box Irp) 
         requests = rw c.places.requests p.requests;
       }
 
-  -- one more is put by, and one fewer is open
+  -- one more answer is deferred, and one fewer request is open
   pub few_after : (most : ℕ) → deque_len t.answered + slab_len t.requests ≤ most → deque_len t'.answered + slab_len t'.requests ≤ most
   few_after most few =
       let n : slab_len t'.requests + 1 ≡ slab_len t.requests = c.fewer in
@@ -275,7 +275,7 @@ module _ (below mid new : DeviceView) (first t t' : Tables) (g : Gathers below f
           let other : slot ≢ e.closes.slot = grind (arith, nat_tests) in
           ap (λ s. option_map holder_of s) (e.closes.leaves.others slot other) ∙ by_slot other (get t.requests slot) refl
 
-  -- it is another's than all that were put by
+  -- its request is none of those with a deferred answer
   others_put_by : AreApart t.requests t.untaken.items → All (HasOtherNumber (answer_for e.closes.request e.done).number) t.answered.items
   others_put_by apart =
       let untaken : All (HasOtherNumber (answer_for e.closes.request e.done).number) t.untaken.items =
@@ -396,7 +396,7 @@ ended_in_state true p p' s h k =
     subst (λ x. IsInState x s) (sym (h.ended refl).2) (was.0, was.1, (h.ended refl).1)
 ended_in_state false p p' s h k = subst (λ x. IsInState x s) (sym (h.not_ended refl).0) k
 
--- nothing but labels, the answers put by and the state differ
+-- only labels, deferred answers and the state differ
 pub told_sound : (limits : Limits) (mid new : DeviceView) (t t' t'' : Tables) → new ≡ unlabelled mid → IsSoundWith t.answered.items limits mid t
     → t' ≡ record t { labels = t'.labels; answered = t'.answered } → t'.answered.items ≡ [] → (e : EndsRemoval t' t'') → EndsIf e.ends t.state mid.state t''.state
     → deque_capacity t'.labels ≡ deque_capacity t.labels → deque_capacity t'.answered ≡ deque_capacity t.answered → IsSound limits new t''

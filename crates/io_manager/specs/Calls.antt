@@ -31,7 +31,7 @@ number_limit = 2 ^ 62
 abbrev pub are_used_up : ℕ → Bool
 are_used_up next = nat_le number_limit next
 
--- as many handles may be open at once
+-- the most handles that may be open at once
 abbrev pub handle_limit : ℕ
 handle_limit = 64
 
@@ -66,7 +66,7 @@ bytes_called Write bytes = bytes
 bytes_called Read bytes = []
 bytes_called Flush bytes = []
 
--- a call on a handle for so many bytes, which are left out
+-- a call on a handle for this many bytes, which are left out
 abbrev pub asked_on : ManagerView → Handle → Kind → ℕ → ℕ → Bool → ClientRequest
 asked_on v handle kind offset length' through = record {
   partition = partition_of v.handles handle;

@@ -228,7 +228,7 @@ pub record CancelsAllOf (old : ManagerView) (handle : ℕ) (told : Told) : Type 
   pub no_device : told.device ≡ []
   pub holders : told.admitted ≡ old.holders
 
--- an open request is cancelled, if it is not yet, and no piece starts
+-- an open request becomes cancelled, if it is not yet, and no piece starts
 pub record CancelsOne (old : ManagerView) (number : ℕ) (told : Told) : Type 0 where
   pub request : OpenRequest
   pub is_open : Contains old.state.requests request

@@ -24,5 +24,5 @@ pub record ManagerView : Type 0 where
   pub holders : List (Option Holder)
   -- not yet taken, in order
   pub labels : List Label
-  -- those of requests that were open, not yet taken, by rising numbers
+  -- the answers of requests that were open, not yet taken, by rising numbers
   pub answers : List Answer

@@ -123,7 +123,7 @@ impl Limits {
 }
 
 impl Bounds {
-    /// Whether a request asks for whole sectors of its partition, no more than the longest may.
+    /// Whether a request asks for whole sectors of its partition, and for no more than the longest request.
     fn holds(&self, asked: Asked) -> bool
         requires some_bytes { 0 < self.now.sector_size }
         ensures { (rules : Rules) (s : State) (partition : Option ℕ) → AreBoundsOf self.now partition rules s

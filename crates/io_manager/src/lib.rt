@@ -90,7 +90,7 @@ pub struct Answer {
     pub status: NtStatus,
     /// The number of bytes transferred (WDK: IO_STATUS_BLOCK): the length of a read or write that succeeded, else 0.
     pub information: u64,
-    /// Those of a read that succeeded, else none.
+    /// The bytes of a read that succeeded; for any other request none.
     pub bytes: Bytes,
 }
 

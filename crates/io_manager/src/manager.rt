@@ -146,10 +146,10 @@ impl<D: Device> IoManager<D> {
         self.call(alloc, handle, asked, Bytes::new(Vec::new(alloc)))
     }
 
-    /// Returns what a read, a write or a flush of so many bytes, from byte `offset` of the handle's partition on, would
-    /// open if it were called now: the number of pieces that its request is cut into, and its sectors of the disk, in
-    /// order. A flush, of no bytes from the first on, has one piece, and an empty extent where the partition begins. It
-    /// takes no memory.
+    /// Returns what a read, a write or a flush of this many bytes, from byte `offset` of the handle's partition on,
+    /// would open if it were called now: the number of pieces that its request is cut into, and its sectors of the disk,
+    /// in order. A flush, of no bytes from the first on, has one piece, and an empty extent where the partition begins.
+    /// It takes no memory.
     ///
     /// None where the call would be refused or is a read or a write of no bytes, and once request numbers are used up.
     pub fn admits(

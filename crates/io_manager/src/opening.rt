@@ -18,7 +18,7 @@ use std::collections::VecDeque;
 /// Places for answers: as many as a step tells.
 const ANSWER_PLACES: usize = 64;
 
-/// A table of so many slots.
+/// A table of this many slots.
 ///
 /// # Errors
 ///

@@ -20,7 +20,7 @@ use Rattle.judging.specs.inside.Checked.{AreJudged, IsFound, IsJudged, IsSaid}
 use Rattle.judging.specs.declared.told.Told.{Told}
 use Rattle.judging.specs.declared.checking.Stop.{Stop}
 
--- a judge has taken so many of the labels, and its rules are the same
+-- a judge has taken this many of the labels, and its rules are the same
 pub record HasTakenSome (start now : JudgeView) (labels : List Label) (at : ℕ) : Type 0 where
   pub same_rules : now.rules ≡ start.rules
   pub taken : (arrays : List (List (List ℕ))) → HasTaken start arrays [] → HasTaken now arrays (take at labels)

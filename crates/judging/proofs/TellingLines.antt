@@ -18,7 +18,7 @@ use Rattle.judging.specs.Told.{IsBad, IsFirstBad, numbers_from}
 use Rattle.judging.specs.declared.faults.Fault.{Fault}
 use Rattle.judging.specs.declared.faults.Fault.TheVariants.{Usage, Startup, TraceUnreadable, ScriptUnreadable, BadLine, Script, OutputFailed, NoMemory}
 
--- so many lines were read, and these labels are told by them
+-- this many lines were read, and these labels are told by them
 pub record SoFar (texts : List (List ℕ)) (labels : List Label) (numbers : List ℕ) (number : ℕ) : Type 0 where
   pub spelled : AllZip Spells (filter is_told texts) labels
   pub numbers_are : numbers ≡ numbers_from 1 texts

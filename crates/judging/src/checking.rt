@@ -44,8 +44,8 @@ pub fn check<C: Read + Drop, T: Read + Drop, O: Write>(
     check_by(alloc, &standard, trace, out)
 }
 
-/// The same for a stack that cuts a request anywhere: a piece may begin at any place of it, and start again without
-/// end.
+/// The same as `check`, for a stack that cuts a request anywhere: a piece may begin at any place of it, and start again
+/// without end.
 ///
 /// # Errors
 ///

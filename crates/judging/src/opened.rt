@@ -13,7 +13,7 @@ use std::alloc::{AllocError, Global};
 /// Sectors of the longest request.
 const LONGEST: u64 = 65_536;
 
-/// So many busy returns end a request.
+/// The busy returns that end a request.
 const BUSY_LIMIT: u64 = 17;
 
 /// What a trace is judged by.
@@ -92,7 +92,7 @@ fn arrays(
     Ok(arrays)
 }
 
-/// So many sectors of zeros.
+/// Makes this many sectors of zeros.
 fn zeros(alloc: Global, config: &Config, count: u32) -> Result<Vec<Bytes>, AllocError>
     ensures { IfOk result (λ sectors. sectors.items ≡ zeros config.now count) }
 {

@@ -38,7 +38,7 @@ pub fn record_lines<A: Adapter, W: Write>(
     Ok(())
 }
 
-/// The same, but for what the writer holds back.
+/// Records as before, but for what the writer holds back.
 fn record_each<A: Adapter, W: Write>(
     alloc: Global,
     stack: &mut Stack<A>,

@@ -190,7 +190,7 @@ fn two(words: &mut Words<'_>) -> Option<(u64, u64)>
     Some((offset, length))
 }
 
-/// Those of a flush, which has mostly none.
+/// The bytes of a flush, which mostly has none.
 fn flushed(words: &mut Words<'_>) -> Option<(u64, u64)>
     ensures value { result ≡ extent_at Flush words.old }
     ensures rest { OnSome result (words.new ≡ behind_extent Flush words.old) }

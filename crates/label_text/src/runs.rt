@@ -13,7 +13,7 @@ use std::alloc::{AllocError, Global};
 use std::io;
 use std::io::Write;
 
-/// So many equal bytes, one after the other.
+/// Equal bytes in a row.
 #[derive(Debug, Clone, Copy)]
 pub struct Run {
     pub byte: u8,

@@ -97,7 +97,7 @@ IsLane queue tag p = (p.queue ≡ queue) × (p.view.takes ≡ false) × (p.view.
 abbrev pub IsWorker : TableId → Standing → Type 0
 IsWorker queue p = (p.queue ≡ queue) × (p.view.takes ≡ true)
 
--- a lane has put so many items more, of its own tag with the next counts
+-- a lane has put this many items more, of its own tag with the next counts
 abbrev pub more_put : View → ℕ → View
 more_put v zero = v
 more_put v (suc n) = let w = more_put v n in with_put w (item_of v.tag (length w.put))

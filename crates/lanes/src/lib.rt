@@ -8,7 +8,7 @@
 //! - what the worker took, then what the queue holds, is in each lane's part just what that lane put, in its order: items of
 //!   its own tag with rising counts (`QueueKept`, which holds between any two steps; `taken_is_put`, `in_order`);
 //! - [`serve_lane`] puts items of its own tag alone, with the next counts (`put`);
-//! - [`serve_completions`] ends only where it had taken all that was put by one moment (`took`, `emptied`).
+//! - [`serve_completions`] ends only where it had taken all that had been put at one moment (`took`, `emptied`).
 //!
 //! What is not promised: that a lane or the worker gets on or ends; what they have the desk do, and when, is tested.
 //! Where the worker's pass is dropped, nothing more is taken. Where a lane's is, nothing more of its tag is put.

@@ -15,7 +15,7 @@ use std::alloc::{AllocError, Global};
 /// Bytes of a sector.
 const SECTOR_SIZE: usize = 512;
 
-/// Carries so many requests of one sector through a layer, each to its end before the next; how many succeeded.
+/// Carries this many requests of one sector through a layer, each to its end before the next; how many succeeded.
 ///
 /// # Errors
 ///

@@ -9,7 +9,7 @@ use Rattle.machine.specs.Sending.{flush_command}
 use Rattle.device.specs.View.{DeviceView, AsksInLocation, Carries, IsBounded}
 use Rattle.port.specs.Shown.{rules_of}
 
--- rules with these partitions of sectors of 512 bytes, and requests of so many sectors at most
+-- rules with these partitions of sectors of 512 bytes, and requests of this many sectors at most
 abbrev pub rules_on : List Extent → ℕ → Rules
 rules_on table longest =
     record (rules_of (record { sector_size = 512; sectors = 4096; max_transfer = 64; depth = 2; faithful = true })) { partitions = table; longest = longest }

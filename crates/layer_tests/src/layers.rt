@@ -9,7 +9,7 @@ use miniport::MemAdapter;
 use port::Port;
 use std::alloc::{AllocError, Global};
 
-/// A port over so many sectors of 512 bytes, of which these are bad, with two tags and transfers of so many sectors.
+/// A port over this many sectors of 512 bytes, with these bad sectors, two tags and transfers of this many sectors.
 pub(crate) fn port(
     alloc: Global,
     sectors: u64,

@@ -66,7 +66,7 @@ const APART: [Extent; 2] = [
     },
 ];
 
-/// The same two, the higher one first in the table.
+/// These two partitions, with the higher one first in the table.
 const TURNED: [Extent; 2] = [
     Extent {
         first: 3072,

@@ -124,7 +124,7 @@ fn own_location(driver: Driver, takes_srb: bool, request: &Request) -> StackLoca
     }
 }
 
-/// Whose location a packet has, and whether it brings an SRB.
+/// The layer whose location a packet has, and whether it brings an SRB.
 #[derive(Debug, Clone, Copy)]
 pub(crate) struct Form {
     pub driver: Driver,

@@ -17,7 +17,7 @@ use std::alloc::{AllocError, Global};
 use std::process::Abort;
 use std::test::Fail;
 
-/// These steps on a class driver over a port of so many sectors of which nothing was asked yet.
+/// These steps on a class driver over a port of this many sectors of which nothing was asked yet.
 fn run_over<D: Device>(
     rt: &impl Abort,
     alloc: Global,
@@ -44,7 +44,7 @@ fn run(rt: &impl Abort, alloc: Global, steps: &[Step]) -> Result<(), AllocError>
     run_over(rt, alloc, port, 8, steps)
 }
 
-/// The same over 4,096 sectors, with pieces of 16.
+/// The same stack over 4,096 sectors, with pieces of 16.
 fn run_on_large(rt: &impl Abort, alloc: Global, steps: &[Step]) -> Result<(), AllocError> {
     let port = port(alloc, 4096, &[], 16)?;
     run_over(rt, alloc, port, 4096, steps)

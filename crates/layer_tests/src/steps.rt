@@ -57,12 +57,12 @@ pub(crate) enum Step<'a> {
     NoneDone,
     /// The piece on tag 0 comes back busy so often, the first of them with number 1, and is sent again each time.
     SendsAgain(u8),
-    /// Flushes, so many, go down.
+    /// Flushes, this many, go down.
     SubmitFlushes(u8),
     /// One behind the other flushes are started, act and come up: the number of the first piece, the number of the first
     /// packet, and how many.
     Serve(u8, u8, u8),
-    /// So many packets are held.
+    /// The number of packets that are held.
     Holds(usize),
     Pause,
     Resume,

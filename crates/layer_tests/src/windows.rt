@@ -206,7 +206,7 @@ fn removes_what_is_held(rt: HostRuntime) -> Result<(), Fail> {
     Ok(())
 }
 
-// Of 63 that are held three are cancelled, each in another way: they end at once, and the others go on in their order.
+// Three of 63 held packets are cancelled, each in another way: they end at once, and the others go on in their order.
 #[test]
 fn of_sixty_four_the_others_go_in_order(rt: HostRuntime) -> Result<(), Fail> {
     run(

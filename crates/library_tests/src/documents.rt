@@ -64,7 +64,7 @@ fn reads_defaults(rt: HostRuntime) -> Result<(), Fail> {
     Ok(())
 }
 
-/// More requests may be open than are at work: so many as are given, or 64.
+/// More requests may be open than are at work: this many as are given, or 64.
 #[test]
 fn reads_open_requests(rt: HostRuntime) -> Result<(), Fail> {
     let alloc = rt.alloc();

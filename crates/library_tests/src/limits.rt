@@ -3,7 +3,7 @@
 use crate::expect::same_at;
 use compose::Settings;
 
-/// So many requests at work and open, and whether both numbers are from 1 to 64.
+/// The limits on requests at work and open, and whether both are from 1 to 64.
 static LIMITS: [(u32, u32, bool); 6] = [
     (1, 1, true),
     (64, 64, true),

@@ -17,10 +17,10 @@ enum Told {
     /// A write brings this byte.
     Call(Kind, u64, u64, u8),
     Start(Cdb),
-    /// It hands over so many equal bytes.
+    /// It hands over this many equal bytes.
     Act(u8, usize),
     Good,
-    /// SUCCESS, with so many bytes transferred, and so many equal bytes.
+    /// SUCCESS, with this many bytes transferred, and this many equal bytes.
     Answer(u64, u8, usize),
 }
 

@@ -30,7 +30,7 @@ enum Told {
     Busy(u128),
     /// With sense data MEDIUM ERROR.
     Bad(u128),
-    /// An answer with so many bytes, each the same.
+    /// An answer with this many bytes, each the same.
     Answer(u64, NtStatus, u64, usize, u8),
     Cancel(u64),
     Pause,
@@ -43,7 +43,7 @@ enum Told {
 /// What is expected.
 #[derive(Debug, Clone, Copy, PartialEq, Eq)]
 enum Expected {
-    /// A run that leads to so many machines, all settled or not.
+    /// A run that leads to this many machines, all settled or not.
     Run(usize, bool),
     Stops(usize),
 }
@@ -303,7 +303,7 @@ fn each_other_label(rt: HostRuntime) -> Result<(), Fail> {
     Ok(())
 }
 
-/// Of two reads of one sector the first came back busy: a start may be of either, until an answer tells.
+/// The first of two reads of one sector came back busy: a start may be of either, until an answer tells.
 #[test]
 fn two_requests_may_make_a_start(rt: HostRuntime) -> Result<(), Fail> {
     let rows = [

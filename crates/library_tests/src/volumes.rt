@@ -71,7 +71,7 @@ fn volume_on<A: Adapter>(
     }
 }
 
-/// So many equal bytes.
+/// This many equal bytes.
 fn filled(alloc: Global, byte: u8, length: usize) -> Result<Bytes, AllocError> {
     Ok(Bytes::new(vec![in alloc; byte; length]?))
 }
@@ -79,7 +79,7 @@ fn filled(alloc: Global, byte: u8, length: usize) -> Result<Bytes, AllocError> {
 /// A call on a volume.
 #[derive(Debug, Clone, Copy)]
 enum Call {
-    /// From a byte on, so many bytes.
+    /// From a byte on, this many bytes.
     Read(u64, usize),
     /// Equal bytes, and whether past volatile caches.
     Write(u64, usize, u8, bool),
@@ -97,7 +97,7 @@ enum Given {
     Fault(Fault),
 }
 
-/// Whether there are first so many of one byte, and then so many of the other.
+/// Whether there are first this many of one byte, and then this many of the other.
 fn are(bytes: &[u8], first: u8, count: usize, second: u8, more: usize) -> bool {
     bytes.len() == count.saturating_add(more)
         && bytes.iter().take(count).all(|b| *b == first)

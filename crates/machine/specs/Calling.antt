@@ -9,7 +9,7 @@ use Rattle.machine.specs.declared.ClientRequest.{ClientRequest}
 use Rattle.machine.specs.Rules.{Rules, is_transfer, is_in_bounds, place_count}
 use Rattle.machine.specs.State.{Untouched, OpenRequest, State, IsSame}
 
--- as many requests are open as may be
+-- the limit of open requests is reached
 abbrev pub is_full : Option ℕ → ℕ → Bool
 is_full None count = false
 is_full (Some most) count = nat_le most count
@@ -24,7 +24,7 @@ refusal rules s q = first_some (
     ∷ when (is_full rules.open_requests (length s.requests)) DeviceBusy
     ∷ [])
 
--- as many bytes come with a call
+-- the number of bytes that come with a call
 abbrev pub bytes_carried : Kind → ℕ → ℕ
 bytes_carried Write length' = length'
 bytes_carried Read length' = 0

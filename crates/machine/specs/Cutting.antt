@@ -7,7 +7,7 @@ use Rattle.machine.specs.State.{Mark, Untouched, Back, OpenRequest}
 abbrev pub mark_at : OpenRequest → ℕ → Mark
 mark_at o place = get_or o.marks place Untouched
 
--- how many pieces so many places make: one begins at the first of them, and at each multiple of the longest piece
+-- the pieces that this many places make: one begins at the first of them, and at each multiple of the longest piece
 abbrev pub piece_count : Rules → ℕ → ℕ
 piece_count rules places = places / rules.max_transfer + (if places % rules.max_transfer == 0 then 0 else 1)
 

@@ -7,7 +7,7 @@ use Rattle.machine.specs.State.{OpenRequest, State, IsSame}
 abbrev pub as_cancelled : OpenRequest → OpenRequest
 as_cancelled o = record o { cancelled = true }
 
--- an open request that was not cancelled is cancelled from now on; its pieces are let be
+-- an open request that was not cancelled becomes cancelled; its pieces stay as they are
 pub record Cancels (s : State) (number : ℕ) (s' : State) : Type 0 where
   pub request : OpenRequest
   pub others : List OpenRequest
@@ -20,7 +20,7 @@ pub record Cancels (s : State) (number : ℕ) (s' : State) : Type 0 where
 abbrev pub is_lower : ℕ → OpenRequest → Bool
 is_lower number o = nat_lt o.number number
 
--- late from now on where at least a window of requests has lower numbers
+-- it becomes late where at least a window of requests has lower numbers
 abbrev pub beyond : ℕ → List OpenRequest → OpenRequest → OpenRequest
 beyond window requests o = record o { late = o.late || nat_le window (count_by (is_lower o.number) requests) }
 

@@ -6,7 +6,7 @@ use Rattle.sector.specs.declared.Extent.{Extent}
 abbrev pub AreApart : Extent → Extent → Type 0
 AreApart extent other = (extent.first + extent.count ≤ other.first) ⊎ (other.first + other.count ≤ extent.first)
 
--- some sectors of a disk of so many, without sector 0, where the table stands
+-- some sectors of a disk of this many, without sector 0, where the table stands
 pub record IsPartition (sectors : ℕ) (extent : Extent) : Type 0 where
   pub behind_table : 0 < extent.first
   pub some : 0 < extent.count

@@ -45,7 +45,7 @@ pub record AreOnePiece (s : State) : Type 0 where
   pub alike : All HasAlike s.requests
   pub whole : All (IsAll s.requests) s.pieces
 
--- so many busy returns, where a request goes as one piece, once: one on a place that came back busy, and none on any other
+-- the busy returns where a request goes as one piece, once: one on a place that came back busy, and none on any other
 abbrev pub IsBusyBy : ℕ → Mark → Type 0
 IsBusyBy busy Back = busy ≡ 1
 IsBusyBy busy _ = busy ≡ 0

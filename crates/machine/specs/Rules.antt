@@ -26,7 +26,7 @@ pub record Rules : Type 0 where
   pub window : Option ℕ
   -- a request goes as one piece, once
   pub one_piece : Bool
-  -- as many busy returns end a request
+  -- the number of busy returns that end a request
   pub busy_limit : ℕ
   -- a piece begins at any place of its request, and starts again without end
   pub any_cut : Bool
@@ -43,7 +43,7 @@ is_transfer Flush = false
 abbrev pub first_sector : Rules → ClientRequest → ℕ
 first_sector rules q = q.offset / rules.sector_size
 
--- how many places it has: one for each sector; a flush has one, of no sector
+-- the number of its places: one for each sector; a flush has one, of no sector
 abbrev pub place_count : Rules → ClientRequest → ℕ
 place_count rules q = if is_transfer q.kind then q.length / rules.sector_size else 1
 

@@ -36,7 +36,7 @@ pub struct ClientRequest {
     pub length: u64,
     /// Write-through, as in [`Request`].
     pub through: bool,
-    /// Those of a write that was taken in, else none.
+    /// The bytes of a write that was taken in; for any other request none.
     pub bytes: Bytes,
 }
 

@@ -11,7 +11,7 @@ use Rattle.sector.specs.Extents.{sectors_in}
 use Rattle.sector.proofs.Splicing.{length-splice, range_apart}
 use Rattle.machine.proofs.Placed.{get_or-splice_inside, get_or-splice_below, get_or-splice_above}
 
--- the part of so many items from a place on
+-- the part of this many items from a place on
 abbrev pub part : {X : Type 0} → List X → ℕ → ℕ → List X
 part xs first count = take count (drop first xs)
 

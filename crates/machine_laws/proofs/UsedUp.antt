@@ -58,7 +58,7 @@ module _ {X : Type 0} (f : X → ℕ) where
 abbrev one_unless : Bool → ℕ
 one_unless b = if b then 0 else 1
 
--- the labels of a request that was cancelled or not, with so many of its starts, while removing or not
+-- the labels of a request that was cancelled or not, with this many of its starts, while removing or not
 abbrev asked : Bool → Bool → ℕ → ℕ
 asked cancelled removing starts = (if cancelled then 1 else 2) + (if cancelled || removing then 0 else starts)
 

@@ -39,7 +39,7 @@ pub record WritesPartition (p : ℕ) (s : State) (label : Label) : Type 0 where
   pub is_write : act.owner.request.kind ≡ Write
   pub on_partition : partition_number act.owner.request ≡ p
 
--- of write r, at a place that is sector i of partition p; the bytes for that place then stand there
+-- write r wrote a place that is sector i of partition p; the bytes for that place then stand there
 pub record WritesSector (rules : Rules) (r p i : ℕ) (s : State) (label : Label) (s' : State) : Type 0 where
   pub act : IsAct s label
   pub is_request : act.owner.number ≡ r

@@ -39,7 +39,7 @@ from_place table place = take_all (length table - place) (drop place table) (ome
 abbrev pub IsReadAt : List ℕ → ℕ → Entry → Type 0
 IsReadAt table n entry = entry ≡ entry_of (take (length table - (446 + n * 16)) (drop (446 + n * 16) table))
 
--- the partitions of the first so many entries
+-- the partitions of the first this many entries
 abbrev pub partitions_to : List ℕ → ℕ → List Extent
 partitions_to table n = partitions_of (take n (entries_of table))
 
@@ -55,7 +55,7 @@ one_more table n entry within is =
     take_more (entries_of table) n entry within ∙ ap (λ (e : Entry). before ++ e ∷ []) (entry_at table n within entry ∙ here) in
     ap partitions_of more ∙ partitions_of-append before (entry ∷ [])
 
--- the partitions of the first so many entries were found, no more than entries
+-- the partitions of the first this many entries were found, no more than entries
 pub record HasFound (table : List ℕ) (n : ℕ) (found : List Extent) : Type 0 where
   pub all : found ≡ partitions_to table n
   pub few : length found ≤ n

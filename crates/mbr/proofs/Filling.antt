@@ -4,7 +4,7 @@ use Rattle.std.proofs.lemmas.List.{drop-replicate, flat_map_more, length-drop, l
 use Rattle.mbr.specs.Table.{Entry, entry_bytes, table_bytes}
 use Rattle.mbr.proofs.ReadBack.{blank, written}
 
--- the bytes with so many entries
+-- the bytes with this many entries
 abbrev pub bytes_to : List Entry → ℕ → List ℕ
 bytes_to entries i = replicate 446 0 ++ written (take i entries)
 

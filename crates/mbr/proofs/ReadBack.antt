@@ -36,7 +36,7 @@ says entry rest fits =
     let with_numbers : ℕ → ℕ → Entry = λ (f : ℕ) (c : ℕ). (entry.0, record { first = f; count = c }) in
     ap (λ (f : ℕ). with_numbers f (little_from 12 4 bytes)) first ∙ ap (with_numbers entry.1.first) count
 
--- so many entries, one after the other from the first byte on
+-- this many entries, one after the other from the first byte on
 abbrev entries_in : ℕ → List ℕ → List Entry
 entries_in zero bytes = []
 entries_in (suc k) bytes = entry_of bytes ∷ entries_in k (drop 16 bytes)

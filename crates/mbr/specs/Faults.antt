@@ -8,7 +8,7 @@ use Rattle.mbr.specs.declared.MbrFault.{MbrFault}
 use Rattle.mbr.specs.declared.MbrFault.TheVariants.{ShortSector, NoSignature, EmptyEntry, CoversTable, PastEnd, Overlap}
 use Rattle.mbr.specs.Table.{Entry, entries_of, is_signed, partitions_of}
 
--- what is wrong with a partition by itself on a disk of so many sectors: the first that fits
+-- what is wrong with a partition by itself on a disk of this many sectors: the first that fits
 abbrev pub extent_fault : ℕ → Extent → Option MbrFault
 extent_fault sectors extent = first_some (
     when (extent.count == 0) EmptyEntry
@@ -25,7 +25,7 @@ abbrev pub any_share : List Extent → Bool
 any_share [] = false
 any_share (extent ∷ extents) = list_any (share extent) extents || any_share extents
 
--- what is wrong with partitions on a disk of so many sectors: the first with a fault by itself, then two that share a
+-- what is wrong with partitions on a disk of this many sectors: the first with a fault by itself, then two that share a
 -- sector
 abbrev pub partitions_fault : ℕ → List Extent → Option MbrFault
 partitions_fault sectors partitions = first_some (
@@ -46,10 +46,10 @@ abbrev pub unless_fault : Option MbrFault → List Extent → Result (List Exten
 unless_fault None partitions = Ok partitions
 unless_fault (Some fault) partitions = Err fault
 
--- what entries say on a disk of so many sectors: the partitions of the used ones, or the first fault
+-- what entries say on a disk of this many sectors: the partitions of the used ones, or the first fault
 abbrev pub said_of : ℕ → List Entry → Result (List Extent) MbrFault
 said_of sectors entries = unless_fault (partitions_fault sectors (partitions_of entries)) (partitions_of entries)
 
--- what the bytes of sector 0 say on a disk of so many sectors
+-- what the bytes of sector 0 say on a disk of this many sectors
 abbrev pub told_by : ℕ → List ℕ → Result (List Extent) MbrFault
 told_by sectors table = unless_fault (table_fault sectors table) (partitions_of (entries_of table))

@@ -12,7 +12,7 @@ use arrayvec::ArrayVec;
 use byteorder::{ByteOrder, LittleEndian};
 use sector::Extent;
 
-/// The partitions that sector 0 of a disk of so many sectors gives: those of the used entries, in table order. Bytes
+/// The partitions that sector 0 of a disk of this many sectors gives: those of the used entries, in table order. Bytes
 /// after the 512th are ignored.
 ///
 /// # Errors

@@ -23,7 +23,7 @@ shown disk = record {
   failures = disk.failures;
 }
 
--- so many sectors, of which the first is this, and no call failed
+-- this many sectors, the first of them this one, and no call failed
 pub record IsFirst (first : List ℕ) (sectors : ℕ) (view : MediumView) : Type 0 where
   pub size_is : view.sector_size ≡ length first
   pub count_is : length view.sectors ≡ sectors

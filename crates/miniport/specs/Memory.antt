@@ -72,7 +72,7 @@ new_view medium max_transfer depth write_protected = record {
 
 -- WHAT ITS CALLS DO, BEYOND ANY ADAPTER'S
 
--- of all but what an adapter shows, the completion due on a tag differs
+-- beside what an adapter shows, only the completion due on a tag differs
 abbrev pub Dues : ℕ → Option Completion → MemView → MemView → Type 0
 Dues tag completion old new = new ≡ record old { shown = new.shown; due = slice_set old.due tag completion }
 
@@ -113,7 +113,3 @@ due_after_reset (Some completion) = Some bus_reset
 pub record ResetsAll (old new : MemView) : Type 0 where
   pub counted : new.shown.failures ≡ old.shown.failures + count_by is_unmet old.shown.tags
   pub due : new ≡ record old { shown = new.shown; due = map due_after_reset old.due }
-
--- ACT
-
--- WHAT IT KEEPS

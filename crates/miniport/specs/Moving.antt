@@ -3,7 +3,7 @@ use Rattle.std.specs.Prelude.{ℕ, ◌==◌, ◌||◌, nat_le, List, [], ◌∷�
 use Rattle.std.specs.Simd.{first_chunks}
 use Rattle.byteorder.specs.Endian.{big_from}
 
--- how many sectors the block of a transfer names: of sixteen bytes where its code is 80h or more, else of ten
+-- the number of sectors that the block of a transfer names: one of sixteen bytes where its code is 80h or more, else of ten
 abbrev pub blocks_in : List ℕ → ℕ
 blocks_in block = if nat_le 0x80 (slice_index block 0) then big_from 10 4 block else big_from 7 2 block
 

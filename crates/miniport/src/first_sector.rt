@@ -27,7 +27,7 @@ fn is_elsewhere(extent: Extent) -> bool
 impl FirstSector {
     ghost use Rattle.miniport.specs.FirstSector.{shown, IsFirst};
 
-    /// The disk of so many sectors, of which the first has these bytes.
+    /// The disk of this many sectors, of which the first has these bytes.
     pub fn new(first: Vec<u8>, sectors: u64) -> FirstSector
         requires some { 1 ≤ sectors }
         requires long { (length first.items ≡ 512) ⊎ (length first.items ≡ 4096) }

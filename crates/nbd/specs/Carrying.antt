@@ -49,7 +49,7 @@ pub record StopsClearing (F : Faulting) (old : Content) (offset count : ℕ) (o 
   pub fails : Fails F (written old offset (replicate done 0)) o new
   pub outside : IsSameOutside old offset count new
 
--- so many zeros were written from this byte on, or it failed before all were
+-- this many zeros were written from this byte on, or it failed before all were
 abbrev pub Clears : Faulting → Content → ℕ → ℕ → Outcome → Content → Type 0
 Clears F old offset count o new = ((o ≡ success []) × (new ≡ written old offset (replicate count 0))) ⊎ StopsClearing F old offset count o new
 

@@ -11,7 +11,7 @@ pub record Content : Type 0 where
 abbrev pub IsBlockSize : ℕ → Type 0
 IsBlockSize size = (size ≡ 512) ⊎ (size ≡ 4096)
 
--- so many bytes from this one on are whole blocks of an array of so many bytes, and at least one
+-- this many bytes from this one on are whole blocks of an array of that many bytes, and at least one
 pub record AreInBounds (block size offset count : ℕ) : Type 0 where
   pub begins : offset % block ≡ 0
   pub ends : count % block ≡ 0
@@ -26,7 +26,7 @@ splice xs first others = take first xs ++ (others ++ drop (first + length others
 abbrev pub written : Content → ℕ → List ℕ → Content
 written c offset bytes = record c { bytes = splice c.bytes offset bytes }
 
--- of the array, nothing changed but perhaps so many bytes from this one on
+-- nothing in the array changed but perhaps this many bytes from this one on
 pub record IsSameOutside (old : Content) (offset count : ℕ) (new : Content) : Type 0 where
   pub block : new.block ≡ old.block
   pub long : length new.bytes ≡ length old.bytes

@@ -84,7 +84,7 @@ info_replies block size code =
     option_reply code NBD_REP_INFO (big_bytes 2 NBD_INFO_EXPORT ++ export_bytes size)
     ++ (option_reply code NBD_REP_INFO (big_bytes 2 NBD_INFO_BLOCK_SIZE ++ block_bytes block) ++ option_reply code NBD_REP_ACK [])
 
--- the reply of an export of so many bytes, in blocks of this size
+-- the reply of an export of this many bytes, in blocks of this size
 abbrev pub replies_to : ℕ → ℕ → Bool → ℕ → Wish → List ℕ
 replies_to block size no_zeroes code Export = export_bytes size ++ (if no_zeroes then [] else replicate 124 0)
 replies_to block size no_zeroes code Leave = option_reply code NBD_REP_ACK []

@@ -37,6 +37,6 @@ outcome_of (Refused e) = failure e
 abbrev pub simple_bytes : ℕ → ℕ → List ℕ
 simple_bytes cookie error = big_bytes 4 NBD_SIMPLE_REPLY_MAGIC ++ (big_bytes 4 error ++ big_bytes 8 cookie)
 
--- and then what the request brought
+-- then what the request brought
 abbrev pub reply_bytes : ℕ → Outcome → List ℕ
 reply_bytes cookie o = simple_bytes cookie o.error ++ o.content

@@ -29,7 +29,7 @@ pub record IsRequest (bytes : List ℕ) (r : Request) : Type 0 where
 abbrev pub flags_fault : ℕ → ℕ → Option ReplyError
 flags_fault known flags = if bit_and flags known == flags then None else Some Einval
 
--- what is wrong with the bytes that a request names, on an array of so many bytes
+-- what is wrong with the bytes that a request names, on an array of this many bytes
 abbrev pub extent_fault : ℕ → ℕ → ℕ → ReplyError → Request → Option ReplyError
 extent_fault block size longest beyond r =
     if (r.count == 0) || nat_lt longest r.count then Some Einval
@@ -47,7 +47,7 @@ unless None None c = Ok c
 abbrev pub is_through : ℕ → Bool
 is_through flags = not (bit_and flags NBD_CMD_FLAG_FUA == 0)
 
--- what a request asks an array of so many bytes for, or why it isn't done
+-- what a request asks an array of this many bytes for, or why it isn't done
 abbrev pub command_in : ℕ → ℕ → Request → Result Command ReplyError
 command_in block size r =
     if r.kind == NBD_CMD_READ then unless (flags_fault NBD_CMD_FLAG_FUA r.flags) (extent_fault block size LONGEST Einval r) (Read r.offset r.count)
@@ -56,7 +56,7 @@ command_in block size r =
     else if r.kind == NBD_CMD_WRITE_ZEROES then unless (flags_fault (NBD_CMD_FLAG_FUA + NBD_CMD_FLAG_NO_HOLE) r.flags) (extent_fault block size 0xFFFFFFFF Enospc r) (WriteZeroes r.offset r.count (is_through r.flags))
     else Err Einval
 
--- what it asks for lies in an array of so many bytes
+-- what it asks for lies in an array of this many bytes
 abbrev pub IsWithin : ℕ → ℕ → Command → Type 0
 IsWithin block size (Read offset count) = AreInBounds block size offset count × (count ≤ LONGEST)
 IsWithin block size (Write offset count through) = AreInBounds block size offset count × (count ≤ LONGEST)

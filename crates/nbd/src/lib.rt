@@ -13,7 +13,7 @@
 //! by the error of that fault; or as ENOMEM where memory was refused in front of it, and then nothing was done (`Fails` of
 //! `specs/Carrying`).
 //!
-//! Of a reader or a writer that doesn't tell its bytes nothing is promised but what became of the array. Not promised, and
+//! Where a reader or a writer doesn't tell its bytes, only what became of the array is promised. Not promised, and
 //! tested: that a flush and a write past caches reach the array as such.
 #![tactic(auto)]
 

@@ -188,7 +188,7 @@ fn too_long(code: u32) -> Wish
 ///
 /// # Errors
 ///
-/// Those of the writer.
+/// The errors of the writer.
 pub fn write_replies<W: Write>(
     out: &mut W,
     sizes: Sizes,
@@ -212,7 +212,7 @@ pub fn write_replies<W: Write>(
 ///
 /// # Errors
 ///
-/// Those of the writer.
+/// The errors of the writer.
 fn write_export<W: Write>(out: &mut W, sizes: Sizes, no_zeroes: bool) -> io::Result<()>
     ensures { OnOk result (Appends (W.contents out.old) (W.contents out.new) (replies_to sizes.block sizes.bytes no_zeroes 0 Wish.Export)) }
 {
@@ -227,7 +227,7 @@ fn write_export<W: Write>(out: &mut W, sizes: Sizes, no_zeroes: bool) -> io::Res
 ///
 /// # Errors
 ///
-/// Those of the writer.
+/// The errors of the writer.
 fn write_exports<W: Write>(out: &mut W, code: u32) -> io::Result<()>
     ensures { OnOk result (Appends (W.contents out.old) (W.contents out.new) (replies_to 0 0 true code Wish.Exports)) }
 {
@@ -240,7 +240,7 @@ fn write_exports<W: Write>(out: &mut W, code: u32) -> io::Result<()>
 ///
 /// # Errors
 ///
-/// Those of the writer.
+/// The errors of the writer.
 fn write_info<W: Write>(out: &mut W, sizes: Sizes, code: u32) -> io::Result<()>
     ensures { OnOk result (Appends (W.contents out.old) (W.contents out.new) (info_replies sizes.block sizes.bytes code)) }
 {
@@ -254,7 +254,7 @@ fn write_info<W: Write>(out: &mut W, sizes: Sizes, code: u32) -> io::Result<()>
 ///
 /// # Errors
 ///
-/// Those of the writer.
+/// The errors of the writer.
 fn write_option_reply<W: Write>(out: &mut W, code: u32, kind: u32, bytes: &[u8]) -> io::Result<()>
     requires { length bytes.now < 2 ^ 32 }
     ensures { OnOk result (Appends (W.contents out.old) (W.contents out.new) (option_reply code kind bytes.now)) }

@@ -23,7 +23,7 @@ pub enum Answer {
 ///
 /// # Errors
 ///
-/// Those of the writer.
+/// The errors of the writer.
 pub fn write_reply<W: Write>(out: &mut W, cookie: u64, answer: &Answer) -> io::Result<()>
     ensures { OnOk result (Appends (W.contents out.old) (W.contents out.new) (reply_bytes cookie (outcome_of answer.now))) }
 {
@@ -36,7 +36,7 @@ pub fn write_reply<W: Write>(out: &mut W, cookie: u64, answer: &Answer) -> io::R
 
 /// # Errors
 ///
-/// Those of the writer.
+/// The errors of the writer.
 fn write_simple<W: Write>(out: &mut W, cookie: u64, error: u32, content: &[u8]) -> io::Result<()>
     ensures { OnOk result (Appends (W.contents out.old) (W.contents out.new) (reply_bytes cookie (record { error = error; content = content.now }))) }
 {

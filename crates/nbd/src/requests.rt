@@ -36,7 +36,7 @@ pub enum Command {
         offset: u64,
         count: u32,
     },
-    /// Likewise, with so many bytes behind the request; with `through`, past volatile caches.
+    /// Likewise, with this many bytes behind the request; with `through`, past volatile caches.
     Write {
         offset: u64,
         count: u32,

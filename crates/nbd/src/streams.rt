@@ -27,7 +27,7 @@ pub fn take<R: Read>(input: &mut R, buffer: &mut [u8]) -> Result<(), End>
     }
 }
 
-/// Passes over so many bytes.
+/// Passes over this many bytes.
 ///
 /// # Errors
 ///
@@ -57,7 +57,7 @@ fn skip_piece<R: Read>(input: &mut R, count: u32) -> Result<(), End>
     take(input, &mut buffer[..count as usize])
 }
 
-/// So many zeros, or nothing where memory was refused.
+/// Returns this many zeros, or nothing where memory was refused.
 pub fn zeros(alloc: Global, count: u32) -> Option<Vec<u8>>
     requires { count ≤ LONGEST }
     ensures { IfSome result (λ bytes. bytes.items ≡ replicate count 0) }
@@ -65,7 +65,7 @@ pub fn zeros(alloc: Global, count: u32) -> Option<Vec<u8>>
     vec![in alloc; 0; count as usize].ok()
 }
 
-/// So many bytes, or nothing where memory was refused: they are passed over then.
+/// Reads this many bytes. Where memory is refused they are passed over, and it returns nothing.
 ///
 /// # Errors
 ///

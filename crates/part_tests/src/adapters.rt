@@ -323,7 +323,7 @@ fn same_sizes<A: Adapter>(rt: &impl Abort, adapter: &A, sectors: u64) {
     same(rt, &adapter.depth(), &2);
 }
 
-/// The data that a command brings from a disk in memory of so many sectors of 512 bytes.
+/// The data that a command brings from a disk in memory of this many sectors of 512 bytes.
 fn brought_from_memory(
     rt: &impl Abort,
     alloc: Global,
@@ -343,7 +343,7 @@ fn brought_from_memory(
     brought(rt, alloc, &mut adapter, 1, block, count)
 }
 
-/// An adapter of two tags for a disk of so many sectors, which stand elsewhere.
+/// An adapter of two tags for a disk of this many sectors, which stand elsewhere.
 fn elsewhere(alloc: Global, sectors: u64) -> Result<BookedAdapter, AllocError>
     requires some { 1 ≤ sectors }
     requires few { sectors ≤ 2 ^ 40 }
@@ -354,7 +354,7 @@ fn elsewhere(alloc: Global, sectors: u64) -> Result<BookedAdapter, AllocError>
     BookedAdapter::new(alloc, first, sectors, 65_536, 2).map_err(|_| AllocError)
 }
 
-/// That of a disk whose sectors stand elsewhere, as the piece by which a disk is looked at.
+/// The adapter of a disk whose sectors stand elsewhere, as the piece by which a disk is looked at.
 fn brought_from_elsewhere(
     rt: &impl Abort,
     alloc: Global,
@@ -371,7 +371,7 @@ fn brought_from_elsewhere(
     brought(rt, alloc, &mut adapter, 0, block, count)
 }
 
-/// The data that a command brings from a disk of so many sectors, which stand in memory where they are few.
+/// The data that a command brings from a disk of this many sectors, which stand in memory where they are few.
 fn brought_of(
     rt: &impl Abort,
     alloc: Global,
@@ -504,7 +504,7 @@ enum Step {
     },
     /// No piece is on the tag.
     Free(u8),
-    /// After it so many failures are counted.
+    /// After it this many failures are counted.
     Reset(u128),
 }
 
@@ -749,7 +749,7 @@ fn one_act_fails(rt: HostRuntime) -> Result<(), Fail> {
     )
 }
 
-// The first act fails, and a reset that meets its piece counts once more.
+// The first act fails. A reset that meets its piece counts one more failure.
 #[test]
 fn the_first_act_fails(rt: HostRuntime) -> Result<(), Fail> {
     let mut adapter = fails_once(rt.alloc(), 0)?;

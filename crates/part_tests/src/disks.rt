@@ -166,7 +166,7 @@ fn starts_with_bytes_or_refuses(rt: HostRuntime) -> Result<(), Fail> {
     Ok(())
 }
 
-// The same two sectors at the start of a disk that takes room for them alone.
+// These two sectors at the start of a disk that takes room for them alone.
 #[test]
 fn starts_sparse_with_sectors(rt: HostRuntime) -> Result<(), Fail> {
     let alloc = rt.alloc();

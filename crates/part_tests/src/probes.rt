@@ -81,7 +81,7 @@ fn disk(alloc: Global, table: &Table, bad: &[u64]) -> Result<VecDisk, AllocError
     VecDisk::starting_with(alloc, 512, 4096, &table.sector(), bad).map_err(no_memory)
 }
 
-/// A disk of so many sectors of 512 bytes with this table, of which the first alone are in memory.
+/// A disk of this many sectors of 512 bytes with this table, of which the first alone are in memory.
 fn sparse(
     rt: &impl Abort,
     alloc: Global,
@@ -109,7 +109,7 @@ fn adapter<M: Medium>(
     MemAdapter::new(alloc, medium, 64, 2, false).map_err(no_memory)
 }
 
-/// Probes a disk, which tells these partitions, or this fault; so many failures are then counted.
+/// Probes a disk, which tells these partitions, or this fault; this many failures are then counted.
 fn tells<A: Adapter>(
     rt: &impl Abort,
     alloc: Global,
@@ -134,7 +134,7 @@ fn tells<A: Adapter>(
     Ok(())
 }
 
-// Of sectors of both sizes, and as many as READ CAPACITY(10) can tell and more.
+// Disks with sectors of both sizes: as many as READ CAPACITY(10) can tell, and more.
 #[test]
 fn finds_the_sizes(rt: HostRuntime) -> Result<(), Fail> {
     let alloc = rt.alloc();

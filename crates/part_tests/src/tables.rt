@@ -17,7 +17,7 @@ const fn extent(first: u64, count: u64) -> Extent {
 /// The largest number of an entry.
 const FAR: u64 = 0xFFFF_FFFF;
 
-/// What a sector says on a disk of so many sectors: these partitions, or this fault.
+/// What a sector says on a disk of this many sectors: these partitions, or this fault.
 fn expect(
     rt: &impl Abort,
     sector: &[u8],
@@ -139,7 +139,7 @@ fn looks_at_512_bytes(rt: HostRuntime) {
     expect(&rt, &long, 4096, &[extent(2048, 1024)], None);
 }
 
-/// The first bytes of a sector, so many, are too few.
+/// The first bytes of a sector, this many, are too few.
 fn is_short(rt: &impl Abort, sector: &[u8], length: usize) {
     assert!(rt; length <= sector.len());
     expect(
@@ -165,7 +165,7 @@ fn table(rt: &impl Abort, entries: &[(u8, Extent)]) -> ArrayVec<u8, 512> {
     render(entries)
 }
 
-/// What a table of these entries says on a disk of so many sectors: these partitions, or this fault.
+/// What a table of these entries says on a disk of this many sectors: these partitions, or this fault.
 fn says(
     rt: &impl Abort,
     entries: &[(u8, Extent)],

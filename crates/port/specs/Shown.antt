@@ -91,7 +91,7 @@ open_as rules e payload busy marks = record {
 abbrev pub waiting_open : Rules → Held → OpenRequest
 waiting_open rules held = open_as rules (entry_of held) held.irp.value.payload 0 (all_places rules held.request Untouched)
 
--- that of a packet that ended
+-- the open request of a packet that ended
 abbrev pub done_open : Rules → Ended → OpenRequest
 done_open rules d = open_as rules (ended_entry d) d.irp.value.payload (busy_left d.outcome) (marks_left rules d.request d.irp.value.payload d.outcome)
 

@@ -90,7 +90,7 @@ fn cancel_in(place: &mut Option<Held>, number: u128) -> bool
     true
 }
 
-/// How many spots are in use with one more, for which there is room.
+/// The spots in use when one more is, where there is room for it.
 fn count_with_one_more(rooms: &Slab<Option<Request>>) -> usize
     requires { HasRoomFor rooms.now 1 }
     ensures { result ≡ slab_len rooms.now + 1 }

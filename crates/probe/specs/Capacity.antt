@@ -16,7 +16,7 @@ is_long disk = nat_le (2 ^ 32) (length disk.sectors)
 abbrev pub long_capacity : Cdb
 long_capacity = ReadCapacity16 32
 
--- how many commands ask for the capacity: one, and one more where that can't tell it
+-- the number of commands that ask for the capacity: one, and one more where that can't tell it
 abbrev pub asked_for_capacity : AdapterView → ℕ
 asked_for_capacity disk = if is_long disk then 2 else 1
 

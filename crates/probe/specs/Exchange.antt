@@ -23,7 +23,7 @@ pub record IsIdle (view : AdapterView) : Type 0 where
 
 -- WHAT A COMMAND BRINGS
 
--- how many they are: of READ CAPACITY(10) eight, of READ CAPACITY(16) as many as are asked for, of a read its sectors
+-- how many bytes a command brings: of READ CAPACITY(10) eight, of READ CAPACITY(16) as many as are asked for, of a read its sectors
 abbrev pub brought_length : AdapterView → Cdb → ℕ
 brought_length disk (Read10 lba count fua) = count * disk.sector_size
 brought_length disk (Write10 lba count fua) = 0
@@ -74,7 +74,7 @@ pub record Exchanges (old : AdapterView) (command : Cdb) (class : Class) (new : 
   pub acts : IsActOrFault 0 told
   pub moves : AdapterMoves accepted (told ∷ Return 0 class ∷ []) new
 
--- the same disk, with nothing on its tags, after at most so many pieces more
+-- the same disk, with nothing on its tags, after at most this many pieces more
 pub record IsSameDisk (asked : ℕ) (old new : AdapterView) : Type 0 where
   pub sector_size : new.sector_size ≡ old.sector_size
   pub sectors : new.sectors ≡ old.sectors

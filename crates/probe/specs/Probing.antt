@@ -29,7 +29,7 @@ told_partitions disk = told_by (length disk.sectors) (sector_zero disk)
 abbrev pub table_read : Cdb
 table_read = Read10 0 1 false
 
--- how many commands a probe sends: two, or three to a long disk
+-- the number of commands that a probe sends: two, or three to a long disk
 abbrev pub asked_by_probe : AdapterView → ℕ
 asked_by_probe disk = asked_for_capacity disk + 1
 

@@ -73,7 +73,7 @@ fn forget_labels<A: Adapter>(adapter: &mut A)
     while adapter.take_label().is_some() {}
 }
 
-/// Two buffers of so many bytes.
+/// Two buffers of this many bytes.
 ///
 /// # Errors
 ///
@@ -87,7 +87,7 @@ fn buffers(alloc: Global, count: usize) -> Result<(Bytes, Bytes), AllocError>
     Ok((bytes, for_label))
 }
 
-/// The bytes, so many, that a command brings from an idle adapter, whose labels are taken.
+/// The bytes, this many, that a command brings from an idle adapter, whose labels are taken.
 ///
 /// # Errors
 ///

@@ -29,7 +29,7 @@ pub struct Probed {
     pub sector_size: u64,
     /// The number of sectors, from 1 to 2^40.
     pub sectors: u64,
-    /// Those of the used entries of the partition table, in table order.
+    /// The extents of the used entries of the partition table, in table order.
     pub partitions: ArrayVec<Extent, 4>,
 }
 

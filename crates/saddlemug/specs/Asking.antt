@@ -11,7 +11,7 @@ use Rattle.saddlemug.specs.declared.asked.StackAsked.{StackAsked}
 use Rattle.saddlemug.specs.declared.asked.StackArmed.{StackArmed}
 use Rattle.saddlemug.specs.Stacks.{kind_number}
 
--- so many sectors of the disk from this one on
+-- this many sectors of the disk from this one on
 abbrev pub to_move : Kind → ℕ → ℕ → Bool → Asked
 to_move kind first count through = record { kind = kind; extent = record { first = first; count = count }; through = through }
 

@@ -14,7 +14,7 @@ pub record IsNumberOf (IsWhy : Fault → Type 0) (number : ℕ) : Type 0 where
   pub why : IsWhy fault
   pub is_number : number ≡ value_of (fault_status fault)
 
--- a read of so many bytes from this one on was refused or failed, or memory for its bytes was refused
+-- a read of this many bytes from this one on was refused or failed, or memory for its bytes was refused
 abbrev pub IsReadFault : VolumeView → ℕ → ℕ → Fault → Type 0
 IsReadFault v offset count fault = (fault ≡ Refused InsufficientResources) ⊎ IsFault v (AreInBounds v.content offset count) fault
 

@@ -104,7 +104,7 @@ completion_of c = record {
   sense = if c.has_sense then Some (record { key = c.key; asc = c.asc; ascq = c.ascq }) else None;
 }
 
--- an entry of a piece and of all bytes that stand in a place, which are so many
+-- an entry of a piece and of all bytes that stand in a place, which are this many
 pub record IsEntryOf (tag piece count : ℕ) (own : Place) (entry : Entry) : Type 0 where
   pub is_piece : entry.piece ≡ piece
   pub is_tag : entry.tag ≡ tag

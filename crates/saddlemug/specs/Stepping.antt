@@ -33,7 +33,7 @@ pub record Steps (old : ManagerView) (e : StackEvent) (bytes : List ℕ) (told :
 abbrev pub IsNotStepped : ManagerView → ManagerView → Type 0
 IsNotStepped old new = new ≡ old
 
--- a read or a write, for whose bytes memory is taken
+-- a read or a write: memory is taken for its bytes
 abbrev pub HasBytes : StackEvent → Type 0
 HasBytes e = (slice_get kinds e.kind ≡ Some which.Read) ⊎ (slice_get kinds e.kind ≡ Some which.Write)
 

@@ -19,7 +19,7 @@ pub(crate) struct Asked {
     pub(crate) through: bool,
 }
 
-/// The same as C is told it.
+/// What C is told of it.
 #[repr(C)]
 #[derive(Debug, Clone, Copy)]
 pub struct StackAsked {
@@ -29,7 +29,7 @@ pub struct StackAsked {
     pub through: u32,
     /// The first sector of the disk.
     pub first: u64,
-    /// How many sectors; of a flush 0 is all from the first on.
+    /// The number of sectors; for a flush 0 is all from the first on.
     pub count: u64,
 }
 
@@ -43,7 +43,7 @@ pub struct StackArmed {
     pub asked: StackAsked,
     /// Where its bytes stand.
     pub bytes: *mut u8,
-    /// How many they are.
+    /// Their number.
     pub length: u64,
     /// Bytes of the command block, at most 16.
     pub block_length: u32,

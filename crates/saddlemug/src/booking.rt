@@ -34,7 +34,7 @@ pub struct StackBooking {
     /// The low and the high 64 bits of its number.
     pub piece_low: u64,
     pub piece_high: u64,
-    /// How many bytes were moved; not read of a failure.
+    /// The number of bytes that were moved; not read for a failure.
     pub length: u64,
     pub tag: u8,
     pub failed: bool,
@@ -86,7 +86,7 @@ impl StackCompletion {
     }
 }
 
-/// Returns what an SRB asks for, where an entry of all bytes in this place may be of its act, and they are so many.
+/// Returns what an SRB asks for, where an entry of all bytes in this place may be of its act, and they are this many.
 pub(crate) fn asked_of(disk: &DiskOf, srb: &Srb, place: &Place, count: u64) -> Option<Asked>
     ensures { MatchOption result (SuitsNone disk.now srb.now count place.now) (SuitsAs disk.now srb.now count place.now) }
 {

@@ -18,7 +18,7 @@ pub fn copied(alloc: Global, bytes: &[u8]) -> Result<Bytes, AllocError>
     Ok(Bytes::new(copy))
 }
 
-/// So many zeros.
+/// Returns this many zeros.
 ///
 /// # Errors
 ///

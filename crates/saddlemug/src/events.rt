@@ -78,7 +78,7 @@ pub struct StackEvent {
     /// Whether a CancelIoEx is for `request` alone.
     pub one: bool,
     pub handle: StackId,
-    /// Of a CancelIoEx of one request; a mark is of its number.
+    /// For a CancelIoEx of one request: its number, which the mark has too.
     pub request: StackId,
     /// In bytes, of a read and a write.
     pub offset: u64,

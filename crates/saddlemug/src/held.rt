@@ -30,7 +30,7 @@ pub enum Held {
     Volume(Volume<MemAdapter<SparseDisk>>),
     /// A whole stack, event by event.
     Stack(Stack<MemAdapter<SparseDisk>>),
-    /// The same over storage of C's own.
+    /// A stack over storage of C's own.
     Over(Over),
 }
 

@@ -17,9 +17,9 @@ pub struct StackLabel {
     pub kind: u32,
     /// Of an answer.
     pub status: u32,
-    /// Of the request of a call, an answer or a cancel.
+    /// For a call, an answer or a cancel: the number of its request.
     pub number: u64,
-    /// Of an answer: how many bytes it moved.
+    /// For an answer: the number of bytes that it moved.
     pub information: u64,
     /// The low and the high 64 bits of the piece of a start, an act, a fault or a return.
     pub piece_low: u64,
@@ -38,7 +38,7 @@ pub struct StackLabel {
     pub length: u64,
     /// Of a call: 1 for a write-through.
     pub through: u32,
-    /// How many bytes come with the label.
+    /// The number of bytes that come with the label.
     pub bytes: u64,
 }
 
@@ -48,10 +48,10 @@ pub struct StackLabel {
 pub struct StackAnswer {
     /// Of its request.
     pub number: u64,
-    /// How many bytes it moved.
+    /// The number of bytes that it moved.
     pub information: u64,
     pub status: u32,
-    /// How many bytes come with it: those of a read that succeeded.
+    /// The number of bytes that come with it: those of a read that succeeded.
     pub bytes: u64,
 }
 

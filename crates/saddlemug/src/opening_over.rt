@@ -32,7 +32,7 @@ pub struct StackDisk {
 }
 
 impl StackDisk {
-    /// Whether there is such a disk, with a first sector of so many bytes.
+    /// Whether there is such a disk, with a first sector of this many bytes.
     fn is_in_range(&self, first: &[u8]) -> bool
         ensures { IsTrue result ↔ IsDisk self.now first.now }
     {
@@ -110,7 +110,7 @@ fn new_adapter(alloc: Global, disk: &StackDisk, first: &[u8]) -> Result<BookedAd
     }
 }
 
-/// The stack with places for the bytes of its pieces, of which none was told.
+/// The stack with places for the bytes of its pieces; none of these was told.
 fn with_places(alloc: Global, stack: Stack<BookedAdapter>, sizes: DiskOf) -> Result<Over, NtStatus>
     requires apart { IsFalse stack.adapter.faithful }
     requires sector_size { stack.rules.sector_size ≡ sizes.sector_size }

@@ -16,7 +16,7 @@ use Rattle.script.specs.declared.Order.{Order}
 use Rattle.script.specs.Script.{AreEvents, Asks, IsBad, IsFirstBad, IsLine, is_event, lines_of, trimmed, words_of}
 use Rattle.script.proofs.Zipped.{all_zip_append}
 
--- so many texts were read, and the events among them are these
+-- this many texts were read, and the events among them are these
 pub record SoFar (texts : List (List ℕ)) (read : List Line) (number : ℕ) : Type 0 where
   pub events : AreEvents texts read
   pub counted : number ≡ length texts

@@ -46,7 +46,7 @@ handle_of handles number = elim (get nat_cmp handles number) [ Some handle ↦ h
 abbrev pub id_of : Requests → ℕ → Id
 id_of requests number = elim (given_as requests number) [ Some id ↦ id | None ↦ record { slot = 0; number = number } ]
 
--- the one request that a cancel is of, if it is of one
+-- the request that a cancel names, if any
 abbrev pub target_of : Requests → Option ℕ → Option Id
 target_of requests None = None
 target_of requests (Some number) = Some (id_of requests number)

@@ -15,7 +15,7 @@ use std::mem;
 /// The longest buffer that is kept as a small one, in bytes.
 const SMALL: usize = 65_536;
 
-/// So many small buffers are kept: as many as requests may be open.
+/// The small buffers that are kept: as many as requests may be open.
 const KEPT: usize = 64;
 
 /// A buffer, and the byte that it is full of.
@@ -36,8 +36,8 @@ impl Full {
         }
     }
 
-    /// So many equal bytes: in this buffer, where it has room for them, else in one of their own. What it is full of
-    /// already is not written again.
+    /// Gives this many equal bytes: in this buffer where it has room for them, else in a new one. Bytes that are right
+    /// already are not written again.
     #[tactic(auto, using(crate::proofs::Filled::filled_up))]
     fn filled(self, alloc: Global, byte: u8, length: usize) -> Result<Bytes, AllocError>
         requires { IsFull self }
@@ -86,7 +86,7 @@ impl Spare {
         }
     }
 
-    /// The same with all places: to keep a buffer takes no memory.
+    /// The pool with all its places: to keep a buffer takes no memory.
     ///
     /// # Errors
     ///
@@ -100,8 +100,8 @@ impl Spare {
         })
     }
 
-    /// So many equal bytes, or the reply where memory for them is refused. Where the large buffer has room for as many as
-    /// no small one has, none is taken.
+    /// Gives this many equal bytes, or the reply where memory for them is refused. Where the large buffer has room for as
+    /// many as no small one has, none is taken.
     pub(crate) fn filled(&mut self, alloc: Global, byte: u8, length: u64) -> Result<Bytes, Reply>
         requires { AreFilled self.old }
         ensures filled { AreFilled self.new }
@@ -118,7 +118,7 @@ impl Spare {
         }
     }
 
-    /// Takes a buffer for so many bytes, which may have no room for them.
+    /// Takes a buffer for this many bytes, which may have no room for them.
     fn take(&mut self, alloc: Global, length: usize) -> Full
         requires { AreFilled self.old }
         ensures filled { AreFilled self.new }

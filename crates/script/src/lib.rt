@@ -52,7 +52,7 @@ pub enum Order {
     Flush {
         handle: u64,
     },
-    /// Of all that is open on the handle, or of the one request.
+    /// Cancels all that is open on the handle, or the one request.
     Cancel {
         handle: u64,
         request: Option<u64>,

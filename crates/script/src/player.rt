@@ -72,7 +72,7 @@ fn write_out<W: Write>(text: &mut Vec<u8>, out: &mut W) -> io::Result<()>
     written
 }
 
-/// The same once a block of it is full.
+/// Writes it once a block of it is full.
 fn write_block<W: Write>(text: &mut Vec<u8>, out: &mut W) -> io::Result<()>
     ensures { OnOk result (Keeps (append_known (W.contents out.old) text.old.items) (append_known (W.contents out.new) text.new.items)) }
 {

@@ -37,7 +37,7 @@ fn run_of(bytes: &[u8], byte: u8) -> usize
     bytes.len() - rest.len() + equal_bytes(rest, byte)
 }
 
-/// The same, found byte by byte.
+/// The run, found byte by byte.
 fn equal_bytes(bytes: &[u8], byte: u8) -> usize
     ensures within { result ≤ length bytes.now }
     ensures equal { All (λ b. b ≡ byte) (take result bytes.now) }

@@ -17,7 +17,7 @@ below_of_mul a b size h = elim (cases_lt a b) [
   | inr le ↦ let k : b * size ≤ a * size = mul-le-mul_right size le in absurd (omega arith)
 ]
 
--- so many sectors from the first on, and their bytes
+-- this many sectors from the first on, and their bytes
 pub within_bytes : (first count sectors size offset length : ℕ) → 0 < size → first * size ≡ offset → count * size ≡ length
     → (first + count ≤ sectors) ↔ (offset + length ≤ sectors * size)
 within_bytes first count sectors size offset length pos e f = (

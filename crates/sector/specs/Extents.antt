@@ -14,7 +14,7 @@ IsInSome extents sector = (other : Extent) × Contains extents other × IsIn sec
 abbrev pub IsCovered : List Extent → Extent → Type 0
 IsCovered extents extent = (sector : ℕ) → IsIn sector extent → IsInSome extents sector
 
--- of the runs of so many sectors, counted from sector 0, that of this sector has a sector of the extent
+-- where the disk is cut into runs of this many sectors, the run of this sector has a sector of the extent
 abbrev pub IsNear : ℕ → Extent → ℕ → Type 0
 IsNear run extent sector = (other : ℕ) × IsIn other extent × (other / run ≡ sector / run)
 
@@ -30,7 +30,7 @@ IsSector size bytes = length bytes ≡ size
 abbrev pub sectors_in : List (List ℕ) → Extent → List (List ℕ)
 sectors_in sectors extent = slice_range sectors extent.first (extent.first + extent.count)
 
--- these bytes begin at a sector, are whole sectors, and lie in a disk of so many
+-- these bytes begin at a sector, are whole sectors, and lie in a disk of this many
 pub record AreWholeSectors (offset length sector_size sectors : ℕ) : Type 0 where
   pub begins : offset % sector_size ≡ 0
   pub ends : length % sector_size ≡ 0

@@ -32,7 +32,7 @@ pub record JournalView : Type 0 where
   pub armings : List Armed
   -- what open requests may move
   pub reservations : List Reservation
-  -- for how many pieces of so many bytes there are buffers
+  -- for how many pieces of this many bytes there are buffers
   pub room : List Room
 
 -- what acts did, without their armings
@@ -61,7 +61,7 @@ pub record IsHeld (medium : MediumView) (reservation : Reservation) : Type 0 whe
   pub some : 1 ≤ reservation.max_transfer
   pub reserved : reservation.kind ≡ Write → IsReserved medium reservation.extent
 
--- of the medium a write may reserve what is near its extent, and no other request anything
+-- a write may reserve what is near its extent in the medium; no other request may reserve anything
 abbrev pub HoldsNear : MediumView → Kind → Extent → MediumView → Type 0
 HoldsNear old Write extent new = ReservesNear old extent new
 HoldsNear old Read extent new = new ≡ old

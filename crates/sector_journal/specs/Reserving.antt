@@ -36,7 +36,7 @@ covers kind extent reservation = is_same kind reservation.kind && (is_flush kind
 abbrev pub is_of : ℕ → Reservation → Bool
 is_of request reservation = nat_eq reservation.request request
 
--- how many pieces are cut of a transfer; a flush is one
+-- the number of pieces that a transfer is cut into; a flush is one
 abbrev pub pieces_by : Kind → ℕ → ℕ → ℕ
 pieces_by Read count most = count / most + min (count % most) 1
 pieces_by Write count most = count / most + min (count % most) 1
@@ -45,11 +45,11 @@ pieces_by Flush count most = 1
 abbrev pub pieces_of : Reservation → ℕ
 pieces_of reservation = pieces_by reservation.kind reservation.extent.count reservation.max_transfer
 
--- so many of one length, as of this one
+-- the pieces of one length, which is this
 abbrev pub of_length : ℕ → ℕ → ℕ → ℕ
 of_length pieces bytes long = if bytes == long then pieces else 0
 
--- how many pieces of so many bytes are cut of a transfer: those of full length, and the last; a flush has none
+-- the pieces of this many bytes that a transfer is cut into: those of full length, and the last; a flush has none
 abbrev pub lengths_by : Kind → ℕ → ℕ → ℕ → ℕ → ℕ
 lengths_by Read count most size long = of_length (count / most) (most * size) long + of_length (min (count % most) 1) (count % most * size) long
 lengths_by Write count most size long = of_length (count / most) (most * size) long + of_length (min (count % most) 1) (count % most * size) long

@@ -11,7 +11,7 @@ abbrev pub one_if_armed : Option Armed → ℕ
 one_if_armed (Some armed) = 1
 one_if_armed None = 0
 
--- how many pieces may act
+-- the number of pieces that may act
 abbrev pub armed_count : List (Option Armed) → ℕ
 armed_count slots = sum_by one_if_armed slots
 

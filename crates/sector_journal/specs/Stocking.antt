@@ -2,7 +2,7 @@
 use Rattle.std.specs.Prelude.{ℕ, List, Bool, ◌==◌, Option, Some, None, get_or}
 use Rattle.std.specs.List.{position}
 
--- for so many pieces of so many bytes there are buffers
+-- for this many pieces of this many bytes there are buffers
 pub record Room : Type 0 where
   pub bytes : ℕ
   pub pieces : ℕ

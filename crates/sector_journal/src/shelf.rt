@@ -36,7 +36,7 @@ fn make_buffer(alloc: Global, length: usize) -> Result<Bytes, AllocError>
     Ok(Bytes::new(bytes))
 }
 
-/// Puts so many buffers behind others.
+/// Puts this many buffers behind others.
 fn fill(alloc: Global, long: usize, missing: usize, free: &mut Vec<Bytes>) -> Result<(), AllocError>
     requires { All (λ buffer. IsOfLength buffer long) free.old.items }
     ensures lengths { All (λ buffer. IsOfLength buffer long) free.new.items }
@@ -74,7 +74,7 @@ impl Shelf {
         self.promised == 0
     }
 
-    /// Makes the buffers of so many pieces more; `out` pieces have theirs.
+    /// Makes the buffers of this many pieces more; `out` pieces have theirs.
     pub fn promise(&mut self, alloc: Global, pieces: usize, out: usize) -> Result<(), AllocError>
         ensures made { OnOk result (self.new ≡ record self.old { pieces = self.old.pieces + pieces }) }
         ensures refused { OnErr result (self.new ≡ self.old) }
@@ -89,7 +89,7 @@ impl Shelf {
         Ok(())
     }
 
-    /// Drops the buffers of so many pieces that were made last.
+    /// Drops the buffers of this many pieces that were made last.
     pub fn forget(&mut self, pieces: usize)
         ensures { self.new ≡ record self.old { pieces = self.old.pieces - pieces } }
     {

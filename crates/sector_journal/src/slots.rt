@@ -63,7 +63,7 @@ impl Slots {
         self.armed
     }
 
-    /// Returns how many pieces with so many bytes may act.
+    /// Returns how many pieces with this many bytes may act.
     pub fn armed_with(&self, length: usize) -> usize {
         let mut count = 0;
         for slot in self.tags.as_slice() {

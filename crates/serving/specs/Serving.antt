@@ -41,7 +41,7 @@ told_fault (FailedCall NoSuchDevice) = Gone
 told_fault (FailedCall DeletePending) = Gone
 told_fault (FailedCall _) = FailedArray
 
--- that of a partition of these settings, before anything was written: zeros
+-- the array of a partition of these settings before anything was written: zeros
 abbrev pub new_array : Config → ℕ → Content
 new_array c p = record { block = c.sector_size; bytes = concat (zeros c (extent_at (extents_of c) p).count) }
 

@@ -57,7 +57,7 @@ pub(crate) fn new_disk(alloc: Global, config: Config) -> Result<SparseDisk, NoMe
     Ok(disk)
 }
 
-/// The sectors of a medium are whole, for who calls it.
+/// Shows the caller that the sectors of a medium are whole.
 fn has_whole_sectors<M: Medium>(_medium: &M)
     ensures { HasWholeSectors (M.view _medium.now) }
 {}
@@ -80,7 +80,7 @@ fn table_sector(
     Ok(sector)
 }
 
-/// Some bytes, and zeros behind them, so many in all.
+/// Some bytes, and zeros behind them, this many in all.
 fn padded(alloc: Global, bytes: &[u8], total: usize) -> Result<Vec<u8>, AllocError>
     requires { length bytes.now ≤ total }
     ensures { IfOk result (λ padded. padded.items ≡ bytes.now ++ replicate (total - length bytes.now) 0) }

@@ -31,7 +31,7 @@ impl CommandBlock {
         self.bytes.as_slice()
     }
 
-    /// The same bytes again; it takes no memory.
+    /// A copy; it takes no memory.
     pub fn copied(&self) -> CommandBlock
         ensures { result ≡ self.now }
     {

@@ -1,4 +1,4 @@
--- What a medium shows that refuses to reserve, so many times.
+-- What a medium shows that refuses to reserve, this many times.
 use Rattle.std.specs.Prelude.{ℕ, zero, suc, List, []}
 use Rattle.sector.specs.declared.Extent.{Extent}
 use Rattle.disk.specs.Medium.{MediumView}

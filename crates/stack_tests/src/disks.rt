@@ -69,7 +69,7 @@ pub(crate) fn disk(alloc: Global, table: &Table, bad: &[u64]) -> Result<VecDisk,
     VecDisk::starting_with(alloc, 512, 4096, &table.sector(), bad).map_err(no_memory)
 }
 
-/// An adapter of two tags that moves so many sectors at most.
+/// An adapter of two tags that moves this many sectors at most.
 pub(crate) fn adapter<M: Medium>(
     rt: &impl Abort,
     alloc: Global,
@@ -87,7 +87,7 @@ pub(crate) fn adapter<M: Medium>(
     MemAdapter::new(alloc, medium, max_transfer, 2, false).map_err(no_memory)
 }
 
-/// A medium that refuses to reserve, so many times. Nothing is reserved in it until it has refused so often.
+/// A medium that refuses to reserve, this many times. Nothing is reserved in it until it has refused so often.
 #[derive(Drop)]
 pub(crate) struct Reluctant<M: Medium> {
     pub medium: M,
@@ -133,7 +133,7 @@ impl<M: Medium> Medium for Reluctant<M> {
     ghost whole = { λ m. M.whole m.medium };
 }
 
-/// A stack that was started, and its sizes; two requests at work and so many open, 1 to 64.
+/// A stack that was started, and its sizes; two requests at work and this many open, 1 to 64.
 pub(crate) fn start<A: Adapter>(
     rt: &impl Abort,
     alloc: Global,

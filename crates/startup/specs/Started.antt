@@ -22,7 +22,7 @@ use Rattle.volume.specs.declared.OpenFault.{OpenFault}
 use Rattle.volume.specs.declared.OpenFault.TheVariants.{Start as NotStarted, Refused}
 use Rattle.volume.specs.Shown.{VolumeView, extent_at, parted_at}
 
--- how many requests may be open and at work
+-- the most requests that may be open and at work
 abbrev pub limits_of : Config → Settings
 limits_of c = record { window = c.window; open_requests = c.open_requests }
 

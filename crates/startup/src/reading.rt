@@ -51,7 +51,7 @@ pub fn settings_of(alloc: Global, text: &[u8]) -> Result<Config, ConfigFault>
 ///
 /// # Errors
 ///
-/// That of the first read that failed, or of memory that was refused.
+/// The error of the first read that failed, or of memory that was refused.
 pub fn contents<R: Read + Drop>(alloc: Global, mut input: R) -> io::Result<Vec<u8>>
     ensures { IfOk result (λ bytes. IsAllOf (R.remaining input) bytes.items) }
 {

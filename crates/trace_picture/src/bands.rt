@@ -7,7 +7,7 @@ use crate::titles::At;
 use std::io;
 use std::io::Write;
 
-/// How many labels may be between two numbers.
+/// The most labels between two numbers.
 static STEPS: [u64; 13] = [1, 2, 5, 10, 20, 50, 100, 200, 500, 1000, 2000, 5000, 10000];
 
 /// Writes the bands, and the lines of time with the numbers of their labels.

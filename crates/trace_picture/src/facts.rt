@@ -104,7 +104,7 @@ pub enum Word {
 pub struct Stray {
     pub label: u64,
     pub word: Word,
-    /// Of the request or the piece, if the label names one.
+    /// The number of the request or the piece, if the label names one.
     pub number: Option<u128>,
 }
 

@@ -10,7 +10,7 @@ use std::collections::BTreeMap;
 const WIDEST: u64 = 18;
 /// The narrowest.
 const NARROWEST: u64 = 4;
-/// Up to so many labels the columns are widest, and each request has a row of its own.
+/// Up to this many labels the columns are widest, and each request has a row of its own.
 const FEW: u64 = 400;
 /// Above that many labels the columns share this width, as long as it lasts.
 const SHARED: u64 = FEW * WIDEST;
@@ -35,7 +35,7 @@ pub const CAPTION: u64 = 22;
 #[derive(Clone, Copy)]
 pub struct Row {
     pub y: u64,
-    /// How many pieces stand one below the other.
+    /// The pieces that stand one below the other.
     pub lanes: u64,
     /// Up to where it is taken.
     end: u64,
@@ -81,7 +81,7 @@ pub struct Layout {
     pub rows: Vec<Row>,
     /// The row of each request.
     pub row_of: Vec<usize>,
-    /// How many of its pieces stand one below the other.
+    /// Its pieces that stand one below the other.
     pub lanes_of: Vec<u64>,
     /// The lane of each piece in the bar of its request.
     pub lane_of: Vec<u64>,
@@ -279,7 +279,7 @@ fn take_lane(ends: &mut Vec<u64>, piece: &Piece) -> Result<u64, AllocError> {
     Ok(lane as u64)
 }
 
-/// The width of the column of one label, where there are so many.
+/// The width of the column of one label, where there are this many.
 fn column_of(labels: u64) -> u64 {
     if labels <= FEW {
         return WIDEST;

@@ -55,7 +55,7 @@ impl Picture {
     ///
     /// # Errors
     ///
-    /// Those of the writer, and [`io::ErrorKind::OutOfMemory`].
+    /// The errors of the writer, and [`io::ErrorKind::OutOfMemory`].
     pub fn write_svg<W: Write>(&mut self, out: &mut W) -> io::Result<()> {
         owners::find_owners(&mut self.facts)?;
         let facts = &self.facts;
@@ -73,7 +73,7 @@ impl Picture {
     ///
     /// # Errors
     ///
-    /// Those of the writer, and [`io::ErrorKind::OutOfMemory`].
+    /// The errors of the writer, and [`io::ErrorKind::OutOfMemory`].
     pub fn write_events<W: Write>(&mut self, out: &mut W) -> io::Result<()> {
         owners::find_owners(&mut self.facts)?;
         let facts = &self.facts;

@@ -145,12 +145,12 @@ pub fn piece_digits(number: u128) -> u64 {
     }
 }
 
-/// The width of so many letters of the larger size.
+/// The width of this many letters of the larger size.
 pub fn text_width(letters: u64) -> u64 {
     letters.saturating_mul(7).saturating_add(12)
 }
 
-/// The width of so many letters in a bar.
+/// The width of this many letters in a bar.
 pub fn bar_text_width(letters: u64) -> u64 {
     letters.saturating_mul(6).saturating_add(6)
 }

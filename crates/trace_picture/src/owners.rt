@@ -49,7 +49,7 @@ struct Search {
     bases: [Option<u64>; 256],
     /// The places of the requests that are open.
     open: Vec<usize>,
-    /// How many requests were called.
+    /// The requests called so far.
     called: usize,
     busy: Vec<Busy>,
 }

@@ -205,7 +205,7 @@ fn breaks(alloc: Global, rows: &[Say], rule: Rule) -> Result<bool, Fail> {
     Ok(seen == (rows.len().saturating_sub(1), Some(rule)))
 }
 
-/// The same, where a request goes as one piece, once.
+/// The rules where a request goes as one piece, once.
 fn breaks_whole(alloc: Global, rows: &[Say], rule: Rule) -> Result<bool, Fail> {
     let mut rules = small(alloc)?;
     rules.one_piece = true;
@@ -216,7 +216,7 @@ fn breaks_whole(alloc: Global, rows: &[Say], rule: Rule) -> Result<bool, Fail> {
     Ok(seen == (rows.len().saturating_sub(1), Some(rule)))
 }
 
-/// The same, where any cut will do.
+/// The rules where any cut will do.
 fn breaks_cut(alloc: Global, rows: &[Say], rule: Option<Rule>) -> Result<bool, Fail> {
     let mut rules = small(alloc)?;
     rules.any_cut = true;
@@ -228,7 +228,7 @@ fn breaks_cut(alloc: Global, rows: &[Say], rule: Option<Rule>) -> Result<bool, F
     Ok(seen == (last, rule))
 }
 
-/// The same, where the judge was given no sectors.
+/// The rules where the judge was given no sectors.
 fn breaks_bare(alloc: Global, rows: &[Say], rule: Rule) -> Result<bool, Fail> {
     let mut judge = Judge::new(alloc, small(alloc)?, Vec::new(alloc))
         .ok()
@@ -509,7 +509,7 @@ const READ_FIRST: Cdb = Cdb::Read10 {
     fua: false,
 };
 
-/// Of four sectors, too many for a piece.
+/// A request of four sectors, too many for a piece.
 const READ_ALL: Cdb = Cdb::Read10 {
     lba: 2,
     count: 4,
@@ -929,7 +929,7 @@ fn left(alloc: Global, rows: &[Say]) -> Result<Option<Undone>, Fail> {
     left_by(&mut judge(alloc)?, alloc, rows)
 }
 
-/// The same, of a judge that was made.
+/// The rule that a judge tells which was made here.
 fn left_by(judge: &mut Judge, alloc: Global, rows: &[Say]) -> Result<Option<Undone>, Fail> {
     for say in rows {
         if taken(judge, alloc, *say)?.is_some() {

@@ -11,7 +11,7 @@ use Rattle.io_manager.specs.Shown.{ManagerView}
 use Rattle.traced.specs.Pages.{PagesView, noted, noted_all}
 use Rattle.traced.specs.Slots.{IsArmedAs, LooksNowhere}
 use Rattle.traced.specs.inside.Slots.{SlotsView, number_at, AreArmed, ArmedBelow}
-use Rattle.traced.specs.Told.{MayNoteAll}
+use Rattle.traced.specs.Told.{MayNoteAll, AreTold, AreNoCalls, MayCall}
 use Rattle.machine.specs.Rules.{Rules}
 use Rattle.machine.specs.State.{State}
 use Rattle.machine.specs.Step.{Run}
@@ -41,7 +41,6 @@ use Rattle.traced.specs.Traced.{TracedView, pages_of, IsCarried, IsServed, may_w
 use Rattle.traced.specs.Opening.{IsFirst}
 use Rattle.traced.specs.Sound.{IsNamed}
 use Rattle.traced.specs.inside.Sound.{IsSound, IsGivenBelow, shown}
-use Rattle.traced.specs.Told.{AreTold, AreNoCalls, MayCall}
 use Rattle.traced.proofs.Telling.{Laws, no_calls_may, told_first, told_all, room_noted, labels_noted}
 
 -- labels were noted, and the rest is still to come

@@ -100,7 +100,7 @@ one_more (o ∷ old) (y ∷ new) (suc slot) x free u =
     let was : count_by is_some (o ∷ old) ≡ cond (is_some o) 1 0 + count_by is_some old = count_cons o old in
     omega arith
 
--- so many handles were opened
+-- this many handles were opened
 pub record WereOpened (partitions : List ℕ) (count : ℕ) (handles : List Handle) (old now : ManagerView) : Type 0 where
   pub same_rules : now.rules ≡ old.rules
   pub same_state : now.state ≡ old.state

@@ -7,7 +7,7 @@ use Rattle.traced.specs.declared.Entry.{Entry}
 abbrev pub entry : Label → Option ℕ → Entry
 entry label row = record { label = label; row = row }
 
--- whose request a number is of: its client, in a list of the clients of all requests by their numbers, which begin at 1
+-- the client of the request of a number, in a list of the clients of all requests by their numbers, which begin at 1
 abbrev pub owner_of : List ℕ → ℕ → Option ℕ
 owner_of owners number = slice_get owners (number - 1)
 
@@ -50,7 +50,7 @@ abbrev pub places : ℕ → ℕ → List Entry → List ℕ
 places c from [] = []
 places c from (e ∷ es) = if is_row c e.row then from ∷ places c (suc from) es else places c (suc from) es
 
--- how many entries pass a test
+-- the number of entries that pass a test
 abbrev pub count_of : (Entry → Bool) → List Entry → ℕ
 count_of test [] = 0
 count_of test (e ∷ es) = if test e then suc (count_of test es) else count_of test es
@@ -61,7 +61,7 @@ is_call_of c e = is_call e.label && is_row c e.row
 abbrev pub is_answer_of : ℕ → Entry → Bool
 is_answer_of c e = is_answer e.label && is_row c e.row
 
--- how many calls the trace has
+-- the number of calls in the trace
 abbrev pub calls : List Entry → ℕ
 calls es = count_of (λ e. is_call e.label) es
 

@@ -20,7 +20,3 @@ abbrev pub is_handle_event : Event → Bool
 is_handle_event (Open partition) = true
 is_handle_event (Close handle) = true
 is_handle_event _ = false
-
--- THE SLOTS
-
--- THE CALL

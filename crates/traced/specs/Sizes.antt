@@ -1,4 +1,4 @@
--- How many labels an event may bring, by the sizes of the stack.
+-- The most labels that an event may bring, by the sizes of the stack.
 use Rattle.std.specs.Prelude.{◌<◌, ℕ}
 use Rattle.machine.specs.Rules.{Rules}
 use Rattle.traced.specs.declared.sizes.Sizes.{Sizes}

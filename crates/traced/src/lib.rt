@@ -6,7 +6,7 @@
 //!   that the stack shows, which is settled; each call and each answer stands in the row of the call's client; and a slot is
 //!   armed exactly with the open request there ([`Traced::shows_whole`]);
 //! - a look goes once to the slot of each open request, and carries out each mark that it sees (`looked` of
-//!   [`Traced::look`]); an event's labels stand behind all others (`served` of [`Traced::serve`] and [`Traced::call`]), and
+//!   [`Traced::look`]); an event's labels stand last (`served` of [`Traced::serve`] and [`Traced::call`]), and
 //!   the share has counted its call (`counted`);
 //! - what a piece did elsewhere is booked, and changes nothing else (`books`, `same` of [`Traced::book`]);
 //! - want of memory for the trace is answered before any step of the event, and only a read, a write, a flush and a

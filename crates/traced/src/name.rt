@@ -16,7 +16,7 @@ pub trait Naming: chronicle::Naming + Ledger {
 
     ghost start: { State };
 
-    /// Those of its clients, by their numbers.
+    /// The names of its clients, by their numbers.
     ghost partitions: { List ℕ };
 
     ghost handles: { List (Option OpenHandle) };

@@ -68,7 +68,7 @@ impl<N: Naming> Pages<N> {
         })
     }
 
-    /// Makes room for so many labels.
+    /// Makes room for this many labels.
     pub(crate) fn reserve(&mut self, room: usize) -> Result<(), AllocError>
         ensures kept { self.new ≡ record self.old { room = self.new.room } }
         ensures no_less { self.old.room ≤ self.new.room }
@@ -134,7 +134,7 @@ impl<N: Naming> Pages<N> {
         last_answer(self.trace.as_slice(), self.row(client), number)
     }
 
-    // Whose request a number is of, if it was called.
+    // The client of the request of a number, if it was called.
     fn client_of(&self, number: u64) -> Option<usize>
         ensures { MatchOption result (WasCalled self.now.owners number → ⊥) (λ c. (owner_of self.now.owners number ≡ Some c) × (c < length N.partitions)) }
     {

@@ -89,7 +89,7 @@ impl Row {
     }
 }
 
-/// So many empty rows.
+/// Makes this many empty rows.
 pub(crate) fn empty_rows(alloc: Global, count: usize) -> Result<Vec<Row>, AllocError>
     ensures { IfOk result (λ v. v.items ≡ replicate count blank) }
 {

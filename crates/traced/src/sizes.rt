@@ -34,7 +34,7 @@ impl Sizes {
         }
     }
 
-    // Of a read or a write of so many bytes.
+    // The labels of a read or a write of this many bytes.
     fn labels_of_transfer(&self, bytes: usize) -> usize
         requires { AreSizes self.now }
         ensures { result ≡ labels_of_transfer self.now bytes }
@@ -43,7 +43,7 @@ impl Sizes {
         self.labels_of_call(sectors.min(self.longest as usize))
     }
 
-    // Of a request of so many places.
+    // The labels of a request of this many places.
     fn labels_of_call(&self, places: usize) -> usize
         requires few { places < 2 ^ 32 }
         requires sizes { AreSizes self.now }

@@ -461,7 +461,8 @@ impl<A: Adapter, N: Naming> Traced<A, N> {
         self.pages.calls()
     }
 
-    /// What the stack shows is settled and fits together, a run leads to it, and its adapter is in order, for who calls this.
+    /// Shows the caller that the stack's view is settled and fits together, that a run leads to it, and that its
+    /// adapter is in order.
     pub fn shows_stack(&self)
         ensures whole { FitsTogether self.now.stack }
         ensures reached { IsReached self.now.stack.rules self.now.stack.state }

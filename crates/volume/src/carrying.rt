@@ -58,7 +58,7 @@ fn await_answer<A: Adapter>(stack: &mut Stack<A>, alloc: Global, tags: u16) -> A
     }
 }
 
-/// The laws of a request that no other meets, for who calls it.
+/// Shows the caller the laws of a request that no other meets.
 fn laws_of_a_request()
     ensures reads { SoloReadsHold }
     ensures writes { SoloWritesHold }

@@ -16,7 +16,7 @@ wide = record small { max_transfer = 2 }
 abbrev pub anywhere : Rules
 anywhere = record wide { any_cut = true }
 
--- a write of three sectors, of which none was sent
+-- a write of three sectors; none was sent
 abbrev pub three : List ℕ
 three = full_of 165 ++ (full_of 165 ++ full_of 165)
 

@@ -128,7 +128,7 @@ SendsTheOther = Run small first_bad (
     Device (Start 2 0 (write_block 3 1)) ∷ Device (Act 2 (full_of 165)) ∷ Device (Return 2 Good) ∷ Answer 1 DeviceDataError 0 []
     ∷ []) (idle (sectors 0 165 0) 2 3)
 
--- a write whose piece came back busy once more than it may start again
+-- a write whose piece came back busy one time more than it may start again
 abbrev pub worn_out : State
 worn_out = record (idle zeros 2 3) { requests = record (opened 1 (write 0 2 (full_of 165)) (Back ∷ [])) { busy_returns = 2 } ∷ [] }
 

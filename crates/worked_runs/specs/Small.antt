@@ -61,7 +61,7 @@ write offset length' bytes = record { partition = Some 0; kind = Write; offset =
 abbrev pub flush : ClientRequest
 flush = record { partition = Some 0; kind = Flush; offset = 0; length = 0; through = false; bytes = [] }
 
--- READ(10) and WRITE(10) of so many blocks from this address on
+-- READ(10) and WRITE(10) of this many blocks from this address on
 abbrev pub read_block : ℕ → ℕ → List ℕ
 read_block lba count = 40 ∷ 0 ∷ 0 ∷ 0 ∷ 0 ∷ lba ∷ 0 ∷ 0 ∷ count ∷ 0 ∷ []
 

@@ -51,7 +51,7 @@ pub fn bad_piece_started_again()
     ensures goes_on { SendsTheOther }
 {}
 
-/// A piece is started once more than its request may start pieces again.
+/// A piece is started one time more than its request may start pieces again.
 pub fn restarted_without_end()
     ensures reached { ReachesWornOut }
     ensures never { NeverStarts small worn_out }

@@ -43,13 +43,13 @@ pub record FitsBlock (r : Request) : Type 0 where
   pub first : r.extent.first < 2 ^ 64
   pub count : r.extent.count < 2 ^ 32
 
--- the command that asks a disk of so many sectors for all of a request
+-- the command that asks a disk of this many sectors for all of a request
 abbrev pub disk_command : ℕ → Request → Kind → Cdb
 disk_command disk_sectors r Read = read_command r.extent.first r.extent.count r.through
 disk_command disk_sectors r Write = write_command r.extent.first r.extent.count r.through
 disk_command disk_sectors r Flush = flush_command disk_sectors
 
--- the rules of one whole disk of so many sectors
+-- the rules of one whole disk of this many sectors
 pub record IsWholeDisk (disk_sectors : ℕ) (rules : Rules) : Type 0 where
   pub as_many : rules.disk_sectors ≡ disk_sectors
   pub one_disk : rules.partitions ≡ record { first = 0; count = rules.disk_sectors } ∷ []

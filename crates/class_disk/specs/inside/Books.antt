@@ -40,14 +40,14 @@ pub record Books : Type 0 where
   pub held : List Held
   -- what is reserved, by slots
   pub rooms : List (Option DeviceRoom)
-  -- whose part the room at a spot below is
+  -- the part that the room at a spot below is for
   pub owners : List PartId
   -- the slots of the requests that have ended, the first to end in front
   pub ended : List ℕ
-  -- as many slots that list has room for
+  -- the slots that the list has room for
   pub ended_places : ℕ
   pub last_request : ℕ
-  -- how many packets were sent below, and one
+  -- one more than the packets sent so far
   pub next_packet : ℕ
   pub submitted : ℕ
   pub removing : Bool
@@ -75,7 +75,7 @@ open_from slot (Some (Reserved places) ∷ rest) = open_from (slot + 1) rest
 open_from slot (Some (Open t) ∷ rest) = (slot, opened_of t) ∷ open_from (slot + 1) rest
 open_from slot (Some (Left places) ∷ rest) = open_from (slot + 1) rest
 
--- those of these slots that have no packet
+-- the slots among these that have no packet
 abbrev pub held_from : ℕ → List (Option Slot) → List Held
 held_from slot [] = []
 held_from slot (None ∷ rest) = held_from (slot + 1) rest

@@ -55,7 +55,7 @@ IsCause cancelled removing busy (Busy told) =
 IsCause cancelled removing busy (Withdrawn told) = (IsTrue cancelled × (told ≡ Cancelled)) ⊎ (IsTrue removing
     × (told ≡ NoSuchDevice))
 
--- as many places as a part has
+-- the places of a part
 abbrev pub places_of : Rules → Part → ℕ
 places_of rules part = place_count rules (as_client rules part.request [])
 
@@ -67,7 +67,7 @@ marks_left rules part payload (Busy status) = replicate (places_of rules part) B
 marks_left rules part payload (Withdrawn status) =
     map (shown_mark part.restarts) (replicate (places_of rules part) Untouched)
 
--- of a part: under which number it is below, or what became of it
+-- what is known of a part: its number below, or what became of it
 abbrev pub note_by : Rules → Part → Progress → Note
 note_by rules part (Ready place) = Kept (replicate (places_of rules part) Untouched) 0
 note_by rules part (Below number spot) = Sent number part.restarts
@@ -108,7 +108,7 @@ view_of v b = record {
 
 -- ROOMS
 
--- those of all slots with no packet
+-- the spots of all slots with no packet
 abbrev pub tickets_held : List Held → List Ticket
 tickets_held [] = []
 tickets_held (held ∷ rest) = tickets_of held.parts ++ tickets_held rest
@@ -171,7 +171,7 @@ IsSpotted packets part = IsSpottedBy packets part.progress
 abbrev pub AreSpotted : List Packet → Opened → Type 0
 AreSpotted packets o = All (IsSpotted packets) o.parts
 
--- whose part each room below is
+-- the part that each room below is for
 abbrev pub AreOwned : List PartId → ℕ × Opened → Type 0
 AreOwned owners e = AreOwnedFrom owners e.0 0 e.1.parts
 

@@ -62,12 +62,12 @@ AreBehind removing divided number part_number = All (IsAhead removing number par
 abbrev pub IsInTurn : Bool → List Divided → Divided → Type 0
 IsInTurn removing divided e = All (AreBehind removing divided e.number) (map request_number (parts_requests e.parts))
 
--- as many places as a part has
+-- the places of a part
 abbrev pub places_in : Part → ℕ
 places_in (Below o again pieces) = length o.marks
 places_in (Here marks busy) = length marks
 
--- so many places, part by part: each part but the last is as long as a piece can be
+-- this many places, part by part: each part but the last is as long as a piece can be
 abbrev pub AreCut : ℕ → List ℕ → Type 0
 AreCut longest [] = Unit {0}
 AreCut longest (count ∷ counts) = (0 < count) × (count ≤ longest) × ((count ≡ longest) ⊎ (counts ≡ []))
@@ -82,7 +82,7 @@ one_if_back _ = 0
 abbrev pub begins_back : List Mark → ℕ
 begins_back marks = one_if_back (get_or marks 0 Untouched)
 
--- as many parts came back busy, and were not sent again since
+-- the parts that came back busy and were not sent again since
 abbrev pub parts_back : List Part → ℕ
 parts_back [] = 0
 parts_back (Below o again pieces ∷ parts) = begins_back o.marks + parts_back parts

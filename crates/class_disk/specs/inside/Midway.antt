@@ -161,7 +161,7 @@ pub record IsNewPart (sector_size : ℕ) (request : Request) (part : Part) : Typ
   pub is_ready : part.progress ≡ Ready place
   pub buffers : HasBuffers sector_size request place
 
--- the first parts of a request, so many, each of which can be sent
+-- the first parts of a request, this many, each of which can be sent
 pub record AreNewParts (sizes : Sizes) (r : Request) (count : ℕ) (parts : List Part) : Type 0 where
   pub long : length parts ≡ count
   pub are : (k : ℕ) (part : Part) → slice_get parts k ≡ Some part

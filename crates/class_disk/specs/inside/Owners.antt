@@ -1,4 +1,4 @@
--- Whose part the room at a spot below is.
+-- The part that the room at a spot below is for.
 use Rattle.std.specs.Prelude.{◌≡◌, ◌≢◌, ◌<◌, ◌≤◌, ⊤, ℕ, ◌+◌, List, [], ◌∷◌, length, slice_index_or}
 use Rattle.class_disk.specs.declared.parts.PartId.{PartId}
 use Rattle.class_disk.specs.declared.parts.Part.{Part}

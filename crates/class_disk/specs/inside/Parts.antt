@@ -39,7 +39,7 @@ EndsBack status (Failed failure) = (failure ≡ status) × (status ≢ Success) 
 EndsBack status (Busy told) = status ≡ DeviceBusy
 EndsBack status (Withdrawn told) = ⊥
 
--- why a part that came back busy is not sent again, of a request with so many restarts, and its status
+-- why a part that came back busy is not sent again, of a request with this many restarts, and its status
 abbrev pub IsBusyFor : (cancelled removing : Bool) (restarts : ℕ) → NtStatus → Type 0
 IsBusyFor cancelled removing restarts told =
     (IsTrue cancelled × (told ≡ Cancelled)) ⊎ (IsFalse cancelled × IsTrue removing × (told ≡ NoSuchDevice))

@@ -22,7 +22,7 @@ pub record Books : Type 0 where
   -- those that were cancelled while they were held
   pub ended : List (ℕ × Held)
   pub places : Places
-  -- how many are below
+  -- the packets below
   pub below : ℕ
   pub last_number : ℕ
   pub submitted : ℕ

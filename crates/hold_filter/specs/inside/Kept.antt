@@ -34,7 +34,7 @@ IsCancelled held = IsTrue held.irp.value.cancelled
 abbrev pub IsFrom : ℕ → ℕ × Held → Type 0
 IsFrom next e = next ≤ e.1.irp.value.number
 
--- stack locations from the filter on, where those below need so many: one more. A packet has four, so more than five
+-- stack locations from the filter on, where those below need this many: one more. A packet has four, so more than five
 -- are not counted
 abbrev pub stack_over : ℕ → ℕ
 stack_over below = if nat_lt below 5 then below + 1 else below

@@ -50,7 +50,7 @@ asked_by own = record {
   through = own.flags.0 == 0x04;
 }
 
--- that of the last location
+-- the request of the last location
 abbrev pub last_asked : Request → List StackLocation → Request
 last_asked request [] = request
 last_asked request (own ∷ rest) = last_asked (asked_by own) rest

@@ -157,7 +157,7 @@ pub record Admits (old : Tables) (handle : Handle) (q : ClientRequest) (copies :
     labels = new.labels;
   }
 
--- what refuses a handle on a partition of so many, if anything: the first that fits
+-- what refuses a handle on a partition of this many, if anything: the first that fits
 abbrev pub handle_refusal : Tables → ℕ → ℕ → Option NtStatus
 handle_refusal tables partition partitions = first_some (
     when (are_used_up tables.next_handle) BusyStatus
@@ -217,7 +217,7 @@ pub record IsSent (below : DeviceView) (tables : Tables) (handle : Handle) (q : 
   pub admits : Admits tables handle q copies spot slot tables'
   pub sends : SendsDown below tables.next_request spot request buffer below'
 
--- where a call has a partition, it is one of so many
+-- where a call has a partition, it is one of this many
 abbrev pub IsKnown : ℕ → Option ℕ → Type 0
 IsKnown partitions None = Unit {0}
 IsKnown partitions (Some partition) = partition < partitions

@@ -125,12 +125,12 @@ abbrev pub of_handle : Option OpenRequest → ℕ → ℕ
 of_handle None number = 0
 of_handle (Some request) number = if request.handle == number then 1 else 0
 
--- how many of the first so many slots have one
+-- among the first slots, the number of those that have one
 abbrev pub count_open : Slab OpenRequest → ℕ → ℕ → ℕ
 count_open requests number zero = 0
 count_open requests number (suc slot) = count_open requests number slot + of_handle (get requests slot) number
 
--- of each open handle it is counted how many requests are open on it
+-- each open handle has a count of the requests that are open on it
 pub record AreCounted (handles : Slab OpenHandle) (requests : Slab OpenRequest) (counts : List ℕ) : Type 0 where
   pub places : length counts ≡ 64
   pub counted : (slot number : ℕ) → IsOpenIn handles slot number

@@ -4,7 +4,7 @@ use Rattle.sector.specs.declared.Extent.{Extent}
 use Rattle.cdb.specs.Meaning.{AsksToWrite}
 use Rattle.adapter.specs.View.{AdapterView, TagInUse}
 
--- so many sectors from this one on lie in the extent
+-- this many sectors from this one on lie in the extent
 pub record LieIn (lba count : ℕ) (extent : Extent) : Type 0 where
   pub from : extent.first ≤ lba
   pub to : lba + count ≤ extent.first + extent.count

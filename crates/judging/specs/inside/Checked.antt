@@ -63,6 +63,6 @@ IsUnreadTrace fault = (fault ≡ TraceUnreadable) ⊎ (fault ≡ NoMemory)
 abbrev pub IsOutputFault : Fault → Type 0
 IsOutputFault fault = (fault ≡ OutputFailed) ⊎ (fault ≡ NoMemory)
 
--- the same over whatever gave the settings
+-- why nothing is said, whatever gave the settings
 abbrev pub IsFaultBy : Standard → Option (List ℕ) → Fault → Type 0
 IsFaultBy standard trace fault = (config : Option (List ℕ)) → AreRead config standard.config → IsCheckFault config trace fault

@@ -22,7 +22,7 @@ impl Read for Torn<'_> {
     }
 }
 
-/// A writer that takes so many bytes, and then fails.
+/// A writer that takes this many bytes, and then fails.
 #[derive(Drop)]
 pub struct Narrow<'a> {
     pub taken: &'a mut Vec<u8>,

@@ -41,7 +41,7 @@ module _ {T : Type 0} where
   walk_on spot None go = []
   walk_on spot (Some e) go = (spot, e.item) ∷ go e.after
 
-  -- so many entries from a spot on, by their links
+  -- this many entries from a spot on, by their links
   abbrev pub walk : Slab (Entry T) → ℕ → Option ℕ → List (ℕ × T)
   walk s zero at = []
   walk s (suc count) None = []

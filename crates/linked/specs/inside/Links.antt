@@ -34,7 +34,7 @@ module _ {T : Type 0} where
     pub first : new.first ≡ (if is_none before then after else old.first)
     pub last : new.last ≡ (if is_none after then before else old.last)
 
-  -- the links are as they were, and so many more visits were made
+  -- the links are as they were, and this many more visits were made
   pub record OnlyVisits (old new : Links T) (count : ℕ) : Type 0 where
     pub slab : new.entries.slab ≡ old.entries.slab
     pub visits : new.entries.visits.count ≡ old.entries.visits.count + count

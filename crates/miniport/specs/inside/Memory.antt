@@ -18,6 +18,8 @@ use Rattle.miniport.specs.Carrying.{IsReady, CarriesOut, FailsBy}
 use Rattle.miniport.specs.Moving.{moved_by}
 use Rattle.miniport.specs.inside.Slots.{Table, HasNoneUntouched, piece_at, with_slot, with_moved, with_failed}
 
+-- ACT
+
 -- a piece was taken off its tag, and is put back as its command ended
 abbrev pub PutsBack : MediumView → Bool → Table → ℕ → OnTag → Outcome → MediumView → Table → Type 0
 PutsBack medium write_protected table tag on (Moved srb bytes) medium' table' =
@@ -40,12 +42,14 @@ pub record ActsNotIn (medium : MediumView) (table : Table) (tag : ℕ) (medium' 
   pub same_medium : medium' ≡ medium
   pub same_table : table' ≡ table
 
+-- WHAT IT KEEPS
+
 abbrev pub left_by : Progress → ℕ
 left_by Untouched = 2
 left_by Done = 1
 left_by (Refused completion) = 1
 
--- how many failures a piece may still count
+-- the failures that a piece may still count
 abbrev pub failures_left : Option OnTag → ℕ
 failures_left None = 0
 failures_left (Some on) = if on.was_reset then 0 else left_by on.progress

@@ -8,7 +8,7 @@ use Rattle.nbd.specs.Options.{Asked, IsAsked, greeting, next_of, option_bytes, w
 use Rattle.nbd.specs.Session.{Begins, IsTold, said}
 use Rattle.nbd.specs.Handshake.{answers_to, Leads, IsLastOption, AreFlags}
 
--- a stream began with such bytes
+-- a stream began with bytes that end the options
 pub record TakesLastOption (input : Option (List ℕ)) (end : End) : Type 0 where
   pub last : List ℕ
   pub asked : Begins input last

@@ -4,7 +4,7 @@ use Rattle.std.specs.Io.KnownBytes.{Consumes}
 use Rattle.nbd.specs.declared.options.Wish.{Wish}
 use Rattle.nbd.specs.Options.{wish_in, IsOptionHeader}
 
--- such a header was taken
+-- the header of an option with this code was taken
 pub record TakesOptionHeader (input rest : Option (List ℕ)) (code count : ℕ) : Type 0 where
   pub header : List ℕ
   pub is_header : IsOptionHeader header code count

@@ -65,7 +65,7 @@ pub record Books : Type 0 where
   pub next_piece : ℕ
   pub submitted : ℕ
   pub removing : Bool
-  -- as many packets as can be taken in, those that are in and the rooms out among them
+  -- the packets that can be taken in, with those that are in and the rooms out
   pub places : ℕ
   -- by spots: what is reserved, and Some None where a packet has the spot
   pub rooms : List (Option (Option Request))

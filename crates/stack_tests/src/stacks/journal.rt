@@ -98,7 +98,7 @@ fn stack_apart(rt: &impl Abort, alloc: Global) -> Result<Stack<BookedAdapter>, A
     started_apart(rt, alloc, adapter)
 }
 
-/// The same over a journal of this medium, of 4,096 sectors of 512 bytes.
+/// The stack over a journal of this medium, of 4,096 sectors of 512 bytes.
 fn journaled_on<M: Medium, N: Naming>(
     rt: &impl Abort,
     alloc: Global,
@@ -238,7 +238,7 @@ fn play_over<M: Medium, N: Naming>(
     replay(rt, alloc, &mut medium, entries.as_slice())
 }
 
-/// The same over a disk with a bad sector.
+/// The stack over a disk with a bad sector.
 fn play(rt: &impl Abort, alloc: Global, rows: &[&[Row]]) -> Result<(), AllocError> {
     let medium = disk(alloc, &ONE, &[2120])?;
     let opened = Opened::new(alloc)?;

@@ -22,7 +22,7 @@ pub(crate) enum Step {
     Read(Handle, u64, usize),
     /// A write of equal bytes.
     Write(Handle, u64, usize, u8),
-    /// The same, write-through.
+    /// A write-through write.
     Through(Handle, u64, usize, u8),
     Flush(Handle),
     Cancel(Handle, Option<Id>),

@@ -4,7 +4,7 @@ use Rattle.compose.specs.declared.Event.{Event}
 use Rattle.compose.specs.declared.Event.TheVariants.{Read, Write, Flush, QueryRemove}
 use Rattle.traced.specs.declared.sizes.Sizes.{Sizes}
 
--- a request of so many places: its call, a cancel, its answer, three of each piece, and two of each restart
+-- a request of this many places: its call, a cancel, its answer, three of each piece, and two of each restart
 abbrev pub labels_of_call : Sizes → ℕ → ℕ
 labels_of_call sizes places =
     3 * (places / sizes.max_transfer + (if places % sizes.max_transfer == 0 then 0 else 1)) + 2 * (sizes.busy_limit - 1) + 3

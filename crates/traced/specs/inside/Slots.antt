@@ -26,6 +26,6 @@ abbrev pub unless_number : ℕ → Option ℕ → Option ℕ
 unless_number number None = None
 unless_number number (Some other) = if other == number then None else Some other
 
--- the request of this number is in no slot from now on, and those of others stay
+-- the request of this number leaves its slot, and those of others stay
 abbrev pub Leaves : ℕ → List (Option ℕ) → List (Option ℕ) → Type 0
 Leaves number old new = (k : ℕ) → number_at new k ≡ unless_number number (number_at old k)

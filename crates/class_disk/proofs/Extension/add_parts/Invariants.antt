@@ -6,7 +6,7 @@ use Rattle.class_disk.specs.inside.Blocks.{part_count_of}
 use Rattle.class_disk.specs.inside.Midway.{AreNewParts, MakesParts}
 use Rattle.class_disk.proofs.Extension.add_parts.Given as goal
 
--- so many parts were made, and their rooms are out
+-- this many parts were made, and their rooms are out
 abbrev pub invariant-loop-k : goal.invariant-loop-k
 invariant-loop-k g l = record {
   table : l.self.table ≡ record l.initial.self.table { owners = l.self.table.owners };
