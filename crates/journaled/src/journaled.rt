@@ -12,7 +12,7 @@ ghost use Rattle.journaled.specs.Shown.{StandsIn};
 ghost use Rattle.journaled.specs.Told.{IsTold, RunsFaithfully, StaysTold, TellsOn};
 
 use crate::acting::act;
-use crate::asking::carry;
+use crate::reserving::carry;
 use compose::{Answer, Event, Reply, Stack};
 use disk::Medium;
 use machine::Label;

@@ -15,7 +15,7 @@
 #![tactic(auto)]
 
 mod acting;
-mod asking;
+mod reserving;
 mod journaled;
 mod laws;
 

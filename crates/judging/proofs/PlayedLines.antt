@@ -16,7 +16,7 @@ use Rattle.compose.specs.declared.Event.TheVariants.{Open, Close, Read, Write, F
 use Rattle.compose.specs.Right.{IsRight}
 use Rattle.script.specs.declared.Line.{Line}
 use Rattle.script.specs.declared.Order.{Order}
-use Rattle.script.specs.declared.numbers.Given.{Given}
+use Rattle.script.specs.declared.given.Given.{Given}
 use Rattle.script.specs.Events.{Keeps}
 use Rattle.script.specs.Trace.{left_by, left_by_all, without_labels, Between, IsAllTaken, IsCarriedOut, Prints}
 use Rattle.judging.specs.Recorded.{AreRecorded, IsLineRecorded, IsRecord, IsRecordTo, lines_text}

@@ -7,7 +7,7 @@ use Rattle.machine.specs.declared.Label.{Label}
 use Rattle.io_manager.specs.declared.Reply.{Reply}
 use Rattle.io_manager.specs.Shown.{ManagerView}
 use Rattle.script.specs.declared.Line.{Line}
-use Rattle.script.specs.declared.numbers.Given.{Given}
+use Rattle.script.specs.declared.given.Given.{Given}
 use Rattle.script.specs.Events.{Keeps}
 use Rattle.script.specs.Trace.{Between, IsCarriedOut}
 use Rattle.script.specs.declared.ScriptFault.TheVariants.{BadLine as BadScriptLine, NoMemory as WantOfMemory, OutputFailed as PrintFailed}

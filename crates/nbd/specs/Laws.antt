@@ -2,7 +2,7 @@
 use Rattle.std.specs.Prelude.{◌≡◌, ◌≤◌, ◌<◌, ◌^◌, ◌+◌, ◌↔◌, ℕ, List, ◌++◌, length, slice_index}
 use Rattle.byteorder.specs.Endian.{big_bytes}
 use Rattle.nbd.specs.declared.requests.Request.{Request}
-use Rattle.nbd.specs.declared.numbers.TheConstants.{NBD_REQUEST_MAGIC}
+use Rattle.nbd.specs.declared.constants.TheConstants.{NBD_REQUEST_MAGIC}
 use Rattle.nbd.specs.Content.{Content, IsSameOutside, written}
 use Rattle.nbd.specs.Requests.{IsRequest}
 

@@ -7,7 +7,7 @@ use Rattle.nbd.specs.declared.requests.Command.{Command}
 use Rattle.nbd.specs.declared.requests.ReplyError.TheVariants.{Enomem}
 use Rattle.nbd.specs.declared.options.Next.{Next}
 use Rattle.nbd.specs.declared.options.Next.TheVariants.{Options, Requests, Ended}
-use Rattle.nbd.specs.declared.numbers.TheConstants.{NBD_CMD_DISC}
+use Rattle.nbd.specs.declared.constants.TheConstants.{NBD_CMD_DISC}
 use Rattle.nbd.specs.Requests.{IsRequest, command_in, payload_count}
 use Rattle.nbd.specs.Replies.{Outcome, failure}
 use Rattle.nbd.specs.Options.{Asked, greeting, option_bytes}

@@ -5,7 +5,7 @@ use Rattle.nbd.specs.declared.requests.ReplyError.{ReplyError}
 use Rattle.nbd.specs.declared.requests.ReplyError.TheVariants.{Eperm, Eio, Enomem, Einval, Enospc, Eshutdown}
 use Rattle.nbd.specs.declared.replies.Answer.{Answer}
 use Rattle.nbd.specs.declared.replies.Answer.TheVariants.{Done, Data, Refused}
-use Rattle.nbd.specs.declared.numbers.TheConstants.{NBD_SIMPLE_REPLY_MAGIC, NBD_EPERM, NBD_EIO, NBD_ENOMEM, NBD_EINVAL, NBD_ENOSPC, NBD_ESHUTDOWN}
+use Rattle.nbd.specs.declared.constants.TheConstants.{NBD_SIMPLE_REPLY_MAGIC, NBD_EPERM, NBD_EIO, NBD_ENOMEM, NBD_EINVAL, NBD_ENOSPC, NBD_ESHUTDOWN}
 
 -- how a request ended: its error, 0 for none, and the bytes that it brought
 pub record Outcome : Type 0 where

@@ -7,7 +7,7 @@ use Rattle.nbd.specs.declared.requests.Command.TheVariants.{Read, Write, Flush, 
 use Rattle.nbd.specs.declared.requests.ReplyError.{ReplyError}
 use Rattle.nbd.specs.declared.requests.ReplyError.TheVariants.{Einval, Enospc}
 use Rattle.nbd.specs.Content.{AreInBounds}
-use Rattle.nbd.specs.declared.numbers.TheConstants.{NBD_REQUEST_MAGIC, NBD_CMD_READ, NBD_CMD_WRITE, NBD_CMD_FLUSH, NBD_CMD_WRITE_ZEROES, NBD_CMD_FLAG_FUA, NBD_CMD_FLAG_NO_HOLE, LONGEST}
+use Rattle.nbd.specs.declared.constants.TheConstants.{NBD_REQUEST_MAGIC, NBD_CMD_READ, NBD_CMD_WRITE, NBD_CMD_FLUSH, NBD_CMD_WRITE_ZEROES, NBD_CMD_FLAG_FUA, NBD_CMD_FLAG_NO_HOLE, LONGEST}
 
 -- the fields of a request, highest byte first
 abbrev pub request_in : List ℕ → Request

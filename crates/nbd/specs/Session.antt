@@ -5,7 +5,7 @@ use Rattle.byteorder.specs.Endian.{big_from}
 use Rattle.nbd.specs.declared.End.{End}
 use Rattle.nbd.specs.declared.End.TheVariants.{Left, Malformed, Output}
 use Rattle.nbd.specs.declared.requests.Request.{Request}
-use Rattle.nbd.specs.declared.numbers.TheConstants.{NBD_CMD_DISC, NBD_REQUEST_MAGIC}
+use Rattle.nbd.specs.declared.constants.TheConstants.{NBD_CMD_DISC, NBD_REQUEST_MAGIC}
 use Rattle.nbd.specs.Content.{Content}
 use Rattle.nbd.specs.Requests.{IsRequest, payload_count}
 use Rattle.nbd.specs.Replies.{Outcome, reply_bytes}

@@ -4,7 +4,7 @@ ghost use Rattle.std.specs.Prelude.{◌≡◌, ◌≤◌, ◌+◌, length, slice
 ghost use Rattle.nbd.specs.Content.{AreInBounds, Content, IsBlockSize, IsSameOutside, written};
 ghost use Rattle.nbd.specs.declared.arrays.ArrayFault.{ArrayFault};
 
-use crate::numbers::LONGEST;
+use crate::constants::LONGEST;
 use std::alloc::Global;
 use thiserror::Error;
 

@@ -9,7 +9,7 @@ ghost use Rattle.nbd.specs.Requests.{IsWithin};
 
 use crate::End;
 use crate::arrays::{Array, ArrayFault};
-use crate::numbers::LONGEST;
+use crate::constants::LONGEST;
 use crate::replies::Answer;
 use crate::requests::{Command, ReplyError, Request, command_of, payload_count};
 use crate::streams::{skip, take_all, zeros};

@@ -10,7 +10,7 @@ ghost use Rattle.nbd.specs.inside.Handshake.{AsksOnce, EndsHaggling, Greets, Hag
 
 use crate::End;
 use crate::arrays::Sizes;
-use crate::numbers::{
+use crate::constants::{
     IHAVEOPT, LONGEST_OPTION, NBD_FLAG_C_FIXED_NEWSTYLE, NBD_FLAG_C_NO_ZEROES,
     NBD_FLAG_FIXED_NEWSTYLE, NBD_FLAG_NO_ZEROES, NBDMAGIC,
 };

@@ -23,7 +23,7 @@ mod carrying;
 mod handshake;
 mod laws;
 mod memory;
-mod numbers;
+mod constants;
 mod options;
 mod over;
 mod replies;

@@ -9,7 +9,7 @@ ghost use Rattle.nbd.specs.inside.Options.{TakesOption, TakesOptionHeader};
 
 use crate::End;
 use crate::arrays::Sizes;
-use crate::numbers::{
+use crate::constants::{
     IHAVEOPT, LONGEST, LONGEST_OPTION, NBD_FLAG_HAS_FLAGS, NBD_FLAG_SEND_FLUSH, NBD_FLAG_SEND_FUA,
     NBD_FLAG_SEND_WRITE_ZEROES, NBD_INFO_BLOCK_SIZE, NBD_INFO_EXPORT, NBD_OPT_ABORT,
     NBD_OPT_EXPORT_NAME, NBD_OPT_GO, NBD_OPT_INFO, NBD_OPT_LIST, NBD_REP_ACK, NBD_REP_ERR_INVALID,

@@ -4,7 +4,7 @@ ghost use Rattle.std.specs.Prelude.{◌≡◌, OnOk};
 ghost use Rattle.std.specs.Io.KnownBytes.{Appends};
 ghost use Rattle.nbd.specs.Replies.{outcome_of, reply_bytes, simple_bytes};
 
-use crate::numbers::NBD_SIMPLE_REPLY_MAGIC;
+use crate::constants::NBD_SIMPLE_REPLY_MAGIC;
 use crate::requests::ReplyError;
 use byteorder::{BigEndian, ByteOrder};
 use std::io;

@@ -7,7 +7,7 @@ ghost use Rattle.nbd.specs.Replies.{error_number};
 ghost use Rattle.nbd.specs.Content.{AreInBounds};
 
 use crate::arrays::Sizes;
-use crate::numbers::{
+use crate::constants::{
     LONGEST, NBD_CMD_DISC, NBD_CMD_FLAG_FUA, NBD_CMD_FLAG_NO_HOLE, NBD_CMD_FLUSH, NBD_CMD_READ,
     NBD_CMD_WRITE, NBD_CMD_WRITE_ZEROES, NBD_EINVAL, NBD_EIO, NBD_ENOMEM, NBD_ENOSPC, NBD_EPERM,
     NBD_ESHUTDOWN, NBD_REQUEST_MAGIC,

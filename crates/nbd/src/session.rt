@@ -10,7 +10,7 @@ use crate::End;
 use crate::arrays::Array;
 use crate::carrying::serve_request;
 use crate::handshake::{answer_options, greet};
-use crate::numbers::NBD_CMD_DISC;
+use crate::constants::NBD_CMD_DISC;
 use crate::replies::{Answer, write_reply};
 use crate::requests::{Request, parse_request};
 use crate::streams::take;

@@ -5,7 +5,7 @@ ghost use Rattle.std.specs.Io.KnownBytes.{Consumes};
 ghost use Rattle.nbd.specs.inside.Streams.{Skips, Takes};
 
 use crate::End;
-use crate::numbers::LONGEST;
+use crate::constants::LONGEST;
 use std::alloc::Global;
 use std::io::Read;
 

@@ -35,4 +35,4 @@ mod statuses;
 #[cfg(test)]
 mod tables;
 #[cfg(test)]
-mod turns;
+mod turnstiles;

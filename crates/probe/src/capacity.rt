@@ -12,7 +12,7 @@ ghost use Rattle.probe.specs.inside.Capacity.{IsToldShort, IsCapacityOf, IsCapac
 ghost use Rattle.probe.specs.Capacity.{long_capacity, asked_for_capacity};
 
 use crate::ProbeFault;
-use crate::asking::ask;
+use crate::exchange::ask;
 use adapter::Adapter;
 use byteorder::{BigEndian, ByteOrder};
 use cdb::Cdb;

@@ -11,7 +11,7 @@
 //! It doesn't promise that memory suffices. Only the table in sector 0 is read, and none within a partition.
 #![tactic(auto)]
 
-mod asking;
+mod exchange;
 mod capacity;
 mod probing;
 

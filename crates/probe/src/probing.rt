@@ -8,7 +8,7 @@ ghost use Rattle.probe.specs.inside.Capacity.{IsCapacityOf};
 ghost use Rattle.probe.specs.Probing.{HasPartitions, IsProbed, IsReadBy, IsTableFault, IsProbeFault, asked_by_probe};
 ghost use Rattle.probe.specs.Probing.{table_read};
 
-use crate::asking::ask;
+use crate::exchange::ask;
 use crate::capacity::{Capacity, read_capacity};
 use crate::{ProbeFault, Probed};
 use adapter::Adapter;

@@ -17,7 +17,7 @@ mod bytes;
 mod events;
 mod held;
 mod labels;
-mod loose;
+mod raw_box;
 mod opening;
 mod opening_over;
 mod over;

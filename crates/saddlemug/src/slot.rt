@@ -7,7 +7,7 @@ ghost use Rattle.ntstatus.specs.declared.NtStatus.TheVariants.{InsufficientResou
 ghost use Rattle.saddlemug.specs.declared.held.Held.{Held};
 
 use crate::held::Held;
-use crate::loose::Loose;
+use crate::raw_box::RawBox;
 use ntstatus::NtStatus;
 use std::alloc::Global;
 use std::marker::Model;
@@ -39,22 +39,22 @@ impl Slot {
         }
     }
 
-    fn of(loose: Loose<Held, Global>) -> Slot
+    fn of(loose: RawBox<Held, Global>) -> Slot
         ensures { result.held ≡ Some loose.value }
     {
-        let Loose { at, alloc } = loose;
+        let RawBox { at, alloc } = loose;
         Slot {
             at: at as *mut u8,
             alloc,
         }
     }
 
-    fn into_loose(self) -> Loose<Held, Global>
+    fn into_loose(self) -> RawBox<Held, Global>
         requires { IsSome self.held }
         ensures { self.held ≡ Some result.value }
     {
         let Slot { at, alloc } = self;
-        Loose {
+        RawBox {
             at: at as *mut Held,
             alloc,
         }
@@ -65,7 +65,7 @@ impl Slot {
         requires { self.old.held ≡ None }
         ensures { self.new.held ≡ Some held.value }
     {
-        *self = Slot::of(Loose::of(held));
+        *self = Slot::of(RawBox::of(held));
     }
 
     /// Puts something into an empty slot, in memory of its own. Answers 0, or the status where memory was refused; the slot

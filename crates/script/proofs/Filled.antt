@@ -1,6 +1,6 @@
 -- Buffers that are full of one byte.
 use Rattle.std.proofs.Common.{◌≡◌, ◌-◌, ◌∙◌, ℕ, zero, suc, List, ◌∷◌, ◌++◌, ap, arith, length, refl, replicate, take}
-use Rattle.script.specs.Filling.{IsAll}
+use Rattle.script.specs.Buffers.{IsAll}
 
 -- equal bytes, cut or with more of them behind
 cut_or_more : (m n byte : ℕ) → take n (replicate m byte) ++ replicate (n - m) byte ≡ replicate n byte

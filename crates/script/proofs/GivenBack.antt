@@ -6,10 +6,10 @@ use Rattle.io_manager.specs.declared.Reply.{Reply}
 use Rattle.io_manager.specs.declared.Reply.TheVariants.{Refused}
 use Rattle.io_manager.specs.Shown.{ManagerView}
 use Rattle.compose.specs.Right.{IsRight}
-use Rattle.script.specs.declared.numbers.Given.{Given}
+use Rattle.script.specs.declared.given.Given.{Given}
 use Rattle.script.specs.declared.Order.{Order}
 use Rattle.script.specs.declared.Order.TheVariants.{Read, Write}
-use Rattle.script.specs.Filling.{GivesBack, IsAll}
+use Rattle.script.specs.Buffers.{GivesBack, IsAll}
 use Rattle.script.specs.Trace.{IsCarriedOut}
 
 all_from : (byte n : ℕ) (bytes : List ℕ) → bytes ≡ replicate n byte → IsAll byte bytes

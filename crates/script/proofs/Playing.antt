@@ -16,7 +16,7 @@ use Rattle.compose.specs.declared.Event.TheVariants.{Open, Close, Read, Write, F
 use Rattle.compose.specs.Right.{IsRight}
 use Rattle.script.specs.declared.Line.{Line}
 use Rattle.script.specs.declared.Order.{Order}
-use Rattle.script.specs.declared.numbers.Given.{Given}
+use Rattle.script.specs.declared.given.Given.{Given}
 use Rattle.script.specs.Events.{Keeps}
 use Rattle.script.specs.Printing.{labels_text, line_end, reply_line}
 use Rattle.script.specs.Trace.{Adds, left_by, left_by_all, without_labels, Between, IsAllTaken, IsCarriedOut, IsLinePlayed, IsPlayed, IsTrace, IsTraceTo, Prints, line_text}

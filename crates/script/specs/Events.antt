@@ -11,7 +11,7 @@ use Rattle.compose.specs.declared.Event.{Event}
 use Rattle.compose.specs.declared.Event.TheVariants.{Open as OpenEvent, Close as CloseEvent, Read as ReadEvent, Write as WriteEvent, Flush as FlushEvent, CancelIoEx, Mark as MarkEvent, QueryRemove as QueryEvent, CancelRemove as RecallEvent, Remove as RemoveEvent, SurpriseRemove as SurpriseEvent, Act as ActEvent, Finish as FinishEvent, Reset as ResetEvent}
 use Rattle.script.specs.declared.Order.{Order}
 use Rattle.script.specs.declared.Order.TheVariants.{Open, Close, Read, Write, Flush, Cancel, Mark, QueryRemove, CancelRemove, Remove, SurpriseRemove, Act, Finish, Reset}
-use Rattle.script.specs.declared.numbers.Given.{Given}
+use Rattle.script.specs.declared.given.Given.{Given}
 
 -- handles by their numbers
 abbrev pub Handles : Type 0

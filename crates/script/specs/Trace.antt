@@ -11,7 +11,7 @@ use Rattle.compose.specs.declared.Event.{Event}
 use Rattle.compose.specs.Right.{IsRight}
 use Rattle.script.specs.declared.Line.{Line}
 use Rattle.script.specs.declared.Order.{Order}
-use Rattle.script.specs.declared.numbers.Given.{Given}
+use Rattle.script.specs.declared.given.Given.{Given}
 use Rattle.script.specs.Events.{IsEventOf, IsReplyTo, Keeps}
 use Rattle.script.specs.Printing.{labels_text, line_end, reply_line}
 

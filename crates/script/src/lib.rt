@@ -9,15 +9,15 @@
 
 ghost use Rattle.script.specs.Faults.{IsOfWrite};
 
-mod filling;
-mod numbers;
+mod buffers;
+mod given;
 mod orders;
 mod player;
 mod printing;
 mod runs;
 
-pub use filling::Spare;
-pub use numbers::Given;
+pub use buffers::Spare;
+pub use given::Given;
 pub use orders::lines;
 pub use player::{event, play, write_labels};
 pub use printing::{write_label, write_reply};

@@ -4,12 +4,12 @@ ghost use Rattle.std.specs.Prelude.{◌≡◌, ◌⊎◌, ◌++◌, [], IfErr, O
 ghost use Rattle.std.specs.Io.KnownBytes.{Appends, Keeps, append_known};
 ghost use Rattle.script.specs.Events.{AreNamed, IsEventOf, IsReplyTo};
 ghost use Rattle.script.specs.Faults.{IsPrintFault};
-ghost use Rattle.script.specs.Filling.{AreFilled};
+ghost use Rattle.script.specs.Buffers.{AreFilled};
 ghost use Rattle.script.specs.Printing.{labels_text, line_end};
 ghost use Rattle.script.specs.Trace.{Adds, IsAllTaken, IsCarriedOut, IsLinePlayed, IsTrace, Prints, left_by, without_labels};
 
-use crate::filling::Spare;
-use crate::numbers::Given;
+use crate::buffers::Spare;
+use crate::given::Given;
 use crate::printing::{write_label, write_reply};
 use crate::{Line, Order, ScriptFault};
 use adapter::Adapter;

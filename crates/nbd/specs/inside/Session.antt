@@ -3,7 +3,7 @@ use Rattle.std.specs.Prelude.{◌≢◌, ℕ, List, ◌++◌, Option}
 use Rattle.std.specs.Io.KnownBytes.{Appends, Consumes}
 use Rattle.nbd.specs.declared.End.{End}
 use Rattle.nbd.specs.declared.requests.Request.{Request}
-use Rattle.nbd.specs.declared.numbers.TheConstants.{NBD_CMD_DISC}
+use Rattle.nbd.specs.declared.constants.TheConstants.{NBD_CMD_DISC}
 use Rattle.nbd.specs.Content.{Content}
 use Rattle.nbd.specs.Requests.{IsRequest}
 use Rattle.nbd.specs.Carrying.{Faulting}

@@ -1,7 +1,7 @@
 use Rattle.std.proofs.Common.{take}
 use Rattle.std.specs.Io.KnownBytes.{append_known}
 use Rattle.script.specs.Events.{AreNamed}
-use Rattle.script.specs.Filling.{AreFilled}
+use Rattle.script.specs.Buffers.{AreFilled}
 use Rattle.script.specs.Trace.{IsAllTaken, IsTraceTo, Prints}
 use Rattle.script.proofs.player.play_lines.Given as goal
 

@@ -1,5 +1,5 @@
 use Rattle.std.proofs.Common.{length}
-use Rattle.script.specs.Filling.{AreFilled}
+use Rattle.script.specs.Buffers.{AreFilled}
 use Rattle.script.proofs.PrintedLabels.{AreWritten}
 use Rattle.script.proofs.player.write_labels.Given as goal
 

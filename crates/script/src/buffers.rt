@@ -4,7 +4,7 @@
 ghost use Rattle.std.specs.Prelude.{◌≡◌, ◌≤◌, ◌<◌, [], IfErr, IfOk, IsOk, MatchResult, length, replicate, vec_capacity};
 ghost use Rattle.io_manager.specs.declared.Refusal.TheVariants.{InsufficientResources};
 ghost use Rattle.io_manager.specs.declared.Reply.TheVariants.{Refused};
-ghost use Rattle.script.specs.Filling.{AreFilled, GivesBack, IsAll, IsFull};
+ghost use Rattle.script.specs.Buffers.{AreFilled, GivesBack, IsAll, IsFull};
 
 use crate::Order;
 use compose::{Refusal, Reply};

@@ -4,8 +4,8 @@ use Rattle.io_manager.specs.declared.Reply.{Reply}
 use Rattle.io_manager.specs.declared.Reply.TheVariants.{Refused}
 use Rattle.script.specs.declared.Order.{Order}
 use Rattle.script.specs.declared.Order.TheVariants.{Read, Write}
-use Rattle.script.specs.declared.filling.Full.{Full}
-use Rattle.script.specs.declared.filling.Spare.{Spare}
+use Rattle.script.specs.declared.buffers.Full.{Full}
+use Rattle.script.specs.declared.buffers.Spare.{Spare}
 
 -- all bytes are this one
 abbrev pub IsAll : ℕ → List ℕ → Type 0

@@ -1,6 +1,6 @@
 -- What came back neither good nor busy has failed, and nothing that acted or faulted comes back busy.
 use Rattle.probe.proofs.Exchanging.{failed, not_good}
-use Rattle.probe.proofs.asking.ask.Goals as goal
+use Rattle.probe.proofs.exchange.ask.Goals as goal
 
 pub returns-in-Busy-clause-fault : goal.returns-in-Busy-clause-fault
 returns-in-Busy-clause-fault g c =

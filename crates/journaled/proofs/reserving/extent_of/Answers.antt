@@ -1,6 +1,6 @@
 use Rattle.std.proofs.Common.{◌≡◌, Some, sym, ◌∙◌, rules}
 use Rattle.journaled.proofs.Within.{lies_on_disk}
-use Rattle.journaled.proofs.asking.extent_of.Goals as goal
+use Rattle.journaled.proofs.reserving.extent_of.Goals as goal
 
 pub returns-in-Some : goal.returns-in-Some
 returns-in-Some c =

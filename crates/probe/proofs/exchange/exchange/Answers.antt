@@ -1,6 +1,6 @@
 use Rattle.std.proofs.Common.{◌≡◌, ℕ, List, ◌∙◌, ap, length}
 use Rattle.probe.proofs.Exchanging.{asks_once, acts_after, finishes_after}
-use Rattle.probe.proofs.asking.exchange.Goals as goal
+use Rattle.probe.proofs.exchange.exchange.Goals as goal
 
 -- the piece acts, and comes back
 pub unreachable-requires : goal.unreachable-requires

@@ -1,5 +1,5 @@
 use Rattle.journaled.proofs.Telling.{keeps_on, others_follow, others_served}
-use Rattle.journaled.proofs.asking.carry.Goals as goal
+use Rattle.journaled.proofs.reserving.carry.Goals as goal
 
 pub returns-clause-right : goal.returns-clause-right
 returns-clause-right g c =
