@@ -1,9 +1,10 @@
 //! The stack over an adapter: what its user calls.
 
-ghost use Rattle.std.specs.Prelude.{◌≡◌, [], IfOk, IfErr, MatchOption, MatchResult};
+ghost use Rattle.std.specs.Prelude.{◌≡◌, [], IfOk, IfErr, MatchOption, MatchResult, Some};
 ghost use Rattle.adapter.specs.View.{IsInOrder};
 ghost use Rattle.adapter.specs.Calls.{HasNoneFresh};
 ghost use Rattle.adapter.specs.Booking.{IsArmed, handed};
+ghost use Rattle.machine.specs.Rules.{sectors_of};
 ghost use Rattle.machine.specs.Settled.{Settled, IsFinished};
 ghost use Rattle.machine_laws.specs.Reached.{IsReached};
 ghost use Rattle.probe.specs.Exchange.{IsIdle};
@@ -87,6 +88,20 @@ impl<A: Adapter> Stack<A> {
         ensures { result ≡ opened_by self.now event.now }
     {
         events::admits(&self.manager, event)
+    }
+
+    /// Bytes of a sector of the disk.
+    pub fn sector_size(&self) -> u64
+        ensures { result ≡ self.now.rules.sector_size }
+    {
+        self.manager.sector_size()
+    }
+
+    /// Sectors of a partition, counted from 0. There are none where there is no such partition.
+    pub fn sectors(&self, partition: u8) -> u64
+        ensures { result ≡ sectors_of self.now.rules (Some partition) }
+    {
+        self.manager.sectors(partition)
     }
 
     /// The piece on a tag that could act, with its SRB.

@@ -5,6 +5,7 @@ ghost use Rattle.adapter.specs.View.{IsInOrder};
 ghost use Rattle.adapter.specs.Calls.{HasNoneFresh};
 ghost use Rattle.adapter.specs.Booking.{IsArmed, handed};
 ghost use Rattle.srb.specs.declared.Kind.TheVariants.{Read, Write, Flush};
+ghost use Rattle.machine.specs.Rules.{sectors_of};
 ghost use Rattle.machine.specs.Settled.{Settled, IsFinished};
 ghost use Rattle.machine_laws.specs.Reached.{IsReached};
 ghost use Rattle.io_manager.specs.Calls.{asked_on, call_on, without_bytes, opened_as, would_open};
@@ -173,6 +174,20 @@ impl<D: Device> IoManager<D> {
             Decision::Opens => Some(self.opened_by(partition, asked)),
             Decision::UsedUp | Decision::Ends(_) => None,
         }
+    }
+
+    /// Bytes of a sector of the disk.
+    pub fn sector_size(&self) -> u64
+        ensures { result ≡ self.now.rules.sector_size }
+    {
+        self.parts.limits.sector_size
+    }
+
+    /// Sectors of a partition, counted from 0. There are none where there is no such partition.
+    pub fn sectors(&self, partition: u8) -> u64
+        ensures { result ≡ sectors_of self.now.rules (Some partition) }
+    {
+        self.parts.device.sectors(partition)
     }
 
     /// Cancels all requests that are open on a handle, by rising numbers, or the one that is given (CancelIoEx). It
