@@ -1,0 +1,130 @@
+//! The rounds of one client.
+
+ghost use Rattle.std.specs.Prelude.{◌≡◌, ◌≤◌, ◌+◌, ◌*◌, ◌<◌, ◌^◌};
+
+use crate::{Plan, Tally};
+use compose::Refusal as Why;
+use disk::Medium;
+use new_host::{Call, Client, Host, Naming, Reason};
+use sector::Bytes;
+use std::alloc::{AllocError, Global};
+use std::sync::Wait;
+
+/// A client after its rounds, and what came of them. Where memory was refused the rounds ended early.
+#[derive(Drop)]
+pub(crate) struct Served<N: Naming> {
+    pub client: Client<N>,
+    pub tally: Tally,
+    pub has_wanted: bool,
+}
+
+/// A sector full of one byte.
+fn sector_of(alloc: Global, size: u32, byte: u8) -> Result<Bytes, AllocError> {
+    let mut bytes = Vec::new(alloc);
+    bytes.resize(size as usize, byte)?;
+    Ok(Bytes::new(bytes))
+}
+
+/// Issues a call and waits for its answer, which is given where it is a success.
+fn answer_to<M: Medium, N: Naming, R: Wait>(
+    rt: &R,
+    host: &Host<M, N>,
+    client: &mut Client<N>,
+    call: Call,
+) -> Result<Option<Bytes>, AllocError>
+    ensures { client.new.client ≡ client.old.client }
+{
+    match client.issue(rt, host, call) {
+        Ok(ticket) => {
+            let answered = client.wait(rt, host, ticket);
+            if answered.answer.status.is_success() {
+                Ok(Some(answered.answer.bytes))
+            } else {
+                Ok(None)
+            }
+        }
+        Err(refusal) => match refusal.reason {
+            Reason::Refused(Why::InsufficientResources) => Err(AllocError),
+            _ => Ok(None),
+        },
+    }
+}
+
+/// Writes the client's sector full of a byte, reads it and compares.
+fn round<M: Medium, N: Naming, R: Wait>(
+    rt: &R,
+    alloc: Global,
+    host: &Host<M, N>,
+    client: &mut Client<N>,
+    size: u32,
+    byte: u8,
+    tally: &mut Tally,
+) -> Result<(), AllocError>
+    requires { tally.old.answered + 2 < 2 ^ 64 }
+    ensures client { client.new.client ≡ client.old.client }
+    ensures most { tally.new.answered ≤ tally.old.answered + 2 }
+{
+    let offset = (client.client() as u64).saturating_mul(u64::from(size));
+    let bytes = sector_of(alloc, size, byte)?;
+    let write = Call::Write {
+        offset,
+        bytes,
+        through: false,
+    };
+    if answer_to(rt, host, client, write)?.is_some() {
+        tally.answered += 1;
+    }
+    // What a read that moves nothing would leave differs from what was written.
+    let buffer = sector_of(alloc, size, !byte)?;
+    if let Some(read) = answer_to(rt, host, client, Call::Read { offset, buffer })? {
+        tally.answered += 1;
+        if !read.as_slice().iter().all(|b| *b == byte) {
+            tally.differing = tally.differing.saturating_add(1);
+        }
+    }
+    Ok(())
+}
+
+/// All rounds of a client.
+pub(crate) fn serve_client<M: Medium, N: Naming, R: Wait>(
+    rt: &R,
+    alloc: Global,
+    host: &Host<M, N>,
+    client: Client<N>,
+    plan: Plan,
+) -> Served<N>
+    ensures client { result.client.client ≡ client.client }
+    ensures most { result.tally.answered ≤ 2 * plan.rounds }
+{
+    let mut client = client;
+    let mut tally = Tally {
+        answered: 0,
+        differing: 0,
+    };
+    let first = client.client();
+    for j in 0..plan.rounds {
+        let byte = (first.wrapping_add(usize::from(j)) % 256) as u8;
+        if round(
+            rt,
+            alloc,
+            host,
+            &mut client,
+            plan.sector_size,
+            byte,
+            &mut tally,
+        )
+        .is_err()
+        {
+            return Served {
+                client,
+                tally,
+                has_wanted: true,
+            };
+        }
+    }
+    Served {
+        client,
+        tally,
+        has_wanted: false,
+    }
+}

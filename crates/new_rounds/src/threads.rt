@@ -1,0 +1,308 @@
+//! The threads: lanes, a completion worker, and clients.
+
+ghost use Rattle.std.specs.Prelude.{◌≡◌, ◌≤◌, ◌<◌, ◌+◌, ◌*◌, ℕ, suc, IfErr, IfOk, IfSome, get_or, length};
+ghost use Rattle.lanes.specs.Queue.{fresh_lane, issued, lanes_of, standing};
+ghost use Rattle.new_host.specs.Clients.{AreNumbered};
+ghost use Rattle.new_host.specs.Opening.{IsDiskFor};
+ghost use Rattle.sector_journal.specs.Journal.{entries_in};
+ghost use Rattle.srb.specs.Replaying.{Replays};
+ghost use Rattle.new_rounds.specs.declared.RoundsFault.TheVariants.{NoMemory};
+
+use crate::client::{Served, serve_client};
+use crate::{Done, Plan, RoundsFault, Tally};
+use compose::Reply;
+use disk::Medium;
+use lanes::{Completions, Pass, Turnstile, serve_completions, serve_lane};
+use new_host::{Client, Host, HostFault, Keeper, Naming, Opened};
+use sector_journal::Journal;
+use std::alloc::{AllocError, Global};
+use std::sync::Wait;
+use std::thread;
+use std::thread::{Promise, PromisedHandle, Scope, Threads};
+
+/// A turnstile that holds nobody.
+#[derive(Drop)]
+struct Open;
+
+impl Turnstile for Open {
+    fn pass<R: Wait>(&self, _: &R, _: u8) {}
+}
+
+/// What a client's thread gives: the client of that number, and no more successes than it made calls.
+#[derive(Debug, Clone, Copy, Drop)]
+struct OfClient {
+    number: usize,
+    rounds: u16,
+}
+
+impl<N: Naming> Promise<Served<N>> for OfClient {
+    ghost kept_by = { λ p served. (served.client.client ≡ p.number) × (served.tally.answered ≤ 2 * p.rounds) };
+}
+
+/// The pass of the highest tag that is left.
+fn last_lane(passes: &mut Vec<Pass>, completions: &Completions, tag: u8) -> Option<Pass>
+    requires { passes.old.items ≡ lanes_of completions.now.id (suc tag) }
+    ensures lane { IfSome result (λ pass. pass ≡ standing completions.now.id (fresh_lane tag)) }
+    ensures rest { passes.new.items ≡ lanes_of completions.now.id tag }
+{
+    passes.pop()
+}
+
+/// Starts a lane for each tag, which passes the turnstile with each piece, and the completion worker. Each goes on until it
+/// sees that the device is removed. Where it answers false a thread could not be started: not all of them are there.
+pub fn start_lanes<
+    's,
+    E,
+    M: Medium + Send,
+    N: Naming + Send + Sync,
+    T: Turnstile + Sync,
+    R: Threads + Wait + Sync,
+>(
+    rt: &'s R,
+    scope: &'s Scope<'s, E>,
+    host: &'s Host<M, N>,
+    completions: &'s Completions,
+    passes: Vec<Pass>,
+    depth: u8,
+    turnstile: &'s T,
+) -> bool
+    requires { passes.items ≡ issued completions.now.id depth }
+{
+    let mut passes = passes;
+    let Some(worker) = passes.pop() else {
+        return false;
+    };
+    if scope
+        .spawn(move || serve_completions(rt, host, completions, worker, &Open))
+        .is_err()
+    {
+        return false;
+    }
+    for started in 0..depth {
+        let tag = depth - 1 - started;
+        let Some(pass) = last_lane(&mut passes, completions, tag) else {
+            return false;
+        };
+        if scope
+            .spawn(move || serve_lane(rt, host, tag, turnstile, completions, pass))
+            .is_err()
+        {
+            return false;
+        }
+    }
+    true
+}
+
+/// Starts the clients' rounds.
+fn start_clients<'s, E, M: Medium + Send, N: Naming + Send + Sync, R: Threads + Wait + Sync>(
+    rt: &'s R,
+    alloc: Global,
+    scope: &'s Scope<'s, E>,
+    host: &'s Host<M, N>,
+    clients: Vec<Client<N>>,
+    plan: Plan,
+) -> Result<Vec<PromisedHandle<Served<N>, OfClient>>, AllocError>
+    requires { AreNumbered plan.clients clients.items }
+    ensures all { IfOk result (λ handles. length handles.items ≡ plan.clients) }
+    ensures numbers { IfOk result (λ handles. (k : ℕ) (d : _) → k < plan.clients → (get_or handles.items k d).promise.number ≡ k) }
+    ensures rounds { IfOk result (λ handles. (k : ℕ) (d : _) → k < plan.clients → (get_or handles.items k d).promise.rounds ≡ plan.rounds) }
+{
+    let mut handles = Vec::new(alloc);
+    for client in clients {
+        let of = OfClient {
+            number: client.client(),
+            rounds: plan.rounds,
+        };
+        let Ok(handle) = scope.spawn_with(of, move || serve_client(rt, alloc, host, client, plan))
+        else {
+            return Err(AllocError);
+        };
+        handles.push(handle)?;
+    }
+    Ok(handles)
+}
+
+/// Waits for the clients to be done.
+fn join_clients<N: Naming, R: Threads>(
+    rt: &R,
+    alloc: Global,
+    handles: Vec<PromisedHandle<Served<N>, OfClient>>,
+    plan: Plan,
+) -> Result<(Tally, Vec<Client<N>>), AllocError>
+    requires all { length handles.items ≡ plan.clients }
+    requires numbers { (k : ℕ) (d : _) → k < plan.clients → (get_or handles.items k d).promise.number ≡ k }
+    requires rounds { (k : ℕ) (d : _) → k < plan.clients → (get_or handles.items k d).promise.rounds ≡ plan.rounds }
+    requires few { plan.clients ≤ 64 }
+    ensures clients { IfOk result (λ r. AreNumbered plan.clients r.1.items) }
+    ensures most { IfOk result (λ r. r.0.answered ≤ 2 * (plan.clients * plan.rounds)) }
+{
+    let mut clients = Vec::new(alloc);
+    let mut tally = Tally {
+        answered: 0,
+        differing: 0,
+    };
+    let mut has_wanted = false;
+    for handle in handles {
+        let served = handle.join(rt);
+        tally.answered += served.tally.answered;
+        tally.differing = tally.differing.saturating_add(served.tally.differing);
+        has_wanted |= served.has_wanted;
+        clients.push(served.client)?;
+    }
+    if has_wanted {
+        return Err(AllocError);
+    }
+    Ok((tally, clients))
+}
+
+/// Removes the device, by surprise where the query is refused. Whether it was removed in order.
+pub fn remove<M: Medium, N: Naming, R: Wait>(
+    rt: &R,
+    host: &Host<M, N>,
+    keeper: &mut Keeper<N>,
+) -> bool {
+    match host.query_remove(rt, keeper) {
+        Reply::Ok => {
+            host.remove(rt, keeper);
+            true
+        }
+        _ => {
+            host.surprise_remove(rt, keeper);
+            false
+        }
+    }
+}
+
+/// Starts the lanes and the worker, and has the clients do their rounds.
+fn serve_clients<'s, E, M: Medium + Send, N: Naming + Send + Sync, R: Threads + Wait + Sync>(
+    rt: &'s R,
+    alloc: Global,
+    scope: &'s Scope<'s, E>,
+    host: &'s Host<M, N>,
+    completions: &'s Completions,
+    passes: Vec<Pass>,
+    clients: Vec<Client<N>>,
+    plan: Plan,
+    open: &'s Open,
+) -> Result<(Tally, Vec<Client<N>>), AllocError>
+    requires passes { passes.items ≡ issued completions.now.id plan.depth }
+    requires clients { AreNumbered plan.clients clients.items }
+    requires few { plan.clients ≤ 64 }
+    ensures clients { IfOk result (λ r. AreNumbered plan.clients r.1.items) }
+    ensures most { IfOk result (λ r. r.0.answered ≤ 2 * (plan.clients * plan.rounds)) }
+{
+    if !start_lanes(rt, scope, host, completions, passes, plan.depth, open) {
+        return Err(AllocError);
+    }
+    let handles = start_clients(rt, alloc, scope, host, clients, plan)?;
+    join_clients(rt, alloc, handles, plan)
+}
+
+/// Runs all threads until the device is removed.
+fn run_threads<M: Medium + Send, N: Naming + Send + Sync, R: Threads + Wait + Sync>(
+    rt: &R,
+    alloc: Global,
+    host: &Host<M, N>,
+    completions: &Completions,
+    passes: Vec<Pass>,
+    keeper: Keeper<N>,
+    clients: Vec<Client<N>>,
+    plan: Plan,
+) -> (Keeper<N>, Result<(Tally, Vec<Client<N>>), AllocError>)
+    requires passes { passes.items ≡ issued completions.now.id plan.depth }
+    requires clients { AreNumbered plan.clients clients.items }
+    requires few { plan.clients ≤ 64 }
+    ensures clients { IfOk result.1 (λ r. AreNumbered plan.clients r.1.items) }
+    ensures most { IfOk result.1 (λ r. r.0.answered ≤ 2 * (plan.clients * plan.rounds)) }
+{
+    let open = Open;
+    thread::scope(
+        thread::scope_env(),
+        rt,
+        |scope| -> (Keeper<N>, Result<(Tally, Vec<Client<N>>), AllocError>)
+            requires passes { passes.items ≡ issued completions.now.id plan.depth }
+            requires clients { AreNumbered plan.clients clients.items }
+            requires few { plan.clients ≤ 64 }
+            ensures clients { IfOk result.1 (λ r. AreNumbered plan.clients r.1.items) }
+            ensures most { IfOk result.1 (λ r. r.0.answered ≤ 2 * (plan.clients * plan.rounds)) }
+        {
+            let mut keeper = keeper;
+            let served = serve_clients(
+                rt,
+                alloc,
+                scope,
+                host,
+                completions,
+                passes,
+                clients,
+                plan,
+                &open,
+            );
+            // The lanes and the worker end with the removal, also where not all threads are there.
+            if remove(rt, host, &mut keeper) {
+                (keeper, served)
+            } else {
+                (keeper, Err(AllocError))
+            }
+        },
+    )
+}
+
+/// A host of a stack: its clients' rounds, and its removal.
+pub(crate) fn serve<M: Medium + Send, N: Naming + Send + Sync, R: Threads + Wait + Sync>(
+    rt: &R,
+    alloc: Global,
+    opened: Opened,
+    histories: sector_journal::Opened,
+    medium: M,
+    plan: Plan,
+) -> Result<Done<M>, RoundsFault>
+    requires named { opened ≡ record { rules = N.rules; opening = N.start; partitions = N.partitions; handles = N.handles; marks = N.marks; slots = N.slots; table = N.table; name = N.name; parts = N.parts; gate = N.gate } }
+    requires histories { histories ≡ record { armings = N.armings; entries = N.entries } }
+    requires sectors { (M.view medium).sectors ≡ N.opening }
+    requires unfailed { (M.view medium).failures ≡ 0 }
+    requires disk { IsDiskFor N.rules (M.view medium) }
+    requires parts { N.parts ≡ length N.partitions + 1 }
+    requires clients { length N.partitions ≡ plan.clients }
+    requires plan { (plan.clients ≤ 32) × (1 ≤ plan.depth) × (plan.depth ≤ 32) }
+    ensures most { IfOk result (λ done. done.tally.answered ≤ 2 * (plan.clients * plan.rounds)) }
+    ensures replays { IfOk result (λ done. Replays (M.view done.medium).sector_size N.opening (entries_in done.entries.items) (M.view done.medium).sectors) }
+    ensures fault { IfErr result (λ fault. fault ≡ NoMemory) }
+{
+    let Ok((journal, words)) = Journal::<M, N>::new(
+        alloc,
+        histories,
+        medium,
+        plan.depth,
+        plan.write_protected,
+    ) else {
+        opened.end();
+        return Err(RoundsFault::NoMemory);
+    };
+    let Ok((host, keeper, clients)) = Host::<M, N>::new(alloc, opened, journal, words) else {
+        return Err(RoundsFault::NoMemory);
+    };
+    let capacity = (usize::from(plan.depth) + 1) / 2;
+    let Ok((completions, passes)) = Completions::new(alloc, capacity, plan.depth) else {
+        return Err(RoundsFault::NoMemory);
+    };
+    let (keeper, served) = run_threads(
+        rt,
+        alloc,
+        &host,
+        &completions,
+        passes,
+        keeper,
+        clients,
+        plan,
+    );
+    let Ok((tally, clients)) = served else {
+        return Err(RoundsFault::NoMemory);
+    };
+    let (closed, medium) = host.close(keeper, clients);
+    Ok(Done {
+        tally,
+        entries: closed.entries,
+        medium,
+    })
+}
