@@ -15,8 +15,8 @@
 #![tactic(auto)]
 
 mod acting;
-mod reserving;
 mod journaled;
 mod laws;
+mod reserving;
 
 pub use crate::journaled::Journaled;

@@ -20,10 +20,10 @@
 mod arrays;
 mod backing;
 mod carrying;
+mod constants;
 mod handshake;
 mod laws;
 mod memory;
-mod constants;
 mod options;
 mod over;
 mod replies;

@@ -9,8 +9,8 @@ ghost use Rattle.nbd.specs.inside.Session.{Ends, IsExchanged, TakesLast, TakesRe
 use crate::End;
 use crate::arrays::Array;
 use crate::carrying::serve_request;
-use crate::handshake::{answer_options, greet};
 use crate::constants::NBD_CMD_DISC;
+use crate::handshake::{answer_options, greet};
 use crate::replies::{Answer, write_reply};
 use crate::requests::{Request, parse_request};
 use crate::streams::take;

@@ -11,8 +11,8 @@
 //! It doesn't promise that memory suffices. Only the table in sector 0 is read, and none within a partition.
 #![tactic(auto)]
 
-mod exchange;
 mod capacity;
+mod exchange;
 mod probing;
 
 use arrayvec::ArrayVec;

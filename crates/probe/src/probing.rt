@@ -8,8 +8,8 @@ ghost use Rattle.probe.specs.inside.Capacity.{IsCapacityOf};
 ghost use Rattle.probe.specs.Probing.{HasPartitions, IsProbed, IsReadBy, IsTableFault, IsProbeFault, asked_by_probe};
 ghost use Rattle.probe.specs.Probing.{table_read};
 
-use crate::exchange::ask;
 use crate::capacity::{Capacity, read_capacity};
+use crate::exchange::ask;
 use crate::{ProbeFault, Probed};
 use adapter::Adapter;
 use arrayvec::ArrayVec;

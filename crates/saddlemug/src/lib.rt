@@ -17,7 +17,6 @@ mod bytes;
 mod events;
 mod held;
 mod labels;
-mod raw_box;
 mod opening;
 mod opening_over;
 mod over;
@@ -25,6 +24,7 @@ mod over_calls;
 #[cfg(test)]
 mod over_tests;
 mod places;
+mod raw_box;
 mod slot;
 mod stack_calls;
 mod status;
