@@ -68,7 +68,7 @@ says c medium first new same told sectors =
     let is : get_or medium.sectors 0 [] ≡ first = ap (λ (xs : List (List ℕ)). get_or xs 0 []) new.sectors ∙ sym same in
     ap (told_by sectors) is ∙ told sectors
 
-count_of_disk : (c : Config) → 1 ≤ c.sectors → length (disk_of c) ≡ c.sectors
+pub count_of_disk : (c : Config) → 1 ≤ c.sectors → length (disk_of c) ≡ c.sectors
 count_of_disk c some = omega (arith, length-replicate {A = List ℕ} (c.sectors - 1) (replicate c.sector_size 0))
 
 new_adapter : (c : Config) (medium : MediumView) (view : MemView) → AreInRange c → IsNewDisk c medium
@@ -102,13 +102,14 @@ pub told_if : (c : Config) (medium : MediumView) (result : Result MemView NoMemo
 told_if c medium (Ok view) told same = ap (λ (v : MemView). told_by c.sectors (get_or v.shown.sectors 0 [])) same ∙ told c.sectors
 told_if c medium (Err fault) told same = tt
 
-blank : (c : Config) (view : MemView) → IsNewAdapter c view → HasBlankPartitions c view.shown.sectors
-blank c view new extent is =
-    ap (λ (xs : List (List ℕ)). sectors_in xs extent) new.sectors
+-- what settings name as partitions has zeros alone
+pub blank : (c : Config) (sectors : List (List ℕ)) → sectors ≡ disk_of c → HasBlankPartitions c sectors
+blank c sectors same extent is =
+    ap (λ (xs : List (List ℕ)). sectors_in xs extent) same
     ∙ zeros_in c.sector_size c.sectors extent.first extent.count (table_sector c) is.behind_table is.inside
 
 -- its partitions are zeros
 pub blank_if : (c : Config) (result : Result MemView NoMemory) → IfOk result (IsNewAdapter c)
     → IfOk result (λ view. HasBlankPartitions c view.shown.sectors)
-blank_if c (Ok view) new = blank c view new
+blank_if c (Ok view) new = blank c view.shown.sectors new.sectors
 blank_if c (Err fault) new = tt

@@ -35,15 +35,19 @@ pub fn new_adapter(alloc: Global, config: Config) -> Result<MemAdapter<SparseDis
     MemAdapter::new(alloc, disk, max_transfer, depth, write_protected)
 }
 
-/// The disk of the settings: their partition table, and zeros.
+/// The disk of the settings: their partition table in sector 0, and zeros. No fault of a partition is looked for: the table
+/// says what is wrong with it.
 ///
 /// # Errors
 ///
 /// [`NoMemory`] where memory was refused.
-pub(crate) fn new_disk(alloc: Global, config: Config) -> Result<SparseDisk, NoMemory>
+pub fn new_disk(alloc: Global, config: Config) -> Result<SparseDisk, NoMemory>
     requires { AreInRange config }
     ensures new { IfOk result (λ disk. IsNewDisk config (shown disk)) }
     ensures says { IfOk result (λ disk. (sectors : ℕ) → told_by sectors (get_or (shown disk).sectors 0 []) ≡ said_of sectors (entries_of config)) }
+    ensures count { IfOk result (λ disk. length (shown disk).sectors ≡ config.sectors) }
+    ensures extents { partitions_of (entries_of config) ≡ extents_of config }
+    ensures blank { IfOk result (λ disk. HasBlankPartitions config (shown disk).sectors) }
 {
     let first = table_sector(alloc, config.sector_size, config.partitions.as_slice())?;
     let disk = SparseDisk::starting_with(

@@ -1,1 +1,2 @@
+mod FirstSector
 mod OverDisk

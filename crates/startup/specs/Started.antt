@@ -1,8 +1,11 @@
 -- What settings start.
-use Rattle.std.specs.Prelude.{◌≡◌, ◌≤◌, ℕ, true, false, Err, [], length, map, Some}
+use Rattle.std.specs.Prelude.{◌≡◌, ◌⊎◌, ◌≤◌, ℕ, Bool, true, false, Contains, Err, [], length, map, Some}
 use Rattle.std.specs.List.{concat}
 use Rattle.ntstatus.specs.declared.NtStatus.{NtStatus}
+use Rattle.ntstatus.specs.declared.NtStatus.TheVariants.{DeviceDataError}
 use Rattle.adapter.specs.View.{AdapterView}
+use Rattle.disk.specs.Medium.{MediumView}
+use Rattle.miniport.specs.Apart.{apart, IsNewBooked}
 use Rattle.miniport.specs.Memory.{MemView}
 use Rattle.machine.specs.Map.{IsMap}
 use Rattle.machine.specs.Rules.{Rules}
@@ -17,7 +20,7 @@ use Rattle.compose.specs.declared.StartFault.{StartFault}
 use Rattle.compose.specs.declared.StartFault.TheVariants.{Settings as WrongSettings, Device as FailedCommand, Mbr as WrongTable, NoMemory as WantOfMemory}
 use Rattle.compose.specs.Opening.{IsFirstView}
 use Rattle.settings.specs.declared.Config.{Config}
-use Rattle.settings.specs.Medium.{disk_of, entries_of, extents_of, zeros, HasBlankPartitions, IsNewAdapter}
+use Rattle.settings.specs.Medium.{disk_of, entries_of, extents_of, table_sector, zeros, HasBlankPartitions, IsNewAdapter}
 use Rattle.volume.specs.declared.OpenFault.{OpenFault}
 use Rattle.volume.specs.declared.OpenFault.TheVariants.{Start as NotStarted, Refused}
 use Rattle.volume.specs.Shown.{VolumeView, extent_at, parted_at}
@@ -27,9 +30,9 @@ abbrev pub limits_of : Config → Settings
 limits_of c = record { window = c.window; open_requests = c.open_requests }
 
 -- the rules of the stack: requests of up to 65,536 sectors, in pieces as long as a transfer; the seventeenth busy return of a
--- request ends it
-abbrev pub rules_of : Config → Rules
-rules_of c = record {
+-- request ends it. The adapter may be faithful to the sectors that it shows, or may not
+abbrev pub rules_over : Bool → Config → Rules
+rules_over is_faithful c = record {
   sector_size = c.sector_size;
   disk_sectors = c.sectors;
   partitions = extents_of c;
@@ -41,8 +44,12 @@ rules_of c = record {
   one_piece = false;
   busy_limit = 17;
   any_cut = false;
-  faithful = true;
+  faithful = is_faithful;
 }
+
+-- over the disk itself, to whose sectors the adapter is faithful
+abbrev pub rules_of : Config → Rules
+rules_of c = rules_over true c
 
 -- the adapter of the settings, after the partition table was read
 pub record IsOverDisk (c : Config) (adapter : AdapterView) : Type 0 where
@@ -53,16 +60,25 @@ pub record IsOverDisk (c : Config) (adapter : AdapterView) : Type 0 where
   pub idle : IsIdle adapter
 
 -- the stack of these settings before its first event: all sectors of each partition are zeros, and nothing is open
-pub record IsStartOf (c : Config) (view : ManagerView) : Type 0 where
-  pub rules : view.rules ≡ rules_of c
+pub record IsStartOver (is_faithful : Bool) (c : Config) (view : ManagerView) : Type 0 where
+  pub rules : view.rules ≡ rules_over is_faithful c
   pub is_map : IsMap c.sectors (extents_of c)
   pub state : view.state ≡ opening (map (λ extent. zeros c extent.count) (extents_of c))
   pub adapter : IsOverDisk c view.adapter
+  pub faithful : view.adapter.faithful ≡ is_faithful
   pub no_handles : view.handles ≡ []
   pub first_handle : view.next_handle ≡ 1
   pub no_requests : view.holders ≡ []
   pub no_labels : view.labels ≡ []
   pub no_answers : view.answers ≡ []
+
+-- over the disk itself
+abbrev pub IsStartOf : Config → ManagerView → Type 0
+IsStartOf c view = IsStartOver true c view
+
+-- over an adapter beside the disk, which has of its sectors the first alone
+abbrev pub IsStartApart : Config → ManagerView → Type 0
+IsStartApart c view = IsStartOver false c view
 
 -- the same as what a stack shows over an adapter of these settings before its first event
 pub record IsFirstOf (c : Config) (view : ManagerView) : Type 0 where
@@ -86,6 +102,32 @@ IsStartFault c (FailedCommand status) = FailsOnDisk c status
 IsStartFault c (WrongTable fault) = said_of c.sectors (entries_of c) ≡ Err fault
 IsStartFault c WantOfMemory = Unit {0}
 IsStartFault c WrongSettings = ⊥
+
+-- beside the disk of these settings a command was sent and failed with this status
+pub record FailsApart (c : Config) (status : NtStatus) : Type 0 where
+  pub adapter : MemView
+  pub new : IsNewBooked (table_sector c) c.sectors c.max_transfer c.depth adapter
+  pub after : AdapterView
+  pub fails : FailsOne (apart adapter.shown) status after
+
+-- sector 0 can't be read
+abbrev pub IsTableBad : Config → NtStatus → Type 0
+IsTableBad c status = Contains c.bad_sectors.items 0 × (status ≡ DeviceDataError)
+
+-- why no such stack could be started beside the disk: sector 0 is bad, the adapter failed a command, a partition is wrong, or memory
+-- was refused
+abbrev pub IsApartFault : Config → StartFault → Type 0
+IsApartFault c (FailedCommand status) = IsTableBad c status ⊎ FailsApart c status
+IsApartFault c (WrongTable fault) = said_of c.sectors (entries_of c) ≡ Err fault
+IsApartFault c WantOfMemory = Unit {0}
+IsApartFault c WrongSettings = ⊥
+
+-- why sector 0 of a medium was not read: it is bad, or memory was refused
+abbrev pub IsUnreadTable : MediumView → StartFault → Type 0
+IsUnreadTable medium (FailedCommand status) = Contains medium.bad 0 × (status ≡ DeviceDataError)
+IsUnreadTable medium (WrongTable fault) = ⊥
+IsUnreadTable medium WantOfMemory = Unit {0}
+IsUnreadTable medium WrongSettings = ⊥
 
 -- a volume of a partition of the disk of these settings: all its bytes are zeros
 pub record IsVolumeOf (c : Config) (p : ℕ) (v : VolumeView) : Type 0 where

@@ -8,11 +8,13 @@
 //! written. It does not promise that there is memory, nor which of several faults is told.
 #![tactic(auto)]
 
+mod apart;
 mod ending;
 mod faults;
 mod reading;
 mod starting;
 
+pub use apart::start_apart;
 pub use ending::{Ending, Verdict, ended, fault_of, say};
 pub use faults::Fault;
 pub use reading::{contents, read_settings, settings_of};

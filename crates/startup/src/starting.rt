@@ -54,7 +54,7 @@ pub fn open(
 }
 
 /// Returns how many requests may be open and at work.
-fn limits_of(config: &Config) -> Settings
+pub(crate) fn limits_of(config: &Config) -> Settings
     ensures { result ≡ limits_of config.now }
 {
     Settings {
