@@ -1,8 +1,9 @@
 //! The lines of time, and the bands of pauses and removals behind all rows.
 
-use crate::facts::Band;
-use crate::layout::{BAR, Layout, Scene};
+use crate::facts::{Band, Phase};
+use crate::layout::{BAR, Bar, Layout, Scene, write_bar};
 use crate::names::{bar_text_width, digits, phase_word, text_width};
+use crate::texts::{IN_BAR, MIDDLE, PLAIN, Point, write_text};
 use crate::titles::At;
 use std::io;
 use std::io::Write;
@@ -10,17 +11,30 @@ use std::io::Write;
 /// The most labels between two numbers.
 static STEPS: [u64; 13] = [1, 2, 5, 10, 20, 50, 100, 200, 500, 1000, 2000, 5000, 10000];
 
-/// Writes the bands, and the lines of time with the numbers of their labels.
+/// Writes the bands of pauses and removals.
 pub fn write_bands<W: Write>(out: &mut W, scene: Scene<'_>) -> io::Result<()> {
-    let layout = scene.layout;
     for band in scene.facts.bands.iter() {
-        let class = phase_word(band.phase);
-        let (x, width) = span_of(band, scene);
-        let y = layout.top;
-        let height = layout.bottom.saturating_sub(y);
-        write!(out, "<rect class=\"{class} behind\" x=\"{x}\" y=\"{y}\"")?;
-        writeln!(out, " width=\"{width}\" height=\"{height}\"/>")?;
+        let layout = scene.layout;
+        let height = layout.bottom.saturating_sub(layout.top);
+        let bar = bar_of(band, scene, layout.top);
+        write_bar(out, behind_word(band.phase), Bar { height, ..bar })?;
     }
+    Ok(())
+}
+
+/// The classes of a band behind the rows.
+fn behind_word(phase: Phase) -> &'static str {
+    match phase {
+        Phase::Paused => "paused behind",
+        Phase::Removing => "removing behind",
+        Phase::Gone => "surprise behind",
+        Phase::Removed => "removed behind",
+    }
+}
+
+/// Writes the lines of time with the numbers of their labels.
+pub fn write_times<W: Write>(out: &mut W, scene: Scene<'_>) -> io::Result<()> {
+    let layout = scene.layout;
     let step = step_of(scene.facts.labels, layout.column);
     for count in 1..=scene.facts.labels.checked_div(step).unwrap_or(0) {
         write_time(out, count.saturating_mul(step), layout)?;
@@ -32,16 +46,11 @@ pub fn write_bands<W: Write>(out: &mut W, scene: Scene<'_>) -> io::Result<()> {
 fn write_time<W: Write>(out: &mut W, label: u64, layout: &Layout) -> io::Result<()> {
     let x = layout.x_of(label);
     let (top, bottom) = (layout.top, layout.bottom);
-    let (above, below) = (top.saturating_sub(5), bottom.saturating_add(14));
     writeln!(out, "<path class=\"line\" d=\"M{x} {top}V{bottom}\"/>")?;
-    writeln!(
-        out,
-        "<text class=\"m\" x=\"{x}\" y=\"{above}\">{label}</text>"
-    )?;
-    writeln!(
-        out,
-        "<text class=\"m\" x=\"{x}\" y=\"{below}\">{label}</text>"
-    )
+    let y = top.saturating_sub(5);
+    write_text(out, MIDDLE, Point { x, y }, &label)?;
+    let y = bottom.saturating_add(14);
+    write_text(out, MIDDLE, Point { x, y }, &label)
 }
 
 /// Returns how many labels are between two numbers, so that these do not touch.
@@ -55,11 +64,20 @@ fn step_of(labels: u64, column: u64) -> u64 {
     100_000
 }
 
-/// Returns where a band begins, and how wide it is.
-fn span_of(band: &Band, scene: Scene<'_>) -> (u64, u64) {
-    let end = band.end.unwrap_or(scene.facts.labels.saturating_add(1));
-    let x = scene.layout.edge_of(band.start);
-    (x, scene.layout.edge_of(end).saturating_sub(x))
+/// The bar of a band, as high as a row's.
+fn bar_of(band: &Band, scene: Scene<'_>, y: u64) -> Bar {
+    let layout = scene.layout;
+    let end = match band.end {
+        Some(label) => layout.edge_of(label),
+        None => layout.edge_of(scene.facts.labels.saturating_add(1)),
+    };
+    let x = layout.edge_of(band.start);
+    Bar {
+        x,
+        y,
+        width: end.saturating_sub(x),
+        height: BAR,
+    }
 }
 
 /// Writes the row of the device.
@@ -68,7 +86,7 @@ pub fn write_device<W: Write>(out: &mut W, scene: Scene<'_>) -> io::Result<()> {
         return Ok(());
     };
     let base = y.saturating_add(17);
-    writeln!(out, "<text x=\"8\" y=\"{base}\">device</text>")?;
+    write_text(out, PLAIN, Point { x: 8, y: base }, &"device")?;
     for band in scene.facts.bands.iter() {
         write_phase(out, scene, band, y)?;
     }
@@ -77,24 +95,31 @@ pub fn write_device<W: Write>(out: &mut W, scene: Scene<'_>) -> io::Result<()> {
 
 /// Writes the bar of a phase of the device, with its word where there is room.
 fn write_phase<W: Write>(out: &mut W, scene: Scene<'_>, band: &Band, y: u64) -> io::Result<()> {
-    let facts = scene.facts;
     let word = phase_word(band.phase);
-    let (x, width) = span_of(band, scene);
-    let label = band.start;
-    let top = y.saturating_add(3);
-    write!(out, "<g><title>{word} from {}", At { facts, label })?;
-    match band.end {
-        Some(label) => write!(out, " to {}", At { facts, label })?,
-        None => write!(out, " on")?,
-    }
-    write!(out, "</title><rect class=\"{word}\" x=\"{x}\" y=\"{top}\"")?;
-    writeln!(out, " width=\"{width}\" height=\"{BAR}\"/>")?;
-    if bar_text_width(word.len() as u64) <= width {
-        let (x, base) = (x.saturating_add(4), y.saturating_add(17));
-        writeln!(
-            out,
-            "<text class=\"b\" x=\"{x}\" y=\"{base}\">{word}</text>"
-        )?;
+    let bar = bar_of(band, scene, y.saturating_add(3));
+    write_phase_title(out, scene, band)?;
+    write_bar(out, word, bar)?;
+    if bar_text_width(word.len() as u64) <= bar.width {
+        let (x, y) = (bar.x.saturating_add(4), y.saturating_add(17));
+        write_text(out, IN_BAR, Point { x, y }, &word)?;
     }
     out.write_all(b"</g>\n")
+}
+
+/// Begins a group with the title of a phase.
+fn write_phase_title<W: Write>(out: &mut W, scene: Scene<'_>, band: &Band) -> io::Result<()> {
+    let facts = scene.facts;
+    let word = phase_word(band.phase);
+    let start = At {
+        facts,
+        label: band.start,
+    };
+    match band.end {
+        Some(label) => write!(
+            out,
+            "<g><title>{word} from {start} to {}</title>",
+            At { facts, label }
+        ),
+        None => write!(out, "<g><title>{word} from {start} on</title>"),
+    }
 }

@@ -71,7 +71,7 @@ impl Piece {
 }
 
 /// What the device was in for a while.
-#[derive(Clone, Copy, PartialEq, Eq)]
+#[derive(Clone, Copy)]
 pub enum Phase {
     Paused,
     Removing,
@@ -89,7 +89,7 @@ pub struct Band {
 }
 
 /// What a label says of a request or a piece that isn't there.
-#[derive(Clone, Copy, PartialEq, Eq)]
+#[derive(Clone, Copy)]
 pub enum Word {
     Act,
     Fault,
@@ -169,6 +169,11 @@ impl Facts {
         self.lines.get(place).copied().unwrap_or(label)
     }
 
+    /// The request of a piece, where that was found.
+    pub fn owner_of(&self, piece: &Piece) -> Option<&Request> {
+        self.requests.get(piece.owner?)
+    }
+
     fn take_device(&mut self, label: &DeviceLabel) -> Result<(), AllocError> {
         match label {
             DeviceLabel::Start { piece, tag, block } => self.start(*piece, *tag, block),
@@ -216,8 +221,10 @@ impl Facts {
             return self.stray(Word::Act, Some(number));
         };
         piece.act = Some(label);
-        let size = (bytes as u64).checked_div(sectors_of(piece.command));
-        self.sector_size = self.sector_size.or(size.filter(|size| *size > 0));
+        let told = sector_size(piece.command, bytes as u64);
+        if self.sector_size.is_none() {
+            self.sector_size = told;
+        }
         Ok(())
     }
 
@@ -308,8 +315,8 @@ impl Facts {
     /// Ends the phase of the device, if it is in one.
     fn end_phase(&mut self) {
         let label = self.labels;
-        if self.phase().is_some()
-            && let Some(band) = self.bands.last_mut()
+        if let Some(band) = self.bands.last_mut()
+            && band.end.is_none()
         {
             band.end = Some(label);
         }
@@ -326,16 +333,26 @@ impl Facts {
     }
 
     fn resume(&mut self) -> Result<(), AllocError> {
-        if self.phase() != Some(Phase::Paused) {
-            return self.stray(Word::Resume, None);
+        match self.phase() {
+            Some(Phase::Paused) => {
+                self.end_phase();
+                Ok(())
+            }
+            _ => self.stray(Word::Resume, None),
         }
-        self.end_phase();
-        Ok(())
+    }
+}
+
+/// Returns the bytes of a sector, where a command that moved this many tells it.
+fn sector_size(command: Option<Cdb>, bytes: u64) -> Option<u64> {
+    match bytes.checked_div(sectors_of(command)) {
+        Some(0) => None,
+        size => size,
     }
 }
 
 /// Sectors that a command asks for; none for a flush.
-pub fn sectors_of(command: Option<Cdb>) -> u64 {
+fn sectors_of(command: Option<Cdb>) -> u64 {
     match command {
         Some(Cdb::Read10 { count, .. } | Cdb::Write10 { count, .. }) => u64::from(count),
         Some(Cdb::Read16 { count, .. } | Cdb::Write16 { count, .. }) => u64::from(count),

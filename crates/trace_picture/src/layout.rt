@@ -1,10 +1,12 @@
 //! Where everything stands in the picture, in pixels.
 
 use crate::facts::{Facts, Piece, Request};
+use crate::marks::Spot;
 use crate::names::{digits, name_width, text_width};
 use ntstatus::NtStatus;
-use std::alloc::AllocError;
-use std::collections::BTreeMap;
+use std::alloc::{AllocError, Global};
+use std::io;
+use std::io::Write;
 
 /// The widest column of a label.
 const WIDEST: u64 = 18;
@@ -59,6 +61,15 @@ impl Row {
 /// Height of a piece in the bar of its request, where there are several.
 pub const LANE: u64 = 13;
 
+/// Where a request stands.
+#[derive(Clone, Copy)]
+pub struct Place {
+    /// Its row among the rows.
+    pub row: usize,
+    /// Its pieces that stand one below the other.
+    lanes: u64,
+}
+
 #[derive(Drop)]
 pub struct Layout {
     /// Width of the column of one label.
@@ -75,14 +86,12 @@ pub struct Layout {
     pub is_shared: bool,
     pub device: Option<u64>,
     pub tags_caption: u64,
-    /// Where the row of each tag is.
-    pub tags: BTreeMap<u8, u64>,
+    /// Where the row of each tag is, where there is one.
+    pub tags: [Option<u64>; 256],
     pub requests_caption: u64,
     pub rows: Vec<Row>,
-    /// The row of each request.
-    pub row_of: Vec<usize>,
-    /// Its pieces that stand one below the other.
-    pub lanes_of: Vec<u64>,
+    /// Where each request stands.
+    pub places: Vec<Place>,
     /// The lane of each piece in the bar of its request.
     pub lane_of: Vec<u64>,
     pub strays: Option<u64>,
@@ -91,14 +100,32 @@ pub struct Layout {
 impl Layout {
     /// Returns where the parts of a picture stand.
     pub fn of(facts: &Facts) -> Result<Layout, AllocError> {
+        let mut layout = Layout::empty(facts);
+        if !facts.bands.is_empty() {
+            layout.device = Some(layout.room(ROW));
+        }
+        layout.tags_caption = layout.room(CAPTION);
+        layout.bottom = place_tags(&mut layout.tags, facts, layout.bottom);
+        layout.place_pieces(facts)?;
+        layout.place_requests(facts)?;
+        layout.requests_caption = layout.room(CAPTION);
+        layout.bottom = place_rows(layout.rows.as_mut_slice(), layout.bottom);
+        if !facts.strays.is_empty() {
+            layout.strays = Some(layout.room(ROW));
+        }
+        layout.height = layout.bottom.saturating_add(ROW);
+        Ok(layout)
+    }
+
+    /// A picture of no rows, as wide as the labels want it.
+    fn empty(facts: &Facts) -> Layout {
         let alloc = facts.alloc;
         let column = column_of(facts.labels);
         let is_shared = facts.labels > FEW;
         let left = left_of(facts, is_shared);
-        let width = left
-            .saturating_add(column.saturating_mul(facts.labels))
-            .saturating_add(MARGIN);
-        let mut layout = Layout {
+        let labels = column.saturating_mul(facts.labels);
+        let width = left.saturating_add(labels).saturating_add(MARGIN);
+        Layout {
             column,
             left,
             width: width.max(LEGEND),
@@ -108,22 +135,13 @@ impl Layout {
             is_shared,
             device: None,
             tags_caption: HEAD,
-            tags: BTreeMap::new(alloc),
+            tags: [None; 256],
             requests_caption: HEAD,
             rows: Vec::new(alloc),
-            row_of: Vec::new(alloc),
-            lanes_of: Vec::new(alloc),
+            places: Vec::new(alloc),
             lane_of: Vec::new(alloc),
             strays: None,
-        };
-        layout.place_device(facts);
-        layout.place_tags(facts)?;
-        layout.place_pieces(facts)?;
-        layout.share_rows(facts)?;
-        layout.place_rows();
-        layout.place_strays(facts);
-        layout.height = layout.bottom.saturating_add(ROW);
-        Ok(layout)
+        }
     }
 
     /// The middle of the column of a label.
@@ -138,16 +156,20 @@ impl Layout {
             .saturating_add(columns.saturating_mul(self.column))
     }
 
-    /// Half the size of a mark.
-    pub fn half(&self) -> u64 {
-        if self.column < 12 { 3 } else { 5 }
+    /// The row of the request at a place, with as many lanes as that has.
+    pub fn row_at(&self, number: usize) -> Option<Row> {
+        let place = self.places.get(number)?;
+        let row = self.rows.get(place.row)?;
+        Some(Row {
+            lanes: place.lanes,
+            ..*row
+        })
     }
 
-    /// The row of the request at a place, with as many lanes as that has.
-    pub fn row_at(&self, place: usize) -> Option<Row> {
-        let row = *self.rows.get(*self.row_of.get(place)?)?;
-        let lanes = *self.lanes_of.get(place)?;
-        Some(Row { lanes, ..row })
+    /// The row of a piece's request among the rows.
+    pub fn row_of(&self, piece: &Piece) -> Option<usize> {
+        let place = self.places.get(piece.owner?)?;
+        Some(place.row)
     }
 
     /// Takes so much room below what is placed, and gives where that begins.
@@ -157,75 +179,36 @@ impl Layout {
         y
     }
 
-    fn place_device(&mut self, facts: &Facts) {
-        if !facts.bands.is_empty() {
-            self.device = Some(self.room(ROW));
-        }
-    }
-
-    fn place_tags(&mut self, facts: &Facts) -> Result<(), AllocError> {
-        for piece in facts.pieces.iter() {
-            self.tags.insert(piece.tag, 0)?;
-        }
-        self.tags_caption = self.room(CAPTION);
-        let mut bottom = self.bottom;
-        for y in self.tags.values_mut() {
-            *y = bottom;
-            bottom = bottom.saturating_add(ROW);
-        }
-        self.bottom = bottom;
-        Ok(())
-    }
-
-    /// Puts each piece into a lane of its request.
+    /// Puts each piece into a lane of its request, and tells how many lanes each request has.
     fn place_pieces(&mut self, facts: &Facts) -> Result<(), AllocError> {
-        let mut lanes: Vec<Vec<u64>> = Vec::new(facts.alloc);
-        for _ in facts.requests.iter() {
-            lanes.push(Vec::new(facts.alloc))?;
-        }
+        let mut lanes = no_lanes(facts.alloc, facts.requests.len())?;
         for piece in facts.pieces.iter() {
-            let lane = match piece.owner.and_then(|owner| lanes.get_mut(owner)) {
-                Some(ends) => take_lane(ends, piece)?,
-                None => 0,
-            };
+            let lane = lane_of(lanes.as_mut_slice(), piece)?;
             self.lane_of.push(lane)?;
         }
         for ends in lanes.iter() {
-            self.lanes_of.push(ends.len() as u64)?;
+            self.places.push(Place {
+                row: 0,
+                lanes: ends.len() as u64,
+            })?;
         }
         Ok(())
     }
 
     /// Gives each request a row.
-    fn share_rows(&mut self, facts: &Facts) -> Result<(), AllocError> {
+    fn place_requests(&mut self, facts: &Facts) -> Result<(), AllocError> {
         for (number, request) in facts.requests.iter().enumerate() {
-            let lanes = self.lanes_of.get(number).copied().unwrap_or(1);
-            let place = self.row_from(self.start_of(request));
-            if place >= self.rows.len() {
-                self.rows.push(Row {
-                    y: 0,
-                    lanes: 1,
-                    end: 0,
-                })?;
+            let (start, end) = (self.start_of(request), self.end_of(request, facts.labels));
+            if let Some(place) = self.places.get_mut(number) {
+                place.row = if self.is_shared {
+                    first_free(self.rows.as_slice(), start)
+                } else {
+                    self.rows.len()
+                };
+                take_row(&mut self.rows, *place, end)?;
             }
-            let end = self.end_of(request, facts.labels);
-            if let Some(row) = self.rows.get_mut(place) {
-                row.lanes = row.lanes.max(lanes);
-                row.end = end;
-            }
-            self.row_of.push(place)?;
         }
         Ok(())
-    }
-
-    /// The first row that is free from here on; a new one where each request has its own.
-    fn row_from(&self, start: u64) -> usize {
-        let free = if self.is_shared {
-            self.rows.iter().position(|row| row.end <= start)
-        } else {
-            None
-        };
-        free.unwrap_or(self.rows.len())
     }
 
     /// Returns where the number of a request begins, left of its bar.
@@ -246,37 +229,93 @@ impl Layout {
         let x = self.x_of(answer.label);
         x.saturating_add(text_width(letters)).saturating_add(MARK)
     }
+}
 
-    fn place_rows(&mut self) {
-        self.requests_caption = self.room(CAPTION);
-        let mut bottom = self.bottom;
-        for row in self.rows.iter_mut() {
-            row.y = bottom;
-            bottom = bottom.saturating_add(row.bar()).saturating_add(6);
-        }
-        self.bottom = bottom;
+/// Gives each tag that has pieces a row from `top` on, and tells where these rows end.
+fn place_tags(tags: &mut [Option<u64>; 256], facts: &Facts, top: u64) -> u64 {
+    for piece in facts.pieces.iter() {
+        tags[piece.tag as usize] = Some(top);
     }
-
-    fn place_strays(&mut self, facts: &Facts) {
-        if !facts.strays.is_empty() {
-            self.strays = Some(self.room(ROW));
+    let mut bottom = top;
+    for row in tags.iter_mut() {
+        if row.is_some() {
+            *row = Some(bottom);
+            bottom = bottom.saturating_add(ROW);
         }
+    }
+    bottom
+}
+
+/// Places rows one below the other from `top` on, and tells where they end.
+fn place_rows(rows: &mut [Row], top: u64) -> u64 {
+    let mut bottom = top;
+    for row in rows.iter_mut() {
+        row.y = bottom;
+        bottom = bottom.saturating_add(row.bar()).saturating_add(6);
+    }
+    bottom
+}
+
+/// For each of this many requests the ends of its lanes, of which there are none.
+fn no_lanes(alloc: Global, requests: usize) -> Result<Vec<Vec<u64>>, AllocError> {
+    let mut lanes = Vec::new(alloc);
+    for _ in 0..requests {
+        lanes.push(Vec::new(alloc))?;
+    }
+    Ok(lanes)
+}
+
+/// Puts a piece into the first lane of its request that is free at its start, and gives its number.
+fn lane_of(lanes: &mut [Vec<u64>], piece: &Piece) -> Result<u64, AllocError> {
+    let Some(owner) = piece.owner else {
+        return Ok(0);
+    };
+    match lanes.get_mut(owner) {
+        Some(ends) => take_lane(ends, piece),
+        None => Ok(0),
     }
 }
 
-/// Puts a piece into the first lane that is free at its start, and gives its number.
 fn take_lane(ends: &mut Vec<u64>, piece: &Piece) -> Result<u64, AllocError> {
     let end = match piece.back {
         Some((label, _)) => label,
         None => u64::MAX,
     };
-    let lane = ends.iter().position(|taken| *taken < piece.start);
-    let lane = lane.unwrap_or(ends.len());
-    match ends.get_mut(lane) {
-        Some(taken) => *taken = end,
-        None => ends.push(end)?,
+    let mut lane = 0_u64;
+    for taken in ends.iter_mut() {
+        if *taken < piece.start {
+            *taken = end;
+            return Ok(lane);
+        }
+        lane = lane.saturating_add(1);
     }
-    Ok(lane as u64)
+    ends.push(end)?;
+    Ok(lane)
+}
+
+/// The first row that is free from here on; else the next one.
+fn first_free(rows: &[Row], start: u64) -> usize {
+    for (number, row) in rows.iter().enumerate() {
+        if row.end <= start {
+            return number;
+        }
+    }
+    rows.len()
+}
+
+/// Takes the row of a place up to here; a new one where that is the next.
+fn take_row(rows: &mut Vec<Row>, place: Place, end: u64) -> Result<(), AllocError> {
+    if let Some(row) = rows.get_mut(place.row) {
+        row.lanes = row.lanes.max(place.lanes);
+        row.end = end;
+        return Ok(());
+    }
+    rows.push(Row {
+        y: 0,
+        lanes: place.lanes.max(1),
+        end,
+    })?;
+    Ok(())
 }
 
 /// The width of the column of one label, where there are this many.
@@ -315,7 +354,28 @@ pub struct Bar {
     pub height: u64,
 }
 
+/// Writes a rectangle of this class, and ends the line.
+pub fn write_bar<W: Write>(out: &mut W, class: &str, bar: Bar) -> io::Result<()> {
+    let Bar {
+        x,
+        y,
+        width,
+        height,
+    } = bar;
+    write!(out, "<rect class=\"{class}\" x=\"{x}\" y=\"{y}\"")?;
+    writeln!(out, " width=\"{width}\" height=\"{height}\"/>")
+}
+
 impl Scene<'_> {
+    /// The middle of the mark of a label in a row.
+    pub fn spot_of(&self, label: u64, row: Row) -> Spot {
+        Spot {
+            x: self.layout.x_of(label),
+            y: row.middle(),
+            is_large: self.layout.column >= 12,
+        }
+    }
+
     /// The bar from one label to another, or to the end of the trace.
     pub fn bar_of(&self, start: u64, end: Option<u64>, y: u64) -> Bar {
         let x = self.layout.x_of(start);

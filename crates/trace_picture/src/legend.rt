@@ -1,7 +1,8 @@
 //! The head of the picture: what it is of, and what its colours and marks say.
 
 use crate::facts::Facts;
-use crate::marks::{Spot, write_call, write_cross, write_dot, write_failure, write_success};
+use crate::marks::{Mark, Spot, write_dot, write_mark, write_success};
+use crate::texts::{CAPTION, PLAIN, Point, write_text};
 use std::io;
 use std::io::Write;
 
@@ -13,7 +14,8 @@ struct Patch {
     text: &'static str,
 }
 
-const PIECES: [Patch; 4] = [
+/// What colours say of pieces, and of the device.
+const PATCHES: [Patch; 8] = [
     Patch {
         class: "good",
         x: 90,
@@ -38,9 +40,6 @@ const PIECES: [Patch; 4] = [
         y: 40,
         text: "out, not back",
     },
-];
-
-const PHASES: [Patch; 4] = [
     Patch {
         class: "paused",
         x: 90,
@@ -67,19 +66,47 @@ const PHASES: [Patch; 4] = [
     },
 ];
 
+/// The captions of the legend's lines, and how far down each is.
+const CAPTIONS: [(u64, &str); 3] = [(51, "piece"), (75, "request"), (99, "device")];
+
+/// What is said of each mark, and where.
+const WORDS: [(u64, u64, &str); 7] = [
+    (476, 51, "act"),
+    (536, 51, "fault"),
+    (106, 75, "call"),
+    (176, 75, "cancel"),
+    (266, 75, "answer SUCCESS"),
+    (406, 75, "another answer"),
+    (554, 75, "fits nothing before it"),
+];
+
+/// The marks of lines: those of a fault, a call, a cancel and an answer that isn't SUCCESS.
+const MARKS: [(Mark, u64, u64, bool); 4] = [
+    (Mark::Cross, 526, 47, false),
+    (Mark::Call, 95, 71, true),
+    (Mark::Cross, 165, 71, true),
+    (Mark::Failure, 395, 71, true),
+];
+
 /// Writes the heading and the legend.
 pub fn write_legend<W: Write>(out: &mut W, facts: &Facts) -> io::Result<()> {
-    let (requests, pieces) = (facts.requests.len(), facts.pieces.len());
-    write!(
+    write_heading(out, facts)?;
+    write_patches(out)?;
+    write_captions(out)?;
+    write_words(out)?;
+    write_marks(out)
+}
+
+fn write_heading<W: Write>(out: &mut W, facts: &Facts) -> io::Result<()> {
+    let (labels, requests, pieces) = (facts.labels, facts.requests.len(), facts.pieces.len());
+    writeln!(
         out,
-        "<text class=\"h\" x=\"8\" y=\"24\">{} labels, ",
-        facts.labels
-    )?;
-    writeln!(out, "{requests} requests, {pieces} pieces</text>")?;
-    write_pieces(out)?;
-    write_requests(out)?;
-    writeln!(out, "<text class=\"c\" x=\"8\" y=\"99\">device</text>")?;
-    for patch in PHASES.iter() {
+        "<text class=\"h\" x=\"8\" y=\"24\">{labels} labels, {requests} requests, {pieces} pieces</text>"
+    )
+}
+
+fn write_patches<W: Write>(out: &mut W) -> io::Result<()> {
+    for patch in PATCHES.iter() {
         write_patch(out, patch)?;
     }
     Ok(())
@@ -87,82 +114,38 @@ pub fn write_legend<W: Write>(out: &mut W, facts: &Facts) -> io::Result<()> {
 
 fn write_patch<W: Write>(out: &mut W, patch: &Patch) -> io::Result<()> {
     let Patch { class, x, y, text } = patch;
-    write!(
+    writeln!(
         out,
         "<rect class=\"{class}\" x=\"{x}\" y=\"{y}\" width=\"26\" height=\"14\"/>"
     )?;
-    let (x, base) = (x.saturating_add(32), y.saturating_add(11));
-    writeln!(out, "<text x=\"{x}\" y=\"{base}\">{text}</text>")
+    let at = Point {
+        x: x.saturating_add(32),
+        y: y.saturating_add(11),
+    };
+    write_text(out, PLAIN, at, text)
 }
 
-/// Returns what the rows of tags show.
-fn write_pieces<W: Write>(out: &mut W) -> io::Result<()> {
-    writeln!(out, "<text class=\"c\" x=\"8\" y=\"51\">piece</text>")?;
-    for patch in PIECES.iter() {
-        write_patch(out, patch)?;
+fn write_captions<W: Write>(out: &mut W) -> io::Result<()> {
+    for (y, caption) in CAPTIONS.iter() {
+        write_text(out, CAPTION, Point { x: 8, y: *y }, caption)?;
     }
-    write_dot(
-        out,
-        Spot {
-            x: 466,
-            y: 47,
-            half: 2,
-        },
-    )?;
-    writeln!(out, "<text x=\"476\" y=\"51\">act</text>")?;
-    write_cross(
-        out,
-        Spot {
-            x: 526,
-            y: 47,
-            half: 3,
-        },
-    )?;
-    writeln!(out, "<text x=\"536\" y=\"51\">fault</text>")
+    Ok(())
 }
 
-/// Returns what the rows of requests show.
-fn write_requests<W: Write>(out: &mut W) -> io::Result<()> {
-    writeln!(out, "<text class=\"c\" x=\"8\" y=\"75\">request</text>")?;
-    write_call(
-        out,
-        Spot {
-            x: 95,
-            y: 71,
-            half: 5,
-        },
-    )?;
-    writeln!(out, "<text x=\"106\" y=\"75\">call</text>")?;
-    write_cross(
-        out,
-        Spot {
-            x: 165,
-            y: 71,
-            half: 5,
-        },
-    )?;
-    writeln!(out, "<text x=\"176\" y=\"75\">cancel</text>")?;
-    write_success(
-        out,
-        Spot {
-            x: 255,
-            y: 71,
-            half: 5,
-        },
-    )?;
-    writeln!(out, "<text x=\"266\" y=\"75\">answer SUCCESS</text>")?;
-    write_failure(
-        out,
-        Spot {
-            x: 395,
-            y: 71,
-            half: 5,
-        },
-    )?;
-    writeln!(out, "<text x=\"406\" y=\"75\">another answer</text>")?;
-    write!(out, "<text class=\"c\" x=\"540\" y=\"75\">?</text>")?;
-    writeln!(
-        out,
-        "<text x=\"554\" y=\"75\">fits nothing before it</text>"
-    )
+fn write_words<W: Write>(out: &mut W) -> io::Result<()> {
+    for (x, y, word) in WORDS.iter() {
+        write_text(out, PLAIN, Point { x: *x, y: *y }, word)?;
+    }
+    Ok(())
+}
+
+fn write_marks<W: Write>(out: &mut W) -> io::Result<()> {
+    for (mark, x, y, is_large) in MARKS.iter() {
+        let (x, y, is_large) = (*x, *y, *is_large);
+        write_mark(out, *mark, Spot { x, y, is_large })?;
+    }
+    write_dot(out, 466, 47)?;
+    let (x, y, is_large) = (255, 71, true);
+    write_success(out, Spot { x, y, is_large })?;
+    write_text(out, CAPTION, Point { x: 540, y: 75 }, &"?")
 }

@@ -19,6 +19,7 @@ mod names;
 mod owners;
 mod rows;
 mod svg;
+mod texts;
 mod titles;
 
 use facts::Facts;

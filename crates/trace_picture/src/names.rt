@@ -14,12 +14,13 @@ pub struct Name<'a>(pub &'a Request);
 impl fmt::Display for Name<'_> {
     fn fmt<W: fmt::Write>(&self, f: &mut fmt::Formatter<W>) -> fmt::Result {
         let request = self.0;
-        write!(f, "{} {}", request.number, kind_word(request.kind))?;
+        let (number, word) = (request.number, kind_word(request.kind));
         if request.kind == Kind::Flush {
-            return Ok(());
+            return write!(f, "{number} {word}");
         }
-        write!(f, " {} {}", request.offset, request.length)?;
-        f.write_str(if request.through { " through" } else { "" })
+        let through = if request.through { " through" } else { "" };
+        let (offset, length) = (request.offset, request.length);
+        write!(f, "{number} {word} {offset} {length}{through}")
     }
 }
 
@@ -45,38 +46,39 @@ pub struct Command(pub Option<Cdb>);
 
 impl fmt::Display for Command {
     fn fmt<W: fmt::Write>(&self, f: &mut fmt::Formatter<W>) -> fmt::Result {
-        match self.0 {
-            None => f.write_str("no command"),
-            Some(Cdb::Read10 { lba, count, fua }) => write!(
-                f,
-                "READ(10) of {count} from {lba}{}",
-                fua_word(fua)
-            ),
-            Some(Cdb::Write10 { lba, count, fua }) => write!(
-                f,
-                "WRITE(10) of {count} from {lba}{}",
-                fua_word(fua)
-            ),
-            Some(Cdb::Read16 { lba, count, fua }) => write!(
-                f,
-                "READ(16) of {count} from {lba}{}",
-                fua_word(fua)
-            ),
-            Some(Cdb::Write16 { lba, count, fua }) => write!(
-                f,
-                "WRITE(16) of {count} from {lba}{}",
-                fua_word(fua)
-            ),
-            Some(Cdb::Sync10 { .. }) => f.write_str("SYNCHRONIZE CACHE(10)"),
-            Some(Cdb::Sync16 { .. }) => f.write_str("SYNCHRONIZE CACHE(16)"),
-            Some(Cdb::ReadCapacity10) => f.write_str("READ CAPACITY(10)"),
-            Some(Cdb::ReadCapacity16 { .. }) => f.write_str("READ CAPACITY(16)"),
+        let (word, transfer) = told_of(self.0);
+        f.write_str(word)?;
+        match transfer {
+            Some((lba, count, fua)) => {
+                let through = if fua { " FUA" } else { "" };
+                write!(f, " of {count} from {lba}{through}")
+            }
+            None => Ok(()),
         }
     }
 }
 
-fn fua_word(fua: bool) -> &'static str {
-    if fua { " FUA" } else { "" }
+/// Returns the word of a command, and of a transfer its first sector, how many, and whether it is written through.
+fn told_of(command: Option<Cdb>) -> (&'static str, Option<(u64, u64, bool)>) {
+    match command {
+        None => ("no command", None),
+        Some(Cdb::Read10 { lba, count, fua }) => {
+            ("READ(10)", Some((u64::from(lba), u64::from(count), fua)))
+        }
+        Some(Cdb::Write10 { lba, count, fua }) => {
+            ("WRITE(10)", Some((u64::from(lba), u64::from(count), fua)))
+        }
+        Some(Cdb::Read16 { lba, count, fua }) => {
+            ("READ(16)", Some((lba, u64::from(count), fua)))
+        }
+        Some(Cdb::Write16 { lba, count, fua }) => {
+            ("WRITE(16)", Some((lba, u64::from(count), fua)))
+        }
+        Some(Cdb::Sync10 { .. }) => ("SYNCHRONIZE CACHE(10)", None),
+        Some(Cdb::Sync16 { .. }) => ("SYNCHRONIZE CACHE(16)", None),
+        Some(Cdb::ReadCapacity10) => ("READ CAPACITY(10)", None),
+        Some(Cdb::ReadCapacity16 { .. }) => ("READ CAPACITY(16)", None),
+    }
 }
 
 pub fn kind_word(kind: Kind) -> &'static str {
@@ -112,11 +114,21 @@ pub struct Misfit<'a>(pub &'a Stray);
 
 impl fmt::Display for Misfit<'_> {
     fn fmt<W: fmt::Write>(&self, f: &mut fmt::Formatter<W>) -> fmt::Result {
-        f.write_str(label_word(self.0.word))?;
+        let word = label_word(self.0.word);
         match self.0.number {
-            Some(number) => write!(f, " {number}"),
-            None => Ok(()),
+            Some(number) => write!(f, "{word} {number}"),
+            None => f.write_str(word),
         }
+    }
+}
+
+/// The number of a piece, and its word.
+#[derive(Clone, Copy)]
+pub struct NumberAndWord<'a>(pub u128, pub &'a str);
+
+impl fmt::Display for NumberAndWord<'_> {
+    fn fmt<W: fmt::Write>(&self, f: &mut fmt::Formatter<W>) -> fmt::Result {
+        write!(f, "{} {}", self.0, self.1)
     }
 }
 

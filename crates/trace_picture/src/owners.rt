@@ -23,7 +23,7 @@ struct Asked {
 }
 
 /// How well a request fits a piece.
-#[derive(Clone, Copy, PartialEq, Eq)]
+#[derive(Clone, Copy)]
 enum Fit {
     No,
     /// Its partition has told nothing yet.

@@ -1,9 +1,12 @@
 //! The rows of tags, of requests, and of labels that fit nothing.
 
 use crate::facts::{Answer, Piece, Request, Stray};
-use crate::layout::{BAR, Bar, Row, Scene};
-use crate::marks::{Spot, write_call, write_cross, write_dot, write_failure, write_success};
-use crate::names::{Misfit, Name, bar_text_width, class_word, digits, name_width, piece_digits};
+use crate::layout::{Bar, Row, Scene, write_bar};
+use crate::marks::{Mark, Spot, write_dot, write_mark, write_success};
+use crate::names::{
+    Misfit, Name, NumberAndWord, bar_text_width, class_word, name_width, piece_digits,
+};
+use crate::texts::{BEFORE, CAPTION, DIM_BEFORE, IN_BAR, PLAIN, Point, write_text};
 use crate::titles::{At, write_piece_title, write_request_title};
 use ntstatus::NtStatus;
 use std::io;
@@ -11,27 +14,22 @@ use std::io::Write;
 
 /// Writes the rows of the tags, with their pieces.
 pub fn write_tags<W: Write>(out: &mut W, scene: Scene<'_>) -> io::Result<()> {
-    write_caption(out, scene.layout.tags_caption, "tags")?;
-    for (tag, y) in scene.layout.tags.iter() {
-        let base = y.saturating_add(17);
-        write_line(out, *y, scene.layout.width)?;
-        writeln!(out, "<text x=\"8\" y=\"{base}\">tag {tag}</text>")?;
+    write_caption(out, scene.layout.tags_caption, 16, "tags")?;
+    for (tag, row) in scene.layout.tags.iter().enumerate() {
+        if let Some(y) = row {
+            write_tag(out, tag, *y, scene.layout.width)?;
+        }
     }
     for piece in scene.facts.pieces.iter() {
-        if let Some(y) = scene.layout.tags.get(&piece.tag) {
-            write_tag_piece(out, scene, piece, *y)?;
-        }
+        write_tag_piece(out, scene, piece)?;
     }
     Ok(())
 }
 
-/// Writes the caption of a group of rows.
-fn write_caption<W: Write>(out: &mut W, y: u64, caption: &str) -> io::Result<()> {
-    let base = y.saturating_add(16);
-    writeln!(
-        out,
-        "<text class=\"c\" x=\"8\" y=\"{base}\">{caption}</text>"
-    )
+/// Writes the caption of a group of rows, so far below where it begins.
+fn write_caption<W: Write>(out: &mut W, y: u64, below: u64, caption: &str) -> io::Result<()> {
+    let y = y.saturating_add(below);
+    write_text(out, CAPTION, Point { x: 8, y }, &caption)
 }
 
 /// Writes the line above a row.
@@ -39,171 +37,176 @@ fn write_line<W: Write>(out: &mut W, y: u64, width: u64) -> io::Result<()> {
     writeln!(out, "<path class=\"line\" d=\"M0 {y}H{width}\"/>")
 }
 
+/// Writes the row of a tag, without its pieces.
+fn write_tag<W: Write>(out: &mut W, tag: usize, y: u64, width: u64) -> io::Result<()> {
+    write_line(out, y, width)?;
+    let base = y.saturating_add(17);
+    writeln!(out, "<text x=\"8\" y=\"{base}\">tag {tag}</text>")
+}
+
 /// Writes a piece in the row of its tag, with its act or its fault.
-fn write_tag_piece<W: Write>(
-    out: &mut W,
-    scene: Scene<'_>,
-    piece: &Piece,
-    y: u64,
-) -> io::Result<()> {
+fn write_tag_piece<W: Write>(out: &mut W, scene: Scene<'_>, piece: &Piece) -> io::Result<()> {
+    let Some(y) = scene.layout.tags[piece.tag as usize] else {
+        return Ok(());
+    };
     let bar = scene.bar_of(piece.start, piece.end(), y.saturating_add(3));
     write_piece(out, scene, piece, bar)?;
-    let y = bar.y.saturating_add(16);
-    if let Some(label) = piece.act {
-        let x = scene.layout.x_of(label);
-        write_dot(out, Spot { x, y, half: 2 })?;
-    }
-    if let Some(label) = piece.fault {
-        let x = scene.layout.x_of(label);
-        write_cross(out, Spot { x, y, half: 3 })?;
-    }
+    write_fate(out, scene, piece, bar.y.saturating_add(16))?;
     out.write_all(b"</g>\n")
+}
+
+/// Writes the act or the fault of a piece.
+fn write_fate<W: Write>(out: &mut W, scene: Scene<'_>, piece: &Piece, y: u64) -> io::Result<()> {
+    if let Some(label) = piece.act {
+        write_dot(out, scene.layout.x_of(label), y)?;
+    }
+    let Some(label) = piece.fault else {
+        return Ok(());
+    };
+    let x = scene.layout.x_of(label);
+    let is_large = false;
+    write_mark(out, Mark::Cross, Spot { x, y, is_large })
 }
 
 /// Begins a group with the bar of a piece, its title, and its number and word where there is room.
 fn write_piece<W: Write>(out: &mut W, scene: Scene<'_>, piece: &Piece, bar: Bar) -> io::Result<()> {
-    let word = class_word(piece.back);
     out.write_all(b"<g>")?;
     write_piece_title(out, scene.facts, piece)?;
-    write_bar(out, word, bar)?;
-    let (x, base) = (bar.x.saturating_add(4), bar.y.saturating_add(10));
-    let letters = piece_digits(piece.number);
-    let number = piece.number;
-    if bar_text_width(letters.saturating_add(word.len() as u64).saturating_add(1)) <= bar.width {
-        return writeln!(
-            out,
-            "<text class=\"b\" x=\"{x}\" y=\"{base}\">{number} {word}</text>"
-        );
-    }
-    if bar_text_width(letters) <= bar.width {
-        return writeln!(
-            out,
-            "<text class=\"b\" x=\"{x}\" y=\"{base}\">{number}</text>"
-        );
-    }
-    Ok(())
+    write_bar(out, class_word(piece.back), bar)?;
+    write_number(out, piece, bar)
 }
 
-fn write_bar<W: Write>(out: &mut W, class: &str, bar: Bar) -> io::Result<()> {
-    let Bar {
-        x,
-        y,
-        width,
-        height,
-    } = bar;
-    write!(out, "<rect class=\"{class}\" x=\"{x}\" y=\"{y}\"")?;
-    writeln!(out, " width=\"{width}\" height=\"{height}\"/>")
+/// Writes the number and the word of a piece into its bar, or its number alone, or nothing.
+fn write_number<W: Write>(out: &mut W, piece: &Piece, bar: Bar) -> io::Result<()> {
+    let (number, word) = (piece.number, class_word(piece.back));
+    let at = Point {
+        x: bar.x.saturating_add(4),
+        y: bar.y.saturating_add(10),
+    };
+    let letters = piece_digits(number);
+    let both = letters.saturating_add(word.len() as u64).saturating_add(1);
+    if bar_text_width(both) <= bar.width {
+        return write_text(out, IN_BAR, at, &NumberAndWord(number, word));
+    }
+    if bar_text_width(letters) <= bar.width {
+        return write_text(out, IN_BAR, at, &number);
+    }
+    Ok(())
 }
 
 /// Writes the rows of the requests.
 pub fn write_requests<W: Write>(out: &mut W, scene: Scene<'_>) -> io::Result<()> {
-    let layout = scene.layout;
-    write_caption(out, layout.requests_caption, "requests")?;
-    for row in layout.rows.iter() {
-        write_line(out, row.y, layout.width)?;
+    write_caption(out, scene.layout.requests_caption, 16, "requests")?;
+    for row in scene.layout.rows.iter() {
+        write_line(out, row.y, scene.layout.width)?;
     }
     for (place, request) in scene.facts.requests.iter().enumerate() {
-        if let Some(row) = layout.row_at(place) {
-            write_request(out, scene, request, row)?;
-        }
+        write_request(out, scene, request, place)?;
     }
-    for (piece, lane) in scene.facts.pieces.iter().zip(layout.lane_of.iter()) {
-        if let Some(bar) = scene.bar_in_request(piece, *lane) {
-            write_piece(out, scene, piece, bar)?;
-            out.write_all(b"</g>\n")?;
-        }
+    for (piece, lane) in scene.facts.pieces.iter().zip(scene.layout.lane_of.iter()) {
+        write_piece_in_request(out, scene, piece, *lane)?;
     }
     for (place, request) in scene.facts.requests.iter().enumerate() {
-        if let Some(row) = layout.row_at(place) {
-            write_ends(out, scene, request, row)?;
-        }
+        write_ends(out, scene, request, place)?;
     }
     Ok(())
 }
 
-/// Writes the bar of a request, with its call and its name.
+/// Writes a piece in the bar of its request.
+fn write_piece_in_request<W: Write>(
+    out: &mut W,
+    scene: Scene<'_>,
+    piece: &Piece,
+    lane: u64,
+) -> io::Result<()> {
+    let Some(bar) = scene.bar_in_request(piece, lane) else {
+        return Ok(());
+    };
+    write_piece(out, scene, piece, bar)?;
+    out.write_all(b"</g>\n")
+}
+
+/// Writes the bar of the request at a place, with its call and its name.
 fn write_request<W: Write>(
+    out: &mut W,
+    scene: Scene<'_>,
+    request: &Request,
+    place: usize,
+) -> io::Result<()> {
+    let Some(row) = scene.layout.row_at(place) else {
+        return Ok(());
+    };
+    write_names(out, scene, request, row)?;
+    out.write_all(b"<g>")?;
+    write_request_title(out, scene.facts, request)?;
+    write_request_bar(out, scene, request, row)?;
+    write_mark(out, Mark::Call, scene.spot_of(request.call, row))?;
+    out.write_all(b"</g>\n")
+}
+
+fn write_request_bar<W: Write>(
     out: &mut W,
     scene: Scene<'_>,
     request: &Request,
     row: Row,
 ) -> io::Result<()> {
-    let layout = scene.layout;
-    let y = row.middle();
-    let base = y.saturating_add(4);
-    if !layout.is_shared {
-        let name = Name(request);
-        writeln!(out, "<text x=\"8\" y=\"{base}\">{name}</text>")?;
-    }
-    write_name(out, scene, request, base)?;
-    out.write_all(b"<g>")?;
-    write_request_title(out, scene.facts, request)?;
     let class = match request.answer {
         Some(_) => "request",
         None => "open",
     };
     let bar = scene.bar_of(request.call, request.end(), row.y.saturating_add(3));
     let height = row.bar();
-    write_bar(out, class, Bar { height, ..bar })?;
-    let half = layout.half();
-    let x = layout.x_of(request.call);
-    write_call(out, Spot { x, y, half })?;
-    out.write_all(b"</g>\n")
+    write_bar(out, class, Bar { height, ..bar })
 }
 
-/// Writes the name of a request left of its bar: all of it where it has the row to itself and the column of names is
-/// not near, and only its number where it shares a row.
-fn write_name<W: Write>(
-    out: &mut W,
-    scene: Scene<'_>,
-    request: &Request,
-    base: u64,
-) -> io::Result<()> {
-    let layout = scene.layout;
-    let x = layout.x_of(request.call).saturating_sub(8);
-    let number = request.number;
-    if layout.is_shared {
-        return writeln!(
-            out,
-            "<text class=\"e\" x=\"{x}\" y=\"{base}\">{number}</text>"
-        );
-    }
-    if x < layout.left.saturating_add(name_width(request)) {
-        return Ok(());
-    }
-    let name = Name(request);
-    writeln!(
-        out,
-        "<text class=\"e dim\" x=\"{x}\" y=\"{base}\">{name}</text>"
-    )
-}
-
-/// Writes the cancel and the answer of a request.
-fn write_ends<W: Write>(
+/// Writes the name of a request: where it has the row to itself in the column of names, and left of its bar if that
+/// column is not near; else only its number, left of its bar.
+fn write_names<W: Write>(
     out: &mut W,
     scene: Scene<'_>,
     request: &Request,
     row: Row,
 ) -> io::Result<()> {
+    let layout = scene.layout;
+    let x = layout.x_of(request.call).saturating_sub(8);
+    let y = row.middle().saturating_add(4);
+    if layout.is_shared {
+        return write_text(out, BEFORE, Point { x, y }, &request.number);
+    }
+    write_text(out, PLAIN, Point { x: 8, y }, &Name(request))?;
+    if x < layout.left.saturating_add(name_width(request)) {
+        return Ok(());
+    }
+    write_text(out, DIM_BEFORE, Point { x, y }, &Name(request))
+}
+
+/// Writes the cancel and the answer of the request at a place.
+fn write_ends<W: Write>(
+    out: &mut W,
+    scene: Scene<'_>,
+    request: &Request,
+    place: usize,
+) -> io::Result<()> {
+    let Some(row) = scene.layout.row_at(place) else {
+        return Ok(());
+    };
     if let Some(label) = request.cancel {
         write_cancel(out, scene, label, row)?;
     }
     match request.answer {
-        Some(answer) => write_answer(out, scene, &answer, row),
+        Some(answer) => write_answer(out, scene, answer, row),
         None => Ok(()),
     }
 }
 
 /// Writes the line of a cancel, with a cross.
 fn write_cancel<W: Write>(out: &mut W, scene: Scene<'_>, label: u64, row: Row) -> io::Result<()> {
-    let x = scene.layout.x_of(label);
-    let y = row.middle();
-    let (top, height) = (row.y.saturating_add(3), row.bar());
     let facts = scene.facts;
+    let spot = scene.spot_of(label, row);
+    let (x, top, height) = (spot.x, row.y.saturating_add(3), row.bar());
     writeln!(out, "<g><title>cancel: {}</title>", At { facts, label })?;
     writeln!(out, "<path class=\"stop\" d=\"M{x} {top}v{height}\"/>")?;
-    let half = scene.layout.half();
-    write_cross(out, Spot { x, y, half })?;
+    write_mark(out, Mark::Cross, spot)?;
     out.write_all(b"</g>\n")
 }
 
@@ -211,27 +214,33 @@ fn write_cancel<W: Write>(out: &mut W, scene: Scene<'_>, label: u64, row: Row) -
 fn write_answer<W: Write>(
     out: &mut W,
     scene: Scene<'_>,
-    answer: &Answer,
+    answer: Answer,
     row: Row,
 ) -> io::Result<()> {
-    let label = answer.label;
-    let name = answer.status.name();
-    let y = row.middle();
-    let half = scene.layout.half();
-    let x = scene.layout.x_of(label);
-    let bytes = answer.information;
-    let facts = scene.facts;
-    write!(out, "<g><title>answer: {}", At { facts, label })?;
-    writeln!(out, ", {name}, {bytes} bytes moved</title>")?;
-    match answer.status {
-        NtStatus::Success => write_success(out, Spot { x, y, half })?,
-        _ => write_failure(out, Spot { x, y, half })?,
+    let spot = scene.spot_of(answer.label, row);
+    write_answer_title(out, scene, answer)?;
+    let is_success = answer.status == NtStatus::Success;
+    if is_success {
+        write_success(out, spot)?;
+    } else {
+        write_mark(out, Mark::Failure, spot)?;
     }
-    if answer.status != NtStatus::Success || !scene.layout.is_shared {
-        let (x, base) = (x.saturating_add(9), y.saturating_add(4));
-        writeln!(out, "<text x=\"{x}\" y=\"{base}\">{name}</text>")?;
+    if !is_success || !scene.layout.is_shared {
+        let (x, y) = (spot.x.saturating_add(9), spot.y.saturating_add(4));
+        write_text(out, PLAIN, Point { x, y }, &answer.status.name())?;
     }
     out.write_all(b"</g>\n")
+}
+
+/// Begins a group with the title of an answer.
+fn write_answer_title<W: Write>(out: &mut W, scene: Scene<'_>, answer: Answer) -> io::Result<()> {
+    let (facts, label) = (scene.facts, answer.label);
+    let (name, bytes) = (answer.status.name(), answer.information);
+    writeln!(
+        out,
+        "<g><title>answer: {}, {name}, {bytes} bytes moved</title>",
+        At { facts, label }
+    )
 }
 
 /// Writes the row of the labels that fit nothing.
@@ -240,10 +249,9 @@ pub fn write_strays<W: Write>(out: &mut W, scene: Scene<'_>) -> io::Result<()> {
         return Ok(());
     };
     write_line(out, y, scene.layout.width)?;
-    let base = y.saturating_add(17);
-    writeln!(out, "<text class=\"c\" x=\"8\" y=\"{base}\">others</text>")?;
+    write_caption(out, y, 17, "others")?;
     for stray in scene.facts.strays.iter() {
-        write_stray(out, scene, base, stray)?;
+        write_stray(out, scene, y.saturating_add(17), stray)?;
     }
     Ok(())
 }
@@ -254,11 +262,14 @@ fn write_stray<W: Write>(
     base: u64,
     stray: &Stray,
 ) -> io::Result<()> {
-    let label = stray.label;
-    let facts = scene.facts;
+    let (facts, label) = (scene.facts, stray.label);
     let x = scene.layout.x_of(label);
-    write!(out, "<g><title>{}: {}", Misfit(stray), At { facts, label })?;
-    writeln!(out, ", fits nothing before it</title>")?;
+    writeln!(
+        out,
+        "<g><title>{}: {}, fits nothing before it</title>",
+        Misfit(stray),
+        At { facts, label }
+    )?;
     writeln!(
         out,
         "<text class=\"c m\" x=\"{x}\" y=\"{base}\">?</text></g>"
