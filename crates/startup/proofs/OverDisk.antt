@@ -196,7 +196,7 @@ module _ (c : Config) (view : MemView) (new : IsNewAdapter c view)
   not_opened settings blank p (NotStarted fault) h = not_started settings blank fault h.0 h.1
   not_opened settings blank p (Refused InvalidParameter) h = subst (λ (es : List Extent). length es ≤ p) (same_extents c view.shown (shows_disk blank) h.0 h.1.told) h.2
   not_opened settings blank p (Refused DeviceBusy) h = absurd h
-  not_opened settings blank p (Refused InsufficientResources) h = tt
+  not_opened settings blank p (Refused InsufficientResources) h = absurd h
   not_opened settings blank p (Refused InvalidHandle) h = absurd h
   not_opened settings blank p (Refused DeletePending) h = absurd h
   not_opened settings blank p (Refused InvalidDeviceRequest) h = absurd h

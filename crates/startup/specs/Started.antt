@@ -14,7 +14,7 @@ use Rattle.mbr.specs.Faults.{said_of}
 use Rattle.probe.specs.Exchange.{IsIdle}
 use Rattle.probe.specs.Probing.{FailsOne}
 use Rattle.io_manager.specs.Shown.{ManagerView}
-use Rattle.io_manager.specs.declared.Refusal.TheVariants.{InvalidParameter, InsufficientResources}
+use Rattle.io_manager.specs.declared.Refusal.TheVariants.{InvalidParameter}
 use Rattle.compose.specs.declared.Settings.{Settings}
 use Rattle.compose.specs.declared.StartFault.{StartFault}
 use Rattle.compose.specs.declared.StartFault.TheVariants.{Settings as WrongSettings, Device as FailedCommand, Mbr as WrongTable, NoMemory as WantOfMemory}
@@ -136,9 +136,8 @@ pub record IsVolumeOf (c : Config) (p : ℕ) (v : VolumeView) : Type 0 where
   pub blank : v.content.bytes ≡ concat (zeros c (extent_at (extents_of c) p).count)
   pub partition : v.partition ≡ p
 
--- why no volume of these settings could be opened: no stack could be started, there is no such partition, or memory was refused
+-- why no volume of these settings could be opened: no stack could be started, or there is no such partition
 abbrev pub IsOpenFault : Config → ℕ → OpenFault → Type 0
 IsOpenFault c p (NotStarted fault) = IsStartFault c fault
 IsOpenFault c p (Refused InvalidParameter) = length (extents_of c) ≤ p
-IsOpenFault c p (Refused InsufficientResources) = Unit {0}
 IsOpenFault c p (Refused _) = ⊥

@@ -4,7 +4,7 @@ use Rattle.std.specs.Prelude.{All, nat_le, if◌then◌else◌, ◌==◌, count_
 use Rattle.std.proofs.lemmas.Bool.Decides.{nat_tests}
 use Rattle.std.proofs.lemmas.List.Elements.{All-head}
 use Rattle.std.proofs.lemmas.List.Sorted.{IsPermutation-sym}
-use Rattle.ntstatus.specs.declared.NtStatus.TheVariants.{InvalidHandle as HandleStatus, InvalidParameter as ParameterStatus, DeletePending as PendingStatus, DeviceBusy as BusyStatus, InvalidDeviceRequest as RequestStatus, NotFound as FoundStatus}
+use Rattle.ntstatus.specs.declared.NtStatus.TheVariants.{InvalidHandle as HandleStatus, InvalidParameter as ParameterStatus, DeletePending as PendingStatus, DeviceBusy as BusyStatus, InvalidDeviceRequest as RequestStatus, NotFound as FoundStatus, InsufficientResources as MemoryStatus}
 use Rattle.ntstatus.specs.First.{when, first_some}
 use Rattle.ntstatus.proofs.First.{none_first}
 use Rattle.sector.specs.Extents.{IsSector, sectors_in}
@@ -137,16 +137,6 @@ silent_open old partition (Requested id) new h = absurd h.replies
 silent_open old partition (Answered answer) new h = absurd h.replies
 silent_open old partition Ignored new h = absurd h.replies
 
--- no request is called
-pub numbers_open : (old : ManagerView) (partition : ℕ) (reply : Reply) (new : ManagerView) → IsRight (OpenReplies old partition reply new) old new
-    → new.state.next_request ≡ old.state.next_request
-numbers_open old partition (HandleReply given) new h = ap (λ (s : State). s.next_request) h.replies.0.same_state
-numbers_open old partition (Refused reason bytes) new h = ap (λ (s : State). s.next_request) h.replies.1.unmoved.same_state
-numbers_open old partition Done new h = absurd h.replies
-numbers_open old partition (Requested id) new h = absurd h.replies
-numbers_open old partition (Answered answer) new h = absurd h.replies
-numbers_open old partition Ignored new h = absurd h.replies
-
 same_as_itself : (n : ℕ) → (n == n) ≡ true
 same_as_itself n = grind (arith, nat_tests)
 
@@ -177,10 +167,9 @@ refused_open old ready partition reason h =
         → nat_le handle_limit (count_by is_some old.handles) ≡ full → (why : Refusal)
         → first_some (when used BusyStatus ∷ when removing PendingStatus ∷ when past ParameterStatus ∷ when full BusyStatus ∷ []) ≡ Some (status_of_refusal why) → IsOpenRefusal old partition why
     by used true past full u a b f why e = absurd (let k : true ≡ false = a in cc)
-    by used false past full u a b f InsufficientResources e = tt
-    by true false past full u a b f DeviceBusy e = inl (inl u)
+    by true false past full u a b f DeviceBusy e = inl u
     by false false true full u a b f DeviceBusy e = absurd (let k : Some ParameterStatus ≡ Some BusyStatus = e in cc)
-    by false false false true u a b f DeviceBusy e = inl (inr (grind (arith, nat_tests)))
+    by false false false true u a b f DeviceBusy e = inr (grind (arith, nat_tests))
     by false false false false u a b f DeviceBusy e = absurd (let k : None ≡ Some BusyStatus = e in cc)
     by used false true full u a b f InvalidParameter e = grind (arith, nat_tests)
     by true false false full u a b f InvalidParameter e = absurd (let k : Some BusyStatus ≡ Some ParameterStatus = e in cc)
@@ -202,3 +191,7 @@ refused_open old ready partition reason h =
     by false false true full u a b f NotFound e = absurd (let k : Some ParameterStatus ≡ Some FoundStatus = e in cc)
     by false false false true u a b f NotFound e = absurd (let k : Some BusyStatus ≡ Some FoundStatus = e in cc)
     by false false false false u a b f NotFound e = absurd (let k : None ≡ Some FoundStatus = e in cc)
+    by true false past full u a b f InsufficientResources e = absurd (let k : Some BusyStatus ≡ Some MemoryStatus = e in cc)
+    by false false true full u a b f InsufficientResources e = absurd (let k : Some ParameterStatus ≡ Some MemoryStatus = e in cc)
+    by false false false true u a b f InsufficientResources e = absurd (let k : Some BusyStatus ≡ Some MemoryStatus = e in cc)
+    by false false false false u a b f InsufficientResources e = absurd (let k : None ≡ Some MemoryStatus = e in cc)

@@ -10,5 +10,4 @@ pub mod Bytes
 pub mod Content
 pub mod Methods
 pub mod Closing
-pub mod Sizing
 pub mod Starting

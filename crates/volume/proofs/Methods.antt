@@ -6,7 +6,7 @@ use Rattle.ntstatus.specs.declared.NtStatus.TheVariants.{Success}
 use Rattle.machine.specs.Map.{IsPartition}
 use Rattle.srb.specs.declared.Kind.TheVariants.{Read, Write, Flush}
 use Rattle.machine.specs.declared.ClientRequest.{ClientRequest}
-use Rattle.machine.specs.Rules.{Rules, is_transfer}
+use Rattle.machine.specs.Rules.{Rules, is_transfer, sectors_of}
 use Rattle.io_manager.specs.declared.Answer.{Answer as AnswerOf}
 use Rattle.io_manager.specs.declared.Handle.{Handle}
 use Rattle.io_manager.specs.declared.OpenHandle.{OpenHandle}
@@ -19,6 +19,7 @@ use Rattle.volume.specs.Shown.{content_of, extent_at, volume_over}
 use Rattle.volume.specs.Ready.{VolumeKept}
 use Rattle.volume.specs.Calls.{AreInBounds, IsRefusal, IsSameDisk, Reads, Writes, WritesSome}
 use Rattle.volume.specs.Working.{Ends, HasReason, Leaves, sectors_on}
+use Rattle.volume.proofs.Disk.{sectors_of-extent}
 use Rattle.volume.proofs.Content.{in_content, out_of_content, read_content, same_content, write_content, mixed_content, bytes_counted}
 
 pub kept_after : (v new : ManagerView) (handle : Handle) (p : ℕ) (sizes : Sizes) → VolumeKept v handle p sizes → Leaves v new → VolumeKept new handle p sizes
@@ -27,12 +28,12 @@ kept_after v new handle p sizes kept leaves = record {
   is_open = ap (λ (handles : List (Option OpenHandle)). partition_of handles handle) leaves.handles.handles ∙ kept.is_open;
   known = subst (λ (r : Rules). p < length r.partitions) (sym leaves.same_rules) kept.known;
   sector_size = kept.sector_size ∙ ap (λ (r : Rules). r.sector_size) (sym leaves.same_rules);
-  sectors = kept.sectors ∙ ap (λ (r : Rules). (extent_at r.partitions p).count) (sym leaves.same_rules);
+  sectors = kept.sectors ∙ ap (λ (r : Rules). sectors_of r (Some p)) (sym leaves.same_rules);
 }
 
 pub counted : (v : ManagerView) (handle : Handle) (p : ℕ) (sizes : Sizes) → VolumeKept v handle p sizes → sizes.sectors * sizes.sector_size ≡ length (content_of v p).bytes
 counted v handle p sizes kept =
-    ap (λ n. n * sizes.sector_size) kept.sectors ∙ ap (λ n. (extent_at v.rules.partitions p).count * n) kept.sector_size
+    ap (λ n. n * sizes.sector_size) (kept.sectors ∙ sectors_of-extent v.rules p) ∙ ap (λ n. (extent_at v.rules.partitions p).count * n) kept.sector_size
     ∙ sym (bytes_counted v kept.ready p kept.known (record { partition = Some p; kind = Flush; offset = 0; length = 0; through = false; bytes = [] }) refl)
 
 pub usual_sectors : (v : ManagerView) (handle : Handle) (p : ℕ) (sizes : Sizes) → VolumeKept v handle p sizes → (sizes.sector_size ≡ 512) ⊎ (sizes.sector_size ≡ 4096)
@@ -43,7 +44,7 @@ few_sectors v handle p sizes kept =
     let part : IsPartition v.rules.disk_sectors (extent_at v.rules.partitions p) = kept.ready.usable.partitions p (record { first = 0; count = 0 }) kept.known in
     let inside : (extent_at v.rules.partitions p).first + (extent_at v.rules.partitions p).count ≤ v.rules.disk_sectors = part.inside in
     let few : v.rules.disk_sectors ≤ 2 ^ 40 = kept.ready.usable.few in
-    let same : sizes.sectors ≡ (extent_at v.rules.partitions p).count = kept.sectors in
+    let same : sizes.sectors ≡ (extent_at v.rules.partitions p).count = kept.sectors ∙ sectors_of-extent v.rules p in
     omega arith
 
 module _ (v : ManagerView) (handle : Handle) (p : ℕ) (sizes : Sizes) (kept : VolumeKept v handle p sizes) (q : ClientRequest) (on : q.partition ≡ partition_of v.handles handle) where

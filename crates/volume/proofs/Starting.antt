@@ -15,14 +15,14 @@ use Rattle.machine.proofs.Same.{IsSame-refl}
 use Rattle.machine_laws.specs.Reached.{AreWhole, IsReached}
 use Rattle.device.specs.View.{IsRead, piece_on_tag, use_on_tag}
 use Rattle.io_manager.specs.Shown.{ManagerView}
-use Rattle.io_manager.specs.Calls.{are_used_up, handle_limit, number_limit}
+use Rattle.io_manager.specs.Calls.{are_used_up, handle_limit}
 use Rattle.io_manager.specs.declared.OpenHandle.{OpenHandle}
 use Rattle.compose.specs.declared.Settings.{Settings}
 use Rattle.compose.specs.Opening.{IsFirstView, first_rules}
 use Rattle.volume.specs.Shown.{content_of, extent_at, parted_at}
 use Rattle.io_manager.specs.declared.Refusal.{Refusal}
 use Rattle.io_manager.specs.declared.Refusal.TheVariants.{InvalidHandle, InvalidParameter, DeletePending, DeviceBusy, InsufficientResources, InvalidDeviceRequest, NotFound}
-use Rattle.volume.specs.Opening.{IsOpenRefusal, IsRefusedOf, LacksHandle, LacksNumbers, sizing_reads}
+use Rattle.volume.specs.Opening.{IsOpenRefusal, IsRefusedOf, LacksHandle}
 use Rattle.volume.specs.Ready.{AreUsable, IsIdle, IsReady}
 use Rattle.volume.proofs.Disk.{array_is, extent_past, sectors_of-extent}
 
@@ -100,18 +100,13 @@ module _ (disk : AdapterView) (settings : Settings) (order : IsInOrder disk) (fa
   -- a partition that the stack doesn't have is none of the disk's
   pub refused_of : (p : ℕ) (reason : Refusal) → IsOpenRefusal v p reason → IsRefusedOf disk p reason
   refused_of p InvalidParameter h = (first.partitions, first.told, subst (λ (r : Rules). length r.partitions ≤ p) first.rules h)
-  refused_of p DeviceBusy h = absurd (not_busy h)
+  refused_of p DeviceBusy h = absurd (handles_left h)
     where
       handles_left : LacksHandle v → ⊥
       handles_left (inl used) = let none : are_used_up 1 ≡ true = subst (λ next. are_used_up next ≡ true) first.first_handle used in absurd (let k : false ≡ true = none in cc)
       handles_left (inr full) = let many : handle_limit ≤ count_by is_some v.handles = full in
           let none : count_by is_some v.handles ≡ 0 = ap (λ (handles : List (Option OpenHandle)). count_by is_some handles) first.no_handles in omega arith
-
-      not_busy : (LacksHandle v ⊎ LacksNumbers v sizing_reads) → ⊥
-      not_busy (inl handle) = handles_left handle
-      not_busy (inr lacks) = let next : v.state.next_request ≡ 1 = ap (λ (s : State). s.next_request) first.state in
-          let none : number_limit < v.state.next_request + sizing_reads = lacks in omega arith
-  refused_of p InsufficientResources h = tt
+  refused_of p InsufficientResources h = absurd h
   refused_of p InvalidHandle h = absurd h
   refused_of p DeletePending h = absurd h
   refused_of p InvalidDeviceRequest h = absurd h

@@ -2,7 +2,7 @@
 use Rattle.std.specs.Prelude.{◌≡◌, ◌≤◌, ◌<◌, ◌^◌, ◌⊎◌, ℕ, [], Some, All, length, IsTrue, IsFalse, IsNone}
 use Rattle.sector.specs.Extents.{IsSector}
 use Rattle.machine.specs.Map.{IsPartition}
-use Rattle.machine.specs.Rules.{Rules}
+use Rattle.machine.specs.Rules.{Rules, sectors_of}
 use Rattle.machine.specs.State.{State}
 use Rattle.machine.specs.Calling.{is_full}
 use Rattle.machine_laws.specs.Reached.{IsReached}
@@ -11,7 +11,6 @@ use Rattle.io_manager.specs.Shown.{ManagerView}
 use Rattle.io_manager.specs.Calls.{partition_of}
 use Rattle.io_manager.specs.declared.Handle.{Handle}
 use Rattle.volume.specs.declared.Sizes.{Sizes}
-use Rattle.volume.specs.Shown.{extent_at}
 
 -- rules of a stack over whose partitions a volume can be opened: its acts read and write the sectors that it shows, and it takes a request
 pub record AreUsable (rules : Rules) : Type 0 where
@@ -46,4 +45,4 @@ pub record VolumeKept (v : ManagerView) (handle : Handle) (partition : ℕ) (siz
   pub is_open : partition_of v.handles handle ≡ Some partition
   pub known : partition < length v.rules.partitions
   pub sector_size : sizes.sector_size ≡ v.rules.sector_size
-  pub sectors : sizes.sectors ≡ (extent_at v.rules.partitions partition).count
+  pub sectors : sizes.sectors ≡ sectors_of v.rules (Some partition)

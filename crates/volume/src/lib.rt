@@ -50,7 +50,7 @@ pub enum OpenFault {
     /// No stack could be started.
     #[error("{0}")]
     Start(StartFault),
-    /// There is no such partition, or memory was refused.
+    /// There is no such partition.
     #[error("the partition was refused: {0:?}")]
     Refused(Refusal),
 }

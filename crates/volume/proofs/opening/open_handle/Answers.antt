@@ -4,7 +4,7 @@ use Rattle.io_manager.specs.Calls.{partition_of}
 use Rattle.io_manager.specs.Shown.{ManagerView}
 use Rattle.volume.specs.Shown.{content_of}
 use Rattle.volume.specs.Ready.{IsReady}
-use Rattle.volume.proofs.Closing.{IsSilent, given_known, given_on, numbers_open, ready_still, refused_open, same_content, silent_open}
+use Rattle.volume.proofs.Closing.{IsSilent, given_known, given_on, ready_still, refused_open, same_content, silent_open}
 use Rattle.volume.proofs.opening.open_handle.Goals.{in-Handle, in-Refused}
 use Rattle.volume.proofs.opening.open_handle.Goals as goal
 
@@ -13,16 +13,6 @@ returns-clause-ready g c =
     let silent : IsSilent c.args.stack.now c.step-reply.new.self = silent_open _ c.args.partition c.step-reply.result c.step-reply.new.self c.step-reply.ensures.right in
     subst IsReady (sym c.take_labels.ensures.taken)
     (ready_still c.args.stack.now c.requires.ready c.step-reply.new.self silent.told silent.by c.step-reply.ensures.whole silent.own silent.device)
-
-pub returns-clause-rules : goal.returns-clause-rules
-returns-clause-rules g c =
-    let silent : IsSilent c.args.stack.now c.step-reply.new.self = silent_open _ c.args.partition c.step-reply.result c.step-reply.new.self c.step-reply.ensures.right in
-    ap (λ (v : ManagerView). v.rules) c.take_labels.ensures.taken ∙ silent.by.same_rules
-
-pub returns-clause-numbers : goal.returns-clause-numbers
-returns-clause-numbers g c =
-    ap (λ (v : ManagerView). v.state.next_request) c.take_labels.ensures.taken
-    ∙ numbers_open c.args.stack.now c.args.partition c.step-reply.result c.step-reply.new.self c.step-reply.ensures.right
 
 pub returns-clause-content : goal.returns-clause-content
 returns-clause-content g c =
