@@ -1,13 +1,11 @@
 //! The picture as Trace Event JSON: a process for the device, one with a thread a tag, and one with a thread a row of
 //! requests. A label takes one microsecond, and an arrow leads from each request to its pieces.
-//!
-//! The text is written as it stands here: all words and names in it are letters, digits, spaces and brackets, which
-//! JSON writes as they are.
 
 use crate::facts::{Band, Piece, Request, Stray};
 use crate::layout::Scene;
 use crate::names::{Command, Misfit, Name, class_word, phase_word};
-use std::fmt::Display;
+use serde_json::{Value, json};
+use std::alloc::{AllocError, Global};
 use std::io;
 use std::io::Write;
 
@@ -16,14 +14,6 @@ const DEVICE: u64 = 1;
 const TAGS: u64 = 2;
 
 const REQUESTS: u64 = 3;
-
-/// How the text begins: the names of the three processes, and of the device's threads.
-const HEAD: &str = "{\"displayTimeUnit\":\"ns\",\"traceEvents\":[
-{\"args\":{\"name\":\"device\"},\"name\":\"process_name\",\"ph\":\"M\",\"pid\":1},
-{\"args\":{\"name\":\"tags\"},\"name\":\"process_name\",\"ph\":\"M\",\"pid\":2},
-{\"args\":{\"name\":\"requests\"},\"name\":\"process_name\",\"ph\":\"M\",\"pid\":3},
-{\"args\":{\"name\":\"phase\"},\"name\":\"thread_name\",\"ph\":\"M\",\"pid\":1,\"tid\":1},
-{\"args\":{\"name\":\"others\"},\"name\":\"thread_name\",\"ph\":\"M\",\"pid\":1,\"tid\":2}";
 
 /// Where an event stands.
 #[derive(Clone, Copy)]
@@ -44,22 +34,56 @@ const OTHERS: Track = Track {
     thread: 2,
 };
 
+/// From one label to another.
+#[derive(Clone, Copy)]
+struct Span {
+    start: u64,
+    length: u64,
+}
+
 /// Writes all events, one a line.
 pub fn write_events<W: Write>(out: &mut W, scene: Scene<'_>) -> io::Result<()> {
-    out.write_all(HEAD.as_bytes())?;
+    let alloc = scene.facts.alloc;
+    out.write_all(b"{\"displayTimeUnit\":\"ns\",\"traceEvents\":[\n")?;
+    let first =
+        json!(in alloc; {"ph": "M", "pid": DEVICE, "name": "process_name", "args": {"name": "device"}})?;
+    out.write_all(first.to_vec(alloc)?.as_slice())?;
     write_names(out, scene)?;
-    write_bands(out, scene)?;
-    write_requests(out, scene)?;
-    write_pieces(out, scene)?;
-    write_strays(out, scene)?;
+    for band in scene.facts.bands.iter() {
+        write_band(out, scene, band)?;
+    }
+    for (request, place) in scene.facts.requests.iter().zip(scene.layout.places.iter()) {
+        write_request(out, scene, request, place.row)?;
+    }
+    let mut number = 0_u64;
+    for piece in scene.facts.pieces.iter() {
+        write_piece(out, scene, piece)?;
+        number = number.saturating_add(1);
+        write_arrow(out, scene, piece, number)?;
+    }
+    for stray in scene.facts.strays.iter() {
+        write_stray(out, alloc, stray)?;
+    }
     out.write_all(b"\n]}\n")
 }
 
-/// Writes the names of the threads of tags and of rows.
+/// Writes an event behind another.
+fn write_event<W: Write>(out: &mut W, alloc: Global, event: &Value) -> io::Result<()> {
+    out.write_all(b",\n")?;
+    out.write_all(event.to_vec(alloc)?.as_slice())
+}
+
+/// Writes the names of processes and threads.
 fn write_names<W: Write>(out: &mut W, scene: Scene<'_>) -> io::Result<()> {
+    let alloc = scene.facts.alloc;
+    write_process(out, alloc, TAGS, "tags")?;
+    write_process(out, alloc, REQUESTS, "requests")?;
+    write_thread(out, alloc, PHASES, "phase")?;
+    write_thread(out, alloc, OTHERS, "others")?;
     for (tag, row) in scene.layout.tags.iter().enumerate() {
         if row.is_some() {
-            write_thread(out, tag_track(tag as u64), "tag", tag as u64)?;
+            let name = format!(in alloc; "tag {tag}")?;
+            write_thread(out, alloc, tag_track(tag as u64), name.as_str())?;
         }
     }
     if scene.layout.is_shared {
@@ -68,30 +92,40 @@ fn write_names<W: Write>(out: &mut W, scene: Scene<'_>) -> io::Result<()> {
     write_request_names(out, scene)
 }
 
-/// Writes the names of rows that several requests share.
-fn write_row_names<W: Write>(out: &mut W, scene: Scene<'_>) -> io::Result<()> {
-    for row in 0..scene.layout.rows.len() {
-        let track = row_track(row);
-        write_thread(out, track, "row", track.thread)?;
-    }
-    Ok(())
-}
-
 /// Writes the names of rows that have one request each.
 fn write_request_names<W: Write>(out: &mut W, scene: Scene<'_>) -> io::Result<()> {
+    let alloc = scene.facts.alloc;
     for (request, place) in scene.facts.requests.iter().zip(scene.layout.places.iter()) {
-        write_thread(out, row_track(place.row), "request", request.number)?;
+        let number = request.number;
+        let name = format!(in alloc; "request {number}")?;
+        write_thread(out, alloc, row_track(place.row), name.as_str())?;
     }
     Ok(())
 }
 
-fn write_thread<W: Write>(out: &mut W, track: Track, word: &str, number: u64) -> io::Result<()> {
+/// Writes the names of rows that several requests share.
+fn write_row_names<W: Write>(out: &mut W, scene: Scene<'_>) -> io::Result<()> {
+    let alloc = scene.facts.alloc;
+    for row in 0..scene.layout.rows.len() {
+        let track = row_track(row);
+        let name = format!(in alloc; "row {}", track.thread)?;
+        write_thread(out, alloc, track, name.as_str())?;
+    }
+    Ok(())
+}
+
+fn write_process<W: Write>(out: &mut W, alloc: Global, process: u64, name: &str) -> io::Result<()> {
+    let event =
+        json!(in alloc; {"ph": "M", "pid": process, "name": "process_name", "args": {"name": name}})?;
+    write_event(out, alloc, &event)
+}
+
+fn write_thread<W: Write>(out: &mut W, alloc: Global, track: Track, name: &str) -> io::Result<()> {
     let Track { process, thread } = track;
-    write!(
-        out,
-        ",\n{{\"args\":{{\"name\":\"{word} {number}\"}},\"name\":\"thread_name\",\"ph\":\"M\""
-    )?;
-    write!(out, ",\"pid\":{process},\"tid\":{thread}}}")
+    let event = json!(in alloc; {
+        "ph": "M", "pid": process, "tid": thread, "name": "thread_name", "args": {"name": name}
+    })?;
+    write_event(out, alloc, &event)
 }
 
 fn tag_track(tag: u64) -> Track {
@@ -109,59 +143,46 @@ fn row_track(row: usize) -> Track {
 }
 
 /// The labels from one to another, or to the end of the trace.
-fn labels_from(scene: Scene<'_>, start: u64, end: Option<u64>) -> u64 {
-    let end = match end {
-        Some(label) => label,
-        None => scene.facts.labels.saturating_add(1),
-    };
-    end.saturating_sub(start)
+fn span_of(scene: Scene<'_>, start: u64, end: Option<u64>) -> Span {
+    let end = end.unwrap_or(scene.facts.labels.saturating_add(1));
+    Span {
+        start,
+        length: end.saturating_sub(start),
+    }
 }
 
-/// Ends an event: where it stands, and its label.
-fn write_place<W: Write>(out: &mut W, track: Track, label: u64) -> io::Result<()> {
-    let Track { process, thread } = track;
-    write!(out, ",\"pid\":{process},\"tid\":{thread},\"ts\":{label}}}")
+/// Something that takes a while.
+fn slice_event(
+    alloc: Global,
+    track: Track,
+    span: Span,
+    parts: (String, Value),
+) -> Result<Value, AllocError> {
+    let (name, args) = parts;
+    let (process, thread) = (track.process, track.thread);
+    let (start, length) = (span.start, span.length);
+    json!(in alloc; {
+        "ph": "X", "pid": process, "tid": thread, "ts": start, "dur": length, "name": name, "args": args
+    })
 }
 
-/// Writes something that happens at one label.
-fn write_instant<W: Write>(
-    out: &mut W,
+/// Something that happens at one label.
+fn instant_event(
+    alloc: Global,
     track: Track,
     label: u64,
-    name: &impl Display,
-) -> io::Result<()> {
-    let Track { process, thread } = track;
-    write!(out, ",\n{{\"name\":\"{name}\",\"ph\":\"i\"")?;
-    write!(
-        out,
-        ",\"pid\":{process},\"s\":\"t\",\"tid\":{thread},\"ts\":{label}}}"
-    )
-}
-
-/// Writes pauses and removals.
-fn write_bands<W: Write>(out: &mut W, scene: Scene<'_>) -> io::Result<()> {
-    for band in scene.facts.bands.iter() {
-        write_band(out, scene, band)?;
-    }
-    Ok(())
+    name: String,
+) -> Result<Value, AllocError> {
+    let (process, thread) = (track.process, track.thread);
+    json!(in alloc; {"ph": "i", "s": "t", "pid": process, "tid": thread, "ts": label, "name": name})
 }
 
 fn write_band<W: Write>(out: &mut W, scene: Scene<'_>, band: &Band) -> io::Result<()> {
-    let length = labels_from(scene, band.start, band.end);
-    let name = phase_word(band.phase);
-    write!(
-        out,
-        ",\n{{\"args\":{{}},\"dur\":{length},\"name\":\"{name}\",\"ph\":\"X\""
-    )?;
-    write_place(out, PHASES, band.start)
-}
-
-/// Writes all requests.
-fn write_requests<W: Write>(out: &mut W, scene: Scene<'_>) -> io::Result<()> {
-    for (request, place) in scene.facts.requests.iter().zip(scene.layout.places.iter()) {
-        write_request(out, scene, request, row_track(place.row))?;
-    }
-    Ok(())
+    let alloc = scene.facts.alloc;
+    let span = span_of(scene, band.start, band.end);
+    let name = String::from_str(alloc, phase_word(band.phase))?;
+    let event = slice_event(alloc, PHASES, span, (name, json!(in alloc; {})?))?;
+    write_event(out, alloc, &event)
 }
 
 /// Writes a request, and its cancel.
@@ -169,79 +190,73 @@ fn write_request<W: Write>(
     out: &mut W,
     scene: Scene<'_>,
     request: &Request,
-    track: Track,
+    row: usize,
 ) -> io::Result<()> {
-    write_request_args(out, request)?;
-    let length = labels_from(scene, request.call, request.end());
-    let name = Name(request);
-    write!(out, ",\"dur\":{length},\"name\":\"{name}\",\"ph\":\"X\"")?;
-    write_place(out, track, request.call)?;
-    match request.cancel {
-        Some(label) => write_instant(out, track, label, &"cancel"),
-        None => Ok(()),
-    }
-}
-
-/// Begins the event of a request with what is told of it.
-fn write_request_args<W: Write>(out: &mut W, request: &Request) -> io::Result<()> {
-    let (status, moved) = match request.answer {
-        Some(answer) => (answer.status.name(), answer.information),
-        None => ("none", 0),
-    };
-    write!(
-        out,
-        ",\n{{\"args\":{{\"answer\":\"{status}\",\"bytes moved\":{moved},\"partition\":"
-    )?;
-    match request.partition {
-        Some(partition) => write!(out, "{partition}")?,
-        None => out.write_all(b"null")?,
-    }
-    write!(out, ",\"request\":{}}}", request.number)
-}
-
-/// Writes all pieces, each with its arrow.
-fn write_pieces<W: Write>(out: &mut W, scene: Scene<'_>) -> io::Result<()> {
-    let mut number = 0_u64;
-    for piece in scene.facts.pieces.iter() {
-        number = number.saturating_add(1);
-        write_piece(out, scene, piece)?;
-        write_arrow(out, scene, piece, number)?;
+    let alloc = scene.facts.alloc;
+    let track = row_track(row);
+    let span = span_of(scene, request.call, request.end());
+    let name = Name(request).to_string(alloc)?;
+    let event = slice_event(alloc, track, span, (name, request_args(alloc, request)?))?;
+    write_event(out, alloc, &event)?;
+    if let Some(label) = request.cancel {
+        write_instant(out, alloc, (track, label), "cancel")?;
     }
     Ok(())
 }
 
-/// Writes a piece, and its act or fault.
-fn write_piece<W: Write>(out: &mut W, scene: Scene<'_>, piece: &Piece) -> io::Result<()> {
-    write_piece_args(out, scene, piece)?;
-    let length = labels_from(scene, piece.start, piece.end());
-    let (number, word) = (piece.number, class_word(piece.back));
-    write!(
-        out,
-        ",\"dur\":{length},\"name\":\"piece {number} {word}\",\"ph\":\"X\""
-    )?;
-    let track = tag_track(u64::from(piece.tag));
-    write_place(out, track, piece.start)?;
-    if let Some(label) = piece.act {
-        write_instant(out, track, label, &"act")?;
-    }
-    match piece.fault {
-        Some(label) => write_instant(out, track, label, &"fault"),
-        None => Ok(()),
-    }
+fn write_instant<W: Write>(
+    out: &mut W,
+    alloc: Global,
+    place: (Track, u64),
+    word: &str,
+) -> io::Result<()> {
+    let (track, label) = place;
+    let event = instant_event(alloc, track, label, String::from_str(alloc, word)?)?;
+    write_event(out, alloc, &event)
 }
 
-/// Begins the event of a piece with what is told of it.
-fn write_piece_args<W: Write>(out: &mut W, scene: Scene<'_>, piece: &Piece) -> io::Result<()> {
-    let (command, word) = (Command(piece.command), class_word(piece.back));
-    write!(
-        out,
-        ",\n{{\"args\":{{\"command\":\"{command}\",\"request\":"
-    )?;
-    match scene.facts.owner_of(piece) {
-        Some(request) => write!(out, "{}", request.number)?,
-        None => out.write_all(b"null")?,
+/// Returns what is told of a request.
+fn request_args(alloc: Global, request: &Request) -> Result<Value, AllocError> {
+    let number = request.number;
+    let partition = match request.partition {
+        Some(partition) => Value::from(u64::from(partition)),
+        None => Value::Null,
+    };
+    let (status, moved) = match request.answer {
+        Some(answer) => (answer.status.name(), answer.information),
+        None => ("none", 0),
+    };
+    json!(in alloc; {"request": number, "partition": partition, "answer": status, "bytes moved": moved})
+}
+
+/// Writes a piece, and its act or fault.
+fn write_piece<W: Write>(out: &mut W, scene: Scene<'_>, piece: &Piece) -> io::Result<()> {
+    let alloc = scene.facts.alloc;
+    let track = tag_track(u64::from(piece.tag));
+    let span = span_of(scene, piece.start, piece.end());
+    let (number, word) = (piece.number, class_word(piece.back));
+    let name = format!(in alloc; "piece {number} {word}")?;
+    let event = slice_event(alloc, track, span, (name, piece_args(scene, piece)?))?;
+    write_event(out, alloc, &event)?;
+    if let Some(label) = piece.act {
+        write_instant(out, alloc, (track, label), "act")?;
     }
-    write!(out, ",\"return\":\"{word}\"}}")
+    if let Some(label) = piece.fault {
+        write_instant(out, alloc, (track, label), "fault")?;
+    }
+    Ok(())
+}
+
+/// Returns what is told of a piece.
+fn piece_args(scene: Scene<'_>, piece: &Piece) -> Result<Value, AllocError> {
+    let alloc = scene.facts.alloc;
+    let request = match scene.facts.owner_of(piece) {
+        Some(request) => Value::from(request.number),
+        None => Value::Null,
+    };
+    let command = Command(piece.command).to_string(alloc)?;
+    let word = class_word(piece.back);
+    json!(in alloc; {"request": request, "command": command, "return": word})
 }
 
 /// Writes an arrow from the request of a piece to the piece.
@@ -251,39 +266,26 @@ fn write_arrow<W: Write>(
     piece: &Piece,
     number: u64,
 ) -> io::Result<()> {
+    let alloc = scene.facts.alloc;
     let Some(row) = scene.layout.row_of(piece) else {
         return Ok(());
     };
-    write!(
-        out,
-        ",\n{{\"cat\":\"piece\",\"id\":{number},\"name\":\"piece\",\"ph\":\"s\""
-    )?;
-    write_place(out, row_track(row), piece.start)?;
-    write!(
-        out,
-        ",\n{{\"bp\":\"e\",\"cat\":\"piece\",\"id\":{number},\"name\":\"piece\",\"ph\":\"f\""
-    )?;
-    write_place(out, tag_track(u64::from(piece.tag)), piece.start)
+    let Track { process, thread } = row_track(row);
+    let start = piece.start;
+    let tail = json!(in alloc; {
+        "ph": "s", "pid": process, "tid": thread, "ts": start, "id": number, "cat": "piece", "name": "piece"
+    })?;
+    write_event(out, alloc, &tail)?;
+    let Track { process, thread } = tag_track(u64::from(piece.tag));
+    let head = json!(in alloc; {
+        "ph": "f", "bp": "e", "pid": process, "tid": thread, "ts": start, "id": number, "cat": "piece", "name": "piece"
+    })?;
+    write_event(out, alloc, &head)
 }
 
-/// Writes the labels that fit nothing.
-fn write_strays<W: Write>(out: &mut W, scene: Scene<'_>) -> io::Result<()> {
-    for stray in scene.facts.strays.iter() {
-        write_stray(out, stray)?;
-    }
-    Ok(())
-}
-
-fn write_stray<W: Write>(out: &mut W, stray: &Stray) -> io::Result<()> {
-    let label = stray.label;
-    let Track { process, thread } = OTHERS;
-    write!(
-        out,
-        ",\n{{\"name\":\"{} fits nothing before it\",\"ph\":\"i\"",
-        Misfit(stray)
-    )?;
-    write!(
-        out,
-        ",\"pid\":{process},\"s\":\"t\",\"tid\":{thread},\"ts\":{label}}}"
-    )
+/// Writes a label that fits nothing.
+fn write_stray<W: Write>(out: &mut W, alloc: Global, stray: &Stray) -> io::Result<()> {
+    let name = format!(in alloc; "{} fits nothing before it", Misfit(stray))?;
+    let event = instant_event(alloc, OTHERS, stray.label, name)?;
+    write_event(out, alloc, &event)
 }
