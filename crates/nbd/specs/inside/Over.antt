@@ -16,19 +16,19 @@ module _ {S : Type 0} (Carries : Command → List ℕ → S → Outcome → S �
     pub payload : List ℕ
     pub long : length payload ≡ payload_count r
     pub taken : Consumes input rest payload
-    pub serves : ServesOver r payload old o new
+    pub serves : ServesOver Carries sizes r payload old o new
 
   -- these requests were taken, served and answered, in order
   pub record ServedOver (old : S) (input out : Option (List ℕ)) (new : S) (rest after : Option (List ℕ)) : Type 0 where
     pub exchanges : List Exchange
-    pub run : RunOver old exchanges new
+    pub run : RunOver Carries sizes old exchanges new
     pub taken : Consumes input rest (said asked_by exchanges)
     pub told : Appends out after (said told_by exchanges)
 
   -- one exchange
   pub record IsExchangedOver (old : S) (input out : Option (List ℕ)) (new : S) (rest after : Option (List ℕ)) : Type 0 where
     pub exchange : Exchange
-    pub is : IsExchangeOver old exchange new
+    pub is : IsExchangeOver Carries sizes old exchange new
     pub taken : Consumes input rest (asked_by exchange)
     pub told : Appends out after (told_by exchange)
 
@@ -36,7 +36,7 @@ module _ {S : Type 0} (Carries : Command → List ℕ → S → Outcome → S �
   pub record EndsOver (old : S) (input out : Option (List ℕ)) (end : End) (new : S) (after : Option (List ℕ)) : Type 0 where
     pub exchanges : List Exchange
     pub last : List ℕ
-    pub run : RunOver old exchanges new
+    pub run : RunOver Carries sizes old exchanges new
     pub asked : Begins input (said asked_by exchanges ++ last)
     pub told : IsTold end out after (said told_by exchanges)
     pub is_last : IsLast end last
