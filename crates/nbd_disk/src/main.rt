@@ -1,20 +1,29 @@
-//! The program: serves a partition of a disk in memory to one NBD client, on standard input and output.
+//! The program: serves a partition of a disk to one NBD client, on standard input and output. The disk is in memory, or in a
+//! file.
 //!
 //! A relay that starts a program for each connection makes it a server (`socat UNIX-LISTEN:disk.sock EXEC:"nbd_disk CONFIG"`).
 //!
-//! It promises, by the contract of [`serving::serve_disk`] (`served`), that what a session has read and written is a session
-//! of the NBD protocol, over the bytes of the partition of the settings' disk, which are zeros at its start; by
-//! [`serving::command`], that path and partition are those that the parser of the command line found under their names, and
-//! that only words which ask for nothing are refused; by [`Fault`]'s text and
-//! [`Ending`](startup::Ending), the line and the exit status of each fault, as [`startup::say`] and [`startup::ended`] give
-//! them. The bytes of standard input and output themselves are told by no contract: what is promised is promised of readers
-//! and writers that tell theirs. Each client has a disk of its own.
+//! It promises, by the contract of [`serving::serve_disk`] (`served`), that what a session over a disk in memory has read and
+//! written is a session of the NBD protocol, over the bytes of the partition of the settings' disk, which are zeros at its
+//! start; by [`serving::serve_file`], the same over a file, with just the calls to the file that the pieces of the requests
+//! made; by [`serving::command`], that paths and partition are those that the parser of the command line found under their
+//! names, and that only words which ask for nothing are refused; by [`Fault`]'s text and [`Ending`](startup::Ending), the line
+//! and the exit status of each fault, as [`startup::say`] and [`startup::ended`] give them. The bytes of standard input and
+//! output themselves, and what a file does, are told by no contract: what is promised is promised of readers and writers that
+//! tell theirs. Each client has a disk in memory of its own; a file is locked for one.
 #![tactic(auto)]
 
-use serving::{Asked, Fault, command, serve_disk};
-use startup::{Verdict, ended, fault_of};
-use std::fs::File;
-use std::io::{BufReader, BufWriter};
+ghost use Rattle.settings.specs.InRange.{AreInRange};
+
+use file_disk::{DiskFile, Storage};
+use serving::{
+    Asked, DiskFault, Fault, command, disk_bytes, open_file, put_table, serve_disk, serve_file,
+};
+use settings::Config;
+use startup::{Verdict, ended, fault_of, read_settings};
+use std::alloc::{AllocError, Global};
+use std::fs::{File, OpenOptions, TryLockError};
+use std::io::{BufReader, BufWriter, ErrorKind, Read, Write};
 use std::process::ExitCode;
 use std::{env, io};
 
@@ -22,31 +31,133 @@ use std::{env, io};
 /// the reader's.
 const BUFFER: usize = 65_536;
 
+/// Bytes of input that are read at once, of several short writes.
+const INPUT_BUFFER: usize = 32_768;
+
+/// Bytes of a block that is taken at the start and given back at once, nearly the most that counts there: the C library keeps
+/// freed memory of twice as many bytes from then on, so that the buffers of a long request are not taken from the system anew
+/// each time (mallopt(3), `M_MMAP_THRESHOLD`).
+const KEPT: usize = 33_538_048;
+
+/// A disk that is in a file.
+#[derive(Clone, Copy)]
+struct Place<'a> {
+    path: &'a str,
+    /// Whether the file is to be made.
+    create: bool,
+}
+
 /// Serves as the command line asks for.
 fn run(rt: &HostRuntime) -> Result<Verdict, Fault> {
     let alloc = rt.alloc();
+    keep_freed(alloc);
     let words = match env::args(rt) {
         Ok(words) => words.collect::<Vec<String>>(alloc)?,
         Err(error) => return Err(fault_of(&error, Fault::Usage)),
     };
-    let Asked { config, partition } = command(alloc, words.as_slice())?;
+    let Asked {
+        config,
+        partition,
+        disk,
+        create,
+    } = command(alloc, words.as_slice())?;
     let config = match File::open(rt, config) {
         Ok(config) => config,
         Err(error) => return Err(unopened(&error)),
     };
-    let Ok(mut input) = BufReader::new(alloc, rt.stdin()) else {
+    let Ok(mut input) = BufReader::with_capacity(alloc, INPUT_BUFFER, rt.stdin()) else {
         return Err(Fault::NoMemory);
     };
     let Ok(mut out) = BufWriter::with_capacity(alloc, BUFFER, rt.stdout()) else {
         return Err(Fault::NoMemory);
     };
-    serve_disk(alloc, config, partition, &mut input, &mut out)?;
+    match disk {
+        Some(path) => {
+            let settings = read_settings(alloc, config)?;
+            let place = Place { path, create };
+            let storage = storage_of(rt, place, &settings)?;
+            let mut filed = open_file(alloc, settings, partition, storage)?;
+            serve_file(alloc, &mut filed, &mut input, &mut out)?;
+        }
+        None if create => return Err(Fault::Usage),
+        None => serve_disk(alloc, config, partition, &mut input, &mut out)?,
+    }
     Ok(Verdict::Passed)
+}
+
+/// Has freed memory kept from here on.
+fn keep_freed(alloc: Global) {
+    let block: Result<Vec<u8>, AllocError> = Vec::with_capacity(alloc, KEPT);
+    drop(block);
 }
 
 /// The fault of settings that can't be opened.
 fn unopened(error: &io::Error) -> Fault {
     Fault::Startup(fault_of(error, startup::Fault::ConfigUnreadable))
+}
+
+/// Opens and locks the file of a disk of these settings, which has as many bytes as the disk.
+fn storage_of(rt: &HostRuntime, place: Place<'_>, config: &Config) -> Result<DiskFile, Fault>
+    requires { AreInRange config.now }
+{
+    if place.create {
+        return created(rt, place.path, config);
+    }
+    let file = locked(opened(rt, place.path, config.write_protected)?)?;
+    match file.metadata() {
+        Ok(found) if found.len() == disk_bytes(config) => Ok(DiskFile::new(file)),
+        Ok(_) => Err(Fault::Disk(DiskFault::OtherSize)),
+        Err(_) => Err(Fault::Disk(DiskFault::NotOpened)),
+    }
+}
+
+/// Makes a file with as many bytes as the disk, and the partition table of the settings.
+fn created(rt: &HostRuntime, path: &str, config: &Config) -> Result<DiskFile, Fault>
+    requires { AreInRange config.now }
+{
+    let file = match File::create_new(rt, path) {
+        Ok(file) => locked(file)?,
+        Err(_) => return Err(Fault::Disk(DiskFault::NotCreated)),
+    };
+    if file.set_len(disk_bytes(config)).is_err() {
+        return Err(Fault::Disk(DiskFault::NotCreated));
+    }
+    let mut storage = DiskFile::new(file);
+    put_table(rt.alloc(), &mut storage, config)?;
+    Ok(storage)
+}
+
+/// The open file: for reading alone where it can't be written, or isn't to be.
+fn opened(rt: &HostRuntime, path: &str, protected: bool) -> Result<File, Fault> {
+    let both = OpenOptions::new()
+        .read(true)
+        .write(!protected)
+        .open(rt, path);
+    match both {
+        Ok(file) => Ok(file),
+        Err(error) if is_refused(&error) => match File::open(rt, path) {
+            Ok(file) => Ok(file),
+            Err(_) => Err(Fault::Disk(DiskFault::NotOpened)),
+        },
+        Err(_) => Err(Fault::Disk(DiskFault::NotOpened)),
+    }
+}
+
+/// Whether it may be that only writing was refused.
+fn is_refused(error: &io::Error) -> bool {
+    matches!(
+        error.kind(),
+        ErrorKind::PermissionDenied | ErrorKind::ReadOnlyFilesystem
+    )
+}
+
+/// The file, for this process alone.
+fn locked(file: File) -> Result<File, Fault> {
+    match file.try_lock() {
+        Ok(()) => Ok(file),
+        Err(TryLockError::WouldBlock) => Err(Fault::Disk(DiskFault::InUse)),
+        Err(TryLockError::Error(_)) => Err(Fault::Disk(DiskFault::NotOpened)),
+    }
 }
 
 fn main(rt: HostRuntime) -> ExitCode {

@@ -1,3 +1,7 @@
 mod Opening
 mod Spelled
 mod Sessions
+pub mod Carrying
+pub mod Putting
+pub mod Beginning
+pub mod Filing

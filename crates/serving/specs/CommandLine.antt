@@ -1,18 +1,30 @@
 -- The command line that the program takes, in the words of its parser.
-use Rattle.std.specs.Prelude.{◌≡◌, ◌<◌, ℕ, Bool, true, false, List, MatchOption, Some, codes}
+use Rattle.std.specs.Prelude.{◌≡◌, ◌<◌, ℕ, Bool, true, false, List, MatchOption, Some, codes, option_map}
 use Rattle.std.specs.Str.Parse.{IsNumeral, digits_value}
 use Rattle.clap.specs.Words.{App, Row, Rule, Text, first_of, matches_of, new_app, new_rule, with_rule}
 use Rattle.clap.specs.Takes.{takes}
-use Rattle.clap.specs.declared.builder.ArgAction.TheVariants.{Set}
+use Rattle.clap.specs.declared.builder.ArgAction.TheVariants.{Set, SetTrue}
 use Rattle.serving.specs.declared.words.asked.Asked.{Asked}
 
 -- an argument of one word
 abbrev pub argument_rule : Text → Bool → Rule
 argument_rule name required = record (new_rule name) { required = required; action = Some Set }
 
--- nbd_disk CONFIG [PARTITION]
+-- --disk FILE, which may be there
+abbrev pub disk_rule : Rule
+disk_rule = record (new_rule (codes "disk")) { long = Some (codes "disk"); action = Some Set }
+
+-- --create, which may be there
+abbrev pub create_rule : Rule
+create_rule = record (new_rule (codes "create")) { long = Some (codes "create"); action = Some SetTrue }
+
+-- CONFIG [PARTITION]
+abbrev pub words : App
+words = with_rule (with_rule (new_app (codes "nbd_disk")) (argument_rule (codes "CONFIG") true)) (argument_rule (codes "PARTITION") false)
+
+-- nbd_disk CONFIG [PARTITION] [--disk FILE] [--create]
 abbrev pub program : App
-program = with_rule (with_rule (new_app (codes "nbd_disk")) (argument_rule (codes "CONFIG") true)) (argument_rule (codes "PARTITION") false)
+program = with_rule (with_rule words disk_rule) create_rule
 
 -- the word is decimal digits, which spell a number below 256
 pub record SpellsPartition (word : List ℕ) (n : ℕ) : Type 0 where
@@ -20,10 +32,11 @@ pub record SpellsPartition (word : List ℕ) (n : ℕ) : Type 0 where
   pub value : n ≡ digits_value 10 word
   pub range : n < 256
 
--- path and partition are what the parser found under their names; the partition is 0 where none is named
+-- paths and partition are what the parser found under their names; the partition is 0 where none is named, and of --create nothing is said
 pub record IsFoundIn (rows : List Row) (asked : Asked) : Type 0 where
   pub config : first_of (codes "CONFIG") rows ≡ Some asked.config.now
   pub partition : MatchOption (first_of (codes "PARTITION") rows) (asked.partition ≡ 0) (λ word. SpellsPartition word asked.partition)
+  pub disk : first_of (codes "disk") rows ≡ option_map (λ word. word.now) asked.disk
 
 -- what these words ask for
 abbrev pub IsAsked : List Text → Asked → Type 0

@@ -1,3 +1,6 @@
 pub mod CommandLine
 pub mod Faults
 pub mod Serving
+pub mod Carried
+pub mod Filed
+pub mod OnDisk

@@ -1,7 +1,7 @@
 //! Why the program `nbd_disk` ends early.
 
 ghost use Rattle.std.specs.Prelude.{◌≡◌};
-ghost use Rattle.serving.specs.Faults.{is_usage};
+ghost use Rattle.serving.specs.Faults.{disk_text, is_usage};
 ghost use Rattle.serving.specs.declared.faults.Fault.TheVariants.{NoMemory, Startup};
 
 use startup::Ending;
@@ -18,6 +18,8 @@ pub enum Fault {
     Startup(startup::Fault),
     /// The settings have no such partition.
     NoPartition,
+    /// The disk in a file is none that can be served.
+    Disk(DiskFault),
     /// What came is not the protocol, or asks for an export that isn't there.
     Malformed,
     /// Input ended, or failed, and the client had not left by the protocol.
@@ -26,6 +28,25 @@ pub enum Fault {
     OutputFailed,
     /// Memory was refused.
     NoMemory,
+}
+
+/// Why a disk in a file is none that can be served. Its text is that of the line.
+#[derive(Debug, Clone, Copy, PartialEq, Eq)]
+pub enum DiskFault {
+    /// The file can't be opened.
+    NotOpened,
+    /// The file can't be made, or the table can't be written there; also where there is a file already.
+    NotCreated,
+    /// Another process has it.
+    InUse,
+    /// It has not as many bytes as the disk of the settings.
+    OtherSize,
+    /// Sector 0 can't be read.
+    Unreadable,
+    /// Sector 0 gives other partitions than the settings, or none.
+    OtherTable,
+    /// The settings have bad sectors.
+    BadSectors,
 }
 
 impl Ending for Fault {
@@ -45,14 +66,32 @@ impl fmt::Display for Fault {
 
     fn fmt<W: fmt::Write>(&self, f: &mut fmt::Formatter<W>) -> fmt::Result {
         match self {
-            Fault::Usage => f.write_str("usage: nbd_disk CONFIG [PARTITION]"),
+            Fault::Usage => f.write_str(
+                "usage: nbd_disk CONFIG [PARTITION] [--disk FILE [--create]]",
+            ),
             Fault::Startup(fault) => write!(f, "nbd_disk: {fault}"),
             Fault::NoPartition => f.write_str("nbd_disk: no such partition"),
+            Fault::Disk(fault) => write!(f, "nbd_disk: {}", words_for(*fault)),
             Fault::Malformed => f.write_str("nbd_disk: malformed input"),
             Fault::InputEnded => f.write_str("nbd_disk: input ended"),
             Fault::OutputFailed => f.write_str("nbd_disk: output failed"),
             Fault::NoMemory => f.write_str("nbd_disk: no memory"),
         }
+    }
+}
+
+/// What is wrong with a disk in a file, in print.
+fn words_for(fault: DiskFault) -> &'static str
+    ensures { result.now ≡ disk_text fault }
+{
+    match fault {
+        DiskFault::NotOpened => "cannot open FILE",
+        DiskFault::NotCreated => "cannot create FILE",
+        DiskFault::InUse => "FILE is in use",
+        DiskFault::OtherSize => "FILE has another size than the settings",
+        DiskFault::Unreadable => "cannot read FILE",
+        DiskFault::OtherTable => "FILE has other partitions than the settings",
+        DiskFault::BadSectors => "bad_sectors are not for a disk in FILE",
     }
 }
 

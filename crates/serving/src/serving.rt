@@ -39,7 +39,7 @@ pub fn serve_disk<C: Read + Drop, R: Read, W: Write>(
 }
 
 /// Returns how the program ends for a session that ended so.
-fn outcome(end: End) -> Result<(), Fault>
+pub(crate) fn outcome(end: End) -> Result<(), Fault>
     ensures { result_err result ≡ fault_of_end end }
 {
     match end {

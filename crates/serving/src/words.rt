@@ -8,7 +8,7 @@ ghost use Rattle.clap.specs.Walk.{rows_of};
 ghost use Rattle.clap.specs.declared.error.ErrorKind.TheVariants.{OutOfMemory};
 ghost use Rattle.serving.specs.declared.words.asked.Asked.{Asked};
 ghost use Rattle.serving.specs.declared.faults.Fault.TheVariants.{NoMemory, Usage};
-ghost use Rattle.serving.specs.CommandLine.{AsksForNothing, IsAsked, IsFoundIn, SpellsPartition, argument_rule, program};
+ghost use Rattle.serving.specs.CommandLine.{AsksForNothing, IsAsked, IsFoundIn, SpellsPartition, argument_rule, create_rule, disk_rule, program};
 
 use crate::faults::Fault;
 use crate::words::asked::Asked;
@@ -41,7 +41,25 @@ fn grammar<'a>(alloc: Global) -> Result<Command<'a>, AllocError>
 {
     Command::new(alloc, "nbd_disk")
         .arg(argument(alloc, "CONFIG", true))?
-        .arg(argument(alloc, "PARTITION", false))
+        .arg(argument(alloc, "PARTITION", false))?
+        .arg(disk_option(alloc))?
+        .arg(create_flag(alloc))
+}
+
+fn disk_option<'a>(alloc: Global) -> Arg<'a>
+    ensures rule { rule_of result ≡ disk_rule }
+    ensures local { result.global ≡ false }
+{
+    Arg::new(alloc, "disk").long("disk").action(ArgAction::Set)
+}
+
+fn create_flag<'a>(alloc: Global) -> Arg<'a>
+    ensures rule { rule_of result ≡ create_rule }
+    ensures local { result.global ≡ false }
+{
+    Arg::new(alloc, "create")
+        .long("create")
+        .action(ArgAction::SetTrue)
 }
 
 fn argument<'a>(alloc: Global, name: &'a str, required: bool) -> Arg<'a>
@@ -61,14 +79,23 @@ fn asked_by<'a>(matches: &ArgMatches<'a>) -> Result<Asked<'a>, Fault>
     let Some(config) = matches.get_str("CONFIG") else {
         return Err(Fault::Usage);
     };
+    let disk = matches.get_str("disk");
+    let create = matches.get_flag("create");
     match matches.get_str("PARTITION") {
         None => Ok(Asked {
             config,
             partition: 0,
+            disk,
+            create,
         }),
         Some(word) => {
             let partition = number(word)?;
-            Ok(Asked { config, partition })
+            Ok(Asked {
+                config,
+                partition,
+                disk,
+                create,
+            })
         }
     }
 }

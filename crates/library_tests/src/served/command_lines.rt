@@ -28,7 +28,12 @@ fn is_answered(alloc: Global, words: &[&str], wanted: Result<Asked<'_>, Fault>) 
 #[test]
 fn reads_a_command_line(rt: HostRuntime) {
     for (words, config, partition) in ASKING {
-        let wanted = Asked { config, partition };
+        let wanted = Asked {
+            config,
+            partition,
+            disk: None,
+            create: false,
+        };
         let is_read = is_answered(rt.alloc(), words, Ok(wanted));
         same_at(&rt, &is_read, &true, &words);
     }

@@ -13,7 +13,11 @@ use std::test::Fail;
 
 /// Faults, their lines, and the exit status.
 static FAULTS: [(Fault, &str, u8); 10] = [
-    (Fault::Usage, "usage: nbd_disk CONFIG [PARTITION]\n", 2),
+    (
+        Fault::Usage,
+        "usage: nbd_disk CONFIG [PARTITION] [--disk FILE [--create]]\n",
+        2,
+    ),
     (
         Fault::Startup(ConfigUnreadable),
         "nbd_disk: cannot read CONFIG\n",

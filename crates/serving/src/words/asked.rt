@@ -7,4 +7,8 @@ pub struct Asked<'a> {
     pub config: &'a str,
     /// Counted from 0.
     pub partition: u8,
+    /// The path of the file that has the disk; without one it is in memory.
+    pub disk: Option<&'a str>,
+    /// Whether the file is to be made.
+    pub create: bool,
 }

@@ -14,6 +14,7 @@ returns-in-None-clause-found c =
     record {
       config = sym (c.in-Some.ensures ∙ first_value-rows found (codes "CONFIG"));
       partition = subst (λ (o : Option Text). MatchOption o (◌≡◌ {A = ℕ} 0 0) (λ word. SpellsPartition word 0)) none refl;
+      disk = sym (c.get_str-disk.ensures ∙ first_value-rows found (codes "disk"));
     }
 
 pub returns-in_ok-partition-in-Some-get_str-clause-found : goal.returns-in_ok-partition-in-Some-get_str-clause-found
@@ -24,6 +25,7 @@ returns-in_ok-partition-in-Some-get_str-clause-found c =
     record {
       config = sym (c.in-Some.ensures ∙ first_value-rows found (codes "CONFIG"));
       partition = subst (λ (o : Option Text). MatchOption o (n ≡ 0) (λ word. SpellsPartition word n)) some c.in_ok-partition-in-Some-get_str.ensures.spelled;
+      disk = sym (c.get_str-disk.ensures ∙ first_value-rows found (codes "disk"));
     }
 
 pub returns-in_default-clause-none : goal.returns-in_default-clause-none

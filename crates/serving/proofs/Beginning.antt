@@ -1,0 +1,51 @@
+-- A stack over a storage before its first event.
+use Rattle.std.proofs.Common.{◌≡◌, ℕ, List, [], Result, Ok, length, map, IsFalse, refl, sym, ap, subst, ◌∙◌}
+use Rattle.std.specs.Prelude.{All}
+use Rattle.std.proofs.lemmas.List.Elements.{All-nil}
+use Rattle.sector.specs.Extents.{sectors_in}
+use Rattle.adapter.specs.View.{TagInUse}
+use Rattle.sector.specs.declared.Extent.{Extent}
+use Rattle.machine.specs.Rules.{Rules}
+use Rattle.machine.specs.State.{State, IsSame, opening}
+use Rattle.machine.proofs.Same.{IsSame-refl}
+use Rattle.mbr.specs.declared.MbrFault.{MbrFault}
+use Rattle.mbr.specs.Faults.{told_by}
+use Rattle.settings.specs.declared.Config.{Config}
+use Rattle.settings.specs.Medium.{extents_of}
+use Rattle.io_manager.specs.Shown.{ManagerView}
+use Rattle.compose.specs.Journaled.{IsStartedUse}
+use Rattle.file_disk.specs.Transfers.{DiskView}
+use Rattle.serving.specs.Carried.{IsTold, StandsIn}
+use Rattle.serving.specs.OnDisk.{IsStartedOver}
+
+module _ (c : Config) (table : List ℕ) (stack : ManagerView) (started : IsStartedOver c table stack) where
+  -- the arrays that its run starts from
+  abbrev pub first_arrays : List (List (List ℕ))
+  first_arrays = map (sectors_in started.disk.sectors) started.first.partitions
+
+  pub told_at_first : IsTold first_arrays [] [] stack
+  told_at_first = record {
+    run = subst (λ (s : State). IsSame (opening first_arrays) s) (sym started.first.state) (IsSame-refl (opening first_arrays));
+    journaled = record {
+      of_acts = refl;
+      started = subst (λ (us : List TagInUse). All (IsStartedUse []) us) (sym started.first.same_disk.idle.no_tags) (All-nil (IsStartedUse []));
+    };
+  }
+
+  pub stands_at_first : (disk : DiskView) → disk.sector_size ≡ c.sector_size → disk.sectors ≡ c.sectors → StandsIn stack disk
+  stands_at_first disk size count = record {
+    apart = started.first.same_disk.faithful ∙ started.apart;
+    sector_size = size ∙ sym started.sector_size ∙ ap (λ (r : Rules). r.sector_size) (sym started.first.rules);
+    sectors = count ∙ sym started.sectors ∙ ap (λ (r : Rules). r.disk_sectors) (sym started.first.rules);
+  }
+
+  -- where the table gives the partitions of the settings, the stack has those
+  pub partitions_at_first : told_by c.sectors table ≡ Ok (extents_of c) → stack.rules.partitions ≡ extents_of c
+  partitions_at_first told =
+      let found : told_by c.sectors table ≡ Ok started.first.partitions =
+      ap (λ (n : ℕ). told_by n table) (sym started.sectors) ∙ ap (λ (t : List ℕ). told_by (length started.disk.sectors) t) (sym started.begins) ∙ started.first.told.told in
+      let same : ◌≡◌ {A = Result (List Extent) MbrFault} (Ok (extents_of c)) (Ok started.first.partitions) = sym told ∙ found in
+      ap (λ (r : Rules). r.partitions) started.first.rules ∙ same_items (extents_of c) started.first.partitions same
+    where
+      same_items : (xs ys : List Extent) → ◌≡◌ {A = Result (List Extent) MbrFault} (Ok xs) (Ok ys) → ys ≡ xs
+      same_items xs ys e = cc

@@ -1,0 +1,50 @@
+-- What a partition of a disk in a storage comes to by its requests.
+use Rattle.std.proofs.Common.{◌≡◌, ◌≢◌, ◌≤◌, ◌<◌, ◌^◌, ℕ, ◌+◌, arith, List, [], ◌∷◌, Bool, None, Some, Option, Result, Ok, Err, replicate, refl, sym, ap, subst, ◌∙◌}
+use Rattle.std.specs.Result.{result_err}
+use Rattle.io_manager.specs.declared.Answer.{Answer}
+use Rattle.io_manager.specs.declared.Handle.{Handle}
+use Rattle.io_manager.specs.declared.Refusal.{Refusal}
+use Rattle.io_manager.specs.Shown.{ManagerView}
+use Rattle.compose.specs.declared.Event.{Event}
+use Rattle.nbd.specs.declared.arrays.Sizes.{Sizes}
+use Rattle.nbd.specs.declared.requests.Command.TheVariants.{WriteZeroes}
+use Rattle.nbd.specs.declared.requests.ReplyError.{ReplyError}
+use Rattle.nbd.specs.Requests.{IsWithin}
+use Rattle.file_disk.specs.Transfers.{DiskView}
+use Rattle.serving.specs.Carried.{Requests, StandsIn, over}
+use Rattle.serving.specs.Filed.{ComesTo, FiledKept, FiledView, HasCleared, IsAsked, IsDone, Writes}
+
+-- ONE REQUEST
+
+abbrev pub filed_over : ManagerView → DiskView → Handle → Sizes → FiledView
+filed_over stack disk handle sizes = record { carried = over stack disk; handle = handle; sizes = sizes }
+
+module _ (stack stack' : ManagerView) (disk disk' : DiskView) (handle : Handle) (sizes : Sizes) where
+  pub asked_so : (event : Event) (result : Result Answer Refusal) (done : Result (List ℕ) ReplyError) → Requests (over stack disk) event result (over stack' disk') → ComesTo result done
+      → IsAsked (filed_over stack disk handle sizes) event done (filed_over stack' disk' handle sizes)
+  asked_so event result done requests comes_to = record { result = result; requests = requests; comes_to = comes_to; same_handle = refl; same_sizes = refl }
+
+  pub kept_so : FiledKept (over stack disk) sizes → StandsIn stack' disk' → stack'.labels ≡ [] → FiledKept (over stack' disk') sizes
+  kept_so kept stands taken = record { stands = stands; taken = taken; block = kept.block; few = kept.few }
+
+pub done_so : (old new : FiledView) (event : Event) (done : Result (List ℕ) ReplyError) (failed : Option ReplyError) → IsAsked old event done new → failed ≡ result_err done → IsDone old event failed new
+done_so old new event done failed asked so = record { done = done; asked = asked; failed_so = so }
+
+-- ZEROS
+
+-- none were written yet
+pub cleared_none : (v : FiledView) (offset : ℕ) (through : Bool) → HasCleared v offset 0 through v
+cleared_none v offset through = record { counts = []; clears = refl; all = refl }
+
+-- by one write more
+pub cleared_more : (old mid new : FiledView) (offset done count : ℕ) (through : Bool) → HasCleared old offset done through mid → Writes mid (offset + done) (replicate count 0) through None new
+    → HasCleared old offset (done + count) through new
+cleared_more old mid new offset done count through h w = record {
+  counts = count ∷ h.counts;
+  clears = (mid, h.clears, subst (λ (n : ℕ). Writes mid (offset + n) (replicate count 0) through None new) h.all w);
+  all = ap (λ (n : ℕ). n + count) h.all;
+}
+
+-- zeros within a disk whose bytes can be counted
+pub clears_within : (block bytes offset count : ℕ) (through : Bool) → IsWithin block bytes (WriteZeroes offset count through) → bytes ≤ 2 ^ 63 → offset + count < 2 ^ 64
+clears_within block bytes offset count through within few = let inside : offset + count ≤ bytes = within.inside in let half : 2 ^ 63 ≡ 9223372036854775808 = refl in let all : 2 ^ 64 ≡ 18446744073709551616 = refl in omega (arith, inside, few, half, all)

@@ -1,0 +1,58 @@
+-- A partition table in sector 0.
+use Rattle.std.proofs.Common.{◌≡◌, ◌<◌, ℕ, ◌+◌, ◌-◌, List, [], ◌∷◌, ◌++◌, None, Result, Ok, Err, get_or, length, map, replicate, take, refl, sym, ap, subst, ◌∙◌}
+use Rattle.std.specs.Prelude.{OnOk}
+use Rattle.std.specs.Result.{result_err}
+use Rattle.std.proofs.lemmas.List.{map-append, take_more}
+use Rattle.std.proofs.Math.Seq.{take-length}
+use Rattle.sector.specs.declared.Extent.{Extent}
+use Rattle.settings.specs.declared.Partition.{Partition}
+use Rattle.settings.specs.Medium.{extent_of}
+use Rattle.mbr.specs.declared.MbrFault.{MbrFault}
+use Rattle.mbr.specs.Faults.{told_by}
+use Rattle.mbr.specs.Table.{Entry, table_bytes}
+use Rattle.file_disk.specs.declared.storage.Failure.{Failure}
+use Rattle.file_disk.specs.Calls.{Call, Since, Sync, WritesAll}
+use Rattle.file_disk.specs.Transfers.{SyncsAfter}
+
+-- a table with zeros behind it
+pub padded_table : (size : ℕ) (entries named : List Entry) (table shown sector : List ℕ) → entries ≡ named → table ≡ table_bytes entries
+    → length table ≡ 512 → shown ≡ table → sector ≡ shown ++ replicate (size - length shown) 0 → sector ≡ table_bytes named ++ replicate (size - 512) 0
+padded_table size entries named table shown sector are bytes long is padded =
+    let many : length shown ≡ 512 = ap length is ∙ long in
+    let same : shown ≡ table_bytes named = is ∙ (bytes ∙ ap table_bytes are) in
+    padded ∙ (ap (λ (n : ℕ). shown ++ replicate (size - n) 0) many ∙ ap (λ (l : List ℕ). l ++ replicate (size - 512) 0) same)
+
+-- bytes that were all told, and then synced
+pub put_synced : (old mid new : List Call) (offset : ℕ) (bytes : List ℕ) → Since old mid (WritesAll offset bytes) → new ≡ Sync None ∷ mid → Since old new (SyncsAfter offset bytes None)
+put_synced old mid new offset bytes writes noted = record {
+  calls = Sync None ∷ writes.calls;
+  after = noted ∙ ap (λ (calls : List Call). Sync None ∷ calls) writes.after;
+  made = record { told = writes.calls; after = refl; writes = writes.made };
+}
+
+-- where they were told, a sync came to this
+pub put_so : {X : Type 0} (old mid new : List Call) (bytes : List ℕ) (result : Result X Failure) → Since old mid (WritesAll 0 bytes) → new ≡ Sync (result_err result) ∷ mid → OnOk result (Since old new (SyncsAfter 0 bytes None))
+put_so old mid new bytes (Ok done) writes noted = put_synced old mid new 0 bytes writes noted
+put_so old mid new bytes (Err why) writes noted = tt
+
+-- COMPARING
+
+-- of two lists one place more is the same
+pub same_more : (xs : List Extent) (ps : List Partition) (k : ℕ) (d : Extent) (e : Partition) → k < length xs → k < length ps → take k xs ≡ map extent_of (take k ps) → get_or xs k d ≡ extent_of (get_or ps k e)
+    → take (k + 1) xs ≡ map extent_of (take (k + 1) ps)
+same_more xs ps k d e x p same one =
+    take_more xs k d x
+    ∙ ap (λ (l : List Extent). l ++ (get_or xs k d ∷ [])) same
+    ∙ ap (λ (y : Extent). map extent_of (take k ps) ++ (y ∷ [])) one
+    ∙ sym (ap (λ (l : List Partition). map extent_of l) (take_more ps k e p) ∙ map-append extent_of (take k ps) (get_or ps k e ∷ []))
+
+-- of all places
+pub same_all : (xs : List Extent) (ps : List Partition) (k : ℕ) → length xs ≡ k → length ps ≡ k → take k xs ≡ map extent_of (take k ps) → xs ≡ map extent_of ps
+same_all xs ps k long many same =
+    sym (ap (λ (n : ℕ). take n xs) (sym long) ∙ take-length xs) ∙ same ∙ ap (λ (l : List Partition). map extent_of l) (ap (λ (n : ℕ). take n ps) (sym many) ∙ take-length ps)
+
+-- what the bytes of a sector give, where they were shown whole
+pub table_told : (sectors : ℕ) (shown sector : List ℕ) (found wanted : List Extent) → shown ≡ sector → ◌≡◌ {A = Result (List Extent) MbrFault} (Ok found) (told_by sectors shown) → found ≡ wanted → told_by sectors sector ≡ Ok wanted
+table_told sectors shown sector found wanted is answer same =
+    let ok : ◌≡◌ {A = Result (List Extent) MbrFault} (Ok found) (Ok wanted) = subst (λ (xs : List Extent). ◌≡◌ {A = Result (List Extent) MbrFault} (Ok found) (Ok xs)) same refl in
+    subst (λ (bytes : List ℕ). told_by sectors bytes ≡ Ok wanted) is (sym answer ∙ ok)

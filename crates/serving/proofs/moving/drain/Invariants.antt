@@ -1,0 +1,13 @@
+use Rattle.std.proofs.Common.{◌≡◌, []}
+use Rattle.volume.specs.Working.{work}
+use Rattle.serving.specs.Carried.{Goes, over}
+use Rattle.serving.proofs.moving.drain.Given as goal
+
+abbrev pub invariant-finishing : goal.invariant-finishing
+invariant-finishing g l = record {
+  goes : Goes (over l.initial.stack l.initial.disk) (over l.stack l.disk);
+  taken : l.stack.labels ≡ [];
+}
+
+abbrev pub decreases-finishing : goal.decreases-finishing
+decreases-finishing g l = work l.stack.state

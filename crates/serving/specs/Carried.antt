@@ -1,0 +1,149 @@
+-- A stack whose sectors stand in a storage: what is told of it, and what its pieces did there.
+use Rattle.std.specs.Prelude.{◌≡◌, ◌≢◌, ◌⊎◌, ℕ, List, [], ◌∷◌, ◌++◌, map, All, Contains, IsFalse, IsPermutation, Result, Ok, Err, MatchResult}
+use Rattle.srb.specs.declared.Srb.{Srb}
+use Rattle.srb.specs.declared.Entry.{Entry}
+use Rattle.srb.specs.declared.Completion.{Completion}
+use Rattle.adapter.specs.Booking.{IsArmed, Suits}
+use Rattle.adapter.specs.Calls.{HasNoneFresh}
+use Rattle.machine.specs.declared.ClientRequest.{ClientRequest}
+use Rattle.machine.specs.declared.Label.{Label}
+use Rattle.machine.specs.declared.Label.TheVariants.{Call, Answer as AnswerLabel}
+use Rattle.machine.specs.State.{opening}
+use Rattle.machine.specs.Step.{Run}
+use Rattle.io_manager.specs.declared.Answer.{Answer}
+use Rattle.io_manager.specs.declared.Refusal.{Refusal}
+use Rattle.io_manager.specs.declared.Refusal.TheVariants.{InvalidParameter}
+use Rattle.io_manager.specs.declared.Reply.TheVariants.{Refused}
+use Rattle.io_manager.specs.Shown.{ManagerView}
+use Rattle.io_manager.specs.Calls.{without_bytes}
+use Rattle.io_manager.specs.Right.{BooksPiece, as_answer}
+use Rattle.compose.specs.declared.Event.{Event}
+use Rattle.compose.specs.Journaled.{IsJournaled}
+use Rattle.compose.specs.Right.{IsRight}
+use Rattle.volume.specs.Working.{Asks, answers_of}
+use Rattle.file_disk.specs.Transfers.{DiskView, IsOfPiece, Transfers}
+
+pub record CarriedView : Type 0 where
+  pub stack : ManagerView
+  pub disk : DiskView
+
+abbrev pub over : ManagerView → DiskView → CarriedView
+over stack disk = record { stack = stack; disk = disk }
+
+-- the stack's adapter moves no sectors, and the storage has as many sectors, as long as its
+pub record StandsIn (stack : ManagerView) (disk : DiskView) : Type 0 where
+  pub apart : IsFalse stack.adapter.faithful
+  pub sector_size : disk.sector_size ≡ stack.rules.sector_size
+  pub sectors : disk.sectors ≡ stack.rules.disk_sectors
+
+-- PIECES
+
+-- a piece that could act, and what came of it in the storage
+pub record Deed : Type 0 where
+  pub tag : ℕ
+  pub piece : ℕ
+  pub srb : Srb
+  pub what : Result Entry Completion
+
+-- the calls to the storage are just those of these pieces, one after the other
+abbrev pub Files : DiskView → List Deed → DiskView → Type 0
+Files old [] new = new ≡ old
+Files old (deed ∷ deeds) new = (mid : DiskView) × Transfers old deed.tag deed.piece deed.srb deed.what mid × Files mid deeds new
+
+abbrev pub entry_in : Result Entry Completion → List Entry
+entry_in (Ok entry) = entry ∷ []
+entry_in (Err completion) = []
+
+-- what those did that did not fail
+abbrev pub entries_of : List Deed → List Entry
+entries_of [] = []
+entries_of (deed ∷ deeds) = entry_in deed.what ++ entries_of deeds
+
+-- what came of the tag's piece is booked
+pub record HasBooked (old : ManagerView) (before : DiskView) (tag : ℕ) (new : ManagerView) (after : DiskView) : Type 0 where
+  pub piece : ℕ
+  pub srb : Srb
+  pub what : Result Entry Completion
+  pub armed : IsArmed old.adapter tag piece srb
+  pub transfers : Transfers before tag piece srb what after
+  pub suits : Suits before.sector_size before.sectors srb what
+  pub of_piece : IsOfPiece tag piece what
+  pub books : BooksPiece old tag piece what new
+
+-- there is none that could act, and nothing changes
+pub record HasNoneToBook (old : ManagerView) (before : DiskView) (tag : ℕ) (new : ManagerView) (after : DiskView) : Type 0 where
+  pub none : HasNoneFresh old.adapter tag
+  pub same_stack : new ≡ old
+  pub same_disk : after ≡ before
+
+abbrev pub BooksArmed : ManagerView → DiskView → ℕ → ManagerView → DiskView → Type 0
+BooksArmed old before tag new after = HasBooked old before tag new after ⊎ HasNoneToBook old before tag new after
+
+-- WHAT IS TOLD
+
+-- these labels are a run of the machine that moves no sectors, and these entries are what their acts did
+pub record IsTold (arrays : List (List (List ℕ))) (trace : List Label) (entries : List Entry) (v : ManagerView) : Type 0 where
+  pub run : Run v.rules (opening arrays) trace v.state
+  pub journaled : IsJournaled trace entries v
+
+-- whatever was told goes on with these labels, whose acts did these entries
+abbrev pub TellsOn : ManagerView → List Label → List Entry → ManagerView → Type 0
+TellsOn old labels entries new =
+    (arrays : List (List (List ℕ))) (trace : List Label) (before : List Entry) → IsTold arrays trace before old → IsTold arrays (trace ++ labels) (before ++ entries) new
+
+-- the stack moved by these labels, and the storage by what their acts and failures were; answers wait to be taken
+pub record Goes (old new : CarriedView) : Type 0 where
+  pub labels : List Label
+  pub deeds : List Deed
+  pub same_rules : new.stack.rules ≡ old.stack.rules
+  pub same_handles : new.stack.handles ≡ old.stack.handles
+  pub run : Run old.stack.rules old.stack.state labels new.stack.state
+  pub told : TellsOn old.stack labels (entries_of deeds) new.stack
+  pub files : Files old.disk deeds new.disk
+  pub untaken : IsPermutation (map as_answer new.stack.answers) (answers_of labels ++ map as_answer old.stack.answers)
+  pub stands : StandsIn old.stack old.disk → StandsIn new.stack new.disk
+
+-- REQUESTS
+
+-- the event's request was called under the answer's number, and the answer is one of what was told
+pub record IsAnsweredBy (old : CarriedView) (event : Event) (answer : Answer) (labels : List Label) : Type 0 where
+  pub request : ClientRequest
+  pub asks : Asks old.stack event request
+  -- one of no bytes is answered at once, and its label has no bytes
+  pub called : Contains labels (Call answer.number request) ⊎ Contains labels (Call answer.number (without_bytes request))
+  pub answered : Contains labels (as_answer answer)
+
+-- the stack, on which no answer waited, refused the event at once, and nothing was moved
+pub record IsRefusedAtOnce (old : CarriedView) (event : Event) (reason : Refusal) (labels : List Label) (deeds : List Deed) : Type 0 where
+  pub after : ManagerView
+  pub bytes : List ℕ
+  pub refused : IsRight (record old.stack { answers = [] }) event (Refused reason bytes) after
+  pub told : labels ≡ after.labels
+  pub none_moved : deeds ≡ []
+
+-- the label is no answer to this request
+abbrev pub IsNoAnswerTo : ℕ → Label → Type 0
+IsNoAnswerTo number (AnswerLabel n status informed bytes) = n ≢ number
+IsNoAnswerTo number _ = Unit {0}
+
+-- its request was called, and nothing that was told answers it
+pub record GoesUnanswered (old : CarriedView) (event : Event) (reason : Refusal) (labels : List Label) : Type 0 where
+  pub number : ℕ
+  pub request : ClientRequest
+  pub asks : Asks old.stack event request
+  pub called : Contains labels (Call number request)
+  pub unanswered : All (IsNoAnswerTo number) (answers_of labels)
+  pub told_as : reason ≡ InvalidParameter
+
+abbrev pub IsNotAnswered : CarriedView → Event → Refusal → List Label → List Deed → Type 0
+IsNotAnswered old event reason labels deeds = IsRefusedAtOnce old event reason labels deeds ⊎ GoesUnanswered old event reason labels
+
+-- a request from its call to its answer, or one that was refused: the stack moved by labels alone, and the storage by what their acts were
+pub record Requests (old : CarriedView) (event : Event) (result : Result Answer Refusal) (new : CarriedView) : Type 0 where
+  pub labels : List Label
+  pub deeds : List Deed
+  pub same_rules : new.stack.rules ≡ old.stack.rules
+  pub same_handles : new.stack.handles ≡ old.stack.handles
+  pub told : TellsOn old.stack labels (entries_of deeds) new.stack
+  pub files : Files old.disk deeds new.disk
+  pub answered : MatchResult result (λ answer. IsAnsweredBy old event answer labels) (λ reason. IsNotAnswered old event reason labels deeds)

@@ -1,0 +1,219 @@
+//! The pieces of a stack whose sectors stand in a storage: what came of each is booked before its act.
+
+ghost use Rattle.std.specs.Prelude.{◌≡◌, ◌<◌, ◌↔◌, [], ⊤, IsTrue, MatchBool};
+ghost use Rattle.io_manager.specs.declared.Reply.TheVariants.{Ok as Done};
+ghost use Rattle.io_manager.specs.Right.{HasNoneFresh};
+ghost use Rattle.compose.specs.Journaled.{ArmedMayBeBooked, BookedActsAddEntries, IdleActsKeepEntries, StepsKeepEntries, StepsStayApart};
+ghost use Rattle.compose.specs.StepLaws.{IsTransferEvent};
+ghost use Rattle.volume.specs.Working.{fresh_count, work};
+ghost use Rattle.file_disk.specs.Transfers.{DiskView};
+ghost use Rattle.serving.specs.Carried.{BooksArmed, Goes, Requests, StandsIn, over};
+
+use compose::{Answer, Event, Refusal, Reply, Stack};
+use file_disk::{FileDisk, Storage};
+use machine::Label;
+use miniport::BookedAdapter;
+use srb::DeviceLabel;
+use std::alloc::Global;
+
+/// Which steps add an entry to a trace, for who calls this.
+pub(crate) fn laws_of_entries()
+    ensures kept { StepsKeepEntries }
+    ensures idle { IdleActsKeepEntries }
+    ensures booked { BookedActsAddEntries }
+    ensures armed { ArmedMayBeBooked }
+    ensures apart { StepsStayApart }
+{
+    compose::steps_keep_entries();
+    compose::idle_acts_keep_entries();
+    compose::booked_acts_add_entries();
+    compose::armed_may_be_booked();
+    compose::steps_stay_apart();
+}
+
+/// Carries a read, a write or a flush from its call to its answer.
+///
+/// # Errors
+///
+/// Why it was refused.
+pub(crate) fn carry_out<S: Storage + Drop>(
+    stack: &mut Stack<BookedAdapter>,
+    disk: &mut FileDisk<S>,
+    alloc: Global,
+    event: Event,
+) -> Result<Answer, Refusal>
+    requires taken { stack.old.labels ≡ [] }
+    requires stands { StandsIn stack.old disk.old }
+    requires transfer { IsTransferEvent event }
+    ensures requests { Requests (over stack.old disk.old) event result (over stack.new disk.new) }
+    ensures taken { stack.new.labels ≡ [] }
+    ensures stands { StandsIn stack.new disk.new }
+{
+    laws_of_entries();
+    forget_answers(stack);
+    let reply = stack.step(alloc, event);
+    let tags = take_labels(stack);
+    match reply {
+        Reply::Request(id) => {
+            drain(stack, disk, alloc, tags);
+            match stack.take_answer_of(id.number) {
+                Some(answer) => Ok(answer),
+                // Nothing is out any more, so that there is one: a law of the machine that isn't told here.
+                None => Err(Refusal::InvalidParameter),
+            }
+        }
+        Reply::Answered(answer) => Ok(answer),
+        Reply::Refused { refusal, .. } => Err(refusal),
+        Reply::Handle(_) | Reply::Ok | Reply::Ignored => unreachable!(),
+    }
+}
+
+/// Takes all answers that wait. Between two requests none does.
+fn forget_answers(stack: &mut Stack<BookedAdapter>)
+    ensures { stack.new ≡ record stack.old { answers = [] } }
+{
+    while let Some(answer) = stack.take_answer() {
+        drop(answer);
+    }
+}
+
+/// Lets the adapter act and hand back until nothing is out. The first pieces are on tags below `tags`.
+fn drain<S: Storage + Drop>(
+    stack: &mut Stack<BookedAdapter>,
+    disk: &mut FileDisk<S>,
+    alloc: Global,
+    tags: u16,
+)
+    requires taken { stack.old.labels ≡ [] }
+    requires stands { StandsIn stack.old disk.old }
+    ensures goes { Goes (over stack.old disk.old) (over stack.new disk.new) }
+    ensures taken { stack.new.labels ≡ [] }
+{
+    let mut tags = tags;
+    'finishing: while finish_one(stack, disk, alloc, &mut tags) {}
+}
+
+/// Lets a piece act, and come back. Whether there was one.
+fn finish_one<S: Storage + Drop>(
+    stack: &mut Stack<BookedAdapter>,
+    disk: &mut FileDisk<S>,
+    alloc: Global,
+    tags: &mut u16,
+) -> bool
+    requires taken { stack.old.labels ≡ [] }
+    requires stands { StandsIn stack.old disk.old }
+    ensures goes { Goes (over stack.old disk.old) (over stack.new disk.new) }
+    ensures taken { stack.new.labels ≡ [] }
+    ensures less { MatchBool result (work stack.new.state < work stack.old.state) ⊤ }
+{
+    // A tag is a byte.
+    let limit = (*tags).min(256);
+    for tag in 0..limit {
+        act(stack, disk, alloc, tag as u8);
+        if finishes(stack, alloc, tag as u8, tags) {
+            return true;
+        }
+    }
+    false
+}
+
+/// Lets the piece on a tag act, if there is one that could.
+fn act<S: Storage + Drop>(
+    stack: &mut Stack<BookedAdapter>,
+    disk: &mut FileDisk<S>,
+    alloc: Global,
+    tag: u8,
+)
+    requires taken { stack.old.labels ≡ [] }
+    requires stands { StandsIn stack.old disk.old }
+    ensures goes { Goes (over stack.old disk.old) (over stack.new disk.new) }
+    ensures taken { stack.new.labels ≡ [] }
+    ensures same_work { work stack.new.state ≡ work stack.old.state }
+    ensures none_fresh { HasNoneFresh stack.new tag }
+{
+    'acting: while acts(stack, disk, alloc, tag) {}
+}
+
+/// Whether a piece on the tag acted, or failed: just as the storage did.
+fn acts<S: Storage + Drop>(
+    stack: &mut Stack<BookedAdapter>,
+    disk: &mut FileDisk<S>,
+    alloc: Global,
+    tag: u8,
+) -> bool
+    requires taken { stack.old.labels ≡ [] }
+    requires stands { StandsIn stack.old disk.old }
+    ensures goes { Goes (over stack.old disk.old) (over stack.new disk.new) }
+    ensures taken { stack.new.labels ≡ [] }
+    ensures same_work { work stack.new.state ≡ work stack.old.state }
+    ensures done { MatchBool result (fresh_count stack.new.state < fresh_count stack.old.state) (HasNoneFresh stack.new tag) }
+{
+    laws_of_entries();
+    stack.shows_whole();
+    book_armed(stack, disk, tag);
+    stack.shows_whole();
+    let reply = stack.step(alloc, Event::Act { tag });
+    take_labels(stack);
+    is_done(reply)
+}
+
+/// The piece of a tag is moved by the storage, if one could act, and what came of it is booked.
+fn book_armed<S: Storage + Drop>(stack: &mut Stack<BookedAdapter>, disk: &mut FileDisk<S>, tag: u8)
+    ensures { BooksArmed stack.old disk.old tag stack.new disk.new }
+{
+    let Some((piece, srb)) = stack.armed(tag) else {
+        return;
+    };
+    match disk.transfer(tag, piece, srb) {
+        Ok(entry) => {
+            stack.book(tag, piece, Ok(&entry));
+            disk.take_back(entry);
+        }
+        Err(completion) => stack.book(tag, piece, Err(completion)),
+    }
+}
+
+/// Whether a piece came back from the tag. A piece on it has acted, or failed.
+fn finishes(stack: &mut Stack<BookedAdapter>, alloc: Global, tag: u8, tags: &mut u16) -> bool
+    requires taken { stack.old.labels ≡ [] }
+    requires none_fresh { HasNoneFresh stack.old tag }
+    ensures goes { (disk : DiskView) → Goes (over stack.old disk) (over stack.new disk) }
+    ensures taken { stack.new.labels ≡ [] }
+    ensures done { MatchBool result (work stack.new.state < work stack.old.state) (stack.new.state ≡ stack.old.state) }
+{
+    laws_of_entries();
+    stack.shows_whole();
+    let reply = stack.step(alloc, Event::Finish { tag });
+    let started = take_labels(stack);
+    *tags = started.max(*tags);
+    is_done(reply)
+}
+
+/// Whether a step of the adapter was done.
+fn is_done(reply: Reply) -> bool
+    ensures { IsTrue result ↔ (reply ≡ Done) }
+{
+    match reply {
+        Reply::Ok => true,
+        _ => false,
+    }
+}
+
+/// Takes all labels. Pieces were started on tags below the result.
+pub(crate) fn take_labels(stack: &mut Stack<BookedAdapter>) -> u16
+    ensures { stack.new ≡ record stack.old { labels = [] } }
+{
+    let mut tags = 0;
+    while let Some(label) = stack.take_label() {
+        tags = tags_with(label, tags);
+    }
+    tags
+}
+
+/// Returns how many tags there are, with the tag of the piece that the label starts.
+fn tags_with(label: Label, tags: u16) -> u16 {
+    match label {
+        Label::Device(DeviceLabel::Start { tag, .. }) => tags.max(u16::from(tag) + 1),
+        _ => tags,
+    }
+}

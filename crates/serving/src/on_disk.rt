@@ -1,0 +1,325 @@
+//! A session over a disk in a storage.
+
+ghost use Rattle.std.specs.Prelude.{◌≡◌, ◌≤◌, ◌<◌, ◌*◌, ◌-◌, ◌^◌, ◌++◌, List, [], All, IfOk, IsTrue, Ok, OnOk, length, map, replicate, None};
+ghost use Rattle.std.specs.Result.{result_err};
+ghost use Rattle.machine.specs.declared.Label.{Label};
+ghost use Rattle.io_manager.specs.declared.Reply.TheVariants.{Handle as HandleReply};
+ghost use Rattle.mbr.specs.Faults.{told_by};
+ghost use Rattle.mbr.specs.Table.{FitsEntry};
+ghost use Rattle.settings.specs.InRange.{AreInRange};
+ghost use Rattle.settings.specs.Medium.{entry_of, extent_of, extents_of, table_sector};
+ghost use Rattle.volume.specs.Opening.{IsOn};
+ghost use Rattle.volume.specs.Shown.{extent_at};
+ghost use Rattle.file_disk.specs.Calls.{ReadsAll, Since};
+ghost use Rattle.file_disk.specs.Transfers.{DiskView, SyncsAfter};
+ghost use Rattle.serving.specs.Carried.{StandsIn, TellsOn};
+ghost use Rattle.serving.specs.OnDisk.{IsFileSession, IsOpened, IsStartedOver};
+
+use crate::faults::{DiskFault, Fault};
+use crate::filed::Filed;
+use crate::moving::{laws_of_entries, take_labels};
+use crate::serving::outcome;
+use arrayvec::ArrayVec;
+use compose::{Event, Handle, Refusal, Reply, Settings, Stack};
+use file_disk::{Failure, FileDisk, Sizes as FileSizes, Storage, read_all, write_all};
+use mbr::{parse, render};
+use miniport::BookedAdapter;
+use nbd::{Sizes, serve_over};
+use sector::Extent;
+use settings::{Config, Partition};
+use std::alloc::{AllocError, Global};
+use std::io::{Read, Write};
+
+/// Returns the bytes of the disk of some settings.
+pub fn disk_bytes(config: &Config) -> u64
+    requires { AreInRange config.now }
+    ensures { result ≡ config.now.sectors * config.now.sector_size }
+{
+    config.sectors * config.sector_size as u64
+}
+
+/// Puts the partition table of the settings into sector 0 of a storage, and syncs it.
+///
+/// # Errors
+///
+/// [`DiskFault::NotCreated`] where a call failed; [`Fault::NoMemory`].
+pub fn put_table<S: Storage>(alloc: Global, storage: &mut S, config: &Config) -> Result<(), Fault>
+    requires { AreInRange config.now }
+    ensures { IfOk result (λ _. Since (S.calls storage.old) (S.calls storage.new) (SyncsAfter 0 (table_sector config.now) None)) }
+{
+    let sector = first_sector(alloc, config)?;
+    match put(storage, sector.as_slice()) {
+        Ok(()) => Ok(()),
+        Err(_) => Err(Fault::Disk(DiskFault::NotCreated)),
+    }
+}
+
+/// Writes these bytes at the start of a storage, and syncs it.
+///
+/// # Errors
+///
+/// The failure of the call that failed.
+fn put<S: Storage>(storage: &mut S, bytes: &[u8]) -> Result<(), Failure>
+    requires { length bytes.now < 2 ^ 64 }
+    ensures { OnOk result (Since (S.calls storage.old) (S.calls storage.new) (SyncsAfter 0 bytes.now None)) }
+{
+    write_all(storage, 0, bytes)?;
+    storage.sync()
+}
+
+/// Returns sector 0 of a disk of these settings: their partition table, and zeros.
+///
+/// # Errors
+///
+/// [`AllocError`] where memory was refused.
+fn first_sector(alloc: Global, config: &Config) -> Result<Vec<u8>, AllocError>
+    requires { AreInRange config.now }
+    ensures { IfOk result (λ sector. sector.items ≡ table_sector config.now) }
+{
+    let entries = entries(config.partitions.as_slice());
+    let table = render(entries.as_slice());
+    let sector = padded(alloc, table.as_slice(), config.sector_size as usize)?;
+    Ok(sector)
+}
+
+/// Returns these bytes with zeros behind them, `total` in all.
+///
+/// # Errors
+///
+/// [`AllocError`] where memory was refused.
+fn padded(alloc: Global, bytes: &[u8], total: usize) -> Result<Vec<u8>, AllocError>
+    requires { length bytes.now ≤ total }
+    ensures { IfOk result (λ padded. padded.items ≡ bytes.now ++ replicate (total - length bytes.now) 0) }
+{
+    let mut padded = Vec::with_capacity(alloc, total)?;
+    padded.extend_from_slice(bytes)?;
+    padded.resize(total, 0)?;
+    Ok(padded)
+}
+
+/// Returns the entries of partitions, in order.
+fn entries(partitions: &[Partition]) -> ArrayVec<(u8, Extent), 4>
+    requires { length partitions.now ≤ 4 }
+    ensures all { result.items ≡ map entry_of partitions.now }
+    ensures fit { All FitsEntry result.items }
+{
+    let mut entries = ArrayVec::new();
+    for partition in partitions {
+        entries.push(entry(*partition));
+    }
+    entries
+}
+
+/// Returns the entry of a partition.
+fn entry(partition: Partition) -> (u8, Extent)
+    ensures entry { result ≡ entry_of partition }
+    ensures fits { FitsEntry result }
+{
+    (partition.kind, extent_of(partition))
+}
+
+/// Returns the sectors of a partition.
+fn extent_of(partition: Partition) -> Extent
+    ensures { result ≡ extent_of partition }
+{
+    Extent {
+        first: partition.first as u64,
+        count: partition.count as u64,
+    }
+}
+
+/// Returns sector 0 of a storage, whose partitions are those of the settings.
+///
+/// # Errors
+///
+/// [`DiskFault::Unreadable`] where a call failed; [`DiskFault::OtherTable`] where it gives other partitions, or none;
+/// [`Fault::NoMemory`].
+fn checked_table<S: Storage>(
+    alloc: Global,
+    storage: &mut S,
+    config: &Config,
+) -> Result<Vec<u8>, Fault>
+    requires { AreInRange config.now }
+    ensures long { IfOk result (λ sector. length sector.items ≡ config.now.sector_size) }
+    ensures reads { IfOk result (λ sector. Since (S.calls storage.old) (S.calls storage.new) (ReadsAll 0 sector.items)) }
+    ensures told { IfOk result (λ sector. told_by config.now.sectors sector.items ≡ Ok (extents_of config.now)) }
+{
+    let mut sector = vec![in alloc; 0; config.sector_size as usize]?;
+    let Ok(()) = read_all(storage, 0, sector.as_mut_slice()) else {
+        return Err(Fault::Disk(DiskFault::Unreadable));
+    };
+    match parse(sector.as_slice(), config.sectors) {
+        Ok(found) if are_those(found.as_slice(), config.partitions.as_slice()) => Ok(sector),
+        _ => Err(Fault::Disk(DiskFault::OtherTable)),
+    }
+}
+
+/// Returns whether the extents are those of the partitions, in order.
+fn are_those(extents: &[Extent], partitions: &[Partition]) -> bool
+    ensures { IsTrue result → extents.now ≡ map extent_of partitions.now }
+{
+    if extents.len() != partitions.len() {
+        return false;
+    }
+    let mut index = 0;
+    while index < partitions.len() {
+        if !is_that(extents[index], partitions[index]) {
+            return false;
+        }
+        index += 1;
+    }
+    true
+}
+
+/// Returns whether the extent is that of the partition.
+fn is_that(extent: Extent, partition: Partition) -> bool
+    ensures { IsTrue result → extent ≡ extent_of partition }
+{
+    let wanted = extent_of(partition);
+    extent.first == wanted.first && extent.count == wanted.count
+}
+
+/// Opens a partition, counted from 0, of the disk of the settings in a storage that has as many bytes.
+///
+/// # Errors
+///
+/// [`Fault::Disk`] where the partition table of the storage gives other partitions than the settings, or can't be read, and
+/// where the settings have bad sectors, since a storage has its own; [`Fault::Startup`] where no stack could be started;
+/// [`Fault::NoPartition`]; [`Fault::NoMemory`].
+pub fn open_file<S: Storage + Drop>(
+    alloc: Global,
+    config: Config,
+    partition: u8,
+    storage: S,
+) -> Result<Filed<S>, Fault>
+    requires { AreInRange config }
+    ensures { IfOk result (IsOpened config partition (S.calls storage)) }
+{
+    if !config.bad_sectors.is_empty() {
+        return Err(Fault::Disk(DiskFault::BadSectors));
+    }
+    let mut storage = storage;
+    let sizes = sizes_of(&config, partition)?;
+    let first = checked_table(alloc, &mut storage, &config)?;
+    let mut stack = started(alloc, &config, first)?;
+    let handle = opened(&mut stack, alloc, partition)?;
+    let disk = FileDisk::new(
+        alloc,
+        storage,
+        FileSizes {
+            sector_size: config.sector_size,
+            sectors: config.sectors,
+            write_protected: config.write_protected,
+        },
+    );
+    Ok(Filed {
+        stack,
+        disk,
+        handle,
+        sizes,
+    })
+}
+
+/// Returns the bytes of a sector and of a partition.
+///
+/// # Errors
+///
+/// [`Fault::NoPartition`].
+fn sizes_of(config: &Config, partition: u8) -> Result<Sizes, Fault>
+    requires { AreInRange config.now }
+    ensures block { IfOk result (λ sizes. sizes.block ≡ config.now.sector_size) }
+    ensures bytes { IfOk result (λ sizes. sizes.bytes ≡ (extent_at (extents_of config.now) partition).count * config.now.sector_size) }
+    ensures few { IfOk result (λ sizes. sizes.bytes ≤ 2 ^ 63) }
+{
+    match config.partitions.as_slice().get(partition as usize) {
+        Some(shown) => Ok(Sizes {
+            block: config.sector_size,
+            bytes: shown.count as u64 * config.sector_size as u64,
+        }),
+        None => Err(Fault::NoPartition),
+    }
+}
+
+/// Returns a stack over an adapter of the settings that holds no sectors but the first.
+///
+/// # Errors
+///
+/// Why it could not be started.
+fn started(alloc: Global, config: &Config, first: Vec<u8>) -> Result<Stack<BookedAdapter>, Fault>
+    requires range { AreInRange config.now }
+    requires long { length first.items ≡ config.now.sector_size }
+    ensures { IfOk result (IsStartedOver config.now first.items) }
+{
+    let adapter = BookedAdapter::new(
+        alloc,
+        first,
+        config.sectors,
+        config.max_transfer,
+        config.depth,
+    );
+    let Ok(adapter) = adapter else {
+        return Err(Fault::NoMemory);
+    };
+    let settings = Settings {
+        window: config.window,
+        open_requests: config.open_requests,
+    };
+    match Stack::start(alloc, adapter, settings) {
+        Ok(stack) => Ok(stack),
+        Err(fault) => Err(Fault::Startup(startup::Fault::Start(fault))),
+    }
+}
+
+/// Returns a handle on a partition.
+///
+/// # Errors
+///
+/// [`Fault::NoPartition`], [`Fault::NoMemory`].
+fn opened(stack: &mut Stack<BookedAdapter>, alloc: Global, partition: u8) -> Result<Handle, Fault>
+    requires taken { stack.old.labels ≡ [] }
+    ensures taken { stack.new.labels ≡ [] }
+    ensures rules { stack.new.rules ≡ stack.old.rules }
+    ensures stands { (disk : DiskView) → StandsIn stack.old disk → StandsIn stack.new disk }
+    ensures told { (labels : List Label) × TellsOn stack.old labels [] stack.new }
+    ensures on { IfOk result (λ handle. IsOn stack.new handle partition) }
+{
+    laws_of_entries();
+    let reply = stack.step(alloc, Event::Open { partition });
+    take_labels(stack);
+    handle_in(reply)
+}
+
+/// Returns the handle that an open was replied to with.
+///
+/// # Errors
+///
+/// [`Fault::NoPartition`], [`Fault::NoMemory`].
+fn handle_in(reply: Reply) -> Result<Handle, Fault>
+    ensures { IfOk result (λ handle. reply ≡ HandleReply handle) }
+{
+    match reply {
+        Reply::Handle(handle) => Ok(handle),
+        Reply::Refused {
+            refusal: Refusal::InvalidParameter,
+            ..
+        } => Err(Fault::NoPartition),
+        // A new stack has handles and numbers enough.
+        _ => Err(Fault::NoMemory),
+    }
+}
+
+/// Serves a client over a partition of a disk in a file.
+///
+/// # Errors
+///
+/// How the session ended, where the client did not leave by the protocol.
+pub fn serve_file<S: Storage + Drop, R: Read, W: Write>(
+    alloc: Global,
+    filed: &mut Filed<S>,
+    input: &mut R,
+    out: &mut W,
+) -> Result<(), Fault>
+    ensures { IsFileSession filed.old (R.remaining input.old) (W.contents out.old) (result_err result) filed.new (W.contents out.new) }
+{
+    outcome(serve_over(alloc, filed, input, out))
+}
