@@ -1,4 +1,6 @@
 mod Asked
+mod Cuts
+mod Digits
 mod EqualBytes
 mod GivenBack
 mod Filled

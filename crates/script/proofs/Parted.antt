@@ -25,16 +25,18 @@ no_space_first : (r : List ℕ) → IsFullyTrimmed (FindsCharPrefix 32) r → 0 
 no_space_first [] h some = absurd (omega arith)
 no_space_first (b ∷ bs) h some = no_prefix b bs h.0 (b == 32) h.1 h.2 refl
 
--- a text with no space is one part
-one_part_more : (b : ℕ) (bs : List ℕ) (t : Bool) → cond (not t) (1 + position_or_len (λ x. x == 32) bs) 0 ≡ length (b ∷ bs)
-    → (position_or_len (λ x. x == 32) bs ≡ length bs → slice_split (λ x. x == 32) bs ≡ bs ∷ [])
-    → cond t ([] ∷ slice_split (λ x. x == 32) bs) (onto_first b (slice_split (λ x. x == 32) bs)) ≡ (b ∷ bs) ∷ []
-one_part_more b bs true h one = absurd (omega arith)
-one_part_more b bs false h one = ap (onto_first b) (one (omega arith))
+-- a text without a byte is one part
+one_part_more : (c b : ℕ) (bs : List ℕ) (t : Bool)
+    → cond (not t) (1 + position_or_len (λ x. x == c) bs) 0 ≡ length (b ∷ bs)
+    → (position_or_len (λ x. x == c) bs ≡ length bs → slice_split (λ x. x == c) bs ≡ bs ∷ [])
+    → cond t ([] ∷ slice_split (λ x. x == c) bs) (onto_first b (slice_split (λ x. x == c) bs)) ≡ (b ∷ bs) ∷ []
+one_part_more c b bs true h one = absurd (omega arith)
+one_part_more c b bs false h one = ap (onto_first b) (one (omega arith))
 
-one_part : (s : List ℕ) → position_or_len (λ b. b == 32) s ≡ length s → slice_split (λ b. b == 32) s ≡ s ∷ []
-one_part [] h = refl
-one_part (b ∷ bs) h = one_part_more b bs (b == 32) h (one_part bs)
+pub one_part : (c : ℕ) (s : List ℕ) → position_or_len (λ b. b == c) s ≡ length s
+    → slice_split (λ b. b == c) s ≡ s ∷ []
+one_part c [] h = refl
+one_part c (b ∷ bs) h = one_part_more c b bs (b == c) h (one_part c bs)
 
 -- a part that is not empty is a word
 is_kept : (w : List ℕ) (parts : List (List ℕ)) → 0 < length w → filter (λ word. not (length word == 0)) (w ∷ parts) ≡ w ∷ filter (λ word. not (length word == 0)) parts
@@ -54,7 +56,7 @@ front_is_word (b ∷ bs) e some = some_before b bs (b == 32) e
 
 pub last_word : (s r : List ℕ) → IsTrimStartMatches (FindsCharPrefix 32) s r → 0 < length r → position_or_len (λ b. b == 32) r ≡ length r → words_of s ≡ r ∷ []
 last_word s r h some none =
-    words_after_spaces s r h.0.0 h.0.1 ∙ ap (filter (λ word. not (length word == 0))) (one_part r none) ∙ is_kept r [] some
+    words_after_spaces s r h.0.0 h.0.1 ∙ ap (filter (λ word. not (length word == 0))) (one_part 32 r none) ∙ is_kept r [] some
 
 pub next_word : (s r x after : List ℕ) → IsTrimStartMatches (FindsCharPrefix 32) s r → 0 < length r
     → (x ≡ before_first (λ b. b == 32) r) × (after ≡ after_first (λ b. b == 32) r) × (position_or_len (λ b. b == 32) r < length r) → words_of s ≡ x ∷ words_of after

@@ -1,16 +1,9 @@
 -- The lines that were read so far.
-use Rattle.std.proofs.Common.{◌≡◌, ◌<◌, ◌≤◌, ◌+◌, ◌++◌, ◌==◌, ◌∙◌, ◌-◌, ◌^◌, min, Option, None, Some, ℕ, suc, Bool, List, [], ◌∷◌, All, Bor, arith, ap, cond, drop, false, filter, length, map, refl, subst, sym, take, true, get_or}
+use Rattle.std.proofs.Common.{◌≡◌, ◌<◌, ◌≤◌, ◌+◌, ◌++◌, ◌==◌, ◌∙◌, ◌-◌, ◌^◌, min, ℕ, suc, Bool, List, [], ◌∷◌, All, arith, ap, cond, false, filter, length, map, refl, subst, sym, true}
 use Rattle.std.specs.List.{AllZip, onto_first, slice_split}
-use Rattle.std.specs.Iterator.{Yields}
-use Rattle.std.specs.declared.str.Lines.{Lines}
-use Rattle.std.specs.Str.Iter.{lines_rest, lines_steps}
 use Rattle.std.specs.Str.Lines.{lines, lines_of_parts}
-use Rattle.std.proofs.lemmas.Iterator.{YieldsList}
-use Rattle.std.proofs.lemmas.Iterator.Consumers.{YieldsList-end, YieldsList-so_far, YieldsList-turn}
-use Rattle.std.proofs.lemmas.Iterator.Splits.{YieldsList-from_lines}
-use Rattle.std.proofs.lemmas.List.{length-map, append-nil, length-append, map-append, take-append-drop}
+use Rattle.std.proofs.lemmas.List.{length-map, append-nil, append_assoc, length-append, map-append, nil_from_length}
 use Rattle.std.proofs.lemmas.List.Elements.{All-nil, All-cons, filter-append}
-use Rattle.std.proofs.Math.Seq.{drop-cons}
 use Rattle.script.specs.declared.Line.{Line}
 use Rattle.script.specs.declared.Order.{Order}
 use Rattle.script.specs.Script.{AreEvents, Asks, IsBad, IsFirstBad, IsLine, is_event, lines_of, trimmed, words_of}
@@ -20,14 +13,6 @@ use Rattle.script.proofs.Zipped.{all_zip_append}
 pub record SoFar (texts : List (List ℕ)) (read : List Line) (number : ℕ) : Type 0 where
   pub events : AreEvents texts read
   pub counted : number ≡ length texts
-
--- the texts of what an iterator gave
-abbrev pub texts_of : List (Bor (List ℕ)) → List (List ℕ)
-texts_of yielded = map trimmed (map (λ (line : Bor (List ℕ)). line.now) yielded)
-
-pub texts_more : (yielded : List (Bor (List ℕ))) (line : Bor (List ℕ)) → texts_of (yielded ++ line ∷ []) ≡ texts_of yielded ++ trimmed line.now ∷ []
-texts_more yielded line =
-    ap (map trimmed) (map-append (λ (x : Bor (List ℕ)). x.now) yielded (line ∷ [])) ∙ map-append trimmed (map (λ (x : Bor (List ℕ)). x.now) yielded) (line.now ∷ [])
 
 -- one more text, which is no event or is one
 kept_more : (texts : List (List ℕ)) (text : List ℕ) (t : Bool) → is_event text ≡ t → filter is_event (texts ++ text ∷ []) ≡ filter is_event texts ++ cond t (text ∷ []) []
@@ -62,14 +47,6 @@ good_at text texts (line ∷ read) true e h rest = All-cons (λ x. ¬ (IsBad x))
 all_good : (texts : List (List ℕ)) (read : List Line) → AreEvents texts read → All (λ text. ¬ (IsBad text)) texts
 all_good [] read h = All-nil (λ x. ¬ (IsBad x))
 all_good (text ∷ texts) read h = good_at text texts read (is_event text) refl h (λ ls. all_good texts ls)
-
--- where a line stands among all
-pub split_at : (all : List (List ℕ)) (front : List (List ℕ)) (line : List ℕ) (k : ℕ) → front ≡ take k all → k < length all → line ≡ get_or all k line
-    → map trimmed all ≡ map trimmed front ++ trimmed line ∷ map trimmed (drop (suc k) all)
-split_at all front line k e l at =
-    ap (map trimmed) (sym (take-append-drop k all) ∙ ap (λ xs. take k all ++ xs) (drop-cons all k line l))
-    ∙ map-append trimmed (take k all) (get_or all k line ∷ drop (suc k) all)
-    ∙ (λ i. map trimmed (sym e i) ++ trimmed (sym at i) ∷ map trimmed (drop (suc k) all))
 
 pub first_bad : (script : List ℕ) (texts after : List (List ℕ)) (text : List ℕ) (read : List Line) (n m : ℕ) → SoFar texts read n → lines_of script ≡ texts ++ text ∷ after
     → is_event text ≡ true → ((order : Order) → ¬ (Asks (words_of text) order)) → m ≡ n + 1 → IsFirstBad script m
@@ -106,25 +83,65 @@ pub lines_fit : (bs : List ℕ) → length (lines bs) ≤ length bs
 lines_fit [] = omega arith
 lines_fit (b ∷ bs) = omega (arith, lines_by b bs (b == 10) (lines_fit bs))
 
--- the lines of a text come one by one, from s on
-module _ (text : List ℕ) (s made : Lines) (starts : s ≡ made) (all : lines_rest made ≡ text) (yielded : List (Bor (List ℕ))) (t : Lines) (so_far : Yields lines_steps s yielded t) where
-  road : YieldsList lines_steps (λ x. x.now) s (lines text)
-  road = YieldsList-from_lines {s = s} text (ap lines_rest starts ∙ all)
+-- between two lines: those before the rest were read
+pub record HasRead (text rest : List ℕ) (read : List Line) (number : ℕ) : Type 0 where
+  pub passed : List (List ℕ)
+  pub split : lines text ≡ passed ++ lines rest
+  pub so_far : SoFar (map trimmed passed) read number
 
-  module _ (r : Option (Bor (List ℕ))) (u : Lines) (line : Bor (List ℕ)) (is : r ≡ Some line) (steps : lines_steps t r u) where
-    -- the number of a line fits
-    pub next_number : (n m : ℕ) → length text < 2 ^ 64 → n ≡ length (texts_of yielded) → m ≡ min (n + 1) (2 ^ 64 - 1) → m ≡ n + 1
-    next_number n m short counted e =
-        let more : length yielded < length (lines text) = (YieldsList-turn road yielded t so_far r u line is steps).0 in
-        let long : length (texts_of yielded) ≡ length yielded = length-map (map (λ (x : Bor (List ℕ)). x.now) yielded) trimmed ∙ length-map yielded (λ (x : Bor (List ℕ)). x.now) in
-        omega (arith, lines_fit text)
+-- one more line is read
+module _ (text rest line behind : List ℕ) (read : List Line) (n m : ℕ) (h : HasRead text rest read n)
+    (first : lines rest ≡ line ∷ lines behind) (short : length text < 2 ^ 64) (counted : m ≡ min (n + 1) (2 ^ 64 - 1)) where
+  next_number : m ≡ n + 1
+  next_number =
+      let whole : length (lines text) ≡ length h.passed + suc (length (lines behind)) =
+      ap (λ (xs : List (List ℕ)). length xs) h.split ∙ length-append h.passed (lines rest)
+      ∙ ap (λ (xs : List (List ℕ)). length h.passed + length xs) first in
+      omega (arith, lines_fit text, h.so_far.counted, length-map h.passed trimmed, whole)
 
-    -- where the line stands among all
-    pub stands : lines_of text ≡ texts_of yielded ++ trimmed line.now ∷ map trimmed (drop (suc (length yielded)) (lines text))
-    stands =
-        let here = YieldsList-turn road yielded t so_far r u line is steps in
-        split_at (lines text) (map (λ (x : Bor (List ℕ)). x.now) yielded) line.now (length yielded) (YieldsList-so_far road yielded t so_far) here.0 here.1
+  moved : lines text ≡ (h.passed ++ line ∷ []) ++ lines behind
+  moved = h.split ∙ ap (λ (xs : List (List ℕ)). h.passed ++ xs) first ∙ sym (append_assoc h.passed (line ∷ []) (lines behind))
 
-  -- at the end all lines came
-  pub all_came : (r : Option (Bor (List ℕ))) (u : Lines) → r ≡ None → lines_steps t r u → texts_of yielded ≡ lines_of text
-  all_came r u is steps = ap (map trimmed) (YieldsList-end road yielded t so_far r u is steps).0
+  one_more : map trimmed (h.passed ++ line ∷ []) ≡ map trimmed h.passed ++ trimmed line ∷ []
+  one_more = map-append trimmed h.passed (line ∷ [])
+
+  pub read_past : is_event (trimmed line) ≡ false → HasRead text behind read m
+  read_past none = record {
+    passed = h.passed ++ line ∷ [];
+    split = moved;
+    so_far =
+        subst (λ xs. SoFar xs read m) (sym one_more)
+        (passed_over (map trimmed h.passed) (trimmed line) read n m h.so_far none next_number);
+  }
+
+  pub read_event : (more : List Line) (one : Line) → is_event (trimmed line) ≡ true → IsLine (trimmed line) one
+      → more ≡ read ++ one ∷ [] → HasRead text behind more m
+  read_event more one some is pushed = record {
+    passed = h.passed ++ line ∷ [];
+    split = moved;
+    so_far =
+        subst (λ xs. SoFar xs more m) (sym one_more)
+        (read_one (map trimmed h.passed) (trimmed line) read more one n m h.so_far some is pushed next_number);
+  }
+
+  pub bad_line : is_event (trimmed line) ≡ true → ((order : Order) → ¬ (Asks (words_of (trimmed line)) order))
+      → IsFirstBad text m
+  bad_line some none =
+      first_bad text (map trimmed h.passed) (map trimmed (lines behind)) (trimmed line) read n m h.so_far
+      (ap (map trimmed) h.split ∙ map-append trimmed h.passed (lines rest)
+      ∙ ap (λ (xs : List (List ℕ)). map trimmed h.passed ++ map trimmed xs) first)
+      some none next_number
+
+pub nothing_read : (text : List ℕ) (read : List Line) → read ≡ [] → HasRead text text read 0
+nothing_read text read none = record {
+  passed = [];
+  split = refl;
+  so_far = record { events = subst (λ rs. AllZip IsLine [] rs) (sym none) tt; counted = refl };
+}
+
+pub all_read : (text rest : List ℕ) (read : List Line) (n : ℕ) → HasRead text rest read n → length rest ≡ 0
+    → AreEvents (lines_of text) read
+all_read text rest read n h none =
+    let whole : lines text ≡ h.passed =
+    h.split ∙ ap (λ (xs : List ℕ). h.passed ++ lines xs) (nil_from_length rest none) ∙ append-nil h.passed in
+    subst (λ texts. AreEvents texts read) (sym (ap (map trimmed) whole)) h.so_far.events

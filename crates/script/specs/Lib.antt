@@ -4,3 +4,4 @@ pub mod Faults
 pub mod Printing
 pub mod Script
 pub mod Trace
+pub mod inside

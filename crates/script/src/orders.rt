@@ -1,11 +1,13 @@
 //! A script: one event a line.
 
+mod cuts;
 mod words;
 
 ghost use Rattle.std.specs.Prelude.{◌≡◌, [], ◌∷◌, IfErr, IfOk, codes};
 ghost use Rattle.std.specs.List.{AllZip};
 ghost use Rattle.script.specs.Script.{AreEvents, Asks, Finds, IsFaultOf, Number, Spells, is_event, lines_of, request_of, through_of, trimmed, words_of};
 
+use crate::orders::cuts::first_line;
 use crate::orders::words::Words;
 use crate::{Line, Order, ScriptFault};
 use std::alloc::Global;
@@ -22,7 +24,10 @@ pub fn lines(alloc: Global, text: &str) -> Result<Vec<Line<'_>>, ScriptFault>
 {
     let mut lines = Vec::new(alloc);
     let mut number: u64 = 0;
-    for line in text.lines() {
+    let mut rest = text;
+    while !rest.is_empty() {
+        let (line, behind) = first_line(rest);
+        rest = behind;
         number = number.saturating_add(1);
         let text = trimmed(line);
         if !is_event(text) {

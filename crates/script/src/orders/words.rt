@@ -1,8 +1,10 @@
 //! The words of a line, which spaces separate.
 
 ghost use Rattle.std.specs.Prelude.{◌≡◌, ◌↔◌, ℕ, List, [], IsTrue, drop, option_copied, slice_get};
+ghost use Rattle.script.specs.inside.Cuts.{AreWorth, IsLonger};
 ghost use Rattle.script.specs.Script.{Byte, Finds, FirstSpells, IsByte, IsNumber, Length, Number, words_of};
 
+use crate::orders::cuts::cut;
 use std::marker::Model;
 
 /// The longest request that a script may ask for, in bytes: 65,537 sectors of 4,096.
@@ -40,7 +42,7 @@ impl<'a> Words<'a> {
             self.rest = rest;
             return None;
         }
-        match rest.split_once(' ') {
+        match cut(rest, b' ') {
             Some((word, after)) => {
                 self.rest = after;
                 Some(word)
@@ -89,15 +91,39 @@ impl<'a> Words<'a> {
     }
 }
 
+/// A number with one decimal digit behind it.
+fn with_digit(number: u64, byte: u8) -> Option<u64>
+    ensures { Finds (IsLonger number byte) result }
+{
+    if byte < b'0' || b'9' < byte {
+        return None;
+    }
+    let tens = number.checked_mul(10)?;
+    tens.checked_add((byte - b'0') as u64)
+}
+
+/// The number that decimal digits spell, which is below 2^64; no digits are worth 0.
+fn worth(digits: &[u8]) -> Option<u64>
+    ensures { Finds (AreWorth digits.now) result }
+{
+    let mut number: u64 = 0;
+    for digit in digits {
+        number = with_digit(number, *digit)?;
+    }
+    Some(number)
+}
+
 /// A number of 1 to 20 decimal digits, below 2^64.
 fn number(word: &str) -> Option<u64>
     ensures { Finds (IsNumber word.now) result }
 {
-    // A plus sign would be taken by `parse`.
-    if word.len() > MOST_DIGITS || word.starts_with('+') {
+    if word.is_empty() {
         return None;
     }
-    word.parse().ok()
+    if word.len() > MOST_DIGITS {
+        return None;
+    }
+    worth(word.as_bytes())
 }
 
 /// A byte of two hexadecimal digits, of either case.

@@ -1,15 +1,21 @@
-use Rattle.std.proofs.Common.{arith, lit<, sym, ◌∙◌}
-use Rattle.script.proofs.Spelled.{no_number, number_found}
+use Rattle.std.proofs.Common.{arith, length, subst, sym, ◌∙◌}
+use borrow.Author.Tests.{eqb-true}
+use Rattle.script.specs.inside.Cuts.{AreWorth}
+use Rattle.script.specs.Script.{Finds}
+use Rattle.script.proofs.Digits.{number_of}
+use Rattle.script.proofs.Parted.{some_from_test}
 use Rattle.script.proofs.orders.words.number.Goals as goal
-use Rattle.script.proofs.orders.words.number.Goals.{then-word-gt-MOST_DIGITS-via-then-word-gt-MOST_DIGITS, then-word-gt-MOST_DIGITS-via-else-word-gt-MOST_DIGITS+then-starts_with}
+
+pub returns-then-is_empty : goal.returns-then-is_empty
+returns-then-is_empty c = λ n is.
+    let none = eqb-true (length c.args.word.now) 0 (sym c.is_empty.ensures ∙ c.if-is_empty.true) in
+    absurd (omega (arith, none, is.digits.0))
 
 pub returns-then-word-gt-MOST_DIGITS : goal.returns-then-word-gt-MOST_DIGITS
-returns-then-word-gt-MOST_DIGITS c = λ n is. elim c.then-word-gt-MOST_DIGITS.branch [
-  | then-word-gt-MOST_DIGITS-via-then-word-gt-MOST_DIGITS w ↦ absurd (omega (arith, w.if-word-gt-MOST_DIGITS.true, is.count))
-  | then-word-gt-MOST_DIGITS-via-else-word-gt-MOST_DIGITS+then-starts_with w ↦
-      no_number c.args.word.now n (sym (w.starts_with.ensures.byte (lit< tt) (lit< tt) (λ t o h. h)) ∙ w.if-starts_with.true) is
-]
+returns-then-word-gt-MOST_DIGITS c = λ n is. absurd (omega (arith, c.if-word-gt-MOST_DIGITS.true, is.count))
 
 pub returns : goal.returns
-returns c = number_found c.args.word.now c.parse.result c.ok.result c.parse.ensures.value.0
-    (sym (c.starts_with.ensures.byte (lit< tt) (lit< tt) (λ t o h. h)) ∙ c.if-starts_with.false) c.if-word-gt-MOST_DIGITS.false c.ok.ensures.value
+returns c =
+    number_of c.args.word.now c.worth.result
+    (some_from_test c.args.word.now (sym c.is_empty.ensures ∙ c.if-is_empty.false)) c.if-word-gt-MOST_DIGITS.false
+    (subst (λ digits. Finds (AreWorth digits) c.worth.result) c.as_bytes.ensures.value c.worth.ensures)

@@ -1,0 +1,7 @@
+use Rattle.std.proofs.Common.{take}
+use Rattle.script.specs.inside.Cuts.{AreWorth}
+use Rattle.script.proofs.orders.words.worth.Given as goal
+
+-- the digits so far are worth the number
+abbrev pub invariant-loop-digit : goal.invariant-loop-digit
+invariant-loop-digit l = AreWorth (take l.digit-index l.digits) l.number
