@@ -5,13 +5,20 @@ judge_usage='usage: stackjudge check [--any-cut] CONFIG TRACE | stackjudge recor
 # Whether the word `asked` has the words behind it that it takes.
 has_judge_words() {
     case $asked in
-        check | record) [ ${#values[@]} = 2 ] && [ ${#options[@]} -le 1 ] ;;
-        picture) [ ${#values[@]} = 1 ] && [ ${#options[@]} -le 1 ] ;;
+        check | record) [ ${#values[@]} = 2 ] ;;
+        picture) [ ${#values[@]} = 1 ] ;;
         *) false ;;
     esac
 }
 
-# Sets `asked` to check, record, picture or nothing, `values` to its paths, and `options` to its option. Behind `--` no word
+# Whether a word is an option of the word `asked`, which it takes once.
+is_new_option() {
+    local word
+    [[ "$asked $1" = 'picture --events' || "$asked $1" = 'check --any-cut' || "$asked $1" = 'check --progress' ]] || return 1
+    for word in "${options[@]}"; do [ "$word" != "$1" ] || return 1; done
+}
+
+# Sets `asked` to check, record, picture or nothing, `values` to its paths, and `options` to its options. Behind `--` no word
 # is an option.
 read_judge_words() {
     local word plain=
@@ -19,7 +26,7 @@ read_judge_words() {
     for word in "${@:2}"; do
         if [ -z "$plain" ] && [ "$word" = -- ]; then
             plain=yes
-        elif [ -z "$plain" ] && [[ "$asked $word" = 'picture --events' || "$asked $word" = 'check --any-cut' ]]; then
+        elif [ -z "$plain" ] && is_new_option "$word"; then
             options+=("$word")
         elif [ -z "$plain" ] && [[ $word = -?* ]]; then
             asked=nothing
@@ -49,6 +56,17 @@ answer_judge_at_once() {
         say "cannot read $told"
         exit 1
     fi
+}
+
+# Whether somebody watches for how far a check comes: standard error is a terminal, and the trace has more than 8 MB, or is
+# standard input, whose length isn't known.
+is_watched() {
+    local trace
+    [ -t 2 ] || return 1
+    read_judge_words "$@"
+    [ "$asked" = check ] && [[ " ${options[*]} " != *' --progress '* ]] || return 1
+    trace=${values[1]}
+    [ "$trace" = - ] || { [ -f "$trace" ] && [ "$(stat -L -c %s "$trace")" -gt 8388608 ]; }
 }
 
 # Standard input is given as a file.

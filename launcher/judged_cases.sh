@@ -82,7 +82,8 @@ add_wrong_bodies() {
     done < "$top/examples/judged/wrong_bodies"
 }
 
-# Adds a trace of another stack, which cuts requests otherwise than this one: it is refused, and legal where any cut will do.
+# Adds a trace of another stack, which cuts requests otherwise than this one: it is refused, and legal where any cut will do,
+# whether it is said how far its check comes or not.
 add_cuts() {
     local folder=$top/examples/judged
     add_case_of cuts.refused check "$folder" "$folder/cut_elsewhere.trace"
@@ -94,6 +95,9 @@ END
     add_case_of cuts.legal check "$folder" "$folder/cut_elsewhere.trace"
     sed -i '1a --any-cut' "$scratch/cases/cuts.legal.args"
     want cuts.legal 0 <<< 'legal: 8 labels, 1 requests, 2 pieces'
+    add_case_of cuts.watched check "$folder" "$folder/cut_elsewhere.trace"
+    sed -i '1a --progress\n--any-cut' "$scratch/cases/cuts.watched.args"
+    want cuts.watched 0 <<< 'legal: 8 labels, 1 requests, 2 pieces'
 }
 
 make_judge_cases() {

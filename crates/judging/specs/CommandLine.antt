@@ -14,9 +14,13 @@ word_rule name = record (new_rule name) { required = true; action = Some Set }
 abbrev pub any_cut_rule : Rule
 any_cut_rule = record (new_rule (codes "any-cut")) { long = Some (codes "any-cut"); action = Some SetTrue }
 
--- check [--any-cut] CONFIG TRACE
+-- --progress, which may be there
+abbrev pub progress_rule : Rule
+progress_rule = record (new_rule (codes "progress")) { long = Some (codes "progress"); action = Some SetTrue }
+
+-- check [--any-cut] [--progress] CONFIG TRACE
 abbrev pub check_words : App
-check_words = with_rule (with_rule (with_rule (new_app (codes "check")) (word_rule (codes "CONFIG"))) (word_rule (codes "TRACE"))) any_cut_rule
+check_words = with_rule (with_rule (with_rule (with_rule (new_app (codes "check")) (word_rule (codes "CONFIG"))) (word_rule (codes "TRACE"))) any_cut_rule) progress_rule
 
 -- record CONFIG SCRIPT
 abbrev pub record_words : App
@@ -41,14 +45,14 @@ IsFlag (Some text) flag = (text ≡ codes "true" → flag ≡ true) × (text ≡
 
 -- a command has what the parser found under the names of its words
 abbrev pub HasWords : List Row → Command → Type 0
-HasWords rows (Check config trace any_cut) = (first_of (codes "CONFIG") rows ≡ Some config.now) × (first_of (codes "TRACE") rows ≡ Some trace.now)
-    × IsFlag (one_of (codes "any-cut") rows) any_cut
+HasWords rows (Check config trace any_cut progress) = (first_of (codes "CONFIG") rows ≡ Some config.now) × (first_of (codes "TRACE") rows ≡ Some trace.now)
+    × IsFlag (one_of (codes "any-cut") rows) any_cut × IsFlag (one_of (codes "progress") rows) progress
 HasWords rows (Record config script) = (first_of (codes "CONFIG") rows ≡ Some config.now) × (first_of (codes "SCRIPT") rows ≡ Some script.now)
 HasWords rows (Picture trace events) = (first_of (codes "TRACE") rows ≡ Some trace.now) × IsFlag (one_of (codes "events") rows) events
 
 -- the word that a command begins with
 abbrev pub name_of : Command → Text
-name_of (Check config trace any_cut) = codes "check"
+name_of (Check config trace any_cut progress) = codes "check"
 name_of (Record config script) = codes "record"
 name_of (Picture trace events) = codes "picture"
 

@@ -9,6 +9,7 @@ ghost use Rattle.judging.specs.declared.faults.Fault.TheVariants.{NoMemory};
 
 use crate::Fault;
 use crate::opened::{Standard, arrays_of, rules_of};
+use crate::progress::Progress;
 use crate::told::{Told, told_by};
 use judge::stepwise::{Judge, Refusal};
 use judge::{Machine, Rule};
@@ -21,18 +22,19 @@ use std::io::{Read, Write};
 
 /// Judges a trace by the machine of some settings, and writes what it is: `legal` with its numbers, or the number of
 /// the first line that no step of the machine allows, a rule that it breaks, and what was open and at the adapter
-/// there.
+/// there. How far it came is said to `progress` meanwhile, of which `out` has nothing.
 ///
 /// # Errors
 ///
 /// The first of these that fits: the settings can't be read, or are refused; the trace can't be read, or has a bad
 /// line; `out` failed. [`Fault::NoMemory`] in place of any of them, where memory was refused, or a count of the trace
 /// is full.
-pub fn check<C: Read + Drop, T: Read + Drop, O: Write>(
+pub fn check<C: Read + Drop, T: Read + Drop, O: Write, W: Write>(
     alloc: Global,
     config: C,
     trace: T,
     out: &mut O,
+    progress: &mut Progress<W>,
 ) -> Result<Verdict, Fault>
     ensures printed { IfOk result (PrintsVerdict false (C.remaining config) (T.remaining trace) (O.contents out.old) (O.contents out.new)) }
     ensures fault { IfErr result (IsCheckFault (C.remaining config) (T.remaining trace)) }
@@ -41,7 +43,7 @@ pub fn check<C: Read + Drop, T: Read + Drop, O: Write>(
         config: read_settings(alloc, config)?,
         any_cut: false,
     };
-    check_by(alloc, &standard, trace, out)
+    check_by(alloc, &standard, trace, out, progress)
 }
 
 /// The same as `check`, for a stack that cuts a request anywhere: a piece may begin at any place of it, and start again
@@ -50,11 +52,12 @@ pub fn check<C: Read + Drop, T: Read + Drop, O: Write>(
 /// # Errors
 ///
 /// As for [`check`].
-pub fn check_any_cut<C: Read + Drop, T: Read + Drop, O: Write>(
+pub fn check_any_cut<C: Read + Drop, T: Read + Drop, O: Write, W: Write>(
     alloc: Global,
     config: C,
     trace: T,
     out: &mut O,
+    progress: &mut Progress<W>,
 ) -> Result<Verdict, Fault>
     ensures printed { IfOk result (PrintsVerdict true (C.remaining config) (T.remaining trace) (O.contents out.old) (O.contents out.new)) }
     ensures fault { IfErr result (IsCheckFault (C.remaining config) (T.remaining trace)) }
@@ -63,15 +66,16 @@ pub fn check_any_cut<C: Read + Drop, T: Read + Drop, O: Write>(
         config: read_settings(alloc, config)?,
         any_cut: true,
     };
-    check_by(alloc, &standard, trace, out)
+    check_by(alloc, &standard, trace, out, progress)
 }
 
 /// Judges a trace by a standard, and writes what it is.
-fn check_by<T: Read + Drop, O: Write>(
+fn check_by<T: Read + Drop, O: Write, W: Write>(
     alloc: Global,
     standard: &Standard,
     trace: T,
     out: &mut O,
+    progress: &mut Progress<W>,
 ) -> Result<Verdict, Fault>
     ensures printed { IfOk result (PrintsBy standard.now (T.remaining trace) (O.contents out.old) (O.contents out.new)) }
     ensures fault { IfErr result (IsFaultBy standard.now (T.remaining trace)) }
@@ -81,7 +85,7 @@ fn check_by<T: Read + Drop, O: Write>(
         return Err(Fault::BadLine { line: 1, column: 1 });
     };
     let told = told_by(alloc, text)?;
-    say_verdict(alloc, standard, &told, out)
+    say_verdict(alloc, standard, &told, out, progress)
 }
 
 /// All bytes of a trace.
@@ -97,17 +101,18 @@ pub(crate) fn bytes_of<R: Read + Drop>(alloc: Global, trace: R) -> Result<Vec<u8
 
 /// Judges labels, and writes what they are.
 #[tactic(auto, using(crate::proofs::Stopping::is_within, crate::proofs::Stopping::said_broken))]
-fn say_verdict<O: Write>(
+fn say_verdict<O: Write, W: Write>(
     alloc: Global,
     standard: &Standard,
     told: &Told,
     out: &mut O,
+    progress: &mut Progress<W>,
 ) -> Result<Verdict, Fault>
     requires { length told.now.lines.items ≡ length told.now.labels.items }
     ensures said { IfOk result (IsSaid standard.now told.now (O.contents out.old) (O.contents out.new)) }
     ensures fault { IfErr result IsOutputFault }
 {
-    match judged(alloc, standard, told.labels.as_slice())? {
+    match judged(alloc, standard, told.labels.as_slice(), progress)? {
         None => {
             say_legal(out, told.labels.as_slice())?;
             Ok(Verdict::Passed)
@@ -131,7 +136,12 @@ struct Stop {
 }
 
 /// The first label that no step of a standard's machine allows, if there is one, and a rule that it breaks.
-fn judged(alloc: Global, standard: &Standard, labels: &[Label]) -> Result<Option<Stop>, Fault>
+fn judged<W: Write>(
+    alloc: Global,
+    standard: &Standard,
+    labels: &[Label],
+    progress: &mut Progress<W>,
+) -> Result<Option<Stop>, Fault>
     ensures judged { IfOk result (IsJudged standard.now labels.now) }
     ensures fault { IfErr result (λ fault. fault ≡ NoMemory) }
 {
@@ -140,7 +150,7 @@ fn judged(alloc: Global, standard: &Standard, labels: &[Label]) -> Result<Option
     let Ok(mut judge) = Judge::new(alloc, rules, arrays) else {
         return Err(Fault::NoMemory);
     };
-    match first_broken(alloc, &mut judge, labels)? {
+    match first_broken(alloc, &mut judge, labels, progress)? {
         None => Ok(None),
         Some((at, rule)) => {
             let sentence = sentence_of(alloc, &judge, rule)?;
@@ -150,15 +160,17 @@ fn judged(alloc: Global, standard: &Standard, labels: &[Label]) -> Result<Option
 }
 
 /// The place of the first of some labels that a judge does not take, if there is one, and a rule that it breaks.
-fn first_broken(
+fn first_broken<W: Write>(
     alloc: Global,
     judge: &mut Judge,
     labels: &[Label],
+    progress: &mut Progress<W>,
 ) -> Result<Option<(usize, Rule)>, Fault>
     ensures found { IfOk result (IsFound judge.old labels.now) }
     ensures fault { IfErr result (λ fault. fault ≡ NoMemory) }
 {
     for (at, label) in labels.iter().enumerate() {
+        progress.say(at as u64);
         match judge.take(alloc, label) {
             Ok(()) => {}
             Err(Refusal::Breaks(rule)) => return Ok(Some((at, rule))),

@@ -9,7 +9,8 @@
 //! of the labels of its steps, from the stack that its settings start; by [`words::command`] (`asked`, `fault`), that
 //! the paths and flags are those that the parser of the command line found under their names, and that only words
 //! which ask for nothing are refused. The words of the rule, and of what was open and at the adapter, are only
-//! tested, and so is what [`drawing::draw`] draws. It does not promise what a file holds, nor that there is memory.
+//! tested, and so are what [`drawing::draw`] draws and the lines of [`progress::Progress`]. It does not promise what a
+//! file holds, nor that there is memory.
 #![tactic(auto)]
 
 pub mod checking;
@@ -17,6 +18,7 @@ pub mod drawing;
 mod faults;
 pub mod input;
 mod opened;
+pub mod progress;
 mod recording;
 pub mod scripts;
 mod told;

@@ -8,7 +8,7 @@ ghost use Rattle.clap.specs.Walk.{rows_of};
 ghost use Rattle.clap.specs.declared.error.ErrorKind.TheVariants.{OutOfMemory};
 ghost use Rattle.judging.specs.declared.faults.Fault.TheVariants.{NoMemory, Usage};
 ghost use Rattle.judging.specs.declared.words.asked.Command.{Command};
-ghost use Rattle.judging.specs.CommandLine.{AsksForNothing, HasWords, IsAsked, IsFoundIn, any_cut_rule, events_rule, name_of, program, word_rule};
+ghost use Rattle.judging.specs.CommandLine.{AsksForNothing, HasWords, IsAsked, IsFoundIn, any_cut_rule, events_rule, name_of, program, progress_rule, word_rule};
 
 use crate::faults::Fault;
 use crate::words::asked::Command;
@@ -42,7 +42,8 @@ fn grammar<'a>(alloc: Global) -> Result<clap::Command<'a>, AllocError>
     let checks = clap::Command::new(alloc, "check")
         .arg(word(alloc, "CONFIG"))?
         .arg(word(alloc, "TRACE"))?
-        .arg(any_cut_flag(alloc))?;
+        .arg(any_cut_flag(alloc))?
+        .arg(progress_flag(alloc))?;
     let records = clap::Command::new(alloc, "record")
         .arg(word(alloc, "CONFIG"))?
         .arg(word(alloc, "SCRIPT"))?;
@@ -61,6 +62,15 @@ fn any_cut_flag<'a>(alloc: Global) -> Arg<'a>
 {
     Arg::new(alloc, "any-cut")
         .long("any-cut")
+        .action(ArgAction::SetTrue)
+}
+
+fn progress_flag<'a>(alloc: Global) -> Arg<'a>
+    ensures rule { rule_of result ≡ progress_rule }
+    ensures local { result.global ≡ false }
+{
+    Arg::new(alloc, "progress")
+        .long("progress")
         .action(ArgAction::SetTrue)
 }
 
@@ -109,10 +119,12 @@ fn check_of<'a>(words: &ArgMatches<'a>) -> Result<Command<'a>, Fault>
         return Err(Fault::Usage);
     };
     let any_cut = words.get_flag("any-cut");
+    let progress = words.get_flag("progress");
     Ok(Command::Check {
         config,
         trace,
         any_cut,
+        progress,
     })
 }
 

@@ -10,16 +10,20 @@ use judging::Fault;
 use judging::checking::{check, check_any_cut};
 use judging::drawing::draw;
 use judging::input::open;
+use judging::progress::Progress;
 use judging::scripts::record_script;
 use judging::words::asked::Command;
 use judging::words::command;
 use startup::{Verdict, ended, fault_of};
 use std::env;
-use std::io::BufWriter;
+use std::io::{BufWriter, Write};
 use std::process::ExitCode;
 
 /// Bytes of output that are written at once.
 const BUFFER: usize = 65_536;
+
+/// Labels between two lines of progress.
+const EVERY: u64 = 100_000;
 
 /// Does what the command line asks for.
 fn run(rt: &HostRuntime) -> Result<Verdict, Fault> {
@@ -32,34 +36,52 @@ fn run(rt: &HostRuntime) -> Result<Verdict, Fault> {
         Command::Check {
             config,
             trace,
-            any_cut: false,
-        } => judge(rt, config, trace),
-        Command::Check {
-            config,
-            trace,
-            any_cut: true,
-        } => judge_any_cut(rt, config, trace),
+            any_cut,
+            progress,
+        } => {
+            let mut progress = Progress {
+                out: rt.stderr(),
+                every: if progress { EVERY } else { 0 },
+            };
+            if any_cut {
+                judge_any_cut(rt, config, trace, &mut progress)
+            } else {
+                judge(rt, config, trace, &mut progress)
+            }
+        }
         Command::Record { config, script } => write_trace(rt, config, script),
         Command::Picture { trace, events } => draw_trace(rt, trace, events),
     }
 }
 
 /// Judges the trace at a path, or that of standard input.
-fn judge(rt: &HostRuntime, config: &str, trace: &str) -> Result<Verdict, Fault> {
+fn judge<W: Write>(
+    rt: &HostRuntime,
+    config: &str,
+    trace: &str,
+    progress: &mut Progress<W>,
+) -> Result<Verdict, Fault> {
+    let alloc = rt.alloc();
     let config = open(rt, config);
     if trace == "-" {
-        return check(rt.alloc(), config, rt.stdin(), &mut rt.stdout());
+        return check(alloc, config, rt.stdin(), &mut rt.stdout(), progress);
     }
-    check(rt.alloc(), config, open(rt, trace), &mut rt.stdout())
+    check(alloc, config, open(rt, trace), &mut rt.stdout(), progress)
 }
 
 /// Judges the same by any cut.
-fn judge_any_cut(rt: &HostRuntime, config: &str, trace: &str) -> Result<Verdict, Fault> {
+fn judge_any_cut<W: Write>(
+    rt: &HostRuntime,
+    config: &str,
+    trace: &str,
+    progress: &mut Progress<W>,
+) -> Result<Verdict, Fault> {
+    let alloc = rt.alloc();
     let config = open(rt, config);
     if trace == "-" {
-        return check_any_cut(rt.alloc(), config, rt.stdin(), &mut rt.stdout());
+        return check_any_cut(alloc, config, rt.stdin(), &mut rt.stdout(), progress);
     }
-    check_any_cut(rt.alloc(), config, open(rt, trace), &mut rt.stdout())
+    check_any_cut(alloc, config, open(rt, trace), &mut rt.stdout(), progress)
 }
 
 /// Writes the trace of the script at a path, or of that of standard input.

@@ -4,6 +4,7 @@ use crate::expect::same;
 use judging::Fault;
 use judging::checking::{check, check_any_cut};
 use judging::drawing::draw;
+use judging::progress::Progress;
 use judging::scripts::record_script;
 use judging::words::asked::Command;
 use judging::words::command;
@@ -37,8 +38,51 @@ static BAD: &str = "call 1 flush in 0\ncall 2 flush in  0\n";
 /// The verdict on a trace, and whether this is printed.
 fn judged(alloc: Global, trace: &str, wanted: &str) -> Option<(Verdict, bool)> {
     let mut out = Vec::new(alloc);
-    let verdict = check(alloc, CONFIG.as_bytes(), trace.as_bytes(), &mut out).ok()?;
+    let verdict = check(
+        alloc,
+        CONFIG.as_bytes(),
+        trace.as_bytes(),
+        &mut out,
+        &mut untold(alloc),
+    )
+    .ok()?;
     Some((verdict, out.as_slice() == wanted.as_bytes()))
+}
+
+/// Says nothing of how far a check came.
+fn untold(alloc: Global) -> Progress<Vec<u8>> {
+    Progress {
+        out: Vec::new(alloc),
+        every: 0,
+    }
+}
+
+/// What is said of how far a check came, every so many labels.
+fn said(alloc: Global, every: u64, trace: &str) -> Option<Vec<u8>> {
+    let mut out: Vec<u8> = Vec::new(alloc);
+    let mut progress = Progress {
+        out: Vec::new(alloc),
+        every,
+    };
+    check(
+        alloc,
+        CONFIG.as_bytes(),
+        trace.as_bytes(),
+        &mut out,
+        &mut progress,
+    )
+    .ok()?;
+    Some(progress.out)
+}
+
+#[test]
+fn it_is_said_how_far_a_check_came(rt: HostRuntime) -> Result<(), Fail> {
+    let told = said(rt.alloc(), 2, TRACE).ok_or("no verdict")?;
+    let wanted = "stackjudge: 2 labels, legal so far\nstackjudge: 4 labels, legal so far\n";
+    same(&rt, &told.as_slice(), &wanted.as_bytes());
+    let told = said(rt.alloc(), 3, TOO_SOON).ok_or("no verdict")?;
+    same(&rt, &told.len(), &0);
+    Ok(())
 }
 
 #[test]
@@ -62,7 +106,14 @@ fn the_first_line_that_no_step_allows_is_named_with_its_rule(rt: HostRuntime) ->
 /// The verdict where any cut will do, and whether this is printed.
 fn judged_any_cut(alloc: Global, trace: &str, wanted: &str) -> Option<(Verdict, bool)> {
     let mut out = Vec::new(alloc);
-    let verdict = check_any_cut(alloc, CONFIG.as_bytes(), trace.as_bytes(), &mut out).ok()?;
+    let verdict = check_any_cut(
+        alloc,
+        CONFIG.as_bytes(),
+        trace.as_bytes(),
+        &mut out,
+        &mut untold(alloc),
+    )
+    .ok()?;
     Some((verdict, out.as_slice() == wanted.as_bytes()))
 }
 
@@ -79,7 +130,14 @@ fn a_cut_off_the_grid_is_legal_where_any_will_do(rt: HostRuntime) -> Result<(), 
 /// The fault of a trace.
 fn fault(alloc: Global, config: &str, trace: &str) -> Option<Fault> {
     let mut out: Vec<u8> = Vec::new(alloc);
-    check(alloc, config.as_bytes(), trace.as_bytes(), &mut out).err()
+    check(
+        alloc,
+        config.as_bytes(),
+        trace.as_bytes(),
+        &mut out,
+        &mut untold(alloc),
+    )
+    .err()
 }
 
 #[test]
@@ -122,16 +180,17 @@ fn a_trace_is_drawn(rt: HostRuntime) -> Result<(), Fail> {
     Ok(())
 }
 
-/// Whether the words ask for a check of these two paths, and for any cut or not.
-fn asks_for_check(alloc: Global, words: &[&str], paths: (&str, &str), cuts: bool) -> bool {
+/// Whether the words ask for a check of these two paths, for any cut or not, and for its progress or not.
+fn asks_for_check(alloc: Global, words: &[&str], paths: (&str, &str), flags: (bool, bool)) -> bool {
     match command(alloc, words) {
         Ok(
             Command::Check {
                 config,
                 trace,
                 any_cut,
+                progress,
             },
-        ) => (config, trace) == paths && any_cut == cuts,
+        ) => (config, trace) == paths && (any_cut, progress) == flags,
         _ => false,
     }
 }
@@ -141,9 +200,23 @@ fn words_ask_for_a_check(rt: HostRuntime) -> Result<(), Fail> {
     let alloc = rt.alloc();
     let paths = ("config.toml", "-");
     let words = ["stackjudge", "check", "config.toml", "-"];
-    same(&rt, &asks_for_check(alloc, &words, paths, false), &true);
+    same(
+        &rt,
+        &asks_for_check(alloc, &words, paths, (false, false)),
+        &true,
+    );
     let words = ["stackjudge", "check", "--any-cut", "config.toml", "-"];
-    same(&rt, &asks_for_check(alloc, &words, paths, true), &true);
+    same(
+        &rt,
+        &asks_for_check(alloc, &words, paths, (true, false)),
+        &true,
+    );
+    let words = ["stackjudge", "check", "--progress", "config.toml", "-"];
+    same(
+        &rt,
+        &asks_for_check(alloc, &words, paths, (false, true)),
+        &true,
+    );
     Ok(())
 }
 

@@ -4,11 +4,12 @@
 #[derive(Debug, Clone, Copy, PartialEq, Eq)]
 pub enum Command<'a> {
     /// Judge a trace, given the paths of the settings and of the trace: by the cuts of this stack, or by any where
-    /// `any_cut` asks for that.
+    /// `any_cut` asks for that. It is said how far it came where `progress` is asked for.
     Check {
         config: &'a str,
         trace: &'a str,
         any_cut: bool,
+        progress: bool,
     },
     /// Write the trace of a script, given the paths of the settings and of the script.
     Record {
