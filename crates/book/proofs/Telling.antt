@@ -1,238 +1,182 @@
--- Which labels of a step may be noted, by the laws on the numbers of a run.
-use Rattle.std.proofs.Common.{◌≡◌, ℕ, ◌+◌, ◌-◌, ◌<◌, ◌&&◌, if◌then◌else◌, false, List, [], ◌∷◌, ◌++◌, length, Option, Some, None, refl, sym, ap, ◌∙◌, subst, arith, length-append, append_assoc}
-use Rattle.std.specs.Prelude.{All, IsPermutation}
-use Rattle.std.proofs.lemmas.List.{append-nil}
-use Rattle.std.proofs.lemmas.List.Sums.{sum_by-cons, sum_by_push}
-use Rattle.std.proofs.lemmas.List.Sorted.{sum_by-IsPermutation, sum_by_popped, All-permutation, IsPermutation-refl}
-use Rattle.std.proofs.lemmas.List.Elements.{All-append, All-head, All-tail, All-cons, All-nil}
+-- The act of an entry that was booked goes on with what was told.
+use Rattle.std.proofs.Common.{◌≡◌, inl, inr, ℕ, Bool, true, false, List, [], ◌∷◌, ◌++◌, length, Option, Some, None, Ok, Err, Result, IsFalse, refl, sym, ap, subst, ◌∙◌, if◌then◌else◌}
+use Rattle.std.specs.Prelude.{slice_get}
+use Rattle.std.proofs.lemmas.List.{map_push}
+use Rattle.srb.specs.declared.Srb.{Srb}
+use Rattle.srb.specs.declared.Entry.{Entry}
+use Rattle.srb.specs.declared.Completion.{Completion}
+use Rattle.srb.specs.declared.DeviceLabel.TheVariants.{Act as ActLabel}
+use Rattle.adapter.specs.View.{AdapterView, IsInOrder}
+use Rattle.adapter.specs.Booking.{IsOfSrb, IsBookable, Books, with_booking}
 use Rattle.machine.specs.declared.Label.{Label}
-use Rattle.machine.specs.declared.Label.TheVariants.{Call, Device, Answer, Cancel, Pause, Resume, Remove, Surprise, Removed}
+use Rattle.machine.specs.declared.Label.TheVariants.{Device}
 use Rattle.machine.specs.Rules.{Rules}
-use Rattle.machine.specs.State.{State, IsSame}
-use Rattle.machine.specs.Step.{Step, Run}
-use Rattle.machine_laws.specs.NumberLaws.{CallsRise, CallsCount, CallsAwait, awaited, call_numbers, answer_numbers}
-use Rattle.book.specs.declared.Entry.{Entry}
-use Rattle.book.specs.Entries.{entry, owner_of, WasCalled, row_of, is_row, is_call, is_answer, calls, labels_of, count_of, is_call_of, is_answer_of}
-use Rattle.book.specs.Pages.{PagesView, owners_after, ready_after, noted, noted_all, MayNote}
-use Rattle.book.specs.Told.{one_of, awaited_of, AreTold, AreNoCalls, MayCall, MayNoteAll}
-use Rattle.book.proofs.Noting.{owner_front, count_snoc, same_row}
+use Rattle.machine.specs.State.{State, opening}
+use Rattle.machine.specs.Step.{Run}
+use Rattle.machine.proofs.Numbers.{AreDistinct-Run, AreDistinct-opening}
+use Rattle.machine_laws.specs.Reached.{IsReached}
+use Rattle.io_manager.specs.declared.OpenHandle.{OpenHandle}
+use Rattle.io_manager.specs.declared.Reply.{Reply}
+use Rattle.io_manager.specs.declared.Reply.TheVariants.{Ok as OkReply}
+use Rattle.io_manager.specs.Shown.{ManagerView}
+use Rattle.io_manager.specs.Right.{BooksPiece, FitsTogether}
+use Rattle.compose.specs.declared.Event.TheVariants.{Act}
+use Rattle.compose.specs.Right.{IsRight}
+use Rattle.compose.specs.Journaled.{ArmedMayBeBooked, BookedActsAddEntries, StepsStayApart, IsJournaled}
+use Rattle.compose.proofs.JournaledStep.{ActsAsBooked, booked_step}
+use Rattle.sector_journal.specs.declared.acted.Entered.{Entered}
+use Rattle.sector_journal.specs.declared.slots.Armed.{Armed}
+use Rattle.sector_journal.specs.Journal.{JournalView, entries_in}
+use Rattle.sector_journal.proofs.Bookable.{of_srb}
+use Rattle.traced.specs.Entries.{labels_of}
+use Rattle.traced.specs.Traced.{TracedView, IsCarried, IsServed, IsTraced}
+use Rattle.book.specs.Acting.{IsAsLarge, MayBook, HoldsBooked, ActsEntry}
+use Rattle.book.specs.Arming.{IsOfThis, IsOfTag, claimed_at}
+use Rattle.book.specs.Book.{BookView, BooksOne, IsKept, book_of}
+use Rattle.book.specs.Staying.{Claimed, IsClaimed, IsOnTag, AreOnTags, HaveNotedAll, ArmedStays}
+use Rattle.book.specs.Taken.{TakesNext}
+use Rattle.book.proofs.Going.{labels_carried, act_carried, tags_booked, tags_kept}
 
--- the laws that serve here
-pub record Laws : Type 0 where
-  pub rise : CallsRise
-  pub count : CallsCount
-  pub await : CallsAwait
+some_entered : {x y : Entered} → Some x ≡ Some y → x ≡ y
+some_entered {x} {y} e = cc
 
-same_refl : (s : State) → IsSame s s
-same_refl s = record {
-  arrays = refl;
-  next_request = refl;
-  next_piece = refl;
-  requests = IsPermutation-refl s.requests;
-  pieces = IsPermutation-refl s.pieces;
-  owed = refl;
-  paused = refl;
-  removing = refl;
-  removed = refl;
-}
+pub apart_still : (old new : AdapterView) (tag piece : ℕ) (what : Result Entry Completion) → Books old tag piece what new → IsFalse old.faithful → IsFalse new.faithful
+apart_still old new tag piece what books apart = subst (λ (v : AdapterView). IsFalse v.faithful) (sym books.after) (by_choice books.booked)
+  where
+    by_choice : (booked : Bool) → IsFalse (if booked then with_booking tag what old else old).faithful
+    by_choice true = apart
+    by_choice false = apart
 
-called_more : (owners : List ℕ) (c : ℕ) (ns : List ℕ) → All (WasCalled owners) ns → All (WasCalled (owners ++ c ∷ [])) ns
-called_more owners c [] all = All-nil _
-called_more owners c (n ∷ ns) all =
-    let h = All-head (WasCalled owners) n ns all in
-    All-cons (WasCalled (owners ++ c ∷ [])) n ns (h.0, (let b = h.1 in omega (arith, length-append owners (c ∷ [])))) (called_more owners c ns (All-tail (WasCalled owners) n ns all))
+-- what the entry was armed as, which is the piece on its tag
+record IsArmedThere (journal : JournalView) (view : AdapterView) (number : ℕ) (entered : Entered) : Type 0 where
+  armed : Armed
+  on_tag : IsOnTag view entered.entry.tag armed
+  piece_is : entered.entry.piece ≡ armed.piece
+  of_srb : IsOfSrb journal.medium.sector_size (length journal.medium.sectors) armed.srb entered.entry
 
-awaited_stays : (owners : List ℕ) (d c : ℕ) (ns : List ℕ) → All (WasCalled owners) ns → awaited_of (owners ++ d ∷ []) c ns ≡ awaited_of owners c ns
-awaited_stays owners d c [] all = refl
-awaited_stays owners d c (n ∷ ns) all =
-    sum_by-cons (one_of (owners ++ d ∷ []) c) n ns
-    ∙ ap (λ o. (if is_row c o then 1 else 0) + awaited_of (owners ++ d ∷ []) c ns) (owner_front owners (d ∷ []) n (All-head (WasCalled owners) n ns all))
-    ∙ ap (λ k. one_of owners c n + k) (awaited_stays owners d c ns (All-tail (WasCalled owners) n ns all))
-    ∙ sym (sum_by-cons (one_of owners c) n ns)
-
--- how much an entry adds to a count of calls and of answers in a row
-calls_more : (c : ℕ) (es : List Entry) (e : Entry) (k : ℕ) → (if is_call_of c e then 1 else 0) ≡ k → count_of (is_call_of c) (es ++ e ∷ []) ≡ count_of (is_call_of c) es + k
-calls_more c es e k is = count_snoc (is_call_of c) es e ∙ ap (λ n. count_of (is_call_of c) es + n) is
-
-answers_more : (c : ℕ) (es : List Entry) (e : Entry) (k : ℕ) → (if is_answer_of c e then 1 else 0) ≡ k → count_of (is_answer_of c) (es ++ e ∷ []) ≡ count_of (is_answer_of c) es + k
-answers_more c es e k is = count_snoc (is_answer_of c) es e ∙ ap (λ n. count_of (is_answer_of c) es + n) is
-
-any_more : (es : List Entry) (e : Entry) (k : ℕ) → (if is_call e.label then 1 else 0) ≡ k → calls (es ++ e ∷ []) ≡ calls es + k
-any_more es e k is = count_snoc (λ f. is_call f.label) es e ∙ ap (λ n. calls es + n) is
-
-module _ (laws : Laws) (rules : Rules) (s s' : State) where
-  alone : (label : Label) → Step rules s label s' → Run rules s (label ∷ []) s'
-  alone label step = (s', step, same_refl s')
-
-  waiting : (label : Label) → Step rules s label s' → IsPermutation (awaited s ++ call_numbers (label ∷ [])) (answer_numbers (label ∷ []) ++ awaited s')
-  waiting label step = laws.await rules s (label ∷ []) s' (alone label step)
-
-  next_is : (label : Label) → Step rules s label s' → s'.next_request ≡ s.next_request + length (call_numbers (label ∷ []))
-  next_is label step = laws.count rules s (label ∷ []) s' (alone label step)
-
-  -- a label of no request, at plain facts on it
-  plain : (es : List Entry) (owners : List ℕ) (label : Label) → AreTold es owners s → IsPermutation (awaited s ++ []) (awaited s') → s'.next_request ≡ s.next_request + 0
-      → is_call label ≡ false → is_answer label ≡ false → AreTold (es ++ entry label (row_of owners label) ∷ []) owners s'
-  plain es owners label told same next no_call no_answer =
-      let perm : IsPermutation (awaited s) (awaited s') = subst (λ xs. IsPermutation xs (awaited s')) (append-nil (awaited s)) same in
-      record {
-        next = next ∙ (let t = told.next in omega arith);
-        counted = any_more es (entry label (row_of owners label)) 0 (ap (λ b. if b then 1 else 0) no_call) ∙ (let t = told.counted in omega arith);
-        called = All-permutation (WasCalled owners) (awaited s) (awaited s') perm told.called;
-        balanced = λ c.
-            let e : Entry = entry label (row_of owners label) in
-            let calls = calls_more c es e 0 (ap (λ b. if (b && is_row c e.row) then 1 else 0) no_call) in
-            let answers = answers_more c es e 0 (ap (λ b. if (b && is_row c e.row) then 1 else 0) no_answer) in
-            let sums : awaited_of owners c (awaited s') ≡ awaited_of owners c (awaited s) = sum_by-IsPermutation (one_of owners c) (awaited s) (awaited s') perm in
-            let b = told.balanced c in omega arith;
-      }
-
-  module _ (clients client : ℕ) (p : PagesView) (told : AreTold p.entries p.owners s) where
-    Noted : Label → Type 0
-    Noted label = MayNote clients client p label × AreTold (noted client p label).entries (noted client p label).owners s'
-
-    called_now : (n : ℕ) (q : _) → Step rules s (Call n q) s' → client < clients → p.ready ≡ Some client → Noted (Call n q)
-    unfolding Noted
-    called_now n q step less ready =
-        let number : n ≡ length p.owners + 1 = (laws.rise rules s (Call n q ∷ []) s' (alone (Call n q) step)).0 ∙ told.next in
-        let owners : List ℕ = p.owners ++ client ∷ [] in
-        let all : All (WasCalled owners) (awaited s) = called_more p.owners client (awaited s) told.called in
-        let this : WasCalled owners n = (omega arith, omega (arith, length-append p.owners (client ∷ []))) in
-        let perm : IsPermutation (awaited s ++ n ∷ []) (awaited s') = waiting (Call n q) step in (
-          (number, less, ready),
-          record {
-            next = next_is (Call n q) step ∙ (let t = told.next in omega (arith, length-append p.owners (client ∷ [])));
-            counted = any_more p.entries (entry (Call n q) (owner_of owners n)) 1 refl ∙ (let t = told.counted in omega (arith, length-append p.owners (client ∷ [])));
-            called = All-permutation (WasCalled owners) (awaited s ++ n ∷ []) (awaited s') perm
-                (All-append (WasCalled owners) (awaited s) (n ∷ []) all (All-cons (WasCalled owners) n [] this (All-nil _)));
-            balanced = λ c.
-                let e : Entry = entry (Call n q) (owner_of owners n) in
-                let calls = calls_more c p.entries e (one_of owners c n) refl in
-                let answers = answers_more c p.entries e 0 refl in
-                let sums : awaited_of owners c (awaited s') ≡ awaited_of p.owners c (awaited s) + one_of owners c n =
-                sum_by-IsPermutation (one_of owners c) (awaited s ++ n ∷ []) (awaited s') perm ∙ sum_by_push (one_of owners c) (awaited s) n
-                ∙ ap (λ k. k + one_of owners c n) (awaited_stays p.owners client c (awaited s) told.called) in
-                let b = told.balanced c in omega arith;
-          },
-        )
-
-    answered_now : (n : ℕ) (st : _) (i : ℕ) (b : List ℕ) → Step rules s (Answer n st i b) s' → Noted (Answer n st i b)
-    unfolding Noted
-    answered_now n st i b step =
-        let perm : IsPermutation (awaited s) (n ∷ awaited s') = subst (λ xs. IsPermutation xs (n ∷ awaited s')) (append-nil (awaited s)) (waiting (Answer n st i b) step) in
-        let all : All (WasCalled p.owners) (n ∷ awaited s') = All-permutation (WasCalled p.owners) (awaited s) (n ∷ awaited s') perm told.called in
-        let sums : (c : ℕ) → awaited_of p.owners c (awaited s') + one_of p.owners c n ≡ awaited_of p.owners c (awaited s) = λ c. sum_by_popped (one_of p.owners c) n (awaited s) (awaited s') perm in (
-          (
-            All-head (WasCalled p.owners) n (awaited s') all,
-            λ c is.
-                let one : one_of p.owners c n ≡ 1 = ap (λ o. if is_row c o then 1 else 0) is ∙ ap (λ t. if t then 1 else 0) (same_row c c refl) in
-                let t = sums c in let w = told.balanced c in omega arith,
-          ),
-          record {
-            next = next_is (Answer n st i b) step ∙ (let t = told.next in omega arith);
-            counted = any_more p.entries (entry (Answer n st i b) (owner_of p.owners n)) 0 refl ∙ (let t = told.counted in omega arith);
-            called = All-tail (WasCalled p.owners) n (awaited s') all;
-            balanced = λ c.
-                let e : Entry = entry (Answer n st i b) (owner_of p.owners n) in
-                let calls = calls_more c p.entries e 0 refl in
-                let answers = answers_more c p.entries e (one_of p.owners c n) refl in
-                let t = sums c in let w = told.balanced c in omega arith;
-          },
-        )
-
-    pub told_next : (label : Label) → Step rules s label s' → MayCall clients client p.ready (label ∷ []) → MayNote clients client p label × AreTold (noted client p label).entries (noted client p label).owners s'
-    unfolding Noted
-    told_next (Call n q) step may = called_now n q step may.0 may.1
-    told_next (Answer n st i b) step may = answered_now n st i b step
-    told_next (Device l) step may = (tt, plain p.entries p.owners (Device l) told (waiting (Device l) step) (next_is (Device l) step) refl refl)
-    told_next (Cancel n) step may = (tt, plain p.entries p.owners (Cancel n) told (waiting (Cancel n) step) (next_is (Cancel n) step) refl refl)
-    told_next Pause step may = (tt, plain p.entries p.owners Pause told (waiting Pause step) (next_is Pause step) refl refl)
-    told_next Resume step may = (tt, plain p.entries p.owners Resume told (waiting Resume step) (next_is Resume step) refl refl)
-    told_next Remove step may = (tt, plain p.entries p.owners Remove told (waiting Remove step) (next_is Remove step) refl refl)
-    told_next Surprise step may = (tt, plain p.entries p.owners Surprise told (waiting Surprise step) (next_is Surprise step) refl refl)
-    told_next Removed step may = (tt, plain p.entries p.owners Removed told (waiting Removed step) (next_is Removed step) refl refl)
-
--- A RUN
-
-pub no_calls_may : (clients client : ℕ) (ready : Option ℕ) (labels : List Label) → AreNoCalls labels → MayCall clients client ready labels
-no_calls_may clients client ready [] none = tt
-no_calls_may clients client ready (Call n q ∷ ls) none = absurd none
-no_calls_may clients client ready (Answer n st i b ∷ ls) none = no_calls_may clients client ready ls none
-no_calls_may clients client ready (Device l ∷ ls) none = no_calls_may clients client ready ls none
-no_calls_may clients client ready (Cancel n ∷ ls) none = no_calls_may clients client ready ls none
-no_calls_may clients client ready (Pause ∷ ls) none = no_calls_may clients client ready ls none
-no_calls_may clients client ready (Resume ∷ ls) none = no_calls_may clients client ready ls none
-no_calls_may clients client ready (Remove ∷ ls) none = no_calls_may clients client ready ls none
-no_calls_may clients client ready (Surprise ∷ ls) none = no_calls_may clients client ready ls none
-no_calls_may clients client ready (Removed ∷ ls) none = no_calls_may clients client ready ls none
-
-may_first : (clients client : ℕ) (ready : Option ℕ) (label : Label) (ls : List Label) → MayCall clients client ready (label ∷ ls) → MayCall clients client ready (label ∷ []) × MayCall clients client (ready_after ready label) ls
-may_first clients client ready (Call n q) ls may = ((may.0, may.1, tt), no_calls_may clients client None ls may.2)
-may_first clients client ready (Answer n st i b) ls may = (tt, may)
-may_first clients client ready (Device l) ls may = (tt, may)
-may_first clients client ready (Cancel n) ls may = (tt, may)
-may_first clients client ready Pause ls may = (tt, may)
-may_first clients client ready Resume ls may = (tt, may)
-may_first clients client ready Remove ls may = (tt, may)
-may_first clients client ready Surprise ls may = (tt, may)
-may_first clients client ready Removed ls may = (tt, may)
-
-same_told : Laws → (rules : Rules) (s s' : State) (es : List Entry) (owners : List ℕ) → IsSame s s' → AreTold es owners s → AreTold es owners s'
-same_told laws rules s s' es owners same told =
-    let next : s'.next_request ≡ s.next_request + 0 = laws.count rules s [] s' same in
-    let perm : IsPermutation (awaited s) (awaited s') = subst (λ xs. IsPermutation xs (awaited s')) (append-nil (awaited s)) (laws.await rules s [] s' same) in
+there_of : (journal : JournalView) (view : AdapterView) (claims : List (ℕ × Armed)) (number : ℕ) (entered : Entered) → slice_get journal.entered number ≡ Some entered
+    → (of_this : IsOfThis journal claims number) → ((n : ℕ) (armed : Armed) → claims ≡ (n, armed) ∷ [] → IsOnTag view entered.entry.tag armed) → IsArmedThere journal view number entered
+there_of journal view claims number entered there of_this on =
+    let same : of_this.entered ≡ entered = some_entered (sym of_this.there ∙ there) in
     record {
-      next = next ∙ (let t = told.next in omega arith);
-      counted = told.counted;
-      called = All-permutation (WasCalled owners) (awaited s) (awaited s') perm told.called;
-      balanced = λ c. ap (λ k. count_of (is_answer_of c) es + k) (sum_by-IsPermutation (one_of owners c) (awaited s) (awaited s') perm) ∙ told.balanced c;
+      armed = of_this.armed;
+      on_tag = on of_this.entered.arming of_this.armed of_this.claimed;
+      piece_is = ap (λ (e : Entered). e.entry.piece) (sym same) ∙ of_this.is_piece;
+      of_srb = subst (λ (e : Entered). IsOfSrb journal.medium.sector_size (length journal.medium.sectors) of_this.armed.srb e.entry) same of_this.of_srb;
     }
 
-pub told_all : Laws → (rules : Rules) (s s' : State) (clients client : ℕ) (p : PagesView) (labels : List Label) → Run rules s labels s' → AreTold p.entries p.owners s → MayCall clients client p.ready labels
-    → MayNoteAll clients client p labels × AreTold (noted_all client p labels).entries (noted_all client p labels).owners s'
-told_all laws rules s s' clients client p [] run told may = (tt, same_told laws rules s s' p.entries p.owners run told)
-told_all laws rules s s' clients client p (label ∷ labels) run told may =
-    let first = may_first clients client p.ready label labels may in
-    let here = told_next laws rules s run.0 clients client p told label run.1 first.0 in
-    let more = told_all laws rules run.0 s' clients client (noted client p label) labels run.2 here.1 first.1 in
-    ((here.0, more.0), more.1)
+armed_there : (journal : JournalView) (view : AdapterView) (tags : Claimed) (claimed : Option (List (ℕ × Armed))) (number : ℕ) (entered : Entered) → slice_get journal.entered number ≡ Some entered → AreOnTags view tags
+    → claimed_at tags entered.entry.tag ≡ claimed → IsOfTag journal claimed number → IsArmedThere journal view number entered
+armed_there journal view tags (Some claims) number entered there on at of =
+    there_of journal view claims number entered there of (λ n armed e. on entered.entry.tag n armed (at ∙ ap Some e))
+armed_there journal view tags None number entered there on at of = absurd of
 
--- at the start nothing waits
-pub told_first : (s : State) → s.next_request ≡ 1 → awaited s ≡ [] → AreTold [] [] s
-told_first s next none = record {
-  next = next ∙ (let z : 1 ≡ 0 + 1 = omega arith in z);
-  counted = refl;
-  called = subst (All (WasCalled [])) (sym none) (All-nil _);
-  balanced = λ c. ap (λ ns. 0 + awaited_of [] c ns) none;
-}
+module _ (armed : ArmedMayBeBooked) (adds : BookedActsAddEntries) (apart : StepsStayApart) (stays : ArmedStays) (rules : Rules) (start : State) (partitions : List ℕ) (handles : List (Option OpenHandle))
+    (old held new : TracedView) (taken taken' : List Entered) (tags tags' : Claimed) (journal : JournalView) (entered : Entered) (reply : Reply)
+    (kept : IsKept rules start old taken tags) (is : IsTraced rules start partitions handles old) (fits : FitsTogether old.stack) (may : MayBook rules journal tags (length taken))
+    (there : slice_get journal.entered (length taken) ≡ Some entered) (holds : HoldsBooked old entered.entry.tag entered.entry.piece (Ok entered.entry) held)
+    (order : IsInOrder held.stack.adapter) (fits' : FitsTogether held.stack) (reached : IsReached held.stack.rules held.stack.state)
+    (served : IsServed 0 held (Act entered.entry.tag) reply new)
+    (noted : (labels : List Label) → labels_of new.entries ≡ labels_of held.entries ++ labels → HaveNotedAll labels tags tags') (takes : TakesNext journal.entered taken taken') where
+  abbrev trace : List Label
+  trace = labels_of old.entries
 
--- WHAT WAS NOTED
+  abbrev carried : IsCarried 0 held (Act entered.entry.tag) reply new
+  carried = act_carried 0 held entered.entry.tag reply new served
 
-pub room_noted : (client : ℕ) (p : PagesView) (labels : List Label) → (noted_all client p labels).room ≡ p.room - length labels
-room_noted client p [] = omega arith
-room_noted client p (label ∷ labels) = room_noted client (noted client p label) labels ∙ omega arith
+  abbrev stepped : ManagerView
+  stepped = carried.stepped
 
-labels_snoc : (es : List Entry) (label : Label) (row : Option ℕ) → labels_of (es ++ entry label row ∷ []) ≡ labels_of es ++ label ∷ []
-labels_snoc [] label row = refl
-labels_snoc (e ∷ es) label row = ap (λ ls. e.label ∷ ls) (labels_snoc es label row)
+  same : may.entered ≡ entered
+  same = some_entered (sym may.there ∙ there)
 
-pub labels_noted : (client : ℕ) (p : PagesView) (labels : List Label) → labels_of (noted_all client p labels).entries ≡ labels_of p.entries ++ labels
-labels_noted client p [] = sym (append-nil _)
-labels_noted client p (label ∷ labels) =
-    labels_noted client (noted client p label) labels ∙ ap (λ ls. ls ++ labels) (labels_snoc p.entries label (row_of (owners_after client p.owners label) label))
-    ∙ append_assoc (labels_of p.entries) (label ∷ []) labels
+  here : IsArmedThere journal old.stack.adapter (length taken) entered
+  here =
+      armed_there journal old.stack.adapter tags (claimed_at tags entered.entry.tag) (length taken) entered there kept.on_tags refl
+      (subst (λ (e : Entered). IsOfTag journal (claimed_at tags e.entry.tag) (length taken)) same may.of_tag)
 
-pub calls_noted : (client : ℕ) (p : PagesView) (labels : List Label) → calls (noted_all client p labels).entries ≡ calls p.entries + length (call_numbers labels)
-calls_noted client p [] = omega arith
-calls_noted client p (label ∷ labels) = calls_noted client (noted client p label) labels ∙ one label
-  where
-    one : (l : Label) → calls (noted client p l).entries + length (call_numbers labels) ≡ calls p.entries + length (call_numbers (l ∷ labels))
-    one (Call n q) = ap (λ k. k + length (call_numbers labels)) (count_snoc (λ e. is_call e.label) p.entries _) ∙ omega arith
-    one (Answer n st i b) = ap (λ k. k + length (call_numbers labels)) (count_snoc (λ e. is_call e.label) p.entries _) ∙ omega arith
-    one (Device l) = ap (λ k. k + length (call_numbers labels)) (count_snoc (λ e. is_call e.label) p.entries _) ∙ omega arith
-    one (Cancel n) = ap (λ k. k + length (call_numbers labels)) (count_snoc (λ e. is_call e.label) p.entries _) ∙ omega arith
-    one Pause = ap (λ k. k + length (call_numbers labels)) (count_snoc (λ e. is_call e.label) p.entries _) ∙ omega arith
-    one Resume = ap (λ k. k + length (call_numbers labels)) (count_snoc (λ e. is_call e.label) p.entries _) ∙ omega arith
-    one Remove = ap (λ k. k + length (call_numbers labels)) (count_snoc (λ e. is_call e.label) p.entries _) ∙ omega arith
-    one Surprise = ap (λ k. k + length (call_numbers labels)) (count_snoc (λ e. is_call e.label) p.entries _) ∙ omega arith
-    one Removed = ap (λ k. k + length (call_numbers labels)) (count_snoc (λ e. is_call e.label) p.entries _) ∙ omega arith
+  suits : IsOfSrb old.stack.adapter.sector_size (length old.stack.adapter.sectors) here.on_tag.srb entered.entry
+  suits =
+      let stack's : IsOfSrb journal.medium.sector_size (length journal.medium.sectors) here.on_tag.srb entered.entry =
+      of_srb journal.medium.sector_size (length journal.medium.sectors) here.armed.srb here.on_tag.srb entered.entry here.on_tag.same here.of_srb in
+      subst (λ (n : ℕ). IsOfSrb n (length old.stack.adapter.sectors) here.on_tag.srb entered.entry) (may.large.sector_size ∙ ap (λ (r : Rules). r.sector_size) (sym is.same_rules) ∙ fits.read.same_size)
+      (subst (λ (n : ℕ). IsOfSrb journal.medium.sector_size n here.on_tag.srb entered.entry) (may.large.sectors ∙ ap (λ (r : Rules). r.disk_sectors) (sym is.same_rules) ∙ fits.read.same_sectors) stack's)
+
+  run : Run old.stack.rules (opening kept.arrays) trace old.stack.state
+  run = subst (λ (r : Rules). Run r (opening kept.arrays) trace old.stack.state) (sym is.same_rules) (subst (λ (s : State). Run rules s trace old.stack.state) kept.starts is.run)
+
+  bookable : IsBookable old.stack.adapter entered.entry.tag entered.entry.piece (Ok entered.entry)
+  bookable =
+      subst (λ (k : ℕ). IsBookable old.stack.adapter entered.entry.tag k (Ok entered.entry)) (sym here.piece_is)
+      (armed kept.arrays trace (entries_in taken) old.stack entered.entry.tag here.armed.piece here.on_tag.srb (Ok entered.entry) run kept.journaled kept.apart here.on_tag.is_armed suits)
+
+  as_booked : ActsAsBooked trace entered.entry.piece entered.entry reply stepped
+  as_booked =
+      booked_step trace old.stack held.stack stepped entered.entry.tag entered.entry.piece entered.entry holds.books bookable order fits'.read
+      (AreDistinct-Run _ _ _ _ (AreDistinct-opening reached.arrays) reached.run) kept.journaled.started refl refl reply carried.right
+
+  same_trace : labels_of held.entries ≡ trace
+  same_trace = ap (λ (v : TracedView). labels_of v.entries) holds.same
+
+  longer : labels_of new.entries ≡ trace ++ stepped.labels
+  longer = labels_carried 0 held (Act entered.entry.tag) reply new carried ∙ ap (λ (ls : List Label). ls ++ stepped.labels) same_trace
+
+  more : entries_in taken' ≡ entries_in taken ++ entered.entry ∷ []
+  more =
+      let next : takes.next ≡ entered = some_entered (sym takes.there ∙ there) in
+      ap entries_in takes.after ∙ map_push (λ (e : Entered). e.entry) taken takes.next ∙ ap (λ (e : Entered). entries_in taken ++ e.entry ∷ []) next
+
+  journaled : IsJournaled (trace ++ stepped.labels) (entries_in taken ++ entered.entry ∷ []) stepped
+  journaled =
+      adds trace (entries_in taken) old.stack held.stack stepped entered.entry.tag entered.entry.piece (Ok entered.entry) reply bookable (refl, refl) holds.books order fits' reached carried.right kept.journaled
+
+  journaled_taken : IsJournaled (labels_of new.entries) (entries_in taken') (record stepped { labels = [] })
+  journaled_taken = subst (λ (es : List Entry). IsJournaled (labels_of new.entries) es (record stepped { labels = [] })) (sym more)
+      (subst (λ (ls : List Label). IsJournaled ls (entries_in taken ++ entered.entry ∷ []) (record stepped { labels = [] })) (sym longer)
+      (record { of_acts = journaled.of_acts; started = journaled.started }))
+
+  on_tags : AreOnTags stepped.adapter tags'
+  on_tags =
+      tags_kept stays held.stack (Act entered.entry.tag) reply stepped tags tags' carried.right (noted stepped.labels (labels_carried 0 held (Act entered.entry.tag) reply new carried))
+      (tags_booked old.stack.adapter entered.entry.tag entered.entry.piece (Ok entered.entry) held.stack.adapter tags holds.books.adapter kept.on_tags)
+
+  still_apart : IsFalse stepped.adapter.faithful
+  still_apart =
+      apart held.stack (Act entered.entry.tag) reply stepped carried.right (apart_still old.stack.adapter held.stack.adapter entered.entry.tag entered.entry.piece (Ok entered.entry) holds.books.adapter kept.apart)
+
+  pub kept_on : IsKept rules start new taken' tags'
+  kept_on = record {
+    arrays = kept.arrays;
+    starts = kept.starts;
+    whole = kept.whole;
+    journaled = subst (λ (v : ManagerView). IsJournaled (labels_of new.entries) (entries_in taken') v) (sym carried.stack) journaled_taken;
+    apart = subst (λ (v : ManagerView). IsFalse v.adapter.faithful) (sym carried.stack) still_apart;
+    on_tags = subst (λ (v : ManagerView). AreOnTags v.adapter tags') (sym carried.stack) on_tags;
+  }
+
+  -- its reply is OK
+  answered_ok : (ok : Reply) → reply ≡ ok → IsCarried 0 held (Act entered.entry.tag) ok new
+  answered_ok ok is = record {
+    stepped = carried.stepped;
+    right = subst (λ (r : Reply). IsRight held.stack (Act entered.entry.tag) r stepped) is carried.right;
+    stack = carried.stack;
+    entries = carried.entries;
+    owners = carried.owners;
+    looks = carried.looks;
+  }
+
+  pub books_one : (tag : ℕ) → tag ≡ entered.entry.tag → BooksOne tag (book_of old taken) (book_of new taken')
+  unfolding answered_ok
+  books_one tag tag_is = record {
+    next = entered;
+    is_tag = sym tag_is;
+    acts = record {
+      held = held;
+      holds = holds;
+      carried = answered_ok OkReply as_booked.replies;
+      tells = as_booked.labels;
+    };
+    taken =
+        let next : takes.next ≡ entered = some_entered (sym takes.there ∙ there) in
+        takes.after ∙ ap (λ (e : Entered). taken ++ e ∷ []) next;
+  }

@@ -1,116 +1,81 @@
--- A book: a stack, the trace of all its labels with a row for each client, and the marks on its open requests.
-use Rattle.std.specs.Prelude.{◌≡◌, ◌⊎◌, ℕ, zero, suc, ◌+◌, Bool, true, false, List, [], Option, Some, None, length}
+-- A book beside its journal: a stack with its trace, and the entries that were booked.
+use Rattle.std.specs.Prelude.{◌≡◌, ◌⊎◌, ℕ, zero, suc, ◌+◌, List, [], ◌∷◌, ◌++◌, Option, Some, None, Err, IsFalse, length}
 use Rattle.std.specs.Borrow.{MutBor}
 use mathlib.Core.Logic.{inl, inr}
+use Rattle.srb.specs.declared.Completion.{Completion}
+use Rattle.machine.specs.declared.Label.{Label}
 use Rattle.machine.specs.Rules.{Rules}
-use Rattle.machine.specs.State.{State}
-use Rattle.machine.specs.Settled.{Settled, IsFinished}
-use Rattle.machine.specs.Step.{Run}
-use Rattle.cancel_marks.specs.declared.rule.View.{View}
-use Rattle.cancel_marks.specs.Marks.{slot_at}
-use Rattle.book.specs.declared.Entry.{Entry}
+use Rattle.machine.specs.State.{State, opening}
+use Rattle.machine_laws.specs.Booked.{AreOfActs}
+use Rattle.machine_laws.specs.Reached.{AreWhole}
 use Rattle.io_manager.specs.declared.Handle.{Handle}
-use Rattle.io_manager.specs.declared.OpenHandle.{OpenHandle}
-use Rattle.io_manager.specs.declared.Refusal.TheVariants.{InsufficientResources}
 use Rattle.io_manager.specs.declared.Reply.{Reply}
-use Rattle.io_manager.specs.declared.Reply.TheVariants.{Refused}
-use Rattle.io_manager.specs.Right.{FitsTogether}
-use Rattle.io_manager.specs.Shown.{ManagerView}
+use Rattle.io_manager.specs.declared.Reply.TheVariants.{Ok as OkReply}
 use Rattle.compose.specs.declared.Event.{Event}
-use Rattle.compose.specs.declared.Event.TheVariants.{Read, Write, Flush, Mark, QueryRemove}
-use Rattle.compose.specs.Right.{IsRight}
-use Rattle.book.specs.Serving.{open_at}
-use Rattle.book.specs.Entries.{labels_of, AreRowed}
-use Rattle.book.specs.Opening.{AreClientsOf}
-use Rattle.book.specs.Pages.{PagesView, noted_all, AreKept}
-use Rattle.book.specs.Rows.{RowView}
-use Rattle.book.specs.Shares.{ShareView}
-use Rattle.book.specs.Slots.{IsArmedAs, LooksNowhere, LooksAt}
-use Rattle.book.specs.Told.{AreTold}
+use Rattle.compose.specs.declared.Event.TheVariants.{Read, Write, Flush, Act}
+use Rattle.compose.specs.Journaled.{IsJournaled}
+use Rattle.sector_journal.specs.declared.acted.Entered.{Entered}
+use Rattle.sector_journal.specs.Journal.{entries_in}
+use Rattle.traced.specs.Entries.{labels_of}
+use Rattle.traced.specs.Shares.{ShareView}
+use Rattle.traced.specs.Traced.{TracedView, AreLooked, IsServed, HasCounted}
+use Rattle.book.specs.Acting.{ActsEntry, HoldsBooked}
+use Rattle.book.specs.Staying.{Claimed, AreOnTags}
 
--- its stack between two steps, the entries of the trace, the clients of all requests by number, and what the owner of the marks knows
+-- the stack with its trace, and the journal's entries of its acts, in order
 pub record BookView : Type 0 where
-  pub stack : ManagerView
-  pub entries : List Entry
-  pub owners : List ℕ
-  pub marks : View
+  pub traced : TracedView
+  pub taken : List Entered
+
+abbrev pub book_of : TracedView → List Entered → BookView
+book_of traced taken = record { traced = traced; taken = taken }
+
+-- nothing happened to it
+abbrev pub IsSameBook : TracedView → List Entered → TracedView → List Entered → Type 0
+IsSameBook old before new after = (new ≡ old) × (after ≡ before)
 
 -- WHAT HOLDS WHENEVER THE LOCK IS GOT
 
--- a slot is armed exactly with the open request there
-abbrev pub AreMarked : ManagerView → View → Type 0
-AreMarked stack marks = (k : ℕ) → IsArmedAs (slot_at marks k) (open_at stack k)
+-- act n of the trace is of entry n, whose sectors stand elsewhere, and what is claimed of the tags may act there
+pub record IsKept (rules : Rules) (start : State) (traced : TracedView) (taken : List Entered) (tags : Claimed) : Type 0 where
+  pub arrays : List (List (List ℕ))
+  pub starts : start ≡ opening arrays
+  pub whole : AreWhole rules arrays
+  pub journaled : IsJournaled (labels_of traced.entries) (entries_in taken) traced.stack
+  pub apart : IsFalse traced.stack.adapter.faithful
+  pub on_tags : AreOnTags traced.stack.adapter tags
 
--- the trace is a run from the opening state to the one that the stack shows, which is settled; each label stands in its row, and the calls have the
--- numbers from 1 on
-pub record IsBook (rules : Rules) (opening : State) (partitions : List ℕ) (handles : List (Option OpenHandle)) (v : BookView) : Type 0 where
-  pub same_rules : v.stack.rules ≡ rules
-  pub run : Run rules opening (labels_of v.entries) v.stack.state
-  pub settled : Settled v.stack.rules v.stack.state
-  pub finished : IsFinished v.stack.state
-  pub whole : FitsTogether v.stack
-  pub taken : v.stack.labels ≡ []
-  pub same_handles : v.stack.handles ≡ handles
-  pub clients : AreClientsOf partitions v.stack.handles
-  pub marked : AreMarked v.stack v.marks
-  pub rowed : AreRowed v.owners v.entries
-  pub told : AreTold v.entries v.owners v.stack.state
+-- and it still holds where nothing more was booked
+abbrev pub StaysKept : Rules → State → TracedView → Claimed → TracedView → Claimed → Type 0
+StaysKept rules start old tags new tags' = (taken : List Entered) → IsKept rules start old taken tags → IsKept rules start new taken tags'
 
--- A STEP
+-- ENTRIES ARE BOOKED
 
--- the pages as far as a book shows them
-abbrev pub pages_of : BookView → PagesView
-pages_of v = record { entries = v.entries; owners = v.owners; room = 0; ready = None }
+-- the next entry of the journal, of this tag, is booked and acts
+pub record BooksOne (tag : ℕ) (old new : BookView) : Type 0 where
+  pub next : Entered
+  pub is_tag : next.entry.tag ≡ tag
+  pub acts : ActsEntry old.traced next.entry new.traced
+  pub taken : new.taken ≡ old.taken ++ next ∷ []
 
--- a right step of the stack, whose labels are noted in order, a call in the client's row; no slot is looked at
-pub record IsCarried (client : ℕ) (old : BookView) (event : Event) (reply : Reply) (new : BookView) : Type 0 where
-  pub stepped : ManagerView
-  pub right : IsRight old.stack event reply stepped
-  pub stack : new.stack ≡ record stepped { labels = [] }
-  pub entries : new.entries ≡ (noted_all client (pages_of old) stepped.labels).entries
-  pub owners : new.owners ≡ (noted_all client (pages_of old) stepped.labels).owners
-  pub looks : LooksNowhere old.marks new.marks
+-- so many entries are, in the order of their numbers
+abbrev pub AreBooked : ℕ → BookView → BookView → Type 0
+AreBooked zero old new = new ≡ old
+AreBooked (suc count) old new = (mid : BookView) × AreBooked count old mid × ((tag : ℕ) × BooksOne tag mid new)
 
--- where a mark was seen, a step carries it out
-abbrev pub CarriesSeen : Option ℕ → BookView → BookView → Type 0
-CarriesSeen None old new = new ≡ old
-CarriesSeen (Some number) old new = (reply : Reply) × IsCarried 0 old (Mark number) reply new
+-- the last of them is of this tag
+abbrev pub EndsWith : ℕ → ℕ → BookView → BookView → Type 0
+EndsWith tag zero old new = ⊥
+EndsWith tag (suc count) old new = (mid : BookView) × AreBooked count old mid × BooksOne tag mid new
 
--- one look at the slot of an open request, and the step for a mark seen there; a slot without one is left alone
-pub record IsLooked (slot : ℕ) (old new : BookView) : Type 0 where
-  pub seen : Option ℕ
-  pub looked : View
-  pub looks : LooksAt (open_at old.stack slot) slot old.marks seen looked
-  pub carries : CarriesSeen seen (record old { marks = looked }) new
+-- the tag of the last, if there is one
+abbrev pub EndsWithLast : Option ℕ → ℕ → BookView → BookView → Type 0
+EndsWithLast None count old new = Unit {0}
+EndsWithLast (Some tag) count old new = EndsWith tag count old new
 
--- so for each slot below, in order
-abbrev pub AreLooked : ℕ → BookView → BookView → Type 0
-AreLooked zero old new = new ≡ old
-AreLooked (suc slot) old new = (mid : BookView) × AreLooked slot old mid × IsLooked slot mid new
-
--- events that may be refused for want of memory: the trace grows by places of their own
-abbrev pub may_want : Event → Bool
-may_want (Read handle offset buffer) = true
-may_want (Write handle offset bytes through) = true
-may_want (Flush handle) = true
-may_want QueryRemove = true
-may_want _ = false
-
--- the caller's bytes
-abbrev pub bytes_of : Event → List ℕ
-bytes_of (Read handle offset buffer) = buffer
-bytes_of (Write handle offset bytes through) = bytes
-bytes_of _ = []
-
--- memory for the trace was refused, before any step: nothing happens
-pub record IsWanting (old : BookView) (event : Event) (reply : Reply) (new : BookView) : Type 0 where
-  pub wants : may_want event ≡ true
-  pub replies : reply ≡ Refused InsufficientResources (bytes_of event)
-  pub same : new ≡ old
-
--- an event is carried out, or refused for want of memory
-abbrev pub IsServed : ℕ → BookView → Event → Reply → BookView → Type 0
-IsServed client old event reply new = IsCarried client old event reply new ⊎ IsWanting old event reply new
+pub record HasBooked (last : Option ℕ) (count : ℕ) (old new : BookView) : Type 0 where
+  pub books : AreBooked count old new
+  pub ends : EndsWithLast last count old new
 
 -- SHARES
 
@@ -127,27 +92,69 @@ FitsHandle (Some handle) (Some share) = handle ≡ share.now.handle
 FitsHandle None None = Unit {0}
 FitsHandle _ _ = ⊥
 
--- the share counts the calls that were noted, and stays the same otherwise
-pub record HasCounted (old : BookView) (before after : ShareView) (new : BookView) : Type 0 where
-  pub client : after.client ≡ before.client
-  pub handle : after.handle ≡ before.handle
-  pub calls : after.calls + length old.owners ≡ before.calls + length new.owners
+-- A STEP
 
--- a step with or without a share, of an `Option<&mut Share>` as it comes in and as it is left
-abbrev pub IsServedWith : Option (MutBor ShareView) → Unit {0} ⊎ ((MutBor ShareView × Unit {0}) ⊎ ⊥) → BookView → Event → Reply → BookView → Type 0
-IsServedWith (Some share) (inr (inl left)) old event reply new = IsServed share.now.client old event reply new × HasCounted old share.now left.0.now new
-IsServedWith (Some share) _ old event reply new = ⊥
-IsServedWith None _ old event reply new = IsServed 0 old event reply new
+-- the failure of an act's piece is booked, or nothing is
+abbrev pub HoldsFailure : TracedView → Event → TracedView → Type 0
+HoldsFailure old event held = (held ≡ old) ⊎ ((tag piece : ℕ) × (completion : Completion) × (event ≡ Act tag) × HoldsBooked old tag piece (Err completion) held)
 
--- first the marks, then the event
+-- the event is the act of the last entry that was booked, and that was its step
+pub record IsLastAct (count : ℕ) (before booked : BookView) (event : Event) (reply : Reply) (new : BookView) : Type 0 where
+  pub tag : ℕ
+  pub is_act : event ≡ Act tag
+  pub ends : EndsWith tag count before booked
+  pub replies : reply ≡ OkReply
+  pub same : new ≡ booked
+
+-- entries are booked, and then a call is carried out, or refused for want of memory
+pub record CallsAfter (before after : ShareView) (old : BookView) (event : Event) (reply : Reply) (new : BookView) : Type 0 where
+  pub count : ℕ
+  pub booked : BookView
+  pub books : AreBooked count old booked
+  pub served : IsServed before.client booked.traced event reply new.traced
+  pub counted : HasCounted booked.traced before after new.traced
+  pub taken : new.taken ≡ booked.taken
+
+-- the event is carried out, or refused for want of memory
+pub record ServesEvent (old : BookView) (event : Event) (reply : Reply) (new : BookView) : Type 0 where
+  pub held : TracedView
+  pub holds : HoldsFailure old.traced event held
+  pub served : IsServed 0 held event reply new.traced
+  pub taken : new.taken ≡ old.taken
+
+-- entries are booked, and then any other event is carried out, unless it is the act of the last of them
+pub record ServesAfter (old : BookView) (event : Event) (reply : Reply) (new : BookView) : Type 0 where
+  pub count : ℕ
+  pub booked : BookView
+  pub books : AreBooked count old booked
+  pub serves : ServesEvent booked event reply new ⊎ IsLastAct count old booked event reply new
+
+-- a call comes with its client's share, of an `Option<&mut Share>` as it comes in and as it is left
+abbrev pub ServesWith : Option (MutBor ShareView) → Unit {0} ⊎ ((MutBor ShareView × Unit {0}) ⊎ ⊥) → BookView → Event → Reply → BookView → Type 0
+ServesWith (Some share) (inr (inl left)) old event reply new = CallsAfter share.now left.0.now old event reply new
+ServesWith (Some share) _ old event reply new = ⊥
+ServesWith None _ old event reply new = ServesAfter old event reply new
+
+-- first the marks, then the acts of the entries that are booked, and then the event
 pub record IsStepped (slots : ℕ) (share : Option (MutBor ShareView)) (left : Unit {0} ⊎ ((MutBor ShareView × Unit {0}) ⊎ ⊥)) (old : BookView) (event : Event) (reply : Reply) (new : BookView) : Type 0 where
-  pub mid : BookView
-  pub looks : AreLooked slots old mid
-  pub serves : IsServedWith share left mid event reply new
+  pub marked : TracedView
+  pub looks : AreLooked slots old.traced marked
+  pub serves : ServesWith share left (record old { traced = marked }) event reply new
+
+-- AT FIRST
+
+-- a stack of which nothing was told, in the state that was named, and whose sectors stand elsewhere
+pub record IsBlank (start : State) (traced : TracedView) : Type 0 where
+  pub opens : start ≡ opening start.arrays
+  pub no_entries : traced.entries ≡ []
+  pub same_state : traced.stack.state ≡ start
+  pub apart : IsFalse traced.stack.adapter.faithful
 
 -- CLOSING
 
--- the trace of a book, and for each client the places of its calls and of their answers
-pub record AreRowsOf (clients : ℕ) (v : BookView) (trace : List Entry) (rows : List RowView) : Type 0 where
-  pub stored : trace ≡ v.entries
-  pub kept : AreKept clients v.entries v.owners rows
+-- these are the entries of the acts of a trace, which is a run over the sectors of whole partitions
+pub record ActsAreOf (rules : Rules) (start : State) (trace : List Label) (taken : List Entered) : Type 0 where
+  pub arrays : List (List (List ℕ))
+  pub starts : start ≡ opening arrays
+  pub whole : AreWhole rules arrays
+  pub of_acts : AreOfActs trace trace (entries_in taken)

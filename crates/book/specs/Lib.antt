@@ -1,12 +1,5 @@
-pub mod Entries
-pub mod Rows
-pub mod Pages
-pub mod Told
-pub mod Shares
-pub mod Slots
-pub mod Naming
-pub mod Sizes
-pub mod Serving
-pub mod Opening
+pub mod Acting
+pub mod Arming
 pub mod Book
-pub mod Sound
+pub mod Staying
+pub mod Taken

@@ -1,414 +1,474 @@
-ghost use Rattle.std.specs.Prelude.{◌≡◌, ◌<◌, ◌≤◌, ◌+◌, ◌∷◌, ℕ, List, [], max, slice_get, All, Contains, IfOk, IfSome, MatchOption, OnOk, Some, None, false, true, length, replicate, IsFalse};
-ghost use Rattle.cancel_marks.specs.Marks.{standing, starting};
+//! The book: what its threads call while they hold its lock.
+
+ghost use Rattle.std.specs.Prelude.{◌≡◌, ◌<◌, ◌∷◌, ℕ, List, [], All, Contains, IfOk, IfSome, MatchOption, Some, None, false, true, length, slice_get};
 ghost use Rattle.chronicle.specs.Claims.{AllStand};
 ghost use Rattle.machine.specs.Step.{Run};
-ghost use Rattle.machine_laws.specs.LabelsLeft.{labels_left, RunsUseUp};
-ghost use Rattle.machine_laws.specs.NumberLaws.{CallsAwait, CallsCount, CallsRise};
 ghost use Rattle.io_manager.specs.declared.Refusal.TheVariants.{InsufficientResources};
 ghost use Rattle.io_manager.specs.declared.Reply.TheVariants.{Refused as RefusedReply};
 ghost use Rattle.io_manager.specs.Right.{TakesAnswerOf, as_answer};
-ghost use Rattle.compose.specs.Right.{IsRight};
-ghost use Rattle.book.specs.Opening.{AreClientsOf, IsFirst};
-ghost use Rattle.book.specs.Book.{AreLooked, AreRowsOf, FitsHandle, IsBook, IsCarried, IsLooked, IsServed, IsServedWith, IsStepped, IsWanting, HasCounted, call_handle, bytes_of, may_want};
-ghost use Rattle.book.specs.declared.Entry.{Entry as EntryView};
-ghost use Rattle.book.specs.Entries.{IsAnswerAt, IsNoAnswerTo, calls, labels_of, places};
-ghost use Rattle.book.specs.Pages.{MayNote, noted_all};
-ghost use Rattle.book.specs.Sizes.{AreSizes, brought_by, sizes_of};
-ghost use Rattle.book.specs.Serving.{Serves, admitted_at, is_call_event, is_handle_event, open_at, unless_told};
-ghost use Rattle.book.specs.Slots.{ArmedBelow, LooksNowhere, number_at};
-ghost use Rattle.book.specs.Told.{AreTold, MayCall, MayNoteAll};
-ghost use Rattle.book.specs.Sound.{IsNamed, IsSound, MayArm, IsGivenBelow, shown, unless_label};
+ghost use Rattle.srb.specs.declared.Class.TheVariants.{Bad};
+ghost use Rattle.srb.specs.Fate.{class_of};
+ghost use Rattle.compose.specs.declared.Event.TheVariants.{Act};
+ghost use Rattle.compose.specs.Journaled.{IsNoAct};
+ghost use Rattle.traced.specs.declared.Entry.{Entry as EntryView};
+ghost use Rattle.traced.specs.Entries.{IsAnswerAt, IsNoAnswerTo, calls, labels_of, places};
+ghost use Rattle.traced.specs.Serving.{is_call_event, is_handle_event};
+ghost use Rattle.traced.specs.Traced.{AreLooked, AreRowsOf, HasCounted, IsServed, IsTraced, TracedView, may_want};
+ghost use Rattle.book.specs.Book.{AreBooked, CallsAfter, FitsHandle, HasBooked, HoldsFailure, IsBlank, IsStepped, ServesAfter, ActsAreOf, book_of, call_handle};
+ghost use Rattle.book.specs.Taken.{BeginsWith, numbered_from};
 
-use crate::Entry;
+use crate::asking::{give_back, next_request, refused, reserve};
+use crate::booking::book_all;
+use crate::failing::{fail, failure, transfer};
 use crate::name::Naming;
-use crate::pages::Pages;
-use crate::row::Row;
-use crate::share::Share;
-use crate::sizes::Sizes;
-use crate::slots::Slots;
-use adapter::Adapter;
-use cancel_marks::{Marks, Seat};
-use chronicle::{Claims, History, Whole};
-use compose::{Answer, Event, Refusal, Reply, Stack};
-use machine::Label;
-use sector::Bytes;
+use crate::noting;
+use crate::settling::{arm_all, arm_tag, release_all};
+use crate::tags::Tags;
+use crate::taken::Taken;
+use cancel_marks::Marks;
+use chronicle::{Claims, History};
+use compose::{Answer, Event, Reply};
+use disk::Medium;
+use miniport::BookedAdapter;
+use sector_journal::{Entered, Journal, OfEntries};
+use srb::Completion;
 use std::alloc::{AllocError, Global};
 use std::marker::Model;
-use std::sync::ledger;
+use std::sync::{Mutex, Wait, ledger};
+use traced::{Entry, Row, Share, Traced};
 
-/// A stack that many threads share under a lock, the trace of all its labels, and the marks on its open requests.
-pub struct Book<A: Adapter, N: Naming> {
-    stack: Stack<A>,
-    pages: Pages<N>,
-    slots: Slots<N>,
-    tally: ledger::Book<N>,
-    sizes: Sizes,
+/// A stack that many threads share under a lock, with its trace, and what was booked of the journal's entries.
+#[derive(Drop)]
+pub struct Book<N: Naming> {
+    traced: Traced<BookedAdapter, N>,
+    taken: Taken<N>,
+    tags: Tags<N>,
+    /// So many labels of the trace were looked at for answers.
+    seen: usize,
 }
 
-// By hand, so that no crate above proves it again, as it would a derived one.
-impl<A: Adapter, N: Naming> Drop for Book<A, N> {
-    fn drop(self) {
-        let Book {
-            stack: _,
-            pages: _,
-            slots: _,
-            tally: _,
-            sizes: _,
-        } = self;
-    }
-}
-
-impl<A: Adapter, N: Naming> Model for Book<A, N> {
-    ghost use Rattle.std.specs.Prelude.{◌≡◌, ◌≤◌, length};
-    ghost use Rattle.book.specs.Book.{BookView};
-    ghost use Rattle.book.specs.Opening.{AreClientsOf};
-    ghost use Rattle.book.specs.Sizes.{AreSizes, sizes_of};
-    ghost use Rattle.book.specs.Sound.{IsSound, shown};
+impl<N: Naming> Model for Book<N> {
+    ghost use Rattle.book.specs.Book.{BookView, IsKept, book_of};
 
     ghost Value = { BookView };
 
-    ghost view = { λ b. shown b.stack b.pages b.slots };
+    ghost view = { λ b. book_of b.traced b.taken };
 
-    ghost invariant = { λ b. record {
-      sound : IsSound N.rules N.opening N.handles N.slots b.stack b.pages b.slots;
-      tally : b.tally.total ≡ length b.pages.owners;
-      clients : AreClientsOf N.partitions N.handles;
-      same_sizes : b.sizes ≡ sizes_of N.rules;
-      sizes : AreSizes b.sizes;
-    } };
+    ghost invariant = { λ b. IsKept N.rules N.start b.traced b.taken b.tags };
 }
 
-// A removal and its end may always come.
-const REMOVAL_LABELS: usize = 2;
-
-// Pages with room for a removal, and slots, all empty.
-fn make_rows<N: Naming>(
-    alloc: Global,
-    whole: Whole<Entry, N>,
-    seat: Seat,
-    clients: usize,
-    slots: usize,
-) -> Result<(Pages<N>, Slots<N>), AllocError>
-    requires clients { clients ≡ length N.partitions }
-    requires whole { whole ≡ [] }
-    requires slots { slots ≡ N.slots }
-    requires seat { seat ≡ standing N.marks 0 (starting (max slots 1)) }
-    ensures pages { IfOk result (λ r. (r.0.entries ≡ []) × (r.0.owners ≡ []) × (2 ≤ r.0.room)) }
-    ensures numbers { IfOk result (λ r. r.1.numbers ≡ replicate slots None) }
-    ensures owner { IfOk result (λ r. r.1.owner ≡ starting (max slots 1)) }
-{
-    let mut pages = Pages::new(alloc, whole, clients)?;
-    pages.reserve(REMOVAL_LABELS)?;
-    let slots = Slots::new(alloc, seat, slots)?;
-    Ok((pages, slots))
-}
-
-// Shows the caller the laws on the numbers of a run.
-fn laws_of_numbers()
-    ensures rise { CallsRise }
-    ensures count { CallsCount }
-    ensures waiting { CallsAwait }
-{
-    machine_laws::numbers_rise();
-    machine_laws::calls_await_answers();
-}
-
-// A right step of the stack, and what the trace, its rows and the slots go by.
-fn serve_right<A: Adapter>(stack: &mut Stack<A>, alloc: Global, event: Event) -> Reply
-    requires taken { stack.old.labels ≡ [] }
-    requires on_grid { IsFalse stack.old.rules.any_cut }
-    requires given { (k number : ℕ) → open_at stack.old k ≡ Some number → number < stack.old.state.next_request }
-    ensures right { IsRight stack.old event result stack.new }
-    ensures serves { Serves stack.old event result stack.new }
-{
-    machine_laws::numbers_rise();
-    machine_laws::labels_run_out();
-    machine_laws::goes_on();
-    stack.shows_whole();
-    stack.step(alloc, event)
-}
-
-// An answer takes its request out of its slot.
-fn retire_if_answered<N: Naming>(slots: &mut Slots<N>, marks: &Marks, label: &Label)
-    requires marks { marks.now ≡ (N.marks, N.slots) }
-    ensures numbers { (k : ℕ) → number_at slots.new.numbers k ≡ unless_label label.now (number_at slots.old.numbers k) }
-    ensures looks { LooksNowhere slots.old.owner slots.new.owner }
-    ensures below { (next : ℕ) → ArmedBelow next slots.old.owner → ArmedBelow next slots.new.owner }
-{
-    if let Label::Answer { number, .. } = label {
-        slots.retire(marks, *number);
+/// Whether an event may start or end a piece.
+fn moves_pieces(event: &Event) -> bool {
+    match event {
+        Event::CancelIoEx { .. } | Event::Mark { .. } => false,
+        Event::QueryRemove | Event::SurpriseRemove => false,
+        _ => true,
     }
 }
 
-// A request that was opened arms its slot.
-fn arm_if_opened<N: Naming>(slots: &mut Slots<N>, marks: &Marks, reply: &Reply)
-    requires marks { marks.now ≡ (N.marks, N.slots) }
-    requires may { MayArm N.slots slots.old.owner reply.now }
-    ensures numbers { (k : ℕ) → number_at slots.new.numbers k ≡ admitted_at reply.now k (number_at slots.old.numbers k) }
-    ensures looks { LooksNowhere slots.old.owner slots.new.owner }
-    ensures below { (next : ℕ) → IsGivenBelow next reply.now → ArmedBelow next slots.old.owner → ArmedBelow next slots.new.owner }
-{
-    if let Reply::Request(id) = reply {
-        slots.arm(marks, id.slot as usize, id.number);
-    }
-}
-
-// Takes all labels of a step, and notes them.
-fn note_all<A: Adapter, N: Naming>(
-    stack: &mut Stack<A>,
-    pages: &mut Pages<N>,
-    slots: &mut Slots<N>,
-    history: &History<Entry, N>,
-    marks: &Marks,
-    client: usize,
-)
-    requires marks { marks.now ≡ (N.marks, N.slots) }
-    requires may { MayNoteAll (length N.partitions) client pages.old stack.old.labels }
-    requires room { length stack.old.labels ≤ pages.old.room }
-    ensures stack { stack.new ≡ record stack.old { labels = [] } }
-    ensures pages { pages.new ≡ noted_all client pages.old stack.old.labels }
-    ensures numbers { (k : ℕ) → number_at slots.new.numbers k ≡ unless_told stack.old.labels (number_at slots.old.numbers k) }
-    ensures looks { LooksNowhere slots.old.owner slots.new.owner }
-    ensures below { (next : ℕ) → ArmedBelow next slots.old.owner → ArmedBelow next slots.new.owner }
-{
-    while let Some(label) = stack.take_label() {
-        retire_if_answered(slots, marks, &label);
-        pages.note(history, label, client);
-    }
-}
-
-// Carries an event out, and notes its labels.
-fn carry<A: Adapter, N: Naming>(
-    stack: &mut Stack<A>,
-    pages: &mut Pages<N>,
-    slots: &mut Slots<N>,
-    alloc: Global,
-    history: &History<Entry, N>,
-    marks: &Marks,
-    client: usize,
-    event: Event,
-) -> Reply
-    requires marks { marks.now ≡ (N.marks, N.slots) }
-    requires sound { IsSound N.rules N.opening N.handles N.slots stack.old pages.old slots.old }
-    requires no_handle { is_handle_event event ≡ false }
-    requires client { is_call_event event ≡ true → (client < length N.partitions) × (pages.old.ready ≡ Some client) }
-    requires room { labels_left N.rules stack.old.state + brought_by (sizes_of N.rules) event ≤ pages.old.room }
-    ensures sound { IsSound N.rules N.opening N.handles N.slots stack.new pages.new slots.new }
-    ensures carried { IsCarried client (shown stack.old pages.old slots.old) event result (shown stack.new pages.new slots.new) }
-    ensures no_call { is_call_event event ≡ false → pages.new.owners ≡ pages.old.owners }
-    ensures more { length pages.old.owners ≤ length pages.new.owners }
-{
-    laws_of_numbers();
-    slots.shows_armed();
-    let reply = serve_right(stack, alloc, event);
-    arm_if_opened(slots, marks, &reply);
-    note_all(stack, pages, slots, history, marks, client);
-    reply
-}
-
-// Looks at a slot, and carries a mark out that it sees there.
-fn look_at<A: Adapter, N: Naming>(
-    stack: &mut Stack<A>,
-    pages: &mut Pages<N>,
-    slots: &mut Slots<N>,
-    alloc: Global,
-    history: &History<Entry, N>,
-    marks: &Marks,
-    slot: usize,
-)
-    requires marks { marks.now ≡ (N.marks, N.slots) }
-    requires sound { IsSound N.rules N.opening N.handles N.slots stack.old pages.old slots.old }
-    requires slot { slot < N.slots }
-    ensures sound { IsSound N.rules N.opening N.handles N.slots stack.new pages.new slots.new }
-    ensures looked { IsLooked slot (shown stack.old pages.old slots.old) (shown stack.new pages.new slots.new) }
-    ensures no_call { pages.new.owners ≡ pages.old.owners }
-{
-    if let Some(number) = slots.look(marks, slot) {
-        carry(
-            stack,
-            pages,
-            slots,
-            alloc,
-            history,
-            marks,
-            0,
-            Event::Mark { number },
-        );
-    }
-}
-
-// Looks once at each slot that has an open request, and carries each mark out that it sees.
-fn look_all<A: Adapter, N: Naming>(
-    stack: &mut Stack<A>,
-    pages: &mut Pages<N>,
-    slots: &mut Slots<N>,
-    alloc: Global,
-    history: &History<Entry, N>,
-    marks: &Marks,
-)
-    requires marks { marks.now ≡ (N.marks, N.slots) }
-    requires sound { IsSound N.rules N.opening N.handles N.slots stack.old pages.old slots.old }
-    ensures sound { IsSound N.rules N.opening N.handles N.slots stack.new pages.new slots.new }
-    ensures looked { AreLooked N.slots (shown stack.old pages.old slots.old) (shown stack.new pages.new slots.new) }
-    ensures no_call { pages.new.owners ≡ pages.old.owners }
-{
-    for slot in 0..slots.len() {
-        look_at(stack, pages, slots, alloc, history, marks, slot);
-    }
-}
-
-// Makes the places for all labels that an event may bring.
-fn make_room<N: Naming>(
-    sizes: &Sizes,
-    pages: &mut Pages<N>,
-    event: &Event,
-) -> Result<(), AllocError>
-    requires sizes { AreSizes sizes.now }
-    ensures kept { pages.new ≡ record pages.old { room = pages.new.room } }
-    ensures no_less { pages.old.room ≤ pages.new.room }
-    ensures room { OnOk result (pages.old.room + brought_by sizes.now event.now ≤ pages.new.room) }
-{
-    let Some(room) = pages.room().checked_add(sizes.labels_for(event)) else {
-        return Err(AllocError);
-    };
-    pages.reserve(room)
-}
-
-// The refusal of an event for want of memory, with the caller's bytes.
-fn refused(alloc: Global, event: Event) -> Reply
-    ensures { result ≡ RefusedReply InsufficientResources (bytes_of event) }
-{
-    let bytes = match event {
-        Event::Read { buffer, .. } => buffer,
-        Event::Write { bytes, .. } => bytes,
-        _ => Bytes::new(Vec::new(alloc)),
-    };
-    Reply::Refused {
-        refusal: Refusal::InsufficientResources,
-        bytes,
-    }
-}
-
-impl<A: Adapter, N: Naming> Book<A, N> {
-    /// A book of a stack on which the clients' handles are open, and nothing else.
+impl<N: Naming> Book<N> {
+    /// A book of a stack of which nothing was told yet, beside a journal. `depth` is the number of tags.
     ///
     /// # Errors
     ///
-    /// Where memory for its rows, its slots or the labels of a removal was refused.
-    pub fn new(
+    /// Where memory for the tags was refused.
+    pub fn new<M: Medium>(
         alloc: Global,
-        stack: Stack<A>,
-        whole: Whole<Entry, N>,
-        seat: Seat,
-        tally: ledger::Book<N>,
-        clients: usize,
-        slots: usize,
-        sizes: Sizes,
-    ) -> Result<Book<A, N>, AllocError>
-        requires named { IsNamed N.rules N.opening N.handles N.slots stack }
-        requires first { IsFirst stack }
-        requires handles { AreClientsOf N.partitions N.handles }
-        requires whole { whole ≡ [] }
-        requires seat { seat ≡ standing N.marks 0 (starting (max slots 1)) }
-        requires tally { tally.total ≡ 0 }
-        requires count { (clients ≡ length N.partitions) × (slots ≡ N.slots) }
-        requires sizes { (sizes ≡ sizes_of N.rules) × AreSizes sizes }
-        ensures { IfOk result (λ b. (b.stack ≡ stack) × (b.entries ≡ []) × (b.owners ≡ [])) }
+        traced: Traced<BookedAdapter, N>,
+        journal: &mut Journal<M, N>,
+        words: &sector_journal::History<N>,
+    ) -> Result<Book<N>, AllocError>
+        requires blank { IsBlank N.start traced }
+        ensures book { IfOk result (λ b. (b.traced ≡ traced) × (b.taken ≡ [])) }
+        ensures same { journal.new ≡ journal.old }
     {
-        let (pages, slots) = make_rows(alloc, whole, seat, clients, slots)?;
+        machine_laws::keeps_lengths();
+        traced.shows_whole();
+        traced.shows_stack();
+        let taken = Taken::new(journal, words);
+        let tags = Tags::new(alloc, journal.depth())?;
         Ok(Book {
-            stack,
-            pages,
-            slots,
-            tally,
-            sizes,
+            traced,
+            taken,
+            tags,
+            seen: 0,
         })
     }
 
     /// Returns how many labels the trace has.
     pub fn len(&self) -> usize
-        ensures { result ≡ length self.now.entries }
+        ensures { result ≡ length self.now.traced.entries }
     {
-        self.pages.len()
+        self.traced.len()
     }
 
     /// Returns what stands at a place of the trace.
     pub fn entry(&self, place: usize) -> &Entry
-        requires { place < length self.now.entries }
-        ensures { slice_get self.now.entries place ≡ Some result.now }
+        requires { place < length self.now.traced.entries }
+        ensures { slice_get self.now.traced.entries place ≡ Some result.now }
     {
-        self.pages.entry(place)
+        self.traced.entry(place)
     }
 
     /// The places of a client's calls and of their answers so far, rising.
     pub fn row(&self, client: usize) -> &[usize]
         requires { client < length N.partitions }
-        ensures { result.now ≡ places client 0 self.now.entries }
+        ensures { result.now ≡ places client 0 self.now.traced.entries }
     {
-        self.pages.row(client)
+        self.traced.row(client)
     }
 
-    /// Returns where the answer to a request stands in the trace, if it has come. It looks through the row of the
-    /// request's client from its end back.
+    /// Returns where the answer to a request stands in the trace, if it has come.
     pub fn answer_place(&self, number: u64) -> Option<usize>
-        ensures { MatchOption result (All (IsNoAnswerTo number) (labels_of self.now.entries)) (IsAnswerAt number self.now.entries) }
+        ensures { MatchOption result (All (IsNoAnswerTo number) (labels_of self.now.traced.entries)) (IsAnswerAt number self.now.traced.entries) }
     {
-        self.pages.answer_place(number)
+        self.traced.answer_place(number)
     }
 
     /// A claim on a place of the trace, by the entry there.
     pub fn claim(&mut self, history: &History<Entry, N>, place: usize) -> Claims<Entry, N>
-        requires { place < length self.old.entries }
+        requires { place < length self.old.traced.entries }
         ensures same { self.new ≡ self.old }
-        ensures claim { (e : EntryView) × (slice_get self.old.entries place ≡ Some e) × (result ≡ (place, e) ∷ []) }
+        ensures claim { (e : EntryView) × (slice_get self.old.traced.entries place ≡ Some e) × (result ≡ (place, e) ∷ []) }
     {
-        self.pages.claim(history, place)
+        self.traced.claim(history, place)
     }
 
     /// What was claimed stands in the trace.
     pub fn check(&mut self, history: &History<Entry, N>, claims: &mut Claims<Entry, N>)
         ensures same { (self.new ≡ self.old) × (claims.new ≡ claims.old) }
-        ensures stand { AllStand self.old.entries claims.old }
+        ensures stand { AllStand self.old.traced.entries claims.old }
     {
-        self.pages.check(history, claims)
+        self.traced.check(history, claims)
     }
 
     /// Where every part of the ledger has come back, the parts have the number of calls.
     pub fn audit(&mut self, all: &mut ledger::Share<N>)
         requires { all.old.parts ≡ N.parts }
         ensures same { self.new ≡ self.old }
-        ensures calls { all.new.amount ≡ calls self.old.entries }
+        ensures calls { all.new.amount ≡ calls self.old.traced.entries }
         ensures kept { all.new.amount ≡ all.old.amount }
     {
-        self.tally.audit(all);
+        self.traced.audit(all);
     }
 
-    /// The trace and the rows of all clients.
-    pub fn into_rows(self) -> (Vec<Entry>, Vec<Row>)
-        ensures rows { AreRowsOf (length N.partitions) self result.0.items result.1.items }
-        ensures run { Run N.rules N.opening (labels_of result.0.items) self.stack.state }
+    /// Takes the waiting answer of a request, whose label stands in the trace. It takes no memory.
+    pub fn take_answer(&mut self, number: u64) -> Option<Answer>
+        ensures takes { TakesAnswerOf self.old.traced.stack number result self.new.traced.stack }
+        ensures entries { self.new.traced.entries ≡ self.old.traced.entries }
+        ensures taken { self.new.taken ≡ self.old.taken }
+        ensures stands { IfSome result (λ answer. Contains (labels_of self.old.traced.entries) (as_answer answer)) }
     {
-        let Book {
-            stack: _,
-            pages,
-            slots: _,
-            tally: _,
-            sizes: _,
-        } = self;
-        pages.into_rows()
+        self.traced.take_answer(number)
     }
 
-    /// Carries an event out, any but an open and a close. First it looks, once at each slot that has an open request, and
-    /// carries out each mark that it sees there. A read, a write or a flush comes with the share of its handle's client,
-    /// any other event with none.
-    ///
-    /// Reads, writes, flushes and query-remove are refused as `InsufficientResources`, before any step of theirs, where
-    /// memory for the labels that they may bring is refused.
-    pub fn step(
+    /// Whenever a book is at rest, its trace is a run from the state that it was opened with to the state that the stack
+    /// shows, each label in its row, for who calls this.
+    pub fn shows_whole(&self)
+        ensures { IsTraced N.rules N.start N.partitions N.handles self.now.traced }
+    {
+        self.traced.shows_whole();
+    }
+}
+
+// Steps. Each of these is called with the book's lock held, and those that are handed a journal with its lock too.
+impl<N: Naming> Book<N> {
+    fn look(&mut self, alloc: Global, history: &History<Entry, N>, marks: &Marks)
+        requires marks { marks.now ≡ (N.marks, N.slots) }
+        ensures looked { AreLooked N.slots self.old.traced self.new.traced }
+        ensures taken { self.new.taken ≡ self.old.taken }
+    {
+        noting::look(&mut self.traced, &mut self.tags, alloc, history, marks);
+    }
+
+    // Books all entries that are there: the tag of the last, if there was one.
+    fn book_entries<M: Medium>(
         &mut self,
         alloc: Global,
         history: &History<Entry, N>,
         marks: &Marks,
+        journal: &mut Journal<M, N>,
+        words: &sector_journal::History<N>,
+    ) -> Option<u8>
+        requires marks { marks.now ≡ (N.marks, N.slots) }
+        ensures books { (count : ℕ) × HasBooked result count self.old self.new }
+    {
+        book_all(
+            &mut self.traced,
+            &mut self.taken,
+            &mut self.tags,
+            alloc,
+            history,
+            marks,
+            journal,
+            words,
+        )
+    }
+
+    // The journal is told which pieces may act, and which requests were answered.
+    fn settle<M: Medium>(&mut self, journal: &mut Journal<M, N>, words: &sector_journal::History<N>)
+        ensures { self.new ≡ self.old }
+    {
+        arm_all(&self.traced, &mut self.tags, journal, words);
+        release_all(&self.traced, journal, self.seen);
+        self.seen = self.traced.len();
+    }
+
+    // How the piece of a tag fails if no entry of it is booked: as it failed in the journal, where it acts now unless it did.
+    fn failure_of<M: Medium>(
+        &mut self,
+        journal: &mut Journal<M, N>,
+        words: &sector_journal::History<N>,
+        tag: u8,
+        failed: Option<Completion>,
+    ) -> Completion
+        requires bad { IfSome failed (λ completion. class_of completion ≡ Bad completion) }
+        ensures same { self.new ≡ self.old }
+        ensures bad { class_of result ≡ Bad result }
+    {
+        if let Some(completion) = failed {
+            return completion;
+        }
+        arm_tag(&self.traced, &mut self.tags, journal, words, tag);
+        failure(transfer(&self.traced, journal, words, tag))
+    }
+
+    fn call_alone(
+        &mut self,
+        alloc: Global,
+        history: &History<Entry, N>,
+        marks: &Marks,
+        share: &mut Share<N>,
+        event: Event,
+    ) -> Reply
+        requires marks { marks.now ≡ (N.marks, N.slots) }
+        requires call { is_call_event event ≡ true }
+        ensures served { IsServed share.old.client self.old.traced event result self.new.traced }
+        ensures counted { HasCounted self.old.traced share.old share.new self.new.traced }
+        ensures taken { self.new.taken ≡ self.old.taken }
+    {
+        noting::call(
+            &mut self.traced,
+            &mut self.tags,
+            alloc,
+            history,
+            marks,
+            share,
+            event,
+        )
+    }
+
+    // A call for whose acts the journal has room first.
+    fn call_reserved<M: Medium>(
+        &mut self,
+        alloc: Global,
+        history: &History<Entry, N>,
+        marks: &Marks,
+        journal: &mut Journal<M, N>,
+        share: &mut Share<N>,
+        event: Event,
+    ) -> Reply
+        requires marks { marks.now ≡ (N.marks, N.slots) }
+        requires call { is_call_event event ≡ true }
+        ensures served { IsServed share.old.client self.old.traced event result self.new.traced }
+        ensures counted { HasCounted self.old.traced share.old share.new self.new.traced }
+        ensures taken { self.new.taken ≡ self.old.taken }
+    {
+        if reserve(&self.traced, journal, &event).is_err() {
+            return refused(alloc, event);
+        }
+        let number = next_request(&self.traced);
+        let reply = self.call_alone(alloc, history, marks, share, event);
+        give_back(journal, number, &reply);
+        reply
+    }
+
+    fn call_in<M: Medium>(
+        &mut self,
+        alloc: Global,
+        history: &History<Entry, N>,
+        marks: &Marks,
+        journal: &mut Journal<M, N>,
+        words: &sector_journal::History<N>,
+        share: &mut Share<N>,
+        event: Event,
+    ) -> Reply
+        requires marks { marks.now ≡ (N.marks, N.slots) }
+        requires call { is_call_event event ≡ true }
+        ensures { CallsAfter share.old share.new self.old event result self.new }
+    {
+        self.book_entries(alloc, history, marks, journal, words);
+        let reply = self.call_reserved(alloc, history, marks, journal, share, event);
+        self.settle(journal, words);
+        reply
+    }
+
+    // Whether an event would open a request now.
+    fn would_open(&self, event: &Event) -> bool {
+        self.traced.admits(event).is_some()
+    }
+
+    // A read, a write or a flush: it takes the journal's lock where it would open a request.
+    fn call<M: Medium, R: Wait>(
+        &mut self,
+        rt: &R,
+        alloc: Global,
+        history: &History<Entry, N>,
+        marks: &Marks,
+        journal: &Mutex<Journal<M, N>>,
+        words: &sector_journal::History<N>,
+        share: &mut Share<N>,
+        event: Event,
+    ) -> Reply
+        requires marks { marks.now ≡ (N.marks, N.slots) }
+        requires call { is_call_event event ≡ true }
+        ensures { CallsAfter share.old share.new self.old event result self.new }
+    {
+        if !self.would_open(&event) {
+            return self.call_alone(alloc, history, marks, share, event);
+        }
+        let mut journal = journal.lock(rt);
+        self.call_in(alloc, history, marks, &mut journal, words, share, event)
+    }
+
+    fn serve_alone(
+        &mut self,
+        alloc: Global,
+        history: &History<Entry, N>,
+        marks: &Marks,
+        event: Event,
+    ) -> Reply
+        requires marks { marks.now ≡ (N.marks, N.slots) }
+        requires no_handle { is_handle_event event ≡ false }
+        requires no_call { is_call_event event ≡ false }
+        requires no_act { IsNoAct event }
+        ensures served { IsServed 0 self.old.traced event result self.new.traced }
+        ensures taken { self.new.taken ≡ self.old.taken }
+    {
+        noting::serve(
+            &mut self.traced,
+            &mut self.tags,
+            alloc,
+            history,
+            marks,
+            event,
+        )
+    }
+
+    fn fail(
+        &mut self,
+        alloc: Global,
+        history: &History<Entry, N>,
+        marks: &Marks,
+        tag: u8,
+        completion: Completion,
+    ) -> Reply
+        requires marks { marks.now ≡ (N.marks, N.slots) }
+        requires bad { class_of completion ≡ Bad completion }
+        ensures serves { (held : TracedView) × HoldsFailure self.old.traced (Act tag) held × IsServed 0 held (Act tag) result self.new.traced }
+        ensures taken { self.new.taken ≡ self.old.taken }
+    {
+        fail(
+            &mut self.traced,
+            &mut self.tags,
+            alloc,
+            history,
+            marks,
+            tag,
+            completion,
+        )
+    }
+
+    // The act of a tag: its piece acts in the journal, unless it failed there before, and what is entered is booked.
+    fn act_in<M: Medium>(
+        &mut self,
+        alloc: Global,
+        history: &History<Entry, N>,
+        marks: &Marks,
+        journal: &mut Journal<M, N>,
+        words: &sector_journal::History<N>,
+        tag: u8,
+        failed: Option<Completion>,
+    ) -> Reply
+        requires marks { marks.now ≡ (N.marks, N.slots) }
+        requires bad { IfSome failed (λ completion. class_of completion ≡ Bad completion) }
+        ensures { ServesAfter self.old (Act tag) result self.new }
+    {
+        let completion = self.failure_of(journal, words, tag, failed);
+        let last = self.book_entries(alloc, history, marks, journal, words);
+        if last == Some(tag) {
+            self.settle(journal, words);
+            return Reply::Ok;
+        }
+        let reply = self.fail(alloc, history, marks, tag, completion);
+        self.settle(journal, words);
+        reply
+    }
+
+    fn serve_in<M: Medium>(
+        &mut self,
+        alloc: Global,
+        history: &History<Entry, N>,
+        marks: &Marks,
+        journal: &mut Journal<M, N>,
+        words: &sector_journal::History<N>,
+        event: Event,
+    ) -> Reply
+        requires marks { marks.now ≡ (N.marks, N.slots) }
+        requires no_handle { is_handle_event event ≡ false }
+        requires no_call { is_call_event event ≡ false }
+        requires no_act { IsNoAct event }
+        ensures { ServesAfter self.old event result self.new }
+    {
+        self.book_entries(alloc, history, marks, journal, words);
+        let reply = self.serve_alone(alloc, history, marks, event);
+        self.settle(journal, words);
+        reply
+    }
+
+    // Any event but a call: it takes the journal's lock where it may start or end a piece.
+    fn serve<M: Medium, R: Wait>(
+        &mut self,
+        rt: &R,
+        alloc: Global,
+        history: &History<Entry, N>,
+        marks: &Marks,
+        journal: &Mutex<Journal<M, N>>,
+        words: &sector_journal::History<N>,
+        event: Event,
+    ) -> Reply
+        requires marks { marks.now ≡ (N.marks, N.slots) }
+        requires no_handle { is_handle_event event ≡ false }
+        requires no_call { is_call_event event ≡ false }
+        ensures { ServesAfter self.old event result self.new }
+    {
+        if let Event::Act { tag } = event {
+            let mut journal = journal.lock(rt);
+            return self.act_in(alloc, history, marks, &mut journal, words, tag, None);
+        }
+        if !moves_pieces(&event) {
+            return self.serve_alone(alloc, history, marks, event);
+        }
+        let mut journal = journal.lock(rt);
+        self.serve_in(alloc, history, marks, &mut journal, words, event)
+    }
+
+    /// Carries an event out, any but an open and a close. First it looks, once at each slot that has an open request, and
+    /// carries out each mark that it sees there. Where the event may start or end a piece it takes the journal's lock then,
+    /// and books all entries that are there, in the order of their numbers: an act of a tag that is armed has its piece act
+    /// in the journal before. A read, a write or a flush comes with the share of its handle's client, any other event with
+    /// none.
+    ///
+    /// Reads, writes, flushes and query-remove are refused as `InsufficientResources`, before any step of theirs, where
+    /// memory for the labels that they may bring, or in the journal for their acts, is refused.
+    pub fn step<M: Medium, R: Wait>(
+        &mut self,
+        rt: &R,
+        alloc: Global,
+        history: &History<Entry, N>,
+        marks: &Marks,
+        journal: &Mutex<Journal<M, N>>,
+        words: &sector_journal::History<N>,
         share: Option<&mut Share<N>>,
         event: Event,
     ) -> Reply
@@ -419,104 +479,83 @@ impl<A: Adapter, N: Naming> Book<A, N> {
         ensures memory { (bytes : List ℕ) → result ≡ RefusedReply InsufficientResources bytes → may_want event ≡ true }
     {
         compose::steps_take_no_memory();
-        look_all(
-            &mut self.stack,
-            &mut self.pages,
-            &mut self.slots,
-            alloc,
-            history,
-            marks,
-        );
+        self.look(alloc, history, marks);
         match share {
-            Some(share) => self.call(alloc, history, marks, share, event),
-            None => self.serve(alloc, history, marks, event),
+            Some(share) => self.call(rt, alloc, history, marks, journal, words, share, event),
+            None => self.serve(rt, alloc, history, marks, journal, words, event),
         }
     }
 
-    // A read, a write or a flush.
-    fn call(
+    /// The act of a tag whose piece failed in the journal, where a lane had it act: as [`Book::step`] of an `Act`.
+    pub fn act_failed<M: Medium, R: Wait>(
         &mut self,
+        rt: &R,
         alloc: Global,
         history: &History<Entry, N>,
         marks: &Marks,
-        share: &mut Share<N>,
-        event: Event,
+        journal: &Mutex<Journal<M, N>>,
+        words: &sector_journal::History<N>,
+        tag: u8,
+        completion: Completion,
     ) -> Reply
         requires marks { marks.now ≡ (N.marks, N.slots) }
-        requires call { is_call_event event ≡ true }
-        ensures served { IsServed share.old.client self.old event result self.new }
-        ensures counted { HasCounted self.old share.old share.new self.new }
+        requires bad { class_of completion ≡ Bad completion }
+        ensures { (marked : TracedView) × AreLooked N.slots self.old.traced marked × ServesAfter (book_of marked self.old.taken) (Act tag) result self.new }
     {
-        let client = share.client();
-        if make_room(&self.sizes, &mut self.pages, &event).is_err() {
-            return refused(alloc, event);
-        }
-        if self.pages.make_ready(client).is_err() {
-            return refused(alloc, event);
-        }
-        let before = self.pages.calls();
-        let reply = carry(
-            &mut self.stack,
-            &mut self.pages,
-            &mut self.slots,
+        self.look(alloc, history, marks);
+        let mut journal = journal.lock(rt);
+        self.act_in(
             alloc,
             history,
             marks,
-            client,
-            event,
-        );
-        let after = self.pages.calls();
-        share.count(&mut self.tally, after - before);
-        reply
-    }
-
-    // Any event but a call, an open and a close.
-    fn serve(
-        &mut self,
-        alloc: Global,
-        history: &History<Entry, N>,
-        marks: &Marks,
-        event: Event,
-    ) -> Reply
-        requires marks { marks.now ≡ (N.marks, N.slots) }
-        requires no_handle { is_handle_event event ≡ false }
-        requires no_call { is_call_event event ≡ false }
-        ensures served { IsServed 0 self.old event result self.new }
-    {
-        if matches!(event, Event::QueryRemove)
-            && make_room(&self.sizes, &mut self.pages, &event).is_err()
-        {
-            return refused(alloc, event);
-        }
-        carry(
-            &mut self.stack,
-            &mut self.pages,
-            &mut self.slots,
-            alloc,
-            history,
-            marks,
-            0,
-            event,
+            &mut journal,
+            words,
+            tag,
+            Some(completion),
         )
     }
 
-    /// Takes the waiting answer of a request, whose label stands in the trace. It takes no memory.
-    pub fn take_answer(&mut self, number: u64) -> Option<Answer>
-        ensures takes { TakesAnswerOf self.old.stack number result self.new.stack }
-        ensures same { self.new ≡ record self.old { stack = self.new.stack } }
-        ensures stands { IfSome result (λ answer. Contains (labels_of self.old.entries) (as_answer answer)) }
+    /// Books all entries that are there, for who holds both locks: what was booked is then the front of the journal's.
+    pub fn book_rest<M: Medium>(
+        &mut self,
+        alloc: Global,
+        history: &History<Entry, N>,
+        marks: &Marks,
+        journal: &mut Journal<M, N>,
+        words: &sector_journal::History<N>,
+    )
+        requires marks { marks.now ≡ (N.marks, N.slots) }
+        ensures books { (count : ℕ) × AreBooked count self.old self.new }
+        ensures front { BeginsWith journal.old.entered self.new.taken }
+        ensures same { journal.new ≡ journal.old }
     {
-        self.stack.take_answer_of(number)
+        book_all(
+            &mut self.traced,
+            &mut self.taken,
+            &mut self.tags,
+            alloc,
+            history,
+            marks,
+            journal,
+            words,
+        );
+        self.taken.check(journal, words);
     }
 
-    /// Whenever a book is at rest, its trace is a run from the state that it was opened with to the state that the stack
-    /// shows, each label in its row; the handles are those that it was opened with; and a slot is armed exactly with the
-    /// open request there. It is available to the caller.
-    pub fn shows_whole(&self)
-        ensures { IsBook N.rules N.opening N.partitions N.handles self.now }
+    /// The trace, the rows of all clients, and the receipts of the entries of its acts, numbered from 0.
+    pub fn into_rows(self) -> (Vec<Entry>, Vec<Row>, Claims<Entered, OfEntries<N>>)
+        ensures rows { AreRowsOf (length N.partitions) self.traced result.0.items result.1.items }
+        ensures run { Run N.rules N.start (labels_of result.0.items) self.traced.stack.state }
+        ensures receipts { result.2 ≡ numbered_from 0 self.taken }
+        ensures acts { ActsAreOf N.rules N.start (labels_of result.0.items) self.taken }
     {
-        self.stack.shows_whole();
-        self.pages.shows_rows();
-        self.slots.shows_armed();
+        let Book {
+            traced,
+            taken,
+            tags: _,
+            seen: _,
+        } = self;
+        let (trace, rows) = traced.into_rows();
+        (trace, rows, taken.into_receipts())
     }
 }

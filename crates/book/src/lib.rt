@@ -1,46 +1,41 @@
-//! The book of a stack that many threads share under a lock: the stack, the trace of all its labels, a row of places for
-//! each client, and the marks on its open requests.
+//! The book of a stack whose sectors stand in a journal: stack and journal are each under a lock of its own, and the
+//! book's is taken first.
 //!
-//! It promises to the crate above:
-//! - whenever a book is at rest its trace is a run of the sector machine from the state that it was opened with to the one
-//!   that the stack shows, which is settled; each call and each answer stands in the row of the call's client; and a slot is
-//!   armed exactly with the open request there ([`Book::shows_whole`]);
-//! - a step looks first, once at the slot of each open request, and carries out each mark that it sees; then its event; the
-//!   labels of both stand behind all others, and the share has counted its call (`stepped` of [`Book::step`]);
-//! - want of memory for the trace is answered before any step of the event, and only a read, a write, a flush and a
-//!   query-remove are refused for it (`memory`): all labels that a request will ever bring have their places from its call
-//!   on;
-//! - the answer of a request is taken by its number, and the place of its label in the trace is found ([`Book::take_answer`],
-//!   [`Book::answer_place`]);
-//! - at the end the trace is a run, and the rows are those of its labels (`rows`, `run` of [`Book::into_rows`]).
+//! A [`Book`] is a [`traced::Traced`] stack over an adapter without sectors, and what it knows of the journal while it
+//! holds its own lock alone, by receipts:
+//! - for act n of its trace that of entry n ([`Taken`]): whenever both locks are held, what was booked is the front of
+//!   the journal's entries ([`Taken::check`]);
+//! - for a piece that may act that of its arming ([`Arming`], and [`Tags`] of all tags): an entry that names it is of
+//!   what was armed ([`Tags::is_of`]), and the piece may act until a label tells of it ([`armed_stays`]).
 //!
-//! Nothing is known of what lies under a lock but its type's invariant. So a book names by a type parameter what it was
-//! opened with ([`Naming`]), and a claim on a place of its trace is borne out later ([`Book::claim`], [`Book::check`]).
+//! Promised to the crate above:
+//! - a step carries out the marks that it sees, then the right act of each entry that is there and was not booked, in the
+//!   order of their numbers, and then its event; where the event is the act of the last of them, that was its step
+//!   (`stepped` of [`Book::step`]);
+//! - want of memory, for the trace or in the journal, is answered before any step of the event, and only a read, a write, a
+//!   flush and a query-remove are refused for it (`memory`);
+//! - act n of the trace is of the entry of which receipt n is (`receipts`, `acts` of [`Book::into_rows`]), and what was
+//!   booked is the front of the journal's entries (`front` of [`Book::book_rest`]).
 //!
-//! It does not promise that a call is ever answered, nor that a mark made while a step is under way is seen by that step.
-//! No call waits for another thread.
+//! It says nothing of sectors. Not promised: that anything is ever armed or booked. An entry that is not of what was armed
+//! on its tag is not booked, nor any behind it.
 #![tactic(auto)]
 
+mod arming;
+mod asking;
 mod book;
+mod booking;
+mod failing;
+mod laws;
 mod name;
-mod opening;
-mod pages;
-mod row;
-mod share;
-mod sizes;
-mod slots;
+mod noting;
+mod settling;
+mod tags;
+mod taken;
 
+pub use arming::Arming;
 pub use book::Book;
-use machine::Label;
+pub use laws::armed_stays;
 pub use name::Naming;
-pub use opening::{OpenFault, open_handles};
-pub use row::Row;
-pub use share::Share;
-pub use sizes::Sizes;
-
-/// A label of the trace, and the row that it stands in, where it is a call or an answer: its client's number.
-#[derive(Debug, Drop)]
-pub struct Entry {
-    pub label: Label,
-    pub row: Option<usize>,
-}
+pub use tags::Tags;
+pub use taken::Taken;

@@ -1,41 +1,7 @@
-ghost use Rattle.std.specs.Prelude.{ℕ, List, Option, []};
-ghost use Rattle.io_manager.specs.declared.OpenHandle.{OpenHandle};
-ghost use Rattle.atomic_table.specs.Seated.{TableId};
-ghost use Rattle.machine.specs.Rules.{Rules};
-ghost use Rattle.machine.specs.State.{State, opening};
-ghost use Rattle.chronicle.specs.History.{no_table};
-ghost use Rattle.book.specs.Naming.{no_rules};
-
 use std::marker::Brand;
-use std::sync::ledger::Ledger;
 
-/// Names one book, for contracts alone: its history, the ledger of its calls, the rules of its stack, the state that it was
-/// opened with, the number of its clients, and its table of marks. Each call of a program picks it.
-pub trait Naming: chronicle::Naming + Ledger {
-    ghost rules: { Rules };
+/// Names one book and its journal, for contracts alone: what the book was opened with, and the histories of both. Each call
+/// of a program picks it.
+pub trait Naming: traced::Naming + sector_journal::Naming {}
 
-    ghost opening: { State };
-
-    /// Those of its clients, by their numbers.
-    ghost partitions: { List ℕ };
-
-    ghost handles: { List (Option OpenHandle) };
-
-    ghost marks: { TableId };
-
-    ghost slots: { ℕ };
-}
-
-impl Naming for Brand {
-    ghost rules = { no_rules };
-
-    ghost opening = { opening [] };
-
-    ghost partitions = { [] };
-
-    ghost handles = { [] };
-
-    ghost marks = { no_table };
-
-    ghost slots = { 0 };
-}
+impl Naming for Brand {}

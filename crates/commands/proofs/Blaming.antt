@@ -15,7 +15,7 @@ use Rattle.script.specs.Script.{IsFaultOf}
 use Rattle.rounds.specs.declared.RoundsFault.{RoundsFault}
 use Rattle.rounds.specs.declared.RoundsFault.TheVariants.{NoPartition}
 use Rattle.rounds.specs.Faults.{IsRoundsFault}
-use Rattle.startup.specs.Started.{rules_of}
+use Rattle.startup.specs.Started.{rules_over}
 use Rattle.startup.specs.declared.faults.Fault.TheVariants.{Settings}
 use Rattle.startup.specs.Reading.{AreRead, IsAllOf}
 use Rattle.commands.specs.declared.faults.Fault.{Fault}
@@ -63,7 +63,7 @@ module _ (config : Option (List ℕ)) (threads : ℕ) where
         never holds = absurd (cc (holds))
 
     -- settings without a partition have room for nobody
-    pub no_partition : (rules : Rules) (missed : RoundsFault) (fault : Fault) → rules ≡ rules_of settings → missed ≡ NoPartition → IsRoundsFault rules missed → fault ≡ Startup (Settings OutOfRange)
+    pub no_partition : (rules : Rules) (missed : RoundsFault) (fault : Fault) → rules ≡ rules_over false settings → missed ≡ NoPartition → IsRoundsFault rules missed → fault ≡ Startup (Settings OutOfRange)
         → IsClientsFault config threads fault
     no_partition rules missed fault of_them named why is = out_of_range fault is (λ room. by settings.partitions.items (sym (ap (λ (r : Rules). r.partitions) of_them) ∙ none) room.sectors)
       where

@@ -8,7 +8,7 @@ use Rattle.settings.specs.declared.ConfigFault.TheVariants.{OutOfRange}
 use Rattle.script.specs.declared.ScriptFault.TheVariants.{OutputFailed}
 use Rattle.startup.specs.declared.faults.Fault.TheVariants.{Settings, Start}
 use Rattle.startup.specs.Reading.{AreRead, HasFault}
-use Rattle.startup.specs.Started.{IsStartFault}
+use Rattle.startup.specs.Started.{IsApartFault}
 use Rattle.startup.specs.declared.ending.Verdict.{Verdict}
 use Rattle.startup.specs.declared.ending.Verdict.TheVariants.{Passed, Failed}
 use Rattle.commands.specs.declared.faults.Fault.{Fault}
@@ -42,7 +42,7 @@ IsOutputFault fault = (fault ≡ Script OutputFailed) ⊎ (fault ≡ NoMemory)
 -- why nothing is printed of so many clients. Settings are looked at first, then a stack is started, and then there has to be room
 abbrev pub IsClientsFault : Option (List ℕ) → ℕ → Fault → Type 0
 IsClientsFault config threads Usage = ⊥
-IsClientsFault config threads (Startup (Start fault)) = (settings : Config) × AreRead config settings × IsStartFault settings fault
+IsClientsFault config threads (Startup (Start fault)) = (settings : Config) × AreRead config settings × IsApartFault settings fault
 IsClientsFault config threads (Startup (Settings OutOfRange)) =
     HasFault config (Settings OutOfRange) ⊎ ((settings : Config) × AreRead config settings × ¬ (HasRoom settings threads))
 IsClientsFault config threads (Startup fault) = HasFault config fault

@@ -1,26 +1,26 @@
 //! Clients over the stack of some settings, in threads of their own, and what comes of them in print.
 
-ghost use Rattle.std.specs.Prelude.{◌≡◌, ◌≤◌, ◌++◌, ◌∷◌, ◌↔◌, [], OnOk, IfErr, IfOk, IsTrue};
+ghost use Rattle.std.specs.Prelude.{◌≡◌, ◌≤◌, ◌++◌, ◌∷◌, ◌↔◌, [], OnOk, IfErr, IfOk, IsTrue, false};
 ghost use Rattle.std.specs.Io.KnownBytes.{Appends};
-ghost use Rattle.book.specs.Sizes.{AreSizes, sizes_of};
+ghost use Rattle.traced.specs.Sizes.{AreSizes, sizes_of};
 ghost use Rattle.settings.specs.InRange.{AreInRange};
 ghost use Rattle.commands.specs.Clients.{HasRoom, IsClientsFault, IsOutputFault, PrintsTally, tally_line, verdict_on};
 ghost use Rattle.settings.specs.declared.ConfigFault.TheVariants.{OutOfRange};
 ghost use Rattle.commands.specs.declared.faults.Fault.TheVariants.{Startup};
 ghost use Rattle.startup.specs.declared.faults.Fault.TheVariants.{Settings};
-ghost use Rattle.startup.specs.Started.{rules_of};
+ghost use Rattle.startup.specs.Started.{rules_over};
 
 use crate::faults::Fault;
-use book::Sizes;
 use rounds::{Plan, RoundsFault, Tally, run};
 use script::ScriptFault;
 use settings::{Config, ConfigFault};
-use startup::{Verdict, fault_of, read_settings, start};
+use startup::{Verdict, fault_of, read_settings, start_apart};
 use std::alloc::Global;
 use std::io;
 use std::io::{Read, Write};
 use std::sync::Wait;
 use std::thread::Threads;
+use traced::Sizes;
 
 /// Sectors of the longest request of a stack.
 const LONGEST: u32 = 65_536;
@@ -57,13 +57,14 @@ pub fn clients<C: Read + Drop, O: Write, R: Threads + Wait + Sync>(
         rounds,
         sector_size: config.sector_size,
         depth: config.depth,
+        write_protected: config.write_protected,
     };
-    let stack = start(alloc, config)?;
+    let (stack, disk) = start_apart(alloc, config)?;
     if !has_room {
         return Err(out_of_range());
     }
-    let tally = match run(rt, alloc, stack, sizes, slots, plan) {
-        Ok(tally) => tally,
+    let tally = match run(rt, alloc, stack, disk, sizes, slots, plan) {
+        Ok(done) => done.tally,
         Err(RoundsFault::NoMemory) => return Err(Fault::NoMemory),
         Err(RoundsFault::NoPartition) => return Err(out_of_range()),
     };
@@ -102,11 +103,12 @@ fn has_room(config: &Config, threads: u16) -> bool
 /// The sizes of the stack of some settings.
 fn sizes_for(config: &Config) -> Sizes
     requires { AreInRange config.now }
-    ensures rules { result ≡ sizes_of (rules_of config.now) }
+    ensures rules { result ≡ sizes_of (rules_over false config.now) }
     ensures sizes { AreSizes result }
 {
     Sizes {
         sector_size: config.sector_size,
+        sectors: config.sectors,
         longest: LONGEST,
         max_transfer: config.max_transfer,
         busy_limit: BUSY_LIMIT,

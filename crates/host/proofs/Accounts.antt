@@ -5,10 +5,10 @@ use Rattle.machine.specs.declared.ClientRequest.{ClientRequest}
 use Rattle.machine.specs.declared.Label.{Label}
 use Rattle.machine.specs.declared.Label.TheVariants.{Call as CallLabel}
 use Rattle.io_manager.specs.declared.OpenHandle.{OpenHandle}
-use Rattle.book.specs.declared.Entry.{Entry}
-use Rattle.book.specs.Entries.{entry}
-use Rattle.book.specs.Opening.{IsOpenOn}
-use Rattle.book.specs.Shares.{ShareView}
+use Rattle.traced.specs.declared.Entry.{Entry}
+use Rattle.traced.specs.Entries.{entry}
+use Rattle.traced.specs.Opening.{IsOpenOn}
+use Rattle.traced.specs.Shares.{ShareView}
 use Rattle.host.specs.Receipts.{Receipt, AreAnswers, AreBelow, AreCalls, AreRising, Answers, receipt}
 use Rattle.host.specs.Accounts.{AccountKept}
 use Rattle.host.specs.Calls.{HasCounted, Stands}

@@ -15,8 +15,8 @@ use Rattle.machine.specs.Numbers.{AreDistinct}
 use Rattle.machine_laws.specs.NumberLaws.{IsNoAnswerOf, IsNoCallOf, awaited, call_numbers}
 use Rattle.io_manager.specs.declared.Answer.{Answer}
 use Rattle.io_manager.specs.Right.{as_answer}
-use Rattle.book.specs.declared.Entry.{Entry}
-use Rattle.book.specs.Entries.{AreRowed, IsAnswerAt, IsAnswerTo, IsNoAnswerTo, entry, labels_of, row_of}
+use Rattle.traced.specs.declared.Entry.{Entry}
+use Rattle.traced.specs.Entries.{AreRowed, IsAnswerAt, IsAnswerTo, IsNoAnswerTo, entry, labels_of, row_of}
 use Rattle.host.specs.Calls.{AnswerLaws, Stands}
 use Rattle.host.specs.Opening.{IsOpening}
 

@@ -10,7 +10,6 @@ use Rattle.srb.specs.declared.Kind.TheVariants.{Read as ReadKind, Write as Write
 use Rattle.machine.specs.declared.Label.{Label}
 use Rattle.machine.specs.declared.Label.TheVariants.{Call as CallLabel, Answer as AnswerLabel}
 use Rattle.machine.specs.Step.{as_label}
-use Rattle.machine_laws.specs.NumberLaws.{CallsCount}
 use Rattle.io_manager.specs.declared.Handle.{Handle}
 use Rattle.io_manager.specs.declared.OpenHandle.{OpenHandle}
 use Rattle.io_manager.specs.declared.Refusal.{Refusal}
@@ -22,17 +21,17 @@ use Rattle.io_manager.specs.declared.Reply.TheVariants.{Handle as HandleReply, O
 use Rattle.io_manager.specs.Calls.{are_used_up, bytes_called, call_on, partition_at, partition_of, status_of_refusal, without_bytes, IsWant}
 use Rattle.io_manager.specs.Right.{IsRight, CallReplies, IsAdmitted, IsAnsweredAtOnce as AnswersAtOnce, IsSlotOf, IsTurnedAway, Told, TransferReplies, as_answer, end_labels, labels_of}
 use Rattle.io_manager.specs.Shown.{ManagerView}
-use Rattle.book.specs.declared.Entry.{Entry}
-use Rattle.book.specs.Entries.{entry, is_call, owner_of, row_of}
-use Rattle.book.specs.Pages.{PagesView, noted, noted_all}
-use Rattle.book.specs.Told.{AreNoCalls}
-use Rattle.book.specs.Shares.{ShareView}
-use Rattle.book.specs.Opening.{IsOpenOn}
-use Rattle.book.specs.Book.{BookView, AreLooked, HasCounted as Counts, IsServed, IsWanting, bytes_of, pages_of}
+use Rattle.traced.specs.declared.Entry.{Entry}
+use Rattle.traced.specs.Entries.{entry, is_call, owner_of, row_of}
+use Rattle.traced.specs.Pages.{PagesView, noted, noted_all}
+use Rattle.traced.specs.Told.{AreNoCalls}
+use Rattle.traced.specs.Shares.{ShareView}
+use Rattle.traced.specs.Opening.{IsOpenOn}
+use Rattle.traced.specs.Traced.{TracedView, HasCounted as Counts, IsServed, IsWanting, bytes_of, pages_of}
 use Rattle.host.specs.declared.call.Call.{Call}
 use Rattle.host.specs.declared.call.Call.TheVariants.{Read, Write, Flush}
 use Rattle.host.specs.Calls.{FindsCall, HasCounted, IsAnsweredAtOnce, IsOpened, IsTold, Stands, asked, buffer_of, event_of, request_of}
-use Rattle.host.proofs.Quiet.{NoCalls, Still, quiet, rest_calls_none, still_all}
+use Rattle.host.proofs.Quiet.{NoCalls, Still, quiet, rest_calls_none}
 
 -- PLACES
 
@@ -111,13 +110,13 @@ called_twice client p labels n q s i b is next =
 -- THE BOOK BEFORE AND AFTER
 
 -- a call is all that came behind the marks
-record Comes (client : ℕ) (old new : BookView) (label : Label) (back : List Entry) : Type 0 where
+record Comes (client : ℕ) (old new : TracedView) (label : Label) (back : List Entry) : Type 0 where
   front : List Entry
   entries : new.entries ≡ old.entries ++ (front ++ entry label (Some client) ∷ back)
   none_front : NoCalls front
   none_back : NoCalls back
 
-comes : (client : ℕ) (old mid new : BookView) (labels : List Label) (label : Label) (back : List Entry) → Still old mid → new.entries ≡ (noted_all client (pages_of mid) labels).entries
+comes : (client : ℕ) (old mid new : TracedView) (labels : List Label) (label : Label) (back : List Entry) → Still old mid → new.entries ≡ (noted_all client (pages_of mid) labels).entries
     → AddsCall client (pages_of mid) labels label back → Comes client old new label back
 comes client old mid new labels label back still is adds = record {
   front = still.more;
@@ -127,7 +126,7 @@ comes client old mid new labels label back still is adds = record {
 }
 
 -- it is found
-found : (client : ℕ) (old new : BookView) (label : Label) (back : List Entry) → is_call label ≡ true → Comes client old new label back → (place : Option ℕ) → FindsCall (length old.entries) new.entries place
+found : (client : ℕ) (old new : TracedView) (label : Label) (back : List Entry) → is_call label ≡ true → Comes client old new label back → (place : Option ℕ) → FindsCall (length old.entries) new.entries place
     → (p : ℕ) × (place ≡ Some p) × Stands new.entries p label client × (slice_get new.entries (p + 1) ≡ slice_get back 0)
 found client old new label back is comes None finds =
     let at : slice_get new.entries (length old.entries + length comes.front) ≡ Some (entry label (Some client)) = here in
@@ -170,14 +169,14 @@ at_once_labels : (old : ManagerView) (q : ClientRequest) (status : NtStatus) (ne
 at_once_labels old q status new told a = ap labels_of a.tells
 
 -- what a book needs of a carried call
-record Carried (client : ℕ) (mid new : BookView) (stepped : ManagerView) : Type 0 where
+record Carried (client : ℕ) (mid new : TracedView) (stepped : ManagerView) : Type 0 where
   entries : new.entries ≡ (noted_all client (pages_of mid) stepped.labels).entries
   owners : new.owners ≡ (noted_all client (pages_of mid) stepped.labels).owners
 
-counted_one : (before after : ShareView) (mid new : BookView) → Counts mid before after new → length new.owners ≡ length mid.owners + 1 → HasCounted before 1 after
+counted_one : (before after : ShareView) (mid new : TracedView) → Counts mid before after new → length new.owners ≡ length mid.owners + 1 → HasCounted before 1 after
 counted_one before after mid new counts more = record { client = counts.client; handle = counts.handle; more = (let c = counts.calls in omega arith) }
 
-counted_none : (before after : ShareView) (mid new : BookView) → Counts mid before after new → new.owners ≡ mid.owners → HasCounted before 0 after
+counted_none : (before after : ShareView) (mid new : TracedView) → Counts mid before after new → new.owners ≡ mid.owners → HasCounted before 0 after
 counted_none before after mid new counts same = record { client = counts.client; handle = counts.handle; more = (let c = counts.calls in let s = ap length same in omega arith) }
 
 small_number : (n : ℕ) → are_used_up n ≡ false → n < 2 ^ 62
@@ -187,13 +186,13 @@ slot_small : (most : Option ℕ) (slots slot : ℕ) → most ≡ Some slots → 
 slot_small most slots slot e s = subst (λ (m : Option ℕ). IsSlotOf m slot) e s
 
 -- nothing was told
-unheard : (old mid new : BookView) (before after : ShareView) → Still old mid → Counts mid before after new → new.entries ≡ mid.entries → new.owners ≡ mid.owners
+unheard : (old mid new : TracedView) (before after : ShareView) → Still old mid → Counts mid before after new → new.entries ≡ mid.entries → new.owners ≡ mid.owners
     → (place : Option ℕ) → FindsCall (length old.entries) new.entries place → (place ≡ None) × HasCounted before 0 after
 unheard old mid new before after still counts entries owners None finds = (refl, counted_none before after mid new counts owners)
 unheard old mid new before after still counts entries owners (Some p) finds =
     apart (is_call finds.1.0.label) finds.1.2 (no_call_behind old.entries still.more p finds.1.0 still.none finds.0 (ap (λ es. slice_get es p) (sym (entries ∙ still.entries)) ∙ finds.1.1))
 
-module _ (slots : ℕ) (old mid new : BookView) (before after : ShareView) (q : ClientRequest) (buffer : List ℕ) (stepped : ManagerView)
+module _ (slots : ℕ) (old mid new : TracedView) (before after : ShareView) (q : ClientRequest) (buffer : List ℕ) (stepped : ManagerView)
     (still : Still old mid) (next : mid.stack.state.next_request ≡ length mid.owners + 1) (rules : mid.stack.rules.open_requests ≡ Some slots)
     (carried : Carried before.client mid new stepped) (counts : Counts mid before after new) where
   -- a request was opened
@@ -281,7 +280,7 @@ asked_on v handle partition kind offset buffer through is =
     open' = ap (λ (h : Option OpenHandle). partition_at h handle.number) is ∙ ap (λ (b : Bool). if b then Some partition else None) (same_number handle.number)
 
 -- what is told of a call that the book served
-module _ (slots partition : ℕ) (old mid new : BookView) (before after : ShareView) (reply : Reply) (place : Option ℕ)
+module _ (slots partition : ℕ) (old mid new : TracedView) (before after : ShareView) (reply : Reply) (place : Option ℕ)
     (still : Still old mid) (next : old.stack.state.next_request ≡ length old.owners + 1) (rules : old.stack.rules.open_requests ≡ Some slots)
     (is : IsOpenOn old.stack.handles before.handle partition) (counts : Counts mid before after new) (finds : FindsCall (length old.entries) new.entries place) where
   next_mid : mid.stack.state.next_request ≡ length mid.owners + 1
@@ -316,9 +315,9 @@ module _ (slots partition : ℕ) (old mid new : BookView) (before after : ShareV
   by_call Flush (inl c) = carried_out FlushKind 0 [] false c.stepped (record { entries = c.entries; owners = c.owners }) c.right
   by_call Flush (inr w) = wanting (FlushEvent before.handle) (request_of partition Flush) w
 
-pub told_call : CallsCount → (slots partition : ℕ) (call : Call) (old mid new : BookView) (before after : ShareView) (reply : Reply) (place : Option ℕ)
-    → AreLooked slots old mid → old.stack.state.next_request ≡ length old.owners + 1 → old.stack.rules.open_requests ≡ Some slots → IsOpenOn old.stack.handles before.handle partition
+pub told_call : (slots partition : ℕ) (call : Call) (old mid new : TracedView) (before after : ShareView) (reply : Reply) (place : Option ℕ)
+    → Still old mid → old.stack.state.next_request ≡ length old.owners + 1 → old.stack.rules.open_requests ≡ Some slots → IsOpenOn old.stack.handles before.handle partition
     → IsServed before.client mid (event_of before.handle call) reply new → Counts mid before after new → FindsCall (length old.entries) new.entries place
     → IsTold slots before after (request_of partition call) (buffer_of call) new.entries reply place
-told_call count slots partition call old mid new before after reply place looks next rules is served counts finds =
-    by_call slots partition old mid new before after reply place (still_all count slots old mid looks) next rules is counts finds call served
+told_call slots partition call old mid new before after reply place still next rules is served counts finds =
+    by_call slots partition old mid new before after reply place still next rules is counts finds call served

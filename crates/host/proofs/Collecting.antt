@@ -4,7 +4,7 @@ use Rattle.std.proofs.lemmas.List.{get_or_append_left}
 use Rattle.std.proofs.Math.Seq.{get_or-append_seam}
 use mathlib.Core.Logic.{dite}
 use native.Mathlib.Decide.{ℕ_discrete}
-use Rattle.book.specs.declared.Entry.{Entry}
+use Rattle.traced.specs.declared.Entry.{Entry}
 use Rattle.host.specs.Clients.{ClientView, fresh, client_at}
 use Rattle.host.specs.Closing.{total, IsBorneOut, AreBorneOut}
 use Rattle.host.proofs.Counting.{total_next, total_same}

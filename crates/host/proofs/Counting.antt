@@ -8,8 +8,8 @@ use native.Mathlib.Decide.{ℕ_discrete}
 use Rattle.machine.specs.declared.Label.{Label}
 use Rattle.machine.specs.declared.Label.TheVariants.{Call, Device, Answer, Cancel, Pause, Resume, Remove, Surprise, Removed}
 use Rattle.chronicle.specs.Claims.{AllStand}
-use Rattle.book.specs.declared.Entry.{Entry}
-use Rattle.book.specs.Entries.{AreRowed, HasOwner, calls, is_call, is_row, owner_of, row_of}
+use Rattle.traced.specs.declared.Entry.{Entry}
+use Rattle.traced.specs.Entries.{AreRowed, HasOwner, calls, is_call, is_row, owner_of, row_of}
 use Rattle.host.specs.Receipts.{Receipt, AreCalls, AreRising, places_of}
 use Rattle.host.specs.Clients.{ClientView, client_at}
 use Rattle.host.specs.Closing.{AreBorneOut, call_places, total}

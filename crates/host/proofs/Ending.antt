@@ -3,15 +3,15 @@ use Rattle.std.proofs.Common.{◌≡◌, ◌<◌, ℕ, List, length, sym, ap, �
 use Rattle.machine.specs.Rules.{Rules}
 use Rattle.machine.specs.State.{State}
 use Rattle.machine.specs.Step.{Run}
-use Rattle.book.specs.declared.Entry.{Entry}
-use Rattle.book.specs.Book.{AreRowsOf, BookView}
-use Rattle.book.specs.Entries.{calls, labels_of}
-use Rattle.book.specs.Rows.{RowView}
+use Rattle.traced.specs.declared.Entry.{Entry}
+use Rattle.traced.specs.Traced.{AreRowsOf, TracedView}
+use Rattle.traced.specs.Entries.{calls, labels_of}
+use Rattle.traced.specs.Rows.{RowView}
 use Rattle.host.specs.Clients.{AreNumbered, ClientView, client_at}
 use Rattle.host.specs.Closing.{AreBorneOut, IsClosed, total}
 use Rattle.host.proofs.Counting.{just}
 
-pub closed_is : (rules : Rules) (opening last : State) (n : ℕ) (v : BookView) (clients : List ClientView) (trace : List Entry) (rows : List RowView)
+pub closed_is : (rules : Rules) (opening last : State) (n : ℕ) (v : TracedView) (clients : List ClientView) (trace : List Entry) (rows : List RowView)
     → AreNumbered n clients → AreRowsOf n v trace rows → Run rules opening (labels_of trace) last → AreBorneOut v.entries (length clients) clients
     → total (length clients) (λ c. length (client_at clients c).called) ≡ calls v.entries → IsClosed rules opening clients trace rows
 closed_is rules opening last n v clients trace rows numbered are run borne sum = subst (λ (t : List Entry). IsClosed rules opening clients t rows) (sym are.stored) at

@@ -7,8 +7,8 @@ use Rattle.machine.specs.declared.Label.{Label}
 use Rattle.machine.specs.declared.Label.TheVariants.{Call as CallLabel}
 use Rattle.io_manager.specs.declared.OpenHandle.{OpenHandle}
 use Rattle.chronicle.specs.Claims.{AllStand}
-use Rattle.book.specs.declared.Entry.{Entry}
-use Rattle.book.specs.Shares.{ShareView}
+use Rattle.traced.specs.declared.Entry.{Entry}
+use Rattle.traced.specs.Shares.{ShareView}
 use Rattle.host.specs.Receipts.{Receipt, ReceiptsView, AreBelow, Answers, receipt}
 use Rattle.host.specs.Accounts.{AccountKept}
 use Rattle.host.specs.Calls.{HasCounted, Stands}

@@ -2,7 +2,7 @@
 use Rattle.std.proofs.Common.{ℕ, suc, ◌≤◌, List, [], ◌∷◌, ◌++◌, length, arith}
 use Rattle.std.proofs.lemmas.Option.{slice_get_within}
 use Rattle.chronicle.specs.Claims.{AllStand}
-use Rattle.book.specs.declared.Entry.{Entry}
+use Rattle.traced.specs.declared.Entry.{Entry}
 use Rattle.host.specs.Receipts.{Receipt, IsCallOf, AreCalls, IsAnswerTo, AreAnswers, AreRising, AreBelow}
 
 pub below_stand : (es : List Entry) (cs : List Receipt) → AllStand es cs → AreBelow (length es) cs

@@ -12,3 +12,4 @@ pub mod Opening
 pub mod Making
 pub mod Noticing
 pub mod Replying
+pub mod Lifted

@@ -4,16 +4,15 @@ use Rattle.std.specs.Prelude.{slice_get}
 use Rattle.machine.specs.declared.Label.{Label}
 use Rattle.machine.specs.declared.Label.TheVariants.{Call, Device, Answer, Cancel, Pause as PauseLabel, Resume, Remove, Surprise, Removed as RemovedLabel}
 use Rattle.machine.specs.Step.{as_label}
-use Rattle.machine_laws.specs.NumberLaws.{CallsCount}
 use Rattle.io_manager.specs.declared.Refusal.TheVariants.{InsufficientResources}
 use Rattle.io_manager.specs.declared.Reply.{Reply}
 use Rattle.io_manager.specs.declared.Reply.TheVariants.{Ok as OkReply, Refused}
 use Rattle.io_manager.specs.Right.{QueryReplies, as_answer, end_labels}
 use Rattle.compose.specs.declared.Event.TheVariants.{QueryRemove}
-use Rattle.book.specs.declared.Entry.{Entry}
-use Rattle.book.specs.Entries.{AreRowed, entry, row_of}
-use Rattle.book.specs.Pages.{noted, noted_all}
-use Rattle.book.specs.Book.{BookView, AreLooked, IsServed, pages_of}
+use Rattle.traced.specs.declared.Entry.{Entry}
+use Rattle.traced.specs.Entries.{AreRowed, entry, row_of}
+use Rattle.traced.specs.Pages.{noted, noted_all}
+use Rattle.traced.specs.Traced.{TracedView, IsServed, pages_of}
 use Rattle.host.specs.declared.notice.Notice.{Notice}
 use Rattle.host.specs.declared.notice.Notice.TheVariants.{Pause, Removed}
 use Rattle.host.specs.Keepers.{HasNone, HasNoted, IsNoticed, is_notice, label_of}
@@ -21,7 +20,7 @@ use Rattle.host.specs.Receipts.{Receipt, AreBelow}
 use Rattle.host.proofs.Answering.{rowed_at, some_same}
 use Rattle.host.proofs.Calling.{get_behind}
 use Rattle.host.proofs.Keeping.{below_more}
-use Rattle.host.proofs.Quiet.{quiet, rest_calls_none, still_all}
+use Rattle.host.proofs.Quiet.{Still, quiet, rest_calls_none}
 
 -- such a label stands in no row
 in_no_row : (notice : Notice) (owners : List ℕ) (e : Entry) → is_notice notice e.label ≡ true → e.row ≡ row_of owners e.label → e ≡ entry (label_of notice) None
@@ -59,12 +58,12 @@ noticed notice owners es from place claim rowed found claimed =
     record { place = place; late = found.0; claim_is = claimed.2 ∙ ap (λ (y : Entry). (place, y) ∷ []) (same ∙ is) }
 
 -- an accepted query tells of its pause behind all that was told before
-pub pause_stands : CallsCount → (slots : ℕ) (old mid new : BookView) (reply : Reply) → AreLooked slots old mid → IsServed 0 mid QueryRemove reply new → reply ≡ OkReply
+pub pause_stands : (old mid new : TracedView) (reply : Reply) → Still old mid → IsServed 0 mid QueryRemove reply new → reply ≡ OkReply
     → HasNone Pause (length old.entries) new.entries → ⊥
-pause_stands count slots old mid new reply looks (inr wants) ok none =
+pause_stands old mid new reply still (inr wants) ok none =
     let e : OkReply ≡ Refused InsufficientResources [] = sym ok ∙ wants.replies in
     absurd (cc)
-pause_stands count slots old mid new reply looks (inl c) ok none = apart (none (length mid.entries + 0) (entry PauseLabel None) late at)
+pause_stands old mid new reply still (inl c) ok none = apart (none (length mid.entries + 0) (entry PauseLabel None) late at)
   where
     apart : true ≡ false → ⊥
     apart e = absurd (cc)
@@ -76,7 +75,7 @@ pause_stands count slots old mid new reply looks (inl c) ok none = apart (none (
     labels = c.right.by.in_order ∙ ap (λ own. ((own ++ map as_label c.right.told.device) ++ map as_answer c.right.told.answers) ++ end_labels c.right.told.ends) valid.tells.own
 
     late : length old.entries ≤ length mid.entries + 0
-    late = let l = ap length (still_all count slots old mid looks).entries ∙ length-append old.entries (still_all count slots old mid looks).more in omega arith
+    late = let l = ap length still.entries ∙ length-append old.entries still.more in omega arith
 
     at : slice_get new.entries (length mid.entries + 0) ≡ Some (entry PauseLabel None)
     at =

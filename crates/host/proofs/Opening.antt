@@ -1,6 +1,6 @@
 -- What a host is opened with.
 use Rattle.std.proofs.Common.{◌≡◌, ℕ, zero, suc, ◌+◌, ◌≤◌, List, length, map, replicate, Some, refl, sym, ap, ◌∙◌, subst, arith}
-use Rattle.std.specs.Prelude.{All, max, slice_index_or}
+use Rattle.std.specs.Prelude.{All, IsFalse, max, slice_index_or}
 use Rattle.std.proofs.lemmas.List.Elements.{All-nil, All-cons}
 use Rattle.std.proofs.lemmas.Option.{slice_get-get_or, slice_get_within}
 use Rattle.atomic_table.specs.Seated.{TableId}
@@ -8,9 +8,9 @@ use Rattle.io_manager.specs.declared.Handle.{Handle}
 use Rattle.io_manager.specs.Shown.{ManagerView}
 use Rattle.remove_lock.specs.Gate.{Standing, issued, standing, fresh}
 use Rattle.cancel_marks.specs.Marks.{Standing as SeatStanding, standing as seat_of, starting, IsOther}
-use Rattle.book.specs.declared.sizes.Sizes.{Sizes}
-use Rattle.book.specs.Opening.{AreOpened, IsNew}
-use Rattle.book.specs.Sizes.{AreSizes, sizes_of}
+use Rattle.traced.specs.declared.sizes.Sizes.{Sizes}
+use Rattle.traced.specs.Opening.{AreOpened, IsNew}
+use Rattle.traced.specs.Sizes.{AreSizes, sizes_of}
 use Rattle.host.specs.Opening.{IsClientPass, IsOpening, IsReady, client_limit}
 use Rattle.host.specs.Clients.{ticket_limit}
 
@@ -29,13 +29,14 @@ opens_first : (v : ManagerView) → IsNew v → IsOpening v.state
 opens_first v new = subst IsOpening (sym new.state) refl
 
 pub is_ready : (partitions : List ℕ) (old stack : ManagerView) (handles : List Handle) (sizes : Sizes) (slots parts : ℕ) (marks : TableId × ℕ) (owner : SeatStanding) (seats : List SeatStanding) (gate : TableId) (passes : List Standing)
-    → length partitions ≤ client_limit → IsNew old → AreOpened partitions handles old stack → sizes ≡ sizes_of old.rules → AreSizes sizes → old.rules.open_requests ≡ Some slots → parts ≡ length partitions + 1
+    → length partitions ≤ client_limit → IsNew old → AreOpened partitions handles old stack → IsFalse stack.adapter.faithful → sizes ≡ sizes_of old.rules → AreSizes sizes → old.rules.open_requests ≡ Some slots → parts ≡ length partitions + 1
     → marks.1 ≡ slots → owner ≡ seat_of marks.0 0 (starting (max slots 1)) → length seats ≡ length partitions → All (IsOther marks.0) seats → length passes ≡ length partitions + 1 → All (IsClientPass gate) passes
     → IsReady partitions stack handles sizes slots parts marks owner seats gate passes
-is_ready partitions old stack handles sizes slots parts marks owner seats gate passes few new opened same are as_many parts_is slots_is owner_is count_seats are_seats count_passes are_passes = record {
+is_ready partitions old stack handles sizes slots parts marks owner seats gate passes few new opened apart same are as_many parts_is slots_is owner_is count_seats are_seats count_passes are_passes = record {
   few = few;
   first = opened.first;
   opens = subst IsOpening (sym opened.same_state) (opens_first old new);
+  apart = apart;
   clients = opened.clients;
   given = record {
     count = opened.given.count;
@@ -52,3 +53,6 @@ is_ready partitions old stack handles sizes slots parts marks owner seats gate p
   count_passes = count_passes;
   are_passes = are_passes;
 }
+
+pub marks_are : (marks : TableId × ℕ) (table : TableId) (slots : ℕ) → marks.0 ≡ table → marks.1 ≡ slots → marks ≡ (table, slots)
+marks_are marks table slots first second = ap (λ (t : TableId). (t, marks.1)) first ∙ ap (λ (n : ℕ). (table, n)) second

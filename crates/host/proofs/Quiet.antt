@@ -1,5 +1,6 @@
 -- Steps that tell of no call.
-use Rattle.std.proofs.Common.{◌≡◌, ℕ, zero, suc, Bool, true, false, if◌then◌else◌, List, [], ◌∷◌, ◌++◌, length, map, Option, Some, None, refl, sym, ap, ◌∙◌, subst, arith, append_assoc}
+use Rattle.std.proofs.Common.{◌≡◌, ℕ, zero, suc, Bool, true, false, if◌then◌else◌, List, [], ◌∷◌, ◌++◌, length, map, Option, Some, None, refl, sym, ap, ◌∙◌, subst, arith, append_assoc, inl, inr}
+use Rattle.std.specs.Prelude.{◌⊎◌}
 use Rattle.std.proofs.lemmas.List.{append-nil}
 use Rattle.srb.specs.declared.DeviceLabel.{DeviceLabel}
 use Rattle.machine.specs.declared.Label.{Label}
@@ -11,12 +12,17 @@ use Rattle.io_manager.specs.declared.Reply.{Reply}
 use Rattle.io_manager.specs.declared.Reply.TheVariants.{Handle, Ok as OkReply, Request, Answered, Refused, Ignored}
 use Rattle.io_manager.specs.Right.{MarkReplies, Told, CancelsOne, as_answer, end_labels, labels_of}
 use Rattle.io_manager.specs.Shown.{ManagerView}
+use Rattle.srb.specs.declared.Entry.{Entry as Booked}
+use Rattle.compose.specs.declared.Event.{Event}
 use Rattle.compose.specs.declared.Event.TheVariants.{Mark}
-use Rattle.book.specs.declared.Entry.{Entry}
-use Rattle.book.specs.Entries.{entry, is_call, row_of}
-use Rattle.book.specs.Pages.{PagesView, noted, noted_all, owners_after}
-use Rattle.book.specs.Told.{AreNoCalls}
-use Rattle.book.specs.Book.{BookView, AreLooked, CarriesSeen, IsCarried, IsLooked, pages_of}
+use Rattle.compose.specs.Journaled.{IsNoAct}
+use Rattle.book.specs.Acting.{ActsEntry}
+use Rattle.book.specs.Book.{BookView, AreBooked, HoldsFailure, IsLastAct, ServesAfter, ServesEvent}
+use Rattle.traced.specs.declared.Entry.{Entry}
+use Rattle.traced.specs.Entries.{entry, is_call, row_of}
+use Rattle.traced.specs.Pages.{PagesView, noted, noted_all, owners_after}
+use Rattle.traced.specs.Told.{AreNoCalls}
+use Rattle.traced.specs.Traced.{TracedView, AreLooked, CarriesSeen, IsCarried, IsLooked, IsServed, pages_of}
 
 -- LABELS
 
@@ -113,7 +119,7 @@ quiet client p (Removed ∷ ls) none = quiet_next client p Removed ls refl refl 
 -- LOOKS AT THE MARKS
 
 -- no call came
-pub record Still (old new : BookView) : Type 0 where
+pub record Still (old new : TracedView) : Type 0 where
   pub more : List Entry
   pub entries : new.entries ≡ old.entries ++ more
   pub none : NoCalls more
@@ -122,7 +128,7 @@ pub record Still (old new : BookView) : Type 0 where
   pub rules : new.stack.rules ≡ old.stack.rules
   pub next : new.stack.state.next_request ≡ old.stack.state.next_request
 
-still_same : (old new : BookView) → new.entries ≡ old.entries → new.owners ≡ old.owners → new.stack ≡ old.stack → Still old new
+still_same : (old new : TracedView) → new.entries ≡ old.entries → new.owners ≡ old.owners → new.stack ≡ old.stack → Still old new
 still_same old new entries owners stack = record {
   more = [];
   entries = entries ∙ sym (append-nil old.entries);
@@ -133,7 +139,7 @@ still_same old new entries owners stack = record {
   next = ap (λ v. v.state.next_request) stack;
 }
 
-still_then : (a b c : BookView) → Still a b → Still b c → Still a c
+still_then : (a b c : TracedView) → Still a b → Still b c → Still a c
 still_then a b c x y = record {
   more = x.more ++ y.more;
   entries = y.entries ∙ ap (λ es. es ++ y.more) x.entries ∙ append_assoc a.entries x.more y.more;
@@ -159,7 +165,7 @@ mark_tells old number (Request id) new told r = absurd r
 mark_tells old number (Answered a) new told r = absurd r
 mark_tells old number (Refused why bs) new told r = absurd r
 
-still_marked : CallsCount → (old : BookView) (number : ℕ) (reply : Reply) (new : BookView) → IsCarried 0 old (Mark number) reply new → Still old new
+still_marked : CallsCount → (old : TracedView) (number : ℕ) (reply : Reply) (new : TracedView) → IsCarried 0 old (Mark number) reply new → Still old new
 still_marked count old number reply new c =
     let m = mark_tells old.stack number reply c.stepped c.right.told c.right.replies in
     let none : AreNoCalls c.stepped.labels = subst AreNoCalls (sym c.right.by.in_order) (told_calls_none c.right.told m.0) in
@@ -177,7 +183,7 @@ still_marked count old number reply new c =
       next = ap (λ v. v.state.next_request) c.stack ∙ next;
     }
 
-still_looked : CallsCount → (slot : ℕ) (old new : BookView) → IsLooked slot old new → Still old new
+still_looked : CallsCount → (slot : ℕ) (old new : TracedView) → IsLooked slot old new → Still old new
 still_looked count slot old new l = go l.seen l.carries
   where
     go : (seen : Option ℕ) → CarriesSeen seen (record old { marks = l.looked }) new → Still old new
@@ -186,6 +192,60 @@ still_looked count slot old new l = go l.seen l.carries
         let s = still_marked count (record old { marks = l.looked }) number c.0 new c.1 in
         record { more = s.more; entries = s.entries; none = s.none; owners = s.owners; handles = s.handles; rules = s.rules; next = s.next }
 
-pub still_all : CallsCount → (slots : ℕ) (old new : BookView) → AreLooked slots old new → Still old new
+pub still_all : CallsCount → (slots : ℕ) (old new : TracedView) → AreLooked slots old new → Still old new
 still_all count zero old new e = still_same old new (ap (λ b. b.entries) e) (ap (λ b. b.owners) e) (ap (λ b. b.stack) e)
 still_all count (suc slot) old new l = still_then old l.0 new (still_all count slot old l.0 l.1) (still_looked count slot l.0 new l.2)
+
+-- ENTRIES ARE BOOKED
+
+-- the act of an entry tells of itself alone
+still_acted : CallsCount → (old : TracedView) (booked : Booked) (new : TracedView) → ActsEntry old booked new → Still old new
+still_acted count old booked new acts =
+    let held : TracedView = acts.held in
+    let c = acts.carried in
+    let stack : held.stack ≡ record old.stack { adapter = held.stack.adapter } = acts.holds.books.same in
+    let none : AreNoCalls c.stepped.labels = subst AreNoCalls (sym acts.tells) tt in
+    let q = quiet 0 (pages_of held) c.stepped.labels none in
+    let rise = count held.stack.rules held.stack.state c.stepped.labels c.stepped.state c.right.by.run in
+    let zeros = no_calls_numbers c.stepped.labels none in
+    let next : c.stepped.state.next_request ≡ held.stack.state.next_request = omega (arith, rise, zeros) in
+    record {
+      more = q.more;
+      entries = c.entries ∙ q.entries ∙ ap (λ (v : TracedView). v.entries ++ q.more) acts.holds.same;
+      none = q.none;
+      owners = c.owners ∙ q.owners ∙ ap (λ (v : TracedView). v.owners) acts.holds.same;
+      handles = ap (λ (v : ManagerView). v.handles) c.stack ∙ c.right.replies.1.handles ∙ ap (λ (v : ManagerView). v.handles) stack;
+      rules = ap (λ (v : ManagerView). v.rules) c.stack ∙ c.right.by.same_rules ∙ ap (λ (v : ManagerView). v.rules) stack;
+      next = ap (λ (v : ManagerView). v.state.next_request) c.stack ∙ next ∙ ap (λ (v : ManagerView). v.state.next_request) stack;
+    }
+
+still_booked : CallsCount → (many : ℕ) (old new : BookView) → AreBooked many old new → Still old.traced new.traced
+still_booked count zero old new same = let e : new.traced ≡ old.traced = ap (λ (b : BookView). b.traced) same in still_same old.traced new.traced (ap (λ (v : TracedView). v.entries) e) (ap (λ (v : TracedView). v.owners) e) (ap (λ (v : TracedView). v.stack) e)
+still_booked count (suc many) old new (mid, before, (tag, one)) = still_then old.traced mid.traced new.traced (still_booked count many old mid before) (still_acted count mid.traced one.next.entry new.traced one.acts)
+
+-- the marks, and then the entries
+pub still_before : CallsCount → (slots many : ℕ) (old : BookView) (marked : TracedView) (booked : BookView) → AreLooked slots old.traced marked → AreBooked many (record old { traced = marked }) booked → Still old.traced booked.traced
+still_before count slots many old marked booked looks books =
+    still_then old.traced marked booked.traced (still_all count slots old.traced marked looks) (still_booked count many (record old { traced = marked }) booked books)
+
+-- what goes before an event that is no act
+pub record GoesBefore (old : TracedView) (event : Event) (reply : Reply) (new : TracedView) : Type 0 where
+  pub mid : TracedView
+  pub still : Still old mid
+  pub served : IsServed 0 mid event reply new
+
+pub goes_before : CallsCount → (slots : ℕ) (old : BookView) (marked : TracedView) (event : Event) (reply : Reply) (new : BookView) → IsNoAct event → AreLooked slots old.traced marked
+    → ServesAfter (record old { traced = marked }) event reply new → GoesBefore old.traced event reply new.traced
+goes_before count slots old marked event reply new other looks after = go after.serves
+  where
+    held_same : (held : TracedView) → HoldsFailure after.booked.traced event held → held ≡ after.booked.traced
+    held_same held (inl same) = same
+    held_same held (inr (tag, piece, completion, is, holds)) = absurd (subst IsNoAct is other)
+
+    go : ServesEvent after.booked event reply new ⊎ IsLastAct after.count (record old { traced = marked }) after.booked event reply new → GoesBefore old.traced event reply new.traced
+    go (inl serves) = record {
+      mid = after.booked.traced;
+      still = still_before count slots after.count old marked after.booked looks after.books;
+      served = subst (λ (v : TracedView). IsServed 0 v event reply new.traced) (held_same serves.held serves.holds) serves.served;
+    }
+    go (inr last) = absurd (subst IsNoAct last.is_act other)

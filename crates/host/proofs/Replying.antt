@@ -1,5 +1,5 @@
 -- What a step that is no client's replies.
-use Rattle.std.proofs.Common.{◌≡◌, ◌⊎◌, ℕ, true, List, [], Option, Some, None, refl, inl, inr}
+use Rattle.std.proofs.Common.{◌≡◌, ◌⊎◌, ℕ, true, List, [], Option, Some, None, refl, inl, inr, sym, subst}
 use Rattle.std.specs.Borrow.{MutBor}
 use Rattle.io_manager.specs.declared.Refusal.{Refusal}
 use Rattle.io_manager.specs.declared.Refusal.TheVariants.{InsufficientResources, InvalidDeviceRequest}
@@ -10,8 +10,9 @@ use Rattle.io_manager.specs.Right.{Told, QueryReplies, RecallReplies, RemoveRepl
 use Rattle.compose.specs.declared.Event.{Event}
 use Rattle.compose.specs.declared.Event.TheVariants.{Open, Close, Read, Write, Flush, CancelIoEx, Mark, QueryRemove, CancelRemove, Remove, SurpriseRemove, Act, Finish, Reset}
 use Rattle.compose.specs.Right.{IsRight}
-use Rattle.book.specs.Shares.{ShareView}
-use Rattle.book.specs.Book.{BookView, IsServed, IsStepped, bytes_of, may_want}
+use Rattle.traced.specs.Shares.{ShareView}
+use Rattle.traced.specs.Traced.{TracedView, IsServed, bytes_of, may_want}
+use Rattle.book.specs.Book.{BookView, IsLastAct, IsStepped, ServesAfter, ServesEvent}
 use Rattle.host.specs.Replies.{IsPnpReply, IsReplyTo, IsTagReply}
 
 invalid : (old : ManagerView) (reason : Refusal) (bytes : List ℕ) (new : ManagerView) (told : Told) → RefusesAlone old reason InvalidDeviceRequest bytes new told → IsPnpReply (Refused reason bytes)
@@ -103,12 +104,22 @@ wanting_reply (Flush handle) reply may is = tt
 wanting_reply (CancelIoEx handle target) reply may is = tt
 wanting_reply (Mark number) reply may is = tt
 
-served_reply : (event : Event) (reply : Reply) (old new : BookView) → IsServed 0 old event reply new → IsReplyTo event reply
+served_reply : (event : Event) (reply : Reply) (old new : TracedView) → IsServed 0 old event reply new → IsReplyTo event reply
 served_reply event reply old new (inl c) = right_reply event reply old.stack c.stepped c.right
 served_reply event reply old new (inr w) = wanting_reply event reply w.wants w.replies
+
+last_reply : (many : ℕ) (before booked : BookView) (event : Event) (reply : Reply) (new : BookView) → IsLastAct many before booked event reply new → IsReplyTo event reply
+last_reply many before booked event reply new last = subst (λ (e : Event). IsReplyTo e reply) (sym last.is_act) (inl last.replies)
+
+after_reply : (old : BookView) (event : Event) (reply : Reply) (new : BookView) → ServesAfter old event reply new → IsReplyTo event reply
+after_reply old event reply new after = go after.serves
+  where
+    go : ServesEvent after.booked event reply new ⊎ IsLastAct after.count old after.booked event reply new → IsReplyTo event reply
+    go (inl serves) = served_reply event reply serves.held new.traced serves.served
+    go (inr last) = last_reply after.count old after.booked event reply new last
 
 -- the step of a book without a share
 pub stepped_reply : (slots : ℕ) (share : Option (MutBor ShareView)) (left : Unit {0} ⊎ ((MutBor ShareView × Unit {0}) ⊎ ⊥)) (old : BookView) (event : Event) (reply : Reply) (new : BookView)
     → share ≡ None → IsStepped slots share left old event reply new → IsReplyTo event reply
-stepped_reply slots None left old event reply new none stepped = served_reply event reply stepped.mid new stepped.serves
+stepped_reply slots None left old event reply new none stepped = after_reply (record old { traced = stepped.marked }) event reply new stepped.serves
 stepped_reply slots (Some share) left old event reply new none stepped = absurd (cc (none))

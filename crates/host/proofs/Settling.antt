@@ -10,8 +10,8 @@ use Rattle.machine.specs.Step.{Run}
 use Rattle.machine_laws.specs.Along.{Always}
 use Rattle.machine_laws.specs.EndLaws.{IsEmpty, RemovedAreEmpty}
 use Rattle.machine_laws.specs.Reached.{RunsSplit}
-use Rattle.book.specs.declared.Entry.{Entry}
-use Rattle.book.specs.Entries.{labels_of}
+use Rattle.traced.specs.declared.Entry.{Entry}
+use Rattle.traced.specs.Entries.{labels_of}
 use Rattle.host.specs.Closing.{SettledAtRemoved}
 use Rattle.host.specs.Opening.{IsOpening}
 use Rattle.host.proofs.Answering.{some_same}

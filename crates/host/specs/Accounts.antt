@@ -6,8 +6,8 @@ use Rattle.io_manager.specs.declared.OpenHandle.{OpenHandle}
 use Rattle.io_manager.specs.declared.Refusal.{Refusal as Why}
 use Rattle.io_manager.specs.Calls.{status_of_refusal, without_bytes, IsWant}
 use Rattle.io_manager.specs.Right.{as_answer}
-use Rattle.book.specs.Opening.{IsOpenOn}
-use Rattle.book.specs.Shares.{ShareView}
+use Rattle.traced.specs.Opening.{IsOpenOn}
+use Rattle.traced.specs.Shares.{ShareView}
 use Rattle.host.specs.declared.call.Answered.{Answered}
 use Rattle.host.specs.declared.call.Call.{Call}
 use Rattle.host.specs.declared.call.Places.{Places}

@@ -13,9 +13,9 @@ use Rattle.io_manager.specs.Calls.{IsWant, bytes_called, status_of_refusal, with
 use Rattle.io_manager.specs.Right.{as_answer}
 use Rattle.compose.specs.declared.Event.{Event}
 use Rattle.compose.specs.declared.Event.TheVariants.{Read as ReadEvent, Write as WriteEvent, Flush as FlushEvent}
-use Rattle.book.specs.declared.Entry.{Entry}
-use Rattle.book.specs.Entries.{entry, is_call}
-use Rattle.book.specs.Shares.{ShareView}
+use Rattle.traced.specs.declared.Entry.{Entry}
+use Rattle.traced.specs.Entries.{entry, is_call}
+use Rattle.traced.specs.Shares.{ShareView}
 use Rattle.host.specs.declared.call.Call.{Call}
 use Rattle.host.specs.declared.call.Call.TheVariants.{Read, Write, Flush}
 

@@ -1,5 +1,5 @@
 -- A client, and what issuing, waiting and marking do to it.
-use Rattle.std.specs.Prelude.{◌≡◌, ◌≤◌, ◌<◌, ℕ, ◌+◌, true, List, [], ◌++◌, Option, Some, None, length, slice_index_or}
+use Rattle.std.specs.Prelude.{◌≡◌, ◌≤◌, ◌<◌, ℕ, ◌+◌, ◌-◌, true, List, [], ◌++◌, Option, Some, None, length, slice_index_or}
 use Rattle.machine.specs.declared.Label.TheVariants.{Call as CallLabel}
 use Rattle.io_manager.specs.declared.Refusal.TheVariants.{DeletePending}
 use Rattle.io_manager.specs.Calls.{IsWant}
@@ -102,12 +102,12 @@ pub record IsRefused (partition : ℕ) (old : ClientView) (call : Call) (refusal
 
 -- WAITING
 
--- the answer to the ticket's request, which stands behind its call
+-- the answer to the ticket's request, which stands behind its call; the ticket's hold is given back
 pub record IsWaited (old : ClientView) (t : TicketView) (answered : Answered) (new : ClientView) : Type 0 where
   pub call : answered.places.call ≡ t.place
   pub behind : t.place < answered.places.answer
   pub number : answered.answer.number ≡ t.number
-  pub holds : new.pass.holds + 1 ≡ old.pass.holds
+  pub holds : new.pass.holds ≡ old.pass.holds - 1
   pub adds : new ≡ record old { answered = old.answered ++ receipt answered.places.answer (as_answer answered.answer) old.client; pass = new.pass }
 
 -- MARKING

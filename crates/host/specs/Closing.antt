@@ -1,15 +1,21 @@
 -- What a closed host gives.
-use Rattle.std.specs.Prelude.{◌≡◌, ◌<◌, ℕ, zero, suc, ◌+◌, List, [], ◌∷◌, Some, length, slice_get, take, if◌then◌else◌}
+use Rattle.std.specs.Prelude.{◌≡◌, ◌<◌, ℕ, zero, suc, ◌+◌, List, [], ◌∷◌, Some, map, length, slice_get, take, if◌then◌else◌}
 use Rattle.machine.specs.declared.Label.{Label}
 use Rattle.machine.specs.declared.Label.TheVariants.{Removed}
-use Rattle.machine.specs.Rules.{Rules}
-use Rattle.machine.specs.State.{State}
+use Rattle.machine.specs.Rules.{Rules, as_faithful}
+use Rattle.machine.specs.State.{State, opening}
+use Rattle.sector.specs.Extents.{sectors_in}
+use Rattle.machine_laws.specs.Booked.{AreOfActs}
+use Rattle.machine_laws.specs.Lifting.{over_disk}
+use Rattle.sector_journal.specs.declared.acted.Entered.{Entered}
+use Rattle.sector_journal.specs.Journal.{entries_in}
+use Rattle.book.specs.Taken.{BeginsWith, numbered_from}
 use Rattle.machine.specs.Step.{Run}
 use Rattle.machine_laws.specs.EndLaws.{IsEmpty}
 use Rattle.chronicle.specs.Claims.{AllStand}
-use Rattle.book.specs.declared.Entry.{Entry}
-use Rattle.book.specs.Entries.{AreRowed, is_call_of, labels_of, places}
-use Rattle.book.specs.Rows.{RowView, row_at}
+use Rattle.traced.specs.declared.Entry.{Entry}
+use Rattle.traced.specs.Entries.{AreRowed, is_call_of, labels_of, places}
+use Rattle.traced.specs.Rows.{RowView, row_at}
 use Rattle.host.specs.Receipts.{Receipt, AreAnswers, AreCalls, AreRising, places_of}
 use Rattle.host.specs.Clients.{ClientView, client_at}
 
@@ -60,3 +66,18 @@ pub record LeaveNothing (rules : Rules) (opening : State) (labels : List Label) 
 abbrev pub SettledAtRemoved : Rules → State → List Entry → Type 0
 SettledAtRemoved rules opening trace =
     (place count : ℕ) (e : Entry) → slice_get trace place ≡ Some e → e.label ≡ Removed → place < count → LeaveNothing rules opening (take count (labels_of trace))
+
+-- WHAT ACTS DID
+
+-- the acts of the trace, in order, are the first entries, and these are their receipts
+pub record AreFirst (trace : List Label) (entries : List Entered) (receipts : List (ℕ × Entered)) : Type 0 where
+  pub taken : List Entered
+  pub first : BeginsWith entries taken
+  pub numbered : receipts ≡ numbered_from 0 taken
+  pub of_acts : AreOfActs trace trace (entries_in taken)
+
+-- these labels are a run of the machine whose acts read and write the sectors, from those of the disk on
+pub record IsFaithfulRun (rules : Rules) (disk : List (List ℕ)) (trace : List Label) : Type 0 where
+  pub after : List (List ℕ)
+  pub last : State
+  pub run : Run (as_faithful rules) (opening (map (sectors_in disk) rules.partitions)) trace (over_disk rules after last)

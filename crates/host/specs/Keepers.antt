@@ -5,8 +5,8 @@ use Rattle.machine.specs.declared.Label.TheVariants.{Pause as PauseLabel, Remove
 use Rattle.remove_lock.specs.declared.rule.View.{View as PassView}
 use Rattle.io_manager.specs.declared.Reply.{Reply}
 use Rattle.io_manager.specs.declared.Reply.TheVariants.{Ok as OkReply}
-use Rattle.book.specs.declared.Entry.{Entry}
-use Rattle.book.specs.Entries.{entry}
+use Rattle.traced.specs.declared.Entry.{Entry}
+use Rattle.traced.specs.Entries.{entry}
 use Rattle.host.specs.declared.notice.Notice.{Notice}
 use Rattle.host.specs.declared.notice.Notice.TheVariants.{Pause, Removed}
 use Rattle.host.specs.Receipts.{Receipt, AreBelow}

@@ -1,6 +1,9 @@
 -- What a host is opened with.
-use Rattle.std.specs.Prelude.{◌≡◌, ◌<◌, ◌≤◌, ℕ, ◌+◌, List, Option, Some, All, length, max, slice_get, slice_index_or}
+use Rattle.std.specs.Prelude.{◌≡◌, ◌<◌, ◌≤◌, ℕ, ◌+◌, List, [], Option, Some, IsFalse, All, length, max, slice_get, slice_index_or}
 use Rattle.atomic_table.specs.Seated.{TableId}
+use Rattle.sector.specs.Extents.{IsSector}
+use Rattle.disk.specs.Medium.{MediumView}
+use Rattle.machine.specs.Map.{IsMap}
 use Rattle.machine.specs.Rules.{Rules}
 use Rattle.machine.specs.State.{State, opening}
 use Rattle.io_manager.specs.declared.Handle.{Handle}
@@ -8,9 +11,10 @@ use Rattle.io_manager.specs.declared.OpenHandle.{OpenHandle}
 use Rattle.io_manager.specs.Shown.{ManagerView}
 use Rattle.remove_lock.specs.Gate.{Standing as PassStanding, standing as pass_of, fresh as fresh_pass}
 use Rattle.cancel_marks.specs.Marks.{Standing as SeatStanding, standing as seat_of, starting, IsOther}
-use Rattle.book.specs.declared.sizes.Sizes.{Sizes}
-use Rattle.book.specs.Sizes.{AreSizes, sizes_of}
-use Rattle.book.specs.Opening.{AreClientsOf, IsFirst, IsOpenOn, NamesNone}
+use Rattle.sector_journal.specs.Journal.{JournalView}
+use Rattle.traced.specs.declared.sizes.Sizes.{Sizes}
+use Rattle.traced.specs.Sizes.{AreSizes, sizes_of}
+use Rattle.traced.specs.Opening.{AreClientsOf, IsFirst, IsOpenOn, NamesNone}
 use Rattle.host.specs.declared.opened.Gear.{Gear}
 use Rattle.host.specs.declared.opened.HostFault.{HostFault}
 use Rattle.host.specs.declared.opened.HostFault.TheVariants.{TooManyClients, NoPartition, NoMemory}
@@ -67,6 +71,7 @@ pub record IsReady (partitions : List ℕ) (stack : ManagerView) (handles : List
   pub few : length partitions ≤ client_limit
   pub first : IsFirst stack
   pub opens : IsOpening stack.state
+  pub apart : IsFalse stack.adapter.faithful
   pub clients : AreClientsOf partitions stack.handles
   pub given : AreHandlesFor partitions stack.handles handles
   pub as_many : stack.rules.open_requests ≡ Some slots
@@ -79,6 +84,24 @@ pub record IsReady (partitions : List ℕ) (stack : ManagerView) (handles : List
   pub are_seats : All (IsOther marks.0) seats
   pub count_passes : length passes ≡ length partitions + 1
   pub are_passes : All (IsClientPass gate) passes
+
+-- a medium of as many sectors as a stack's disk has, as long, in which the partitions lie
+pub record IsDiskFor (rules : Rules) (medium : MediumView) : Type 0 where
+  pub sector_size : medium.sector_size ≡ rules.sector_size
+  pub sectors : length medium.sectors ≡ rules.disk_sectors
+  pub some : 1 ≤ length medium.sectors
+  pub map : IsMap rules.disk_sectors rules.partitions
+
+-- a journal of such a medium's sectors, in which nothing was entered
+pub record IsJournalFor (rules : Rules) (journal : JournalView) : Type 0 where
+  pub disk : IsDiskFor rules journal.medium
+  pub no_entry : journal.entered ≡ []
+
+-- whole sectors of a stack's disk, in which the partitions lie
+pub record IsDiskOf (rules : Rules) (disk : List (List ℕ)) : Type 0 where
+  pub whole : All (IsSector rules.sector_size) disk
+  pub some : 1 ≤ length disk
+  pub map : IsMap (length disk) rules.partitions
 
 -- why there is no host: too many clients; or one of their partitions is not there; or memory was refused
 abbrev pub IsHostFault : Rules → List ℕ → HostFault → Type 0

@@ -3,7 +3,7 @@ ghost use Rattle.machine.specs.declared.ClientRequest.{ClientRequest};
 ghost use Rattle.machine.specs.declared.Label.TheVariants.{Call as CallLabel};
 ghost use Rattle.machine_laws.specs.NumberLaws.{CallsCount};
 ghost use Rattle.io_manager.specs.Right.{as_answer};
-ghost use Rattle.book.specs.Opening.{IsOpenOn};
+ghost use Rattle.traced.specs.Opening.{IsOpenOn};
 ghost use Rattle.host.specs.Accounts.{IsCalled, IsTaken, IsTurnedDown};
 ghost use Rattle.host.specs.Calls.{AnswerLaws, FindsCall, IsTold, Stands, buffer_of, request_of};
 ghost use Rattle.host.specs.Receipts.{none_yet, receipt};
@@ -15,15 +15,17 @@ use crate::host::Host;
 use crate::name::Naming;
 use crate::receipts::Receipts;
 use crate::ticket::Ticket;
-use adapter::Adapter;
-use book::{Book, Entry, Share};
+use book::Book;
 use chronicle::{Claims, History};
 use compose::{Answer, Handle, Reply};
+use disk::Medium;
 use machine::Label;
 use std::alloc::{AllocError, Global};
 use std::marker::Model;
 use std::sync::Wait;
 use std::sync::ledger::Share as Part;
+use std::thread;
+use traced::{Entry, Share};
 
 /// A client's share of the book, and its receipts.
 #[derive(Drop)]
@@ -59,8 +61,8 @@ fn laws_of_answers()
 }
 
 // The place of the first call from a place of the trace on.
-fn find_call<A: Adapter, N: Naming>(book: &Book<A, N>, from: usize) -> Option<usize>
-    ensures finds { FindsCall from book.now.entries result }
+fn find_call<N: Naming>(book: &Book<N>, from: usize) -> Option<usize>
+    ensures finds { FindsCall from book.now.traced.entries result }
     ensures fits { IfSome result (λ place. place + 1 < 2 ^ 64) }
 {
     for place in from..book.len() {
@@ -72,16 +74,17 @@ fn find_call<A: Adapter, N: Naming>(book: &Book<A, N>, from: usize) -> Option<us
 }
 
 // Carries a call out, and finds its label.
-fn carry_call<A: Adapter, N: Naming>(
-    host: &Host<A, N>,
-    book: &mut Book<A, N>,
+fn carry_call<M: Medium, N: Naming, R: Wait>(
+    rt: &R,
+    host: &Host<M, N>,
+    book: &mut Book<N>,
     share: &mut Share<N>,
     call: Call,
 ) -> (Reply, Option<usize>)
     requires open { IsOpenOn N.handles share.old.handle (slice_index_or N.partitions share.old.client 0) }
-    ensures late { IfSome result.1 (λ place. length book.old.entries ≤ place) }
+    ensures late { IfSome result.1 (λ place. length book.old.traced.entries ≤ place) }
     ensures fits { IfSome result.1 (λ place. place + 1 < 2 ^ 64) }
-    ensures told { IsTold N.slots share.old share.new (request_of (slice_index_or N.partitions share.old.client 0) call) (buffer_of call) book.new.entries result.0 result.1 }
+    ensures told { IsTold N.slots share.old share.new (request_of (slice_index_or N.partitions share.old.client 0) call) (buffer_of call) book.new.traced.entries result.0 result.1 }
 {
     laws_of_numbers();
     host.table.shows_opening();
@@ -89,9 +92,12 @@ fn carry_call<A: Adapter, N: Naming>(
     let from = book.len();
     let event = call.on(share.handle());
     let reply = book.step(
+        rt,
         host.alloc,
         &host.history,
         &host.table.marks,
+        &host.journal,
+        &host.words,
         Some(share),
         event,
     );
@@ -101,15 +107,15 @@ fn carry_call<A: Adapter, N: Naming>(
 }
 
 // Takes the answer of a request whose call stands at this place, with its own place.
-fn take_answer<A: Adapter, N: Naming>(
-    host: &Host<A, N>,
-    book: &mut Book<A, N>,
+fn take_answer<M: Medium, N: Naming>(
+    host: &Host<M, N>,
+    book: &mut Book<N>,
     number: u64,
     call: usize,
 ) -> Option<(usize, Answer)>
-    requires called { (q : ClientRequest) × (client : ℕ) × Stands book.old.entries call (CallLabel number q) client }
-    ensures entries { book.new.entries ≡ book.old.entries }
-    ensures answer { IfSome result (λ r. (r.1.number ≡ number) × (call < r.0) × ((client : ℕ) (q : ClientRequest) → Stands book.old.entries call (CallLabel number q) client → Stands book.old.entries r.0 (as_answer r.1) client)) }
+    requires called { (q : ClientRequest) × (client : ℕ) × Stands book.old.traced.entries call (CallLabel number q) client }
+    ensures entries { book.new.traced.entries ≡ book.old.traced.entries }
+    ensures answer { IfSome result (λ r. (r.1.number ≡ number) × (call < r.0) × ((client : ℕ) (q : ClientRequest) → Stands book.old.traced.entries call (CallLabel number q) client → Stands book.old.traced.entries r.0 (as_answer r.1) client)) }
 {
     laws_of_answers();
     host.table.shows_opening();
@@ -157,11 +163,41 @@ impl<N: Naming> Account<N> {
         Ok(())
     }
 
+    // Makes the place of an answer's receipt, unless there is one.
+    fn make_place(&mut self) -> Result<(), AllocError>
+        ensures share { self.new.share ≡ self.old.share }
+        ensures called { self.new.called ≡ self.old.called }
+        ensures list { self.new.answered.list ≡ self.old.answered.list }
+        ensures no_less { self.old.answered.room ≤ self.new.answered.room }
+        ensures room { OnOk result (0 < self.new.answered.room) }
+    {
+        self.answered.reserve(1)?;
+        Ok(())
+    }
+
+    /// Waits until there is a place for the receipt of one answer more. For a ticket that is out there is one.
+    pub(crate) fn await_place<R: Wait>(&mut self, rt: &R)
+        ensures share { self.new.share ≡ self.old.share }
+        ensures called { self.new.called ≡ self.old.called }
+        ensures list { self.new.answered.list ≡ self.old.answered.list }
+        ensures no_less { self.old.answered.room ≤ self.new.answered.room }
+        ensures room { 0 < self.new.answered.room }
+    {
+        for _ in rt.forever() {
+            if self.make_place().is_ok() {
+                return;
+            }
+            thread::yield_now();
+        }
+        unreachable!()
+    }
+
     /// The part of `issue` that has the book.
-    pub(crate) fn issue_in<A: Adapter>(
+    pub(crate) fn issue_in<M: Medium, R: Wait>(
         &mut self,
-        host: &Host<A, N>,
-        book: &mut Book<A, N>,
+        rt: &R,
+        host: &Host<M, N>,
+        book: &mut Book<N>,
         call: Call,
     ) -> Result<Ticket<N>, Refusal>
         requires room { (0 < self.old.called.room) × (0 < self.old.answered.room) }
@@ -171,7 +207,7 @@ impl<N: Naming> Account<N> {
         self.called.check(&host.history, book);
         self.answered.check(&host.history, book);
         let client = self.share.client();
-        let (reply, place) = carry_call(host, book, &mut self.share, call);
+        let (reply, place) = carry_call(rt, host, book, &mut self.share, call);
         let Some(place) = place else {
             let Reply::Refused { refusal, bytes } = reply else {
                 unreachable!()
@@ -220,10 +256,11 @@ impl<N: Naming> Account<N> {
     }
 
     /// The same, and whom the call concerns.
-    pub(crate) fn issue_and_note<A: Adapter>(
+    pub(crate) fn issue_and_note<M: Medium, R: Wait>(
         &mut self,
-        host: &Host<A, N>,
-        book: &mut Book<A, N>,
+        rt: &R,
+        host: &Host<M, N>,
+        book: &mut Book<N>,
         call: Call,
     ) -> (Result<Ticket<N>, Refusal>, Concerned)
         requires room { (0 < self.old.called.room) × (0 < self.old.answered.room) }
@@ -231,15 +268,15 @@ impl<N: Naming> Account<N> {
         ensures refused { IfErr result.0 (λ r. IsTurnedDown (slice_index_or N.partitions self.old.share.client 0) self.old call r self.new) }
     {
         let from = book.len();
-        let issued = self.issue_in(host, book, call);
+        let issued = self.issue_in(rt, host, book, call);
         (issued, Concerned::since(book, from))
     }
 
     /// Waits for the answer to a call of this account.
-    pub(crate) fn answer_of<A: Adapter, R: Wait>(
+    pub(crate) fn answer_of<M: Medium, R: Wait>(
         &mut self,
         rt: &R,
-        host: &Host<A, N>,
+        host: &Host<M, N>,
         ticket: Ticket<N>,
     ) -> Answered
         requires ticket { ticket.client ≡ self.old.share.client }
@@ -269,10 +306,10 @@ impl<N: Naming> Account<N> {
     }
 
     // The part of `wait` that has the book.
-    fn answer_in<A: Adapter>(
+    fn answer_in<M: Medium>(
         &mut self,
-        host: &Host<A, N>,
-        book: &mut Book<A, N>,
+        host: &Host<M, N>,
+        book: &mut Book<N>,
         number: u64,
         call: usize,
         claim: &mut Claims<Entry, N>,

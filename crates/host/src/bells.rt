@@ -2,13 +2,13 @@
 //! where a label concerns them and at no other time.
 
 use crate::name::Naming;
-use adapter::Adapter;
-use book::{Book, Entry};
+use book::Book;
 use lanes::Woken;
 use machine::Label;
 use srb::DeviceLabel;
 use std::alloc::{AllocError, Global};
 use std::sync::{Condvar, Mutex, Wait};
+use traced::Entry;
 
 /// The most tags that an adapter has.
 const TAGS: usize = 32;
@@ -29,7 +29,7 @@ pub(crate) struct Concerned {
 
 impl Concerned {
     /// Returns whom the labels concern that stand in the trace from a place on.
-    pub(crate) fn since<A: Adapter, N: Naming>(book: &Book<A, N>, from: usize) -> Concerned {
+    pub(crate) fn since<N: Naming>(book: &Book<N>, from: usize) -> Concerned {
         let mut concerned = Concerned {
             lanes: 0,
             clients: 0,

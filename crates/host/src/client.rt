@@ -1,4 +1,4 @@
-ghost use Rattle.std.specs.Prelude.{◌≡◌, ◌<◌, ◌+◌, IfErr, IfOk, slice_index_or};
+ghost use Rattle.std.specs.Prelude.{◌≡◌, ◌-◌, IfErr, IfOk, slice_index_or};
 ghost use Rattle.remove_lock.specs.Answers.{IsHeld};
 ghost use Rattle.host.specs.Clients.{HasNoHold, IsIssued, IsMarked, IsRefused, IsWaited};
 ghost use Rattle.host.specs.Receipts.{places_of};
@@ -8,9 +8,9 @@ use crate::call::{Answered, Call, Reason, Refusal};
 use crate::host::Host;
 use crate::name::Naming;
 use crate::ticket::Ticket;
-use adapter::Adapter;
 use cancel_marks::{Marking, Seat};
 use compose::Refusal as Why;
+use disk::Medium;
 use remove_lock::{AcquireFault, Pass};
 use std::marker::Model;
 use std::sync::Wait;
@@ -42,7 +42,7 @@ impl<N: Naming> Model for Client<N> {
 }
 
 // Takes a hold on the gate for a ticket.
-fn take_hold<A: Adapter, N: Naming>(host: &Host<A, N>, pass: &mut Pass) -> Result<(), Reason>
+fn take_hold<M: Medium, N: Naming>(host: &Host<M, N>, pass: &mut Pass) -> Result<(), Reason>
     requires gate { pass.old.gate ≡ N.gate }
     ensures gate { pass.new.gate ≡ N.gate }
     ensures held { IfOk result (λ _. IsHeld pass.old.view pass.new.view) }
@@ -53,6 +53,21 @@ fn take_hold<A: Adapter, N: Naming>(host: &Host<A, N>, pass: &mut Pass) -> Resul
         Err(AcquireFault::DeletePending) => Err(Reason::Refused(Why::DeletePending)),
         Err(AcquireFault::TooManyHolds) => Err(Reason::TooManyTickets),
     }
+}
+
+// Gives the hold of a ticket back, of so many; how many are left.
+fn give_back<M: Medium, N: Naming>(host: &Host<M, N>, pass: &mut Pass, out: usize) -> usize
+    requires gate { pass.old.gate ≡ N.gate }
+    requires out { out ≡ pass.old.view.holds }
+    ensures gate { pass.new.gate ≡ N.gate }
+    ensures quota { pass.new.view.quota ≡ pass.old.view.quota }
+    ensures holds { (result ≡ pass.new.view.holds) × (result ≡ out - 1) }
+{
+    if out == 0 {
+        return 0;
+    }
+    host.door.gate.release(pass);
+    out - 1
 }
 
 impl<N: Naming> Client<N> {
@@ -84,10 +99,10 @@ impl<N: Naming> Client<N> {
     /// As the stack refuses calls, with the places of both labels where it has them. Before the book is asked:
     /// `InsufficientResources` where memory for the receipts was refused, `DeletePending` where the gate is closed, and
     /// [`Reason::TooManyTickets`] with 64 tickets out.
-    pub fn issue<A: Adapter, R: Wait>(
+    pub fn issue<M: Medium, R: Wait>(
         &mut self,
         rt: &R,
-        host: &Host<A, N>,
+        host: &Host<M, N>,
         call: Call,
     ) -> Result<Ticket<N>, Refusal>
         ensures issued { IfOk result (λ t. IsIssued (slice_index_or N.partitions self.old.client 0) self.old t call self.new) }
@@ -102,7 +117,7 @@ impl<N: Naming> Client<N> {
         }
         let (issued, concerned) = self
             .account
-            .issue_and_note(host, &mut host.book.lock(rt), call);
+            .issue_and_note(rt, host, &mut host.book.lock(rt), call);
         host.bells.ring(rt, concerned);
         match issued {
             Ok(ticket) => {
@@ -117,24 +132,23 @@ impl<N: Naming> Client<N> {
     }
 
     /// Waits for the answer to a call of this client. It takes no memory.
-    pub fn wait<A: Adapter, R: Wait>(
+    pub fn wait<M: Medium, R: Wait>(
         &mut self,
         rt: &R,
-        host: &Host<A, N>,
+        host: &Host<M, N>,
         ticket: Ticket<N>,
     ) -> Answered
         requires ticket { ticket.client ≡ self.old.client }
-        requires held { 0 < self.old.pass.holds }
         ensures waited { IsWaited self.old ticket result self.new }
     {
+        self.account.await_place(rt);
         let answered = self.account.answer_of(rt, host, ticket);
-        host.door.gate.release(&mut self.pass);
-        self.out -= 1;
+        self.out = give_back(host, &mut self.pass, self.out);
         answered
     }
 
     /// Marks the ticket's request for cancellation, with no lock: `Gone` where it was answered.
-    pub fn mark_cancel<A: Adapter>(&mut self, host: &Host<A, N>, ticket: &Ticket<N>) -> Marking
+    pub fn mark_cancel<M: Medium>(&mut self, host: &Host<M, N>, ticket: &Ticket<N>) -> Marking
         ensures marked { IsMarked ticket.now.slot ticket.now.number self.old.seat result self.new.seat }
         ensures same { self.new ≡ record self.old { seat = self.new.seat } }
     {

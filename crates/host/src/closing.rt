@@ -3,35 +3,43 @@ ghost use Rattle.chronicle.specs.Claims.{AllStand};
 ghost use Rattle.host.specs.Clients.{AreNumbered, client_at};
 ghost use Rattle.machine_laws.specs.EndLaws.{RemovedAreEmpty};
 ghost use Rattle.machine_laws.specs.Reached.{RunsSplit};
-ghost use Rattle.host.specs.Closing.{AreBorneOut, HasReceiptsIn, IsClosed, SettledAtRemoved, total};
+ghost use Rattle.srb.specs.Replaying.{Replays};
+ghost use Rattle.sector_journal.specs.Journal.{entries_in};
+ghost use Rattle.traced.specs.Entries.{labels_of};
+ghost use Rattle.host.specs.Closing.{AreFirst, AreBorneOut, HasReceiptsIn, IsClosed, IsFaithfulRun, SettledAtRemoved, total};
 
 use crate::account::Account;
 use crate::client::Client;
 use crate::host::{Host, Keeper};
 use crate::name::Naming;
-use adapter::Adapter;
-use book::{Book, Entry, Row};
-use chronicle::History;
+use book::Book;
+use chronicle::{Claims, History};
+use disk::Medium;
+use sector_journal::{Entered, OfEntries};
 use std::sync::ledger::Share as Part;
+use traced::{Entry, Row};
 
-/// What is left of a host: the trace, and for each client the places of its calls and of their answers.
+/// What is left of a host: the trace, for each client the places of its calls and of their answers, what acts did to the
+/// sectors, in their order, and the receipts of the entries of the trace's acts, numbered from 0.
 #[derive(Drop)]
-pub struct Closed {
+pub struct Closed<N: Naming> {
     pub trace: Vec<Entry>,
     pub rows: Vec<Row>,
+    pub entries: Vec<Entered>,
+    pub receipts: Claims<Entered, OfEntries<N>>,
 }
 
 // Checks all receipts against the book, and takes the parts of the ledger back.
-fn collect<A: Adapter, N: Naming>(
+fn collect<N: Naming>(
     history: &History<Entry, N>,
-    book: &mut Book<A, N>,
+    book: &mut Book<N>,
     all: &mut Part<N>,
     clients: Vec<Client<N>>,
 )
     ensures same { book.new ≡ book.old }
     ensures parts { all.new.parts ≡ all.old.parts + length clients.items }
     ensures amount { all.new.amount ≡ all.old.amount + total (length clients.items) (λ c. length (client_at clients.items c).called) }
-    ensures borne { AreBorneOut book.old.entries (length clients.items) clients.items }
+    ensures borne { AreBorneOut book.old.traced.entries (length clients.items) clients.items }
 {
     for client in clients {
         let Client { account, .. } = client;
@@ -40,16 +48,16 @@ fn collect<A: Adapter, N: Naming>(
 }
 
 // Those of one client.
-fn collect_one<A: Adapter, N: Naming>(
+fn collect_one<N: Naming>(
     history: &History<Entry, N>,
-    book: &mut Book<A, N>,
+    book: &mut Book<N>,
     all: &mut Part<N>,
     account: Account<N>,
 )
     ensures same { book.new ≡ book.old }
     ensures parts { all.new.parts ≡ all.old.parts + 1 }
     ensures amount { all.new.amount ≡ all.old.amount + length account.called.list }
-    ensures borne { HasReceiptsIn book.old.entries account.share.client account.called.list account.answered.list }
+    ensures borne { HasReceiptsIn book.old.traced.entries account.share.client account.called.list account.answered.list }
 {
     let Account {
         share,
@@ -70,26 +78,41 @@ fn laws_of_removals()
     machine_laws::goes_on();
 }
 
-impl<A: Adapter, N: Naming> Host<A, N> {
+impl<M: Medium, N: Naming> Host<M, N> {
     /// The trace, which is a run from the state that the host was opened with, and the rows, in which all receipts of the
     /// clients stand; the calls of each row are just its client's. From the end of a removal on, of which the keeper may have
     /// a receipt, nothing is open or out. It asks for all clients, in their order.
-    pub fn close(self, keeper: Keeper<N>, clients: Vec<Client<N>>) -> Closed
+    ///
+    /// Beside them what acts did: the acts of the trace, in order, are the first entries, and all entries, replayed from the
+    /// sectors that the journal was opened with, give the sectors of the medium. So the trace is a run whose acts read and
+    /// write these sectors.
+    pub fn close(self, keeper: Keeper<N>, clients: Vec<Client<N>>) -> (Closed<N>, M)
         requires parts { N.parts ≡ length N.partitions + 1 }
         requires all { AreNumbered (length N.partitions) clients.items }
-        ensures told { AllStand result.trace.items keeper.told }
-        ensures closed { IsClosed N.rules N.opening clients.items result.trace.items result.rows.items }
-        ensures settled_at_removed { SettledAtRemoved N.rules N.opening result.trace.items }
+        ensures told { AllStand result.0.trace.items keeper.told }
+        ensures closed { IsClosed N.rules N.start clients.items result.0.trace.items result.0.rows.items }
+        ensures settled_at_removed { SettledAtRemoved N.rules N.start result.0.trace.items }
+        ensures acts { AreFirst (labels_of result.0.trace.items) result.0.entries.items result.0.receipts }
+        ensures replays { Replays (M.view result.1).sector_size N.opening (entries_in result.0.entries.items) (M.view result.1).sectors }
+        ensures run { IsFaithfulRun N.rules N.opening (labels_of result.0.trace.items) }
     {
         laws_of_removals();
+        machine_laws::journals_close_runs();
         let Host {
             book,
+            journal,
+            words,
             history,
             table,
+            disk,
+            alloc,
             ..
         } = self;
         table.shows_opening();
+        disk.shows_disk();
         let mut book = book.into_inner();
+        let mut journal = journal.into_inner();
+        book.book_rest(alloc, &history, &table.marks, &mut journal, &words);
         let Keeper {
             part: mut all,
             mut told,
@@ -98,7 +121,14 @@ impl<A: Adapter, N: Naming> Host<A, N> {
         book.check(&history, &mut told);
         collect(&history, &mut book, &mut all, clients);
         book.audit(&mut all);
-        let (trace, rows) = book.into_rows();
-        Closed { trace, rows }
+        let (trace, rows, receipts) = book.into_rows();
+        let (medium, entries) = journal.into_parts();
+        let closed = Closed {
+            trace,
+            rows,
+            entries,
+            receipts,
+        };
+        (closed, medium)
     }
 }

@@ -1,13 +1,18 @@
-//! The host as the desk of its lanes.
+//! The host as the desk of its lanes: a lane's piece acts under the journal's lock alone, and then its act is booked.
 
+ghost use Rattle.std.specs.Prelude.{◌≡◌, IfSome};
+ghost use Rattle.srb.specs.declared.Class.TheVariants.{Bad};
+ghost use Rattle.srb.specs.Fate.{class_of};
+
+use crate::bells::Concerned;
 use crate::host::Host;
 use crate::name::Naming;
-use adapter::Adapter;
 use book::Book;
 use compose::Event;
+use disk::Medium;
 use lanes::{Desk, Step, Woken};
 use machine::Label;
-use srb::DeviceLabel;
+use srb::{Completion, DeviceLabel};
 use std::sync::{Mutex, Wait};
 
 /// What the trace has told of the tags.
@@ -22,7 +27,7 @@ struct Tags {
 
 impl Tags {
     /// Looks at the labels that have come since.
-    fn catch_up<A: Adapter, N: Naming>(&mut self, book: &Book<A, N>) {
+    fn catch_up<N: Naming>(&mut self, book: &Book<N>) {
         for place in self.seen..book.len() {
             match &book.entry(place).label {
                 Label::Device(DeviceLabel::Start { tag, .. }) => self.start(*tag),
@@ -73,19 +78,59 @@ impl Board {
         }
     }
 
-    fn take<A: Adapter, N: Naming, R: Wait>(
-        &self,
-        rt: &R,
-        book: &Book<A, N>,
-        tag: u8,
-    ) -> Option<Step> {
+    fn take<N: Naming, R: Wait>(&self, rt: &R, book: &Book<N>, tag: u8) -> Option<Step> {
         let mut tags = self.tags.lock(rt);
         tags.catch_up(book);
         tags.take(tag)
     }
 }
 
-impl<A: Adapter, N: Naming> Desk for Host<A, N> {
+impl<M: Medium, N: Naming> Host<M, N> {
+    // The piece of a tag acts in the journal, under its lock alone: how it failed, where it did.
+    fn transfer<R: Wait>(&self, rt: &R, tag: u8) -> Option<Completion>
+        ensures { IfSome result (λ completion. class_of completion ≡ Bad completion) }
+    {
+        let mut journal = self.journal.lock(rt);
+        let piece = journal.armed(tag)?.piece;
+        match journal.act(&self.words, tag, piece)? {
+            Ok(_) => None,
+            Err(completion) => Some(completion),
+        }
+    }
+
+    // The piece of a tag failed in the journal.
+    fn fail<R: Wait>(&self, rt: &R, tag: u8, completion: Completion)
+        requires { class_of completion ≡ Bad completion }
+    {
+        let concerned = self.fail_in(rt, &mut self.book.lock(rt), tag, completion);
+        self.bells.ring(rt, concerned);
+    }
+
+    fn fail_in<R: Wait>(
+        &self,
+        rt: &R,
+        book: &mut Book<N>,
+        tag: u8,
+        completion: Completion,
+    ) -> Concerned
+        requires { class_of completion ≡ Bad completion }
+    {
+        let from = book.len();
+        book.act_failed(
+            rt,
+            self.alloc,
+            &self.history,
+            &self.table.marks,
+            &self.journal,
+            &self.words,
+            tag,
+            completion,
+        );
+        Concerned::since(book, from)
+    }
+}
+
+impl<M: Medium, N: Naming> Desk for Host<M, N> {
     fn next<R: Wait>(&self, rt: &R, tag: u8) -> Step {
         let mut book = self.book.lock(rt);
         for _ in rt.forever() {
@@ -98,7 +143,12 @@ impl<A: Adapter, N: Naming> Desk for Host<A, N> {
     }
 
     fn act<R: Wait>(&self, rt: &R, tag: u8) {
-        self.step(rt, Event::Act { tag });
+        match self.transfer(rt, tag) {
+            Some(completion) => self.fail(rt, tag, completion),
+            None => {
+                self.step(rt, Event::Act { tag });
+            }
+        }
     }
 
     fn finish<R: Wait>(&self, rt: &R, tag: u8) {

@@ -2,9 +2,9 @@ ghost use Rattle.std.specs.Prelude.{◌≡◌, ◌+◌, [], All, IfOk, None, fal
 ghost use mathlib.Core.Logic.{inl};
 ghost use Rattle.cancel_marks.specs.Marks.{IsOther};
 ghost use Rattle.book.specs.Book.{IsStepped, call_handle};
-ghost use Rattle.book.specs.Serving.{is_handle_event};
+ghost use Rattle.traced.specs.Serving.{is_handle_event};
 ghost use Rattle.host.specs.Clients.{AreNumbered};
-ghost use Rattle.host.specs.Opening.{AreHandlesFor, IsClientPass};
+ghost use Rattle.host.specs.Opening.{AreHandlesFor, IsClientPass, IsJournalFor};
 ghost use Rattle.host.specs.Replies.{IsReplyTo};
 ghost use Rattle.compose.specs.declared.Event.TheVariants.{Act, Finish, Reset};
 
@@ -14,26 +14,36 @@ use crate::client::Client;
 use crate::desk::Board;
 use crate::name::Naming;
 use crate::opened::{HostFault, Opened};
-use crate::shared::{Door, Table};
-use adapter::Adapter;
-use book::{Book, Entry, Share};
+use crate::shared::{Disk, Door, Table};
+use book::Book;
 use cancel_marks::Seat;
 use chronicle::{Claims, History, Whole};
 use compose::{Event, Handle, Reply};
+use disk::Medium;
 use remove_lock::Pass;
+use sector_journal::{Journal, OfArmings, OfEntries};
 use std::alloc::{AllocError, Global};
 use std::marker::{Model, PhantomData};
 use std::sync::ledger::Share as Part;
 use std::sync::{Mutex, Wait};
+use traced::{Entry, Share, Traced};
 
-/// A book under its lock, and what threads share beside it.
+/// A book and its journal, each under its lock, and what threads share beside them.
 #[derive(Drop)]
-pub struct Host<A: Adapter, N: Naming> {
-    pub(crate) book: Mutex<Book<A, N>>,
+pub struct Host<M: Medium, N: Naming>
+where
+    OfArmings<N>: chronicle::Naming,
+    OfEntries<N>: chronicle::Naming,
+{
+    pub(crate) book: Mutex<Book<N>>,
+    // Where both locks are held, the book's was taken first.
+    pub(crate) journal: Mutex<Journal<M, N>>,
+    pub(crate) words: sector_journal::History<N>,
     pub(crate) bells: Bells,
     pub(crate) history: History<Entry, N>,
     pub(crate) table: Table<N>,
     pub(crate) door: Door<N>,
+    pub(crate) disk: Disk<N>,
     pub(crate) board: Board,
     pub(crate) alloc: Global,
 }
@@ -129,17 +139,21 @@ fn hand_out<N: Naming>(
     Ok((clients, pass))
 }
 
-impl<A: Adapter, N: Naming> Host<A, N> {
-    /// A host of a stack, with its keeper and its clients, client c over the partition that was given as number c.
+impl<M: Medium, N: Naming> Host<M, N> {
+    /// A host of a stack and of the journal of its disk, in which nothing was entered, with its keeper and its clients,
+    /// client c over the partition that was given as number c.
     ///
     /// # Errors
     ///
     /// [`HostFault::NoMemory`].
     pub fn new(
         alloc: Global,
-        opened: Opened<A>,
-    ) -> Result<(Host<A, N>, Keeper<N>, Vec<Client<N>>), HostFault>
-        requires named { opened ≡ record { rules = N.rules; opening = N.opening; partitions = N.partitions; handles = N.handles; marks = N.marks; slots = N.slots; table = N.table; name = N.name; parts = N.parts; gate = N.gate } }
+        opened: Opened,
+        journal: Journal<M, N>,
+        words: sector_journal::History<N>,
+    ) -> Result<(Host<M, N>, Keeper<N>, Vec<Client<N>>), HostFault>
+        requires named { opened ≡ record { rules = N.rules; opening = N.start; partitions = N.partitions; handles = N.handles; marks = N.marks; slots = N.slots; table = N.table; name = N.name; parts = N.parts; gate = N.gate } }
+        requires disk { IsJournalFor N.rules journal }
         ensures clients { IfOk result (λ r. AreNumbered (length N.partitions) r.2.items) }
         ensures keeper { IfOk result (λ r. r.1.told ≡ []) }
     {
@@ -157,6 +171,9 @@ impl<A: Adapter, N: Naming> Host<A, N> {
             gate,
             passes,
         } = opened;
+        journal.shows_rule();
+        journal.shows_opening();
+        let disk = Disk::new();
         let count = partitions.len();
         let (history, mut whole) = history.named::<N>();
         let (tally, mut all) = ledger.open::<N>();
@@ -165,9 +182,13 @@ impl<A: Adapter, N: Naming> Host<A, N> {
             alloc, &history, &mut whole, &mut all, handles, seats, passes,
         )?;
         let told = whole.no_claims(&history);
-        let book = Book::new(alloc, stack, whole, owner, tally, count, slots, sizes)?;
+        let traced = Traced::new(alloc, stack, whole, owner, tally, count, slots, sizes)?;
+        let mut journal = journal;
+        let book = Book::new(alloc, traced, &mut journal, &words)?;
         let host = Host {
             book: Mutex::new(book),
+            journal: Mutex::new(journal),
+            words,
             bells,
             history,
             table: Table {
@@ -178,6 +199,7 @@ impl<A: Adapter, N: Naming> Host<A, N> {
                 gate,
                 of: PhantomData,
             },
+            disk,
             board: Board::blank(),
             alloc,
         };
@@ -211,27 +233,30 @@ impl<A: Adapter, N: Naming> Host<A, N> {
     }
 
     // The part of a step that has the book.
-    pub(crate) fn step_in(&self, book: &mut Book<A, N>, event: Event) -> Reply
+    pub(crate) fn step_in<R: Wait>(&self, rt: &R, book: &mut Book<N>, event: Event) -> Reply
         requires { (is_handle_event event ≡ false) × (call_handle event ≡ None) }
         ensures stepped { IsStepped N.slots None (inl tt) book.old event result book.new }
         ensures reply { IsReplyTo event result }
     {
         book.step(
+            rt,
             self.alloc,
             &self.history,
             &self.table.marks,
+            &self.journal,
+            &self.words,
             Share::none(),
             event,
         )
     }
 
     // As above, and tells whom it concerns.
-    fn step_and_note(&self, book: &mut Book<A, N>, event: Event) -> (Reply, Concerned)
+    fn step_and_note<R: Wait>(&self, rt: &R, book: &mut Book<N>, event: Event) -> (Reply, Concerned)
         requires { (is_handle_event event ≡ false) × (call_handle event ≡ None) }
         ensures reply { IsReplyTo event result.0 }
     {
         let from = book.len();
-        let reply = self.step_in(book, event);
+        let reply = self.step_in(rt, book, event);
         (reply, Concerned::since(book, from))
     }
 
@@ -240,7 +265,7 @@ impl<A: Adapter, N: Naming> Host<A, N> {
         requires { (is_handle_event event ≡ false) × (call_handle event ≡ None) }
         ensures reply { IsReplyTo event result }
     {
-        let (reply, concerned) = self.step_and_note(&mut self.book.lock(rt), event);
+        let (reply, concerned) = self.step_and_note(rt, &mut self.book.lock(rt), event);
         self.bells.ring(rt, concerned);
         reply
     }

@@ -1,5 +1,6 @@
-//! A stack that many threads share under one lock: each client issues calls, waits for their answers and marks them for
-//! cancellation, a keeper removes the device, and whoever drives the adapter acts and finishes.
+//! A stack that many threads share, and the journal of its disk, each under a lock: each client issues calls, waits for their
+//! answers and marks them for cancellation, a keeper removes the device, and whoever drives the adapter acts and finishes.
+//! Where both locks are held, the stack's was taken first; a lane has its piece act under the journal's alone.
 //!
 //! Each client has a part of a ledger that nobody can copy, a pass of the remove lock, a seat at the cancel marks, and
 //! receipts: of each call and each answer that it was told of, the place in the trace and the entry there. So has the keeper
@@ -16,7 +17,9 @@
 //! - once all threads are done, [`Host::close`] gives the trace, which is a run of the sector machine from the state that the
 //!   host was opened with, and a row for each client, in which all its receipts stand: the calls of a row are just its
 //!   client's, in its order (`closed`); and the keeper's receipts stand in the trace (`told`), where nothing is open or out
-//!   from a removal's end on (`settled_at_removed`).
+//!   from a removal's end on (`settled_at_removed`);
+//! - and what acts did there, in their order: the acts of the trace are the first entries (`acts`), all entries give the
+//!   sectors (`replays`), and the trace is a run whose acts read and write them (`run`).
 //!
 //! It does not promise that anybody is served, nor an order between clients that told each other nothing. A call that takes
 //! a [`Wait`](std::sync::Wait) promises what it does if it returns.

@@ -4,10 +4,10 @@ ghost use Rattle.std.specs.Prelude.{◌≡◌, IfNone, IfSome};
 ghost use Rattle.host.specs.Keepers.{FindsNotice, HasNone, IsNoticed, is_notice, label_of};
 
 use crate::name::Naming;
-use adapter::Adapter;
-use book::{Book, Entry};
+use book::Book;
 use chronicle::{Claims, History};
 use machine::Label;
+use traced::Entry;
 
 /// A label of which a keeper has receipts.
 #[derive(Debug, Clone, Copy)]
@@ -29,12 +29,8 @@ impl Notice {
 }
 
 // The place of the first such label from a place of the trace on.
-fn find_notice<A: Adapter, N: Naming>(
-    book: &Book<A, N>,
-    notice: Notice,
-    from: usize,
-) -> Option<usize>
-    ensures { FindsNotice notice from book.now.entries result }
+fn find_notice<N: Naming>(book: &Book<N>, notice: Notice, from: usize) -> Option<usize>
+    ensures { FindsNotice notice from book.now.traced.entries result }
 {
     for place in from..book.len() {
         if notice.is(&book.entry(place).label) {
@@ -45,15 +41,15 @@ fn find_notice<A: Adapter, N: Naming>(
 }
 
 /// A claim on the first such label from a place of the trace on, if there is one.
-pub(crate) fn claim_notice<A: Adapter, N: Naming>(
+pub(crate) fn claim_notice<N: Naming>(
     history: &History<Entry, N>,
-    book: &mut Book<A, N>,
+    book: &mut Book<N>,
     notice: Notice,
     from: usize,
 ) -> Option<Claims<Entry, N>>
     ensures same { book.new ≡ book.old }
     ensures noticed { IfSome result (λ claim. IsNoticed from (label_of notice) claim) }
-    ensures none { IfNone result (HasNone notice from book.old.entries) }
+    ensures none { IfNone result (HasNone notice from book.old.traced.entries) }
 {
     book.shows_whole();
     let place = find_notice(book, notice, from)?;

@@ -1,19 +1,19 @@
-ghost use Rattle.std.specs.Prelude.{◌≡◌, ◌≤◌, ◌+◌, Some, All, IfOk, IfErr, length, max};
+ghost use Rattle.std.specs.Prelude.{◌≡◌, ◌≤◌, ◌+◌, Some, All, IfOk, IfErr, IsFalse, length, max};
 ghost use Rattle.cancel_marks.specs.Marks.{IsOther, standing, starting};
-ghost use Rattle.book.specs.Opening.{AreOpened, IsNew};
-ghost use Rattle.book.specs.Sizes.{AreSizes, sizes_of};
+ghost use Rattle.traced.specs.Opening.{AreOpened, IsNew};
+ghost use Rattle.traced.specs.Sizes.{AreSizes, sizes_of};
 ghost use Rattle.host.specs.Opening.{IsClientPass, IsGear, IsHostFault, client_limit};
 ghost use Rattle.host.specs.declared.opened.HostFault.TheVariants.{NoMemory};
 
-use adapter::Adapter;
-use book::{Entry, OpenFault, Sizes, open_handles};
 use cancel_marks::{Marks, Seat};
 use compose::{Handle, Stack};
+use miniport::BookedAdapter;
 use remove_lock::{Gate, Pass};
 use std::alloc::{AllocError, Global};
-use std::marker::Model;
-use std::sync::ledger::Blank;
+use std::marker::{Brand, Model};
+use std::sync::ledger::{Blank, Ledger};
 use thiserror::Error;
+use traced::{Entry, OpenFault, Sizes, open_handles};
 
 /// At most so many clients.
 const CLIENTS: usize = 64;
@@ -48,8 +48,8 @@ impl From<AllocError> for HostFault {
 
 /// A stack with a handle open for each client, and all that its threads will share, which has no name yet. Contracts see it
 /// as the names that a host of it has.
-pub struct Opened<A: Adapter> {
-    pub(crate) stack: Stack<A>,
+pub struct Opened {
+    pub(crate) stack: Stack<BookedAdapter>,
     pub(crate) handles: Vec<Handle>,
     pub(crate) partitions: Vec<u8>,
     pub(crate) sizes: Sizes,
@@ -63,7 +63,7 @@ pub struct Opened<A: Adapter> {
     pub(crate) passes: Vec<Pass>,
 }
 
-impl<A: Adapter> Model for Opened<A> {
+impl Model for Opened {
     ghost use Rattle.host.specs.Opening.{IsReady, Names};
 
     ghost Value = { Names };
@@ -131,9 +131,9 @@ struct Gear {
 }
 
 // All of it, for clients on these partitions, with their handles open on the stack.
-fn make_gear<A: Adapter>(
+fn make_gear(
     alloc: Global,
-    stack: &mut Stack<A>,
+    stack: &mut Stack<BookedAdapter>,
     slots: usize,
     partitions: &[u8],
 ) -> Result<Gear, HostFault>
@@ -141,6 +141,7 @@ fn make_gear<A: Adapter>(
     ensures few { IfOk result (λ _. length partitions.now ≤ client_limit) }
     ensures gear { IfOk result (λ gear. IsGear partitions.now slots gear) }
     ensures opened { IfOk result (λ gear. AreOpened partitions.now gear.handles.items stack.old stack.new) }
+    ensures apart { IfOk result (λ _. IsFalse stack.old.adapter.faithful → IsFalse stack.new.adapter.faithful) }
     ensures fault { IfErr result (IsHostFault stack.old.rules partitions.now) }
 {
     if partitions.len() > CLIENTS {
@@ -166,9 +167,9 @@ fn make_gear<A: Adapter>(
     })
 }
 
-impl<A: Adapter> Opened<A> {
-    /// Opens handle c + 1 on `partitions[c]` for client c, on a stack as it was started, of these sizes and so many slots for
-    /// open requests; and makes what the threads of a host will share.
+impl Opened {
+    /// Opens handle c + 1 on `partitions[c]` for client c, on a stack as it was started over an adapter without sectors, of
+    /// these sizes and so many slots for open requests; and makes what the threads of a host will share.
     ///
     /// # Errors
     ///
@@ -176,12 +177,13 @@ impl<A: Adapter> Opened<A> {
     /// one of them; [`HostFault::NoMemory`].
     pub fn new(
         alloc: Global,
-        stack: Stack<A>,
+        stack: Stack<BookedAdapter>,
         sizes: Sizes,
         slots: usize,
         partitions: &[u8],
-    ) -> Result<Opened<A>, HostFault>
+    ) -> Result<Opened, HostFault>
         requires new { IsNew stack }
+        requires apart { IsFalse stack.adapter.faithful }
         requires sizes { (sizes ≡ sizes_of stack.rules) × AreSizes sizes }
         requires slots { stack.rules.open_requests ≡ Some slots }
         ensures partitions { IfOk result (λ o. (o.partitions ≡ partitions.now) × (o.parts ≡ length partitions.now + 1)) }
@@ -206,4 +208,38 @@ impl<A: Adapter> Opened<A> {
             passes: gear.passes,
         })
     }
+
+    /// Ends what no host is made of.
+    pub fn end(self) {
+        let Opened {
+            stack: _,
+            handles: _,
+            partitions: _,
+            sizes: _,
+            slots: _,
+            history,
+            ledger,
+            marks: _,
+            owner: _,
+            seats: _,
+            gate: _,
+            passes: _,
+        } = self;
+        end_history::<Brand>(history);
+        end_ledger::<Brand>(ledger);
+    }
+}
+
+// A history that nobody wants.
+fn end_history<N: chronicle::Naming>(history: chronicle::Opened<Entry>)
+    requires { history ≡ N.table }
+{
+    let (_history, _whole) = history.named::<N>();
+}
+
+// A ledger that nobody wants.
+fn end_ledger<L: Ledger>(ledger: Blank)
+    requires { (ledger.name ≡ L.name) × (ledger.parts ≡ L.parts) }
+{
+    let (_tally, _all) = ledger.open::<L>();
 }

@@ -1,14 +1,14 @@
 ghost use Rattle.std.specs.Prelude.{◌≡◌, ◌<◌, ◌≤◌, ◌+◌, ◌-◌, ◌∷◌, ◌++◌, [], Some, OnOk, length, slice_get};
 ghost use Rattle.chronicle.specs.Claims.{AllStand};
-ghost use Rattle.book.specs.declared.Entry.{Entry as EntryView};
+ghost use Rattle.traced.specs.declared.Entry.{Entry as EntryView};
 ghost use Rattle.host.specs.Receipts.{none_yet, places_of};
 
 use crate::name::Naming;
-use adapter::Adapter;
-use book::{Book, Entry};
+use book::Book;
 use chronicle::{Claims, History};
 use std::alloc::{AllocError, Global};
 use std::marker::Model;
+use traced::Entry;
 
 /// Receipts: places of the trace, with claims on the entries there, and room for more.
 #[derive(Drop)]
@@ -80,16 +80,16 @@ impl<N: Naming> Receipts<N> {
     }
 
     /// Claims a place of the trace, keeps the receipt, and returns a copy of the claim.
-    pub(crate) fn note<A: Adapter>(
+    pub(crate) fn note(
         &mut self,
         history: &History<Entry, N>,
-        book: &mut Book<A, N>,
+        book: &mut Book<N>,
         place: usize,
     ) -> Claims<Entry, N>
-        requires place { place < length book.old.entries }
+        requires place { place < length book.old.traced.entries }
         requires room { 0 < self.old.room }
         ensures book { book.new ≡ book.old }
-        ensures entry { (e : EntryView) × (slice_get book.old.entries place ≡ Some e) × (result ≡ (place, e) ∷ []) }
+        ensures entry { (e : EntryView) × (slice_get book.old.traced.entries place ≡ Some e) × (result ≡ (place, e) ∷ []) }
         ensures noted { self.new ≡ record { list = self.old.list ++ result; room = self.old.room - 1 } }
     {
         let mut claim = book.claim(history, place);
@@ -99,9 +99,9 @@ impl<N: Naming> Receipts<N> {
     }
 
     /// All of them stand in the trace.
-    pub(crate) fn check<A: Adapter>(&mut self, history: &History<Entry, N>, book: &mut Book<A, N>)
+    pub(crate) fn check(&mut self, history: &History<Entry, N>, book: &mut Book<N>)
         ensures same { (book.new ≡ book.old) × (self.new ≡ self.old) }
-        ensures stand { AllStand book.old.entries self.old.list }
+        ensures stand { AllStand book.old.traced.entries self.old.list }
     {
         book.check(history, &mut self.claims);
     }

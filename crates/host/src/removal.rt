@@ -5,7 +5,7 @@ ghost use mathlib.Core.Logic.{inl};
 ghost use Rattle.machine.specs.declared.Label.TheVariants.{Pause as PauseLabel, Removed as RemovedLabel};
 ghost use Rattle.io_manager.specs.declared.Reply.TheVariants.{Ok as OkReply};
 ghost use Rattle.book.specs.Book.{IsStepped, call_handle};
-ghost use Rattle.book.specs.Serving.{is_handle_event};
+ghost use Rattle.traced.specs.Serving.{is_handle_event};
 ghost use Rattle.host.specs.Keepers.{HasNoted, HasNotedIfOk, IsNoticed};
 ghost use Rattle.host.specs.Receipts.{AreBelow};
 ghost use Rattle.host.specs.Replies.{IsReplyTo};
@@ -17,13 +17,14 @@ use crate::host::{Host, Keeper};
 use crate::name::Naming;
 use crate::notice::{Notice, claim_notice};
 use crate::shared::Door;
-use adapter::Adapter;
-use book::{Book, Entry};
+use book::Book;
 use chronicle::Claims;
 use compose::{Event, Reply};
+use disk::Medium;
 use remove_lock::Pass;
 use std::sync::Wait;
 use std::thread;
+use traced::Entry;
 
 // Closes the gate, and returns once it was seen drained.
 fn close_and_drain<N: Naming, R: Wait>(rt: &R, door: &Door<N>, pass: &mut Pass)
@@ -51,52 +52,54 @@ impl<N: Naming> Keeper<N> {
     }
 }
 
-impl<A: Adapter, N: Naming> Host<A, N> {
+impl<M: Medium, N: Naming> Host<M, N> {
     // The part of a keeper's step that has the book, and the place from which on its labels stand: above all receipts.
-    fn begin(
+    fn begin<R: Wait>(
         &self,
-        book: &mut Book<A, N>,
+        rt: &R,
+        book: &mut Book<N>,
         told: &mut Claims<Entry, N>,
         event: Event,
     ) -> (Reply, usize)
         requires { (is_handle_event event ≡ false) × (call_handle event ≡ None) }
         ensures same { told.new ≡ told.old }
         ensures above { AreBelow result.1 told.old }
-        ensures from { result.1 ≡ length book.old.entries }
+        ensures from { result.1 ≡ length book.old.traced.entries }
         ensures stepped { IsStepped N.slots None (inl tt) book.old event result.0 book.new }
         ensures reply { IsReplyTo event result.0 }
     {
         book.check(&self.history, told);
         let from = book.len();
-        let reply = self.step_in(book, event);
+        let reply = self.step_in(rt, book, event);
         (reply, from)
     }
 
     // As above, and tells whom it concerns.
-    fn begin_and_note(
+    fn begin_and_note<R: Wait>(
         &self,
-        book: &mut Book<A, N>,
+        rt: &R,
+        book: &mut Book<N>,
         told: &mut Claims<Entry, N>,
         event: Event,
     ) -> (Reply, usize, Concerned)
         requires { (is_handle_event event ≡ false) × (call_handle event ≡ None) }
         ensures same { told.new ≡ told.old }
         ensures above { AreBelow result.1 told.old }
-        ensures from { result.1 ≡ length book.old.entries }
+        ensures from { result.1 ≡ length book.old.traced.entries }
         ensures stepped { IsStepped N.slots None (inl tt) book.old event result.0 book.new }
         ensures reply { IsReplyTo event result.0 }
     {
-        let (reply, from) = self.begin(book, told, event);
+        let (reply, from) = self.begin(rt, book, told, event);
         (reply, from, Concerned::since(book, from))
     }
 
     // The part of a query that has the book.
-    fn query_in(&self, book: &mut Book<A, N>, told: &mut Claims<Entry, N>) -> Reply
+    fn query_in<R: Wait>(&self, rt: &R, book: &mut Book<N>, told: &mut Claims<Entry, N>) -> Reply
         ensures told { HasNotedIfOk PauseLabel result told.old told.new }
         ensures reply { IsReplyTo QueryRemove result }
     {
         laws_of_numbers();
-        let (reply, from) = self.begin(book, told, Event::QueryRemove);
+        let (reply, from) = self.begin(rt, book, told, Event::QueryRemove);
         if let Reply::Ok = reply {
             let Some(claim) = claim_notice(&self.history, book, Notice::Pause, from) else {
                 unreachable!()
@@ -107,16 +110,17 @@ impl<A: Adapter, N: Naming> Host<A, N> {
     }
 
     // As above, and tells whom it concerns.
-    fn query_and_note(
+    fn query_and_note<R: Wait>(
         &self,
-        book: &mut Book<A, N>,
+        rt: &R,
+        book: &mut Book<N>,
         told: &mut Claims<Entry, N>,
     ) -> (Reply, Concerned)
         ensures told { HasNotedIfOk PauseLabel result.0 told.old told.new }
         ensures reply { IsReplyTo QueryRemove result.0 }
     {
         let from = book.len();
-        let reply = self.query_in(book, told);
+        let reply = self.query_in(rt, book, told);
         (reply, Concerned::since(book, from))
     }
 
@@ -155,6 +159,7 @@ impl<A: Adapter, N: Naming> Host<A, N> {
         ensures told { HasNotedIfOk RemovedLabel result keeper.old.told keeper.new.told }
     {
         let (reply, from, concerned) = self.begin_and_note(
+            rt,
             &mut self.book.lock(rt),
             &mut keeper.told,
             event,
@@ -173,7 +178,7 @@ impl<A: Adapter, N: Naming> Host<A, N> {
         ensures pass { keeper.new.pass ≡ keeper.old.pass }
         ensures told { HasNotedIfOk PauseLabel result keeper.old.told keeper.new.told }
     {
-        let (reply, concerned) = self.query_and_note(&mut self.book.lock(rt), &mut keeper.told);
+        let (reply, concerned) = self.query_and_note(rt, &mut self.book.lock(rt), &mut keeper.told);
         self.bells.ring(rt, concerned);
         reply
     }

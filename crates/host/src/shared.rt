@@ -1,12 +1,12 @@
-//! What the threads of a host share beside the lock: the table of marks and the gate.
+//! What the threads of a host share beside the locks: the table of marks, the gate, and what is known of the disk.
 
 ghost use Rattle.std.specs.Prelude.{◌≡◌, Some};
-ghost use Rattle.host.specs.Opening.{IsOpening};
+ghost use Rattle.host.specs.Opening.{IsDiskOf, IsOpening};
 
 use crate::name::Naming;
 use cancel_marks::Marks;
 use remove_lock::Gate;
-use std::marker::PhantomData;
+use std::marker::{Model, PhantomData};
 
 /// The table of marks, of a slot for each request that may be open.
 #[derive(Drop)]
@@ -15,7 +15,7 @@ pub(crate) struct Table<N: Naming> {
     pub of: PhantomData<N>,
     pub ghost is: { marks ≡ (N.marks, N.slots) },
     pub ghost slots: { N.rules.open_requests ≡ Some N.slots },
-    pub ghost opening: { IsOpening N.opening },
+    pub ghost opening: { IsOpening N.start },
 }
 
 /// The gate that tickets hold.
@@ -30,6 +30,38 @@ impl<N: Naming> Table<N> {
     /// Shows the caller what is known of the names.
     pub(crate) fn shows_opening(&self)
         ensures slots { N.rules.open_requests ≡ Some N.slots }
-        ensures opening { IsOpening N.opening }
+        ensures opening { IsOpening N.start }
     {}
+}
+
+/// What the sectors are that the journal was opened with. Contracts see it as these sectors.
+#[derive(Drop)]
+pub(crate) struct Disk<N: Naming> {
+    of: PhantomData<N>,
+}
+
+impl<N: Naming> Model for Disk<N> {
+    ghost use Rattle.std.specs.Prelude.{ℕ, List};
+    ghost use Rattle.host.specs.Opening.{IsDiskOf};
+
+    ghost Value = { List (List ℕ) };
+
+    ghost view = { λ d. N.opening };
+
+    ghost invariant = { λ d. IsDiskOf N.rules N.opening };
+}
+
+impl<N: Naming> Disk<N> {
+    pub(crate) fn new() -> Disk<N>
+        requires { IsDiskOf N.rules N.opening }
+    {
+        Disk { of: PhantomData }
+    }
+
+    /// Shows the caller that they are those of the stack's disk.
+    pub(crate) fn shows_disk(&self)
+        ensures { IsDiskOf N.rules N.opening }
+    {
+        let _of = &self.of;
+    }
 }

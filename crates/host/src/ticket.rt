@@ -1,10 +1,10 @@
 ghost use Rattle.std.specs.Prelude.{◌≡◌};
 
 use crate::name::Naming;
-use book::Entry;
 use chronicle::Claims;
 use compose::Answer;
 use std::marker::Model;
+use traced::Entry;
 
 /// A call that was issued and is not waited for yet. It can't be copied, and `wait` spends it; it holds the gate until then.
 /// Contracts see it as its client, its request's number, the place of its call, its slot while it is open, and the receipt

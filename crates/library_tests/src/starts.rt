@@ -2,10 +2,13 @@
 
 use crate::expect::same;
 use compose::{Refusal, StartFault};
+use disk::Medium;
 use mbr::MbrFault;
+use ntstatus::NtStatus;
 use settings::ConfigFault;
 use startup::{
     Ending, Fault, Verdict, contents, ended, open, read_settings, say, settings_of, start,
+    start_apart,
 };
 use std::alloc::Global;
 use std::io::{ErrorKind, Read, Write};
@@ -37,6 +40,31 @@ fn sizes_of(alloc: Global, text: &str) -> Option<(u64, u64)> {
 fn opens_a_stack_and_a_volume(rt: HostRuntime) -> Result<(), Fail> {
     assert!(rt; starts(rt.alloc(), SETTINGS));
     assert!(rt; sizes_of(rt.alloc(), SETTINGS) == Some((2, 512)));
+    Ok(())
+}
+
+/// The sectors of the disk beside a stack of a text's settings, or why there is none.
+fn sectors_beside(alloc: Global, text: &str) -> Result<u64, StartFault> {
+    match settings_of(alloc, text.as_bytes()) {
+        Ok(config) => match start_apart(alloc, config) {
+            Ok((_stack, disk)) => Ok(disk.sectors()),
+            Err(fault) => Err(fault),
+        },
+        Err(_) => Err(StartFault::Settings),
+    }
+}
+
+#[test]
+fn starts_beside_a_disk(rt: HostRuntime) -> Result<(), Fail> {
+    let alloc = rt.alloc();
+    same(&rt, &sectors_beside(alloc, SETTINGS), &Ok(4));
+    let bad = format!(in alloc; "bad_sectors = [0]\n{SETTINGS}")?;
+    let status = NtStatus::DeviceDataError;
+    same(
+        &rt,
+        &sectors_beside(alloc, bad.as_str()),
+        &Err(StartFault::Device(status)),
+    );
     Ok(())
 }
 

@@ -2,7 +2,7 @@
 use Rattle.std.proofs.Common.{◌≡◌, ◌≤◌, ℕ, zero, suc, List, [], ◌∷◌, Some, ap, arith, length, refl, replicate, slice_get, subst, sym, ◌∙◌}
 use Rattle.sector.specs.declared.Extent.{Extent}
 use Rattle.machine.specs.Rules.{Rules}
-use Rattle.book.specs.Opening.{NamesNone}
+use Rattle.traced.specs.Opening.{NamesNone}
 use Rattle.host.specs.Opening.{IsHostFault}
 use Rattle.host.specs.declared.opened.HostFault.{HostFault}
 use Rattle.host.specs.declared.opened.HostFault.TheVariants.{NoPartition}

@@ -3,8 +3,8 @@
 ghost use Rattle.std.specs.Prelude.{◌≡◌, ◌≤◌, ◌+◌, ◌*◌, ◌<◌, ◌^◌};
 
 use crate::{Plan, Tally};
-use adapter::Adapter;
 use compose::Refusal as Why;
+use disk::Medium;
 use host::{Call, Client, Host, Naming, Reason};
 use sector::Bytes;
 use std::alloc::{AllocError, Global};
@@ -26,9 +26,9 @@ fn sector_of(alloc: Global, size: u32, byte: u8) -> Result<Bytes, AllocError> {
 }
 
 /// Issues a call and waits for its answer, which is given where it is a success.
-fn answer_to<A: Adapter, N: Naming, R: Wait>(
+fn answer_to<M: Medium, N: Naming, R: Wait>(
     rt: &R,
-    host: &Host<A, N>,
+    host: &Host<M, N>,
     client: &mut Client<N>,
     call: Call,
 ) -> Result<Option<Bytes>, AllocError>
@@ -51,10 +51,10 @@ fn answer_to<A: Adapter, N: Naming, R: Wait>(
 }
 
 /// Writes the client's sector full of a byte, reads it and compares.
-fn round<A: Adapter, N: Naming, R: Wait>(
+fn round<M: Medium, N: Naming, R: Wait>(
     rt: &R,
     alloc: Global,
-    host: &Host<A, N>,
+    host: &Host<M, N>,
     client: &mut Client<N>,
     size: u32,
     byte: u8,
@@ -86,10 +86,10 @@ fn round<A: Adapter, N: Naming, R: Wait>(
 }
 
 /// All rounds of a client.
-pub(crate) fn serve_client<A: Adapter, N: Naming, R: Wait>(
+pub(crate) fn serve_client<M: Medium, N: Naming, R: Wait>(
     rt: &R,
     alloc: Global,
-    host: &Host<A, N>,
+    host: &Host<M, N>,
     client: Client<N>,
     plan: Plan,
 ) -> Served<N>

@@ -1,8 +1,9 @@
 //! Clients of one stack, each in a thread of its own, which write, read and compare for so many rounds, over lanes and a
 //! completion worker. Who has clients of his own starts the lanes by [`start_lanes`], and ends them by [`remove`].
 //!
-//! It promises to the crate above, by the contract of [`run`] (`most`, `fault`), that no more calls have succeeded than were
-//! made, and that a partition is missed only where the stack has none.
+//! It promises to the crate above, by the contract of [`run`], that no more calls have succeeded than were made (`most`),
+//! that the entries of the journal give the sectors (`replays`), and that a partition is missed only where the stack has
+//! none (`fault`).
 //! That what a client reads is what it wrote is compared at run time: a [`Tally`] counts what differed. It promises nothing
 //! of progress.
 #![tactic(auto)]
@@ -10,22 +11,27 @@
 mod client;
 mod threads;
 
-ghost use Rattle.std.specs.Prelude.{◌≡◌, ◌≤◌, ◌*◌, IfErr, IfOk, Some};
-ghost use Rattle.book.specs.Opening.{IsNew};
-ghost use Rattle.book.specs.Sizes.{AreSizes, sizes_of};
+ghost use Rattle.std.specs.Prelude.{◌≡◌, ◌≤◌, ◌*◌, IfErr, IfOk, IsFalse, Some};
+ghost use Rattle.sector_journal.specs.Journal.{entries_in};
+ghost use Rattle.srb.specs.Replaying.{Replays};
+ghost use Rattle.traced.specs.Opening.{IsNew};
+ghost use Rattle.traced.specs.Sizes.{AreSizes, sizes_of};
+ghost use Rattle.host.specs.Opening.{IsDiskFor};
 ghost use Rattle.rounds.specs.Faults.{IsRoundsFault};
 
 use crate::threads::serve;
 pub use crate::threads::{remove, start_lanes};
-use adapter::Adapter;
-use book::Sizes;
 use compose::Stack;
+use disk::Medium;
 use host::{HostFault, Opened};
+use miniport::BookedAdapter;
+use sector_journal::Entered;
 use std::alloc::Global;
 use std::marker::Brand;
 use std::sync::Wait;
 use std::thread::Threads;
 use thiserror::Error;
+use traced::Sizes;
 
 /// What the clients do.
 #[derive(Debug, Clone, Copy, PartialEq, Eq, Drop)]
@@ -38,6 +44,8 @@ pub struct Plan {
     pub sector_size: u32,
     /// So many lanes: the tags of the adapter, 1 to 32.
     pub depth: u8,
+    /// Whether the disk takes no write.
+    pub write_protected: bool,
 }
 
 /// What came of the rounds.
@@ -47,6 +55,14 @@ pub struct Tally {
     pub answered: u64,
     /// Reads that succeeded with other bytes than their client had written.
     pub differing: u64,
+}
+
+/// What is left of the rounds: beside their tally what acts did to the sectors, in order, and the medium.
+#[derive(Drop)]
+pub struct Done<M: Medium> {
+    pub tally: Tally,
+    pub entries: Vec<Entered>,
+    pub medium: M,
 }
 
 /// Why there is no tally.
@@ -60,33 +76,44 @@ pub enum RoundsFault {
     NoMemory,
 }
 
-/// Runs clients on partition 0 of a stack as it was started, of these sizes and so many open requests, and removes the
-/// device. Client c, from 0, writes in round j, from 0, its sector c full of the byte (c + j) mod 256, waits, reads it,
-/// waits and compares.
+/// Runs clients on partition 0 of a stack as it was started, of these sizes and so many open requests, beside a journal of
+/// a medium's sectors, and removes the device. Client c, from 0, writes in round j, from 0, its sector c full of the byte
+/// (c + j) mod 256, waits, reads it, waits and compares.
 ///
 /// # Errors
 ///
 /// [`RoundsFault::NoPartition`]; [`RoundsFault::NoMemory`] where memory was refused or a thread could not be started.
-pub fn run<A: Adapter + Send, R: Threads + Wait + Sync>(
+pub fn run<M: Medium + Send, R: Threads + Wait + Sync>(
     rt: &R,
     alloc: Global,
-    stack: Stack<A>,
+    stack: Stack<BookedAdapter>,
+    medium: M,
     sizes: Sizes,
     slots: usize,
     plan: Plan,
-) -> Result<Tally, RoundsFault>
+) -> Result<Done<M>, RoundsFault>
     requires new { IsNew stack }
+    requires apart { IsFalse stack.adapter.faithful }
+    requires unfailed { (M.view medium).failures ≡ 0 }
+    requires disk { IsDiskFor stack.rules (M.view medium) }
     requires sizes { (sizes ≡ sizes_of stack.rules) × AreSizes sizes }
     requires slots { stack.rules.open_requests ≡ Some slots }
     requires plan { (1 ≤ plan.clients) × (plan.clients ≤ 32) × (1 ≤ plan.depth) × (plan.depth ≤ 32) }
-    ensures most { IfOk result (λ t. t.answered ≤ 2 * (plan.clients * plan.rounds)) }
+    ensures most { IfOk result (λ done. done.tally.answered ≤ 2 * (plan.clients * plan.rounds)) }
+    ensures replays { IfOk result (λ done. Replays (M.view done.medium).sector_size (M.view medium).sectors (entries_in done.entries.items) (M.view done.medium).sectors) }
     ensures fault { IfErr result (IsRoundsFault stack.rules) }
 {
     let Ok(partitions) = Vec::from_elem(alloc, 0, usize::from(plan.clients)) else {
         return Err(RoundsFault::NoMemory);
     };
     match Opened::new(alloc, stack, sizes, slots, partitions.as_slice()) {
-        Ok(opened) => serve::<A, Brand, R>(rt, alloc, opened, plan),
+        Ok(opened) => match sector_journal::Opened::new(alloc) {
+            Ok(histories) => serve::<M, Brand, R>(rt, alloc, opened, histories, medium, plan),
+            Err(_) => {
+                opened.end();
+                Err(RoundsFault::NoMemory)
+            }
+        },
         Err(HostFault::NoMemory) => Err(RoundsFault::NoMemory),
         Err(HostFault::NoPartition) => Err(RoundsFault::NoPartition),
         // They are 32 at most.

@@ -3,14 +3,18 @@
 ghost use Rattle.std.specs.Prelude.{◌≡◌, ◌≤◌, ◌<◌, ◌+◌, ◌*◌, ℕ, suc, IfErr, IfOk, IfSome, get_or, length};
 ghost use Rattle.lanes.specs.Queue.{fresh_lane, issued, lanes_of, standing};
 ghost use Rattle.host.specs.Clients.{AreNumbered};
+ghost use Rattle.host.specs.Opening.{IsDiskFor};
+ghost use Rattle.sector_journal.specs.Journal.{entries_in};
+ghost use Rattle.srb.specs.Replaying.{Replays};
 ghost use Rattle.rounds.specs.declared.RoundsFault.TheVariants.{NoMemory};
 
 use crate::client::{Served, serve_client};
-use crate::{Plan, RoundsFault, Tally};
-use adapter::Adapter;
+use crate::{Done, Plan, RoundsFault, Tally};
 use compose::Reply;
+use disk::Medium;
 use host::{Client, Host, HostFault, Keeper, Naming, Opened};
 use lanes::{Completions, Pass, Turnstile, serve_completions, serve_lane};
+use sector_journal::Journal;
 use std::alloc::{AllocError, Global};
 use std::sync::Wait;
 use std::thread;
@@ -49,14 +53,14 @@ fn last_lane(passes: &mut Vec<Pass>, completions: &Completions, tag: u8) -> Opti
 pub fn start_lanes<
     's,
     E,
-    A: Adapter + Send,
+    M: Medium + Send,
     N: Naming + Send + Sync,
     T: Turnstile + Sync,
     R: Threads + Wait + Sync,
 >(
     rt: &'s R,
     scope: &'s Scope<'s, E>,
-    host: &'s Host<A, N>,
+    host: &'s Host<M, N>,
     completions: &'s Completions,
     passes: Vec<Pass>,
     depth: u8,
@@ -90,11 +94,11 @@ pub fn start_lanes<
 }
 
 /// Starts the clients' rounds.
-fn start_clients<'s, E, A: Adapter + Send, N: Naming + Send + Sync, R: Threads + Wait + Sync>(
+fn start_clients<'s, E, M: Medium + Send, N: Naming + Send + Sync, R: Threads + Wait + Sync>(
     rt: &'s R,
     alloc: Global,
     scope: &'s Scope<'s, E>,
-    host: &'s Host<A, N>,
+    host: &'s Host<M, N>,
     clients: Vec<Client<N>>,
     plan: Plan,
 ) -> Result<Vec<PromisedHandle<Served<N>, OfClient>>, AllocError>
@@ -152,9 +156,9 @@ fn join_clients<N: Naming, R: Threads>(
 }
 
 /// Removes the device, by surprise where the query is refused. Whether it was removed in order.
-pub fn remove<A: Adapter, N: Naming, R: Wait>(
+pub fn remove<M: Medium, N: Naming, R: Wait>(
     rt: &R,
-    host: &Host<A, N>,
+    host: &Host<M, N>,
     keeper: &mut Keeper<N>,
 ) -> bool {
     match host.query_remove(rt, keeper) {
@@ -170,11 +174,11 @@ pub fn remove<A: Adapter, N: Naming, R: Wait>(
 }
 
 /// Starts the lanes and the worker, and has the clients do their rounds.
-fn serve_clients<'s, E, A: Adapter + Send, N: Naming + Send + Sync, R: Threads + Wait + Sync>(
+fn serve_clients<'s, E, M: Medium + Send, N: Naming + Send + Sync, R: Threads + Wait + Sync>(
     rt: &'s R,
     alloc: Global,
     scope: &'s Scope<'s, E>,
-    host: &'s Host<A, N>,
+    host: &'s Host<M, N>,
     completions: &'s Completions,
     passes: Vec<Pass>,
     clients: Vec<Client<N>>,
@@ -195,10 +199,10 @@ fn serve_clients<'s, E, A: Adapter + Send, N: Naming + Send + Sync, R: Threads +
 }
 
 /// Runs all threads until the device is removed.
-fn run_threads<A: Adapter + Send, N: Naming + Send + Sync, R: Threads + Wait + Sync>(
+fn run_threads<M: Medium + Send, N: Naming + Send + Sync, R: Threads + Wait + Sync>(
     rt: &R,
     alloc: Global,
-    host: &Host<A, N>,
+    host: &Host<M, N>,
     completions: &Completions,
     passes: Vec<Pass>,
     keeper: Keeper<N>,
@@ -245,20 +249,37 @@ fn run_threads<A: Adapter + Send, N: Naming + Send + Sync, R: Threads + Wait + S
 }
 
 /// A host of a stack: its clients' rounds, and its removal.
-pub(crate) fn serve<A: Adapter + Send, N: Naming + Send + Sync, R: Threads + Wait + Sync>(
+pub(crate) fn serve<M: Medium + Send, N: Naming + Send + Sync, R: Threads + Wait + Sync>(
     rt: &R,
     alloc: Global,
-    opened: Opened<A>,
+    opened: Opened,
+    histories: sector_journal::Opened,
+    medium: M,
     plan: Plan,
-) -> Result<Tally, RoundsFault>
-    requires named { opened ≡ record { rules = N.rules; opening = N.opening; partitions = N.partitions; handles = N.handles; marks = N.marks; slots = N.slots; table = N.table; name = N.name; parts = N.parts; gate = N.gate } }
+) -> Result<Done<M>, RoundsFault>
+    requires named { opened ≡ record { rules = N.rules; opening = N.start; partitions = N.partitions; handles = N.handles; marks = N.marks; slots = N.slots; table = N.table; name = N.name; parts = N.parts; gate = N.gate } }
+    requires histories { histories ≡ record { armings = N.armings; entries = N.entries } }
+    requires sectors { (M.view medium).sectors ≡ N.opening }
+    requires unfailed { (M.view medium).failures ≡ 0 }
+    requires disk { IsDiskFor N.rules (M.view medium) }
     requires parts { N.parts ≡ length N.partitions + 1 }
     requires clients { length N.partitions ≡ plan.clients }
     requires plan { (plan.clients ≤ 32) × (1 ≤ plan.depth) × (plan.depth ≤ 32) }
-    ensures most { IfOk result (λ t. t.answered ≤ 2 * (plan.clients * plan.rounds)) }
+    ensures most { IfOk result (λ done. done.tally.answered ≤ 2 * (plan.clients * plan.rounds)) }
+    ensures replays { IfOk result (λ done. Replays (M.view done.medium).sector_size N.opening (entries_in done.entries.items) (M.view done.medium).sectors) }
     ensures fault { IfErr result (λ fault. fault ≡ NoMemory) }
 {
-    let Ok((host, keeper, clients)) = Host::<A, N>::new(alloc, opened) else {
+    let Ok((journal, words)) = Journal::<M, N>::new(
+        alloc,
+        histories,
+        medium,
+        plan.depth,
+        plan.write_protected,
+    ) else {
+        opened.end();
+        return Err(RoundsFault::NoMemory);
+    };
+    let Ok((host, keeper, clients)) = Host::<M, N>::new(alloc, opened, journal, words) else {
         return Err(RoundsFault::NoMemory);
     };
     let capacity = (usize::from(plan.depth) + 1) / 2;
@@ -278,6 +299,10 @@ pub(crate) fn serve<A: Adapter + Send, N: Naming + Send + Sync, R: Threads + Wai
     let Ok((tally, clients)) = served else {
         return Err(RoundsFault::NoMemory);
     };
-    host.close(keeper, clients);
-    Ok(tally)
+    let (closed, medium) = host.close(keeper, clients);
+    Ok(Done {
+        tally,
+        entries: closed.entries,
+        medium,
+    })
 }

@@ -1,14 +1,10 @@
-//! Disks of 4,096 sectors of 512 bytes, and stacks over them.
+//! Disks of 4,096 sectors of 512 bytes, and adapters over them.
 
-ghost use Rattle.std.specs.Prelude.{◌≡◌, ◌≤◌, ◌^◌, IfOk, Some};
+ghost use Rattle.std.specs.Prelude.{◌≡◌, ◌≤◌, ◌^◌, IfOk};
 ghost use Rattle.probe.specs.Exchange.{IsIdle};
-ghost use Rattle.book.specs.Opening.{IsNew};
-ghost use Rattle.book.specs.Sizes.{AreSizes, sizes_of};
 
-use book::Sizes;
-use compose::{Settings, Stack, StartFault};
 use disk::{BadSector, Medium, NoMemory, VecDisk};
-use miniport::{Adapter, MemAdapter};
+use miniport::MemAdapter;
 use sector::Extent;
 use std::alloc::{AllocError, Global};
 use std::process::Abort;
@@ -131,34 +127,4 @@ impl<M: Medium> Medium for Reluctant<M> {
     }
 
     ghost whole = { λ m. M.whole m.medium };
-}
-
-/// A stack that was started, and its sizes; two requests at work and this many open, 1 to 64.
-pub(crate) fn start<A: Adapter>(
-    rt: &impl Abort,
-    alloc: Global,
-    adapter: A,
-    open_requests: u32,
-) -> Result<(Stack<A>, Sizes), AllocError>
-    requires idle { IsIdle (A.view adapter) }
-    requires unasked { (A.view adapter).accepted ≡ 0 }
-    ensures new { IfOk result (λ r. IsNew r.0) }
-    ensures sizes { IfOk result (λ r. (r.1 ≡ sizes_of r.0.rules) × AreSizes r.1) }
-    ensures slots { IfOk result (λ r. r.0.rules.open_requests ≡ Some open_requests) }
-{
-    let sizes = Sizes {
-        sector_size: adapter.sector_size(),
-        longest: 65_536,
-        max_transfer: adapter.max_transfer(),
-        busy_limit: 17,
-    };
-    let settings = Settings {
-        window: 2,
-        open_requests,
-    };
-    match Stack::start(alloc, adapter, settings) {
-        Ok(stack) => Ok((stack, sizes)),
-        Err(StartFault::NoMemory) => Err(AllocError),
-        Err(fault) => panic!(rt; "{fault:?}"),
-    }
 }

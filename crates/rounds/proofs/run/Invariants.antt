@@ -6,15 +6,18 @@ ghosts-serve-N-Ledger g a = record { name = a.opened.name; parts = a.opened.part
 abbrev pub ghosts-serve-N-Naming-1 : goal.ghosts-serve-N-Naming-1
 ghosts-serve-N-Naming-1 g a = record { gate = a.opened.gate }
 
-abbrev pub ghosts-serve-N-Naming-2 : goal.ghosts-serve-N-Naming-2
-ghosts-serve-N-Naming-2 g a = record {
+abbrev pub ghosts-serve-N-Naming-3 : goal.ghosts-serve-N-Naming-3
+ghosts-serve-N-Naming-3 g a = record {
   rules = a.opened.rules;
-  opening = a.opened.opening;
+  start = a.opened.opening;
   partitions = a.opened.partitions;
   handles = a.opened.handles;
   marks = a.opened.marks;
   slots = a.opened.slots;
 }
 
-abbrev pub ghosts-serve-N-Naming-3 : goal.ghosts-serve-N-Naming-3
-ghosts-serve-N-Naming-3 g a = record { table = a.opened.table }
+abbrev pub ghosts-serve-N-Naming-4 : goal.ghosts-serve-N-Naming-4
+ghosts-serve-N-Naming-4 g a = record { table = a.opened.table }
+
+abbrev pub ghosts-serve-N-Naming-5 : goal.ghosts-serve-N-Naming-5
+ghosts-serve-N-Naming-5 g a = record { armings = a.histories.armings; entries = a.histories.entries; opening = (g.M.Medium.view a.medium).sectors }

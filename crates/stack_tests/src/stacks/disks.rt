@@ -3,8 +3,8 @@
 ghost use Rattle.std.specs.Prelude.{◌≡◌, [], IfOk};
 ghost use Rattle.probe.specs.Exchange.{IsIdle};
 
-use crate::disks::{Table, adapter, disk, start};
-use compose::Stack;
+use crate::disks::{Table, adapter, disk};
+use compose::{Settings, Stack, StartFault};
 use disk::VecDisk;
 use miniport::{Adapter, MemAdapter};
 use std::alloc::{AllocError, Global};
@@ -20,8 +20,15 @@ pub(crate) fn stack_on<A: Adapter>(
     requires unasked { (A.view adapter).accepted ≡ 0 }
     ensures { IfOk result (λ stack. stack.labels ≡ []) }
 {
-    let (stack, _) = start(rt, alloc, adapter, 4)?;
-    Ok(stack)
+    let settings = Settings {
+        window: 2,
+        open_requests: 4,
+    };
+    match Stack::start(alloc, adapter, settings) {
+        Ok(stack) => Ok(stack),
+        Err(StartFault::NoMemory) => Err(AllocError),
+        Err(fault) => panic!(rt; "{fault:?}"),
+    }
 }
 
 /// A disk's adapter, which moves two sectors at most.

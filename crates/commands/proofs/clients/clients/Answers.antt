@@ -1,6 +1,8 @@
 use Rattle.std.proofs.Common.{◌≡◌, Err, false, rules, true}
+use Rattle.disk.specs.SparseDisk.{shown}
 use Rattle.startup.specs.declared.faults.Fault.TheVariants.{Start}
 use Rattle.commands.specs.declared.faults.Fault.TheVariants.{Startup}
+use Rattle.commands.proofs.Beside.{disk_beside}
 use Rattle.commands.proofs.Blaming.{no_output, no_partition, no_room}
 use Rattle.commands.proofs.clients.clients.Goals as goal
 
@@ -17,9 +19,13 @@ returns-then-not-has_room-clause-fault g c =
 pub returns-in-Err-NoPartition-clause-fault : goal.returns-in-Err-NoPartition-clause-fault
 returns-in-Err-NoPartition-clause-fault g c =
     no_partition _ _ c.in_ok-config.config c.in_ok-config.ensures.read c.in_ok-stack.stack.rules c.in-Err-NoPartition.field-0 c.out_of_range-in-Err-NoPartition.result
-    c.in_ok-stack.ensures.view.rules c.in-Err-NoPartition.field-0-is c.in-Err-NoPartition.ensures.fault c.out_of_range-in-Err-NoPartition.ensures
+    c.in_ok-stack.ensures.stack.rules c.in-Err-NoPartition.field-0-is c.in-Err-NoPartition.ensures.fault c.out_of_range-in-Err-NoPartition.ensures
 
 pub returns-in-Err-clause-fault : goal.returns-in-Err-clause-fault
 returns-in-Err-clause-fault g c =
     let has : c.has_room-has_room.result ≡ true = search rules in
     no_output _ _ c.in_ok-config.config c.in_ok-config.ensures.read c.has_room-has_room.result c.output_fault.result c.has_room-has_room.ensures has c.output_fault.ensures
+
+pub run-requires-clause-disk : goal.run-requires-clause-disk
+run-requires-clause-disk g c =
+    disk_beside c.in_ok-config.config c.in_ok-stack.stack (shown c.in_ok-stack.disk) c.in_ok-config.ensures.in_range c.in_ok-stack.ensures.stack c.in_ok-stack.ensures.disk c.in_ok-stack.ensures.count

@@ -11,4 +11,4 @@ invariant-loop-client g l =
     × (l.book ≡ l.initial.book)
     × (l.all.parts ≡ l.initial.all.parts + length l.yielded)
     × (l.all.amount ≡ l.initial.all.amount + total (length l.yielded) (λ c. length (client_at l.yielded c).called))
-    × AreBorneOut l.initial.book.entries (length l.yielded) l.yielded
+    × AreBorneOut l.initial.book.traced.entries (length l.yielded) l.yielded

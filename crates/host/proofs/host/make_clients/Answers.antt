@@ -15,14 +15,14 @@ new-account-requires-clause-handle g c =
 pub invariant_of-push_reserved : goal.invariant_of-push_reserved
 invariant_of-push_reserved g c =
     let at = c.loop-c.invariant in
-    let seat = popped (IsOther g.N.Naming-2.marks) c.loop-c.seats.items c.pop.new.self.items c.pop.result c.in-Some-Some.seat c.in-Some-Some.is-0 c.pop.ensures.items at.are_seats in
+    let seat = popped (IsOther g.N.Naming-3.marks) c.loop-c.seats.items c.pop.new.self.items c.pop.result c.in-Some-Some.seat c.in-Some-Some.is-0 c.pop.ensures.items at.are_seats in
     let pass = popped (IsClientPass g.N.Naming-1.gate) c.loop-c.passes.items c.pop-in-loop-c.new.self.items c.pop-in-loop-c.result c.in-Some-Some.pass c.in-Some-Some.is-1 c.pop-in-loop-c.ensures.items at.are_passes in
-    new_client g.N.Naming-1.gate g.N.Naming-2.marks c.new-account.result c.in-Some-Some.pass c.in-Some-Some.seat pass.0 seat.0.0
+    new_client g.N.Naming-1.gate g.N.Naming-3.marks c.new-account.result c.in-Some-Some.pass c.in-Some-Some.seat pass.0 seat.0.0
 
 pub loop-c-preserved : goal.loop-c-preserved
 loop-c-preserved g c =
     let at = c.loop-c.invariant in
-    let seat = popped (IsOther g.N.Naming-2.marks) c.loop-c.seats.items c.pop.new.self.items c.pop.result c.in-Some-Some.seat c.in-Some-Some.is-0 c.pop.ensures.items at.are_seats in
+    let seat = popped (IsOther g.N.Naming-3.marks) c.loop-c.seats.items c.pop.new.self.items c.pop.result c.in-Some-Some.seat c.in-Some-Some.is-0 c.pop.ensures.items at.are_seats in
     let pass = popped (IsClientPass g.N.Naming-1.gate) c.loop-c.passes.items c.pop-in-loop-c.new.self.items c.pop-in-loop-c.result c.in-Some-Some.pass c.in-Some-Some.is-1 c.pop-in-loop-c.ensures.items at.are_passes in
     let seats = one_less c.loop-c.seats.items c.pop.new.self.items c.pop.result c.in-Some-Some.seat c.in-Some-Some.is-0 c.pop.ensures.items in
     let passes = one_less c.loop-c.passes.items c.pop-in-loop-c.new.self.items c.pop-in-loop-c.result c.in-Some-Some.pass c.in-Some-Some.is-1 c.pop-in-loop-c.ensures.items in

@@ -1,30 +1,12 @@
-use Rattle.std.proofs.Common.{rules}
-use Rattle.book.proofs.Booking.{sound_with_room, sound_made_ready}
+use Rattle.std.proofs.Common.{refl}
 use Rattle.book.proofs.book.Book.call.Goals as goal
 
-pub invariant_of-self : goal.invariant_of-self
-invariant_of-self g c =
-    let room = c.make_room.ensures in
-    record {
-      sound = sound_with_room _ _ _ _ _ c.self.inside.pages _ c.make_room.new.pages _ _ c.self.invariant.sound room.kept room.no_less;
-      tally = search rules;
-      clients = c.self.invariant.clients;
-      same_sizes = c.self.invariant.same_sizes;
-      sizes = c.self.invariant.sizes;
-    }
-
-pub invariant_of-self-then-is_err-2 : goal.invariant_of-self-then-is_err-2
-invariant_of-self-then-is_err-2 g c =
-    let room = c.make_room.ensures in
-    record {
-      sound = sound_made_ready _ _ _ _ _ c.self.inside.pages _ c.make_room.new.pages c.make_ready.new.self _ _ c.self.invariant.sound room.kept room.no_less c.make_ready.ensures.kept;
-      tally = search rules;
-      clients = c.self.invariant.clients;
-      same_sizes = c.self.invariant.same_sizes;
-      sizes = c.self.invariant.sizes;
-    }
-
-pub carry-reply-requires-clause-sound : goal.carry-reply-requires-clause-sound
-carry-reply-requires-clause-sound g c =
-    let room = c.make_room.ensures in
-    sound_made_ready _ _ _ _ _ c.self.inside.pages _ c.make_room.new.pages c.make_ready.new.self _ _ c.self.invariant.sound room.kept room.no_less c.make_ready.ensures.kept
+pub returns-then-not-would_open : goal.returns-then-not-would_open
+returns-then-not-would_open g c = record {
+  count = 0;
+  booked = c.args.self.now;
+  books = refl;
+  served = c.call_alone.ensures.served;
+  counted = c.call_alone.ensures.counted;
+  taken = c.call_alone.ensures.taken;
+}

@@ -1,14 +1,7 @@
-use Rattle.std.proofs.Common.{rules}
-use Rattle.book.proofs.Booking.{sound_first}
+use Rattle.book.proofs.Beginning.{kept_first}
 use Rattle.book.proofs.book.Book.new.Goals as goal
 
 pub invariant_of-result : goal.invariant_of-result
 invariant_of-result g c =
-    let made = c.in_ok-pages.ensures in
-    record {
-      sound = sound_first _ _ _ _ _ _ _ c.requires.named c.requires.first made.pages.0 made.pages.1 made.pages.2 _ c.requires.count.1 made.numbers made.owner;
-      tally = search rules;
-      clients = c.requires.handles;
-      same_sizes = c.requires.sizes.0;
-      sizes = c.requires.sizes.1;
-    }
+    kept_first c.keeps_lengths.ensures _ _ _ _ c.args.traced c.shows_whole.ensures c.shows_stack.ensures.whole c.shows_stack.ensures.reached c.requires.blank c.new-taken.result c.in_ok-tags.tags c.depth.result
+    c.new-taken.ensures.none c.in_ok-tags.ensures

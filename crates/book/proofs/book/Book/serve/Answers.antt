@@ -1,24 +1,15 @@
-use Rattle.std.proofs.Common.{rules}
-use Rattle.book.proofs.Booking.{sound_with_room}
+use Rattle.std.proofs.Common.{refl, inl}
 use Rattle.book.proofs.book.Book.serve.Goals as goal
-use Rattle.book.proofs.book.Book.serve.Goals.{else-matches-via-then-matches+else-is_err, else-matches-via-else-matches}
 
-pub invariant_of-self : goal.invariant_of-self
-invariant_of-self g c =
-    let room = c.make_room.ensures in
-    record {
-      sound = sound_with_room _ _ _ _ _ c.self.inside.pages _ c.make_room.new.pages _ _ c.self.invariant.sound room.kept room.no_less;
-      tally = search rules;
-      clients = c.self.invariant.clients;
-      same_sizes = c.self.invariant.same_sizes;
-      sizes = c.self.invariant.sizes;
-    }
-
-pub carry-requires-clause-sound : goal.carry-requires-clause-sound
-carry-requires-clause-sound g c =
-    elim c.else-matches.branch [
-      | else-matches-via-then-matches+else-is_err w ↦ rw w.self-inside-is (
-          sound_with_room _ _ _ _ _ c.self.inside.pages _ w.make_room.new.pages _ _ c.self.invariant.sound w.make_room.ensures.kept w.make_room.ensures.no_less
-          )
-      | else-matches-via-else-matches w ↦ rw w.self-inside-is c.self.invariant.sound
-    ]
+pub returns-then-not-moves_pieces : goal.returns-then-not-moves_pieces
+returns-then-not-moves_pieces g c = record {
+  count = 0;
+  booked = c.args.self.now;
+  books = refl;
+  serves = inl (record {
+    held = c.args.self.now.traced;
+    holds = inl refl;
+    served = c.serve_alone.ensures.served;
+    taken = c.serve_alone.ensures.taken;
+  });
+}

@@ -1,21 +1,6 @@
-use Rattle.std.proofs.Common.{subst}
-use Rattle.std.specs.Prelude.{Contains, IfSome}
-use Rattle.io_manager.specs.Right.{as_answer}
-use Rattle.book.specs.Book.{BookView}
-use Rattle.book.specs.Entries.{labels_of}
-use Rattle.book.proofs.Booking.{sound_taken, stands_if}
+use Rattle.book.proofs.Beginning.{kept_answered}
 use Rattle.book.proofs.book.Book.take_answer.Goals as goal
 
 pub invariant_of-self : goal.invariant_of-self
-invariant_of-self g c = record {
-  sound = sound_taken _ _ _ _ _ _ _ c.self.invariant.sound _ _ _ c.take_answer_of.ensures;
-  tally = c.self.invariant.tally;
-  clients = c.self.invariant.clients;
-  same_sizes = c.self.invariant.same_sizes;
-  sizes = c.self.invariant.sizes;
-}
-
-pub returns-clause-stands : goal.returns-clause-stands
-returns-clause-stands g c =
-    subst (λ (b : BookView). IfSome c.take_answer_of.result (λ answer. Contains (labels_of b.entries) (as_answer answer))) c.self.view_is
-    (stands_if _ _ _ _ _ _ _ c.self.invariant.sound _ _ _ c.take_answer_of.ensures)
+invariant_of-self g c =
+    kept_answered _ _ c.self.inside.traced c.take_answer.new.self _ _ c.args.number c.take_answer.result c.take_answer.ensures.takes c.take_answer.ensures.same c.self.invariant

@@ -1,0 +1,89 @@
+-- The act of a piece of which no entry was made keeps what holds of a book.
+use Rattle.std.proofs.Common.{◌≡◌, inl, inr, ℕ, List, [], ◌∷◌, ◌++◌, Option, Err, IsFalse, refl, sym, ap, subst, ◌∙◌}
+use Rattle.std.specs.Prelude.{◌⊎◌}
+use Rattle.srb.specs.declared.Srb.{Srb}
+use Rattle.srb.specs.declared.Completion.{Completion}
+use Rattle.srb.specs.declared.Class.TheVariants.{Bad}
+use Rattle.srb.specs.Fate.{class_of}
+use Rattle.adapter.specs.View.{IsInOrder}
+use Rattle.adapter.specs.Booking.{IsArmed, IsBookable}
+use Rattle.adapter.specs.Calls.{HasNoneFresh}
+use Rattle.machine.specs.declared.Label.{Label}
+use Rattle.machine.specs.Rules.{Rules}
+use Rattle.machine.specs.State.{State, opening}
+use Rattle.machine.specs.Step.{Run}
+use Rattle.machine_laws.specs.Reached.{IsReached}
+use Rattle.io_manager.specs.declared.OpenHandle.{OpenHandle}
+use Rattle.io_manager.specs.declared.Reply.{Reply}
+use Rattle.io_manager.specs.Shown.{ManagerView}
+use Rattle.io_manager.specs.Right.{FitsTogether}
+use Rattle.compose.specs.declared.Event.TheVariants.{Act}
+use Rattle.compose.specs.Journaled.{ArmedMayBeBooked, BookedActsAddEntries, IdleActsKeepEntries, StepsStayApart, IsJournaled}
+use Rattle.sector_journal.specs.declared.acted.Entered.{Entered}
+use Rattle.sector_journal.specs.Journal.{entries_in}
+use Rattle.traced.specs.Entries.{labels_of}
+use Rattle.traced.specs.Traced.{TracedView, IsCarried, IsServed, IsTraced}
+use Rattle.book.specs.Acting.{BooksFailure, HoldsBooked}
+use Rattle.book.specs.Book.{HoldsFailure, IsKept, StaysKept}
+use Rattle.book.specs.Staying.{Claimed, AreOnTags, HaveNotedAll, ArmedStays}
+use Rattle.book.proofs.Going.{labels_carried, act_carried, tags_booked, tags_kept}
+use Rattle.book.proofs.Telling.{apart_still}
+
+pub holds_failure : (old held : TracedView) (tag : ℕ) (completion : Completion) → BooksFailure old tag completion held → HoldsFailure old (Act tag) held
+holds_failure old held tag completion (inl (piece, srb, is_armed, holds)) = inr (tag, piece, completion, refl, holds)
+holds_failure old held tag completion (inr (none, same)) = inl same
+
+module _ (armed : ArmedMayBeBooked) (adds : BookedActsAddEntries) (idle : IdleActsKeepEntries) (apart : StepsStayApart) (stays : ArmedStays)
+    (rules : Rules) (start : State) (partitions : List ℕ) (handles : List (Option OpenHandle)) (old held new : TracedView) (tags tags' : Claimed) (tag : ℕ) (completion : Completion) (reply : Reply)
+    (is : IsTraced rules start partitions handles old) (bad : class_of completion ≡ Bad completion)
+    (order : IsInOrder held.stack.adapter) (fits : FitsTogether held.stack) (reached : IsReached held.stack.rules held.stack.state)
+    (served : IsServed 0 held (Act tag) reply new) (noted : (labels : List Label) → labels_of new.entries ≡ labels_of held.entries ++ labels → HaveNotedAll labels tags tags') where
+  abbrev carried : IsCarried 0 held (Act tag) reply new
+  carried = act_carried 0 held tag reply new served
+
+  abbrev stepped : ManagerView
+  stepped = carried.stepped
+
+  longer : labels_of new.entries ≡ labels_of held.entries ++ stepped.labels
+  longer = labels_carried 0 held (Act tag) reply new carried
+
+  kept_new : (taken : List Entered) → IsKept rules start old taken tags → IsJournaled (labels_of held.entries ++ stepped.labels) (entries_in taken) stepped → IsFalse held.stack.adapter.faithful
+      → AreOnTags held.stack.adapter tags → IsKept rules start new taken tags'
+  kept_new taken kept journaled still on = record {
+    arrays = kept.arrays;
+    starts = kept.starts;
+    whole = kept.whole;
+    journaled = subst (λ (v : ManagerView). IsJournaled (labels_of new.entries) (entries_in taken) v) (sym carried.stack)
+        (subst (λ (ls : List Label). IsJournaled ls (entries_in taken) (record stepped { labels = [] })) (sym longer) (record { of_acts = journaled.of_acts; started = journaled.started }));
+    apart = subst (λ (v : ManagerView). IsFalse v.adapter.faithful) (sym carried.stack) (apart held.stack (Act tag) reply stepped carried.right still);
+    on_tags = subst (λ (v : ManagerView). AreOnTags v.adapter tags') (sym carried.stack)
+        (tags_kept stays held.stack (Act tag) reply stepped tags tags' carried.right (noted stepped.labels longer) on);
+  }
+
+  module _ (piece : ℕ) (srb : Srb) (is_armed : IsArmed old.stack.adapter tag piece srb) (holds : HoldsBooked old tag piece (Err completion) held) where
+    booked_kept : (taken : List Entered) → IsKept rules start old taken tags → IsKept rules start new taken tags'
+    booked_kept taken kept =
+        let trace : List Label = labels_of old.entries in
+        let run : Run old.stack.rules (opening kept.arrays) trace old.stack.state =
+        subst (λ (r : Rules). Run r (opening kept.arrays) trace old.stack.state) (sym is.same_rules) (subst (λ (s : State). Run rules s trace old.stack.state) kept.starts is.run) in
+        let bookable : IsBookable old.stack.adapter tag piece (Err completion) =
+        armed kept.arrays trace (entries_in taken) old.stack tag piece srb (Err completion) run kept.journaled kept.apart is_armed bad in
+        let next : IsJournaled (trace ++ stepped.labels) (entries_in taken) stepped =
+        adds trace (entries_in taken) old.stack held.stack stepped tag piece (Err completion) reply bookable tt holds.books order fits reached carried.right kept.journaled in
+        let same : labels_of held.entries ≡ trace = ap (λ (v : TracedView). labels_of v.entries) holds.same in
+        kept_new taken kept (subst (λ (ls : List Label). IsJournaled (ls ++ stepped.labels) (entries_in taken) stepped) (sym same) next)
+        (apart_still old.stack.adapter held.stack.adapter tag piece (Err completion) holds.books.adapter kept.apart)
+        (tags_booked old.stack.adapter tag piece (Err completion) held.stack.adapter tags holds.books.adapter kept.on_tags)
+
+  module _ (none : HasNoneFresh old.stack.adapter tag) (same : held ≡ old) where
+    idle_kept : (taken : List Entered) → IsKept rules start old taken tags → IsKept rules start new taken tags'
+    idle_kept taken kept =
+        let was : IsJournaled (labels_of held.entries) (entries_in taken) held.stack = subst (λ (v : TracedView). IsJournaled (labels_of v.entries) (entries_in taken) v.stack) (sym same) kept.journaled in
+        let still_none : HasNoneFresh held.stack.adapter tag = subst (λ (v : TracedView). HasNoneFresh v.stack.adapter tag) (sym same) none in
+        kept_new taken kept (idle (labels_of held.entries) (entries_in taken) held.stack tag reply stepped fits still_none carried.right was)
+        (subst (λ (v : TracedView). IsFalse v.stack.adapter.faithful) (sym same) kept.apart)
+        (subst (λ (v : TracedView). AreOnTags v.stack.adapter tags) (sym same) kept.on_tags)
+
+  pub failed_keeps : BooksFailure old tag completion held → StaysKept rules start old tags new tags'
+  failed_keeps (inl (piece, srb, is_armed, holds)) = booked_kept piece srb is_armed holds
+  failed_keeps (inr (none, same)) = idle_kept none same

@@ -1,9 +1,0 @@
-use Rattle.std.proofs.Common.{◌≤◌, length}
-use Rattle.book.specs.Entries.{HasNoAnswer}
-use Rattle.book.proofs.pages.last_answer.Given as goal
-
-abbrev pub invariant-loop-left : goal.invariant-loop-left
-invariant-loop-left l = record { within : l.left ≤ length l.row; none : HasNoAnswer l.number l.trace l.row l.left }
-
-abbrev pub decreases-loop-left : goal.decreases-loop-left
-decreases-loop-left l = l.left

@@ -1,0 +1,142 @@
+//! Entries of the journal are booked, in the order of their numbers, and their acts made.
+
+ghost use Rattle.std.specs.Prelude.{◌≡◌, ◌<◌, ◌+◌, ℕ, Ok, None, Some, MatchOption, length, slice_get, true};
+ghost use Rattle.compose.specs.Journaled.{ArmedMayBeBooked, BookedActsAddEntries, StepsStayApart};
+ghost use Rattle.sector_journal.specs.declared.acted.Entered.{Entered};
+ghost use Rattle.book.specs.Acting.{HoldsBooked, IsAsLarge, MayBook};
+ghost use Rattle.book.specs.Book.{BooksOne, HasBooked, IsKept, IsSameBook, book_of};
+ghost use Rattle.book.specs.Staying.{ArmedStays};
+
+use crate::name::Naming;
+use crate::noting::serve;
+use crate::tags::Tags;
+use crate::taken::Taken;
+use cancel_marks::Marks;
+use compose::Event;
+use disk::Medium;
+use miniport::BookedAdapter;
+use sector_journal::Journal;
+use std::alloc::Global;
+use traced::{Entry, Traced};
+
+/// The laws that the act of an entry goes by.
+fn laws_of_acts()
+    ensures armed { ArmedMayBeBooked }
+    ensures booked { BookedActsAddEntries }
+    ensures apart { StepsStayApart }
+    ensures stays { ArmedStays }
+{
+    compose::armed_may_be_booked();
+    compose::booked_acts_add_entries();
+    compose::steps_stay_apart();
+    crate::laws::armed_stays();
+}
+
+/// Whether the journal has as many sectors, as long.
+fn is_as_large<M: Medium, N: Naming>(
+    traced: &Traced<BookedAdapter, N>,
+    journal: &Journal<M, N>,
+) -> bool
+    ensures { result ≡ true → IsAsLarge N.rules journal.now }
+{
+    let sizes = traced.sizes();
+    journal.sector_size() == sizes.sector_size && journal.sectors() == sizes.sectors
+}
+
+/// The tag of the entry of a number.
+fn tag_of<M: Medium, N: Naming>(journal: &Journal<M, N>, number: u64) -> u8
+    requires { number < length journal.now.entered }
+    ensures { (entered : Entered) × (slice_get journal.now.entered number ≡ Some entered) × (result ≡ entered.entry.tag) }
+{
+    journal.entries()[number as usize].entry.tag
+}
+
+/// Whether there is an entry of a number, and it is of what was armed on its tag.
+fn may_book<M: Medium, N: Naming>(
+    traced: &Traced<BookedAdapter, N>,
+    tags: &mut Tags<N>,
+    journal: &mut Journal<M, N>,
+    words: &sector_journal::History<N>,
+    number: u64,
+) -> bool
+    ensures same { (tags.new ≡ tags.old) × (journal.new ≡ journal.old) }
+    ensures there { result ≡ true → number < length journal.old.entered }
+    ensures may { result ≡ true → MayBook N.rules journal.old tags.old number }
+{
+    if number >= journal.entries().len() as u64 || !is_as_large(traced, journal) {
+        return false;
+    }
+    let tag = tag_of(journal, number);
+    tags.is_of(journal, words, tag, number)
+}
+
+/// Books the entry of a number, and gives its tag.
+fn book_entry<M: Medium, N: Naming>(
+    traced: &mut Traced<BookedAdapter, N>,
+    journal: &Journal<M, N>,
+    number: u64,
+) -> u8
+    requires there { number < length journal.now.entered }
+    ensures { (entered : Entered) × (slice_get journal.now.entered number ≡ Some entered) × (result ≡ entered.entry.tag) × HoldsBooked traced.old entered.entry.tag entered.entry.piece (Ok entered.entry) traced.new }
+{
+    let entry = &journal.entries()[number as usize].entry;
+    let tag = entry.tag;
+    traced.book(tag, entry.piece, Ok(entry));
+    tag
+}
+
+/// Books the next entry, if it is there and of what was armed on its tag, and makes its act: the tag.
+pub(crate) fn book_next<M: Medium, N: Naming>(
+    traced: &mut Traced<BookedAdapter, N>,
+    taken: &mut Taken<N>,
+    tags: &mut Tags<N>,
+    alloc: Global,
+    history: &chronicle::History<Entry, N>,
+    marks: &Marks,
+    journal: &mut Journal<M, N>,
+    words: &sector_journal::History<N>,
+) -> Option<u8>
+    requires marks { marks.now ≡ (N.marks, N.slots) }
+    requires kept { IsKept N.rules N.start traced.old taken.old tags.old }
+    ensures kept { IsKept N.rules N.start traced.new taken.new tags.new }
+    ensures books { MatchOption result (IsSameBook traced.old taken.old traced.new taken.new) (λ tag. BooksOne tag (book_of traced.old taken.old) (book_of traced.new taken.new)) }
+    ensures more { MatchOption result (length taken.new ≡ length taken.old) (λ _. (length taken.old < length journal.old.entered) × (length taken.new ≡ length taken.old + 1)) }
+    ensures journal { journal.new ≡ journal.old }
+{
+    laws_of_acts();
+    traced.shows_whole();
+    traced.shows_stack();
+    let number = taken.len();
+    if !may_book(traced, tags, journal, words, number) {
+        return None;
+    }
+    let tag = book_entry(traced, journal, number);
+    traced.shows_stack();
+    serve(traced, tags, alloc, history, marks, Event::Act { tag });
+    taken.add(journal, words);
+    Some(tag)
+}
+
+/// Books all entries that are there: the tag of the last, if there was one.
+pub(crate) fn book_all<M: Medium, N: Naming>(
+    traced: &mut Traced<BookedAdapter, N>,
+    taken: &mut Taken<N>,
+    tags: &mut Tags<N>,
+    alloc: Global,
+    history: &chronicle::History<Entry, N>,
+    marks: &Marks,
+    journal: &mut Journal<M, N>,
+    words: &sector_journal::History<N>,
+) -> Option<u8>
+    requires marks { marks.now ≡ (N.marks, N.slots) }
+    requires kept { IsKept N.rules N.start traced.old taken.old tags.old }
+    ensures kept { IsKept N.rules N.start traced.new taken.new tags.new }
+    ensures books { (count : ℕ) × HasBooked result count (book_of traced.old taken.old) (book_of traced.new taken.new) }
+    ensures journal { journal.new ≡ journal.old }
+{
+    let mut last = None;
+    while let Some(tag) = book_next(traced, taken, tags, alloc, history, marks, journal, words) {
+        last = Some(tag);
+    }
+    last
+}

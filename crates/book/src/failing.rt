@@ -1,0 +1,118 @@
+//! The act of a tag's piece that made no entry.
+
+ghost use Rattle.std.specs.Prelude.{◌≡◌, IfSome, MatchOption};
+ghost use Rattle.srb.specs.declared.Srb.{Srb as SrbView};
+ghost use Rattle.srb.specs.declared.Class.TheVariants.{Bad};
+ghost use Rattle.srb.specs.Fate.{class_of};
+ghost use Rattle.adapter.specs.Booking.{IsArmed};
+ghost use Rattle.adapter.specs.Calls.{HasNoneFresh};
+ghost use Rattle.compose.specs.declared.Event.TheVariants.{Act};
+ghost use Rattle.compose.specs.Journaled.{ArmedMayBeBooked, BookedActsAddEntries, IdleActsKeepEntries, StepsStayApart};
+ghost use Rattle.traced.specs.Traced.{IsServed, TracedView};
+ghost use Rattle.book.specs.Acting.{BooksFailure};
+ghost use Rattle.book.specs.Book.{HoldsFailure, StaysKept};
+ghost use Rattle.book.specs.Staying.{ArmedStays};
+
+use crate::name::Naming;
+use crate::noting::serve;
+use crate::tags::Tags;
+use cancel_marks::Marks;
+use chronicle::History;
+use compose::{Event, Reply};
+use disk::Medium;
+use miniport::BookedAdapter;
+use ntstatus::Sense;
+use sector_journal::Journal;
+use srb::Completion;
+use std::alloc::Global;
+use traced::{Entry, Traced};
+
+/// SPC, "Sense key and sense code definitions": HARDWARE ERROR. How a piece fails that the journal doesn't let act.
+const HARDWARE_ERROR: Completion = Completion {
+    srb_status: 0x84,
+    scsi_status: 0x02,
+    sense: Some(Sense {
+        key: 4,
+        asc: 0,
+        ascq: 0,
+    }),
+};
+
+/// The piece on a tag that could act.
+fn armed_piece<N: Naming>(traced: &Traced<BookedAdapter, N>, tag: u8) -> Option<u128>
+    ensures { MatchOption result (HasNoneFresh traced.now.stack.adapter tag) (λ piece. (srb : SrbView) × IsArmed traced.now.stack.adapter tag piece srb) }
+{
+    let (piece, _) = traced.armed(tag)?;
+    Some(piece)
+}
+
+/// The piece of a tag acts in the journal, if it may: how it failed, where it did.
+pub(crate) fn transfer<M: Medium, N: Naming>(
+    traced: &Traced<BookedAdapter, N>,
+    journal: &mut Journal<M, N>,
+    words: &sector_journal::History<N>,
+    tag: u8,
+) -> Option<Completion>
+    ensures { IfSome result (λ completion. class_of completion ≡ Bad completion) }
+{
+    let piece = armed_piece(traced, tag)?;
+    match journal.act(words, tag, piece)? {
+        Ok(_) => None,
+        Err(completion) => Some(completion),
+    }
+}
+
+/// The laws that a failure goes by.
+fn laws_of_failures()
+    ensures armed { ArmedMayBeBooked }
+    ensures booked { BookedActsAddEntries }
+    ensures idle { IdleActsKeepEntries }
+    ensures apart { StepsStayApart }
+    ensures stays { ArmedStays }
+{
+    compose::armed_may_be_booked();
+    compose::booked_acts_add_entries();
+    compose::idle_acts_keep_entries();
+    compose::steps_stay_apart();
+    crate::laws::armed_stays();
+}
+
+/// Books that the piece of a tag failed, if one could act.
+fn book_failure<N: Naming>(traced: &mut Traced<BookedAdapter, N>, tag: u8, completion: Completion)
+    ensures { BooksFailure traced.old tag completion traced.new }
+{
+    if let Some(piece) = armed_piece(traced, tag) {
+        traced.book(tag, piece, Err(completion));
+    }
+}
+
+/// The piece of a tag fails, if one could act, and its act is made.
+pub(crate) fn fail<N: Naming>(
+    traced: &mut Traced<BookedAdapter, N>,
+    tags: &mut Tags<N>,
+    alloc: Global,
+    history: &History<Entry, N>,
+    marks: &Marks,
+    tag: u8,
+    completion: Completion,
+) -> Reply
+    requires marks { marks.now ≡ (N.marks, N.slots) }
+    requires bad { class_of completion ≡ Bad completion }
+    ensures serves { (held : TracedView) × HoldsFailure traced.old (Act tag) held × IsServed 0 held (Act tag) result traced.new }
+    ensures kept { StaysKept N.rules N.start traced.old tags.old traced.new tags.new }
+{
+    laws_of_failures();
+    traced.shows_whole();
+    traced.shows_stack();
+    book_failure(traced, tag, completion);
+    traced.shows_stack();
+    serve(traced, tags, alloc, history, marks, Event::Act { tag })
+}
+
+/// Returns how a piece fails that made no entry: as it failed in the journal, or because it may not act there.
+pub(crate) fn failure(failed: Option<Completion>) -> Completion
+    requires { IfSome failed (λ completion. class_of completion ≡ Bad completion) }
+    ensures { class_of result ≡ Bad result }
+{
+    failed.unwrap_or(HARDWARE_ERROR)
+}

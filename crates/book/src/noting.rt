@@ -1,0 +1,108 @@
+//! Steps of the stack that make no entry, and what the trace tells of the pieces that may act.
+
+ghost use Rattle.std.specs.Prelude.{◌≡◌, ◌++◌, List, false, true, length};
+ghost use Rattle.machine.specs.declared.Label.{Label as LabelView};
+ghost use Rattle.compose.specs.Journaled.{IsNoAct, StepsKeepEntries, StepsStayApart};
+ghost use Rattle.sector_journal.specs.declared.acted.Entered.{Entered};
+ghost use Rattle.traced.specs.Entries.{labels_of};
+ghost use Rattle.traced.specs.Serving.{is_call_event, is_handle_event};
+ghost use Rattle.traced.specs.Traced.{AreLooked, HasCounted, IsServed};
+ghost use Rattle.book.specs.Book.{IsKept, StaysKept};
+ghost use Rattle.book.specs.Staying.{ArmedStays, HaveNotedAll};
+
+use crate::name::Naming;
+use crate::tags::Tags;
+use cancel_marks::Marks;
+use chronicle::History;
+use compose::{Event, Reply};
+use miniport::BookedAdapter;
+use std::alloc::Global;
+use traced::{Entry, Share, Traced};
+
+/// The laws that steps with no entry go by.
+fn laws_of_others()
+    ensures keep { StepsKeepEntries }
+    ensures apart { StepsStayApart }
+    ensures stays { ArmedStays }
+{
+    compose::steps_keep_entries();
+    compose::steps_stay_apart();
+    crate::laws::armed_stays();
+}
+
+/// Notes the labels of the trace from a place on: what was armed for a piece of which one tells is let go.
+pub(crate) fn catch_up<N: Naming>(
+    traced: &Traced<BookedAdapter, N>,
+    tags: &mut Tags<N>,
+    from: usize,
+)
+    ensures { (before labels : List LabelView) → length before ≡ from → labels_of traced.now.entries ≡ before ++ labels → HaveNotedAll labels tags.old tags.new }
+{
+    for place in from..traced.len() {
+        tags.note(&traced.entry(place).label);
+    }
+}
+
+/// Carries out each mark that is seen at an open request.
+pub(crate) fn look<N: Naming>(
+    traced: &mut Traced<BookedAdapter, N>,
+    tags: &mut Tags<N>,
+    alloc: Global,
+    history: &History<Entry, N>,
+    marks: &Marks,
+)
+    requires marks { marks.now ≡ (N.marks, N.slots) }
+    ensures looked { AreLooked N.slots traced.old traced.new }
+    ensures kept { StaysKept N.rules N.start traced.old tags.old traced.new tags.new }
+{
+    laws_of_others();
+    let from = traced.len();
+    traced.look(alloc, history, marks);
+    catch_up(traced, tags, from);
+}
+
+/// Carries out an event that is no call.
+pub(crate) fn serve<N: Naming>(
+    traced: &mut Traced<BookedAdapter, N>,
+    tags: &mut Tags<N>,
+    alloc: Global,
+    history: &History<Entry, N>,
+    marks: &Marks,
+    event: Event,
+) -> Reply
+    requires marks { marks.now ≡ (N.marks, N.slots) }
+    requires no_handle { is_handle_event event ≡ false }
+    requires no_call { is_call_event event ≡ false }
+    ensures served { IsServed 0 traced.old event result traced.new }
+    ensures noted { (labels : List LabelView) → labels_of traced.new.entries ≡ labels_of traced.old.entries ++ labels → HaveNotedAll labels tags.old tags.new }
+    ensures kept { IsNoAct event → StaysKept N.rules N.start traced.old tags.old traced.new tags.new }
+{
+    laws_of_others();
+    let from = traced.len();
+    let reply = traced.serve(alloc, history, marks, event);
+    catch_up(traced, tags, from);
+    reply
+}
+
+/// Carries out a call, with the share of its handle's client.
+pub(crate) fn call<N: Naming>(
+    traced: &mut Traced<BookedAdapter, N>,
+    tags: &mut Tags<N>,
+    alloc: Global,
+    history: &History<Entry, N>,
+    marks: &Marks,
+    share: &mut Share<N>,
+    event: Event,
+) -> Reply
+    requires marks { marks.now ≡ (N.marks, N.slots) }
+    requires call { is_call_event event ≡ true }
+    ensures served { IsServed share.old.client traced.old event result traced.new }
+    ensures counted { HasCounted traced.old share.old share.new traced.new }
+    ensures kept { StaysKept N.rules N.start traced.old tags.old traced.new tags.new }
+{
+    laws_of_others();
+    let from = traced.len();
+    let reply = traced.call(alloc, history, marks, share, event);
+    catch_up(traced, tags, from);
+    reply
+}

@@ -1,0 +1,39 @@
+use Rattle.std.proofs.Common.{◌≡◌, ◌<◌, ℕ, false, inl, inr, ◌∙◌, sym, ap, subst, arith, rules}
+use Rattle.std.specs.Prelude.{◌⊎◌}
+use Rattle.machine.specs.State.{State, opening}
+use Rattle.traced.specs.declared.sizes.Sizes.{Sizes}
+use Rattle.traced.specs.Sizes.{sizes_of}
+use Rattle.book_tests.proofs.opened.start.Goals as goal
+
+some_bytes : (n : ℕ) → (n ≡ 512) ⊎ (n ≡ 4096) → 0 < n
+some_bytes n (inl e) = omega arith
+some_bytes n (inr e) = omega arith
+
+sized : ℕ → ℕ → ℕ → Sizes
+sized bytes count most = record { sector_size = bytes; sectors = count; longest = 65536; max_transfer = most; busy_limit = 17 }
+
+pub returns-in-Ok-clause-sizes : goal.returns-in-Ok-clause-sizes
+unfolding sized
+returns-in-Ok-clause-sizes g c =
+    let first = c.in-Ok.ensures.view in
+    let bytes = c.sector_size.ensures.exact in
+    let count = c.sectors.ensures.exact in
+    let most = c.max_transfer.ensures.exact in
+    let order = c.sector_size.ensures.order in (
+      ap (λ n. sized n c.sectors.result c.max_transfer.result) bytes ∙ ap (λ n. sized _ n c.max_transfer.result) count ∙ ap (sized _ _) most ∙ sym (ap sizes_of first.rules),
+      record {
+        some_bytes = subst (λ (n : ℕ). 0 < n) (sym bytes) (some_bytes _ order.sector_size);
+        some_sectors = let least = order.max_transfer.0 in omega (arith, most);
+      },
+    )
+
+pub returns-in-Ok-clause-opens : goal.returns-in-Ok-clause-opens
+returns-in-Ok-clause-opens g c =
+    let state = c.in-Ok.ensures.view.state in
+    state ∙ ap opening (sym (ap (λ (s : State). s.arrays) state))
+
+pub returns-in-Ok-clause-apart : goal.returns-in-Ok-clause-apart
+returns-in-Ok-clause-apart g c =
+    let same : c.in-Ok.stack.adapter.faithful ≡ c.is_faithful-faithful.result = c.in-Ok.ensures.view.same_disk.faithful ∙ sym c.is_faithful-faithful.ensures in
+    let told : c.is_faithful-faithful.result ≡ false = search rules in
+    same ∙ told

@@ -1,0 +1,27 @@
+use Rattle.std.proofs.Common.{[], ◌∷◌}
+use Rattle.book_tests.proofs.rows.run_on.Given as goal
+
+-- the stack that was just started, its marks, its history and its ledger
+abbrev pub ghosts-carry_out-N-Naming-1 : goal.ghosts-carry_out-N-Naming-1
+ghosts-carry_out-N-Naming-1 g a = record {
+  rules = a.ready.stack.rules;
+  start = a.ready.stack.state;
+  partitions = 0 ∷ 0 ∷ [];
+  handles = a.ready.stack.handles;
+  marks = a.marks.0;
+  slots = a.marks.1;
+}
+
+abbrev pub ghosts-carry_out-N-Naming-2 : goal.ghosts-carry_out-N-Naming-2
+ghosts-carry_out-N-Naming-2 g a = record { table = a.opened }
+
+-- the journal, and the sectors of its medium
+abbrev pub ghosts-carry_out-N-Naming-3 : goal.ghosts-carry_out-N-Naming-3
+ghosts-carry_out-N-Naming-3 g a = record {
+  armings = a.journal.armings;
+  entries = a.journal.entries;
+  opening = (g.M.Medium.view a.medium).sectors;
+}
+
+abbrev pub ghosts-carry_out-N-Ledger : goal.ghosts-carry_out-N-Ledger
+ghosts-carry_out-N-Ledger g a = record { name = a.blank.name; parts = a.blank.parts }

@@ -1,0 +1,325 @@
+//! A book of two clients beside its journal, and what its threads do, row by row.
+
+ghost use Rattle.std.specs.Prelude.{◌≡◌, ◌≤◌, ◌∷◌, [], IfErr, IsFalse, length};
+ghost use Rattle.cancel_marks.specs.Marks.{standing, starting};
+ghost use Rattle.machine.specs.State.{opening};
+ghost use Rattle.srb.specs.declared.Class.TheVariants.{Bad};
+ghost use Rattle.srb.specs.Fate.{class_of};
+ghost use Rattle.traced.specs.Opening.{AreClientsOf, AreHandlesOf, IsFirst};
+ghost use Rattle.traced.specs.Sizes.{AreSizes, sizes_of};
+ghost use Rattle.traced.specs.Sound.{IsNamed};
+
+use crate::opened::Opened as Ready;
+use crate::orders::{Order, step};
+use crate::told::{self, same};
+use book::{Book, Naming};
+use cancel_marks::{Marks, Seat};
+use chronicle::{History, Opened};
+use compose::{Refusal, Reply};
+use disk::Medium;
+use miniport::BookedAdapter;
+use sector_journal::Journal;
+use srb::Completion;
+use std::alloc::{AllocError, Global};
+use std::process::Abort;
+use std::sync::ledger::Blank;
+use std::sync::{Mutex, Wait};
+use traced::{Entry, Share, Traced};
+
+/// One row of a test.
+#[derive(Debug, Clone, Copy)]
+pub(crate) enum Row<'a> {
+    /// An order by a client, and its reply.
+    Step(usize, Order, &'a str),
+    /// A lane has the piece of a tag act in the journal: it makes the entry of this number.
+    Lane(u8, u64),
+    /// A lane has it act, it fails, and the lane hands the failure to the book, whose reply is this.
+    LaneFails(u8, &'a str),
+    /// No piece of the tag may act in the journal, and so this one doesn't.
+    Rests(u8, u128),
+}
+
+// The piece that may act in the journal on a tag.
+fn armed_piece<M: Medium, N: Naming>(journal: &Journal<M, N>, tag: u8) -> Option<u128> {
+    let armed = journal.armed(tag)?;
+    Some(armed.piece)
+}
+
+// The piece of a tag acts in the journal, under its lock alone.
+fn act<M: Medium, N: Naming, R: Wait + Abort>(
+    rt: &R,
+    journal: &Mutex<Journal<M, N>>,
+    words: &sector_journal::History<N>,
+    tag: u8,
+) -> Result<u64, Completion>
+    ensures bad { IfErr result (λ completion. class_of completion ≡ Bad completion) }
+{
+    let mut journal = journal.lock(rt);
+    let Some(piece) = armed_piece(&journal, tag) else {
+        panic!(rt; "nothing may act on tag {tag}")
+    };
+    match journal.act(words, tag, piece) {
+        Some(done) => done,
+        None => panic!(rt; "the piece of tag {tag} didn't act"),
+    }
+}
+
+fn rests<M: Medium, N: Naming, R: Wait + Abort>(
+    rt: &R,
+    journal: &Mutex<Journal<M, N>>,
+    words: &sector_journal::History<N>,
+    tag: u8,
+    piece: u128,
+) {
+    let mut journal = journal.lock(rt);
+    assert!(rt; journal.armed(tag).is_none(), "tag {tag}");
+    assert!(rt; journal.act(words, tag, piece).is_none(), "tag {tag}");
+}
+
+// Whether memory was refused.
+fn is_refused_for_memory(reply: &Reply) -> bool {
+    matches!(
+        reply,
+        Reply::Refused {
+            refusal: Refusal::InsufficientResources,
+            ..
+        }
+    )
+}
+
+// A step that has just this reply. Where it was refused for want of memory, the trace has not grown.
+fn go<M: Medium, N: Naming, R: Wait + Abort>(
+    rt: &R,
+    alloc: Global,
+    book: &mut Book<N>,
+    history: &History<Entry, N>,
+    marks: &Marks,
+    journal: &Mutex<Journal<M, N>>,
+    words: &sector_journal::History<N>,
+    share: &mut Share<N>,
+    order: Order,
+    want: &str,
+) -> Result<(), AllocError>
+    requires marks { marks.now ≡ (N.marks, N.slots) }
+{
+    let before = book.len();
+    let reply = step(
+        rt, alloc, book, history, marks, journal, words, share, order,
+    )?;
+    if is_refused_for_memory(&reply) {
+        assert!(rt; book.len() == before);
+        return Err(AllocError);
+    }
+    same(rt, &told::reply(alloc, &reply)?.as_str(), &want);
+    Ok(())
+}
+
+// The piece of a tag fails in the journal, and then in the book.
+fn fail<M: Medium, N: Naming, R: Wait + Abort>(
+    rt: &R,
+    alloc: Global,
+    book: &mut Book<N>,
+    history: &History<Entry, N>,
+    marks: &Marks,
+    journal: &Mutex<Journal<M, N>>,
+    words: &sector_journal::History<N>,
+    tag: u8,
+    want: &str,
+) -> Result<(), AllocError>
+    requires marks { marks.now ≡ (N.marks, N.slots) }
+{
+    let Err(completion) = act(rt, journal, words, tag) else {
+        panic!(rt; "the piece of tag {tag} didn't fail")
+    };
+    let reply = book.act_failed(rt, alloc, history, marks, journal, words, tag, completion);
+    same(rt, &told::reply(alloc, &reply)?.as_str(), &want);
+    Ok(())
+}
+
+/// The rows of a test one by one.
+pub(crate) fn play<M: Medium, N: Naming, R: Wait + Abort>(
+    rt: &R,
+    alloc: Global,
+    book: &mut Book<N>,
+    history: &History<Entry, N>,
+    marks: &Marks,
+    journal: &Mutex<Journal<M, N>>,
+    words: &sector_journal::History<N>,
+    shares: (&mut Share<N>, &mut Share<N>),
+    rows: &[Row],
+) -> Result<(), AllocError>
+    requires marks { marks.now ≡ (N.marks, N.slots) }
+{
+    let (first, second) = shares;
+    for row in rows {
+        match *row {
+            Row::Step(0, order, want) => go(
+                rt, alloc, book, history, marks, journal, words, first, order, want,
+            )?,
+            Row::Step(_, order, want) => go(
+                rt, alloc, book, history, marks, journal, words, second, order, want,
+            )?,
+            Row::Lane(tag, number) => {
+                assert!(rt; act(rt, journal, words, tag) == Ok(number), "tag {tag}");
+            }
+            Row::LaneFails(tag, want) => fail(
+                rt, alloc, book, history, marks, journal, words, tag, want,
+            )?,
+            Row::Rests(tag, piece) => rests(rt, journal, words, tag, piece),
+        }
+    }
+    Ok(())
+}
+
+/// What is wanted of a test: its rows, the whole trace and all entries once those that are left were booked, the places
+/// of each client's calls and answers, and of request 1 where its answer stands and what it transferred.
+#[derive(Debug, Clone, Copy)]
+pub(crate) struct Run<'a> {
+    pub rows: &'a [Row<'a>],
+    pub trace: &'a str,
+    pub entries: &'a str,
+    pub first: &'a [usize],
+    pub second: &'a [usize],
+    pub answered: Option<usize>,
+    /// In bytes, and 0 where it was answered at once.
+    pub transferred: u64,
+}
+
+// The label at a place was claimed, and stands there.
+fn claim_first<N: Naming>(book: &mut Book<N>, history: &History<Entry, N>) {
+    if book.len() == 0 {
+        return;
+    }
+    let mut claims = book.claim(history, 0);
+    book.check(history, &mut claims);
+}
+
+// What is told of request 1, and of the rows so far.
+fn ask<N: Naming>(rt: &impl Abort, book: &mut Book<N>, run: &Run)
+    requires { N.partitions ≡ 0 ∷ 0 ∷ [] }
+{
+    assert!(rt; book.answer_place(1) == run.answered);
+    let transferred = match book.take_answer(1) {
+        Some(answer) => answer.information,
+        None => 0,
+    };
+    assert!(rt; transferred == run.transferred);
+    assert!(rt; book.row(0) == run.first);
+    assert!(rt; book.row(1) == run.second);
+}
+
+// What is left of the entries is booked.
+fn book_rest<M: Medium, N: Naming, R: Wait + Abort>(
+    rt: &R,
+    alloc: Global,
+    book: &mut Book<N>,
+    history: &History<Entry, N>,
+    marks: &Marks,
+    journal: &Mutex<Journal<M, N>>,
+    words: &sector_journal::History<N>,
+    want: &str,
+) -> Result<(), AllocError>
+    requires marks { marks.now ≡ (N.marks, N.slots) }
+{
+    let mut journal = journal.lock(rt);
+    book.book_rest(alloc, history, marks, &mut journal, words);
+    let entries = told::entries(alloc, journal.entries())?;
+    same(rt, &entries.as_str(), &want);
+    Ok(())
+}
+
+/// A book over this stack, beside a journal of this medium, carries the rows out.
+pub(crate) fn carry_out<M: Medium, N: Naming, R: Wait + Abort>(
+    rt: &R,
+    alloc: Global,
+    ready: Ready<BookedAdapter>,
+    opened: Opened<Entry>,
+    blank: Blank,
+    marks: Marks,
+    owner: Seat,
+    journal: sector_journal::Opened,
+    medium: M,
+    run: &Run,
+) -> Result<(), AllocError>
+    requires history { opened ≡ N.table }
+    requires ledger { (blank.name ≡ N.name) × (blank.parts ≡ N.parts) × (N.parts ≡ 3) }
+    requires named { IsNamed N.rules N.start N.handles N.slots ready.stack }
+    requires partitions { N.partitions ≡ 0 ∷ 0 ∷ [] }
+    requires slots { N.slots ≡ 64 }
+    requires marks { marks ≡ (N.marks, N.slots) }
+    requires owner { owner ≡ standing N.marks 0 (starting 64) }
+    requires first { IsFirst ready.stack }
+    requires opens { ready.stack.state ≡ opening ready.stack.state.arrays }
+    requires clients { AreClientsOf (0 ∷ 0 ∷ []) ready.stack.handles }
+    requires handles { AreHandlesOf (0 ∷ 0 ∷ []) ready.handles.items ready.stack }
+    requires sizes { (ready.sizes ≡ sizes_of ready.stack.rules) × AreSizes ready.sizes }
+    requires apart { IsFalse ready.stack.adapter.faithful }
+    requires journal { journal ≡ record { armings = N.armings; entries = N.entries } }
+    requires medium { (M.view medium).sectors ≡ N.opening }
+    requires some { 1 ≤ length (M.view medium).sectors }
+    requires unfailed { (M.view medium).failures ≡ 0 }
+{
+    let Ready {
+        stack,
+        handles,
+        sizes,
+    } = ready;
+    let (history, whole) = opened.named::<N>();
+    let (tally, mut all) = blank.open::<N>();
+    let (mut journal, words) = Journal::<M, N>::new(alloc, journal, medium, 2, false)?;
+    let mut first = Share::new(0, handles[0], all.split_off(1, 0));
+    let mut second = Share::new(1, handles[1], all.split_off(1, 0));
+    let traced = Traced::new(alloc, stack, whole, owner, tally, 2, 64, sizes)?;
+    let mut book = Book::new(alloc, traced, &mut journal, &words)?;
+    let journal = Mutex::new(journal);
+    play(
+        rt,
+        alloc,
+        &mut book,
+        &history,
+        &marks,
+        &journal,
+        &words,
+        (&mut first, &mut second),
+        run.rows,
+    )?;
+    book_rest(
+        rt,
+        alloc,
+        &mut book,
+        &history,
+        &marks,
+        &journal,
+        &words,
+        run.entries,
+    )?;
+    claim_first(&mut book, &history);
+    ask(rt, &mut book, run);
+    all.merge(first.into_part());
+    all.merge(second.into_part());
+    book.audit(&mut all);
+    compare(rt, alloc, book, run)
+}
+
+// The trace and the rows of a book are those that are wanted.
+fn compare<N: Naming>(
+    rt: &impl Abort,
+    alloc: Global,
+    book: Book<N>,
+    run: &Run,
+) -> Result<(), AllocError>
+    requires { N.partitions ≡ 0 ∷ 0 ∷ [] }
+{
+    let (trace, mut rows, _receipts) = book.into_rows();
+    same(
+        rt,
+        &told::trace(alloc, trace.as_slice())?.as_str(),
+        &run.trace,
+    );
+    let (Some(second), Some(first), None) = (rows.pop(), rows.pop(), rows.pop()) else {
+        panic!(rt; "not two rows")
+    };
+    assert!(rt; first.into_places().as_slice() == run.first);
+    assert!(rt; second.into_places().as_slice() == run.second);
+    Ok(())
+}

@@ -1,0 +1,14 @@
+//! Tests of a book beside its journal, in one thread: what pieces do in the journal is booked in the order of its entries,
+//! and what a trace and its entries then are, worked by hand.
+#![tactic(auto)]
+
+#[cfg(test)]
+mod desk;
+#[cfg(test)]
+mod opened;
+#[cfg(test)]
+mod orders;
+#[cfg(test)]
+mod rows;
+#[cfg(test)]
+mod told;

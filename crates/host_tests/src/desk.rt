@@ -1,0 +1,288 @@
+//! A host of two clients, and what is asked of it.
+
+ghost use Rattle.std.specs.Prelude.{◌≡◌, ◌≤◌, ◌∷◌, [], ◌+◌, IfOk, length, vec_capacity};
+ghost use Rattle.host.specs.Clients.{AreNumbered};
+ghost use Rattle.host.specs.Opening.{IsDiskFor};
+
+use crate::disks::TWO;
+use crate::expect::{same, same_at};
+use crate::opening::open_host;
+use crate::replaying::replay;
+use crate::user::{Deed, User};
+use crate::{texts, told};
+use compose::{Refusal as Why, Reply};
+use disk::Medium;
+use host::{Client, Closed, Host, Keeper, Naming, Opened};
+use lanes::{Desk, Step};
+use machine::Label;
+use sector_journal::Entered;
+use srb::DeviceLabel;
+use std::alloc::{AllocError, Global};
+use std::process::Abort;
+use std::sync::Wait;
+use traced::Entry;
+
+/// What is asked of a host itself.
+#[derive(Debug, Clone, Copy)]
+pub(crate) enum Drive {
+    Act(u8),
+    Finish(u8),
+    Reset,
+    QueryRemove,
+    CancelRemove,
+    Remove,
+    SurpriseRemove,
+}
+
+/// One row of a test, with its outcome.
+#[derive(Debug, Clone, Copy)]
+pub(crate) enum Row<'a> {
+    By(usize, Deed, &'a str),
+    Host(Drive, &'a str),
+    /// What a tag's lane has to do, and does.
+    Lane(u8, Step),
+}
+
+/// What is wanted of a client: the places of its calls, of the answers that it was told of, and of its row.
+#[derive(Debug, Clone, Copy)]
+pub(crate) struct Part<'a> {
+    pub calls: &'a [usize],
+    pub answers: &'a [usize],
+    pub row: &'a [usize],
+}
+
+/// What is wanted of a test.
+#[derive(Debug, Clone, Copy)]
+pub(crate) struct Run<'a> {
+    pub rows: &'a [Row<'a>],
+    pub trace: &'a str,
+    pub first: Part<'a>,
+    pub second: Part<'a>,
+}
+
+// A step that is no client's.
+fn step<M: Medium, N: Naming, R: Wait>(
+    rt: &R,
+    host: &Host<M, N>,
+    keeper: &mut Keeper<N>,
+    drive: Drive,
+) -> Reply {
+    match drive {
+        Drive::Act(tag) => host.act(rt, tag),
+        Drive::Finish(tag) => host.finish(rt, tag),
+        Drive::Reset => host.reset(rt),
+        Drive::QueryRemove => host.query_remove(rt, keeper),
+        Drive::CancelRemove => host.cancel_remove(rt, keeper),
+        Drive::Remove => host.remove(rt, keeper),
+        Drive::SurpriseRemove => host.surprise_remove(rt, keeper),
+    }
+}
+
+// One that has just this reply.
+fn go<M: Medium, N: Naming, R: Wait + Abort>(
+    rt: &R,
+    alloc: Global,
+    host: &Host<M, N>,
+    keeper: &mut Keeper<N>,
+    drive: Drive,
+    want: &str,
+) -> Result<(), AllocError> {
+    let reply = step(rt, host, keeper, drive);
+    if let Reply::Refused {
+        refusal: Why::InsufficientResources,
+        ..
+    } = &reply
+    {
+        return Err(AllocError);
+    }
+    same_at(rt, &told::reply(alloc, &reply)?.as_str(), &want, &drive);
+    Ok(())
+}
+
+// A lane's step.
+fn serve<D: Desk, R: Wait + Abort>(rt: &R, desk: &D, tag: u8, want: Step) {
+    let step = desk.next(rt, tag);
+    same(rt, &step, &want);
+    if step == Step::Ready {
+        desk.act(rt, tag);
+        desk.finish(rt, tag);
+    }
+    if step == Step::Ended {
+        assert!(rt; desk.rest(rt, 0).is_removed);
+    }
+}
+
+// The rows of a test one by one.
+fn play<M: Medium, N: Naming, R: Wait + Abort>(
+    rt: &R,
+    alloc: Global,
+    host: &Host<M, N>,
+    keeper: &mut Keeper<N>,
+    first: &mut User<N>,
+    second: &mut User<N>,
+    rows: &[Row],
+) -> Result<(), AllocError>
+    ensures first { first.new.client ≡ first.old.client }
+    ensures second { second.new.client ≡ second.old.client }
+{
+    for row in rows {
+        match *row {
+            Row::By(0, deed, want) => first.go(rt, alloc, host, deed, want)?,
+            Row::By(_, deed, want) => second.go(rt, alloc, host, deed, want)?,
+            Row::Host(drive, want) => go(rt, alloc, host, keeper, drive, want)?,
+            Row::Lane(tag, want) => serve(rt, host, tag, want),
+        }
+    }
+    Ok(())
+}
+
+/// Two clients, the first of them first.
+pub(crate) fn two_of<N: Naming>(rt: &impl Abort, clients: Vec<Client<N>>) -> (Client<N>, Client<N>)
+    requires two { AreNumbered 2 clients.items }
+    ensures first { result.0.client ≡ 0 }
+    ensures second { result.1.client ≡ 1 }
+{
+    let mut clients = clients;
+    let second = clients.pop();
+    let first = clients.pop();
+    match (first, second) {
+        (Some(first), Some(second)) => (first, second),
+        _ => panic!(rt; "not two clients"),
+    }
+}
+
+// The rows of a test; then both were told what is wanted.
+fn play_and_compare<M: Medium, N: Naming, R: Wait + Abort>(
+    rt: &R,
+    alloc: Global,
+    host: &Host<M, N>,
+    keeper: &mut Keeper<N>,
+    first: &mut User<N>,
+    second: &mut User<N>,
+    run: &Run,
+) -> Result<(), AllocError>
+    ensures first { first.new.client ≡ first.old.client }
+    ensures second { second.new.client ≡ second.old.client }
+{
+    play(rt, alloc, host, keeper, first, second, run.rows)?;
+    first.compare(rt, 0, run.first.calls, run.first.answers);
+    second.compare(rt, 1, run.second.calls, run.second.answers);
+    Ok(())
+}
+
+/// Both clients, at places that were made for them.
+pub(crate) fn given_back<N: Naming>(
+    mut back: Vec<Client<N>>,
+    first: Client<N>,
+    second: Client<N>,
+) -> Vec<Client<N>>
+    requires places { (back.items ≡ []) × (2 ≤ vec_capacity back) }
+    requires first { first.client ≡ 0 }
+    requires second { second.client ≡ 1 }
+    ensures { AreNumbered 2 result.items }
+{
+    back.push_reserved(first);
+    back.push_reserved(second);
+    back
+}
+
+// Two clients play the rows, and come back.
+fn play_by_two<M: Medium, N: Naming, R: Wait + Abort>(
+    rt: &R,
+    alloc: Global,
+    host: &Host<M, N>,
+    keeper: &mut Keeper<N>,
+    clients: Vec<Client<N>>,
+    run: &Run,
+) -> Result<Vec<Client<N>>, AllocError>
+    requires two { AreNumbered 2 clients.items }
+    ensures two { IfOk result (λ back. AreNumbered 2 back.items) }
+{
+    let back = Vec::with_capacity(alloc, 2)?;
+    let (first, second) = two_of(rt, clients);
+    let (mut first, mut second) = (User::new(first), User::new(second));
+    let played = play_and_compare(rt, alloc, host, keeper, &mut first, &mut second, run);
+    let back = given_back(back, first.into_client(), second.into_client());
+    played?;
+    Ok(back)
+}
+
+// Plays the rows on a host of two clients, and closes it.
+fn play_and_close<M: Medium, N: Naming, R: Wait + Abort>(
+    rt: &R,
+    alloc: Global,
+    opened: Opened,
+    histories: sector_journal::Opened,
+    medium: M,
+    run: &Run,
+) -> Result<(Closed<N>, M), AllocError>
+    requires named { opened ≡ record { rules = N.rules; opening = N.start; partitions = N.partitions; handles = N.handles; marks = N.marks; slots = N.slots; table = N.table; name = N.name; parts = N.parts; gate = N.gate } }
+    requires histories { histories ≡ record { armings = N.armings; entries = N.entries } }
+    requires sectors { (M.view medium).sectors ≡ N.opening }
+    requires unfailed { (M.view medium).failures ≡ 0 }
+    requires disk { IsDiskFor N.rules (M.view medium) }
+    requires partitions { length N.partitions ≡ 2 }
+    requires parts { N.parts ≡ length N.partitions + 1 }
+{
+    let (host, keeper, clients) = open_host::<M, N>(alloc, opened, histories, medium)?;
+    let mut keeper = keeper;
+    let back = play_by_two(rt, alloc, &host, &mut keeper, clients, run)?;
+    Ok(host.close(keeper, back))
+}
+
+/// The acts of a trace are of all entries, in order.
+pub(crate) fn compare_acts(rt: &impl Abort, trace: &[Entry], entries: &[Entered]) {
+    let mut entries = entries.iter();
+    for entry in trace {
+        if let Label::Device(DeviceLabel::Act { piece, bytes }) = &entry.label {
+            let Some(entered) = entries.next() else {
+                panic!(rt; "more acts than entries")
+            };
+            assert!(rt; *piece == entered.entry.piece);
+            assert!(rt; bytes.as_slice() == entered.entry.bytes.as_slice());
+        }
+    }
+    assert!(rt; entries.next().is_none(), "more entries than acts");
+}
+
+/// A host of two clients carries the rows out.
+pub(crate) fn carry_out<M: Medium, N: Naming, R: Wait + Abort>(
+    rt: &R,
+    alloc: Global,
+    opened: Opened,
+    histories: sector_journal::Opened,
+    medium: M,
+    run: &Run,
+) -> Result<(), AllocError>
+    requires named { opened ≡ record { rules = N.rules; opening = N.start; partitions = N.partitions; handles = N.handles; marks = N.marks; slots = N.slots; table = N.table; name = N.name; parts = N.parts; gate = N.gate } }
+    requires histories { histories ≡ record { armings = N.armings; entries = N.entries } }
+    requires sectors { (M.view medium).sectors ≡ N.opening }
+    requires unfailed { (M.view medium).failures ≡ 0 }
+    requires disk { IsDiskFor N.rules (M.view medium) }
+    requires partitions { length N.partitions ≡ 2 }
+    requires parts { N.parts ≡ length N.partitions + 1 }
+{
+    let (closed, mut medium) = play_and_close::<M, N, R>(
+        rt, alloc, opened, histories, medium, run,
+    )?;
+    let Closed {
+        trace,
+        rows,
+        entries,
+        receipts: _,
+    } = closed;
+    replay(rt, alloc, TWO, &mut medium, entries.as_slice())?;
+    compare_acts(rt, trace.as_slice(), entries.as_slice());
+    same(
+        rt,
+        &texts::trace(alloc, trace.as_slice())?.as_str(),
+        &run.trace,
+    );
+    let mut rows = rows;
+    let (Some(second), Some(first), None) = (rows.pop(), rows.pop(), rows.pop()) else {
+        panic!(rt; "not two rows")
+    };
+    assert!(rt; first.into_places().as_slice() == run.first.row);
+    assert!(rt; second.into_places().as_slice() == run.second.row);
+    Ok(())
+}

@@ -1,0 +1,50 @@
+//! Rounds of clients in threads of their own: what acts did replays to the sectors.
+
+use crate::disks::{ONE, disk, start_for};
+use crate::replaying::replay;
+use disk::Medium;
+use rounds::{Done, Plan, RoundsFault, run};
+use std::alloc::{AllocError, Global};
+use std::process::Abort;
+use std::sync::Wait;
+use std::test::Fail;
+use std::thread::Threads;
+
+const PLAN: Plan = Plan {
+    clients: 3,
+    rounds: 2,
+    sector_size: 512,
+    depth: 2,
+    write_protected: false,
+};
+
+// Three clients write and read twice each: each call has an entry, and they replay to the sectors.
+fn run_and_replay<M: Medium + Send, R: Threads + Wait + Sync + Abort>(
+    rt: &R,
+    alloc: Global,
+    medium: M,
+) -> Result<(), AllocError> {
+    let (stack, sizes) = start_for(rt, alloc, &medium, ONE, 2, 4)?;
+    match run(rt, alloc, stack, medium, sizes, 4, PLAN) {
+        Ok(done) => {
+            let Done {
+                tally,
+                entries,
+                medium,
+            } = done;
+            assert!(rt; tally.answered == 12 && tally.differing == 0);
+            assert!(rt; entries.len() == 12);
+            let mut medium = medium;
+            replay(rt, alloc, ONE, &mut medium, entries.as_slice())
+        }
+        Err(RoundsFault::NoMemory) => Err(AllocError),
+        Err(fault) => panic!(rt; "{fault}"),
+    }
+}
+
+#[test]
+fn twelve_entries_replay(rt: HostRuntime) -> Result<(), Fail> {
+    let alloc = rt.alloc();
+    run_and_replay(&rt, alloc, disk(alloc, ONE)?)?;
+    Ok(())
+}

@@ -1,5 +1,0 @@
-pub mod Acting
-pub mod Arming
-pub mod Book
-pub mod Staying
-pub mod Taken

@@ -1,7 +1,0 @@
-use std::marker::Brand;
-
-/// Names one book and its journal, for contracts alone: what the book was opened with, and the histories of both. Each call
-/// of a program picks it.
-pub trait Naming: traced::Naming + sector_journal::Naming {}
-
-impl Naming for Brand {}

@@ -1,9 +1,0 @@
-pub mod Receipts
-pub mod Calls
-pub mod Tickets
-pub mod Accounts
-pub mod Clients
-pub mod Opening
-pub mod Replies
-pub mod Keepers
-pub mod Closing

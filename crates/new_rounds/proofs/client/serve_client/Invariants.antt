@@ -1,5 +1,0 @@
-use Rattle.std.proofs.Common.{◌≡◌, ◌≤◌, ◌*◌}
-use Rattle.new_rounds.proofs.client.serve_client.Given as goal
-
-abbrev pub invariant-loop-j : goal.invariant-loop-j
-invariant-loop-j g l = (l.client.client ≡ l.fn.client.client) × (l.tally.answered ≤ 2 * l.j)

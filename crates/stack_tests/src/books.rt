@@ -1,6 +1,0 @@
-//! A book in one thread.
-
-mod desk;
-mod opened;
-mod rows;
-mod told;
