@@ -24,9 +24,7 @@ mod rule;
 
 use atomic_table::Shared;
 pub use rule::Naming;
-use rule::{
-    About, Add, Again, Apart, Check, Claim, Gather, HistoryRule, Nobody, Place, View, Word,
-};
+use rule::{About, Add, Again, Apart, Check, Claim, Gather, HistoryRule, Nobody, Seat, View, Word};
 use std::alloc::{AllocError, Global};
 use std::marker::{Brand, Model, PhantomData};
 use std::mem;
@@ -34,7 +32,7 @@ use std::mem;
 /// A new history, which is empty and has no name yet. Contracts see it as its identity.
 pub struct Opened<E> {
     word: Word<E>,
-    place: Place<E>,
+    seat: Seat<E>,
 }
 
 impl<E> Model for Opened<E> {
@@ -46,7 +44,7 @@ impl<E> Model for Opened<E> {
 
     ghost view = { λ o. o.word.shared.table_id };
 
-    ghost invariant = { λ o. (o.word.shared.table_id.words ≡ 1) × (o.place.table_id ≡ o.word.shared.table_id) × (o.place.me ≡ (keeper [], [])) };
+    ghost invariant = { λ o. (o.word.shared.table_id.words ≡ 1) × (o.seat.table_id ≡ o.word.shared.table_id) × (o.seat.me ≡ (keeper [], [])) };
 }
 
 /// The word that all threads share, by reference. It says nothing: a call only loads it, up to four times.
@@ -61,7 +59,7 @@ pub struct History<E, N: Naming> {
 /// What one thread alone has: it knows the whole history, and can add to it. Contracts see it as the entries.
 #[derive(Drop)]
 pub struct Whole<E, N: Naming> {
-    place: Place<E>,
+    seat: Seat<E>,
     of: PhantomData<N>,
 }
 
@@ -71,15 +69,15 @@ impl<E, N: Naming> Model for Whole<E, N> {
 
     ghost Value = { List E };
 
-    ghost view = { λ w. w.place.me.0.entries };
+    ghost view = { λ w. w.seat.me.0.entries };
 
-    ghost invariant = { λ w. (w.place.table_id ≡ N.table) × (w.place.me ≡ (keeper w.place.me.0.entries, [])) };
+    ghost invariant = { λ w. (w.seat.table_id ≡ N.table) × (w.seat.me ≡ (keeper w.seat.me.0.entries, [])) };
 }
 
 /// Places of the history and the entries that stand there, for good. Contracts see it as the pairs.
 #[derive(Drop)]
 pub struct Claims<E, N: Naming> {
-    place: Place<E>,
+    seat: Seat<E>,
     of: PhantomData<N>,
 }
 
@@ -89,9 +87,9 @@ impl<E, N: Naming> Model for Claims<E, N> {
 
     ghost Value = { List (ℕ × E) };
 
-    ghost view = { λ c. c.place.me.0.claims };
+    ghost view = { λ c. c.seat.me.0.claims };
 
-    ghost invariant = { λ c. (c.place.table_id ≡ N.table) × (c.place.me ≡ (bearer c.place.me.0.claims, [])) };
+    ghost invariant = { λ c. (c.seat.table_id ≡ N.table) × (c.seat.me ≡ (bearer c.seat.me.0.claims, [])) };
 }
 
 impl<E> Opened<E> {
@@ -102,8 +100,8 @@ impl<E> Opened<E> {
     /// Where the memory for its word was refused.
     #[tactic(auto, using(crate::proofs::Steps::begins))]
     pub fn new(alloc: Global) -> Result<Opened<E>, AllocError> {
-        let (word, place) = Word::of_words(alloc, &[0], &())?;
-        Ok(Opened { word, place })
+        let (word, seat) = Word::of_words(alloc, &[0], &())?;
+        Ok(Opened { word, seat })
     }
 
     /// The history under a name: the word that is shared, and the one [`Whole`].
@@ -111,14 +109,14 @@ impl<E> Opened<E> {
         requires { self ≡ N.table }
         ensures { result.1 ≡ [] }
     {
-        let Opened { word, place } = self;
+        let Opened { word, seat } = self;
         (
             History {
                 word,
                 of: PhantomData,
             },
             Whole {
-                place,
+                seat,
                 of: PhantomData,
             },
         )
@@ -130,7 +128,7 @@ impl<E, N: Naming> Whole<E, N> {
     pub fn add(&mut self, history: &History<E, N>, entry: &E)
         ensures { self.new ≡ self.old ++ entry.now ∷ [] }
     {
-        add::<E, Brand>(&history.word.shared, &mut self.place, entry);
+        add::<E, Brand>(&history.word.shared, &mut self.seat, entry);
     }
 
     /// A claim on a place, by the entry that stands there. Places count from 0.
@@ -139,9 +137,9 @@ impl<E, N: Naming> Whole<E, N> {
         ensures same { self.new ≡ self.old }
         ensures claim { result ≡ (at, entry.now) ∷ [] }
     {
-        let place = claim::<E, Brand>(&history.word.shared, &mut self.place, at, entry);
+        let seat = claim::<E, Brand>(&history.word.shared, &mut self.seat, at, entry);
         Claims {
-            place,
+            seat,
             of: PhantomData,
         }
     }
@@ -152,9 +150,9 @@ impl<E, N: Naming> Whole<E, N> {
         ensures same { self.new ≡ self.old }
         ensures none { result ≡ [] }
     {
-        let place = history.word.shared.split_seat::<Nobody>(&mut self.place);
+        let seat = history.word.shared.split_seat::<Nobody>(&mut self.seat);
         Claims {
-            place,
+            seat,
             of: PhantomData,
         }
     }
@@ -175,14 +173,14 @@ impl<E, N: Naming> Whole<E, N> {
         ensures same { (self.new ≡ self.old) × (result ≡ claims) }
         ensures stand { AllStand self.old claims }
     {
-        let Claims { place, of } = claims;
+        let Claims { seat, of } = claims;
         history
             .word
             .shared
-            .join_seat::<Gather>(&mut self.place, place);
-        history.word.shared.load::<Check>(&mut self.place, 0);
-        let place = history.word.shared.split_seat::<Apart>(&mut self.place);
-        Claims { place, of }
+            .join_seat::<Gather>(&mut self.seat, seat);
+        history.word.shared.load::<Check>(&mut self.seat, 0);
+        let seat = history.word.shared.split_seat::<Apart>(&mut self.seat);
+        Claims { seat, of }
     }
 }
 
@@ -192,11 +190,11 @@ impl<E, N: Naming> Claims<E, N> {
     pub fn join(&mut self, history: &History<E, N>, other: Claims<E, N>)
         ensures { self.new ≡ self.old ++ other }
     {
-        let Claims { place, of: _ } = other;
+        let Claims { seat, of: _ } = other;
         history
             .word
             .shared
-            .join_seat::<Gather>(&mut self.place, place);
+            .join_seat::<Gather>(&mut self.seat, seat);
     }
 
     /// Copies the claims.
@@ -205,9 +203,9 @@ impl<E, N: Naming> Claims<E, N> {
         ensures same { self.new ≡ self.old }
         ensures again { result ≡ self.old }
     {
-        let place = history.word.shared.split_seat::<Again>(&mut self.place);
+        let seat = history.word.shared.split_seat::<Again>(&mut self.seat);
         Claims {
-            place,
+            seat,
             of: PhantomData,
         }
     }
@@ -226,34 +224,30 @@ pub fn claims_stand<E>()
 {}
 
 // Adds an entry, which the call picks.
-fn add<E, P: About<E>>(
-    shared: &Shared<(), View<E>, (), HistoryRule>,
-    place: &mut Place<E>,
-    entry: &E,
-)
-    requires table { (place.old.table_id ≡ shared.now.table_id) × (shared.now.table_id.words ≡ 1) }
-    requires keeper { place.old.me ≡ (keeper place.old.me.0.entries, []) }
+fn add<E, P: About<E>>(shared: &Shared<(), View<E>, (), HistoryRule>, seat: &mut Seat<E>, entry: &E)
+    requires table { (seat.old.table_id ≡ shared.now.table_id) × (shared.now.table_id.words ≡ 1) }
+    requires keeper { seat.old.me ≡ (keeper seat.old.me.0.entries, []) }
     requires entry { P.items ≡ entry.now ∷ [] }
-    ensures table { place.new.table_id ≡ place.old.table_id }
-    ensures added { place.new.me ≡ (keeper (place.old.me.0.entries ++ entry.now ∷ []), []) }
+    ensures table { seat.new.table_id ≡ seat.old.table_id }
+    ensures added { seat.new.me ≡ (keeper (seat.old.me.0.entries ++ entry.now ∷ []), []) }
 {
-    shared.load::<Add<P>>(place, 0);
+    shared.load::<Add<P>>(seat, 0);
 }
 
 // A claim, which the call picks.
 fn claim<E, P: About<(usize, E)>>(
     shared: &Shared<(), View<E>, (), HistoryRule>,
-    place: &mut Place<E>,
+    seat: &mut Seat<E>,
     at: usize,
     entry: &E,
-) -> Place<E>
-    requires table { (place.old.table_id ≡ shared.now.table_id) × (shared.now.table_id.words ≡ 1) }
-    requires keeper { place.old.me ≡ (keeper place.old.me.0.entries, []) }
+) -> Seat<E>
+    requires table { (seat.old.table_id ≡ shared.now.table_id) × (shared.now.table_id.words ≡ 1) }
+    requires keeper { seat.old.me ≡ (keeper seat.old.me.0.entries, []) }
     requires claim { P.items ≡ (at, entry.now) ∷ [] }
-    requires stands { slice_get place.old.me.0.entries at ≡ Some entry.now }
-    ensures table { (place.new.table_id ≡ place.old.table_id) × (result.table_id ≡ place.old.table_id) }
-    ensures same { place.new.me ≡ place.old.me }
+    requires stands { slice_get seat.old.me.0.entries at ≡ Some entry.now }
+    ensures table { (seat.new.table_id ≡ seat.old.table_id) × (result.table_id ≡ seat.old.table_id) }
+    ensures same { seat.new.me ≡ seat.old.me }
     ensures claim { result.me ≡ (bearer ((at, entry.now) ∷ []), []) }
 {
-    shared.split_seat::<Claim<P>>(place)
+    shared.split_seat::<Claim<P>>(seat)
 }

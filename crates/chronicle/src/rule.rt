@@ -3,7 +3,7 @@ ghost use Rattle.std.specs.Prelude.{List, ◌∷◌, []};
 ghost use Rattle.atomic_table.specs.Seated.{TableId};
 ghost use Rattle.chronicle.specs.History.{Adds, Checks, Kept, bearer, keeper, no_table, nobody, with_claims_of, without_claims};
 
-use atomic_table::{Join, Play, Seat, Split, Table, TableRule};
+use atomic_table::{Join, Play, Split, Table, TableRule};
 use std::alloc::Global;
 use std::collections::LinkedList;
 use std::marker::{Brand, PhantomData};
@@ -38,7 +38,7 @@ impl<E> TableRule<(), View<E>, ()> for HistoryRule {
 
 pub type Word<E> = Table<(), View<E>, (), HistoryRule, Global>;
 
-pub type Place<E> = Seat<(), View<E>>;
+pub type Seat<E> = atomic_table::Seat<(), View<E>>;
 
 /// What a step is about. Each call picks it.
 pub trait About<T> {

@@ -20,7 +20,7 @@ ghost use Rattle.lanes.specs.Queue.{HasPut, HasTaken, IsLane, IsWorker, QueueVie
 
 mod rule;
 
-use rule::{Another, Item, Place, Put, Queue, Take};
+use rule::{Another, Item, Put, Queue, QueuePass, Take};
 use std::alloc::{AllocError, Global};
 use std::marker::Model;
 use std::sync::Wait;
@@ -96,7 +96,7 @@ impl Model for Completions {
 /// took.
 #[derive(Drop)]
 pub struct Pass {
-    place: Place,
+    queue_pass: QueuePass,
     /// The count of the next item that it puts.
     count: u64,
 }
@@ -107,16 +107,16 @@ impl Model for Pass {
 
     ghost Value = { Standing };
 
-    ghost view = { λ p. record { queue = p.place.table_id; view = p.place.me.0.client } };
+    ghost view = { λ p. record { queue = p.queue_pass.table_id; view = p.queue_pass.me.0.client } };
 
-    ghost invariant = { λ p. (p.place.me.1 ≡ []) × (length p.place.me.0.client.put ≡ p.count) };
+    ghost invariant = { λ p. (p.queue_pass.me.1 ≡ []) × (length p.queue_pass.me.0.client.put ≡ p.count) };
 }
 
 // The passes of that many lanes, by rising tags.
 fn lane_passes(
     alloc: Global,
     queue: &Queue,
-    worker: &mut Place,
+    worker: &mut QueuePass,
     lanes: u8,
 ) -> Result<Vec<Pass>, NoMemory>
     requires queue { (worker.old.table_id ≡ queue.now.table.shared.table_id) × (worker.old.me.1 ≡ []) }
@@ -127,8 +127,14 @@ fn lane_passes(
 {
     let mut passes = Vec::new(alloc);
     for _ in 0..lanes {
-        let place = queue.another::<Another>(worker);
-        if passes.push(Pass { place, count: 0 }).is_err() {
+        let queue_pass = queue.another::<Another>(worker);
+        if passes
+            .push(Pass {
+                queue_pass,
+                count: 0,
+            })
+            .is_err()
+        {
             return Err(NoMemory);
         }
     }
@@ -165,7 +171,7 @@ impl Completions {
         let (queue, mut worker) = Queue::ruled(alloc, capacity)?;
         let mut passes = lane_passes(alloc, &queue, &mut worker, lanes)?;
         let worker = Pass {
-            place: worker,
+            queue_pass: worker,
             count: 0,
         };
         if passes.push(worker).is_err() {
@@ -189,31 +195,31 @@ impl Completions {
         if pass.count == u64::MAX {
             return Err(item);
         }
-        self.push(rt, &mut pass.place, item)?;
+        self.push(rt, &mut pass.queue_pass, item)?;
         pass.count += 1;
         Ok(())
     }
 
     // The two kinds of step on the queue.
 
-    fn push<R: Wait>(&self, rt: &R, place: &mut Place, item: Item) -> Result<(), Item>
-        requires queue { (place.old.table_id ≡ self.now.id) × (place.old.me.1 ≡ []) }
-        requires lane { place.old.me.0.client.takes ≡ false }
-        requires next { item ≡ item_of place.old.me.0.client.tag (length place.old.me.0.client.put) }
-        ensures queue { (place.new.table_id ≡ self.now.id) × (place.new.me.1 ≡ []) }
-        ensures put { MatchResult result (λ _. place.new.me.0.client ≡ with_put place.old.me.0.client item) (λ x. (x ≡ item) × (place.new.me.0.client ≡ place.old.me.0.client) × StoodAt self.now.capacity place.old.me.0.client) }
+    fn push<R: Wait>(&self, rt: &R, queue_pass: &mut QueuePass, item: Item) -> Result<(), Item>
+        requires queue { (queue_pass.old.table_id ≡ self.now.id) × (queue_pass.old.me.1 ≡ []) }
+        requires lane { queue_pass.old.me.0.client.takes ≡ false }
+        requires next { item ≡ item_of queue_pass.old.me.0.client.tag (length queue_pass.old.me.0.client.put) }
+        ensures queue { (queue_pass.new.table_id ≡ self.now.id) × (queue_pass.new.me.1 ≡ []) }
+        ensures put { MatchResult result (λ _. queue_pass.new.me.0.client ≡ with_put queue_pass.old.me.0.client item) (λ x. (x ≡ item) × (queue_pass.new.me.0.client ≡ queue_pass.old.me.0.client) × StoodAt self.now.capacity queue_pass.old.me.0.client) }
     {
-        self.queue.push_as::<Put, R>(rt, place, item)
+        self.queue.push_as::<Put, R>(rt, queue_pass, item)
     }
 
     // There is no item only where the queue was empty at one moment of the call.
-    fn pop<R: Wait>(&self, rt: &R, place: &mut Place) -> Option<Item>
-        requires queue { (place.old.table_id ≡ self.now.id) × (place.old.me.1 ≡ []) }
-        requires worker { place.old.me.0.client.takes ≡ true }
-        ensures queue { (place.new.table_id ≡ self.now.id) × (place.new.me.1 ≡ []) }
-        ensures taken { MatchOption result ((place.new.me.0.client ≡ place.old.me.0.client) × StoodAt 0 place.old.me.0.client) (λ x. place.new.me.0.client ≡ with_taken place.old.me.0.client x) }
+    fn pop<R: Wait>(&self, rt: &R, queue_pass: &mut QueuePass) -> Option<Item>
+        requires queue { (queue_pass.old.table_id ≡ self.now.id) × (queue_pass.old.me.1 ≡ []) }
+        requires worker { queue_pass.old.me.0.client.takes ≡ true }
+        ensures queue { (queue_pass.new.table_id ≡ self.now.id) × (queue_pass.new.me.1 ≡ []) }
+        ensures taken { MatchOption result ((queue_pass.new.me.0.client ≡ queue_pass.old.me.0.client) × StoodAt 0 queue_pass.old.me.0.client) (λ x. queue_pass.new.me.0.client ≡ with_taken queue_pass.old.me.0.client x) }
     {
-        self.queue.pop_as::<Take, R>(rt, place)
+        self.queue.pop_as::<Take, R>(rt, queue_pass)
     }
 }
 
@@ -267,7 +273,7 @@ pub fn serve_completions<R: Wait, D: Desk, T: Turnstile>(
         is_removed: false,
     };
     for _ in rt.forever() {
-        match completions.pop(rt, &mut pass.place) {
+        match completions.pop(rt, &mut pass.queue_pass) {
             Some(item) => {
                 turnstile.pass(rt, item.tag);
                 desk.finish(rt, item.tag);

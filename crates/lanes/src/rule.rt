@@ -38,7 +38,7 @@ impl Protocol<Item, View> for QueueRule {
 
 pub type Queue = RuledArrayQueue<Item, View, QueueRule>;
 
-pub type Place = Pass<Item, View>;
+pub type QueuePass = Pass<Item, View>;
 
 /// A lane puts an item.
 pub struct Put;
