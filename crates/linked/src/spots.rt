@@ -9,7 +9,7 @@ use std::marker::Model;
 
 /// An item, linked to the one before and the one behind it.
 #[derive(Drop)]
-pub struct Entry<T> {
+pub struct Node<T> {
     pub item: T,
     pub before: Option<usize>,
     pub after: Option<usize>,
@@ -18,16 +18,16 @@ pub struct Entry<T> {
 /// An entry or none at each spot. Contracts see it as a slab whose capacity is how many spots there are.
 #[derive(Drop)]
 pub struct Spots<T> {
-    slots: Vec<Option<Entry<T>>>,
+    slots: Vec<Option<Node<T>>>,
     count: usize,
 }
 
 impl<T> Model for Spots<T> {
     ghost use Rattle.std.specs.Prelude.{◌≡◌, is_some, count_by, length};
     ghost use Rattle.slab.specs.Slab.{Slab};
-    ghost use Rattle.linked.specs.declared.spots.Entry.{Entry};
+    ghost use Rattle.linked.specs.declared.spots.Node.{Node};
 
-    ghost Value = { Slab (Entry T) };
+    ghost Value = { Slab (Node T) };
 
     ghost view = { λ s. record { slots = s.slots.items; vacant_key = 0; capacity = length s.slots.items } };
 
@@ -51,7 +51,7 @@ fn lengthen<E>(slots: &mut Vec<Option<E>>, spot: usize) -> Result<(), AllocError
 }
 
 /// Links the entry of a place on to the one behind.
-fn set_after_in<T>(slot: &mut Option<Entry<T>>, after: Option<usize>)
+fn set_after_in<T>(slot: &mut Option<Node<T>>, after: Option<usize>)
     ensures { SetsAfter slot.old after slot.new }
 {
     if let Some(entry) = slot {
@@ -60,7 +60,7 @@ fn set_after_in<T>(slot: &mut Option<Entry<T>>, after: Option<usize>)
 }
 
 /// Links the entry of a place back to the one before.
-fn set_before_in<T>(slot: &mut Option<Entry<T>>, before: Option<usize>)
+fn set_before_in<T>(slot: &mut Option<Node<T>>, before: Option<usize>)
     ensures { SetsBefore slot.old before slot.new }
 {
     if let Some(entry) = slot {
@@ -100,7 +100,7 @@ impl<T> Spots<T> {
     }
 
     /// Takes the entry of a spot that has one.
-    pub fn take(&mut self, spot: usize) -> Entry<T>
+    pub fn take(&mut self, spot: usize) -> Node<T>
         requires { ContainsKey self.old spot }
         ensures stood { get self.old spot ≡ Some result }
         ensures updates { Updates self.old self.new spot None }
@@ -115,7 +115,7 @@ impl<T> Spots<T> {
     }
 
     /// The entry of a spot.
-    pub fn get(&self, spot: usize) -> Option<&Entry<T>>
+    pub fn get(&self, spot: usize) -> Option<&Node<T>>
         ensures { option_copied result ≡ get self.now spot }
     {
         self.slots.get(spot)?.as_ref()
@@ -148,7 +148,7 @@ impl<T> Spots<T> {
 
 impl<T: Drop> Spots<T> {
     /// Puts an entry at a vacant spot.
-    pub fn put(&mut self, spot: usize, entry: Entry<T>)
+    pub fn put(&mut self, spot: usize, entry: Node<T>)
         requires inside { spot < self.old.capacity }
         requires vacant { get self.old spot ≡ None }
         ensures updates { Updates self.old self.new spot (Some entry) }
