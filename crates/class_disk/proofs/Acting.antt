@@ -27,11 +27,11 @@ use Rattle.sector.specs.Extents.{sectors_in}
 use Rattle.device.specs.Served.{BooksPiece, Moves, IsUnfinished, IsFreshOn, IsActOrFault, ActsOrFaults, ActsNot, TakesLabel, IsAt}
 use Rattle.machine.proofs.Same.{Run-same, none_there}
 use Rattle.machine.proofs.Numbers.{AreDistinct-Run, AreDistinct-same}
-use Rattle.class_disk.specs.inside.Books.{Opened, Books, all_open}
+use Rattle.class_disk.specs.inside.TableView.{Opened, TableView, all_open}
 use Rattle.class_disk.specs.declared.parts.Progress.{Progress}
 use Rattle.class_disk.specs.declared.parts.Progress.TheVariants.{Ready, Below as SentBelow, Ended as PartEnded}
 use Rattle.class_disk.specs.inside.Joint.{Part, Below, Here, Known, known_of, Divided, Joint, parts_marks, pieces_below, pieces_above, shown, above}
-use Rattle.class_disk.specs.inside.Kept.{IsSound, Keeps, AreParts, IsMadeUp, HasSome, IsOver}
+use Rattle.class_disk.specs.inside.Invariant.{IsSound, Keeps, AreParts, IsMadeUp, HasSome, IsOver}
 use Rattle.class_disk.specs.Shown.{class_rules, IsPort, divided_of, shown_state}
 use Rattle.class_disk.specs.inside.Driver.{knowns, view_of, AreKept, AreBelow, IsCoupled, IsInHand, AsksUnder, IsAskedBy, IsAsked, AreAsked, IsSpottedBy, IsSpotted, AreSpotted, tickets}
 use Rattle.class_disk.specs.Opening.{most_over}
@@ -171,7 +171,7 @@ have_places rules j ks k same some =
 -- BOTH LAYERS MOVE
 
 -- a run of the machine below by labels of the adapter, told of the class driver
-pub record MovesAbove (v : DeviceView) (books : Books) (labels : List DeviceLabel) (v' : DeviceView) : Type 0 where
+pub record MovesAbove (v : DeviceView) (books : TableView) (labels : List DeviceLabel) (v' : DeviceView) : Type 0 where
   pub moves : Moves (view_of v books) labels (view_of v' books)
   pub coupled : IsCoupled v' books
   pub sound : IsSound v'.state
@@ -182,7 +182,7 @@ pub record MovesAbove (v : DeviceView) (books : Books) (labels : List DeviceLabe
   pub same_submitted : v'.submitted ≡ v.submitted
   pub same_most : v'.most ≡ v.most
 
-module _ (v : DeviceView) (books : Books) (port : IsPort v.rules) (sound : IsSound v.state) (coupled : IsCoupled v books) where
+module _ (v : DeviceView) (books : TableView) (port : IsPort v.rules) (sound : IsSound v.state) (coupled : IsCoupled v books) where
   pub moves_above : (labels : List DeviceLabel) (v' : DeviceView) → Moves v labels v' → MovesAbove v books labels v'
   moves_above labels v' m =
       let rules : Rules = class_rules v.rules in
@@ -245,7 +245,7 @@ as_many es = sym (length-map (pieces_above es) piece_on_tag) ∙ ap length (on_t
 
 -- IN HAND AGAIN
 
-module _ (v : DeviceView) (books : Books) (h : IsInHand v books) where
+module _ (v : DeviceView) (books : TableView) (h : IsInHand v books) where
   -- the coupled machine is the one shown
   pub shows : IsSame (above h.coupled.j) (view_of v books).state
   shows = subst (λ n. IsSame (above h.coupled.j) (shown_state v.state n (knowns (class_rules v.rules) books))) h.coupled.next_above
@@ -295,7 +295,7 @@ module _ (v : DeviceView) (books : Books) (h : IsInHand v books) where
   hand_moved labels v' m = hand_ran labels v' m.same_rules m.coupled m.sound m.moves.run
 
 -- nothing changed that is shown
-pub hand_same : (v : DeviceView) (books : Books) → IsInHand v books → (v' : DeviceView) → v' ≡ v → IsInHand v' books
+pub hand_same : (v : DeviceView) (books : TableView) → IsInHand v books → (v' : DeviceView) → v' ≡ v → IsInHand v' books
 hand_same v books h v' same = subst (λ x. IsInHand x books) (sym same) h
 
 -- ACT
@@ -306,7 +306,7 @@ map_there f (x ∷ xs) y (zero, low, is) = (x, (0, omega arith, refl), is)
 map_there f (x ∷ xs) y (suc k, low, is) =
     let r = map_there f xs y (k, omega arith, is) in (r.0, (suc r.1.0, let w = r.1.1 in omega arith, r.1.2), r.2)
 
-module _ (v : DeviceView) (books : Books) (h : IsInHand v books) (tag : ℕ) where
+module _ (v : DeviceView) (books : TableView) (h : IsInHand v books) (tag : ℕ) where
   -- each machine has a fresh piece on the tag where the other has
   pub same_tags : IsPermutation (map piece_on_tag v.state.pieces) (map piece_on_tag (view_of v books).state.pieces)
   same_tags =
@@ -344,7 +344,7 @@ module _ (v : DeviceView) (books : Books) (h : IsInHand v books) (tag : ℕ) whe
 
 -- A LABEL TAKEN
 
-module _ (v : DeviceView) (books : Books) (h : IsInHand v books) where
+module _ (v : DeviceView) (books : TableView) (h : IsInHand v books) where
   abbrev with_adapter : AdapterView → DeviceView
   with_adapter adapter = record v { adapter = adapter }
 

@@ -17,10 +17,10 @@ use Rattle.class_disk.specs.declared.parts.Part.{Part}
 use Rattle.class_disk.specs.declared.parts.Place.{Place}
 use Rattle.class_disk.specs.declared.parts.Progress.{Progress}
 use Rattle.class_disk.specs.declared.parts.Progress.TheVariants.{Ready, Below, Ended as HasEnded}
-use Rattle.class_disk.specs.inside.Books.{Opened, Books, opened, open_at}
+use Rattle.class_disk.specs.inside.TableView.{Opened, TableView, opened, open_at}
 use Rattle.class_disk.specs.inside.Driver.{note, note_by, known, knowns, IsCauseBy, HaveCauses, IsOpen, WentAs, WentInTurn}
-use Rattle.class_disk.specs.inside.Kept.{IsNothing, IsIfEnded, EndedAre, IsOver, IsOverNote}
-use Rattle.class_disk.specs.inside.Midway.{GoesOn, IsMidway, IsOpening, OpeningSoFar, SendsAll, SendsDown, CanSendPart}
+use Rattle.class_disk.specs.inside.Invariant.{IsNothing, IsIfEnded, EndedAre, IsOver, IsOverNote}
+use Rattle.class_disk.specs.inside.DuringACall.{GoesOn, IsMidway, IsOpening, OpeningSoFar, SendsAll, SendsDown, CanSendPart}
 use Rattle.class_disk.specs.inside.Parts.{IsDown, IsDownBy, WasSent, WasSentBy, unfinished_of, unfinished_by}
 use Rattle.class_disk.specs.Shown.{class_rules}
 use Rattle.class_disk.proofs.Parting.{drop_whole, found_same}
@@ -75,7 +75,7 @@ all_over rules cancelled removing busy (x ∷ parts) all =
     by (HasEnded ended) h = absurd h
 
 module _ {v : DeviceView}
-    {b : Books} {slot k : ℕ}
+    {b : TableView} {slot k : ℕ}
     (h : IsOpening v b slot k) (at_end : k ≡ length h.o.parts) where
   abbrev rules : Rules
   rules = class_rules v.rules
@@ -146,7 +146,7 @@ none_handed takes v climb spot v' none h =
 
 -- the parts before this one were sent: all requests below that were there before are as they were
 pub record SentSoFar
-    (v0 : DeviceView) (b0 : Books) (slot k : ℕ) (v : DeviceView) (b : Books) : Type 0 where
+    (v0 : DeviceView) (b0 : TableView) (slot k : ℕ) (v : DeviceView) (b : TableView) : Type 0 where
   pub starts : List DeviceLabel
   pub goes : GoesOn v0 b0 starts v b
   pub others_stay : All (StaysOpen v.state) v0.state.requests
@@ -164,7 +164,7 @@ went_on count [] x all own = (subst (λ n. WentAs n x.progress) (omega arith) ow
 went_on count (p ∷ parts) x all own = (all.0, went_on (count + 1) parts x all.1 (subst (λ n. WentAs n x.progress) (omega arith) own))
 
 module _ (v0 : DeviceView)
-    (b0 : Books) (slot : ℕ) where
+    (b0 : TableView) (slot : ℕ) where
   pub none_sent : SentSoFar v0 b0 slot 0 v0 b0
   none_sent = record {
     starts = [];
@@ -189,7 +189,7 @@ module _ (v0 : DeviceView)
 
   module _ (h0 : IsOpening v0 b0 slot 0) (k count : ℕ)
       (counts : (o : Opened) → open_at slot b0.opens ≡ Some o → count ≡ length o.parts)
-      (v : DeviceView) (b : Books) (rise : AreRising 0 b.opens)
+      (v : DeviceView) (b : TableView) (rise : AreRising 0 b.opens)
       (so_far : SentSoFar v0 b0 slot k v b) where
     abbrev h : IsOpening v b slot k
     h = so_far.opening h0
@@ -205,7 +205,7 @@ module _ (v0 : DeviceView)
         (rooms_left h ordered rise within, h.o, part h ordered rise within, place h ordered rise within, can_send_part h ordered rise within)
 
     -- it is sent
-    module _ (low : k < count) (ordered : IsOrderly v) (v' : DeviceView) (b' : Books)
+    module _ (low : k < count) (ordered : IsOrderly v) (v' : DeviceView) (b' : TableView)
         (sends : (o : Opened) (x : Part) (p : Place) → open_at slot b.opens ≡ Some o → slice_get o.parts k ≡ Some x → x.progress ≡ Ready p
         → SendsDown v b slot k o x p v' b') where
       module _ (w : IsOpening v b slot k) where

@@ -7,7 +7,7 @@ use Rattle.std.proofs.lemmas.List.Sorted.{IsPermutation-refl, IsPermutation-sym,
 use Rattle.machine.proofs.Same.{none_there}
 use Rattle.machine.proofs.Permuting.{IsPermutation-uncons}
 use Rattle.class_disk.specs.inside.Parts.{tickets_of}
-use Rattle.class_disk.specs.inside.Books.{Opened, Held, ended_in, restarts_left}
+use Rattle.class_disk.specs.inside.TableView.{Opened, ClosedSlot, ended_in, restarts_left}
 use Rattle.class_disk.specs.inside.Driver.{tickets_held, tickets_open}
 
 -- LISTS PUT TOGETHER, IN ANY ORDER
@@ -49,15 +49,15 @@ rooms_flat : (os : List Opened) → tickets_open os ≡ flat own_rooms os
 rooms_flat [] = refl
 rooms_flat (o ∷ os) = ap (λ zs. tickets_of o.parts ++ zs) (rooms_flat os)
 
-abbrev held_rooms : Held → List Ticket
+abbrev held_rooms : ClosedSlot → List Ticket
 held_rooms held = tickets_of held.parts
 
-held_flat : (hs : List Held) → tickets_held hs ≡ flat held_rooms hs
+held_flat : (hs : List ClosedSlot) → tickets_held hs ≡ flat held_rooms hs
 held_flat [] = refl
 held_flat (x ∷ hs) = ap (λ zs. tickets_of x.parts ++ zs) (held_flat hs)
 
 -- those of slots with no packet, in another order
-pub held_same : (xs ys : List Held) → IsPermutation xs ys → IsPermutation (tickets_held xs) (tickets_held ys)
+pub held_same : (xs ys : List ClosedSlot) → IsPermutation xs ys → IsPermutation (tickets_held xs) (tickets_held ys)
 held_same xs ys h = subst (λ zs. IsPermutation zs (tickets_held ys)) (sym (held_flat xs))
     (subst (λ zs. IsPermutation (flat held_rooms xs) zs) (sym (held_flat ys)) (flat_same held_rooms xs ys h))
 

@@ -7,8 +7,8 @@ use Rattle.class_disk.specs.declared.requests.Slot.{Slot}
 use Rattle.class_disk.specs.declared.requests.Slot.TheVariants.{Reserved, Open, Left}
 use Rattle.class_disk.specs.declared.requests.Transfer.{Transfer}
 use Rattle.class_disk.specs.declared.table.Table.{Table}
-use Rattle.class_disk.specs.inside.Books.{Opened, books_of, opened_of, open_from, open_at, TakesOut, PutsBack}
-use Rattle.class_disk.specs.inside.Turns.{is_cancellable, can_cancel, CannotCancel, CanCancelAt, CannotCancelAt, CancelsAtSlot, cancelled_one}
+use Rattle.class_disk.specs.inside.TableView.{Opened, books_of, opened_of, open_from, open_at, TakesOut, PutsBack}
+use Rattle.class_disk.specs.inside.TableCalls.{is_cancellable, can_cancel, CannotCancel, CanCancelAt, CannotCancelAt, CancelsAtSlot, cancelled_one}
 use Rattle.class_disk.proofs.Slots.{Slots, open_is, is_there}
 use Rattle.class_disk.proofs.Replacing.{stands_as, replaces, books_replaced}
 

@@ -10,12 +10,12 @@ use Rattle.device.specs.View.{DeviceView, Packet, IsOrderly}
 use Rattle.device.specs.Served.{CancelsIfOpen, CancelsAt, NoneToCancel, IsAt, HasOtherNumber}
 use Rattle.class_disk.proofs.Standing.{IsApart}
 use Rattle.class_disk.specs.inside.Joint.{Known, Divided, shown}
-use Rattle.class_disk.specs.inside.Kept.{NeverSent}
+use Rattle.class_disk.specs.inside.Invariant.{NeverSent}
 use Rattle.class_disk.specs.Shown.{class_rules, divided_of}
-use Rattle.class_disk.specs.inside.Books.{Opened, Books, opened, all_open, open_at, put_at}
-use Rattle.class_disk.specs.inside.Turns.{cancelled_one, is_cancellable, CancelsAtSlot, CancelsNoneAt, CannotCancel}
+use Rattle.class_disk.specs.inside.TableView.{Opened, TableView, opened, all_open, open_at, put_at}
+use Rattle.class_disk.specs.inside.TableCalls.{cancelled_one, is_cancellable, CancelsAtSlot, CancelsNoneAt, CannotCancel}
 use Rattle.class_disk.specs.inside.Driver.{known, knowns, view_of, packet_above, IsInHand}
-use Rattle.class_disk.specs.inside.Midway.{IsMidway, CancelsAll, packet_of_part, WithdrawsAll}
+use Rattle.class_disk.specs.inside.DuringACall.{IsMidway, CancelsAll, packet_of_part, WithdrawsAll}
 use Rattle.class_disk.proofs.Acting.{map_there}
 use Rattle.class_disk.proofs.CoupledRun.{one_request, Contains-map}
 use Rattle.class_disk.proofs.Standing.{AreRising, StandsIn, stands_there, stands_by, is_found, found_put, found_there}
@@ -36,7 +36,7 @@ already number e is h = by (e.1.irp.number == number) (e.1.irp.cancelled) refl h
     by false y same g = absurd (eqb-false e.1.irp.number number same is)
 
 -- a request of the machine shown is one of the table
-shown_there : (v : DeviceView) (b : Books) (x : OpenRequest) → Contains (view_of v b).state.requests x → (e : ℕ × Opened) × Contains b.opens e × (e.1.irp.number ≡ x.number) × (e.1.irp.cancelled ≡ x.cancelled)
+shown_there : (v : DeviceView) (b : TableView) (x : OpenRequest) → Contains (view_of v b).state.requests x → (e : ℕ × Opened) × Contains b.opens e × (e.1.irp.number ≡ x.number) × (e.1.irp.cancelled ≡ x.cancelled)
 shown_there v b x c =
     let ks : List Known = knowns (class_rules v.rules) b in
     let a = map_there shown (map (divided_of v.state) ks) x c in
@@ -50,7 +50,7 @@ shown_there v b x c =
     )
 
 -- and the other way round
-there_shown : (v : DeviceView) (b : Books) (e : ℕ × Opened) → Contains b.opens e → Contains (view_of v b).state.requests (shown (divided_of v.state (known (class_rules v.rules) e.1)))
+there_shown : (v : DeviceView) (b : TableView) (e : ℕ × Opened) → Contains b.opens e → Contains (view_of v b).state.requests (shown (divided_of v.state (known (class_rules v.rules) e.1)))
 there_shown v b e c =
     Contains-map shown (map (divided_of v.state) (knowns (class_rules v.rules) b)) _
     (Contains-map (divided_of v.state) (knowns (class_rules v.rules) b) _ (Contains-map (known (class_rules v.rules)) (all_open b) e.1 (Contains-map opened b.opens e c)))
@@ -58,7 +58,7 @@ there_shown v b e c =
 -- NONE IS CANCELLED
 
 -- none of this number can be, as a search tells
-pub none_cancellable : (v : DeviceView) (b : Books) (number : ℕ) → All (CannotCancel number) b.opens → CancelsIfOpen (view_of v b) number (view_of v b)
+pub none_cancellable : (v : DeviceView) (b : TableView) (number : ℕ) → All (CannotCancel number) b.opens → CancelsIfOpen (view_of v b) number (view_of v b)
 none_cancellable v b number none = record { one_of = inr (refused, refl) }
   where
     refused : NoneToCancel (view_of v b).state number
@@ -69,15 +69,15 @@ none_cancellable v b number none = record { one_of = inr (refused, refl) }
         cc (done, not_yet)
 
 -- the packet that stands at this spot
-at_spot : (b : Books) (slot number : ℕ) → Any (IsAt slot number) (map packet_above b.opens) → (e : ℕ × Opened) × Contains b.opens e × (e.0 ≡ slot) × (e.1.irp.number ≡ number)
+at_spot : (b : TableView) (slot number : ℕ) → Any (IsAt slot number) (map packet_above b.opens) → (e : ℕ × Opened) × Contains b.opens e × (e.0 ≡ slot) × (e.1.irp.number ≡ number)
 at_spot b slot number (i, x, low, is, at) =
     let a = map_there packet_above b.opens x (i, low, is) in
     (a.0, a.1, ap (λ (p : Packet). p.spot) a.2 ∙ at.is_spot, ap (λ (p : Packet). p.number) a.2 ∙ at.is_number)
 
-found_at : (b : Books) (slot : ℕ) → AreRising 0 b.opens → (e : ℕ × Opened) → Contains b.opens e → e.0 ≡ slot → open_at slot b.opens ≡ Some e.1
+found_at : (b : TableView) (slot : ℕ) → AreRising 0 b.opens → (e : ℕ × Opened) → Contains b.opens e → e.0 ≡ slot → open_at slot b.opens ≡ Some e.1
 found_at b slot r e c same = subst (λ n. open_at n b.opens ≡ Some e.1) same (is_found b.opens e.0 e.1 (stands_there 0 e.0 e.1 b.opens r c))
 
-pub none_at : (v : DeviceView) (b : Books) → IsInHand v b → AreRising 0 b.opens → (slot number : ℕ) (b' : Books)
+pub none_at : (v : DeviceView) (b : TableView) → IsInHand v b → AreRising 0 b.opens → (slot number : ℕ) (b' : TableView)
     → CancelsNoneAt b slot number b' → CancelsAt (view_of v b) slot number (view_of v b')
 none_at v b h r slot number b' none = subst (λ x. CancelsAt (view_of v b) slot number (view_of v x)) (sym none.same) (record {
   there = λ any. record { one_of = inr (refused (at_spot b slot number any), refl) };
@@ -94,7 +94,7 @@ none_at v b h r slot number b' none = subst (λ x. CancelsAt (view_of v b) slot 
         cc (done, not_yet)
 
 -- by the number of a packet that a search found
-pub by_spot : (v : DeviceView) (b : Books) (number slot : ℕ) (w : DeviceView) → (found : (o : Opened) × ((open_at slot b.opens ≡ Some o) × IsTrue (is_cancellable number (slot, o)))) → CancelsAt (view_of v b) slot number w → CancelsIfOpen (view_of v b) number w
+pub by_spot : (v : DeviceView) (b : TableView) (number slot : ℕ) (w : DeviceView) → (found : (o : Opened) × ((open_at slot b.opens ≡ Some o) × IsTrue (is_cancellable number (slot, o)))) → CancelsAt (view_of v b) slot number w → CancelsIfOpen (view_of v b) number w
 by_spot v b number slot w (o, (is_open, can)) h =
     let c : Contains b.opens (slot, o) = found_there slot b.opens o is_open in
     let p = Contains-map packet_above b.opens (slot, o) c in
@@ -102,12 +102,12 @@ by_spot v b number slot w (o, (is_open, can)) h =
 
 -- ONE IS CANCELLED
 
-module _ (v : DeviceView) (b : Books) (r : AreRising 0 b.opens) (slot number : ℕ) (b1 : Books) (c : CancelsAtSlot b slot number b1) where
+module _ (v : DeviceView) (b : TableView) (r : AreRising 0 b.opens) (slot number : ℕ) (b1 : TableView) (c : CancelsAtSlot b slot number b1) where
   stands : StandsIn b.opens slot c.o
   stands = stands_by 0 slot b.opens c.o r c.is_open
 
   open_now : open_at slot b1.opens ≡ Some (cancelled_one c.o)
-  open_now = subst (λ (x : Books). open_at slot x.opens ≡ Some (cancelled_one c.o)) (sym c.after) (found_put b.opens slot c.o stands (cancelled_one c.o))
+  open_now = subst (λ (x : TableView). open_at slot x.opens ≡ Some (cancelled_one c.o)) (sym c.after) (found_put b.opens slot c.o stands (cancelled_one c.o))
 
   pub still_open : (o : Opened) × (open_at slot b1.opens ≡ Some o)
   still_open = (cancelled_one c.o, open_now)
@@ -119,7 +119,7 @@ module _ (v : DeviceView) (b : Books) (r : AreRising 0 b.opens) (slot number : �
   number_is = eqb-true c.o.irp.number number (both_true (c.o.irp.number == number) c.o.irp.cancelled c.can).0
 
   module _ (h : IsInHand v b) (v1 : DeviceView) (ordered1 : IsOrderly v1)
-      (cancels : (o : Opened) → open_at slot b1.opens ≡ Some o → CancelsAll v (map packet_of_part o.parts) v1) (b1' : Books) (same : b1' ≡ b1) where
+      (cancels : (o : Opened) → open_at slot b1.opens ≡ Some o → CancelsAll v (map packet_of_part o.parts) v1) (b1' : TableView) (same : b1' ≡ b1) where
     all : CancelsAll v (map packet_of_part c.o.parts) v1
     all = cancels (cancelled_one c.o) open_now
 
@@ -128,7 +128,7 @@ module _ (v : DeviceView) (b : Books) (r : AreRising 0 b.opens) (slot number : �
         let m = midway_cancelled v b h slot c.o stands timely v1 all ordered1 in
         (m.0, subst (λ x. IsMidway NeverSent m.0 [] v1 x) (sym (same ∙ c.after)) m.1)
 
-    module _ (v2 : DeviceView) (b2 : Books) (w : WithdrawsAll v1 b1' v2 b2) (apart : IsApart b2) where
+    module _ (v2 : DeviceView) (b2 : TableView) (w : WithdrawsAll v1 b1' v2 b2) (apart : IsApart b2) where
       withdraws : WithdrawsAll v1 (record b { opens = put_at slot (cancelled_one c.o) b.opens }) v2 b2
       withdraws = subst (λ x. WithdrawsAll v1 x v2 b2) (same ∙ c.after) w
 

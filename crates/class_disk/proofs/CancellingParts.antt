@@ -21,16 +21,16 @@ use Rattle.device.specs.Served.{IsBeside}
 use Rattle.class_disk.specs.declared.parts.Progress.{Progress}
 use Rattle.class_disk.specs.declared.parts.Progress.TheVariants.{Ready, Below as SentBelow, Ended as HasEnded}
 use Rattle.class_disk.specs.inside.Joint.{Part, Below, Here, Known, note_of, known_of, Divided, Joint, IsPartOf, parts_requests, parts_marks, parts_busy, parts_lifted, shown, pieces_above, below, above, lifted, shown_mark}
-use Rattle.class_disk.specs.inside.Kept.{AreParts, IsMadeUp, IsCancelledAs, AgreesOnCancel, IsAhead, AreBehind, IsInTurn, places_in, AreCut, begins_back, parts_back, IsInPieces, Keeps, NeverSent, IsOver, HasSome, noted_busy}
+use Rattle.class_disk.specs.inside.Invariant.{AreParts, IsMadeUp, IsCancelledAs, AgreesOnCancel, IsAhead, AreBehind, IsInTurn, places_in, AreCut, begins_back, parts_back, IsInPieces, Keeps, NeverSent, IsOver, HasSome, noted_busy}
 use Rattle.class_disk.specs.Shown.{class_rules}
-use Rattle.class_disk.specs.inside.Books.{Opened, Books, opened, all_open, put_at, ended_in, restarts_left}
-use Rattle.class_disk.specs.inside.Turns.{cancelled_one}
+use Rattle.class_disk.specs.inside.TableView.{Opened, TableView, opened, all_open, put_at, ended_in, restarts_left}
+use Rattle.class_disk.specs.inside.TableCalls.{cancelled_one}
 use Rattle.class_disk.specs.inside.Driver.{note, known, knowns, view_of, packet_above, tickets_held, tickets_open, IsAsked, IsAskedBy, AreAsked, AreSpotted, IsOpen, AreKept, AreBelow, IsInHand, HaveCauses, tickets}
 use Rattle.class_disk.specs.Opening.{most_over}
 use Rattle.class_disk.specs.inside.Rooms.{AllOut}
 use Rattle.class_disk.proofs.Rooms.{out_same}
 use Rattle.class_disk.proofs.Standing.{IsApart}
-use Rattle.class_disk.specs.inside.Midway.{IsTaking, IsMidway, CancelsAll, packet_of_part, WithdrawsAll}
+use Rattle.class_disk.specs.inside.DuringACall.{IsTaking, IsMidway, CancelsAll, packet_of_part, WithdrawsAll}
 use Rattle.class_disk.proofs.Focus as focus
 use Rattle.class_disk.proofs.CoupledSteps.{Cancels-above}
 use Rattle.class_disk.proofs.Acting.{map_there, spotted_still, shows}
@@ -164,8 +164,8 @@ module _ (rules : Rules) (j : Joint) (e : Divided) (es : List Divided) where
 
 -- MIDWAY, with all parts cancelled
 
-module _ (v : DeviceView) (b : Books) (h : IsInHand v b) (slot : ℕ) (o : Opened) (s : StandsIn b.opens slot o) (timely : IsFalse o.irp.cancelled) (v1 : DeviceView) (all : CancelsAll v (map packet_of_part o.parts) v1) (ordered1 : IsOrderly v1) where
-  abbrev pub books_cancelled : Books
+module _ (v : DeviceView) (b : TableView) (h : IsInHand v b) (slot : ℕ) (o : Opened) (s : StandsIn b.opens slot o) (timely : IsFalse o.irp.cancelled) (v1 : DeviceView) (all : CancelsAll v (map packet_of_part o.parts) v1) (ordered1 : IsOrderly v1) where
+  abbrev pub books_cancelled : TableView
   books_cancelled = record b { opens = put_at slot (cancelled_one o) b.opens }
 
   abbrev rules : Rules
@@ -369,7 +369,7 @@ module _ (v : DeviceView) (b : Books) (h : IsInHand v b) (slot : ℕ) (o : Opene
         })
 
     -- ALL IS TAKEN
-    module _ (v2 : DeviceView) (b2 : Books) (w : WithdrawsAll v1 books_cancelled v2 b2) (apart : IsApart b2) where
+    module _ (v2 : DeviceView) (b2 : TableView) (w : WithdrawsAll v1 books_cancelled v2 b2) (apart : IsApart b2) where
       first_shows : IsSame (above (record j { divided = i.e ∷ i.es })) (view_of v b).state
       first_shows = IsSame-trans _ _ _ (IsSame-sym _ _ i.same_above) (shows v b h)
 
@@ -405,9 +405,9 @@ module _ (v : DeviceView) (b : Books) (h : IsInHand v b) (slot : ℕ) (o : Opene
   pub midway_cancelled : (first : State) × IsMidway NeverSent first [] v1 books_cancelled
   midway_cancelled = (above (joint_cancelled in_coupling), midway_with in_coupling)
 
-  pub hand_cancelled : (v2 : DeviceView) (b2 : Books) → WithdrawsAll v1 books_cancelled v2 b2 → IsApart b2 → IsInHand v2 b2
+  pub hand_cancelled : (v2 : DeviceView) (b2 : TableView) → WithdrawsAll v1 books_cancelled v2 b2 → IsApart b2 → IsInHand v2 b2
   hand_cancelled v2 b2 w apart = (stands in_coupling v2 b2 w apart).in_hand
 
-  pub cancels_above : (v2 : DeviceView) (b2 : Books) → WithdrawsAll v1 books_cancelled v2 b2 → IsApart b2
+  pub cancels_above : (v2 : DeviceView) (b2 : TableView) → WithdrawsAll v1 books_cancelled v2 b2 → IsApart b2
       → Cancels (view_of v b).state o.irp.number (view_of v2 b2).state × IsBeside (view_of v b) (view_of v2 b2)
   cancels_above v2 b2 w apart = (cancels_shown in_coupling v2 b2 w apart, beside_shown in_coupling v2 b2 w apart)

@@ -12,7 +12,7 @@ use Rattle.class_disk.specs.declared.parts.Progress.{Progress}
 use Rattle.class_disk.specs.declared.parts.Progress.TheVariants.{Ready, Below, Ended as HasEnded}
 use Rattle.class_disk.specs.declared.parts.Outcome.{Outcome}
 use Rattle.class_disk.specs.declared.parts.Outcome.TheVariants.{Good, Failed as IsBad, Busy, Withdrawn}
-use Rattle.class_disk.specs.inside.Kept.{IsUntouched}
+use Rattle.class_disk.specs.inside.Invariant.{IsUntouched}
 use Rattle.class_disk.specs.inside.Driver.{IsCause, IsCauseBy}
 
 module _ (c c' r r' : Bool) (n n' : ℕ) (f : IsTrue c → IsTrue c') (g : IsTrue r → IsTrue r') (few : n ≤ n') where

@@ -10,9 +10,9 @@ use Rattle.class_disk.specs.declared.parts.Part.{Part}
 use Rattle.class_disk.specs.declared.parts.Progress.{Progress}
 use Rattle.class_disk.specs.declared.parts.Progress.TheVariants.{Ready, Below, Ended as HasEnded}
 use Rattle.class_disk.specs.inside.Joint.{Note, Sent, Kept, Known}
-use Rattle.class_disk.specs.inside.Kept.{HasSome, IsOverMark, IsOverNote, IsOver, noted_busy}
+use Rattle.class_disk.specs.inside.Invariant.{HasSome, IsOverMark, IsOverNote, IsOver, noted_busy}
 use Rattle.class_disk.specs.inside.Parts.{WasSent, WasSentBy, restarts_of, unfinished_of, unfinished_by}
-use Rattle.class_disk.specs.inside.Books.{Opened, Books, opened, all_open, restarts_left}
+use Rattle.class_disk.specs.inside.TableView.{Opened, TableView, opened, all_open, restarts_left}
 use Rattle.class_disk.specs.inside.Driver.{note, note_by, known, knowns, packet_above, request_of_part, IsCauseBy, HaveCauses, IsOpen, IsBuffered, IsWritten}
 use Rattle.class_disk.specs.declared.parts.PartId.{PartId}
 use Rattle.class_disk.specs.inside.Owners.{slot_at, place_at, IsOwnedBy, AreOwnedFrom}
@@ -94,12 +94,12 @@ other_slots owners slot first spot (x ∷ xs) h out =
     (sym e.0 ∙ ap (slot_at owners) same))
     (other_slots owners slot (first + 1) spot xs h.1 out)
 
-module _ (rules : Rules) {b : Books} {slot k : ℕ} {o : Opened} {part : Part} {number spot : ℕ}
+module _ (rules : Rules) {b : TableView} {slot k : ℕ} {o : Opened} {part : Part} {number spot : ℕ}
     (s : PartStands b slot k o part number spot) (part' : Part) (again left next : ℕ) (ended' : List ℕ) where
   abbrev pub o_now : Opened
   o_now = record o { parts = s.front ++ (part' ∷ s.back); restarts = again; unfinished = left }
 
-  abbrev pub b_now : Books
+  abbrev pub b_now : TableView
   b_now = record b { opens = s.stands.before ++ ((slot, o_now) ∷ s.stands.after); ended = ended'; next_packet = next }
 
   abbrev pub rest_open : List (ℕ × Opened)

@@ -11,7 +11,7 @@ use Rattle.device.specs.View.{DeviceView, IsBounded, IsOrderly}
 use Rattle.class_disk.specs.declared.Sizes.{Sizes}
 use Rattle.class_disk.specs.inside.Blocks.{part_count_of, part_request_of, AreSizes}
 use Rattle.class_disk.specs.Shown.{class_rules, IsPort}
-use Rattle.class_disk.specs.inside.Midway.{CanCut}
+use Rattle.class_disk.specs.inside.DuringACall.{CanCut}
 
 -- the pieces are all whole, or one more
 pub whole_or_more : (whole left : ℕ)

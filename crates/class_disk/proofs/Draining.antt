@@ -12,15 +12,15 @@ use Rattle.machine.proofs.Numbers.{AreDistinct-same}
 use Rattle.device.specs.View.{DeviceView, IsOrderly, IsTopmost, room_at}
 use Rattle.device.specs.Served.{DrainsAll}
 use Rattle.class_disk.specs.inside.Joint.{Joint, above, below}
-use Rattle.class_disk.specs.inside.Kept.{IsSound, Keeps, NeverSent, EndedAre, IsOver, noted_busy}
+use Rattle.class_disk.specs.inside.Invariant.{IsSound, Keeps, NeverSent, EndedAre, IsOver, noted_busy}
 use Rattle.class_disk.specs.Shown.{class_rules}
-use Rattle.class_disk.specs.inside.Books.{Books, all_open}
+use Rattle.class_disk.specs.inside.TableView.{TableView, all_open}
 use Rattle.class_disk.specs.inside.Driver.{knowns, view_of, packet_above, AreAsked, AreSpotted, AreBelow, IsInHand, HaveCauses, note, tickets}
 use Rattle.class_disk.specs.Opening.{most_over}
 use Rattle.class_disk.specs.inside.Rooms.{AllOut}
 use Rattle.class_disk.proofs.Rooms.{out_same}
 use Rattle.class_disk.proofs.Standing.{IsApart}
-use Rattle.class_disk.specs.inside.Midway.{IsTaking, IsMidway, WithdrawsAll}
+use Rattle.class_disk.specs.inside.DuringACall.{IsTaking, IsMidway, WithdrawsAll}
 use Rattle.class_disk.proofs.CoupledRun.{sound_same}
 use Rattle.class_disk.proofs.Acting.{asked_still, spotted_still, shows}
 use Rattle.class_disk.proofs.Ending.{ends_unsent, unsent_drains, never_sent}
@@ -48,8 +48,8 @@ sound_removed s h = record {
   whole = record { alike = h.whole.alike; whole = h.whole.whole };
 }
 
-module _ (v : DeviceView) (b : Books) (h : IsInHand v b) (v1 : DeviceView) (d : DrainsAll v v1) (ordered1 : IsOrderly v1) where
-  abbrev pub books_drained : Books
+module _ (v : DeviceView) (b : TableView) (h : IsInHand v b) (v1 : DeviceView) (d : DrainsAll v v1) (ordered1 : IsOrderly v1) where
+  abbrev pub books_drained : TableView
   books_drained = record b { removing = true }
 
   abbrev pub joint_drained : Joint
@@ -136,7 +136,7 @@ module _ (v : DeviceView) (b : Books) (h : IsInHand v b) (v1 : DeviceView) (d : 
       })
 
   -- ALL IS TAKEN
-  module _ (v2 : DeviceView) (b2 : Books) (w : WithdrawsAll v1 books_drained v2 b2) (apart : IsApart b2) where
+  module _ (v2 : DeviceView) (b2 : TableView) (w : WithdrawsAll v1 books_drained v2 b2) (apart : IsApart b2) where
     stands : StandsAgain (above joint_drained) v2 b2
     stands =
         stands_again (above joint_drained) v1 books_drained v2 b2 midway_drained w apart

@@ -16,8 +16,8 @@ use Rattle.class_disk.specs.declared.requests.Places.{Places}
 use Rattle.class_disk.specs.declared.requests.Slot.TheVariants.{Reserved, Open, Left}
 use Rattle.class_disk.proofs.Slots.{Slots}
 use Rattle.class_disk.specs.inside.Parts.{lowest_status, joined_of}
-use Rattle.class_disk.specs.inside.Books.{Opened, Books, opened_of, left_as, open_from, open_at, ended_in}
-use Rattle.class_disk.specs.inside.Turns.{AddsSlot, TakesEnded, Completes}
+use Rattle.class_disk.specs.inside.TableView.{Opened, TableView, opened_of, left_as, open_from, open_at, ended_in}
+use Rattle.class_disk.specs.inside.TableCalls.{AddsSlot, TakesEnded, Completes}
 use Rattle.class_disk.specs.Shown.{class_rules}
 use Rattle.class_disk.specs.inside.Driver.{view_of, AreKept, IsInHand}
 use Rattle.class_disk.proofs.HandingUp.{is_open}
@@ -68,7 +68,7 @@ open_entry first (Some (Open t) ∷ rest) x (suc k, low, is) =
 some_same : (x y : Opened) → Some x ≡ Some y → x ≡ y
 some_same x y e = cc (e)
 
-module _ (rules : Rules) (b : Books) (k : AreKept rules b) (slots : Slots) (of_slots : b.opens ≡ open_from 0 slots) where
+module _ (rules : Rules) (b : TableView) (k : AreKept rules b) (slots : Slots) (of_slots : b.opens ≡ open_from 0 slots) where
   ended_there : (slot : ℕ) → Contains b.ended slot → (x : ℕ × Opened) × Contains b.opens x × (x.0 ≡ slot) × (x.1.unfinished ≡ 0)
   ended_there slot c = ended_entry b.opens slot (Contains-permutation _ _ slot k.ended c)
 
@@ -80,20 +80,20 @@ module _ (rules : Rules) (b : Books) (k : AreKept rules b) (slots : Slots) (of_s
       let r = ended_there slot c in
       subst IsSome (sym (ap (λ n. open_at n b.opens) (sym r.2) ∙ there_open r.0 r.1)) refl
 
-  pub over_of : (slot : ℕ) (o : Opened) (new : Books) → TakesEnded b slot o new → o.unfinished ≡ 0
+  pub over_of : (slot : ℕ) (o : Opened) (new : TableView) → TakesEnded b slot o new → o.unfinished ≡ 0
   over_of slot o new t =
       let r = ended_there slot (subst (λ ns. Contains ns slot) (sym t.front) (0, omega arith, refl)) in
       let same : o ≡ r.0.1 = some_same o r.0.1 (sym t.is_open ∙ ap (λ n. open_at n b.opens) (sym r.2) ∙ there_open r.0 r.1) in
       ap (λ (x : Opened). x.unfinished) same ∙ r.3
 
-module _ (v : DeviceView) (b : Books) (h : IsInHand v b) (ordered : IsOrderly v)
-    (slots : Slots) (of_slots : b.opens ≡ open_from 0 slots) (slot : ℕ) (o : Opened) (new : Books) (t : TakesEnded b slot o new) where
+module _ (v : DeviceView) (b : TableView) (h : IsInHand v b) (ordered : IsOrderly v)
+    (slots : Slots) (of_slots : b.opens ≡ open_from 0 slots) (slot : ℕ) (o : Opened) (new : TableView) (t : TakesEnded b slot o new) where
   pub over_it : o.unfinished ≡ 0
   over_it = over_of (class_rules v.rules) b h.kept slots of_slots slot o new t
 
   pub small_up : o.request.extent.count * new.sizes.sector_size < 2 ^ 64
   small_up =
-      let same = ap (λ (x : Books). x.sizes.sector_size) t.after in
+      let same = ap (λ (x : TableView). x.sizes.sector_size) t.after in
       let cut = (is_open v b h ordered slot o new.opens new.ended t.opens over_it).cut.bounded.short in
       let bytes : b.sizes.sector_size ≤ 4096 = let a = ordered.adapter.sector_size in let e = ordered.read.same_size in let f = h.kept.sizes.sector_size in omega arith in
       let m : o.request.extent.count * b.sizes.sector_size ≤ o.request.extent.count * 4096 = mul-le-mul_left o.request.extent.count bytes in
@@ -106,13 +106,13 @@ module _ (v : DeviceView) (b : Books) (h : IsInHand v b) (ordered : IsOrderly v)
       let l = ap (λ x. if is_transfer x then o.request.extent.count * v.rules.sector_size else 0) kind in
       omega (arith, f, c, l)
 
-  pub hands_up : (climb : Climb) (places : Places) → Completes new.sizes o climb places → (last : Books) → AddsSlot new (left_as slot places) last
+  pub hands_up : (climb : Climb) (places : Places) → Completes new.sizes o climb places → (last : TableView) → AddsSlot new (left_as slot places) last
       → HandsUp false (view_of v b) climb slot (view_of v last)
   hands_up climb places c last adds =
-      let same : new.sizes ≡ b.sizes = ap (λ (x : Books). x.sizes) t.after in
-      let rooms : new.rooms ≡ b.rooms = ap (λ (x : Books). x.rooms) t.after in
+      let same : new.sizes ≡ b.sizes = ap (λ (x : TableView). x.sizes) t.after in
+      let rooms : new.rooms ≡ b.rooms = ap (λ (x : TableView). x.rooms) t.after in
       let sets : SetsRoom b.rooms slot None (Some (record { request = o.request; whole = false })) last.rooms =
       subst (λ q. SetsRoom b.rooms slot None (Some (record { request = q; whole = false })) last.rooms) c.request
       (subst (λ rs. SetsRoom rs slot None (Some (record { request = places.request; whole = false })) last.rooms) rooms adds.room) in
-      subst (λ x. HandsUp false (view_of v b) climb slot (view_of v x)) (sym (adds.after ∙ ap (λ (x : Books). record x { held = last.held; rooms = last.rooms }) t.after))
+      subst (λ x. HandsUp false (view_of v b) climb slot (view_of v x)) (sym (adds.after ∙ ap (λ (x : TableView). record x { held = last.held; rooms = last.rooms }) t.after))
       (handed_up v b h ordered slot o new.opens new.ended t.opens over_it climb places (subst (λ (s : Sizes). Completes s o climb places) same c) last.held last.rooms sets)

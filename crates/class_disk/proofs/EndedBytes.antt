@@ -18,7 +18,7 @@ use Rattle.class_disk.specs.declared.parts.Part.{Part}
 use Rattle.class_disk.specs.declared.parts.Progress.TheVariants.{Ended as PartEnded}
 use Rattle.class_disk.specs.inside.Blocks.{part_request_of}
 use Rattle.class_disk.specs.inside.Parts.{payload_in, joined_of, bytes_by}
-use Rattle.class_disk.specs.inside.Turns.{bytes_from}
+use Rattle.class_disk.specs.inside.TableCalls.{bytes_from}
 use Rattle.class_disk.specs.inside.Driver.{places_of, note, note_by, request_of_part, IsBuffered, IsBufferedBy, IsWrittenBy}
 use Rattle.class_disk.proofs.EndedParts.{marks_noted, IsGoodPart}
 

@@ -17,7 +17,7 @@ use Rattle.class_disk.specs.declared.parts.Outcome.{Outcome}
 use Rattle.class_disk.specs.declared.parts.Outcome.TheVariants.{Good, Failed as IsBad, Busy, Withdrawn}
 use Rattle.class_disk.specs.inside.Parts.{payload_in, lowest_status, status_or, failure_by, failure_of, unfinished_by, unfinished_of, IsHere, IsHereBy}
 use Rattle.class_disk.specs.inside.Joint.{Part as JointPart, Below, Here, Note, Sent, Kept, shown_mark, note_of, parts_requests, parts_pieces, parts_marks, parts_busy, parts_lifted}
-use Rattle.class_disk.specs.inside.Kept.{noted_busy}
+use Rattle.class_disk.specs.inside.Invariant.{noted_busy}
 use Rattle.class_disk.specs.inside.Driver.{IsCause, IsCauseBy, places_of, marks_left, note, note_by}
 use Rattle.class_disk.proofs.Resting.{HasEndedHere}
 

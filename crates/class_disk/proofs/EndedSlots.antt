@@ -5,8 +5,8 @@ use Rattle.slab.specs.Slab.{Updates, get}
 use Rattle.class_disk.specs.declared.requests.Slot.TheVariants.{Open}
 use Rattle.class_disk.specs.declared.requests.Transfer.{Transfer}
 use Rattle.class_disk.specs.declared.table.Table.{Table}
-use Rattle.class_disk.specs.inside.Books.{books_of, opened_of, open_from, rooms_from, open_at, TakesOut}
-use Rattle.class_disk.specs.inside.Turns.{TakesEnded}
+use Rattle.class_disk.specs.inside.TableView.{books_of, opened_of, open_from, rooms_from, open_at, TakesOut}
+use Rattle.class_disk.specs.inside.TableCalls.{TakesEnded}
 use Rattle.class_disk.proofs.SlotChanges.{keeps_rooms, takes_off}
 use Rattle.class_disk.proofs.Replacing.{stands_there}
 

@@ -41,7 +41,7 @@ use Rattle.class_disk.specs.declared.parts.Progress.TheVariants.{Ended as PartEn
 use Rattle.class_disk.specs.declared.parts.Outcome.{Outcome}
 use Rattle.class_disk.specs.declared.parts.Outcome.TheVariants.{Good as IsGood, Failed as IsBad, Busy as IsBusy, Withdrawn}
 use Rattle.class_disk.specs.inside.Joint.{Kept, shown_mark}
-use Rattle.class_disk.specs.inside.Kept.{IsSound, WasSent, NeverSent, IsUntouched, IsIfEnded, EndedAre, EndsUnsent}
+use Rattle.class_disk.specs.inside.Invariant.{IsSound, WasSent, NeverSent, IsUntouched, IsIfEnded, EndedAre, EndsUnsent}
 use Rattle.class_disk.specs.Shown.{class_rules, IsPort}
 use Rattle.class_disk.specs.inside.Driver.{busy_left, places_of, marks_left, note_by, note}
 use Rattle.class_disk.specs.inside.Parts.{payload_in, EndsBack}

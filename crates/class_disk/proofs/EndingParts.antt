@@ -14,11 +14,11 @@ use Rattle.class_disk.specs.declared.parts.Part.{Part}
 use Rattle.class_disk.specs.declared.parts.Ended.{Ended}
 use Rattle.class_disk.specs.declared.parts.Outcome.{Outcome}
 use Rattle.class_disk.specs.inside.Joint.{Note, Sent}
-use Rattle.class_disk.specs.inside.Kept.{WasSent, EndedAre, IsOver, noted_busy}
+use Rattle.class_disk.specs.inside.Invariant.{WasSent, EndedAre, IsOver, noted_busy}
 use Rattle.class_disk.specs.Shown.{class_rules}
 use Rattle.class_disk.specs.inside.Parts.{EndsBack, HasReason, unfinished_by}
-use Rattle.class_disk.specs.inside.Books.{Opened, Books, all_open, ended_in}
-use Rattle.class_disk.specs.inside.Turns.{ended_part, ended_at, ended_books}
+use Rattle.class_disk.specs.inside.TableView.{Opened, TableView, all_open, ended_in}
+use Rattle.class_disk.specs.inside.TableCalls.{ended_part, ended_at, ended_books}
 use Rattle.class_disk.specs.inside.Driver.{busy_left, note, note_by, known, knowns, tickets_held, tickets_open, IsCause, IsAsked, IsSpotted, IsOpen, AreKept, AreBelow, tickets}
 use Rattle.class_disk.specs.Opening.{most_over}
 use Rattle.class_disk.specs.inside.Owners.{slot_at, place_at}
@@ -27,7 +27,7 @@ use Rattle.device.specs.inside.Out.{Ticket}
 use Rattle.class_disk.specs.inside.Rooms.{AllOut}
 use Rattle.class_disk.proofs.Rooms.{out_any_order}
 use Rattle.class_disk.specs.declared.parts.TransferPacket.{TransferPacket}
-use Rattle.class_disk.specs.inside.Midway.{IsTaking, IsMidway, TakesOne}
+use Rattle.class_disk.specs.inside.DuringACall.{IsTaking, IsMidway, TakesOne}
 use Rattle.class_disk.proofs.Retaking.{known_at}
 use Rattle.class_disk.proofs.Finishing.{notes_returned}
 use Rattle.class_disk.proofs.Standing.{is_put}
@@ -62,7 +62,7 @@ ended_middle before slot o o' after ended some h =
         (IsPermutation-trans _ _ _ (IsPermutation-cons slot _ _ p)
         (IsPermutation-sym _ _ (IsPermutation-middle (ended_in before) slot (ended_in after))))
 
-module _ {takes : Bool} (v : DeviceView) (b : Books) (climb : Climb) (spot : ℕ) (v' : DeviceView)
+module _ {takes : Bool} (v : DeviceView) (b : TableView) (climb : Climb) (spot : ℕ) (v' : DeviceView)
     (h : HandsUp takes v climb spot v') (ordered : IsOrderly v) (packet : TransferPacket) (payload_is : payload_in packet ≡ h.payload)
     (rooms_step : (others : List Ticket) → AllOut v others → AllOut v' (ticket_for h.request packet ∷ others))
     (d : Handed b h.packet.number h.packet.spot) (some : 0 < d.o.unfinished) (outcome : Outcome) (ends : EndsBack h.status outcome)
@@ -94,7 +94,7 @@ module _ {takes : Bool} (v : DeviceView) (b : Books) (climb : Climb) (spot : ℕ
   abbrev o' : Opened
   o' = o_now rules s gone d.o.restarts left b.next_packet ended_slots
 
-  abbrev b' : Books
+  abbrev b' : TableView
   b' = b_now rules s gone d.o.restarts left b.next_packet ended_slots
 
   -- the table, part by part
@@ -209,7 +209,7 @@ module _ {takes : Bool} (v : DeviceView) (b : Books) (climb : Climb) (spot : ℕ
           rooms_out = subst (λ (u : Rules). AllOut (record v' { rules = u }) (tickets b')) h.moves.same_rules (out_any_order v' _ _ (IsPermutation-trans _ _ _ (IsPermutation-sym _ _
               (IsPermutation-middle (tickets_held b.held) (ticket_for d.part.request packet) (tickets_open (all_open b))))
               (IsPermutation-append_right (tickets_held b.held) _ _
-              (subst (λ (x : Books). IsPermutation (ticket_for d.part.request packet ∷ tickets_open (all_open b)) (tickets_open (all_open x))) books_are
+              (subst (λ (x : TableView). IsPermutation (ticket_for d.part.request packet ∷ tickets_open (all_open b)) (tickets_open (all_open x))) books_are
               (rooms_now rules b slot place d.o d.part h.packet.number h.packet.spot s ended))))
               (subst (λ q. AllOut v' (ticket_for q packet ∷ tickets b)) (sym (same_request h ordered d m)) (rooms_step _ m.rooms_out)));
           kept = kept_then;

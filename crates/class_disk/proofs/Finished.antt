@@ -12,17 +12,17 @@ use Rattle.machine.specs.Sending.{IsStart}
 use Rattle.machine.specs.Step.{Run, as_label}
 use Rattle.device.specs.View.{DeviceView, OnTag, piece_on_tag, IsOrderly}
 use Rattle.device.specs.Served.{Finishes, FinishesNot}
-use Rattle.class_disk.specs.inside.Books.{Opened, Books, all_open}
+use Rattle.class_disk.specs.inside.TableView.{Opened, TableView, all_open}
 use Rattle.class_disk.proofs.Rooms.{out_same}
 use Rattle.class_disk.proofs.Standing.{IsApart}
 use Rattle.class_disk.specs.declared.parts.Part.{Part}
 use Rattle.class_disk.specs.declared.parts.Progress.{Progress}
 use Rattle.class_disk.specs.declared.parts.Progress.TheVariants.{Ready, Below, Ended}
 use Rattle.class_disk.specs.inside.Joint.{above}
-use Rattle.class_disk.specs.inside.Kept.{WasSent, EndedAre}
+use Rattle.class_disk.specs.inside.Invariant.{WasSent, EndedAre}
 use Rattle.class_disk.specs.Shown.{class_rules, IsPort}
 use Rattle.class_disk.specs.inside.Driver.{knowns, tickets, view_of, packet_above, IsAskedBy, IsAsked, AreAsked, AreKept, IsInHand}
-use Rattle.class_disk.specs.inside.Midway.{IsTaking, IsMidway, TakesAll}
+use Rattle.class_disk.specs.inside.DuringACall.{IsTaking, IsMidway, TakesAll}
 use Rattle.class_disk.proofs.Acting.{moves_above, below_moved, same_tags}
 use Rattle.class_disk.proofs.Asking.{asks_run}
 use Rattle.class_disk.proofs.Orderly.{All-from_map}
@@ -40,7 +40,7 @@ module _ (rules below : Rules) (labels : List DeviceLabel) (s s' : State) (run :
       All-weaker (AreAsked rules s.requests) (AreAsked rules s'.requests)
       (λ o h. All-weaker (IsAsked rules s.requests) (IsAsked rules s'.requests) (λ part. part_asked part part.progress) o.parts h) os all
 
-module _ (v : DeviceView) (books : Books)
+module _ (v : DeviceView) (books : TableView)
     (h : IsInHand v books) (tag : ℕ) where
   -- where the layer below has no piece on the tag, there is none above
   pub free_above : (v' : DeviceView) → FinishesNot v tag v' → FinishesNot (view_of v books) tag (view_of v' books)
@@ -70,7 +70,7 @@ module _ (v : DeviceView) (books : Books)
           ended = to (λ r. EndedAre WasSent r v'.state) b.1;
         }
 
-    pub finish_ends : (v'' : DeviceView) (books' : Books)
+    pub finish_ends : (v'' : DeviceView) (books' : TableView)
         → TakesAll WasSent v' books v'' books' → IsApart books'
         → Finishes (view_of v books) tag (view_of v'' books') × IsInHand v'' books'
     finish_ends v'' books' t apart =

@@ -22,13 +22,13 @@ use Rattle.device.specs.View.{DeviceView, Packet, OnTag, piece_on_tag, packet_nu
 use Rattle.device.specs.Served.{HandsUp, HandsUpNone, Submits, Finishes, IsUnfinished}
 use Rattle.machine.proofs.Same.{Run-same}
 use Rattle.machine.proofs.Numbers.{AreDistinct-Run, AreDistinct-same}
-use Rattle.class_disk.specs.inside.Books.{Opened, Books, opened}
+use Rattle.class_disk.specs.inside.TableView.{Opened, TableView, opened}
 use Rattle.class_disk.specs.declared.parts.Part.{Part}
 use Rattle.class_disk.specs.declared.parts.Ended.{Ended}
 use Rattle.class_disk.specs.declared.parts.Progress.TheVariants.{Ended as PartEnded}
 use Rattle.class_disk.specs.declared.parts.Outcome.TheVariants.{Withdrawn}
 use Rattle.class_disk.specs.inside.Joint.{Note, Sent, Kept, Known, known_of, shown_mark, above}
-use Rattle.class_disk.specs.inside.Kept.{IsSound, Keeps, WasSent, NeverSent, EndedAre, IsOver, HasSome, noted_busy}
+use Rattle.class_disk.specs.inside.Invariant.{IsSound, Keeps, WasSent, NeverSent, EndedAre, IsOver, HasSome, noted_busy}
 use Rattle.class_disk.proofs.Restarting.{noted_back}
 use Rattle.class_disk.specs.Shown.{class_rules, IsPort, shown_state}
 use Rattle.class_disk.specs.inside.Driver.{places_of, note, known, knowns, tickets, view_of, packet_above, AreKept, AreBelow, IsCoupled, IsInHand}
@@ -36,7 +36,7 @@ use Rattle.class_disk.specs.Opening.{most_over}
 use Rattle.class_disk.specs.inside.Rooms.{AllOut}
 use Rattle.class_disk.proofs.Standing.{IsApart}
 use Rattle.class_disk.specs.inside.Parts.{EndsBack, payload_in}
-use Rattle.class_disk.specs.inside.Midway.{IsTaking}
+use Rattle.class_disk.specs.inside.DuringACall.{IsTaking}
 use Rattle.class_disk.proofs.CoupledRun.{Contains-map}
 use Rattle.class_disk.proofs.Showing.{shown_is}
 use Rattle.class_disk.proofs.Acting.{map_there, same_tags, shows, numbers_known, have_places}
@@ -47,7 +47,7 @@ use Rattle.machine.specs.Sending.{IsStart}
 use Rattle.machine.specs.Cutting.{restarts}
 
 -- THE PIECE COMES BACK
-pub finish_begins : (v : DeviceView) (books : Books) (tag : ℕ) (v' : DeviceView) → IsPort v.rules → (c : IsCoupled v books) → IsSound v.state → AreCounted v.rules v.state → All (IsUnfinished v.rules v.state) v.state.requests → (h : Finishes v tag v')
+pub finish_begins : (v : DeviceView) (books : TableView) (tag : ℕ) (v' : DeviceView) → IsPort v.rules → (c : IsCoupled v books) → IsSound v.state → AreCounted v.rules v.state → All (IsUnfinished v.rules v.state) v.state.requests → (h : Finishes v tag v')
     → IsTaking (class_rules v.rules) (above c.j) (Return h.piece.number h.class ∷ h.starts) v'.state (knowns (class_rules v.rules) books) × EndedAre WasSent v.rules v'.state
 finish_begins v books tag v' port c sound counted unfinished h = (
   taking_begins (class_rules v.rules) refl c.j v.state v'.state (knowns (class_rules v.rules) books) (Return h.piece.number h.class ∷ h.starts) c.same c.knows c.keeps sound
@@ -123,8 +123,8 @@ module _ (takes : Bool) (v : DeviceView) (climb : Climb) (spot : ℕ) (v' : Devi
       )
 
 -- ALL IS TAKEN: what the class driver shows has finished
-module _ (v : DeviceView) (books : Books) (h : IsInHand v books) (tag : ℕ) (v' : DeviceView) (f : Finishes v tag v')
-    (v'' : DeviceView) (books' : Books) (starts : List DeviceLabel) where
+module _ (v : DeviceView) (books : TableView) (h : IsInHand v books) (tag : ℕ) (v' : DeviceView) (f : Finishes v tag v')
+    (v'' : DeviceView) (books' : TableView) (starts : List DeviceLabel) where
   abbrev returned : ℕ → List DeviceLabel
   returned number = Return number f.class ∷ starts
 
@@ -176,14 +176,14 @@ packets_known rules [] = refl
 packets_known rules (e ∷ es) = ap (λ ns. e.1.irp.number ∷ ns) (packets_known rules es)
 
 -- what the class driver itself owes of its table, rooms and parts
-pub record IsKeptInTable (v : DeviceView) (books : Books) : Type 0 where
+pub record IsKeptInTable (v : DeviceView) (books : TableView) : Type 0 where
   pub port : IsPort v.rules
   pub rooms_out : AllOut v (tickets books)
   pub kept : AreKept (class_rules v.rules) books
   pub below : AreBelow v books
   pub apart : IsApart books
 
-pub in_hand_again : (v : DeviceView) (books : Books) (v' : DeviceView) → IsKeptInTable v books → IsCoupled v books → IsSound v.state
+pub in_hand_again : (v : DeviceView) (books : TableView) (v' : DeviceView) → IsKeptInTable v books → IsCoupled v books → IsSound v.state
     → AreCounted v.rules v.state → IsOrderly v → AreDistinct (view_of v books).state → HandsUpNone v v' → IsInHand v books
 in_hand_again v books v' own c sound counted ordered distinct none =
     let rules : Rules = class_rules v.rules in
@@ -209,5 +209,5 @@ in_hand_again v books v' own c sound counted ordered distinct none =
     }
 
 -- numbers stay distinct above
-pub distinct_behind : (v : DeviceView) (books : Books) (tag : ℕ) (v' : DeviceView) (books' : Books) → AreDistinct (view_of v books).state → Finishes (view_of v books) tag (view_of v' books') → AreDistinct (view_of v' books').state
+pub distinct_behind : (v : DeviceView) (books : TableView) (tag : ℕ) (v' : DeviceView) (books' : TableView) → AreDistinct (view_of v books).state → Finishes (view_of v books) tag (view_of v' books') → AreDistinct (view_of v' books').state
 distinct_behind v books tag v' books' distinct f = AreDistinct-Run (class_rules v.rules) (view_of v books).state (map as_label (Return f.piece.number f.class ∷ f.starts)) (view_of v' books').state distinct f.moves.run

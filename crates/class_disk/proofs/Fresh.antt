@@ -18,10 +18,10 @@ use Rattle.std.specs.Prelude.{IsPermutation}
 use Rattle.device.specs.inside.Out.{IsGood, tickets_of}
 use Rattle.device.specs.Served.{IsUnfinished}
 use Rattle.class_disk.specs.declared.Sizes.{Sizes}
-use Rattle.class_disk.specs.inside.Kept.{IsMadeUp, AgreesOnCancel, IsInTurn, IsInPieces, IsOver, HasSome}
+use Rattle.class_disk.specs.inside.Invariant.{IsMadeUp, AgreesOnCancel, IsInTurn, IsInPieces, IsOver, HasSome}
 use Rattle.class_disk.specs.Shown.{class_rules, IsPort, joint_of}
-use Rattle.class_disk.specs.inside.Books.{Books}
-use Rattle.class_disk.specs.inside.Turns.{empty_books}
+use Rattle.class_disk.specs.inside.TableView.{TableView}
+use Rattle.class_disk.specs.inside.TableCalls.{empty_books}
 use Rattle.class_disk.specs.inside.Driver.{IsInHand, IsHeld, IsOpen, HaveCauses, AreAsked, AreSpotted}
 use Rattle.class_disk.specs.Opening.{IsFreshPort}
 use Rattle.class_disk.proofs.Owned.{apart_none}
@@ -145,11 +145,11 @@ hand_fresh v sizes places none port orderly size longest sectors =
       };
     }
 
-pub opens_in_hand : (v : DeviceView) (sizes : Sizes) (places : ℕ) (b : Books) → IsFreshPort v → IsOrderly v → b ≡ empty_books sizes places
+pub opens_in_hand : (v : DeviceView) (sizes : Sizes) (places : ℕ) (b : TableView) → IsFreshPort v → IsOrderly v → b ≡ empty_books sizes places
     → sizes.sector_size ≡ v.rules.sector_size → sizes.max_transfer ≡ v.rules.longest → sizes.disk_sectors ≡ sectors_of v.rules (Some 0)
     → IsInHand v b
 opens_in_hand v sizes places b f orderly empty size longest sectors =
     let v_is : v ≡ fresh v = fresh_is v f.state f.packets f.submitted in
-    subst (λ (x : Books). IsInHand v x) (sym empty)
+    subst (λ (x : TableView). IsInHand v x) (sym empty)
     (subst (λ (x : DeviceView). IsInHand x (empty_books sizes places)) (sym v_is)
     (hand_fresh v sizes places f.rooms f.port (subst IsOrderly v_is orderly) size longest sectors))

@@ -24,10 +24,10 @@ use Rattle.class_disk.specs.declared.parts.Progress.TheVariants.{Ready, Below, E
 use Rattle.class_disk.specs.inside.Joint.{Sent, Known, note_of, known_of, Divided, Joint, Below as IsBelow}
 use Rattle.class_disk.specs.Shown.{class_rules}
 use Rattle.class_disk.specs.inside.Parts.{unfinished_of, unfinished_by}
-use Rattle.class_disk.specs.inside.Books.{Opened, Books, opened, all_open, ended_in, open_at}
+use Rattle.class_disk.specs.inside.TableView.{Opened, TableView, opened, all_open, ended_in, open_at}
 use Rattle.class_disk.specs.inside.Driver.{note_by, note, known, knowns, IsOpen, AreSpotted, IsSpotted, IsSpottedBy}
 use Rattle.class_disk.specs.inside.Owners.{IsOwnedBy, AreOwnedFrom, slot_at, place_at}
-use Rattle.class_disk.specs.inside.Midway.{IsMidway}
+use Rattle.class_disk.specs.inside.DuringACall.{IsMidway}
 use Rattle.class_disk.proofs.CoupledRun.{Contains-map}
 use Rattle.class_disk.proofs.CoupledSteps.{divided_with}
 use Rattle.class_disk.proofs.Focus.{Found, find}
@@ -95,18 +95,18 @@ same_spot v o packet there spot number is (i, x, low, x_is, at) =
     flips m n = search (rules, tests)
 
 -- the part of a packet of this number, at this spot
-pub record Handed (b : Books) (number spot : ℕ) : Type 0 where
+pub record Handed (b : TableView) (number spot : ℕ) : Type 0 where
   pub o : Opened
   pub part : Part
   pub stands : PartStands b (slot_at b.owners spot) (place_at b.owners spot) o part number spot
 
 -- at some spot
-record HandedAt (v : DeviceView) (b : Books) (number : ℕ) : Type 0 where
+record HandedAt (v : DeviceView) (b : TableView) (number : ℕ) : Type 0 where
   spot : ℕ
   handed : Handed b number spot
   spotted : Any (IsAt spot number) v.packets
 
-module _ (Is : OpenRequest → Type 0) (first : State) (labels : List DeviceLabel) (v : DeviceView) (b : Books) (m : IsMidway Is first labels v b)
+module _ (Is : OpenRequest → Type 0) (first : State) (labels : List DeviceLabel) (v : DeviceView) (b : TableView) (m : IsMidway Is first labels v b)
     (r : AreRising 0 b.opens) where
   abbrev rules_here : Rules
   rules_here = class_rules v.rules

@@ -29,10 +29,10 @@ use Rattle.device.specs.Served.{SetsRoom, HandsUp, cut, sectors_moved}
 use Rattle.class_disk.specs.declared.parts.Part.{Part}
 use Rattle.class_disk.specs.inside.Blocks.{part_count_of}
 use Rattle.class_disk.specs.inside.Parts.{lowest_status, joined_of}
-use Rattle.class_disk.specs.inside.Books.{Opened, Books, Held}
-use Rattle.class_disk.specs.inside.Turns.{payload_up, Completes}
+use Rattle.class_disk.specs.inside.TableView.{Opened, TableView, ClosedSlot}
+use Rattle.class_disk.specs.inside.TableCalls.{payload_up, Completes}
 use Rattle.class_disk.specs.inside.Joint.{Known, parts_marks}
-use Rattle.class_disk.specs.inside.Kept.{IsMadeUp, noted_busy}
+use Rattle.class_disk.specs.inside.Invariant.{IsMadeUp, noted_busy}
 use Rattle.class_disk.specs.inside.Driver.{view_of, note, packet_above, IsInHand, IsOpen}
 use Rattle.class_disk.proofs.Acting.{parts_long}
 use Rattle.class_disk.proofs.EndedParts.{marks_noted, IsGoodPart, all_good}
@@ -72,7 +72,7 @@ bytes_kept : (joins : Bool) (payload : Payload) (parts : List Part) → joins �
 bytes_kept false payload parts is = refl
 bytes_kept true payload parts is = absurd (cc (is))
 
-module _ (v : DeviceView) (b : Books) (h : IsInHand v b) (ordered : IsOrderly v)
+module _ (v : DeviceView) (b : TableView) (h : IsInHand v b) (ordered : IsOrderly v)
     (slot : ℕ) (o : Opened) (opens' : List (ℕ × Opened)) (ended' : List ℕ) (is_in : IsPermutation b.opens ((slot, o) ∷ opens')) (over : o.unfinished ≡ 0) where
   abbrev own_rules : Rules
   own_rules = rules v b h ordered slot o opens' ended' is_in over
@@ -138,10 +138,10 @@ module _ (v : DeviceView) (b : Books) (h : IsInHand v b) (ordered : IsOrderly v)
       ∙ ap (λ n. map Done (cut n own_rules.sector_size (payload_bytes o.irp.payload))) (all_places all)
       ∙ ap moved_marks (sym (other (λ x. cc (x))))
 
-  module _ (climb : Climb) (places : Places) (c : Completes b.sizes o climb places) (held' : List Held) (rooms' : List (Option Reserved))
+  module _ (climb : Climb) (places : Places) (c : Completes b.sizes o climb places) (held' : List ClosedSlot) (rooms' : List (Option Reserved))
       (sets : SetsRoom b.rooms slot None (Some (record { request = o.request; whole = false })) rooms') where
     -- the table, with what it leaves behind
-    abbrev pub left_now : Books
+    abbrev pub left_now : TableView
     left_now = record (b' v b h ordered slot o opens' ended' is_in over) { held = held'; rooms = rooms' }
 
     abbrev payload : Payload

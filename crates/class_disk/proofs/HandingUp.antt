@@ -17,9 +17,9 @@ use Rattle.device.specs.View.{DeviceView, IsBounded, IsOrderly}
 use Rattle.class_disk.specs.declared.parts.Part.{Part}
 use Rattle.class_disk.specs.inside.Blocks.{part_count_of, part_request_of, requests_for}
 use Rattle.class_disk.specs.inside.Parts.{lowest_status}
-use Rattle.class_disk.specs.inside.Books.{Opened, Books, opened}
+use Rattle.class_disk.specs.inside.TableView.{Opened, TableView, opened}
 use Rattle.class_disk.specs.inside.Joint.{note_of, Known, known_of, Divided, Joint, parts_marks, parts_busy, lifted_pieces, requests_below, pieces_below, pieces_above, shown, below, above}
-use Rattle.class_disk.specs.inside.Kept.{IsMadeUp, AgreesOnCancel, IsAhead, AreBehind, IsInTurn, IsInPieces, Keeps, IsOver, noted_busy}
+use Rattle.class_disk.specs.inside.Invariant.{IsMadeUp, AgreesOnCancel, IsAhead, AreBehind, IsInTurn, IsInPieces, Keeps, IsOver, noted_busy}
 use Rattle.class_disk.specs.Shown.{class_rules, shown_state}
 use Rattle.class_disk.specs.inside.Driver.{known, knowns, view_of, note, request_of_part, IsOpen, HaveCauses, IsInHand}
 use Rattle.class_disk.proofs.Focus.{below_first}
@@ -65,13 +65,13 @@ split_known [] k c = absurd (let w = c.1 in omega arith)
 split_known (e ∷ es) k (zero, low, is) = ([], e, es, refl, is)
 split_known (e ∷ es) k (suc n, low, is) = let r = split_known es k (n, omega arith, is) in (e ∷ r.0, r.1, r.2, ap (λ zs. e ∷ zs) r.3, r.4)
 
-module _ (v : DeviceView) (b : Books) (h : IsInHand v b) (ordered : IsOrderly v)
+module _ (v : DeviceView) (b : TableView) (h : IsInHand v b) (ordered : IsOrderly v)
     (slot : ℕ) (o : Opened) (opens' : List (ℕ × Opened)) (ended' : List ℕ) (is_in : IsPermutation b.opens ((slot, o) ∷ opens')) (over : o.unfinished ≡ 0) where
   abbrev pub rules : Rules
   rules = class_rules v.rules
 
   -- the table without it
-  abbrev pub b' : Books
+  abbrev pub b' : TableView
   b' = record b { opens = opens'; ended = ended' }
 
   pub is_open : IsOpen rules b.owners (slot, o)

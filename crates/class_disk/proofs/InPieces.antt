@@ -13,7 +13,7 @@ use Rattle.machine.specs.State.{Mark, Untouched, Out, Done, Failed, Back, OpenRe
 use Rattle.machine.specs.Cutting.{mark_at, piece_count, count_below, pieces_with, is_back, restarts_left}
 use Rattle.machine.specs.Sending.{IsSendable, IsWholeRequest, LeavesMarks, is_untouched, sent, given_back, one_if_busy}
 use Rattle.class_disk.specs.inside.Joint.{Part, Below, Here, Divided, shown_mark, parts_marks, parts_busy, shown}
-use Rattle.class_disk.specs.inside.Kept.{places_in, AreCut, one_if_back, begins_back, parts_back, IsInPieces}
+use Rattle.class_disk.specs.inside.Invariant.{places_in, AreCut, one_if_back, begins_back, parts_back, IsInPieces}
 use Rattle.class_disk.proofs.Coupled.{marks-append, busy-append}
 
 -- THE MARKS OF ONE PART

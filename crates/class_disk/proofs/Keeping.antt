@@ -12,7 +12,7 @@ use Rattle.machine.specs.State.{Mark, Untouched, Out, Done, Failed, Back, OpenRe
 use Rattle.machine.specs.Numbers.{request_number}
 use Rattle.machine.specs.Sending.{is_started, is_untouched}
 use Rattle.class_disk.specs.inside.Joint.{Part, Below, Here, Divided, Joint, IsPartOf, parts_requests, parts_marks, shown}
-use Rattle.class_disk.specs.inside.Kept.{IsOwnedBy, AreParts, IsMadeUp, IsCancelledAs, AgreesOnCancel, HasPartBefore, IsAhead, AreBehind, IsInTurn, begins_back, IsInPieces, Keeps}
+use Rattle.class_disk.specs.inside.Invariant.{IsOwnedBy, AreParts, IsMadeUp, IsCancelledAs, AgreesOnCancel, HasPartBefore, IsAhead, AreBehind, IsInTurn, begins_back, IsInPieces, Keeps}
 use Rattle.class_disk.proofs.Coupled.{requests-append, marks-append}
 use Rattle.class_disk.proofs.InPieces.{in_pieces_with}
 use Rattle.class_disk.proofs.CoupledMarks.{started_part, all_of_append}

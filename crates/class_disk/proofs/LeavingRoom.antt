@@ -18,9 +18,9 @@ use Rattle.class_disk.specs.inside.Owners.{IsOwnedBy, AreOwnedFrom}
 use Rattle.class_disk.specs.declared.parts.Part.{Part}
 use Rattle.class_disk.specs.declared.requests.Places.{Places}
 use Rattle.class_disk.specs.inside.Parts.{IsHere, tickets_of}
-use Rattle.class_disk.specs.inside.Books.{Opened, Books, opened, left_as, all_open, ended_in, open_from}
-use Rattle.class_disk.specs.inside.Turns.{AddsSlot, TakesEnded, Completes}
-use Rattle.class_disk.specs.inside.Kept.{HasSome, IsOver}
+use Rattle.class_disk.specs.inside.TableView.{Opened, TableView, opened, left_as, all_open, ended_in, open_from}
+use Rattle.class_disk.specs.inside.TableCalls.{AddsSlot, TakesEnded, Completes}
+use Rattle.class_disk.specs.inside.Invariant.{HasSome, IsOver}
 use Rattle.class_disk.specs.Shown.{class_rules}
 use Rattle.class_disk.specs.inside.Driver.{known, knowns, view_of, tickets, tickets_held, tickets_open, IsCut, IsBuffered, IsHeld, IsOpen, HaveCauses, AreAsked, AreSpotted, AreKept, AreBelow, IsCoupled, IsInHand}
 use Rattle.class_disk.proofs.AnyOrder.{second_first, rooms_same, held_same, ended_same, left_same}
@@ -33,23 +33,23 @@ use Rattle.class_disk.proofs.Ended.{over_it}
 
 -- THE ROOM LEFT
 
-module _ (v : DeviceView) (b : Books) (h : IsInHand v b) (ordered : IsOrderly v)
-    (slots : Slots) (of_slots : b.opens ≡ open_from 0 slots) (slot : ℕ) (o : Opened) (new : Books) (t : TakesEnded b slot o new) (climb : Climb) (places : Places) (c : Completes new.sizes o climb places)
-    (last : Books) (adds : AddsSlot new (left_as slot places) last) (apart : IsApart last) where
+module _ (v : DeviceView) (b : TableView) (h : IsInHand v b) (ordered : IsOrderly v)
+    (slots : Slots) (of_slots : b.opens ≡ open_from 0 slots) (slot : ℕ) (o : Opened) (new : TableView) (t : TakesEnded b slot o new) (climb : Climb) (places : Places) (c : Completes new.sizes o climb places)
+    (last : TableView) (adds : AddsSlot new (left_as slot places) last) (apart : IsApart last) where
   abbrev rules : Rules
   rules = class_rules v.rules
 
   over : o.unfinished ≡ 0
   over = over_it v b h ordered slots of_slots slot o new t
 
-  abbrev left : Books
+  abbrev left : TableView
   left = record (b' v b h ordered slot o new.opens new.ended t.opens over) { held = last.held; rooms = last.rooms }
 
   is_left : last ≡ left
-  is_left = adds.after ∙ ap (λ (x : Books). record x { held = last.held; rooms = last.rooms }) t.after
+  is_left = adds.after ∙ ap (λ (x : TableView). record x { held = last.held; rooms = last.rooms }) t.after
 
   one_more : IsPermutation last.held (left_as slot places ∷ b.held)
-  one_more = subst (λ hs. IsPermutation last.held (left_as slot places ∷ hs)) (ap (λ (x : Books). x.held) t.after) adds.more
+  one_more = subst (λ hs. IsPermutation last.held (left_as slot places ∷ hs)) (ap (λ (x : TableView). x.held) t.after) adds.more
 
   own : IsOpen rules b.owners (slot, o)
   own = is_open v b h ordered slot o new.opens new.ended t.opens over

@@ -17,7 +17,7 @@ use Rattle.class_disk.specs.declared.parts.TransferPacket.{TransferPacket}
 use Rattle.class_disk.specs.declared.parts.Progress.TheVariants.{Ready}
 use Rattle.class_disk.specs.inside.Owners.{IsOwner, IsOwnedBy, AreOwnedFrom, KeepsOwners, OwnsSpot}
 use Rattle.class_disk.specs.inside.Driver.{IsSpotted}
-use Rattle.class_disk.specs.inside.Midway.{StaysOwned, StaysTaken, MakesNone, MakesRoom, MakesParts}
+use Rattle.class_disk.specs.inside.DuringACall.{StaysOwned, StaysTaken, MakesNone, MakesRoom, MakesParts}
 use Rattle.class_disk.proofs.Owned.{owned_joined}
 use Rattle.class_disk.proofs.PartRooms.{put_behind}
 use Rattle.class_disk.proofs.Reserving.{reserves_same, reserves_joined, reserves_freed, owned_stays, here_spotted, all_both}

@@ -24,10 +24,10 @@ use Rattle.class_disk.specs.declared.parts.Part.{Part as DriverPart}
 use Rattle.class_disk.specs.declared.parts.Progress.{Progress}
 use Rattle.class_disk.specs.declared.parts.Progress.TheVariants.{Ready, Below as SentBelow, Ended as HasEnded}
 use Rattle.class_disk.specs.inside.Joint.{Part, Below, Here, Sent, Kept, note_of, Divided, Joint, parts_requests, requests_below, pieces_below, below}
-use Rattle.class_disk.specs.inside.Kept.{IsSound, IsCancelledAs, EndsUnsent}
+use Rattle.class_disk.specs.inside.Invariant.{IsSound, IsCancelledAs, EndsUnsent}
 use Rattle.class_disk.specs.inside.Parts.{below_by}
 use Rattle.class_disk.specs.inside.Driver.{note, note_by, AsksUnder, IsSpotted, IsSpottedBy}
-use Rattle.class_disk.specs.inside.Midway.{CancelsBelow, CancelsAll, packet_of_part}
+use Rattle.class_disk.specs.inside.DuringACall.{CancelsBelow, CancelsAll, packet_of_part}
 use Rattle.class_disk.proofs.Coupled.{pieces-append}
 use Rattle.class_disk.proofs.CoupledSteps.{divided_with, changed_below, request_first}
 use Rattle.class_disk.proofs.Ending.{unsent_cancels}

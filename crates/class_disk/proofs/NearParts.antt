@@ -8,7 +8,7 @@ use Rattle.device.specs.View.{DeviceView, sectors_asked}
 use Rattle.device.specs.Served.{Reserves, ReservesNear}
 use Rattle.device.proofs.Reserving.{home_further, near_part}
 use Rattle.class_disk.specs.inside.Blocks.{part_request_of}
-use Rattle.class_disk.specs.inside.Books.{Books}
+use Rattle.class_disk.specs.inside.TableView.{TableView}
 use Rattle.class_disk.specs.inside.Driver.{view_of}
 
 -- the sectors that a part asks for are some of its request's
@@ -31,5 +31,5 @@ near_more v v1 v2 limit r part k is reserves first second =
     (subst (λ (q : Request). ReservesNear v1 q v2) is second)
 
 -- what is reserved below is for what is shown
-pub near_above : (v v' : DeviceView) (b b' : Books) (old : DeviceView) (r : Request) → view_of v b ≡ old → ReservesNear v r v' → ReservesNear old r (view_of v' b')
+pub near_above : (v v' : DeviceView) (b b' : TableView) (old : DeviceView) (r : Request) → view_of v b ≡ old → ReservesNear v r v' → ReservesNear old r (view_of v' b')
 near_above v v' b b' old r shown near = subst (λ (x : DeviceView). ReservesNear x r (view_of v' b')) shown near

@@ -13,10 +13,10 @@ use Rattle.class_disk.specs.inside.Blocks.{AreSizes, part_count_of, part_request
 use Rattle.class_disk.specs.inside.Parts.{HasBuffers, IsHere, IsHereBy}
 use Rattle.class_disk.specs.declared.parts.PartId.{PartId}
 use Rattle.class_disk.specs.inside.Owners.{AreOwnedFrom}
-use Rattle.class_disk.specs.inside.Books.{Held}
+use Rattle.class_disk.specs.inside.TableView.{ClosedSlot}
 use Rattle.device.specs.View.{IsBounded}
 use Rattle.class_disk.specs.inside.Driver.{IsCut, IsHeld, request_of_part, IsReadyPart, IsReadyBy, IsBuffered, IsBufferedBy}
-use Rattle.class_disk.specs.inside.Midway.{IsNewPart, AreNewParts}
+use Rattle.class_disk.specs.inside.DuringACall.{IsNewPart, AreNewParts}
 
 -- the item behind a list is the last one
 get_behind : {X : Type 0} (xs : List X) (x y : X) (k : ℕ) → slice_get (xs ++ x ∷ []) k ≡ Some y
@@ -111,7 +111,7 @@ module _ (sizes : Sizes) (r : Request) where
             ap (λ x. x ∷ map request_of_part ps) head ∙ ap (λ xs. part_request_of limit r first ∷ xs) rest
 
   -- a slot with all parts of its request
-  pub new_held : (rules : Rules) (owners : List PartId) (held : Held) → held.request ≡ r → AreSizes sizes rules → IsBounded rules r
+  pub new_held : (rules : Rules) (owners : List PartId) (held : ClosedSlot) → held.request ≡ r → AreSizes sizes rules → IsBounded rules r
       → AreNewParts sizes r (part_count_of sizes.max_transfer r) held.parts → AreOwnedFrom owners held.slot 0 held.parts → IsHeld rules owners held
   new_held rules owners held is are bounded h owned = record {
     cut = subst (λ q. IsCut rules q held.parts) (sym is) (record {

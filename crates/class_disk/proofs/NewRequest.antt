@@ -21,13 +21,13 @@ use Rattle.class_disk.specs.declared.parts.Part.{Part}
 use Rattle.class_disk.specs.declared.parts.Progress.{Progress}
 use Rattle.class_disk.specs.declared.parts.Progress.TheVariants.{Ready, Below, Ended}
 use Rattle.class_disk.specs.inside.Blocks.{part_count_of, part_request_of}
-use Rattle.class_disk.specs.inside.Books.{Books, opened}
-use Rattle.class_disk.specs.inside.Turns.{OpensAt, new_opened}
+use Rattle.class_disk.specs.inside.TableView.{TableView, opened}
+use Rattle.class_disk.specs.inside.TableCalls.{OpensAt, new_opened}
 use Rattle.class_disk.specs.inside.Joint.{Known, shown, above}
-use Rattle.class_disk.specs.inside.Kept.{AreCut}
+use Rattle.class_disk.specs.inside.Invariant.{AreCut}
 use Rattle.class_disk.specs.Shown.{class_rules}
 use Rattle.class_disk.specs.inside.Driver.{view_of, known, knowns, note, note_by, places_of, IsReadyPart, IsReadyBy, IsInHand, AreKept, IsHeld, IsCut, request_of_part}
-use Rattle.class_disk.specs.inside.Midway.{IsTaking}
+use Rattle.class_disk.specs.inside.DuringACall.{IsTaking}
 use Rattle.class_disk.proofs.Acting.{shows}
 use Rattle.class_disk.proofs.Orderly.{All-from_map}
 use Rattle.class_disk.proofs.Admitting.{not_refused, carries_bytes, sectors_are}
@@ -162,10 +162,10 @@ taking_permuted rules first labels s ks ks' p t = record {
 }
 
 -- the room that a packet came to
-pub held_there : (rules : Rules) (b : Books) (slot : ℕ) (irp : Irp) (b1 : Books) (opens : OpensAt b slot irp b1) → AreKept rules b → IsHeld rules b.owners opens.held
+pub held_there : (rules : Rules) (b : TableView) (slot : ℕ) (irp : Irp) (b1 : TableView) (opens : OpensAt b slot irp b1) → AreKept rules b → IsHeld rules b.owners opens.held
 held_there rules b slot irp b1 opens k = All-head (IsHeld rules b.owners) opens.held b1.held (All-permutation (IsHeld rules b.owners) _ _ opens.fewer k.in_hand)
 
-module _ (v : DeviceView) (b : Books) (h : IsInHand v b) (slot : ℕ) (irp : Irp) (b1 : Books) (opens : OpensAt b slot irp b1)
+module _ (v : DeviceView) (b : TableView) (h : IsInHand v b) (slot : ℕ) (irp : Irp) (b1 : TableView) (opens : OpensAt b slot irp b1)
     (high : (view_of v b).state.next_request ≤ irp.number) (stays : IsFalse (view_of v b).state.removing) (timely : IsFalse irp.cancelled)
     (carries : Carries false (class_rules v.rules) opens.held.request irp.payload)
     -- all parts have as many places as the request

@@ -10,16 +10,16 @@ use Rattle.machine.specs.Settled.{Settled}
 use Rattle.machine.proofs.Same.{none_there}
 use Rattle.device.specs.View.{DeviceView, IsOrderly}
 use Rattle.device.specs.Served.{IsUnfinished, HandsUpNone}
-use Rattle.class_disk.specs.inside.Turns.{TakesNone}
+use Rattle.class_disk.specs.inside.TableCalls.{TakesNone}
 use Rattle.class_disk.specs.declared.parts.Part.{Part}
 use Rattle.class_disk.specs.declared.parts.PartId.{PartId}
 use Rattle.class_disk.specs.declared.parts.Progress.{Progress}
 use Rattle.class_disk.specs.declared.parts.Progress.TheVariants.{Ready, Below as SentBelow, Ended as PartEnded}
 use Rattle.class_disk.specs.inside.Parts.{WasSent, WasSentBy, unfinished_by, unfinished_of}
-use Rattle.class_disk.specs.inside.Books.{Opened, Books, opened, ended_in}
+use Rattle.class_disk.specs.inside.TableView.{Opened, TableView, opened, ended_in}
 use Rattle.class_disk.specs.inside.Joint.{Part as JointPart, Below, Here, Sent, note_of, Known, known_of, Divided, parts_requests, above}
 use Rattle.class_disk.specs.PortRules.{below_rules}
-use Rattle.class_disk.specs.inside.Kept.{IsOver}
+use Rattle.class_disk.specs.inside.Invariant.{IsOver}
 use Rattle.class_disk.specs.Shown.{class_rules}
 use Rattle.class_disk.specs.inside.Driver.{known, view_of, note, note_by, IsOpen, IsInHand}
 use Rattle.class_disk.proofs.Resting.{AreEndedHere, HasBelow, settled_above, unfinished_above}
@@ -69,7 +69,7 @@ module _ (rules : Rules) where
           let r = sent_some x.1.parts own.sent some in
           All-cons IsBelowSome (known rules x.1) (map (known rules) (map opened es)) (record { number = r.0; again = r.1; there = r.2 }) (rest none)
 
-module _ (v : DeviceView) (b : Books) (h : IsInHand v b) (ordered : IsOrderly v) (none : b.ended ≡ []) where
+module _ (v : DeviceView) (b : TableView) (h : IsInHand v b) (ordered : IsOrderly v) (none : b.ended ≡ []) where
   abbrev rules : Rules
   rules = class_rules v.rules
 
@@ -111,5 +111,5 @@ module _ (v : DeviceView) (b : Books) (h : IsInHand v b) (ordered : IsOrderly v)
       (unfinished_above rules h.port.no_window h.coupled.j v.state h.coupled.same h.sound ordered.places h.coupled.keeps
       unfinished_below settled_below ended_here refl all_have)
 
-  pub none_up : (new : Books) → TakesNone b new → HandsUpNone (view_of v b) (view_of v new)
+  pub none_up : (new : TableView) → TakesNone b new → HandsUpNone (view_of v b) (view_of v new)
   none_up new t = record { unfinished = unfinished_shown; settled = settled_shown; same = ap (view_of v) t.same }

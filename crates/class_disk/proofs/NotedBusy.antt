@@ -8,7 +8,7 @@ use Rattle.class_disk.specs.declared.parts.Progress.TheVariants.{Ready, Below, E
 use Rattle.class_disk.specs.declared.parts.Outcome.{Outcome}
 use Rattle.class_disk.specs.declared.parts.Outcome.TheVariants.{Good, Failed as IsBad, Busy, Withdrawn}
 use Rattle.class_disk.specs.inside.Joint.{Note}
-use Rattle.class_disk.specs.inside.Kept.{AreCut, begins_back, noted_busy}
+use Rattle.class_disk.specs.inside.Invariant.{AreCut, begins_back, noted_busy}
 use Rattle.class_disk.specs.inside.Parts.{payload_in, restarts_of}
 use Rattle.class_disk.specs.inside.Driver.{places_of, marks_left, busy_left, note, note_by}
 use Rattle.class_disk.proofs.Restarting.{noted_back}

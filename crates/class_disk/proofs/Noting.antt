@@ -12,10 +12,10 @@ use Rattle.class_disk.specs.declared.parts.Progress.TheVariants.{Below}
 use Rattle.device.specs.inside.Out.{Ticket}
 use Rattle.class_disk.specs.declared.parts.PartId.{PartId}
 use Rattle.class_disk.specs.inside.Joint.{Note, Known}
-use Rattle.class_disk.specs.inside.Kept.{noted_busy}
+use Rattle.class_disk.specs.inside.Invariant.{noted_busy}
 use Rattle.class_disk.specs.inside.Parts.{ticket_for, tickets_of, ticket_by, WasSent, restarts_of, unfinished_of, unfinished_by}
-use Rattle.class_disk.specs.inside.Books.{Opened, Books, opened, all_open, ended_in, restarts_left}
-use Rattle.class_disk.specs.inside.Turns.{ended_part, ended_at, ended_books}
+use Rattle.class_disk.specs.inside.TableView.{Opened, TableView, opened, all_open, ended_in, restarts_left}
+use Rattle.class_disk.specs.inside.TableCalls.{ended_part, ended_at, ended_books}
 use Rattle.class_disk.specs.inside.Driver.{note, known, knowns, tickets_open, packet_above, request_of_part, IsOpen, IsBuffered, IsWritten, AreKept, IsCause, IsCauseBy, HaveCauses}
 use Rattle.class_disk.specs.inside.Owners.{IsOwnedBy, AreOwnedFrom}
 use Rattle.class_disk.proofs.Retaking.{known_at}
@@ -61,7 +61,7 @@ owned_ended owners slot first ended [] part back h = (tt, h.1)
 owned_ended owners slot first ended (x ∷ front) part back h = (h.0, owned_ended owners slot (first + 1) ended front part back h.1)
 
 -- the open request in a slot, and its part at a place, which is below under this number
-pub record PartStands (b : Books) (slot k : ℕ) (o : Opened) (part : Part) (number spot : ℕ) : Type 0 where
+pub record PartStands (b : TableView) (slot k : ℕ) (o : Opened) (part : Part) (number spot : ℕ) : Type 0 where
   pub stands : StandsIn b.opens slot o
   pub front : List Part
   pub back : List Part
@@ -69,11 +69,11 @@ pub record PartStands (b : Books) (slot k : ℕ) (o : Opened) (part : Part) (num
   pub place : length front ≡ k
   pub is_below : part.progress ≡ Below number spot
 
-module _ (rules : Rules) (b : Books) (slot k : ℕ) (o : Opened) (part : Part) (number spot : ℕ) (s : PartStands b slot k o part number spot) (ended : Ended) where
+module _ (rules : Rules) (b : TableView) (slot k : ℕ) (o : Opened) (part : Part) (number spot : ℕ) (s : PartStands b slot k o part number spot) (ended : Ended) where
   abbrev pub now : Opened
   now = ended_at k ended part o
 
-  abbrev pub books_now : Books
+  abbrev pub books_now : TableView
   books_now = ended_books slot now b
 
   pub parts_now : now.parts ≡ s.front ++ (ended_part ended part ∷ s.back)

@@ -17,13 +17,13 @@ use Rattle.class_disk.proofs.Rooms.{out_any_order}
 use Rattle.class_disk.specs.inside.Owners.{AreOwnedFrom}
 use Rattle.class_disk.proofs.NewRequest.{held_there}
 use Rattle.class_disk.specs.inside.Blocks.{part_count_of, part_request_of}
-use Rattle.class_disk.specs.inside.Books.{Opened, Books, opened, all_open, ended_in}
+use Rattle.class_disk.specs.inside.TableView.{Opened, TableView, opened, all_open, ended_in}
 use Rattle.class_disk.specs.inside.Driver.{view_of, known, knowns, tickets, tickets_held, tickets_open, IsInHand, IsReadyBy, IsReadyPart, IsHeld, IsWrittenBy, IsAskedBy, IsSpottedBy, AreAsked, AreSpotted}
-use Rattle.class_disk.specs.inside.Kept.{IsNothing, IsIfEnded, EndedAre, HasSome}
-use Rattle.class_disk.specs.inside.Midway.{IsOpening}
+use Rattle.class_disk.specs.inside.Invariant.{IsNothing, IsIfEnded, EndedAre, HasSome}
+use Rattle.class_disk.specs.inside.DuringACall.{IsOpening}
 use Rattle.class_disk.specs.inside.Parts.{IsDown, restarts_of, tickets_of}
 use Rattle.class_disk.specs.Shown.{class_rules, IsPort}
-use Rattle.class_disk.specs.inside.Turns.{OpensAt, new_opened}
+use Rattle.class_disk.specs.inside.TableCalls.{OpensAt, new_opened}
 use Rattle.class_disk.proofs.AnyOrder.{rooms_same, held_same, ended_same, left_same}
 use Rattle.class_disk.proofs.Cutting.{can_cut}
 use Rattle.class_disk.proofs.PiecePlaces.{as_many, parts_some, places_some}
@@ -55,7 +55,7 @@ no_restarts (x ∷ parts) all =
 
 -- A REQUEST IS TAKEN IN
 
-module _ (v : DeviceView) (b : Books) (h : IsInHand v b) (slot : ℕ) (irp : Irp) (b1 : Books) (opens : OpensAt b slot irp b1)
+module _ (v : DeviceView) (b : TableView) (h : IsInHand v b) (slot : ℕ) (irp : Irp) (b1 : TableView) (opens : OpensAt b slot irp b1)
     (stays : IsFalse (view_of v b).state.removing) (timely : IsFalse irp.cancelled) (carries : Carries false (class_rules v.rules) opens.held.request irp.payload)
     (few : (view_of v b).submitted < (view_of v b).most) where
   abbrev rules : Rules
@@ -67,7 +67,7 @@ module _ (v : DeviceView) (b : Books) (h : IsInHand v b) (slot : ℕ) (irp : Irp
   abbrev o : Opened
   o = new_opened irp opens.held.request parts
 
-  abbrev b_new : Books
+  abbrev b_new : TableView
   b_new = record b { held = b1.held; rooms = b1.rooms; opens = b1.opens; last_request = irp.number; submitted = b.submitted + 1 }
 
   is_room : IsHeld rules b.owners opens.held
@@ -120,7 +120,7 @@ module _ (v : DeviceView) (b : Books) (h : IsInHand v b) (slot : ℕ) (irp : Irp
           by true is = absurd (let e = eqb-true n 0 is in omega arith)
 
   pub opening_begins : IsOpening v b1 slot 0
-  opening_begins = subst (λ (c : Books). IsOpening v c slot 0) (sym opens.after) (record {
+  opening_begins = subst (λ (c : TableView). IsOpening v c slot 0) (sym opens.after) (record {
     port = h.port;
     o = o;
     others = b.opens;

@@ -17,7 +17,7 @@ use Rattle.machine.proofs.Same.{IsSame-sym}
 use Rattle.machine.proofs.Numbers.{AreDistinct-same}
 use Rattle.class_disk.specs.inside.Joint.{Part, Below, Here, Sent, Kept, note_of, known_of, Divided, Joint, lifted, parts_pieces, parts_busy, parts_lifted, pieces_below, pieces_above, shown, below, above}
 use Rattle.class_disk.specs.PortRules.{below_rules}
-use Rattle.class_disk.specs.inside.Kept.{IsSound, Keeps, noted_busy, IsOverMark, IsOverNote, IsOver}
+use Rattle.class_disk.specs.inside.Invariant.{IsSound, Keeps, noted_busy, IsOverMark, IsOverNote, IsOver}
 use Rattle.class_disk.specs.Shown.{class_rules, IsPort}
 use Rattle.class_disk.proofs.Resting.{HasEndedHere, AreEndedHere, gone, all_sent, same_count}
 

@@ -9,7 +9,7 @@ use Rattle.machine.specs.State.{OpenRequest, State}
 use Rattle.machine.proofs.Permuting.{IsPermutation-uncons}
 use Rattle.device.specs.View.{DeviceView}
 use Rattle.device.specs.Served.{StaysOpen}
-use Rattle.class_disk.specs.inside.Books.{Opened, Books, opened, open_at}
+use Rattle.class_disk.specs.inside.TableView.{Opened, TableView, opened, open_at}
 use Rattle.class_disk.specs.inside.Driver.{known, knowns, view_of, IsCoupled}
 use Rattle.class_disk.specs.inside.Joint.{Part, Below, Here, Known, note_of, known_of, Divided, parts_requests, parts_marks, parts_busy, shown, shown_mark}
 use Rattle.class_disk.specs.Shown.{class_rules, open_under, part_of, divided_of}
@@ -48,7 +48,7 @@ module _ (s s' : State) where
       ap (λ m. record (shown (divided_of s (known_of e))) { marks = m }) (same_marks e.parts same)
       ∙ ap (λ n. record (shown (divided_of s' (known_of e))) { busy_returns = n }) (same_busy e.parts same)
 
-module _ (v : DeviceView) (b : Books) (v' : DeviceView) (b' : Books) (c : IsCoupled v b) (distinct : AreDistinct v.state)
+module _ (v : DeviceView) (b : TableView) (v' : DeviceView) (b' : TableView) (c : IsCoupled v b) (distinct : AreDistinct v.state)
     (distinct' : AreDistinct v'.state)
     (below : All (StaysOpen v'.state) v.state.requests) (same_rules : v'.rules ≡ v.rules) (table : (e : ℕ × Opened) → Contains b.opens e
     → Contains b'.opens e) where

@@ -15,7 +15,7 @@ use Rattle.machine.specs.Calling.{new_request}
 use Rattle.device.specs.View.{payload_bytes, sent_bytes}
 use Rattle.class_disk.specs.declared.parts.Part.{Part}
 use Rattle.class_disk.specs.inside.Blocks.{data_length, part_count_of, part_request_of}
-use Rattle.class_disk.specs.inside.Turns.{bytes_from}
+use Rattle.class_disk.specs.inside.TableCalls.{bytes_from}
 use Rattle.class_disk.specs.inside.Joint.{IsPartOf}
 use Rattle.class_disk.specs.PortRules.{below_rules}
 use Rattle.class_disk.specs.inside.Driver.{note, places_of, request_of_part, IsReadyPart}

@@ -13,22 +13,22 @@ use Rattle.class_disk.specs.declared.parts.TransferPacket.{TransferPacket}
 use Rattle.class_disk.specs.Opening.{TakesParts}
 use Rattle.class_disk.specs.inside.Blocks.{IsOwnPacket}
 use Rattle.class_disk.specs.inside.Parts.{payload_in, ticket_for}
-use Rattle.class_disk.specs.inside.Books.{Opened, Books, open_at}
-use Rattle.class_disk.specs.inside.Turns.{SendsPart, SendsPartAgain}
-use Rattle.class_disk.specs.inside.Midway.{CanSubmit, CanSendPart, CanSendAgain, SendsDown, SendsDownAgain}
+use Rattle.class_disk.specs.inside.TableView.{Opened, TableView, open_at}
+use Rattle.class_disk.specs.inside.TableCalls.{SendsPart, SendsPartAgain}
+use Rattle.class_disk.specs.inside.DuringACall.{CanSubmit, CanSendPart, CanSendAgain, SendsDown, SendsDownAgain}
 
 some_same : {X : Type 0} {x y : X} → Some x ≡ Some y → x ≡ y
 some_same {X} {x} {y} e = cc (e)
 
 -- the one part that is open there
-pub one_part : (b : Books) (slot k : ℕ) (o o' : Opened) (part part' : Part) → open_at slot b.opens ≡ Some o → slice_get o.parts k ≡ Some part
+pub one_part : (b : TableView) (slot k : ℕ) (o o' : Opened) (part part' : Part) → open_at slot b.opens ≡ Some o → slice_get o.parts k ≡ Some part
     → open_at slot b.opens ≡ Some o' → slice_get o'.parts k ≡ Some part' → part ≡ part'
 one_part b slot k o o' part part' is_open is_there open' there' =
     let same : o' ≡ o = some_same (sym open' ∙ is_open) in
     some_same (sym is_there ∙ ap (λ (x : Opened). slice_get x.parts k) (sym same) ∙ there')
 
 -- a packet of the class driver's own can be submitted, in a room that is out for its request
-module _ (takes : Bool) (stack : ℕ) (t : TakesParts takes stack) (v : DeviceView) (b : Books) (old : TransferPacket) (others : List Ticket) (r : Request) (c : CanSubmit v b old others r)
+module _ (takes : Bool) (stack : ℕ) (t : TakesParts takes stack) (v : DeviceView) (b : TableView) (old : TransferPacket) (others : List Ticket) (r : Request) (c : CanSubmit v b old others r)
     (packet : TransferPacket) (room : packet.room ≡ old.room) (own : IsOwnPacket b.next_packet r (payload_in packet) packet.irp.value) where
   room_is : room_at v.rooms packet.room.spot ≡ Some (whole_for r)
   room_is = ap (λ (x : Room). room_at v.rooms x.spot) room ∙ out_first v (ticket_for r old) others c.rooms_out
@@ -58,26 +58,26 @@ module _ (takes : Bool) (stack : ℕ) (t : TakesParts takes stack) (v : DeviceVi
 -- THE TWO WAYS DOWN
 
 -- what a part's own packet is
-pub own_sent : (b : Books) (slot k : ℕ) (o : Opened) (part : Part) (place : Place) (packet : TransferPacket) (sent : Books) (s : SendsPart b slot k o part place packet sent)
+pub own_sent : (b : TableView) (slot k : ℕ) (o : Opened) (part : Part) (place : Place) (packet : TransferPacket) (sent : TableView) (s : SendsPart b slot k o part place packet sent)
     → IsOwnPacket b.next_packet part.request (payload_in packet) packet.irp.value
 own_sent b slot k o part place packet sent s = subst (λ p. IsOwnPacket b.next_packet part.request p packet.irp.value) (sym s.sends.own.is_payload) s.sends.own
 
-pub own_again : (b : Books) (slot k : ℕ) (old : TransferPacket) (o : Opened) (part : Part) (packet : TransferPacket) (sent : Books) (s : SendsPartAgain b slot k old o part packet sent)
+pub own_again : (b : TableView) (slot k : ℕ) (old : TransferPacket) (o : Opened) (part : Part) (packet : TransferPacket) (sent : TableView) (s : SendsPartAgain b slot k old o part packet sent)
     → IsOwnPacket b.next_packet part.request (payload_in packet) packet.irp.value
 own_again b slot k old o part packet sent s = subst (λ p. IsOwnPacket b.next_packet part.request p packet.irp.value) (sym s.sends.own.is_payload) s.sends.own
 
-pub carries_sent : (v : DeviceView) (b : Books) (slot k : ℕ) (others : List Ticket) (o : Opened) (part : Part) (place : Place) → CanSendPart v b slot k others o part place
-    → (packet : TransferPacket) (sent : Books) (s : SendsPart b slot k o part place packet sent) → Carries true v.rules part.request (payload_in packet)
+pub carries_sent : (v : DeviceView) (b : TableView) (slot k : ℕ) (others : List Ticket) (o : Opened) (part : Part) (place : Place) → CanSendPart v b slot k others o part place
+    → (packet : TransferPacket) (sent : TableView) (s : SendsPart b slot k o part place packet sent) → Carries true v.rules part.request (payload_in packet)
 carries_sent v b slot k others o part place c packet sent s =
     subst (Carries true v.rules part.request) (sym s.sends.own.is_payload) (s.sends.carries v.rules c.submit.sizes)
 
-pub carries_again : (v : DeviceView) (b : Books) (slot k : ℕ) (old : TransferPacket) (others : List Ticket) (o : Opened) (part : Part) → CanSendAgain v b slot k old others o part
-    → (packet : TransferPacket) (sent : Books) (s : SendsPartAgain b slot k old o part packet sent) → Carries true v.rules part.request (payload_in packet)
+pub carries_again : (v : DeviceView) (b : TableView) (slot k : ℕ) (old : TransferPacket) (others : List Ticket) (o : Opened) (part : Part) → CanSendAgain v b slot k old others o part
+    → (packet : TransferPacket) (sent : TableView) (s : SendsPartAgain b slot k old o part packet sent) → Carries true v.rules part.request (payload_in packet)
 carries_again v b slot k old others o part c packet sent s = subst (Carries true v.rules part.request) (sym s.sends.own.is_payload) c.carries
 
 -- as the class driver's caller knows the part
-pub sends_there : (takes : Bool) (stack : ℕ) (t : TakesParts takes stack) (v : DeviceView) (b : Books) (slot k : ℕ) (others : List Ticket) (o1 : Opened) (part1 : Part) (place1 : Place)
-    (c : CanSendPart v b slot k others o1 part1 place1) (packet : TransferPacket) (sent : Books) (s1 : SendsPart b slot k o1 part1 place1 packet sent)
+pub sends_there : (takes : Bool) (stack : ℕ) (t : TakesParts takes stack) (v : DeviceView) (b : TableView) (slot k : ℕ) (others : List Ticket) (o1 : Opened) (part1 : Part) (place1 : Place)
+    (c : CanSendPart v b slot k others o1 part1 place1) (packet : TransferPacket) (sent : TableView) (s1 : SendsPart b slot k o1 part1 place1 packet sent)
     (o : Opened) (part : Part) (place : Place) → open_at slot b.opens ≡ Some o → slice_get o.parts k ≡ Some part → SendsPart b slot k o part place packet sent
     → (v' : DeviceView) → Submits v (packet_of packet.irp.value packet.room.spot) (request_at v.rooms packet.room.spot) packet.irp.value.payload v' → IsOrderly v'
     → SendsDown v b slot k o part place v' sent
@@ -91,8 +91,8 @@ sends_there takes stack t v b slot k others o1 part1 place1 c packet sent s1 o p
   ordered = ordered;
 }
 
-pub sends_again_there : (takes : Bool) (stack : ℕ) (t : TakesParts takes stack) (v : DeviceView) (b : Books) (slot k : ℕ) (old : TransferPacket) (others : List Ticket) (o1 : Opened) (part1 : Part)
-    (c : CanSendAgain v b slot k old others o1 part1) (packet : TransferPacket) (sent : Books) (s1 : SendsPartAgain b slot k old o1 part1 packet sent)
+pub sends_again_there : (takes : Bool) (stack : ℕ) (t : TakesParts takes stack) (v : DeviceView) (b : TableView) (slot k : ℕ) (old : TransferPacket) (others : List Ticket) (o1 : Opened) (part1 : Part)
+    (c : CanSendAgain v b slot k old others o1 part1) (packet : TransferPacket) (sent : TableView) (s1 : SendsPartAgain b slot k old o1 part1 packet sent)
     (o : Opened) (part : Part) → open_at slot b.opens ≡ Some o → slice_get o.parts k ≡ Some part → SendsPartAgain b slot k old o part packet sent
     → (v' : DeviceView) → Submits v (packet_of packet.irp.value packet.room.spot) (request_at v.rooms packet.room.spot) packet.irp.value.payload v' → IsOrderly v'
     → SendsDownAgain v b slot k old o part v' sent

@@ -5,9 +5,9 @@ use Rattle.std.proofs.lemmas.Option.{slice_get_within}
 use Rattle.device.specs.View.{DeviceView}
 use Rattle.class_disk.specs.declared.parts.Part.{Part}
 use Rattle.class_disk.specs.inside.Parts.{below_by}
-use Rattle.class_disk.specs.inside.Books.{Opened, Books, open_at}
-use Rattle.class_disk.specs.inside.Turns.{IsPartAt}
-use Rattle.class_disk.specs.inside.Midway.{CancelsBelow, CancelsAll, packet_of_part}
+use Rattle.class_disk.specs.inside.TableView.{Opened, TableView, open_at}
+use Rattle.class_disk.specs.inside.TableCalls.{IsPartAt}
+use Rattle.class_disk.specs.inside.DuringACall.{CancelsBelow, CancelsAll, packet_of_part}
 
 -- what stands at a place, and all behind it
 pub at_place : {X : Type 0} (xs : List X) (k : ℕ) → k < length xs → (x : X) × (slice_get xs k ≡ Some x) × (drop k xs ≡ x ∷ drop (k + 1) xs)
@@ -26,10 +26,10 @@ pub found_same : {X : Type 0} (x : Option X) (y z : X) → x ≡ Some y → x �
 found_same x y z a b = cc (a, b)
 
 -- the packets of the parts before this place were cancelled: those behind it are left to be
-pub record CancelsSoFar (v : DeviceView) (b : Books) (slot k : ℕ) (v' : DeviceView) : Type 0 where
+pub record CancelsSoFar (v : DeviceView) (b : TableView) (slot k : ℕ) (v' : DeviceView) : Type 0 where
   pub goes_on : (o : Opened) → open_at slot b.opens ≡ Some o → (w : DeviceView) → CancelsAll v' (map packet_of_part (drop k o.parts)) w → CancelsAll v (map packet_of_part o.parts) w
 
-module _ (v : DeviceView) (b : Books) (slot : ℕ) where
+module _ (v : DeviceView) (b : TableView) (slot : ℕ) where
   pub cancels_none : CancelsSoFar v b slot 0 v
   cancels_none = record { goes_on = λ o is_open w h. h }
 

@@ -16,7 +16,7 @@ use Rattle.machine.specs.Rules.{Rules, place_count, as_client, is_transfer}
 use Rattle.device.specs.View.{Carries, IsBounded, transfer_length}
 use Rattle.class_disk.specs.declared.parts.Part.{Part}
 use Rattle.class_disk.specs.inside.Blocks.{FitsBlock, data_length, part_count_of, part_request_of}
-use Rattle.class_disk.specs.inside.Turns.{bytes_from}
+use Rattle.class_disk.specs.inside.TableCalls.{bytes_from}
 use Rattle.class_disk.specs.inside.Driver.{request_of_part}
 use Rattle.class_disk.proofs.Admitting.{sectors_are}
 use Rattle.class_disk.proofs.Cutting.{piece_within, some_piece}

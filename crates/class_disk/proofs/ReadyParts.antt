@@ -14,15 +14,15 @@ use Rattle.class_disk.specs.declared.parts.Place.{Place}
 use Rattle.class_disk.specs.declared.parts.Progress.{Progress}
 use Rattle.class_disk.specs.declared.parts.Progress.TheVariants.{Ready, Below, Ended as HasEnded}
 use Rattle.class_disk.specs.inside.Blocks.{FitsBlock, data_length, part_count_of, part_request_of}
-use Rattle.class_disk.specs.inside.Books.{Opened, Books, opened, all_open, restarts_left}
+use Rattle.class_disk.specs.inside.TableView.{Opened, TableView, opened, all_open, restarts_left}
 use Rattle.class_disk.specs.inside.Driver.{IsReadyBy, IsReadyPart, IsBuffered, IsBufferedBy, tickets, tickets_held, tickets_open}
 use Rattle.device.specs.inside.Out.{Ticket}
 use Rattle.class_disk.specs.inside.Rooms.{AllOut}
 use Rattle.class_disk.proofs.Rooms.{out_any_order}
-use Rattle.class_disk.specs.inside.Midway.{CanCut, CanSendPart, IsOpening}
+use Rattle.class_disk.specs.inside.DuringACall.{CanCut, CanSendPart, IsOpening}
 use Rattle.class_disk.specs.inside.Parts.{HasBuffers, ticket_for, tickets_of, ticket_by}
 use Rattle.class_disk.specs.Shown.{class_rules}
-use Rattle.class_disk.specs.inside.Turns.{CanSend, bytes_from}
+use Rattle.class_disk.specs.inside.TableCalls.{CanSend, bytes_from}
 use Rattle.class_disk.proofs.Cutting.{can_cut}
 use Rattle.class_disk.proofs.NewParts.{part_kind}
 use Rattle.class_disk.proofs.Noting.{tickets_of-append, tickets_open-append}
@@ -65,7 +65,7 @@ room_first room zs xs front back ys =
     IsPermutation-trans _ _ _ (IsPermutation-append_right zs _ _ b) (IsPermutation-middle zs room (xs ++ ((front ++ back) ++ ys)))
 
 module _ {v : DeviceView}
-    {b : Books} {slot k : ℕ}
+    {b : TableView} {slot k : ℕ}
     (h : IsOpening v b slot k) (ordered : IsOrderly v) (rise : AreRising 0 b.opens) (low : k < length h.o.parts) where
   abbrev pub rules : Rules
   rules = class_rules v.rules

@@ -5,8 +5,8 @@ use Rattle.class_disk.specs.declared.requests.Slot.{Slot}
 use Rattle.class_disk.specs.declared.requests.Slot.TheVariants.{Reserved, Open, Left}
 use Rattle.class_disk.specs.declared.requests.Transfer.{Transfer}
 use Rattle.class_disk.specs.declared.table.Table.{Table}
-use Rattle.class_disk.specs.inside.Books.{Opened, Books, Held, opened_of, open_from, held_from, rooms_from, open_at, put_at, books_of, TakesOut, PutsBack}
-use Rattle.class_disk.specs.inside.Turns.{ended_books}
+use Rattle.class_disk.specs.inside.TableView.{Opened, TableView, ClosedSlot, opened_of, open_from, held_from, rooms_from, open_at, put_at, books_of, TakesOut, PutsBack}
+use Rattle.class_disk.specs.inside.TableCalls.{ended_books}
 use Rattle.class_disk.proofs.Slots.{Slots, put_here, put_later, is_there, rest_of, rest_is}
 use Rattle.class_disk.proofs.SlotChanges.{open_step, opens_split, same_slots, changes_in, keeps_rooms}
 
@@ -79,22 +79,22 @@ pub books_replaced : (old new : Table) (slot : ℕ) (u : Transfer) (o : Opened) 
 books_replaced old new slot u o is r =
     ap books_of r.after
     ∙ ap (λ (os : List (ℕ × Opened)). record (books_of old) { opens = os; held = held_from 0 new.slots.slots; rooms = rooms_from new.slots.slots }) (r.opens ∙ ap (λ x. put_at slot x (open_from 0 old.slots.slots)) is)
-    ∙ ap (λ (hs : List Held). record (books_of old) { opens = put_at slot o (open_from 0 old.slots.slots); held = hs; rooms = rooms_from new.slots.slots }) r.held
+    ∙ ap (λ (hs : List ClosedSlot). record (books_of old) { opens = put_at slot o (open_from 0 old.slots.slots); held = hs; rooms = rooms_from new.slots.slots }) r.held
     ∙ ap (λ rs. record (books_of old) { opens = put_at slot o (open_from 0 old.slots.slots); rooms = rs }) r.rooms
 
 -- A PART OF IT HAS ENDED
 
 -- and others have not
-pub ends_more : (b new : Books) (slot : ℕ) (o' : Opened) → (o'.unfinished == 0) ≡ false → new ≡ record b { opens = put_at slot o' b.opens } → new ≡ ended_books slot o' b
+pub ends_more : (b new : TableView) (slot : ℕ) (o' : Opened) → (o'.unfinished == 0) ≡ false → new ≡ record b { opens = put_at slot o' b.opens } → new ≡ ended_books slot o' b
 ends_more b new slot o' more is = is ∙ sym (ap (λ x. record b { opens = put_at slot o' b.opens; ended = if x then b.ended ++ slot ∷ [] else b.ended }) more)
 
 -- and it was the last
-pub ends_last : (b mid : Books) (slot : ℕ) (o' : Opened) (ended : List ℕ) (places : ℕ) → (o'.unfinished == 0) ≡ true → mid ≡ record b { opens = put_at slot o' b.opens }
+pub ends_last : (b mid : TableView) (slot : ℕ) (o' : Opened) (ended : List ℕ) (places : ℕ) → (o'.unfinished == 0) ≡ true → mid ≡ record b { opens = put_at slot o' b.opens }
     → ended ≡ mid.ended ++ slot ∷ [] → places ≡ mid.ended_places → record mid { ended = ended; ended_places = places } ≡ ended_books slot o' b
 ends_last b mid slot o' ended places last is more same =
     ap (λ e. record mid { ended = e; ended_places = places }) more
     ∙ ap (λ n. record mid { ended = mid.ended ++ slot ∷ []; ended_places = n }) same
-    ∙ ap (λ (x : Books). record x { ended = x.ended ++ slot ∷ [] }) is
+    ∙ ap (λ (x : TableView). record x { ended = x.ended ++ slot ∷ [] }) is
     ∙ sym (ap (λ x. record b { opens = put_at slot o' b.opens; ended = if x then b.ended ++ slot ∷ [] else b.ended }) last)
 
 -- A PART OF IT GOES BELOW, in a packet of the next number

@@ -26,12 +26,12 @@ use Rattle.class_disk.specs.declared.parts.Part.{Part}
 use Rattle.class_disk.specs.declared.parts.Progress.{Progress}
 use Rattle.class_disk.specs.declared.parts.Progress.TheVariants.{Ready, Below, Ended as HasEnded}
 use Rattle.class_disk.specs.inside.Joint.{Note, Sent, Known}
-use Rattle.class_disk.specs.inside.Kept.{WasSent, EndedAre, IsOver, HasSome, noted_busy}
+use Rattle.class_disk.specs.inside.Invariant.{WasSent, EndedAre, IsOver, HasSome, noted_busy}
 use Rattle.class_disk.specs.Shown.{class_rules}
 use Rattle.class_disk.specs.inside.Blocks.{AreSizes}
 use Rattle.class_disk.specs.inside.Parts.{GoesAgain, payload_in, ticket_for, tickets_of, ticket_by, restarts_of, unfinished_by}
-use Rattle.class_disk.specs.inside.Books.{Opened, Books, opened, all_open, ended_in, restarts_left, open_at, put_at}
-use Rattle.class_disk.specs.inside.Turns.{again_part}
+use Rattle.class_disk.specs.inside.TableView.{Opened, TableView, opened, all_open, ended_in, restarts_left, open_at, put_at}
+use Rattle.class_disk.specs.inside.TableCalls.{again_part}
 use Rattle.class_disk.specs.inside.Driver.{note, note_by, known, knowns, tickets_held, tickets_open, IsAsked, IsAskedBy, IsSpotted, IsSpottedBy, IsOpen, AreKept, AreBelow, tickets}
 use Rattle.class_disk.specs.Opening.{most_over}
 use Rattle.class_disk.specs.inside.Owners.{slot_at, place_at, IsOwnedBy, AreOwnedFrom}
@@ -39,7 +39,7 @@ use Rattle.device.specs.inside.Out.{Ticket}
 use Rattle.class_disk.specs.inside.Rooms.{AllOut}
 use Rattle.class_disk.proofs.Rooms.{out_less}
 use Rattle.class_disk.specs.declared.parts.TransferPacket.{TransferPacket}
-use Rattle.class_disk.specs.inside.Midway.{IsTaking, IsMidway, TakesOne, CanSendAgain, SendsDownAgain}
+use Rattle.class_disk.specs.inside.DuringACall.{IsTaking, IsMidway, TakesOne, CanSendAgain, SendsDownAgain}
 use Rattle.class_disk.proofs.Restarting.{noted_back}
 use Rattle.class_disk.proofs.NotedBusy.{noted_few}
 use Rattle.class_disk.proofs.NewRequest.{parts_cut}
@@ -91,7 +91,7 @@ sizes_below sizes rules h = record {
   whole = record { as_many = h.whole.as_many; one_disk = h.whole.one_disk; some_bytes = h.whole.some_bytes };
 }
 
-module _ {takes : Bool} (v : DeviceView) (b : Books) (brought : TransferPacket) (climb : Climb) (v' : DeviceView)
+module _ {takes : Bool} (v : DeviceView) (b : TableView) (brought : TransferPacket) (climb : Climb) (v' : DeviceView)
     (h : HandsUp takes v climb brought.room.spot v') (ordered : IsOrderly v) (takes_srb : takes ≡ true) (payload_is : payload_in brought ≡ h.payload)
     (rooms_step : (others : List Ticket) → AllOut v others → AllOut v' (ticket_for h.request brought ∷ others))
     (d : Handed b h.packet.number h.packet.spot) (g : GoesAgain d.o.irp.cancelled b.removing d.o.restarts h.status) where
@@ -107,7 +107,7 @@ module _ {takes : Bool} (v : DeviceView) (b : Books) (brought : TransferPacket) 
   abbrev s : PartStands b slot place d.o d.part h.packet.number h.packet.spot
   s = d.stands
 
-  abbrev again_books : ℕ → ℕ → Books
+  abbrev again_books : ℕ → ℕ → TableView
   again_books number spot = b_now rules s (again_part number spot d.part) (d.o.restarts + 1) d.o.unfinished (b.next_packet + 1) b.ended
 
   -- a restart is used up
@@ -155,7 +155,7 @@ module _ {takes : Bool} (v : DeviceView) (b : Books) (brought : TransferPacket) 
         }
 
   -- ONE PACKET IS TAKEN
-  module _ (ordered' : IsOrderly v') (v'' : DeviceView) (b'' : Books) (x : SendsDownAgain v' b slot place brought d.o d.part v'' b'')
+  module _ (ordered' : IsOrderly v') (v'' : DeviceView) (b'' : TableView) (x : SendsDownAgain v' b slot place brought d.o d.part v'' b'')
       (asks : d.part.request ≡ h.request) where
     abbrev number : ℕ
     number = x.packet'.irp.value.number
@@ -163,7 +163,7 @@ module _ {takes : Bool} (v : DeviceView) (b : Books) (brought : TransferPacket) 
     abbrev sent_again_part : Part
     sent_again_part = again_part number brought.room.spot d.part
 
-    abbrev b_again : Books
+    abbrev b_again : TableView
     b_again = again_books number brought.room.spot
 
     abbrev packet : Packet

@@ -22,12 +22,12 @@ use Rattle.class_disk.specs.declared.parts.Progress.{Progress}
 use Rattle.class_disk.specs.declared.parts.Progress.TheVariants.{Ready, Below, Ended}
 use Rattle.class_disk.specs.inside.Parts.{IsHere, IsHereBy, ticket_by, tickets_of}
 use Rattle.class_disk.specs.inside.Owners.{IsOwner, IsOwnedBy, AreOwnedFrom}
-use Rattle.class_disk.specs.inside.Books.{Opened, Books, Held, opened, all_open, ended_in, reserved_for}
+use Rattle.class_disk.specs.inside.TableView.{Opened, TableView, ClosedSlot, opened, all_open, ended_in, reserved_for}
 use Rattle.class_disk.specs.declared.requests.Places.{Places}
 use Rattle.class_disk.specs.Shown.{class_rules}
-use Rattle.class_disk.specs.inside.Turns.{RemovesSlot}
+use Rattle.class_disk.specs.inside.TableCalls.{RemovesSlot}
 use Rattle.class_disk.specs.inside.Driver.{view_of, AreKept, IsInHand, IsHeld, IsOpen, IsSpotted, IsSpottedBy, AreSpotted, tickets, tickets_held, tickets_open}
-use Rattle.class_disk.specs.inside.Midway.{StaysOwned, StaysTaken}
+use Rattle.class_disk.specs.inside.DuringACall.{StaysOwned, StaysTaken}
 
 -- WHOSE PARTS STAY WHERE THEY WERE
 
@@ -96,7 +96,7 @@ reserves_freed v v' same = subst (Reserves v) (sym same) (record { same = refl; 
 -- HELD AND OPEN, WITH THE OWNERS AS THEY ARE NOW
 
 module _ (rules : Rules) (owners owners' : List PartId) (longer : length owners ≤ length owners') (packets : List Packet) (below : All (StaysOwned owners owners') (map packet_spot packets)) where
-  held_stays : (hs : List Held) → All (StaysOwned owners owners') (map ticket_spot (tickets_held hs)) → All (IsHeld rules owners) hs → All (IsHeld rules owners') hs
+  held_stays : (hs : List ClosedSlot) → All (StaysOwned owners owners') (map ticket_spot (tickets_held hs)) → All (IsHeld rules owners) hs → All (IsHeld rules owners') hs
   held_stays [] held h = All-nil (IsHeld rules owners')
   held_stays (x ∷ xs) held h =
       let both = all_both (StaysOwned owners owners') _ _ (subst (All (StaysOwned owners owners')) (map-append ticket_spot (tickets_of x.parts) (tickets_held xs)) held) in
@@ -138,14 +138,14 @@ abbrev with_below : DeviceView → List (Option Reserved) → List Extent → De
 with_below v rooms reserved = record v { rooms = rooms; adapter = record v.adapter { reserved = reserved } }
 
 -- other rooms above, with other owners
-abbrev with_held : Books → List Held → List (Option Reserved) → List PartId → ℕ → Books
+abbrev with_held : TableView → List ClosedSlot → List (Option Reserved) → List PartId → ℕ → TableView
 with_held b held rooms owners places = record b { held = held; rooms = rooms; owners = owners; ended_places = places }
 
-module _ (v : DeviceView) (below : List (Option Reserved)) (reserved : List Extent) (b : Books) (held : List Held) (rooms : List (Option Reserved)) (owners : List PartId) (places : ℕ) where
+module _ (v : DeviceView) (below : List (Option Reserved)) (reserved : List Extent) (b : TableView) (held : List ClosedSlot) (rooms : List (Option Reserved)) (owners : List PartId) (places : ℕ) where
   abbrev v_now : DeviceView
   v_now = with_below v below reserved
 
-  abbrev b_now : Books
+  abbrev b_now : TableView
   b_now = with_held b held rooms owners places
 
   in_hand_with : AllOut v_now (tickets b_now) → All (IsHeld (class_rules v.rules) owners) held → All (IsOpen (class_rules v.rules) owners) b.opens
@@ -200,7 +200,7 @@ module _ (v : DeviceView) (below : List (Option Reserved)) (reserved : List Exte
     };
   }
 
-module _ (v v' : DeviceView) (b b' : Books) (h : IsInHand v b) (stays : StaysTaken v b.owners v' b'.owners) where
+module _ (v v' : DeviceView) (b b' : TableView) (h : IsInHand v b) (stays : StaysTaken v b.owners v' b'.owners) where
   still_held : All (IsHeld (class_rules v.rules) b'.owners) b.held
   still_held =
       let all = all_both (StaysOwned b.owners b'.owners) _ _ (subst (All (StaysOwned b.owners b'.owners)) (map-append ticket_spot (tickets_held b.held) (tickets_open (all_open b))) (stays.held (tickets b) h.rooms_out)) in
@@ -212,10 +212,10 @@ module _ (v v' : DeviceView) (b b' : Books) (h : IsInHand v b) (stays : StaysTak
       opens_stay (class_rules v.rules) b.owners b'.owners stays.longer v.packets stays.below b.opens all.1 h.below.spotted h.kept.opens
 
   -- the view below, written out
-  hand_now : (b'' : Books) → b' ≡ b'' → IsInHand (with_below v v'.rooms v'.adapter.reserved) b'' → IsInHand v' b'
+  hand_now : (b'' : TableView) → b' ≡ b'' → IsInHand (with_below v v'.rooms v'.adapter.reserved) b'' → IsInHand v' b'
   hand_now b'' same k = subst (λ x. IsInHand x b') (sym stays.reserves.same) (subst (IsInHand (with_below v v'.rooms v'.adapter.reserved)) (sym same) k)
 
-  abbrev refused_books : Books
+  abbrev refused_books : TableView
   refused_books = with_held b b.held b.rooms b'.owners b'.ended_places
 
   -- no room is made
@@ -227,11 +227,11 @@ module _ (v v' : DeviceView) (b b' : Books) (h : IsInHand v b) (stays : StaysTak
       (let p = h.kept.places in omega arith)
       (record { spots = h.orderly.spots; vacant = h.orderly.vacant }) h)
 
-  abbrev made_books : Books
+  abbrev made_books : TableView
   made_books = with_held b b'.held b'.rooms b'.owners b'.ended_places
 
   -- a room is made
-  pub in_hand_made : (new : Held) → b' ≡ record b { owners = b'.owners; ended_places = b'.ended_places; held = b'.held; rooms = b'.rooms }
+  pub in_hand_made : (new : ClosedSlot) → b' ≡ record b { owners = b'.owners; ended_places = b'.ended_places; held = b'.held; rooms = b'.rooms }
       → IsPermutation b'.held (new ∷ b.held) → length b.held + length b.opens + 1 ≤ b'.ended_places → IsHeld (class_rules v.rules) b'.owners new → IsApart b'
       → AllOut v' (tickets_of new.parts ++ tickets b) → IsInHand v' b'
   in_hand_made new same more places is_held apart out =
@@ -247,7 +247,7 @@ module _ (v v' : DeviceView) (b b' : Books) (h : IsInHand v b) (stays : StaysTak
       (subst IsApart same apart) h)
 
 -- a room is given back
-pub in_hand_freed : (v v' : DeviceView) (b b' : Books) (slot : ℕ) (places : Places) → v' ≡ record v { rooms = v'.rooms } → RemovesSlot b slot places b' → IsApart b'
+pub in_hand_freed : (v v' : DeviceView) (b b' : TableView) (slot : ℕ) (places : Places) → v' ≡ record v { rooms = v'.rooms } → RemovesSlot b slot places b' → IsApart b'
     → AllOut v' (tickets b') → IsInHand v b → IsInHand v' b'
 in_hand_freed v v' b b' slot places same removes apart out h =
     let after : b' ≡ with_held b b'.held b'.rooms b.owners b.ended_places = removes.after in
@@ -261,7 +261,7 @@ in_hand_freed v v' b b' slot places same removes apart out h =
     (subst IsApart after apart) h))
 
 -- the rooms of a slot that is given up come first
-pub freed_first : (v : DeviceView) (b b' : Books) (slot : ℕ) (places : Places) → RemovesSlot b slot places b' → AllOut v (tickets b) → AllOut v (tickets_of places.parts.items ++ tickets b')
+pub freed_first : (v : DeviceView) (b b' : TableView) (slot : ℕ) (places : Places) → RemovesSlot b slot places b' → AllOut v (tickets b) → AllOut v (tickets_of places.parts.items ++ tickets b')
 freed_first v b b' slot places removes out =
     let same_opens : all_open b' ≡ all_open b = ap all_open removes.after in
     let moved : AllOut v ((tickets_of removes.held.parts ++ tickets_held b'.held) ++ tickets_open (all_open b)) =
@@ -271,18 +271,18 @@ freed_first v b b' slot places removes out =
     (subst (AllOut v) (append_assoc (tickets_of removes.held.parts) (tickets_held b'.held) (tickets_open (all_open b))) moved))
 
 -- none of its parts is below
-pub freed_here : (rules : Rules) (b b' : Books) (slot : ℕ) (places : Places) → RemovesSlot b slot places b' → AreKept rules b → All IsHere places.parts.items
+pub freed_here : (rules : Rules) (b b' : TableView) (slot : ℕ) (places : Places) → RemovesSlot b slot places b' → AreKept rules b → All IsHere places.parts.items
 freed_here rules b b' slot places removes k =
     subst (All IsHere) (sym removes.parts)
     (All-head (IsHeld rules b.owners) removes.held b'.held (All-permutation (IsHeld rules b.owners) _ _ removes.fewer k.in_hand)).here
 
 -- what is shown of it
-pub frees_above : (v v' : DeviceView) (b b' : Books) (slot : ℕ) (places : Places) → v' ≡ record v { rooms = v'.rooms } → RemovesSlot b slot places b'
+pub frees_above : (v v' : DeviceView) (b b' : TableView) (slot : ℕ) (places : Places) → v' ≡ record v { rooms = v'.rooms } → RemovesSlot b slot places b'
     → Frees (view_of v b) slot (view_of v' b')
 frees_above v v' b b' slot places same removes = record {
   reserved = reserved_for removes.held;
   room = removes.room;
-  same = cc (ap (λ (x : DeviceView). view_of x b') same, ap (λ (x : Books). view_of (record v { rooms = v'.rooms }) x) removes.after);
+  same = cc (ap (λ (x : DeviceView). view_of x b') same, ap (λ (x : TableView). view_of (record v { rooms = v'.rooms }) x) removes.after);
 }
 
 -- no more requests have ended than are open
@@ -295,7 +295,7 @@ ended_few (e ∷ opens) = by (e.1.unfinished == 0) (ended_few opens)
     by true h = omega arith
     by false h = omega arith
 
-pub ended_open : (rules : Rules) (b : Books) → AreKept rules b → length b.ended ≤ length b.opens
+pub ended_open : (rules : Rules) (b : TableView) → AreKept rules b → length b.ended ≤ length b.opens
 ended_open rules b k = let h = ended_few b.opens in let e = length_permutation _ _ k.ended in omega arith
 
 pub on_err : {T E P : Type 0} (r : Result T E) → P → OnErr r P

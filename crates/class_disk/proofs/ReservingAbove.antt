@@ -5,35 +5,35 @@ use Rattle.adapter.specs.View.{ReservesMore}
 use Rattle.device.specs.View.{DeviceView, room_at, whole_for}
 use Rattle.device.specs.Served.{Reserves, ReservesSpot, ReservesNone, SetsRoom}
 use Rattle.class_disk.specs.declared.parts.PartId.{PartId}
-use Rattle.class_disk.specs.inside.Books.{Books, Held}
+use Rattle.class_disk.specs.inside.TableView.{TableView, ClosedSlot}
 use Rattle.class_disk.specs.Shown.{class_rules}
-use Rattle.class_disk.specs.inside.Turns.{AddsSlot, AddsNoSlot}
+use Rattle.class_disk.specs.inside.TableCalls.{AddsSlot, AddsNoSlot}
 use Rattle.class_disk.specs.inside.Driver.{view_of, IsInHand, IsHeld, tickets}
-use Rattle.class_disk.specs.inside.Midway.{StaysTaken, MakesNone, MakesParts}
+use Rattle.class_disk.specs.inside.DuringACall.{StaysTaken, MakesNone, MakesParts}
 use Rattle.class_disk.proofs.Standing.{IsApart}
 use Rattle.class_disk.proofs.Reserving.{in_hand_refused, in_hand_made}
 
-module _ (v : DeviceView) (b b1 : Books) (h : IsInHand v b) (grows : AddsNoSlot b b1) (v2 : DeviceView) (o2 : List PartId) where
+module _ (v : DeviceView) (b b1 : TableView) (h : IsInHand v b) (grows : AddsNoSlot b b1) (v2 : DeviceView) (o2 : List PartId) where
   stays_from : StaysTaken v b1.owners v2 o2 → StaysTaken v b.owners v2 o2
-  stays_from s = subst (λ o. StaysTaken v o v2 o2) (ap (λ (x : Books). x.owners) grows.after) s
+  stays_from s = subst (λ o. StaysTaken v o v2 o2) (ap (λ (x : TableView). x.owners) grows.after) s
 
   -- the same is reserved of the adapter as below
-  reserves_above : Reserves v v2 → (b' : Books) → b' ≡ record b { held = b'.held; rooms = b'.rooms; owners = b'.owners; ended_places = b'.ended_places } → Reserves (view_of v b) (view_of v2 b')
+  reserves_above : Reserves v v2 → (b' : TableView) → b' ≡ record b { held = b'.held; rooms = b'.rooms; owners = b'.owners; ended_places = b'.ended_places } → Reserves (view_of v b) (view_of v2 b')
   reserves_above r b' same =
       let more : ReservesMore v.adapter (record v.adapter { reserved = v2.adapter.reserved }) = subst (ReservesMore v.adapter) (ap (λ (x : DeviceView). x.adapter) r.same) r.adapter in
       subst (λ (x : DeviceView). Reserves (view_of v b) (view_of x b')) (sym r.same)
-      (subst (λ (x : Books). Reserves (view_of v b) (view_of (record v { rooms = v2.rooms; adapter = record v.adapter { reserved = v2.adapter.reserved } }) x)) (sym same)
+      (subst (λ (x : TableView). Reserves (view_of v b) (view_of (record v { rooms = v2.rooms; adapter = record v.adapter { reserved = v2.adapter.reserved } }) x)) (sym same)
       (record { same = refl; adapter = more }))
 
   -- none is made
-  pub refused_there : (b2 : Books) → b2 ≡ record b1 { owners = o2 } → MakesNone v b1.owners v2 o2 → IsInHand v2 b2 × ReservesNone (view_of v b) (view_of v2 b2)
+  pub refused_there : (b2 : TableView) → b2 ≡ record b1 { owners = o2 } → MakesNone v b1.owners v2 o2 → IsInHand v2 b2 × ReservesNone (view_of v b) (view_of v2 b2)
   refused_there b2 after m =
       let s = stays_from m.stays in
-      let owners : b2.owners ≡ o2 = ap (λ (x : Books). x.owners) after in
-      let rooms : b2.rooms ≡ b.rooms = ap (λ (x : Books). x.rooms) after ∙ ap (λ (x : Books). x.rooms) grows.after in
-      let held : b2.held ≡ b.held = ap (λ (x : Books). x.held) after ∙ ap (λ (x : Books). x.held) grows.after in
-      let places : b2.ended_places ≡ b1.ended_places = ap (λ (x : Books). x.ended_places) after in
-      let short : b2 ≡ record b { owners = o2; ended_places = b1.ended_places } = after ∙ ap (λ (x : Books). record x { owners = o2 }) grows.after in
+      let owners : b2.owners ≡ o2 = ap (λ (x : TableView). x.owners) after in
+      let rooms : b2.rooms ≡ b.rooms = ap (λ (x : TableView). x.rooms) after ∙ ap (λ (x : TableView). x.rooms) grows.after in
+      let held : b2.held ≡ b.held = ap (λ (x : TableView). x.held) after ∙ ap (λ (x : TableView). x.held) grows.after in
+      let places : b2.ended_places ≡ b1.ended_places = ap (λ (x : TableView). x.ended_places) after in
+      let short : b2 ≡ record b { owners = o2; ended_places = b1.ended_places } = after ∙ ap (λ (x : TableView). record x { owners = o2 }) grows.after in
       let more : b.ended_places ≤ b2.ended_places = let g = grows.places in omega (arith, places, g) in
       let whole : b2 ≡ record b { owners = b2.owners; ended_places = b2.ended_places } =
       short ∙ sym (ap (λ n. record b { owners = o2; ended_places = n }) places) ∙ sym (ap (λ o. record b { owners = o; ended_places = b2.ended_places }) owners) in
@@ -45,22 +45,22 @@ module _ (v : DeviceView) (b b1 : Books) (h : IsInHand v b) (grows : AddsNoSlot 
       )
 
   -- one is made
-  pub reserved_above : (b2 : Books) → b2 ≡ record b1 { owners = o2 } → (new : Held) → new.whole ≡ true → MakesParts v b1.owners new.slot 0 new.parts v2 o2 → (b3 : Books) → AddsSlot b2 new b3
+  pub reserved_above : (b2 : TableView) → b2 ≡ record b1 { owners = o2 } → (new : ClosedSlot) → new.whole ≡ true → MakesParts v b1.owners new.slot 0 new.parts v2 o2 → (b3 : TableView) → AddsSlot b2 new b3
       → IsHeld (class_rules v.rules) o2 new → IsApart b3 → length b1.held + length b1.opens + 1 ≤ b1.ended_places
       → IsInHand v2 b3 × ReservesSpot (view_of v b) new.slot new.request (view_of v2 b3)
   reserved_above b2 after new is_whole m b3 adds is_held apart few =
       let s = stays_from m.stays in
       let from : b3 ≡ record b { held = b3.held; rooms = b3.rooms; owners = o2; ended_places = b1.ended_places } =
-      adds.after ∙ ap (λ (x : Books). record x { held = b3.held; rooms = b3.rooms }) after ∙ ap (λ (x : Books). record x { held = b3.held; rooms = b3.rooms; owners = o2 }) grows.after in
-      let owners : b3.owners ≡ o2 = ap (λ (x : Books). x.owners) from in
-      let places : b3.ended_places ≡ b1.ended_places = ap (λ (x : Books). x.ended_places) from in
+      adds.after ∙ ap (λ (x : TableView). record x { held = b3.held; rooms = b3.rooms }) after ∙ ap (λ (x : TableView). record x { held = b3.held; rooms = b3.rooms; owners = o2 }) grows.after in
+      let owners : b3.owners ≡ o2 = ap (λ (x : TableView). x.owners) from in
+      let places : b3.ended_places ≡ b1.ended_places = ap (λ (x : TableView). x.ended_places) from in
       let full : b3 ≡ record b { held = b3.held; rooms = b3.rooms; owners = b3.owners; ended_places = b3.ended_places } =
       from ∙ sym (ap (λ n. record b { held = b3.held; rooms = b3.rooms; owners = o2; ended_places = n }) places)
       ∙ sym (ap (λ o. record b { held = b3.held; rooms = b3.rooms; owners = o; ended_places = b3.ended_places }) owners) in
-      let held : b2.held ≡ b.held = ap (λ (x : Books). x.held) after ∙ ap (λ (x : Books). x.held) grows.after in
-      let rooms : b2.rooms ≡ b.rooms = ap (λ (x : Books). x.rooms) after ∙ ap (λ (x : Books). x.rooms) grows.after in
-      let held1 : b1.held ≡ b.held = ap (λ (x : Books). x.held) grows.after in
-      let opens1 : b1.opens ≡ b.opens = ap (λ (x : Books). x.opens) grows.after in
+      let held : b2.held ≡ b.held = ap (λ (x : TableView). x.held) after ∙ ap (λ (x : TableView). x.held) grows.after in
+      let rooms : b2.rooms ≡ b.rooms = ap (λ (x : TableView). x.rooms) after ∙ ap (λ (x : TableView). x.rooms) grows.after in
+      let held1 : b1.held ≡ b.held = ap (λ (x : TableView). x.held) grows.after in
+      let opens1 : b1.opens ≡ b.opens = ap (λ (x : TableView). x.opens) grows.after in
       let fits : length b.held + length b.opens + 1 ≤ b3.ended_places = let p = ap length held1 in let q = ap length opens1 in omega (arith, few, p, q, places) in
       let set : SetsRoom b.rooms new.slot None (Some (whole_for new.request)) b3.rooms =
       subst (λ rs. SetsRoom rs new.slot None (Some (whole_for new.request)) b3.rooms) rooms

@@ -16,7 +16,7 @@ use Rattle.machine.proofs.Permuting.{IsPermutation-uncons}
 use Rattle.machine.proofs.Same.{IsSame-refl}
 use Rattle.device.specs.View.{DeviceView, OnTag, piece_on_tag, IsOrderly}
 use Rattle.device.specs.Served.{Moves, Resets, is_fresh_piece, fault_of, piece_tag}
-use Rattle.class_disk.specs.inside.Books.{Books, all_open}
+use Rattle.class_disk.specs.inside.TableView.{TableView, all_open}
 use Rattle.class_disk.specs.Shown.{class_rules}
 use Rattle.class_disk.specs.inside.Driver.{view_of, tickets, IsInHand, AreAsked, AreBelow}
 use Rattle.class_disk.proofs.Rooms.{out_same}
@@ -86,7 +86,7 @@ still_faults rules [] s s' run = still_same s s' run
 still_faults rules (p ∷ ps) s s' run =
     still_then s run.0 s' (still_run rules s run.0 (fault_of p) p.number refl (run.0, run.1, IsSame-refl run.0)) (still_faults rules ps run.0 s' run.2)
 
-module _ (v : DeviceView) (books : Books) (h : IsInHand v books) where
+module _ (v : DeviceView) (books : TableView) (h : IsInHand v books) where
   pub resets_above : (v' : DeviceView) → Resets v v' → IsOrderly v'
       → Resets (view_of v books) (view_of v' books) × IsInHand v' books
   resets_above v' r ordered =

@@ -8,7 +8,7 @@ use Rattle.machine.specs.Numbers.{HavePlaces}
 use Rattle.machine.specs.Marks.{IsBusyBy, AreCounted}
 use Rattle.machine.specs.Cutting.{restarts}
 use Rattle.class_disk.specs.inside.Joint.{Part, Below, Here, Note, Sent, Kept, note_of, parts_requests, parts_busy}
-use Rattle.class_disk.specs.inside.Kept.{one_if_back, begins_back, parts_back, noted_busy}
+use Rattle.class_disk.specs.inside.Invariant.{one_if_back, begins_back, parts_back, noted_busy}
 use Rattle.class_disk.proofs.Coupled.{busy-append}
 use Rattle.class_disk.proofs.InPieces.{back-append}
 

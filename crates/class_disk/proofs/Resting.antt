@@ -20,7 +20,7 @@ use Rattle.machine.proofs.Commuting.{out_ends_not, untouched_ends_not}
 use Rattle.machine.proofs.Same.{none_there}
 use Rattle.class_disk.specs.inside.Joint.{Part, Below, Here, Divided, Joint, shown_mark, parts_requests, parts_marks, requests_below, pieces_below, pieces_above, shown, below, above}
 use Rattle.class_disk.specs.PortRules.{below_rules}
-use Rattle.class_disk.specs.inside.Kept.{IsSound, IsMadeUp, AgreesOnCancel, IsCancelledAs, AreParts, Keeps}
+use Rattle.class_disk.specs.inside.Invariant.{IsSound, IsMadeUp, AgreesOnCancel, IsCancelledAs, AreParts, Keeps}
 use Rattle.class_disk.proofs.CoupledMarks.{started_part, same_tags, tag_of}
 use Rattle.class_disk.proofs.CoupledSteps.{in_requests}
 use Rattle.class_disk.proofs.CoupledRun.{Contains-map}

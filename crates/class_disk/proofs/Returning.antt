@@ -22,15 +22,15 @@ use Rattle.class_disk.specs.declared.parts.Part.{Part}
 use Rattle.class_disk.specs.declared.parts.Outcome.{Outcome}
 use Rattle.class_disk.specs.declared.parts.Outcome.TheVariants.{Good, Failed as IsBad, Busy, Withdrawn}
 use Rattle.class_disk.specs.inside.Joint.{Note, Sent, Known, known_of, Divided, IsPartOf, parts_marks}
-use Rattle.class_disk.specs.inside.Kept.{WasSent, IsOverMark, IsMadeUp}
+use Rattle.class_disk.specs.inside.Invariant.{WasSent, IsOverMark, IsMadeUp}
 use Rattle.class_disk.specs.Shown.{class_rules}
 use Rattle.class_disk.specs.inside.Parts.{EndsBack, HasReason, payload_in}
-use Rattle.class_disk.specs.inside.Books.{Opened, Books, opened, all_open}
+use Rattle.class_disk.specs.inside.TableView.{Opened, TableView, opened, all_open}
 use Rattle.class_disk.specs.declared.parts.TransferPacket.{TransferPacket}
 use Rattle.class_disk.specs.inside.Owners.{slot_at}
-use Rattle.class_disk.specs.inside.Turns.{ended_part, bytes_from}
+use Rattle.class_disk.specs.inside.TableCalls.{ended_part, bytes_from}
 use Rattle.class_disk.specs.inside.Driver.{places_of, busy_left, marks_left, note, note_by, known, knowns, IsCause, IsAsked, AreAsked, IsSpotted, IsOpen, IsBuffered, IsWritten}
-use Rattle.class_disk.specs.inside.Midway.{IsTaking, IsMidway}
+use Rattle.class_disk.specs.inside.DuringACall.{IsTaking, IsMidway}
 use Rattle.class_disk.proofs.Retaking.{known_at, FoundBy, found_by}
 use Rattle.class_disk.proofs.Keeping.{part_in as part_of_divided}
 use Rattle.class_disk.proofs.CoupledSteps.{divided_with}
@@ -113,7 +113,7 @@ module _ {takes : Bool} {v : DeviceView} {climb : Climb} {spot : ℕ} {v' : Devi
 
 -- WHAT THE PART THAT IS HANDED UP WAS
 
-module _ {takes : Bool} {v : DeviceView} {b : Books} {climb : Climb} {spot : ℕ} {v' : DeviceView} (h : HandsUp takes v climb spot v') (ordered : IsOrderly v)
+module _ {takes : Bool} {v : DeviceView} {b : TableView} {climb : Climb} {spot : ℕ} {v' : DeviceView} (h : HandsUp takes v climb spot v') (ordered : IsOrderly v)
     (d : Handed b h.packet.number h.packet.spot) {first : State} {labels : List DeviceLabel}
     (m : IsMidway WasSent first labels v b) where
   abbrev pub rules_here : Rules

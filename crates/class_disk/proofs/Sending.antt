@@ -13,7 +13,7 @@ use Rattle.machine.specs.Cutting.{restarts}
 use Rattle.machine.specs.Sending.{is_untouched}
 use Rattle.machine.proofs.Same.{IsSame-sym, IsSame-trans}
 use Rattle.class_disk.specs.inside.Joint.{Part, Below, Here, Divided, Joint, IsPartOf, shown_mark, parts_requests, parts_marks, parts_busy, parts_lifted, requests_below, pieces_below, below, above}
-use Rattle.class_disk.specs.inside.Kept.{IsOwnedBy, AreParts, IsMadeUp, IsCancelledAs, AgreesOnCancel, IsAhead, AreBehind, IsInTurn, parts_back, IsInPieces, Keeps}
+use Rattle.class_disk.specs.inside.Invariant.{IsOwnedBy, AreParts, IsMadeUp, IsCancelledAs, AgreesOnCancel, IsAhead, AreBehind, IsInTurn, parts_back, IsInPieces, Keeps}
 use Rattle.class_disk.proofs.InPieces.{cut_with}
 use Rattle.class_disk.proofs.Coupled.{requests-append, pieces-append, marks-append}
 use Rattle.class_disk.proofs.CoupledSteps.{same_part}

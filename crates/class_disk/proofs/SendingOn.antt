@@ -23,7 +23,7 @@ use Rattle.class_disk.specs.declared.parts.Part.{Part}
 use Rattle.class_disk.specs.declared.parts.Progress.{Progress}
 use Rattle.class_disk.specs.declared.parts.Progress.TheVariants.{Ready, Below, Ended as HasEnded}
 use Rattle.class_disk.specs.inside.Blocks.{part_count_of, part_request_of, data_length}
-use Rattle.class_disk.specs.inside.Books.{Opened, Books, opened, all_open, ended_in, restarts_left, open_at, put_at}
+use Rattle.class_disk.specs.inside.TableView.{Opened, TableView, opened, all_open, ended_in, restarts_left, open_at, put_at}
 use Rattle.class_disk.specs.inside.Driver.{note, note_by, known, knowns, tickets, tickets_held, tickets_open, packet_above, request_of_part, IsReadyPart, IsAsked, IsAskedBy, IsSpotted, IsSpottedBy, IsBuffered, IsWritten}
 use Rattle.class_disk.specs.Opening.{most_over}
 use Rattle.class_disk.specs.inside.Owners.{IsOwnedBy, AreOwnedFrom}
@@ -31,11 +31,11 @@ use Rattle.class_disk.specs.inside.Rooms.{AllOut}
 use Rattle.class_disk.proofs.Rooms.{out_less}
 use Rattle.class_disk.specs.inside.Joint.{IsPartOf, Note, Sent, Kept, Known}
 use Rattle.class_disk.specs.PortRules.{below_rules}
-use Rattle.class_disk.specs.inside.Kept.{IsNothing, IsOver, HasSome}
-use Rattle.class_disk.specs.inside.Midway.{IsTaking, GoesOn, IsOpening, OpeningSoFar, SendsDown}
+use Rattle.class_disk.specs.inside.Invariant.{IsNothing, IsOver, HasSome}
+use Rattle.class_disk.specs.inside.DuringACall.{IsTaking, GoesOn, IsOpening, OpeningSoFar, SendsDown}
 use Rattle.class_disk.specs.inside.Parts.{IsDown, restarts_of}
 use Rattle.class_disk.specs.Shown.{class_rules}
-use Rattle.class_disk.specs.inside.Turns.{sent_part, bytes_from}
+use Rattle.class_disk.specs.inside.TableCalls.{sent_part, bytes_from}
 use Rattle.class_disk.proofs.Acting.{map_there}
 use Rattle.class_disk.proofs.Asking.{asks_own, asks_run, asks_submitted}
 use Rattle.class_disk.proofs.Changing.{restarts-append}
@@ -65,9 +65,9 @@ beside xs ys x x' e other c = by (Contains-append_cases xs (x ∷ ys) e c)
     by (inr (suc i, low, is)) = Contains-append_right xs (x' ∷ ys) e (suc i, omega arith, is)
 
 module _ {v : DeviceView}
-    {b : Books} {slot k : ℕ}
+    {b : TableView} {slot k : ℕ}
     (h : IsOpening v b slot k) (ordered : IsOrderly v) (rise : AreRising 0 b.opens) (low : k < length h.o.parts)
-    (v' : DeviceView) (b' : Books) (x : SendsDown v b slot k h.o (part h ordered rise low) (place h ordered rise low) v' b') where
+    (v' : DeviceView) (b' : TableView) (x : SendsDown v b slot k h.o (part h ordered rise low) (place h ordered rise low) v' b') where
   abbrev rules : Rules
   rules = class_rules v.rules
 
@@ -108,7 +108,7 @@ module _ {v : DeviceView}
   abbrev o_next : Opened
   o_next = record h.o { parts = front ++ (new_part ∷ back) }
 
-  abbrev b_next : Books
+  abbrev b_next : TableView
   b_next = record b { opens = s.before ++ ((slot, o_next) ∷ s.after); next_packet = b.next_packet + 1 }
 
   -- THE TABLE
@@ -135,14 +135,14 @@ module _ {v : DeviceView}
   -- each other request stays in the table
   pub table_on : (e : ℕ × Opened) → e.0 ≢ slot → Contains b.opens e → Contains b'.opens e
   table_on e apart c =
-      subst (λ (d : Books). Contains d.opens e) (sym books_are)
+      subst (λ (d : TableView). Contains d.opens e) (sym books_are)
       (beside s.before s.after (slot, h.o) (slot, o_next) e (λ same. apart (sym (ap (λ (y : ℕ × Opened). y.0) same)))
       (subst (λ es. Contains es e) s.opens_are c))
 
   -- it has as many parts as before
   pub long_on : (o' : Opened) → open_at slot b'.opens ≡ Some o' → length o'.parts ≡ length h.o.parts
   long_on o' is_open =
-      let found : open_at slot b'.opens ≡ Some o_next = ap (λ (c : Books). open_at slot c.opens) books_are
+      let found : open_at slot b'.opens ≡ Some o_next = ap (λ (c : TableView). open_at slot c.opens) books_are
       ∙ is_found b_next.opens slot o_next stands_next in
       ap (λ (e : Opened). length e.parts) (found_same _ _ _ is_open found) ∙ length-append front (new_part ∷ back)
       ∙ sym (ap length parts_are ∙ length-append front (old_part ∷ back))
@@ -274,7 +274,7 @@ module _ {v : DeviceView}
   -- the part is below in the packet of its turn
   pub part_on : (o' : Opened) → open_at slot b'.opens ≡ Some o' → take (k + 1) o'.parts ≡ take k h.o.parts ++ (new_part ∷ [])
   part_on o' is_open =
-      let found : open_at slot b'.opens ≡ Some o_next = ap (λ (c : Books). open_at slot c.opens) books_are
+      let found : open_at slot b'.opens ≡ Some o_next = ap (λ (c : TableView). open_at slot c.opens) books_are
       ∙ is_found b_next.opens slot o_next stands_next in
       ap (λ (e : Opened). take (k + 1) e.parts) (found_same _ _ _ is_open found) ∙ before_next ∙ ap (λ ps. ps ++ (new_part ∷ [])) (sym before_is)
 
@@ -282,7 +282,7 @@ module _ {v : DeviceView}
   number_on = number_is
 
   pub packets_on : b'.next_packet ≡ b.next_packet + 1
-  packets_on = ap (λ (c : Books). c.next_packet) books_are
+  packets_on = ap (λ (c : TableView). c.next_packet) books_are
 
   back_ready : All IsReadyPart back
   back_ready = subst (All IsReadyPart) behind_is (behind_ready h ordered rise low)
@@ -408,14 +408,14 @@ module _ {v : DeviceView}
       (ready_here rules back back_ready)
       (lies (sym t.same.paused)) h.not_cancelled 17 h.over others_some below.starts v'.state run in
       record {
-        taking = subst (λ (c : Books). IsTaking (class_rules v'.rules) first (labels ++ below.starts) v'.state (knowns (class_rules v'.rules) c))
+        taking = subst (λ (c : TableView). IsTaking (class_rules v'.rules) first (labels ++ below.starts) v'.state (knowns (class_rules v'.rules) c))
             (sym books_are)
             (subst (λ (u : Rules). IsTaking (class_rules u) first (labels ++ below.starts) v'.state (knowns (class_rules u) b_next)) (sym same_rules)
             (taking_permuted rules first (labels ++ below.starts) v'.state _ _ known_next next));
       }
 
   pub goes_on : GoesOn v b x.submits.starts v' b'
-  goes_on = subst (λ (c : Books). GoesOn v b below.starts v' c) (sym books_are) (record {
+  goes_on = subst (λ (c : TableView). GoesOn v b below.starts v' c) (sym books_are) (record {
     only_starts = below.only_starts;
     adapter = below.moves.adapter;
     same_rules = same_rules;
@@ -434,7 +434,7 @@ module _ {v : DeviceView}
 
   pub sent_on : IsOrderly v' → IsOpening v' b' slot (k + 1)
   sent_on ordered' =
-      subst (λ (c : Books). IsOpening v' c slot (k + 1)) (sym books_are)
+      subst (λ (c : TableView). IsOpening v' c slot (k + 1)) (sym books_are)
       (subst (λ (u : Rules). IsOpening (record v' { rules = u }) b_next slot (k + 1)) (sym same_rules)
       (record {
         port = h.port;

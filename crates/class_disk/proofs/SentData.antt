@@ -17,9 +17,9 @@ use Rattle.class_disk.specs.declared.parts.Place.{Place}
 use Rattle.class_disk.specs.declared.parts.Progress.{Progress}
 use Rattle.class_disk.specs.declared.parts.Progress.TheVariants.{Ready}
 use Rattle.class_disk.specs.inside.Blocks.{data_length, IsWholeDisk, IsOwnPacket}
-use Rattle.class_disk.specs.inside.Books.{Opened}
+use Rattle.class_disk.specs.inside.TableView.{Opened}
 use Rattle.class_disk.specs.inside.Parts.{IsBufferOf, HasBuffers}
-use Rattle.class_disk.specs.inside.Turns.{SendsAs, bytes_from, with_part, sent_part}
+use Rattle.class_disk.specs.inside.TableCalls.{SendsAs, bytes_from, with_part, sent_part}
 
 -- the part that was found at its place
 pub found_part : (parts : List Part) (k : ℕ) (found part : Part) → found ≡ get_or parts k found

@@ -9,7 +9,7 @@ use Rattle.class_disk.specs.declared.requests.Places.{Places}
 use Rattle.class_disk.specs.declared.requests.Slot.{Slot}
 use Rattle.class_disk.specs.declared.requests.Slot.TheVariants.{Reserved, Open, Left}
 use Rattle.class_disk.specs.declared.requests.Transfer.{Transfer}
-use Rattle.class_disk.specs.inside.Books.{Opened, Held, opened_of, held_as, left_as, open_from, held_from, open_at, room_of, rooms_from}
+use Rattle.class_disk.specs.inside.TableView.{Opened, ClosedSlot, opened_of, held_as, left_as, open_from, held_from, open_at, room_of, rooms_from}
 use Rattle.class_disk.proofs.Slots.{Slots, open_is, room_in, same_rooms, rest_of, rest_is}
 
 -- what a slot adds to the open requests, and to those with no packet
@@ -19,7 +19,7 @@ open_step slot (Some (Reserved places)) later = later
 open_step slot (Some (Open t)) later = (slot, opened_of t) ∷ later
 open_step slot (Some (Left places)) later = later
 
-abbrev pub held_step : ℕ → Option Slot → List Held → List Held
+abbrev pub held_step : ℕ → Option Slot → List ClosedSlot → List ClosedSlot
 held_step slot None later = later
 held_step slot (Some (Reserved places)) later = held_as slot places ∷ later
 held_step slot (Some (Open t)) later = later
@@ -45,7 +45,7 @@ open_append slot (Some (Reserved places)) before after = refl
 open_append slot (Some (Open t)) before after = refl
 open_append slot (Some (Left places)) before after = refl
 
-held_append : (slot : ℕ) (x : Option Slot) (before after : List Held) → held_step slot x (before ++ after) ≡ held_step slot x before ++ after
+held_append : (slot : ℕ) (x : Option Slot) (before after : List ClosedSlot) → held_step slot x (before ++ after) ≡ held_step slot x before ++ after
 held_append slot None before after = refl
 held_append slot (Some (Reserved places)) before after = refl
 held_append slot (Some (Open t)) before after = refl
@@ -78,8 +78,8 @@ same_slots first (x ∷ rest) other same =
 pub record ChangesIn (first slot : ℕ) (slots slots' : Slots) (x y : Option Slot) : Type 0 where
   pub front : List (ℕ × Opened)
   pub back : List (ℕ × Opened)
-  pub held_front : List Held
-  pub held_back : List Held
+  pub held_front : List ClosedSlot
+  pub held_back : List ClosedSlot
   pub opens : open_from first slots ≡ front ++ open_step slot x back
   pub opens' : open_from first slots' ≡ front ++ open_step slot y back
   pub held : held_from first slots ≡ held_front ++ held_step slot x held_back
@@ -165,12 +165,12 @@ count_is first (Some (Left places) ∷ rest) =
 -- A SLOT IS FILLED, OR GIVEN UP
 
 -- what was there: nothing, or a request with no packet
-pub record Fills (held : Held) (slots slots' : Slots) : Type 0 where
+pub record Fills (held : ClosedSlot) (slots slots' : Slots) : Type 0 where
   pub opens : open_from 0 slots' ≡ open_from 0 slots
   pub more : IsPermutation (held_from 0 slots') (held ∷ held_from 0 slots)
 
-fills_by : (slot : ℕ) (y : Slot) (held : Held) (slots slots' : Slots) → ((later : List (ℕ × Opened)) → open_step slot (Some y) later ≡ later)
-    → ((later : List Held) → held_step slot (Some y) later ≡ held ∷ later) → get_or slots slot None ≡ None → get_or slots' slot None ≡ Some y
+fills_by : (slot : ℕ) (y : Slot) (held : ClosedSlot) (slots slots' : Slots) → ((later : List (ℕ × Opened)) → open_step slot (Some y) later ≡ later)
+    → ((later : List ClosedSlot) → held_step slot (Some y) later ≡ held ∷ later) → get_or slots slot None ≡ None → get_or slots' slot None ≡ Some y
     → ((i : ℕ) → i ≢ slot → get_or slots' i None ≡ get_or slots i None) → Fills held slots slots'
 fills_by slot y held slots slots' no_open one_held was is others =
     let r = changes_in 0 slot slot slots slots' None (Some y) (omega arith) was is others in

@@ -9,8 +9,8 @@ use Rattle.class_disk.specs.declared.requests.Slot.{Slot}
 use Rattle.class_disk.specs.declared.requests.Slot.TheVariants.{Reserved, Open, Left}
 use Rattle.class_disk.specs.declared.requests.Transfer.{Transfer}
 use Rattle.class_disk.specs.declared.table.Table.{Table}
-use Rattle.class_disk.specs.inside.Books.{Opened, opened_of, held_as, left_as, open_from, held_from, rooms_from, room_of, books_of, IsVacantFor, HasPlaceForMore}
-use Rattle.class_disk.specs.inside.Turns.{new_opened, AddsSlot, RemovesSlot, OpensAt}
+use Rattle.class_disk.specs.inside.TableView.{Opened, opened_of, held_as, left_as, open_from, held_from, rooms_from, room_of, books_of, IsVacantFor, HasPlaceForMore}
+use Rattle.class_disk.specs.inside.TableCalls.{new_opened, AddsSlot, RemovesSlot, OpensAt}
 use Rattle.class_disk.proofs.Slots.{room_in}
 use Rattle.class_disk.proofs.SlotChanges.{fills_reserved, fills_left, opens_there, changes_room, count_is}
 

@@ -5,7 +5,7 @@ use Rattle.device.specs.View.{Reserved as DeviceRoom, room_at}
 use Rattle.class_disk.specs.declared.requests.Slot.{Slot}
 use Rattle.class_disk.specs.declared.requests.Slot.TheVariants.{Reserved, Open, Left}
 use Rattle.class_disk.specs.declared.requests.Transfer.{Transfer}
-use Rattle.class_disk.specs.inside.Books.{Opened, opened_of, open_from, open_at, put_at, room_of, before, rooms_from}
+use Rattle.class_disk.specs.inside.TableView.{Opened, opened_of, open_from, open_at, put_at, room_of, before, rooms_from}
 
 abbrev pub Slots : Type 0
 Slots = List (Option Slot)

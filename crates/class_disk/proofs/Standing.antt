@@ -11,7 +11,7 @@ use Rattle.class_disk.specs.declared.requests.Slot.{Slot}
 use Rattle.class_disk.specs.declared.requests.Slot.TheVariants.{Reserved, Open, Left}
 use Rattle.class_disk.specs.inside.Driver.{packet_above}
 use Rattle.class_disk.proofs.Slots.{room_in}
-use Rattle.class_disk.specs.inside.Books.{Opened, Books, open_from, open_at, put_at, rooms_from, room_of, opened_of}
+use Rattle.class_disk.specs.inside.TableView.{Opened, TableView, open_from, open_at, put_at, rooms_from, room_of, opened_of}
 use Rattle.class_disk.proofs.Owned.{apart_none}
 
 pub split_there : {X : Type 0} (x : X) (ys : List X) → Contains ys x → (front : List X) × (back : List X) × (ys ≡ front ++ (x ∷ back))
@@ -69,7 +69,7 @@ rising first (Some (Open t) ∷ rest) = (omega arith, rising (first + 1) rest)
 -- THE SLOTS AS SPOTS
 
 -- no two packets are at one spot, and none at one that is reserved
-pub record IsApart (b : Books) : Type 0 where
+pub record IsApart (b : TableView) : Type 0 where
   pub spots : IsDistinct eqb (map packet_spot (map packet_above b.opens))
   pub vacant : All (IsOffRooms b.rooms) (map packet_above b.opens)
 
@@ -101,7 +101,7 @@ vacant_from all first (x ∷ rest) same = by x (same 0) (vacant_from all (first 
         All-cons (IsOffRooms (rooms_from all)) (packet_above (first, opened_of t)) (map packet_above (open_from (first + 1) rest))
         (ap (room_at (rooms_from all)) (let e : first ≡ first + 0 = omega arith in e) ∙ room_in all (first + 0) ∙ ap room_of (sym is)) later
 
-pub apart_in : (b : Books) (slots : List (Option Slot)) → b.opens ≡ open_from 0 slots → b.rooms ≡ rooms_from slots → IsApart b
+pub apart_in : (b : TableView) (slots : List (Option Slot)) → b.opens ≡ open_from 0 slots → b.rooms ≡ rooms_from slots → IsApart b
 apart_in b slots opens rooms = record {
   spots = subst (λ es. IsDistinct eqb (map packet_spot (map packet_above es))) (sym opens) (spots_distinct 0 (open_from 0 slots) (rising 0 slots));
   vacant = subst (λ rs. All (IsOffRooms rs) (map packet_above b.opens)) (sym rooms)

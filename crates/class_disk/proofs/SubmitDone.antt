@@ -13,12 +13,12 @@ use Rattle.machine.proofs.Numbers.{AreDistinct-Run, AreDistinct-Admits}
 use Rattle.device.specs.View.{DeviceView, Carries, packet_of, whole_for, request_at, request_of}
 use Rattle.class_disk.specs.Opening.{most_over}
 use Rattle.device.specs.Served.{SetsRoom, Submits, StaysOpen}
-use Rattle.class_disk.specs.inside.Books.{Books}
-use Rattle.class_disk.specs.inside.Turns.{OpensAt}
-use Rattle.class_disk.specs.inside.Kept.{IsSound, IsNothing}
+use Rattle.class_disk.specs.inside.TableView.{TableView}
+use Rattle.class_disk.specs.inside.TableCalls.{OpensAt}
+use Rattle.class_disk.specs.inside.Invariant.{IsSound, IsNothing}
 use Rattle.class_disk.specs.Shown.{class_rules}
 use Rattle.class_disk.specs.inside.Driver.{view_of, packet_above, knowns, places_of, IsCoupled, IsInHand}
-use Rattle.class_disk.specs.inside.Midway.{IsTaking, IsMidway, IsOpening, OpeningSoFar, SendsAll, FindsNone}
+use Rattle.class_disk.specs.inside.DuringACall.{IsTaking, IsMidway, IsOpening, OpeningSoFar, SendsAll, FindsNone}
 use Rattle.std.proofs.lemmas.List.Elements.{All-contains}
 use Rattle.class_disk.proofs.Finishing.{IsKeptInTable, in_hand_again}
 use Rattle.class_disk.proofs.OpeningBegins.{opening_begins}
@@ -27,7 +27,7 @@ use Rattle.class_disk.proofs.Standing.{HasOtherSlot, AreRising, IsApart}
 use Rattle.class_disk.proofs.Submitting.{total, submits_above}
 use Rattle.class_disk.proofs.NewRequest.{held_there, first_above, opens_above, taking_opened, parts_cover, places_for}
 
-module _ (v : DeviceView) (b : Books) (h : IsInHand v b) (slot : ℕ) (irp : Irp) (b1 : Books) (opens : OpensAt b slot irp b1)
+module _ (v : DeviceView) (b : TableView) (h : IsInHand v b) (slot : ℕ) (irp : Irp) (b1 : TableView) (opens : OpensAt b slot irp b1)
     (high : (view_of v b).state.next_request ≤ irp.number) (stays : IsFalse (view_of v b).state.removing) (timely : IsFalse irp.cancelled)
     (carries : Carries false (class_rules v.rules) opens.held.request irp.payload) (few : (view_of v b).submitted < (view_of v b).most) where
   abbrev pub rules : Rules
@@ -48,7 +48,7 @@ module _ (v : DeviceView) (b : Books) (h : IsInHand v b) (slot : ℕ) (irp : Irp
   pub opening : IsOpening v b1 slot 0
   opening = opening_begins v b h slot irp b1 opens stays timely carries few
 
-  module _ (rise : AreRising 0 b1.opens) (v2 : DeviceView) (b2 : Books)
+  module _ (rise : AreRising 0 b1.opens) (v2 : DeviceView) (b2 : TableView)
       (sends : (from : State) (labels : List DeviceLabel) → OpeningSoFar v b1 from labels → IsOpening v b1 slot 0 → SendsAll from labels v b1 slot v2 b2) where
     abbrev all : SendsAll first [] v b1 slot v2 b2
     all = sends first [] begins opening
@@ -82,8 +82,8 @@ module _ (v : DeviceView) (b : Books) (h : IsInHand v b) (slot : ℕ) (irp : Irp
         all.goes_on.only_starts
         (subst (λ r. IsTaking (class_rules r) first all.starts v2.state (knowns (class_rules r) b2)) same_rules mid.taking)
         all.goes_on.adapter same_rules all.goes_on.same_most
-        (ap (λ n. n + 1) (sym (all.goes_on.same_last ∙ ap (λ (x : Books). x.last_request) opens.after)))
-        (all.goes_on.same_submitted ∙ ap (λ (x : Books). x.submitted) opens.after)
+        (ap (λ n. n + 1) (sym (all.goes_on.same_last ∙ ap (λ (x : TableView). x.last_request) opens.after)))
+        (all.goes_on.same_submitted ∙ ap (λ (x : TableView). x.submitted) opens.after)
         (subst (λ ps. IsPermutation ps (packet_of irp slot ∷ map packet_above b.opens)) (sym all.goes_on.same_packets)
         (IsPermutation-map packet_above _ _ opens.opens))
         spent others
@@ -95,10 +95,10 @@ module _ (v : DeviceView) (b : Books) (h : IsInHand v b) (slot : ℕ) (irp : Irp
         (AreDistinct-Admits rules (view_of v b).state irp.number _ None d.opened d.opens.new_number h.orderly.distinct d.opens) d.moves.run
 
     -- and it had nothing to give
-    module _ (v3 : DeviceView) (b3 : Books) (found : FindsNone v2 b2 v3 b3) where
+    module _ (v3 : DeviceView) (b3 : TableView) (found : FindsNone v2 b2 v3 b3) where
       pub all_done : Submits (view_of v b) (packet_of irp slot) opens.held.request irp.payload (view_of v3 b3)
       all_done =
-          subst (λ (c : Books). Submits (view_of v b) (packet_of irp slot) opens.held.request irp.payload (view_of v3 c)) (sym found.same)
+          subst (λ (c : TableView). Submits (view_of v b) (packet_of irp slot) opens.held.request irp.payload (view_of v3 c)) (sym found.same)
           (subst (λ (w : DeviceView). Submits (view_of v b) (packet_of irp slot) opens.held.request irp.payload (view_of w b2))
           (sym found.none.same) sent.0)
 
@@ -112,17 +112,17 @@ module _ (v : DeviceView) (b : Books) (h : IsInHand v b) (slot : ℕ) (irp : Irp
 
 -- WHAT THE LAYER ABOVE ASKS FOR, by what is reserved
 
-pub carries_there : (v : DeviceView) (b : Books) (slot : ℕ) (irp : Irp) (b1 : Books) (opens : OpensAt b slot irp b1) (shown : DeviceView) → view_of v b ≡ shown
+pub carries_there : (v : DeviceView) (b : TableView) (slot : ℕ) (irp : Irp) (b1 : TableView) (opens : OpensAt b slot irp b1) (shown : DeviceView) → view_of v b ≡ shown
     → Carries false shown.rules (request_at shown.rooms slot) irp.payload → Carries false (class_rules v.rules) opens.held.request irp.payload
 carries_there v b slot irp b1 opens shown is h =
     subst (λ q. Carries false (class_rules v.rules) q irp.payload) (ap request_of opens.room.was)
     (subst (λ (x : DeviceView). Carries false x.rules (request_at x.rooms slot) irp.payload) (sym is) h)
 
-pub submits_there : (v : DeviceView) (b : Books) (slot : ℕ) (irp : Irp) (b1 : Books) (opens : OpensAt b slot irp b1) (after : DeviceView)
+pub submits_there : (v : DeviceView) (b : TableView) (slot : ℕ) (irp : Irp) (b1 : TableView) (opens : OpensAt b slot irp b1) (after : DeviceView)
     → Submits (view_of v b) (packet_of irp slot) opens.held.request irp.payload after → Submits (view_of v b) (packet_of irp slot) (request_at b.rooms slot) irp.payload after
 submits_there v b slot irp b1 opens after h = subst (λ q. Submits (view_of v b) (packet_of irp slot) q irp.payload after) (sym (ap request_of opens.room.was)) h
 
-pub few_there : (v : DeviceView) (b : Books) (shown : DeviceView) → view_of v b ≡ shown → shown.submitted < shown.most → b.submitted < 2 ^ 127
+pub few_there : (v : DeviceView) (b : TableView) (shown : DeviceView) → view_of v b ≡ shown → shown.submitted < shown.most → b.submitted < 2 ^ 127
 few_there v b shown is few =
     let low : b.submitted < most_over v.most = subst (λ (x : DeviceView). x.submitted < x.most) (sym is) few in
     omega (arith, low)

@@ -19,14 +19,14 @@ use Rattle.machine.proofs.Same.{IsSame-refl, Run-same}
 use Rattle.irp.specs.declared.Payload.{Payload}
 use Rattle.device.specs.View.{DeviceView, Packet, sent_bytes, whole_for}
 use Rattle.device.specs.Served.{SetsRoom, Submits, StaysOpen}
-use Rattle.class_disk.specs.inside.Books.{Books}
+use Rattle.class_disk.specs.inside.TableView.{TableView}
 use Rattle.class_disk.specs.inside.Joint.{Part, Here, Note, Kept, Known, note_of, known_of, Divided, Joint, parts_requests, parts_pieces, parts_marks, parts_busy, parts_lifted, requests_below, pieces_below, pieces_above, shown, below, above}
 use Rattle.class_disk.specs.PortRules.{below_rules}
-use Rattle.class_disk.specs.inside.Kept.{IsSound, AreParts, IsMadeUp, IsCancelledAs, AgreesOnCancel, IsAhead, AreBehind, IsInTurn, places_in, AreCut, IsInPieces, Keeps}
+use Rattle.class_disk.specs.inside.Invariant.{IsSound, AreParts, IsMadeUp, IsCancelledAs, AgreesOnCancel, IsAhead, AreBehind, IsInTurn, places_in, AreCut, IsInPieces, Keeps}
 use Rattle.class_disk.specs.Shown.{class_rules, IsPort, shown_state}
 use Rattle.class_disk.specs.inside.Driver.{knowns, view_of, packet_above, IsCoupled}
 use Rattle.class_disk.specs.Opening.{most_over}
-use Rattle.class_disk.specs.inside.Midway.{IsTaking}
+use Rattle.class_disk.specs.inside.DuringACall.{IsTaking}
 use Rattle.class_disk.proofs.CoupledSteps.{replicate_more}
 use Rattle.class_disk.proofs.Showing.{shown_is}
 use Rattle.class_disk.proofs.Retaking.{taking_begins}
@@ -152,7 +152,7 @@ module _ (rules : Rules) (j : Joint) (number : ℕ) (q : ClientRequest) (counts 
       (keeps_new cut before k) sound counted (IsSame-refl s)
 
 -- ALL PARTS ARE SENT: what the class driver shows has taken its request in
-pub submits_above : (v : DeviceView) (b : Books) (packet : Packet) (request : Request) (payload : Payload) (first : State) (starts : List DeviceLabel) (v' : DeviceView) (b' : Books) → IsPort v.rules
+pub submits_above : (v : DeviceView) (b : TableView) (packet : Packet) (request : Request) (payload : Payload) (first : State) (starts : List DeviceLabel) (v' : DeviceView) (b' : TableView) → IsPort v.rules
     → Opens (class_rules v.rules) (view_of v b).state packet.number (as_client (class_rules v.rules) request (sent_bytes request.kind payload)) first
     → All IsStart starts → IsTaking (class_rules v.rules) first starts v'.state (knowns (class_rules v.rules) b') → MovesByAll v.adapter starts v'.adapter
     → v'.rules ≡ v.rules → v'.most ≡ v.most → first.next_request ≡ b'.last_request + 1 → b'.submitted ≡ b.submitted + 1 → IsPermutation (map packet_above b'.opens) (packet ∷ map packet_above b.opens)

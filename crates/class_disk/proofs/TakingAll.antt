@@ -6,19 +6,19 @@ use Rattle.srb.specs.declared.DeviceLabel.{DeviceLabel}
 use Rattle.machine.specs.State.{OpenRequest, State}
 use Rattle.machine.specs.Sending.{IsStart}
 use Rattle.device.specs.View.{DeviceView}
-use Rattle.class_disk.specs.inside.Books.{Books}
-use Rattle.class_disk.specs.inside.Midway.{GoesOn, IsMidway, TakesOne, TakesAll, FindsNone}
+use Rattle.class_disk.specs.inside.TableView.{TableView}
+use Rattle.class_disk.specs.inside.DuringACall.{GoesOn, IsMidway, TakesOne, TakesAll, FindsNone}
 
 -- some are taken so far
 pub record TakesSome (Is : OpenRequest → Type 0)
-    (v : DeviceView) (b : Books) (v' : DeviceView) (b' : Books) : Type 0 where
+    (v : DeviceView) (b : TableView) (v' : DeviceView) (b' : TableView) : Type 0 where
   pub starts : List DeviceLabel
   pub goes_on : GoesOn v b starts v' b'
   pub stays : (first : State) (labels : List DeviceLabel)
       → IsMidway Is first labels v b → IsMidway Is first
       (labels ++ starts) v' b'
 
-pub stays_there : (v : DeviceView) (b : Books) → GoesOn v b [] v b
+pub stays_there : (v : DeviceView) (b : TableView) → GoesOn v b [] v b
 stays_there v b = record {
   only_starts = All-nil IsStart;
   adapter = reserves_none v.adapter;
@@ -30,8 +30,8 @@ stays_there v b = record {
   same_rooms = refl;
 }
 
-pub goes_further : (v : DeviceView) (b : Books) (starts : List DeviceLabel) (v' : DeviceView) (b' : Books)
-    (more : List DeviceLabel) (v'' : DeviceView) (b'' : Books)
+pub goes_further : (v : DeviceView) (b : TableView) (starts : List DeviceLabel) (v' : DeviceView) (b' : TableView)
+    (more : List DeviceLabel) (v'' : DeviceView) (b'' : TableView)
     → GoesOn v b starts v' b' → GoesOn v' b' more v'' b'' → GoesOn v b (starts ++ more) v'' b''
 goes_further v b starts v' b' more v'' b'' g h = record {
   only_starts = All-append IsStart starts more g.only_starts h.only_starts;
@@ -45,15 +45,15 @@ goes_further v b starts v' b' more v'' b'' g h = record {
 }
 
 module _ (Is : OpenRequest → Type 0) where
-  pub takes_nothing : (v : DeviceView) (b : Books) → TakesSome Is v b v b
+  pub takes_nothing : (v : DeviceView) (b : TableView) → TakesSome Is v b v b
   takes_nothing v b = record {
     starts = [];
     goes_on = stays_there v b;
     stays = λ first labels m. subst (λ ls. IsMidway Is first ls v b) (sym (append-nil labels)) m;
   }
 
-  module _ (v : DeviceView) (b : Books) (v' : DeviceView) (b' : Books) (v'' : DeviceView)
-      (b'' : Books) where
+  module _ (v : DeviceView) (b : TableView) (v' : DeviceView) (b' : TableView) (v'' : DeviceView)
+      (b'' : TableView) where
     pub takes_more : TakesSome Is v b v' b' → TakesOne Is v' b' v'' b''
         → TakesSome Is v b v'' b''
     takes_more s one = record {

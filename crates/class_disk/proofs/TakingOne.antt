@@ -10,10 +10,10 @@ use Rattle.device.specs.View.{DeviceView, IsOrderly}
 use Rattle.device.specs.Served.{HandsUp, SetsRoom}
 use Rattle.class_disk.specs.declared.parts.Part.{Part}
 use Rattle.class_disk.specs.declared.parts.Outcome.TheVariants.{Withdrawn}
-use Rattle.class_disk.specs.inside.Kept.{NeverSent}
-use Rattle.class_disk.specs.inside.Books.{Opened, Books, open_at}
-use Rattle.class_disk.specs.inside.Turns.{ended_at, ended_books}
-use Rattle.class_disk.specs.inside.Midway.{IsMidway, WithdrawsOne, WithdrawsAll, FindsNone}
+use Rattle.class_disk.specs.inside.Invariant.{NeverSent}
+use Rattle.class_disk.specs.inside.TableView.{Opened, TableView, open_at}
+use Rattle.class_disk.specs.inside.TableCalls.{ended_at, ended_books}
+use Rattle.class_disk.specs.inside.DuringACall.{IsMidway, WithdrawsOne, WithdrawsAll, FindsNone}
 use Rattle.class_disk.specs.inside.Driver.{packet_above}
 use Rattle.class_disk.proofs.Standing.{AreRising}
 use Rattle.class_disk.proofs.Handed.{Handed, handed, ends_there, has_place, spot_inside}
@@ -36,7 +36,7 @@ out_handed v climb packet v' h takes_srb ordered others out =
     out_more v v' packet.room.spot (whole_for h.request) others ordered
     (subst (λ w. SetsRoom v.rooms packet.room.spot None (Some (record { request = h.request; whole = w })) v'.rooms) (h.is_whole takes_srb) h.room) out
 
-module _ {takes : Bool} (Is : OpenRequest → Type 0) (v : DeviceView) (b : Books) (r : AreRising 0 b.opens) (first : State) (labels : List DeviceLabel)
+module _ {takes : Bool} (Is : OpenRequest → Type 0) (v : DeviceView) (b : TableView) (r : AreRising 0 b.opens) (first : State) (labels : List DeviceLabel)
     (m : IsMidway Is first labels v b) (packet : TransferPacket) (climb : Climb) (v' : DeviceView) (h : HandsUp takes v climb packet.room.spot v')
     (is : climb ≡ Finished packet.irp) (slot k : ℕ) (slot_is : slot ≡ slot_at b.owners packet.room.spot) (k_is : k ≡ place_at b.owners packet.room.spot) where
   pub facts : FinishesPacket h.packet.above h.packet.number h.answers.request.cancelled h.status (information h.answers.request.request h.status) h.payload packet.irp.value
@@ -70,7 +70,7 @@ module _ {takes : Bool} (Is : OpenRequest → Type 0) (v : DeviceView) (b : Book
   end_place = has_place Is first labels v b m r h.packet.number h.packet.spot found
 
   -- as the table ends the part
-  pub ends_as : (outcome : Outcome) (b' : Books)
+  pub ends_as : (outcome : Outcome) (b' : TableView)
       → ((o : Opened) (part : Part) → open_at slot b.opens ≡ Some o → slice_get o.parts k ≡ Some part → b' ≡ ended_books slot (ended_at k (record { packet = packet; outcome = outcome }) part o) b)
       → b' ≡ ended_books (slot_at b.owners h.packet.spot) (ended_at (place_at b.owners h.packet.spot) (record { packet = packet; outcome = outcome }) found.part found.o) b
   ends_as outcome b' ends =
@@ -79,17 +79,17 @@ module _ {takes : Bool} (Is : OpenRequest → Type 0) (v : DeviceView) (b : Book
       ∙ ap (λ i. ended_books (slot_at b.owners h.packet.spot) (ended_at i (record { packet = packet; outcome = outcome }) found.part found.o) b) part_there
 
 -- the spot of a packet that is handed up has an owner
-pub owner_inside : {takes : Bool} (Is : OpenRequest → Type 0) (v : DeviceView) (b : Books) (r : AreRising 0 b.opens) (first : State) (labels : List DeviceLabel)
+pub owner_inside : {takes : Bool} (Is : OpenRequest → Type 0) (v : DeviceView) (b : TableView) (r : AreRising 0 b.opens) (first : State) (labels : List DeviceLabel)
     (m : IsMidway Is first labels v b) (climb : Climb) (spot : ℕ) (v' : DeviceView) → HandsUp takes v climb spot v' → spot < length b.owners
 owner_inside Is v b r first labels m climb spot v' h =
     subst (λ n. n < length b.owners) h.is_spot
     (spot_inside Is first labels v b m r h.packet.number h.packet.spot (handed Is first labels v b m r climb spot v' m.rooms_out.orderly h))
 
 -- it is withdrawn
-pub takes_one : {takes : Bool} (v : DeviceView) (b : Books) (r : AreRising 0 b.opens) (first : State) (labels : List DeviceLabel)
+pub takes_one : {takes : Bool} (v : DeviceView) (b : TableView) (r : AreRising 0 b.opens) (first : State) (labels : List DeviceLabel)
     (m : IsMidway NeverSent first labels v b) (packet : TransferPacket) (climb : Climb) (v' : DeviceView) (h : HandsUp takes v climb packet.room.spot v')
     (is : climb ≡ Finished packet.irp) (slot k : ℕ) (slot_is : slot ≡ slot_at b.owners packet.room.spot) (k_is : k ≡ place_at b.owners packet.room.spot)
-    → takes ≡ true → IsOrderly v' → (b' : Books)
+    → takes ≡ true → IsOrderly v' → (b' : TableView)
     → ((o : Opened) (part : Part) → open_at slot b.opens ≡ Some o → slice_get o.parts k ≡ Some part
     → b' ≡ ended_books slot (ended_at k (record { packet = packet; outcome = Withdrawn packet.irp.value.io_status.status }) part o) b)
     → WithdrawsOne v b v' b'
@@ -103,7 +103,7 @@ takes_one v b r first labels m packet climb v' h is slot k slot_is k_is takes_sr
 -- MANY, ONE AFTER THE OTHER
 
 -- so far some were taken
-pub record WithdrawsSome (v : DeviceView) (b : Books) (v' : DeviceView) (b' : Books) : Type 0 where
+pub record WithdrawsSome (v : DeviceView) (b : TableView) (v' : DeviceView) (b' : TableView) : Type 0 where
   pub same_rules : v'.rules ≡ v.rules
   pub same_most : v'.most ≡ v.most
   pub same_adapter : v'.adapter ≡ v.adapter
@@ -113,11 +113,11 @@ pub record WithdrawsSome (v : DeviceView) (b : Books) (v' : DeviceView) (b' : Bo
   pub same_rooms : b'.rooms ≡ b.rooms
   pub stays : (first : State) (labels : List DeviceLabel) → IsMidway NeverSent first labels v b → IsMidway NeverSent first labels v' b'
 
-module _ (v : DeviceView) (b : Books) where
+module _ (v : DeviceView) (b : TableView) where
   pub takes_none_yet : WithdrawsSome v b v b
   takes_none_yet = record { same_rules = refl; same_most = refl; same_adapter = refl; same_last = refl; same_submitted = refl; same_packets = refl; same_rooms = refl; stays = λ first labels m. m }
 
-  pub takes_one_more : (v1 : DeviceView) (b1 : Books) (v2 : DeviceView) (b2 : Books) → WithdrawsSome v b v1 b1 → WithdrawsOne v1 b1 v2 b2
+  pub takes_one_more : (v1 : DeviceView) (b1 : TableView) (v2 : DeviceView) (b2 : TableView) → WithdrawsSome v b v1 b1 → WithdrawsOne v1 b1 v2 b2
       → WithdrawsSome v b v2 b2
   takes_one_more v1 b1 v2 b2 a c = record {
     same_rules = c.same_rules ∙ a.same_rules;
@@ -130,7 +130,7 @@ module _ (v : DeviceView) (b : Books) where
     stays = λ first labels m. c.stays first labels (a.stays first labels m);
   }
 
-  pub takes_all : (v1 : DeviceView) (b1 : Books) (v2 : DeviceView) (b2 : Books) → WithdrawsSome v b v1 b1 → FindsNone v1 b1 v2 b2 → WithdrawsAll v b v2 b2
+  pub takes_all : (v1 : DeviceView) (b1 : TableView) (v2 : DeviceView) (b2 : TableView) → WithdrawsSome v b v1 b1 → FindsNone v1 b1 v2 b2 → WithdrawsAll v b v2 b2
   takes_all v1 b1 v2 b2 a none =
       let is : v2 ≡ v1 = none.none.same in
       subst (λ x. WithdrawsAll v b x b2) (sym is) (subst (WithdrawsAll v b v1) (sym none.same) (record {

@@ -10,12 +10,12 @@ use Rattle.device.specs.View.{DeviceView, IsOrderly}
 use Rattle.device.specs.Served.{HandsUp}
 use Rattle.class_disk.specs.declared.parts.Part.{Part}
 use Rattle.class_disk.specs.declared.parts.Outcome.{Outcome}
-use Rattle.class_disk.specs.inside.Kept.{WasSent}
+use Rattle.class_disk.specs.inside.Invariant.{WasSent}
 use Rattle.class_disk.specs.inside.Parts.{EndsBack, HasReason, GoesAgain}
-use Rattle.class_disk.specs.inside.Books.{Opened, Books, open_at}
-use Rattle.class_disk.specs.inside.Turns.{ended_at, ended_books}
+use Rattle.class_disk.specs.inside.TableView.{Opened, TableView, open_at}
+use Rattle.class_disk.specs.inside.TableCalls.{ended_at, ended_books}
 use Rattle.class_disk.specs.inside.Driver.{tickets}
-use Rattle.class_disk.specs.inside.Midway.{IsMidway, TakesOne, CanSendAgain, SendsDownAgain}
+use Rattle.class_disk.specs.inside.DuringACall.{IsMidway, TakesOne, CanSendAgain, SendsDownAgain}
 use Rattle.class_disk.proofs.Standing.{AreRising}
 use Rattle.class_disk.proofs.Handed.{Handed}
 use Rattle.class_disk.proofs.Returning.{same_request}
@@ -27,7 +27,7 @@ use Rattle.class_disk.specs.declared.parts.TransferPacket.{TransferPacket}
 use Rattle.class_disk.specs.inside.Owners.{slot_at, place_at}
 use Rattle.class_disk.proofs.TakingOne.{out_handed, facts, found, stands, slot_there, part_there, open_there, part_stands, ends_as}
 
-module _ {takes : Bool} {v : DeviceView} {b : Books} (r : AreRising 0 b.opens) {first : State} {labels : List DeviceLabel}
+module _ {takes : Bool} {v : DeviceView} {b : TableView} (r : AreRising 0 b.opens) {first : State} {labels : List DeviceLabel}
     (m : IsMidway WasSent first labels v b) (packet : TransferPacket) {climb : Climb} {v' : DeviceView} (h : HandsUp takes v climb packet.room.spot v')
     (is : climb ≡ Finished packet.irp) {slot k : ℕ} (slot_is : slot ≡ slot_at b.owners packet.room.spot) (k_is : k ≡ place_at b.owners packet.room.spot)
     (takes_srb : takes ≡ true) (ordered : IsOrderly v') where
@@ -54,7 +54,7 @@ module _ {takes : Bool} {v : DeviceView} {b : Books} (r : AreRising 0 b.opens) {
 
   -- its part ends
   pub one_ended : (outcome : Outcome)
-      → ((o : Opened) → open_at slot b.opens ≡ Some o → EndsBack packet.irp.value.io_status.status outcome × HasReason o.irp.cancelled b.removing o.restarts outcome) → (b' : Books)
+      → ((o : Opened) → open_at slot b.opens ≡ Some o → EndsBack packet.irp.value.io_status.status outcome × HasReason o.irp.cancelled b.removing o.restarts outcome) → (b' : TableView)
       → ((o : Opened) (part : Part) → open_at slot b.opens ≡ Some o → slice_get o.parts k ≡ Some part
       → b' ≡ ended_books slot (ended_at k (record { packet = packet; outcome = outcome }) part o) b)
       → TakesOne WasSent v b v' b'
@@ -79,7 +79,7 @@ module _ {takes : Bool} {v : DeviceView} {b : Books} (r : AreRising 0 b.opens) {
           (can_again v b packet climb v' h m.rooms_out.orderly takes_srb fact.payload_is (out_handed v climb packet v' h takes_srb ordered) d goes_there first labels m its_stand.0 its_stand.1)),
     )
 
-    pub one_again : (v'' : DeviceView) (b'' : Books)
+    pub one_again : (v'' : DeviceView) (b'' : TableView)
         → ((o : Opened) (part : Part) → open_at slot b.opens ≡ Some o → slice_get o.parts k ≡ Some part → SendsDownAgain v' b slot k packet o part v'' b'')
         → TakesOne WasSent v b v'' b''
     one_again v'' b'' sends =

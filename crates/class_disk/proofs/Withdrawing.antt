@@ -21,10 +21,10 @@ use Rattle.class_disk.specs.declared.parts.Progress.{Progress}
 use Rattle.class_disk.specs.declared.parts.Progress.TheVariants.{Ready, Below, Ended as HasEnded}
 use Rattle.class_disk.specs.declared.parts.Outcome.TheVariants.{Withdrawn}
 use Rattle.class_disk.specs.inside.Joint.{Note, Sent, Kept, Known, known_of, shown_mark, parts_requests, Divided}
-use Rattle.class_disk.specs.inside.Kept.{NeverSent, IsIfEnded, EndedAre, IsOver, IsOverNote, IsOverMark, noted_busy, HasSome, AgreesOnCancel, IsCancelledAs}
+use Rattle.class_disk.specs.inside.Invariant.{NeverSent, IsIfEnded, EndedAre, IsOver, IsOverNote, IsOverMark, noted_busy, HasSome, AgreesOnCancel, IsCancelledAs}
 use Rattle.class_disk.specs.Shown.{class_rules}
-use Rattle.class_disk.specs.inside.Books.{Opened, Books, opened, all_open}
-use Rattle.class_disk.specs.inside.Turns.{ended_part, ended_at, ended_books}
+use Rattle.class_disk.specs.inside.TableView.{Opened, TableView, opened, all_open}
+use Rattle.class_disk.specs.inside.TableCalls.{ended_part, ended_at, ended_books}
 use Rattle.class_disk.specs.inside.Driver.{places_of, note, note_by, known, knowns, tickets, tickets_held, tickets_open, IsAsked, IsAskedBy, AreAsked, IsSpotted, IsSpottedBy, AreSpotted, IsOpen, AreBelow, IsCause}
 use Rattle.class_disk.specs.Opening.{most_over}
 use Rattle.class_disk.specs.inside.Owners.{slot_at, place_at, IsOwnedBy, AreOwnedFrom}
@@ -34,7 +34,7 @@ use Rattle.class_disk.specs.inside.Rooms.{AllOut}
 use Rattle.class_disk.proofs.Rooms.{out_any_order}
 use Rattle.class_disk.specs.declared.parts.TransferPacket.{TransferPacket}
 use Rattle.class_disk.specs.declared.parts.PartId.{PartId}
-use Rattle.class_disk.specs.inside.Midway.{IsTaking, IsMidway, WithdrawsOne}
+use Rattle.class_disk.specs.inside.DuringACall.{IsTaking, IsMidway, WithdrawsOne}
 use Rattle.class_disk.proofs.Retaking.{known_at, FoundBy, found_by, IsTimely, all_timely}
 use Rattle.class_disk.proofs.Keeping.{there}
 use Rattle.class_disk.proofs.CoupledSteps.{divided_with}
@@ -114,7 +114,7 @@ busy_middle [] (Kept marks busy) (Sent n a) back e = omega (arith, e)
 busy_middle (Sent n a ∷ front) x y back e = let r = busy_middle front x y back e in omega arith
 busy_middle (Kept ms n ∷ front) x y back e = let r = busy_middle front x y back e in omega arith
 
-module _ {takes : Bool} (v : DeviceView) (b : Books) (climb : Climb) (spot : ℕ) (v' : DeviceView)
+module _ {takes : Bool} (v : DeviceView) (b : TableView) (climb : Climb) (spot : ℕ) (v' : DeviceView)
     (h : HandsUp takes v climb spot v') (ordered : IsOrderly v) (packet : TransferPacket) (payload_is : payload_in packet ≡ h.payload)
     (rooms_step : (others : List Ticket) → AllOut v others → AllOut v' (ticket_for h.request packet ∷ others)) (told : NtStatus) (told_is : told ≡ h.status)
     (d : Handed b h.packet.number h.packet.spot) where
@@ -127,7 +127,7 @@ module _ {takes : Bool} (v : DeviceView) (b : Books) (climb : Climb) (spot : ℕ
   abbrev place : ℕ
   place = place_at b.owners h.packet.spot
 
-  abbrev pub books_then : Books
+  abbrev pub books_then : TableView
   books_then = ended_books slot (ended_at place withdrawn d.part d.o) b
 
   module _ (first : State) (labels : List DeviceLabel) (m : IsMidway NeverSent first labels v b) where

@@ -11,20 +11,20 @@ use Rattle.machine.proofs.Numbers.{AreDistinct-same}
 use Rattle.device.specs.View.{DeviceView}
 use Rattle.class_disk.proofs.Standing.{IsApart}
 use Rattle.class_disk.specs.inside.Joint.{Note, Sent, Kept, Known, above}
-use Rattle.class_disk.specs.inside.Kept.{NeverSent, IsOver, IsOverNote, IsOverMark, noted_busy}
+use Rattle.class_disk.specs.inside.Invariant.{NeverSent, IsOver, IsOverNote, IsOverMark, noted_busy}
 use Rattle.class_disk.specs.Shown.{class_rules, shown_state}
-use Rattle.class_disk.specs.inside.Books.{Books}
+use Rattle.class_disk.specs.inside.TableView.{TableView}
 use Rattle.class_disk.specs.inside.Driver.{knowns, view_of, IsInHand}
-use Rattle.class_disk.specs.inside.Midway.{IsTaking, IsMidway, WithdrawsAll}
+use Rattle.class_disk.specs.inside.DuringACall.{IsTaking, IsMidway, WithdrawsAll}
 use Rattle.class_disk.proofs.Showing.{shown_is}
 use Rattle.class_disk.proofs.Finishing.{in_hand_again}
 
 -- the two: the class driver is in hand, and shows the state that it was brought to
-pub record StandsAgain (first : State) (v : DeviceView) (b : Books) : Type 0 where
+pub record StandsAgain (first : State) (v : DeviceView) (b : TableView) : Type 0 where
   pub in_hand : IsInHand v b
   pub shows : IsSame first (view_of v b).state
 
-pub stands_again : (first : State) (v1 : DeviceView) (b1 : Books) (v2 : DeviceView) (b2 : Books)
+pub stands_again : (first : State) (v1 : DeviceView) (b1 : TableView) (v2 : DeviceView) (b2 : TableView)
     → IsMidway NeverSent first [] v1 b1 → WithdrawsAll v1 b1 v2 b2 → IsApart b2 → AreDistinct first → first.next_request ≡ b1.last_request + 1
     → StandsAgain first v2 b2
 stands_again first v1 b1 v2 b2 m1 w apart distinct next =

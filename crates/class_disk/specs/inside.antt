@@ -1,10 +1,10 @@
-pub mod Joint
-pub mod Kept
 pub mod Blocks
+pub mod Driver
+pub mod DuringACall
+pub mod Invariant
+pub mod Joint
+pub mod Owners
 pub mod Parts
 pub mod Rooms
-pub mod Owners
-pub mod Books
-pub mod Turns
-pub mod Driver
-pub mod Midway
+pub mod TableCalls
+pub mod TableView

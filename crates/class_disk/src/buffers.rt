@@ -4,7 +4,7 @@ ghost use Rattle.std.specs.Prelude.{◌≡◌, ◌≤◌, ◌+◌, ℕ, true, Li
 ghost use Rattle.std.specs.Prelude.{vec_capacity};
 ghost use Rattle.irp.specs.declared.Payload.TheVariants.{Buffer};
 ghost use Rattle.class_disk.specs.inside.Parts.{IsBufferOf, joined_of};
-ghost use Rattle.class_disk.specs.inside.Turns.{payload_up};
+ghost use Rattle.class_disk.specs.inside.TableCalls.{payload_up};
 
 use crate::parts::Part;
 use device::Kind;

@@ -17,8 +17,8 @@ mod layer;
 mod parts;
 mod requests;
 mod table;
+mod table_calls;
 mod transfers;
-mod turns;
 
 use device::Shown;
 use std::alloc::Global;
@@ -69,7 +69,7 @@ impl<D: Shown> Drop for Disk<D> {
 
 impl<D: Shown> Model for Disk<D> {
     ghost use Rattle.device.specs.View.{DeviceView};
-    ghost use Rattle.class_disk.specs.inside.Books.{books_of};
+    ghost use Rattle.class_disk.specs.inside.TableView.{books_of};
     ghost use Rattle.class_disk.specs.inside.Driver.{IsDriver, view_of};
 
     ghost Value = { DeviceView };

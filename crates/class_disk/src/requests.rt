@@ -9,8 +9,8 @@ ghost use Rattle.class_disk.specs.declared.parts.Part.{Part};
 ghost use Rattle.class_disk.specs.declared.parts.Place.{Place};
 ghost use Rattle.class_disk.specs.declared.parts.Progress.TheVariants.{Ready};
 ghost use Rattle.class_disk.specs.inside.Parts.{EndsBack, HasReason, GoesAgain, joined_of, lowest_status};
-ghost use Rattle.class_disk.specs.inside.Books.{opened_of};
-ghost use Rattle.class_disk.specs.inside.Turns.{new_opened, IsReadyAt, SendsAs, SendsAgain, ended_at, Completes};
+ghost use Rattle.class_disk.specs.inside.TableView.{opened_of};
+ghost use Rattle.class_disk.specs.inside.TableCalls.{new_opened, IsReadyAt, SendsAs, SendsAgain, ended_at, Completes};
 
 use crate::Sizes;
 use crate::blocks::{byte_count, ready_packet, srb_for};

@@ -7,10 +7,10 @@ ghost use Rattle.device.specs.View.{IsReady, IsReserved};
 ghost use Rattle.class_disk.specs.declared.requests.Transfer.{Transfer};
 ghost use Rattle.class_disk.specs.declared.requests.Slot.TheVariants.{Open as IsOpen};
 ghost use Rattle.class_disk.specs.inside.Owners.{owner_at, KeepsOwners, OwnsSpot};
-ghost use Rattle.class_disk.specs.inside.Books.{books_of, opened_of, open_at, held_as, left_as, HasRoomForMore};
-ghost use Rattle.class_disk.specs.inside.Books.{HasPlaceForMore, IsVacantFor, TakesOut, PutsBack};
-ghost use Rattle.class_disk.specs.inside.Turns.{empty_books, AddsSlot, AddsNoSlot, RemovesSlot, OpensAt};
-ghost use Rattle.class_disk.specs.inside.Turns.{TakesEnded, TakesNone};
+ghost use Rattle.class_disk.specs.inside.TableView.{books_of, opened_of, open_at, held_as, left_as, HasRoomForMore};
+ghost use Rattle.class_disk.specs.inside.TableView.{HasPlaceForMore, IsVacantFor, TakesOut, PutsBack};
+ghost use Rattle.class_disk.specs.inside.TableCalls.{empty_books, AddsSlot, AddsNoSlot, RemovesSlot, OpensAt};
+ghost use Rattle.class_disk.specs.inside.TableCalls.{TakesEnded, TakesNone};
 
 use crate::Sizes;
 use crate::parts::PartId;

@@ -13,10 +13,10 @@ use Rattle.adapter.specs.View.{AdapterView, ReservesMore}
 use Rattle.device.specs.View.{DeviceView, Reserved, IsBounded, IsOrderly, IsReady, IsReserved, AsksInLocation}
 use Rattle.device.specs.View.{Carries, request_at, room_at, whole_for}
 use Rattle.device.specs.Served.{SameRooms, SetsRoom, Reserves, ReservesSpot, ReservesNone, ReservesNear, Frees}
-use Rattle.hold_filter.specs.inside.Books.{Places, Books, here}
-use Rattle.hold_filter.specs.inside.Turns.{IsCovered, Covers}
+use Rattle.hold_filter.specs.inside.TableView.{Limits, TableView, here}
+use Rattle.hold_filter.specs.inside.TableCalls.{IsCovered, Covers}
 use Rattle.hold_filter.specs.inside.View.{without, view_of}
-use Rattle.hold_filter.specs.inside.Kept.{RoomsKept, IsInHand, IsAdmitted, stack_over}
+use Rattle.hold_filter.specs.inside.Invariant.{RoomsKept, IsInHand, IsAdmitted, stack_over}
 use Rattle.hold_filter.proofs.Sizing.{admitted}
 use Rattle.hold_filter.proofs.Orderly.{some_bytes}
 use Rattle.hold_filter.proofs.Moving.{in_hand}
@@ -25,7 +25,7 @@ use Rattle.hold_filter.proofs.Spots.{kept_more, kept_less, kept_wider, kept_same
 use Rattle.hold_filter.proofs.Submitting.{MayTakeIn}
 
 -- what a submit is asked
-pub may_take_in : (stack_size : ℕ) (v : DeviceView) (b : Books) (k : IsInHand stack_size v b) (w : DeviceView)
+pub may_take_in : (stack_size : ℕ) (v : DeviceView) (b : TableView) (k : IsInHand stack_size v b) (w : DeviceView)
     (irp : Irp) (spot : ℕ) → view_of v b ≡ w → IsReady w.rooms spot → IsFalse w.state.removing
     → w.state.next_request ≤ irp.number → w.submitted < w.most
     → AsksInLocation false (request_at w.rooms spot) irp → length irp.locations.items + stack_over stack_size ≤ 5
@@ -58,18 +58,18 @@ bounded_below : (rules : Rules) (window : ℕ) (r : Request) → IsBounded (with
 bounded_below rules window r b =
     record { known = b.known; some = b.some; none = b.none; inside = b.inside; short = b.short }
 
-pub bounds : (v : DeviceView) (b : Books) (w : DeviceView) (r : Request) → view_of v b ≡ w → IsBounded w.rules r
+pub bounds : (v : DeviceView) (b : TableView) (w : DeviceView) (r : Request) → view_of v b ≡ w → IsBounded w.rules r
     → IsBounded v.rules r
 bounds v b w r shown h =
     bounded_below v.rules b.window r (subst (λ (x : DeviceView). IsBounded x.rules r) (sym shown) h)
 
 -- what the adapter reserves below it does for what is shown
-pub near_above : (v v' : DeviceView) (b b' : Books) (w : DeviceView) (r : Request) → view_of v b ≡ w
+pub near_above : (v v' : DeviceView) (b b' : TableView) (w : DeviceView) (r : Request) → view_of v b ≡ w
     → ReservesNear v r v' → ReservesNear w r (view_of v' b')
 near_above v v' b b' w r shown near = subst (λ (x : DeviceView). ReservesNear x r (view_of v' b')) shown near
 
 -- what is reserved in what is shown is reserved below
-pub reserved_below : (v : DeviceView) (b : Books) (w : DeviceView) (spot : ℕ) → view_of v b ≡ w
+pub reserved_below : (v : DeviceView) (b : TableView) (w : DeviceView) (spot : ℕ) → view_of v b ≡ w
     → IsReserved w.rooms spot → IsReserved v.rooms spot
 reserved_below v b w spot shown h =
     let is : room_at (without v.rooms (here b)) spot ≡ Some h.0 =
@@ -78,7 +78,7 @@ reserved_below v b w spot shown h =
     (h.0, sym (without_off v.rooms (here b) spot (off_shown v.rooms (here b) spot h.0 is)) ∙ is)
 
 -- the device below with other rooms, and the filter in order
-with_rooms : (stack_size : ℕ) (v : DeviceView) (b : Books) (places : Places) (rooms : List (Option Reserved))
+with_rooms : (stack_size : ℕ) (v : DeviceView) (b : TableView) (places : Limits) (rooms : List (Option Reserved))
     (adapter : AdapterView) → IsOrderly (record v { rooms = rooms; adapter = adapter })
     → RoomsKept v.rules rooms v.packets b.held b.ended places
     → IsInHand stack_size v b
@@ -114,7 +114,7 @@ with_rooms stack_size v b places rooms adapter ordered kept k =
     }) k.released
 
 -- a room is given back
-pub freed : (stack_size : ℕ) (v : DeviceView) (b : Books) (w : DeviceView) (v' : DeviceView) (spot : ℕ)
+pub freed : (stack_size : ℕ) (v : DeviceView) (b : TableView) (w : DeviceView) (v' : DeviceView) (spot : ℕ)
     → view_of v b ≡ w → IsReserved w.rooms spot → IsInHand stack_size v b → IsOrderly v' → Frees v spot v'
     → IsInHand stack_size v' b × Frees w spot (view_of v' b)
 freed stack_size v b w v' spot shown h k ordered f =
@@ -143,12 +143,12 @@ reserves_is : (v v' : DeviceView) → Reserves v v' → v' ≡ record v { rooms 
 reserves_is v v' h = h.same ∙ ap (λ (a : AdapterView). record v { rooms = v'.rooms; adapter = a })
     (sym (ap (λ (x : DeviceView). x.adapter) h.same))
 
-reserves_shown : (v v' : DeviceView) (b b' : Books) (places : Places) → b' ≡ record b { places = places }
+reserves_shown : (v v' : DeviceView) (b b' : TableView) (places : Limits) → b' ≡ record b { places = places }
     → Reserves v v' → Reserves (view_of v b) (view_of v' b')
 reserves_shown v v' b b' places after h =
     let e : v' ≡ record v { rooms = v'.rooms; adapter = v'.adapter } = reserves_is v v' h in
     subst (λ (x : DeviceView). Reserves (view_of v b) (view_of x b')) (sym e)
-    (subst (λ (y : Books). Reserves (view_of v b) (view_of (record v { rooms = v'.rooms; adapter = v'.adapter }) y))
+    (subst (λ (y : TableView). Reserves (view_of v b) (view_of (record v { rooms = v'.rooms; adapter = v'.adapter }) y))
     (sym after)
     (record {
       same = ap (λ (a : AdapterView). record (view_of v b) { rooms = without v'.rooms (here b); adapter = a })
@@ -156,17 +156,17 @@ reserves_shown v v' b b' places after h =
       adapter = h.adapter;
     }))
 
-hand_rooms : (stack_size : ℕ) (v v' : DeviceView) (b b' : Books) (places : Places)
+hand_rooms : (stack_size : ℕ) (v v' : DeviceView) (b b' : TableView) (places : Limits)
     → b' ≡ record b { places = places }
     → Reserves v v' → IsOrderly v' → RoomsKept v.rules v'.rooms v.packets b.held b.ended places
     → IsInHand stack_size v b → IsInHand stack_size v' b'
 hand_rooms stack_size v v' b b' places after h ordered kept k =
     let e : v' ≡ record v { rooms = v'.rooms; adapter = v'.adapter } = reserves_is v v' h in
     subst (λ (x : DeviceView). IsInHand stack_size x b') (sym e)
-    (subst (λ (y : Books). IsInHand stack_size (record v { rooms = v'.rooms; adapter = v'.adapter }) y) (sym after)
+    (subst (λ (y : TableView). IsInHand stack_size (record v { rooms = v'.rooms; adapter = v'.adapter }) y) (sym after)
     (with_rooms stack_size v b places v'.rooms v'.adapter (subst IsOrderly e ordered) kept k))
 
-module _ (stack_size : ℕ) (v : DeviceView) (b : Books) (k : IsInHand stack_size v b) (w : DeviceView)
+module _ (stack_size : ℕ) (v : DeviceView) (b : TableView) (k : IsInHand stack_size v b) (w : DeviceView)
     (shown : view_of v b ≡ w) where
   -- memory was refused below
   pub refused_below : (v' : DeviceView) → IsOrderly v' → ReservesNone v v'
@@ -184,7 +184,7 @@ module _ (stack_size : ℕ) (v : DeviceView) (b : Books) (k : IsInHand stack_siz
   )
 
   module _ (spot : ℕ) (q : Request) (v1 : DeviceView) (bounded : IsBounded w.rules q) (h : ReservesSpot v spot q v1)
-      (b1 : Books) (covers : Covers b spot b1) where
+      (b1 : TableView) (covers : Covers b spot b1) where
     fits : IsAdmitted v.rules (as_client v.rules q [])
     fits = admitted v.rules q (some_bytes stack_size v b k.kept) (bounds v b w q shown bounded)
 
@@ -205,7 +205,7 @@ module _ (stack_size : ℕ) (v : DeviceView) (b : Books) (k : IsInHand stack_siz
       where
         room_shown : SetsRoom (without v.rooms (here b)) spot None (Some (whole_for q)) (without v1.rooms (here b1))
         room_shown =
-            subst (λ (y : Books). SetsRoom (without v.rooms (here b)) spot None (Some (whole_for q))
+            subst (λ (y : TableView). SetsRoom (without v.rooms (here b)) spot None (Some (whole_for q))
             (without v1.rooms (here y))) (sym covers.after)
             (sets_beside v.rooms v1.rooms (here b) spot None (Some (whole_for q))
             (off_all v.rooms spot (here b) k.kept.rooms.reserved h.room.was) h.room)
@@ -238,9 +238,9 @@ module _ (stack_size : ℕ) (v : DeviceView) (b : Books) (k : IsInHand stack_siz
         ]
 
         rooms_shown : SameRooms (without v.rooms (here b)) (without v2.rooms (here b1))
-        rooms_shown = subst (λ (y : Books). SameRooms (without v.rooms (here b)) (without v2.rooms (here y)))
+        rooms_shown = subst (λ (y : TableView). SameRooms (without v.rooms (here b)) (without v2.rooms (here y)))
             (sym covers.after) (same_without v.rooms v2.rooms (here b) same)
 
   -- the adapter is as it was, where that below is
-  pub same_adapter : (v' : DeviceView) (b' : Books) → v'.adapter ≡ v.adapter → (view_of v' b').adapter ≡ w.adapter
+  pub same_adapter : (v' : DeviceView) (b' : TableView) → v'.adapter ≡ v.adapter → (view_of v' b').adapter ≡ w.adapter
   same_adapter v' b' same = same ∙ ap (λ (x : DeviceView). x.adapter) shown

@@ -24,13 +24,13 @@ use Rattle.device.specs.Served.{IsAt, HasOtherNumber, CancelsIfOpen, CancelsAt, 
 use Rattle.hold_filter.specs.declared.table.Held.{Held}
 use Rattle.hold_filter.specs.declared.table.Table.{Table}
 use Rattle.hold_filter.specs.Shown.{Queued, FilterView, CancelsHeld, CancelsNone}
-use Rattle.hold_filter.specs.inside.Books.{Books, books_of, packet_in, here}
-use Rattle.hold_filter.specs.inside.Turns.{MayEnd, Withdraws, WithdrawsNot, LacksNumber, HoldsAt}
+use Rattle.hold_filter.specs.inside.TableView.{TableView, books_of, packet_in, here}
+use Rattle.hold_filter.specs.inside.TableCalls.{MayEnd, Withdraws, WithdrawsNot, LacksNumber, HoldsAt}
 use Rattle.hold_filter.specs.inside.View.{packets_of, packet_below, packet_here, open_here, are_late}
 use Rattle.hold_filter.specs.inside.View.{requests_here}
 use Rattle.hold_filter.specs.inside.View.{frame_of, state_of, view_of, queued, shown_of}
-use Rattle.hold_filter.specs.inside.Kept.{IsAtOwn, IsCancelled, HasRoom, FilterKept, IsInHand}
-use Rattle.hold_filter.specs.inside.Kept.{spot_in}
+use Rattle.hold_filter.specs.inside.Invariant.{IsAtOwn, IsCancelled, HasRoom, FilterKept, IsInHand}
+use Rattle.hold_filter.specs.inside.Invariant.{spot_in}
 use Rattle.hold_filter.proofs.Lists.{All-from_map, All-first, All-second, contains_image}
 use Rattle.hold_filter.proofs.Lists.{contains_map, contained_first, any_is, any_of}
 use Rattle.hold_filter.proofs.Passing.{cancelled, cancels as cancels_passes, same_hand}
@@ -39,7 +39,7 @@ use Rattle.hold_filter.proofs.Submitting.{vacant_of}
 use Rattle.hold_filter.proofs.Withdrawing.{cancels, beside, hand_withdrawn}
 
 -- which packet is cancelled below, is cancelled
-module _ (v : DeviceView) (b : Books) where
+module _ (v : DeviceView) (b : TableView) where
   -- an open request of this number that is here cannot be cancelled
   abbrev pub CannotBeHere : ℕ → OpenRequest → Type 0
   CannotBeHere number o = o.number ≡ number → IsTrue o.cancelled
@@ -110,7 +110,7 @@ each_off (x ∷ xs) ys d =
     (All-second (IsOff (spot_in x)) xs ys (first_off x (xs ++ ys) d)) (each_off xs ys (rest_apart x (xs ++ ys) d))
 
 -- a packet that is held may go to those that have ended
-pub may_end_all : (stack_size : ℕ) (v : DeviceView) (b : Books) → IsInHand stack_size v b → All (MayEnd b) b.held
+pub may_end_all : (stack_size : ℕ) (v : DeviceView) (b : TableView) → IsInHand stack_size v b → All (MayEnd b) b.held
 may_end_all stack_size v b k i d low =
     let e : ℕ × Held = get_or b.held i d in
     let own : e.0 ≡ e.1.room.spot = k.kept.rooms.held_own i d low in
@@ -127,7 +127,7 @@ may_end_all stack_size v b k i d low =
           (vacant_of e.1.room.spot b.ended k.kept.rooms.ended_own (off i d low));
     }
 
-module _ (stack_size : ℕ) (v : DeviceView) (b : Books) (k : FilterKept stack_size v b) where
+module _ (stack_size : ℕ) (v : DeviceView) (b : TableView) (k : FilterKept stack_size v b) where
   abbrev open_as : Held → OpenRequest
   open_as x = open_here v.rules (are_late b) x
 
@@ -172,7 +172,7 @@ module _ (stack_size : ℕ) (v : DeviceView) (b : Books) (k : FilterKept stack_s
 
 -- A PACKET THAT IS HELD
 
-module _ (stack_size : ℕ) (v : DeviceView) (b : Books) (k : IsInHand stack_size v b) (spot number : ℕ) (b' : Books)
+module _ (stack_size : ℕ) (v : DeviceView) (b : TableView) (k : IsInHand stack_size v b) (spot number : ℕ) (b' : TableView)
     (w : Withdraws b spot number b') where
   pub withdrawn_hand : IsInHand stack_size v b'
   withdrawn_hand = subst (IsInHand stack_size v) (sym w.after)
@@ -180,7 +180,7 @@ module _ (stack_size : ℕ) (v : DeviceView) (b : Books) (k : IsInHand stack_siz
 
   pub withdrawn_cancels : Cancels (state_of v b) number (state_of v b') × IsBeside (view_of v b) (view_of v b')
   withdrawn_cancels =
-      subst (λ (y : Books). Cancels (state_of v b) number (state_of v y) × IsBeside (view_of v b) (view_of v y))
+      subst (λ (y : TableView). Cancels (state_of v b) number (state_of v y) × IsBeside (view_of v b) (view_of v y))
       (sym w.after) (
         cancels stack_size v b spot number w.before w.held w.behind w.was_held w.is_number k,
         beside stack_size v b spot number w.before w.held w.behind w.was_held w.is_number k,
@@ -199,7 +199,7 @@ module _ (stack_size : ℕ) (v : DeviceView) (b : Books) (k : IsInHand stack_siz
       ∙ ap (λ n. map queued w.before ++ record { spot = spot; number = n } ∷ map queued w.behind) w.is_number
 
   pub has_left : map queued b'.held ≡ map queued w.before ++ map queued w.behind
-  has_left = ap (λ (y : Books). map queued y.held) w.after ∙ map-append queued w.before w.behind
+  has_left = ap (λ (y : TableView). map queued y.held) w.after ∙ map-append queued w.before w.behind
 
   -- some packet has that number
   pub not_gone : All (HasOtherNumber number) (packets_of v b) → ⊥
@@ -213,7 +213,7 @@ module _ (stack_size : ℕ) (v : DeviceView) (b : Books) (k : IsInHand stack_siz
       (All-from_map (λ (x : Held). x.irp.value.number ≢ number) packet_in b.held held_all) was_there w.is_number
 
 -- no packet stands in the queue that is shown
-pub none_queued : (b b' : Books) (spot number : ℕ) → WithdrawsNot b spot number b'
+pub none_queued : (b b' : TableView) (spot number : ℕ) → WithdrawsNot b spot number b'
     → Contains (map queued b.held) (record { spot = spot; number = number }) → ⊥
 none_queued b b' spot number w there =
     let e = any_is (λ (e : ℕ × Held). queued e ≡ record { spot = spot; number = number }) b.held
@@ -223,29 +223,29 @@ none_queued b b' spot number w there =
 
 -- BY NUMBER
 
-module _ (stack_size : ℕ) (v : DeviceView) (b : Books) (k : IsInHand stack_size v b) (number : ℕ) where
+module _ (stack_size : ℕ) (v : DeviceView) (b : TableView) (k : IsInHand stack_size v b) (number : ℕ) where
   -- the packet was held
-  pub cancelled_held : (spot : ℕ) (b0 b' : Books) → b0 ≡ b → HoldsAt number spot b.held → (result : Bool)
+  pub cancelled_held : (spot : ℕ) (b0 b' : TableView) → b0 ≡ b → HoldsAt number spot b.held → (result : Bool)
       → MatchBool result (Withdraws b0 spot number b') (WithdrawsNot b0 spot number b')
       → IsInHand stack_size v b' × CancelsIfOpen (view_of v b) number (view_of v b')
   cancelled_held spot b0 b' same held true w' =
-      let w : Withdraws b spot number b' = subst (λ (y : Books). Withdraws y spot number b') same w' in (
+      let w : Withdraws b spot number b' = subst (λ (y : TableView). Withdraws y spot number b') same w' in (
         withdrawn_hand stack_size v b k spot number b' w,
         record
             { one_of = inl (withdrawn_cancels stack_size v b k spot number b' w) },
       )
   cancelled_held spot b0 b' same held false w' =
-      let w : WithdrawsNot b spot number b' = subst (λ (y : Books). WithdrawsNot y spot number b') same w' in
+      let w : WithdrawsNot b spot number b' = subst (λ (y : TableView). WithdrawsNot y spot number b') same w' in
       let there = any_is (λ (e : ℕ × Held). (e.0 ≡ spot) × (e.1.irp.value.number ≡ number)) b.held held in
       absurd (All-contains (λ (e : ℕ × Held). e.0 ≡ spot → e.1.irp.value.number ≢ number) b.held there.0 w.none
       there.1
       there.2.0 there.2.1)
 
   -- it was not
-  pub cancelled_below : (v' : DeviceView) (b' : Books) → b' ≡ b → LacksNumber number b.held → IsOrderly v'
+  pub cancelled_below : (v' : DeviceView) (b' : TableView) → b' ≡ b → LacksNumber number b.held → IsOrderly v'
       → CancelsIfOpen v number v' → IsInHand stack_size v' b' × CancelsIfOpen (view_of v b) number (view_of v' b')
   cancelled_below v' b' same lacks ordered h =
-      subst (λ (y : Books). IsInHand stack_size v' y × CancelsIfOpen (view_of v b) number (view_of v' y)) (sym same) (
+      subst (λ (y : TableView). IsInHand stack_size v' y × CancelsIfOpen (view_of v b) number (view_of v' y)) (sym same) (
         cancels_passes stack_size v b v' k ordered number h,
         cancels_below v b number v' h
             (lacks_here stack_size v b k.kept number lacks),
@@ -253,9 +253,9 @@ module _ (stack_size : ℕ) (v : DeviceView) (b : Books) (k : IsInHand stack_siz
 
 -- BY SPOT
 
-module _ (stack_size : ℕ) (v : DeviceView) (b : Books) (k : IsInHand stack_size v b) (spot number : ℕ) where
+module _ (stack_size : ℕ) (v : DeviceView) (b : TableView) (k : IsInHand stack_size v b) (spot number : ℕ) where
   -- a packet that was held
-  pub at_held : (b' : Books) → Withdraws b spot number b'
+  pub at_held : (b' : TableView) → Withdraws b spot number b'
       → IsInHand stack_size v b' × CancelsAt (view_of v b) spot number (view_of v b')
   at_held b' w =
       let c = withdrawn_cancels stack_size v b k spot number b' w in (
@@ -355,10 +355,10 @@ module _ (stack_size : ℕ) (v : DeviceView) (b : Books) (k : IsInHand stack_siz
     )
 
   -- as the calls say it
-  pub at_any : (b1 : Books) → WithdrawsNot b spot number b1 → (v' : DeviceView) → IsOrderly v'
+  pub at_any : (b1 : TableView) → WithdrawsNot b spot number b1 → (v' : DeviceView) → IsOrderly v'
       → CancelsAt v spot number v' → IsInHand stack_size v' b1 × CancelsAt (view_of v b) spot number (view_of v' b1)
   at_any b1 w v' ordered h =
-      subst (λ (y : Books). IsInHand stack_size v' y × CancelsAt (view_of v b) spot number (view_of v' y))
+      subst (λ (y : TableView). IsInHand stack_size v' y × CancelsAt (view_of v b) spot number (view_of v' y))
       (sym w.same)
       (at_below v' ordered h w.none)
 
@@ -388,7 +388,7 @@ held_or_none stack_size v t t' old shown k spot number false w = (
   subst (IsInHand stack_size v) (sym w.same) k,
   subst (λ (f : FilterView). CancelsNone f spot number (shown_of v t')) shown (record {
     none = none_queued (books_of t) (books_of t') spot number w;
-    same_queue = ap (λ (y : Books). map queued y.held) w.same;
+    same_queue = ap (λ (y : TableView). map queued y.held) w.same;
     same = ap (view_of v) w.same;
   }),
 )

@@ -28,14 +28,14 @@ use Rattle.device.specs.Climbing.{Climbs}
 use Rattle.device.specs.View.{DeviceView, Carries, whole_for}
 use Rattle.device.specs.Served.{HandsUp, IsBack, SetsRoom}
 use Rattle.hold_filter.specs.declared.table.Held.{Held}
-use Rattle.hold_filter.specs.inside.Books.{Books, packet_in, here}
-use Rattle.hold_filter.specs.inside.Turns.{Hands}
+use Rattle.hold_filter.specs.inside.TableView.{TableView, packet_in, here}
+use Rattle.hold_filter.specs.inside.TableCalls.{Hands}
 use Rattle.hold_filter.specs.inside.Packets.{HandsOver, request_in}
 use Rattle.hold_filter.specs.inside.Releases.{NoneMayGo}
 use Rattle.hold_filter.specs.inside.View.{packets_of, packet_below, packet_here, without, open_here, are_late}
 use Rattle.hold_filter.specs.inside.View.{requests_here, frame_of, state_of, view_of}
-use Rattle.hold_filter.specs.inside.Kept.{IsBefore, AreInTurn, IsCancelled, IsFrom, IsAsked, IsWhole, IsAtOwn}
-use Rattle.hold_filter.specs.inside.Kept.{EntryCanGo, FilterKept, IsInHand}
+use Rattle.hold_filter.specs.inside.Invariant.{IsBefore, AreInTurn, IsCancelled, IsFrom, IsAsked, IsWhole, IsAtOwn}
+use Rattle.hold_filter.specs.inside.Invariant.{EntryCanGo, FilterKept, IsInHand}
 use Rattle.hold_filter.proofs.Here.{not_started, has_places}
 use Rattle.hold_filter.proofs.Moving.{in_hand}
 use Rattle.hold_filter.proofs.Sizing.{carries_none}
@@ -57,8 +57,8 @@ untouched_not_back zero some all = absurd (omega arith)
 untouched_not_back (suc n) some all = let e : Untouched ≡ Back =
     All-head IsBack Untouched (replicate n Untouched) all in cc (e)
 
-module _ (stack_size : ℕ) (v : DeviceView) (b : Books) (x : Held) (held ended : List (ℕ × Held)) where
-  abbrev pub books_left : Books
+module _ (stack_size : ℕ) (v : DeviceView) (b : TableView) (x : Held) (held ended : List (ℕ × Held)) where
+  abbrev pub books_left : TableView
   books_left = record b { held = held; ended = ended }
 
   -- the packet leaves, and the others stay
@@ -211,7 +211,7 @@ module _ (stack_size : ℕ) (v : DeviceView) (b : Books) (x : Held) (held ended 
 
 -- AS THE CALLS SAY IT
 
-module _ (stack_size : ℕ) (v : DeviceView) (b : Books) (x : Held) (k : IsInHand stack_size v b) where
+module _ (stack_size : ℕ) (v : DeviceView) (b : TableView) (x : Held) (k : IsInHand stack_size v b) where
   -- one that was cancelled while it was held leaves
   leaves_cancelled : (at : ℕ) (rest : List (ℕ × Held)) → b.ended ≡ (at, x) ∷ rest
       → Leaves stack_size v b x b.held rest
@@ -273,10 +273,10 @@ module _ (stack_size : ℕ) (v : DeviceView) (b : Books) (x : Held) (k : IsInHan
 
   module _ (status : NtStatus) (climb : Climb) (room : Room) (over : HandsOver x status climb room) where
     -- what a packet that ended here leaves
-    abbrev HasLeft : Books → Type 0
+    abbrev HasLeft : TableView → Type 0
     HasLeft b' = IsInHand stack_size v b' × HandsUp false (view_of v b) climb room.spot (view_of v b')
 
-    pub has_ended : (b' : Books) → Hands b x status b' → HasLeft b'
+    pub has_ended : (b' : TableView) → Hands b x status b' → HasLeft b'
     has_ended b' (inl h) =
         let l = leaves_cancelled h.spot h.rest h.is_front in
         let given : IsGivenUp (state_of v b) (open_here v.rules (are_late b) x) status =

@@ -13,9 +13,9 @@ use Rattle.machine.specs.Sending.{is_untouched, is_started}
 use Rattle.machine.specs.Numbers.{HasPlaces}
 use Rattle.machine.specs.Window.{IsWaiting}
 use Rattle.hold_filter.specs.declared.table.Held.{Held}
-use Rattle.hold_filter.specs.inside.Books.{packet_in}
+use Rattle.hold_filter.specs.inside.TableView.{packet_in}
 use Rattle.hold_filter.specs.inside.View.{open_here}
-use Rattle.hold_filter.specs.inside.Kept.{IsAsked}
+use Rattle.hold_filter.specs.inside.Invariant.{IsAsked}
 use Rattle.hold_filter.proofs.Lists.{to_front}
 
 pub untouched_all : (n : ℕ) → list_all is_untouched (replicate n Untouched) ≡ true

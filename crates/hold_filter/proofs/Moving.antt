@@ -23,9 +23,9 @@ use Rattle.machine.proofs.Numbers.{AreDistinct-Run}
 use Rattle.machine.proofs.Framed.{Run-framed}
 use Rattle.machine.proofs.Held.{Holds-Run}
 use Rattle.machine.proofs.Window.{AllMayPass-above}
-use Rattle.hold_filter.specs.inside.Books.{Books, here}
+use Rattle.hold_filter.specs.inside.TableView.{TableView, here}
 use Rattle.hold_filter.specs.inside.View.{frame_of, state_of, view_of, packet_below, packet_here}
-use Rattle.hold_filter.specs.inside.Kept.{IsFrom, IsPassed, IsAdmitted, AsksAdmitted, FilterKept, IsInHand}
+use Rattle.hold_filter.specs.inside.Invariant.{IsFrom, IsPassed, IsAdmitted, AsksAdmitted, FilterKept, IsInHand}
 use Rattle.hold_filter.proofs.Orderly.{orderly_of}
 use Rattle.hold_filter.proofs.Rooms.{same_without, rooms_refl}
 use Rattle.hold_filter.proofs.Spots.{kept_same}
@@ -108,13 +108,13 @@ module _ (P : ClientRequest → Type 0) where
   run_asks rules (label ∷ labels) s s' all (mid, inr none, rest) = absurd none
 
 module _ (stack_size : ℕ) where
-  pub in_hand : (v : DeviceView) (b : Books) → FilterKept stack_size v b
+  pub in_hand : (v : DeviceView) (b : TableView) → FilterKept stack_size v b
       → (IsFalse b.paused → IsFalse b.removing → (b.held ≡ []) ⊎ (b.window ≤ length v.state.requests))
       → IsInHand stack_size v b
   in_hand v b k released = record { kept = k; released = released; orderly = orderly_of stack_size v b k released }
 
   -- what the filter needs of a move below
-  pub record StaysBelow (v : DeviceView) (b : Books) (s : State) (packets' : List Packet)
+  pub record StaysBelow (v : DeviceView) (b : TableView) (s : State) (packets' : List Packet)
       (rooms' : List (Option Reserved)) (adapter : AdapterView) : Type 0 where
     pub ordered : IsOrderly (moved_to v s packets' rooms' adapter)
     pub packets : IsPermutation packets' v.packets
@@ -125,7 +125,7 @@ module _ (stack_size : ℕ) where
     pub distinct : AreDistinct (framed (frame_of v.rules b) s)
     pub asked_below : All (AsksAdmitted v.rules) s.requests
 
-  module _ (v : DeviceView) (b : Books) where
+  module _ (v : DeviceView) (b : TableView) where
     pub kept_below : (s : State) (packets : List Packet) (rooms : List (Option Reserved)) (adapter : AdapterView)
         → StaysBelow v b s packets rooms adapter
         → FilterKept stack_size v b → FilterKept stack_size (moved_to v s packets rooms adapter) b

@@ -11,17 +11,17 @@ use Rattle.machine.proofs.Numbers.{AreDistinct-opening}
 use Rattle.machine.proofs.Held.{Holds-opening}
 use Rattle.device.specs.View.{DeviceView, Packet, IsOrderly}
 use Rattle.hold_filter.specs.Opening.{IsFreshBelow, opening_over}
-use Rattle.hold_filter.specs.inside.Books.{Books}
-use Rattle.hold_filter.specs.inside.Turns.{empty}
+use Rattle.hold_filter.specs.inside.TableView.{TableView}
+use Rattle.hold_filter.specs.inside.TableCalls.{empty}
 use Rattle.hold_filter.specs.inside.View.{frame_of, packet_below, view_of}
-use Rattle.hold_filter.specs.inside.Kept.{IsFrom, IsPassed, IsCancelled, IsWhole, IsAsked, IsAtOwn, HasRoom}
-use Rattle.hold_filter.specs.inside.Kept.{HasPlace, AsksAdmitted, EntryCanGo, IsInHand}
+use Rattle.hold_filter.specs.inside.Invariant.{IsFrom, IsPassed, IsCancelled, IsWhole, IsAsked, IsAtOwn, HasRoom}
+use Rattle.hold_filter.specs.inside.Invariant.{HasPlace, AsksAdmitted, EntryCanGo, IsInHand}
 use Rattle.hold_filter.proofs.Moving.{in_hand}
 use Rattle.hold_filter.proofs.Rooms.{none_some}
 
 module _ (stack_size : ℕ) (v : DeviceView) (window : ℕ) (location : 0 < stack_size) (some : 0 < window)
     (h : IsFreshBelow v) (ordered : IsOrderly v) (fits : v.most < 2 ^ 128) where
-  abbrev b : Books
+  abbrev b : TableView
   b = empty window
 
   -- what holds at the machine's opening

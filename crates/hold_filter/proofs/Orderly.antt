@@ -19,10 +19,10 @@ use Rattle.machine.specs.Window.{IsAbove}
 use Rattle.device.specs.View.{DeviceView, Packet, packet_number, packet_spot, IsOffRooms, IsOrderly}
 use Rattle.device.specs.View.{WaitsForTag}
 use Rattle.hold_filter.specs.declared.table.Held.{Held}
-use Rattle.hold_filter.specs.inside.Books.{Books, packet_in, here}
+use Rattle.hold_filter.specs.inside.TableView.{TableView, packet_in, here}
 use Rattle.hold_filter.specs.inside.View.{open_here, are_late, requests_here, state_of, view_of}
 use Rattle.hold_filter.specs.inside.View.{packets_of, packet_below, packet_here, without}
-use Rattle.hold_filter.specs.inside.Kept.{FilterKept, IsCancelled, IsAsked, spot_in}
+use Rattle.hold_filter.specs.inside.Invariant.{FilterKept, IsCancelled, IsAsked, spot_in}
 use Rattle.hold_filter.proofs.Here.{not_started, has_places, true_false}
 use Rattle.hold_filter.proofs.Rooms.{IsOn, IsOff, without_on, still_none, all_apart}
 use Rattle.hold_filter.proofs.Spots.{off_all}
@@ -54,7 +54,7 @@ none_started f not [] = refl
 none_started f not (x ∷ xs) = sum_by-cons (λ o. cond (is_started o) 1 0) (f x) (map f xs)
     ∙ rw (not x, none_started f not xs) (omega arith)
 
-module _ (stack_size : ℕ) (v : DeviceView) (b : Books) (k : FilterKept stack_size v b) where
+module _ (stack_size : ℕ) (v : DeviceView) (b : TableView) (k : FilterKept stack_size v b) where
   pub some_bytes : 0 < v.rules.sector_size
   some_bytes =
       let same : v.rules.sector_size ≡ v.adapter.sector_size = k.ordered.read.same_size in

@@ -17,12 +17,12 @@ use Rattle.machine.proofs.Permuting.{All-changed}
 use Rattle.machine.proofs.Numbers.{AreDistinct-Step}
 use Rattle.machine.proofs.Framed.{Cancels-framed}
 use Rattle.machine.proofs.Held.{Holds-Cancels}
-use Rattle.hold_filter.specs.inside.Books.{Books}
+use Rattle.hold_filter.specs.inside.TableView.{TableView}
 use Rattle.hold_filter.specs.inside.View.{frame_of, state_of, view_of}
-use Rattle.hold_filter.specs.inside.Kept.{AsksAdmitted, IsInHand}
+use Rattle.hold_filter.specs.inside.Invariant.{AsksAdmitted, IsInHand}
 use Rattle.hold_filter.proofs.Moving.{moved_to, moved_is, passes, passes_same, passes_stays, shown_moves}
 
-module _ (stack_size : ℕ) (v : DeviceView) (b : Books) (v' : DeviceView) (k : IsInHand stack_size v b)
+module _ (stack_size : ℕ) (v : DeviceView) (b : TableView) (v' : DeviceView) (k : IsInHand stack_size v b)
     (ordered : IsOrderly v') where
   abbrev Shown : DeviceView → DeviceView
   Shown w = view_of w b

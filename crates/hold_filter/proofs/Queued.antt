@@ -4,8 +4,8 @@ use Rattle.std.specs.Prelude.{All, MatchOption}
 use Rattle.irp.specs.declared.Irp.{Irp}
 use Rattle.linked.specs.Queue.{Queue, Finds, FindsNot, Pushes, RemovesNumber, RemovesNone}
 use Rattle.hold_filter.specs.declared.table.Held.{Held}
-use Rattle.hold_filter.specs.inside.Books.{Places, Books}
-use Rattle.hold_filter.specs.inside.Turns.{MayEnd, LacksNumber, HoldsAt, WithdrawsNot, Withdraws, marked}
+use Rattle.hold_filter.specs.inside.TableView.{Limits, TableView}
+use Rattle.hold_filter.specs.inside.TableCalls.{MayEnd, LacksNumber, HoldsAt, WithdrawsNot, Withdraws, marked}
 use Rattle.hold_filter.proofs.Lists.{here_of, any_there, lacks_all, none_all}
 
 abbrev pub number_held : Held → ℕ
@@ -19,7 +19,7 @@ found_held q q' number (Some at) h = subst (λ es. HoldsAt number at es) (sym h.
     (refl, h.is_number))
 found_held q q' number Option.None h = lacks_all number_held number q.entries h.none
 
-pub withdrawn_none : (b b' : Books) (q q' : Queue Held) (spot number : ℕ) → b.held ≡ q.entries
+pub withdrawn_none : (b b' : TableView) (q q' : Queue Held) (spot number : ℕ) → b.held ≡ q.entries
     → b.places.held ≡ q.places → RemovesNone number_held q spot number q'
     → b' ≡ record b { held = q'.entries; places = record b.places { held = q'.places } }
     → WithdrawsNot b spot number b'
@@ -34,7 +34,7 @@ withdrawn_none b b' q q' spot number is places h after = record {
 }
 
 -- one that left may go to those that have ended
-pub may_end : (b : Books) (q q' : Queue Held) (spot number : ℕ) (held : Held)
+pub may_end : (b : TableView) (q q' : Queue Held) (spot number : ℕ) (held : Held)
     → RemovesNumber number_held q spot number held q' → All (MayEnd b) q.entries → MayEnd b (spot, held)
 may_end b q q' spot number held h all = here_of (MayEnd b) q.entries h.removes.before (spot, held) h.removes.behind
     h.removes.stood all
@@ -46,7 +46,7 @@ pub pushed_marked : (r r' : Queue Held) (spot : ℕ) (held : Held) (irp : Irp)
 pushed_marked r r' spot held irp e p =
     subst (λ (x : Irp). Pushes r spot (record held { irp = record held.irp { value = x } }) r') e p
 
-pub withdrawn : (b b' : Books) (q q' r r' : Queue Held) (spot number : ℕ) (held : Held) → b.held ≡ q.entries
+pub withdrawn : (b b' : TableView) (q q' r r' : Queue Held) (spot number : ℕ) (held : Held) → b.held ≡ q.entries
     → b.ended ≡ r.entries → b.places ≡ record { held = q.places; ended = r.places }
     → RemovesNumber number_held q spot number held q' → Pushes r spot (marked held) r'
     → b' ≡ record b {
@@ -75,7 +75,7 @@ withdrawn b b' q q' r r' spot number held is ended places h p after = record {
         places =
             record { held = q.places; ended = x.places };
       }) p.after
-      ∙ ap (λ (ps : Places). record b {
+      ∙ ap (λ (ps : Limits). record b {
         held = h.removes.before ++ h.removes.behind;
         ended =
             r.entries ++ (spot, marked held) ∷ [];

@@ -35,15 +35,15 @@ use Rattle.machine.proofs.Held.{Holds-Run, Holds-Opens}
 use Rattle.machine.proofs.Window.{AllMayPass-above}
 use Rattle.adapter.proofs.Joining.{reserves_none, moves_joined}
 use Rattle.hold_filter.specs.declared.table.Held.{Held}
-use Rattle.hold_filter.specs.inside.Books.{Books, packet_in, here}
-use Rattle.hold_filter.specs.inside.Turns.{LetsGo, LetsNoneGo}
+use Rattle.hold_filter.specs.inside.TableView.{TableView, packet_in, here}
+use Rattle.hold_filter.specs.inside.TableCalls.{LetsGo, LetsNoneGo}
 use Rattle.hold_filter.specs.inside.Packets.{PassesDown, request_in}
 use Rattle.hold_filter.specs.inside.View.{packets_of, packet_below, packet_here, without, open_here, are_late}
 use Rattle.hold_filter.specs.inside.View.{requests_here, frame_of, state_of, view_of}
 use Rattle.hold_filter.specs.inside.Releases.{MaySend, Sends, Releases, LetsOneGo, NoneMayGo, Spares}
-use Rattle.hold_filter.specs.inside.Kept.{IsBefore, AreInTurn, IsFrom, IsAsked, IsPassed, IsAdmitted}
-use Rattle.hold_filter.specs.inside.Kept.{AsksAdmitted}
-use Rattle.hold_filter.specs.inside.Kept.{IsAtOwn, HasRoom, HasPlace, RoomsKept, CanGo, EntryCanGo, FilterKept}
+use Rattle.hold_filter.specs.inside.Invariant.{IsBefore, AreInTurn, IsFrom, IsAsked, IsPassed, IsAdmitted}
+use Rattle.hold_filter.specs.inside.Invariant.{AsksAdmitted}
+use Rattle.hold_filter.specs.inside.Invariant.{IsAtOwn, HasRoom, HasPlace, RoomsKept, CanGo, EntryCanGo, FilterKept}
 use Rattle.hold_filter.proofs.Lists.{All-second}
 use Rattle.hold_filter.proofs.Locations.{passed_above, asks_with, shown_as}
 use Rattle.hold_filter.proofs.Moving.{counted, run_keeps, run_asks}
@@ -63,11 +63,11 @@ sent_is v v' r s m =
     ∙ ap (λ (n : ℕ). record v' { rules = v.rules; submitted = v.submitted + 1; most = n }) m
 
 -- as many are below as were counted
-pub as_many : (stack_size : ℕ) (v : DeviceView) (b : Books) → FilterKept stack_size v b
+pub as_many : (stack_size : ℕ) (v : DeviceView) (b : TableView) → FilterKept stack_size v b
     → length v.state.requests ≡ b.below
 as_many stack_size v b k = counted v k.ordered ∙ sym k.counted
 
-module _ (stack_size : ℕ) (v : DeviceView) (b : Books) (k : FilterKept stack_size v b) (paused : IsFalse b.paused)
+module _ (stack_size : ℕ) (v : DeviceView) (b : TableView) (k : FilterKept stack_size v b) (paused : IsFalse b.paused)
     (staying : IsFalse b.removing) (room : b.below < b.window)
     (at : ℕ) (held : Held) (rest : List (ℕ × Held)) (is_front : b.held ≡ (at, held) ∷ rest) where
   sent_count : length v.state.requests ≡ b.below
@@ -130,7 +130,7 @@ module _ (stack_size : ℕ) (v : DeviceView) (b : Books) (k : FilterKept stack_s
       (h : Submits v (packet_of irp held.room.spot) (request_in held.irp.value) irp.payload
       (sent_to v s packets rooms adapter)) (ordered : IsOrderly (sent_to v s packets rooms adapter)) where
     -- the books after it
-    abbrev pub books_sent : Books
+    abbrev pub books_sent : TableView
     books_sent = record b { held = rest; below = b.below + 1 }
 
     abbrev client : ClientRequest
@@ -319,19 +319,19 @@ module _ (stack_size : ℕ) (v : DeviceView) (b : Books) (k : FilterKept stack_s
 
 -- AS THE CALLS SAY IT
 
-pub record HasReleased (stack_size : ℕ) (v : DeviceView) (b : Books) (v' : DeviceView) (b' : Books) : Type 0 where
+pub record HasReleased (stack_size : ℕ) (v : DeviceView) (b : TableView) (v' : DeviceView) (b' : TableView) : Type 0 where
   pub kept : FilterKept stack_size v' b'
   pub releases : Releases (view_of v b) (view_of v' b')
   pub fewer : LetsOneGo b b'
   pub spares : Spares v b v' b'
 
-module _ (stack_size : ℕ) (v : DeviceView) (b : Books) (v' : DeviceView) (b1 b' : Books) (held : Held)
+module _ (stack_size : ℕ) (v : DeviceView) (b : TableView) (v' : DeviceView) (b1 b' : TableView) (held : Held)
     (k : FilterKept stack_size v b) (paused : IsFalse b.paused) (staying : IsFalse b.removing)
     (room : b.below < b.window)
     (lets : LetsGo b held b1) (sends : Sends v (with_cancel_routine held.routine held.irp.value) held.room.spot v')
     (ordered : IsOrderly v') (notes : b' ≡ record b1 { below = b1.below + 1 }) where
   books_now : b' ≡ record b { held = lets.rest; below = b.below + 1 }
-  books_now = notes ∙ ap (λ (x : Books). record x { below = x.below + 1 }) lets.after
+  books_now = notes ∙ ap (λ (x : TableView). record x { below = x.below + 1 }) lets.after
 
   view_now : v' ≡ sent_to v v'.state v'.packets v'.rooms v'.adapter
   view_now = sent_is v v' sends.submits.moves.same_rules sends.submits.moves.same_submitted
@@ -350,7 +350,7 @@ module _ (stack_size : ℕ) (v : DeviceView) (b : Books) (v' : DeviceView) (b1 b
       let ordered' : IsOrderly (sent_to v v'.state v'.packets v'.rooms v'.adapter) =
       subst IsOrderly view_now ordered in
       subst (λ (x : DeviceView). HasReleased stack_size v b x b') (sym view_now)
-      (subst (λ (y : Books). HasReleased stack_size v b (sent_to v v'.state v'.packets v'.rooms v'.adapter) y)
+      (subst (λ (y : TableView). HasReleased stack_size v b (sent_to v v'.state v'.packets v'.rooms v'.adapter) y)
       (sym books_now) (record {
         kept = kept_sent stack_size v b k paused staying room lets.spot held lets.rest lets.is_front sends.sent
             sends.passes v'.state v'.packets v'.rooms v'.adapter h' ordered';
@@ -395,7 +395,7 @@ may_not false false below window result is no' p r = let high : nat_lt below win
     grind (arith, nat_tests)
 
 -- the window is full, or none may go
-pub none_may : (stack_size : ℕ) (v : DeviceView) (b : Books) → FilterKept stack_size v b → (result : Bool)
+pub none_may : (stack_size : ℕ) (v : DeviceView) (b : TableView) → FilterKept stack_size v b → (result : Bool)
     → result ≡ (not b.paused && not b.removing && nat_lt b.below b.window) → result ≡ false → NoneMayGo v b
 none_may stack_size v b k result is no' = λ paused staying. let full : b.window ≤ b.below =
     may_not b.paused b.removing b.below b.window result is no' paused staying in
@@ -419,14 +419,14 @@ releases_none view = record {
 }
 
 -- where none is held nothing changed
-pub releases_same : (v : DeviceView) (b b' : Books) → LetsNoneGo b b' → Releases (view_of v b) (view_of v b')
-releases_same v b b' h = subst (λ (x : Books). Releases (view_of v b) (view_of v x)) (sym h.same)
+pub releases_same : (v : DeviceView) (b b' : TableView) → LetsNoneGo b b' → Releases (view_of v b) (view_of v b')
+releases_same v b b' h = subst (λ (x : TableView). Releases (view_of v b) (view_of v x)) (sym h.same)
     (releases_none (view_of v b))
 
-pub none_left : (v : DeviceView) (b b' : Books) → LetsNoneGo b b' → NoneMayGo v b'
+pub none_left : (v : DeviceView) (b b' : TableView) → LetsNoneGo b b' → NoneMayGo v b'
 none_left v b b' h = subst (NoneMayGo v) (sym h.same) (λ going staying. inl h.none_held)
 
-pub kept_none : (stack_size : ℕ) (v : DeviceView) (b b' : Books) → LetsNoneGo b b' → FilterKept stack_size v b
+pub kept_none : (stack_size : ℕ) (v : DeviceView) (b b' : TableView) → LetsNoneGo b b' → FilterKept stack_size v b
     → FilterKept stack_size v b'
 kept_none stack_size v b b' h k = subst (FilterKept stack_size v) (sym h.same) k
 
@@ -453,7 +453,7 @@ releases_then first second third g h = record {
 
 -- THE STEP, AS ITS CALLS SAY IT
 
-module _ (stack_size : ℕ) (v : DeviceView) (b : Books) (held : Held) (b1 : Books) (irp : Irp) (result : Bool)
+module _ (stack_size : ℕ) (v : DeviceView) (b : TableView) (held : Held) (b1 : TableView) (irp : Irp) (result : Bool)
     (k : FilterKept stack_size v b) (is : result ≡ (not b.paused && not b.removing && nat_lt b.below b.window))
     (yes' : result ≡ true) (lets : LetsGo b held b1)
     (given : irp ≡ with_cancel_routine held.routine held.irp.value) where
@@ -465,9 +465,9 @@ module _ (stack_size : ℕ) (v : DeviceView) (b : Books) (held : Held) (b1 : Boo
       (may_send stack_size v b k may.0 may.1 may.2 lets.spot held lets.rest lets.is_front)
 
   pub step_window : b1.below < b1.window
-  step_window = subst (λ (x : Books). x.below < x.window) (sym lets.after) may.2
+  step_window = subst (λ (x : TableView). x.below < x.window) (sym lets.after) may.2
 
-  pub step_does : (v' : DeviceView) (b' : Books) → Sends v irp held.room.spot v' → IsOrderly v'
+  pub step_does : (v' : DeviceView) (b' : TableView) → Sends v irp held.room.spot v' → IsOrderly v'
       → b' ≡ record b1 { below = b1.below + 1 } → HasReleased stack_size v b v' b'
   step_does v' b' sends ordered notes =
       has_released stack_size v b v' b1 b' held k may.0 may.1 may.2 lets

@@ -30,15 +30,15 @@ use Rattle.device.specs.declared.Climb.{Climb}
 use Rattle.device.specs.Climbing.{Climbs}
 use Rattle.device.specs.View.{DeviceView, Packet, Reserved, sent_bytes, IsOrderly}
 use Rattle.device.specs.Served.{HandsUp, IsBack, StaysOpen, StaysIfStarted, SetsRoom}
-use Rattle.hold_filter.specs.inside.Books.{Books, here}
-use Rattle.hold_filter.specs.inside.Turns.{IsCovered, HandsNone}
+use Rattle.hold_filter.specs.inside.TableView.{TableView, here}
+use Rattle.hold_filter.specs.inside.TableCalls.{IsCovered, HandsNone}
 use Rattle.hold_filter.specs.inside.Packets.{silent}
 use Rattle.hold_filter.specs.inside.View.{but_last, packets_of, packet_below, packet_here, without}
 use Rattle.hold_filter.specs.inside.View.{requests_here}
 use Rattle.hold_filter.specs.inside.View.{frame_of, state_of, view_of}
 use Rattle.hold_filter.specs.inside.Releases.{Releases, Spares}
-use Rattle.hold_filter.specs.inside.Kept.{IsFrom, IsPassed, IsAdmitted, AsksAdmitted, HasPlace, RoomsKept}
-use Rattle.hold_filter.specs.inside.Kept.{FilterKept}
+use Rattle.hold_filter.specs.inside.Invariant.{IsFrom, IsPassed, IsAdmitted, AsksAdmitted, HasPlace, RoomsKept}
+use Rattle.hold_filter.specs.inside.Invariant.{FilterKept}
 use Rattle.hold_filter.proofs.Locations.{but_pushed, climbs_past}
 use Rattle.hold_filter.proofs.Sizing.{carries_window}
 use Rattle.hold_filter.proofs.Moving.{moved_to, moved_is, run_keeps, run_asks}
@@ -47,14 +47,14 @@ use Rattle.hold_filter.proofs.Rooms.{sets_beside, sets_same, rooms_refl}
 use Rattle.hold_filter.proofs.Spots.{kept_more, off_all}
 use Rattle.hold_filter.proofs.Staying.{here_not_started}
 
-module _ (stack_size : ℕ) (v : DeviceView) (b : Books) (spot : ℕ) (climb : Climb) (s : State)
+module _ (stack_size : ℕ) (v : DeviceView) (b : TableView) (spot : ℕ) (climb : Climb) (s : State)
     (packets : List Packet)
     (rooms : List (Option Reserved)) (adapter : AdapterView)
     (h : HandsUp false v climb spot (moved_to v s packets rooms adapter))
     (ordered : IsOrderly (moved_to v s packets rooms adapter)) (none_ended : b.ended ≡ [])
     (k : FilterKept stack_size v b) where
   -- the books after it
-  abbrev pub books_returned : Books
+  abbrev pub books_returned : TableView
   books_returned = record b { below = b.below - 1 }
 
   abbrev frame : Frame
@@ -183,7 +183,7 @@ module _ (stack_size : ℕ) (v : DeviceView) (b : Books) (spot : ℕ) (climb : C
       (sym (ap but_last passed.2 ∙ but_pushed passed.0 (silent passed.1))) past
 
   -- what was started stays
-  stay : (v' : DeviceView) (b' : Books) → Spares (moved_to v s packets rooms adapter) books_returned v' b'
+  stay : (v' : DeviceView) (b' : TableView) → Spares (moved_to v s packets rooms adapter) books_returned v' b'
       → All (StaysIfStarted (state_of v' b')) (h.answered.requests ++ requests_here v.rules b)
   stay v' b' spares =
       All-append (StaysIfStarted (state_of v' b')) h.answered.requests (requests_here v.rules b)
@@ -193,7 +193,7 @@ module _ (stack_size : ℕ) (v : DeviceView) (b : Books) (spot : ℕ) (climb : C
       h.started_stay)
       (here_not_started v.rules b (state_of v' b'))
 
-  pub hands_up : (v' : DeviceView) (b' : Books) → Spares (moved_to v s packets rooms adapter) books_returned v' b'
+  pub hands_up : (v' : DeviceView) (b' : TableView) → Spares (moved_to v s packets rooms adapter) books_returned v' b'
       → Releases (view_of (moved_to v s packets rooms adapter) books_returned) (view_of v' b')
       → HandsUp false (view_of v b) climb spot (view_of v' b')
   hands_up v' b' spares r =
@@ -244,9 +244,9 @@ module _ (stack_size : ℕ) (v : DeviceView) (b : Books) (spot : ℕ) (climb : C
 
 -- AS THE CALLS SAY IT
 
-module _ (takes_srb : Bool) (buffers : IsFalse takes_srb) (stack_size : ℕ) (v : DeviceView) (b : Books) (spot : ℕ)
+module _ (takes_srb : Bool) (buffers : IsFalse takes_srb) (stack_size : ℕ) (v : DeviceView) (b : TableView) (spot : ℕ)
     (climb : Climb) (v1 : DeviceView)
-    (h : HandsUp takes_srb v climb spot v1) (b0 : Books) (none : HandsNone b b0) (k : FilterKept stack_size v b)
+    (h : HandsUp takes_srb v climb spot v1) (b0 : TableView) (none : HandsNone b b0) (k : FilterKept stack_size v b)
   where
     -- the packet was below
     pub some_below : 0 < b0.below
@@ -254,12 +254,12 @@ module _ (takes_srb : Bool) (buffers : IsFalse takes_srb) (stack_size : ℕ) (v 
         let n : length v.packets ≡ length h.others + 1 = length_permutation _ _ (IsPermutation-sym _ _ h.is_in)
         ∙ (omega arith) in
         let c = k.counted in
-        subst (λ (x : Books). 0 < x.below) (sym none.same) (omega arith)
+        subst (λ (x : TableView). 0 < x.below) (sym none.same) (omega arith)
 
-    module _ (ordered : IsOrderly v1) (b1 : Books) (notes : b1 ≡ record b0 { below = b0.below - 1 }) where
+    module _ (ordered : IsOrderly v1) (b1 : TableView) (notes : b1 ≡ record b0 { below = b0.below - 1 }) where
       -- the books and the view after it
       noted : b1 ≡ record b { below = b.below - 1 }
-      noted = notes ∙ ap (λ (x : Books). record x { below = x.below - 1 }) none.same
+      noted = notes ∙ ap (λ (x : TableView). record x { below = x.below - 1 }) none.same
 
       view_now : v1 ≡ moved_to v v1.state v1.packets v1.rooms v1.adapter
       view_now = moved_is v v1 h.moves.same_rules h.moves.same_submitted h.moves.same_most
@@ -274,12 +274,12 @@ module _ (takes_srb : Bool) (buffers : IsFalse takes_srb) (stack_size : ℕ) (v 
       pub kept_back : FilterKept stack_size v1 b1
       kept_back =
           subst (λ (x : DeviceView). FilterKept stack_size x b1) (sym view_now)
-          (subst (λ (y : Books). FilterKept stack_size (moved_to v v1.state v1.packets v1.rooms v1.adapter) y)
+          (subst (λ (y : TableView). FilterKept stack_size (moved_to v v1.state v1.packets v1.rooms v1.adapter) y)
           (sym noted)
           (kept_returned stack_size v b spot climb v1.state v1.packets v1.rooms v1.adapter up_now ordered_now
           none.none_ended k))
 
-      pub hands_back : (v' : DeviceView) (b' : Books) → Spares v1 b1 v' b'
+      pub hands_back : (v' : DeviceView) (b' : TableView) → Spares v1 b1 v' b'
           → Releases (view_of v1 b1) (view_of v' b')
           → HandsUp false (view_of v b) climb spot (view_of v' b')
       hands_back v' b' spares r =
@@ -287,12 +287,12 @@ module _ (takes_srb : Bool) (buffers : IsFalse takes_srb) (stack_size : ℕ) (v 
           subst (λ (x : DeviceView). Spares x b1 v' b') view_now spares in
           let s2 : Spares (moved_to v v1.state v1.packets v1.rooms v1.adapter) (record b { below = b.below - 1 }) v'
           b' =
-          subst (λ (y : Books). Spares (moved_to v v1.state v1.packets v1.rooms v1.adapter) y v' b') noted s1 in
+          subst (λ (y : TableView). Spares (moved_to v v1.state v1.packets v1.rooms v1.adapter) y v' b') noted s1 in
           let r1 : Releases (view_of (moved_to v v1.state v1.packets v1.rooms v1.adapter) b1) (view_of v' b') =
           subst (λ (x : DeviceView). Releases (view_of x b1) (view_of v' b')) view_now r in
           let r2 : Releases (view_of (moved_to v v1.state v1.packets v1.rooms v1.adapter)
           (record b { below = b.below - 1 })) (view_of v' b') =
-          subst (λ (y : Books). Releases (view_of (moved_to v v1.state v1.packets v1.rooms v1.adapter) y)
+          subst (λ (y : TableView). Releases (view_of (moved_to v v1.state v1.packets v1.rooms v1.adapter) y)
           (view_of v' b'))
           noted r1 in
           hands_up stack_size v b spot climb v1.state v1.packets v1.rooms v1.adapter up_now ordered_now

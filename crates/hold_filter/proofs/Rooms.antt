@@ -15,7 +15,7 @@ use Rattle.device.specs.View.{Packet, Reserved, room_at, packet_spot}
 use Rattle.device.specs.Served.{SameRooms, SetsRoom}
 use Rattle.hold_filter.specs.declared.table.Held.{Held}
 use Rattle.hold_filter.specs.inside.View.{without}
-use Rattle.hold_filter.specs.inside.Kept.{spot_in}
+use Rattle.hold_filter.specs.inside.Invariant.{spot_in}
 use Rattle.hold_filter.proofs.Lists.{any_first, any_behind, any_rest}
 
 -- the packet has this spot, or another

@@ -14,10 +14,10 @@ use Rattle.device.specs.Served.{HandsUpNone, IsUnfinished, AwaitsRestart}
 use Rattle.machine.proofs.Commuting.{untouched_ends_not}
 use Rattle.machine.proofs.Window.{Settled-framed}
 use Rattle.hold_filter.specs.declared.table.Held.{Held}
-use Rattle.hold_filter.specs.inside.Books.{Books, packet_in, here}
-use Rattle.hold_filter.specs.inside.Turns.{HandsNone}
+use Rattle.hold_filter.specs.inside.TableView.{TableView, packet_in, here}
+use Rattle.hold_filter.specs.inside.TableCalls.{HandsNone}
 use Rattle.hold_filter.specs.inside.View.{open_here, are_late, requests_here, frame_of, state_of, view_of}
-use Rattle.hold_filter.specs.inside.Kept.{EntryCanGo, IsInHand}
+use Rattle.hold_filter.specs.inside.Invariant.{EntryCanGo, IsInHand}
 use Rattle.hold_filter.proofs.Here.{waits, has_places}
 
 -- what was never sent, is not cancelled and finds no removal has not ended
@@ -29,7 +29,7 @@ untouched_not_ended rules s o (suc n) timely staying some all =
     untouched_ends_not rules s o timely staying
     (All-head (HasEnded rules s o) Untouched (replicate n Untouched) all)
 
-module _ (stack_size : ℕ) (v : DeviceView) (b : Books) (k : IsInHand stack_size v b) (b0 : Books)
+module _ (stack_size : ℕ) (v : DeviceView) (b : TableView) (k : IsInHand stack_size v b) (b0 : TableView)
     (none : HandsNone b b0) where
   abbrev open_as : Held → OpenRequest
   open_as x = open_here v.rules (are_late b) x
@@ -117,7 +117,7 @@ module _ (stack_size : ℕ) (v : DeviceView) (b : Books) (k : IsInHand stack_siz
         same = refl;
       } in
       subst (λ (x : DeviceView). HandsUpNone (view_of v b) (view_of x b0)) (sym h.same)
-      (subst (λ (y : Books). HandsUpNone (view_of v b) (view_of v y)) (sym none.same) up)
+      (subst (λ (y : TableView). HandsUpNone (view_of v b) (view_of v y)) (sym none.same) up)
 
   -- and as it was
   pub hand_same : (v' : DeviceView) → HandsUpNone v v' → IsInHand stack_size v' b0

@@ -16,7 +16,7 @@ use Rattle.machine.specs.State.{State}
 use Rattle.machine.specs.Frame.{with_window}
 use Rattle.machine.specs.Calling.{refusal, bytes_carried}
 use Rattle.device.specs.View.{IsBounded, Carries, transfer_length, payload_bytes, sent_bytes}
-use Rattle.hold_filter.specs.inside.Kept.{IsAdmitted}
+use Rattle.hold_filter.specs.inside.Invariant.{IsAdmitted}
 
 by_kind : (k : Kind) → (is_transfer k ≡ true) ⊎ (is_transfer k ≡ false)
 by_kind Read = inl refl

@@ -12,10 +12,10 @@ use Rattle.machine.proofs.Permuting.{flips}
 use Rattle.device.specs.View.{Packet, Reserved, room_at, whole_for, packet_spot}
 use Rattle.device.specs.Served.{SameRooms, SetsRoom}
 use Rattle.hold_filter.specs.declared.table.Held.{Held}
-use Rattle.hold_filter.specs.inside.Books.{Places, packet_in}
+use Rattle.hold_filter.specs.inside.TableView.{Limits, packet_in}
 use Rattle.hold_filter.specs.inside.Packets.{request_in}
-use Rattle.hold_filter.specs.inside.Turns.{IsCovered, marked}
-use Rattle.hold_filter.specs.inside.Kept.{IsAdmitted, IsAtOwn, HasRoom, HasPlace, RoomsKept, spot_in}
+use Rattle.hold_filter.specs.inside.TableCalls.{IsCovered, marked}
+use Rattle.hold_filter.specs.inside.Invariant.{IsAdmitted, IsAtOwn, HasRoom, HasPlace, RoomsKept, spot_in}
 use Rattle.hold_filter.proofs.Lists.{here_of, others_of}
 use Rattle.hold_filter.proofs.Here.{held_first, ended_first, last_first}
 use Rattle.hold_filter.proofs.Rooms.{IsOff, none_some, first_off, rest_apart, one_apart}
@@ -35,13 +35,13 @@ pub rooms_beside : (old new : List (Option Reserved)) (spot : ℕ) (before after
     → SetsRoom old spot before after new → All (IsOff spot) hs → All (HasRoom old) hs → All (HasRoom new) hs
 rooms_beside old new spot before after hs sets off h i d low = sets.others _ (off i d low) ∙ h i d low
 
-pub covered_more : (places places' : Places) (spot : ℕ) → places.held ≤ places'.held → places.ended ≤ places'.ended
+pub covered_more : (places places' : Limits) (spot : ℕ) → places.held ≤ places'.held → places.ended ≤ places'.ended
     → IsCovered places spot → IsCovered places' spot
 covered_more places places' spot a b c = let p = c.in_held in let q = c.in_ended in
     record { in_held = omega arith; in_ended = omega arith }
 
 module _ (rules : Rules) (rooms : List (Option Reserved)) (packets : List Packet) (held ended : List (ℕ × Held))
-    (places : Places) (k : RoomsKept rules rooms packets held ended places) where
+    (places : Limits) (k : RoomsKept rules rooms packets held ended places) where
   -- a call that leaves the rooms as they were
   pub kept_same : (rooms' : List (Option Reserved)) (packets' : List Packet) → SameRooms rooms rooms'
       → IsPermutation packets' packets → RoomsKept rules rooms' packets' held ended places
@@ -175,7 +175,7 @@ module _ (rules : Rules) (rooms : List (Option Reserved)) (packets : List Packet
   }
 
   -- there are more places
-  pub kept_wider : (places' : Places) → places.held ≤ places'.held → places.ended ≤ places'.ended
+  pub kept_wider : (places' : Limits) → places.held ≤ places'.held → places.ended ≤ places'.ended
       → RoomsKept rules rooms packets held ended places'
   kept_wider places' more_held more_ended = record {
     bounded = k.bounded;

@@ -12,8 +12,8 @@ use Rattle.machine.specs.Sending.{is_started}
 use Rattle.device.specs.View.{DeviceView}
 use Rattle.device.specs.Served.{StaysOpen, StaysIfStarted}
 use Rattle.hold_filter.specs.declared.table.Held.{Held}
-use Rattle.hold_filter.specs.inside.Books.{Books, packet_in, here}
-use Rattle.hold_filter.specs.inside.Turns.{LetsNoneGo}
+use Rattle.hold_filter.specs.inside.TableView.{TableView, packet_in, here}
+use Rattle.hold_filter.specs.inside.TableCalls.{LetsNoneGo}
 use Rattle.hold_filter.specs.inside.View.{open_here, are_late, requests_here, state_of}
 use Rattle.hold_filter.specs.inside.Releases.{NoneMayGo, Spares}
 use Rattle.hold_filter.proofs.Here.{not_started, true_false}
@@ -31,7 +31,7 @@ stay_then s t os first second =
     first
 
 -- nothing changes
-pub spares_same : (v : DeviceView) (b : Books) → Spares v b v b
+pub spares_same : (v : DeviceView) (b : TableView) → Spares v b v b
 spares_same v b = record {
   below = all_there v.state.requests v.state.requests (λ o there. there);
   rules = refl;
@@ -41,11 +41,11 @@ spares_same v b = record {
   none_goes = λ none. (refl, refl);
 }
 
-pub spares_none : (v : DeviceView) (b b' : Books) → LetsNoneGo b b' → Spares v b v b'
-spares_none v b b' h = subst (λ (x : Books). Spares v b v x) (sym h.same) (spares_same v b)
+pub spares_none : (v : DeviceView) (b b' : TableView) → LetsNoneGo b b' → Spares v b v b'
+spares_none v b b' h = subst (λ (x : TableView). Spares v b v x) (sym h.same) (spares_same v b)
 
 -- one after the other
-pub spares_then : (v v1 v2 : DeviceView) (b b1 b2 : Books) → Spares v b v1 b1 → Spares v1 b1 v2 b2
+pub spares_then : (v v1 v2 : DeviceView) (b b1 b2 : TableView) → Spares v b v1 b1 → Spares v1 b1 v2 b2
     → Spares v b v2 b2
 spares_then v v1 v2 b b1 b2 g h = record {
   below = stay_then v1.state v2.state v.state.requests g.below h.below;
@@ -56,7 +56,7 @@ spares_then v v1 v2 b b1 b2 g h = record {
   none_goes = λ none. let first = g.none_goes none in
       let second = h.none_goes
       (subst (λ (x : DeviceView). NoneMayGo x b1) (sym first.0)
-      (subst (λ (y : Books). NoneMayGo v y) (sym first.1) none)) in
+      (subst (λ (y : TableView). NoneMayGo v y) (sym first.1) none)) in
       (second.0 ∙ first.0, second.1 ∙ first.1);
 }
 
@@ -73,7 +73,7 @@ ended_stay rules rules' late late' held' ended ended' same_rules same_late same_
     open_as : Held → OpenRequest
     open_as x = open_here rules late x
 
-module _ (v v' : DeviceView) (b b1 b' : Books) (spares : Spares v b1 v' b') where
+module _ (v v' : DeviceView) (b b1 b' : TableView) (spares : Spares v b1 v' b') where
   -- what is open below
   pub below_stay : All (StaysOpen (state_of v' b')) v.state.requests
   below_stay = All-weaker (StaysOpen v'.state) (StaysOpen (state_of v' b'))
@@ -103,7 +103,7 @@ module _ (v v' : DeviceView) (b b1 b' : Books) (spares : Spares v b1 v' b') wher
     none_went none =
         let same = spares.none_goes none in
         subst (λ (x : DeviceView). All (StaysOpen (state_of x b')) (requests_here v.rules b)) (sym same.0)
-        (subst (λ (y : Books). All (StaysOpen (state_of v y)) (requests_here v.rules b)) (sym same.1)
+        (subst (λ (y : TableView). All (StaysOpen (state_of v y)) (requests_here v.rules b)) (sym same.1)
         (All-weaker (λ o. Contains (requests_here v.rules b1) o) (StaysOpen (state_of v b1))
         (λ o there. Contains-append_right v.state.requests (requests_here v.rules b1) o there) _ more))
 
@@ -124,7 +124,7 @@ module _ (v v' : DeviceView) (b b1 b' : Books) (spares : Spares v b1 v' b') wher
         (here_stay none)
 
 -- nothing of a packet here was started
-pub here_not_started : (rules : Rules) (b : Books) (t : State) → All (StaysIfStarted t) (requests_here rules b)
+pub here_not_started : (rules : Rules) (b : TableView) (t : State) → All (StaysIfStarted t) (requests_here rules b)
 here_not_started rules b t =
     All-map (StaysIfStarted t) (open_here rules (are_late b)) (here b)
     (λ i d low started. true_false (is_started (open_here rules (are_late b) (get_or (here b) i d))) started

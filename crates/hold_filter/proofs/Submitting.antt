@@ -30,15 +30,15 @@ use Rattle.device.specs.View.{whole_for}
 use Rattle.device.specs.View.{IsReady, IsOrderly, AsksInLocation, Carries}
 use Rattle.device.specs.Served.{Submits, StaysOpen, SetsRoom}
 use Rattle.hold_filter.specs.declared.table.Held.{Held}
-use Rattle.hold_filter.specs.inside.Books.{Books, packet_in, here, held_with}
-use Rattle.hold_filter.specs.inside.Turns.{IsCovered, TakesIn, LetsGo, counted}
+use Rattle.hold_filter.specs.inside.TableView.{TableView, packet_in, here, held_with}
+use Rattle.hold_filter.specs.inside.TableCalls.{IsCovered, TakesIn, LetsGo, counted}
 use Rattle.hold_filter.specs.inside.Packets.{request_in}
 use Rattle.hold_filter.specs.inside.View.{packets_of, packet_below, packet_here, without, open_here, are_late}
 use Rattle.hold_filter.specs.inside.View.{requests_here, frame_of, state_of, view_of}
 use Rattle.hold_filter.specs.inside.Releases.{MaySend, Sends, Releases, NoneMayGo, Spares}
-use Rattle.hold_filter.specs.inside.Kept.{IsBefore, AreInTurn, IsFrom, IsAsked, IsAtOwn}
-use Rattle.hold_filter.specs.inside.Kept.{CanGo}
-use Rattle.hold_filter.specs.inside.Kept.{EntryCanGo, FilterKept, IsInHand, stack_over}
+use Rattle.hold_filter.specs.inside.Invariant.{IsBefore, AreInTurn, IsFrom, IsAsked, IsAtOwn}
+use Rattle.hold_filter.specs.inside.Invariant.{CanGo}
+use Rattle.hold_filter.specs.inside.Invariant.{EntryCanGo, FilterKept, IsInHand, stack_over}
 use Rattle.hold_filter.proofs.Lists.{All-first, All-second, All-from_map}
 use Rattle.hold_filter.proofs.Here.{last_first}
 use Rattle.hold_filter.proofs.Sizing.{not_refused, carries_bytes, carries_below}
@@ -82,7 +82,7 @@ vacant_of spot (e ∷ es) own off = (
 )
 
 -- what the filter asks of whoever submits
-pub record MayTakeIn (stack_size : ℕ) (v : DeviceView) (b : Books) (irp : Irp) (spot : ℕ) : Type 0 where
+pub record MayTakeIn (stack_size : ℕ) (v : DeviceView) (b : TableView) (irp : Irp) (spot : ℕ) : Type 0 where
   pub ready : IsReady (without v.rooms (here b)) spot
   pub not_removing : IsFalse v.state.removing
   pub number : b.last_number + 1 ≤ irp.number
@@ -93,7 +93,7 @@ pub record MayTakeIn (stack_size : ℕ) (v : DeviceView) (b : Books) (irp : Irp)
   pub carries : Carries false (with_window (Some b.window) v.rules) (request_at (without v.rooms (here b)) spot)
       irp.payload
 
-module _ (stack_size : ℕ) (v : DeviceView) (b : Books) (irp : Box Irp) (room : Room) (k : FilterKept stack_size v b)
+module _ (stack_size : ℕ) (v : DeviceView) (b : TableView) (irp : Box Irp) (room : Room) (k : FilterKept stack_size v b)
     (m : MayTakeIn stack_size v b irp.value room.spot) where
   abbrev asked : Request
   asked = request_at (without v.rooms (here b)) room.spot
@@ -126,7 +126,7 @@ module _ (stack_size : ℕ) (v : DeviceView) (b : Books) (irp : Box Irp) (room :
   abbrev now : Held
   now = held_with irp room
 
-  abbrev pub books_taken : Books
+  abbrev pub books_taken : TableView
   books_taken = record b {
     held = b.held ++ (room.spot, held_with irp room) ∷ [];
     last_number =
@@ -281,7 +281,7 @@ module _ (stack_size : ℕ) (v : DeviceView) (b : Books) (irp : Box Irp) (room :
       }
 
   -- all that was open stays open
-  stays : (v' : DeviceView) (b' : Books) → NoneMayGo v b → Spares v books_taken v' b'
+  stays : (v' : DeviceView) (b' : TableView) → NoneMayGo v b → Spares v books_taken v' b'
       → All (StaysOpen (state_of v' b')) (state_of v b).requests
   stays v' b' none spares = others_stay v v' b books_taken b' spares refl refl refl
       (λ going staying full. λ going' staying'. inr full) (all_there _ _ more_taken) none
@@ -297,7 +297,7 @@ module _ (stack_size : ℕ) (v : DeviceView) (b : Books) (irp : Box Irp) (room :
           Contains-permutation _ _ o (IsPermutation-sym _ _ first)
           (Contains-append_right (open_as now ∷ []) (map open_as (here b)) o there)
 
-  pub submits : (v' : DeviceView) (b' : Books) → NoneMayGo v b → Spares v books_taken v' b'
+  pub submits : (v' : DeviceView) (b' : TableView) → NoneMayGo v b → Spares v books_taken v' b'
       → Releases (view_of v books_taken) (view_of v' b')
       → Submits (view_of v b) (packet_of irp.value room.spot) asked irp.value.payload (view_of v' b')
   submits v' b' none spares r = record {
@@ -323,27 +323,27 @@ module _ (stack_size : ℕ) (v : DeviceView) (b : Books) (irp : Box Irp) (room :
 
 -- what is shown, and that the filter is in order
 pub record HasSubmitted (stack_size : ℕ) (old : DeviceView) (packet : Packet) (request : Request) (irp : Irp)
-    (v' : DeviceView) (b' : Books) : Type 0 where
+    (v' : DeviceView) (b' : TableView) : Type 0 where
   pub hand : IsInHand stack_size v' b'
   pub submits : Submits old packet request irp.payload (view_of v' b')
 
-module _ (stack_size : ℕ) (v : DeviceView) (b : Books) (irp : Box Irp) (room : Room) (k : IsInHand stack_size v b)
-    (m : MayTakeIn stack_size v b irp.value room.spot) (b1 : Books) (counts : b1 ≡ counted irp.value.number b)
+module _ (stack_size : ℕ) (v : DeviceView) (b : TableView) (irp : Box Irp) (room : Room) (k : IsInHand stack_size v b)
+    (m : MayTakeIn stack_size v b irp.value room.spot) (b1 : TableView) (counts : b1 ≡ counted irp.value.number b)
     (result : Bool)
     (is : result ≡ (not b1.paused && not b1.removing && nat_lt b1.below b1.window)) where
   tested : result ≡ (not b.paused && not b.removing && nat_lt b.below b.window)
-  tested = subst (λ (x : Books). result ≡ (not x.paused && not x.removing && nat_lt x.below x.window)) counts is
+  tested = subst (λ (x : TableView). result ≡ (not x.paused && not x.removing && nat_lt x.below x.window)) counts is
 
   -- THE PACKET IS HELD
 
   pub may_hold : IsCovered b1.places room.spot × IsVacant room.spot b1.held
-  may_hold = subst (λ (x : Books). IsCovered x.places room.spot × IsVacant room.spot x.held) (sym counts)
+  may_hold = subst (λ (x : TableView). IsCovered x.places room.spot × IsVacant room.spot x.held) (sym counts)
       (covered stack_size v b irp room k.kept m, vacant stack_size v b irp room k.kept m)
 
-  taken_is : (b' : Books) → TakesIn b1 irp room b' → b' ≡ books_taken stack_size v b irp room k.kept m
-  taken_is b' t = t ∙ ap (λ (x : Books). record x { held = x.held ++ (room.spot, held_with irp room) ∷ [] }) counts
+  taken_is : (b' : TableView) → TakesIn b1 irp room b' → b' ≡ books_taken stack_size v b irp room k.kept m
+  taken_is b' t = t ∙ ap (λ (x : TableView). record x { held = x.held ++ (room.spot, held_with irp room) ∷ [] }) counts
 
-  pub has_held : result ≡ false → (b' : Books) → TakesIn b1 irp room b'
+  pub has_held : result ≡ false → (b' : TableView) → TakesIn b1 irp room b'
       → HasSubmitted stack_size (view_of v b) (packet_of irp.value room.spot)
       (request_at (without v.rooms (here b)) room.spot) irp.value v b'
   has_held no' b' t =
@@ -390,7 +390,7 @@ module _ (stack_size : ℕ) (v : DeviceView) (b : Books) (irp : Box Irp) (room :
     window_now = step_window stack_size v (books_taken stack_size v b irp room k.kept m)
         (held_with irp room) b1 irp.value result (kept_taken stack_size v b irp room k.kept m) tested yes' lets refl
 
-    pub has_gone : (v' : DeviceView) (b' : Books) → Sends v irp.value room.spot v' → IsOrderly v'
+    pub has_gone : (v' : DeviceView) (b' : TableView) → Sends v irp.value room.spot v' → IsOrderly v'
         → b' ≡ record b1 { below = b1.below + 1 }
         → HasSubmitted stack_size (view_of v b) (packet_of irp.value room.spot)
         (request_at (without v.rooms (here b)) room.spot) irp.value v' b'
@@ -399,7 +399,7 @@ module _ (stack_size : ℕ) (v : DeviceView) (b : Books) (irp : Box Irp) (room :
         step_does stack_size v (books_taken stack_size v b irp room k.kept m) (held_with irp room) b1 irp.value
         result
         (kept_taken stack_size v b irp room k.kept m) tested yes' lets refl v' b' sends ordered notes in
-        let none : b'.held ≡ [] = ap (λ (x : Books). x.held) notes ∙ ap (λ (x : Books). x.held) counts
+        let none : b'.held ≡ [] = ap (λ (x : TableView). x.held) notes ∙ ap (λ (x : TableView). x.held) counts
         ∙ none_held in
         record {
           hand = in_hand stack_size v' b' went.kept (λ going staying. inl none);

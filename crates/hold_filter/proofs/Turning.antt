@@ -25,11 +25,11 @@ use Rattle.machine.proofs.Permuting.{flips}
 use Rattle.machine.proofs.Settling.{late, lower, kept, few_lower, none_lower, held_back-framed, Pauses-framed}
 use Rattle.machine.proofs.Window.{Resumes-framed, same_below}
 use Rattle.hold_filter.specs.declared.table.Held.{Held}
-use Rattle.hold_filter.specs.inside.Books.{Books, packet_in, here}
+use Rattle.hold_filter.specs.inside.TableView.{TableView, packet_in, here}
 use Rattle.hold_filter.specs.inside.View.{packet_below, packet_here, without, open_here, are_late}
 use Rattle.hold_filter.specs.inside.View.{requests_here, frame_of, state_of, view_of}
 use Rattle.hold_filter.specs.inside.Releases.{Releases}
-use Rattle.hold_filter.specs.inside.Kept.{IsFrom, IsPassed, IsCancelled, AsksAdmitted, FilterKept, IsInHand}
+use Rattle.hold_filter.specs.inside.Invariant.{IsFrom, IsPassed, IsCancelled, AsksAdmitted, FilterKept, IsInHand}
 use Rattle.hold_filter.proofs.Lists.{All-from_map, All-first, All-second}
 use Rattle.hold_filter.specs.inside.Packets.{request_in}
 use Rattle.hold_filter.proofs.Orderly.{maps_are}
@@ -68,14 +68,14 @@ held_back-late window below held timely above within late' =
         in
         omega arith
 
-module _ (stack_size : ℕ) (v : DeviceView) (b : Books) (s : State) (packets : List Packet)
+module _ (stack_size : ℕ) (v : DeviceView) (b : TableView) (s : State) (packets : List Packet)
     (rooms : List (Option Reserved)) (adapter : AdapterView) (paused removing : Bool)
     (requests : IsPermutation s.requests v.state.requests) (same_packets : IsPermutation packets v.packets)
     (same_rooms : SameRooms v.rooms rooms) (next_request : s.next_request ≡ v.state.next_request)
     (not_paused : IsFalse s.paused) (removing_is : removing ≡ s.removing)
     (going : IsTrue removing → IsFalse paused) (k : FilterKept stack_size v b)
     (ordered_now : IsOrderly (moved_to v s packets rooms adapter)) where
-  abbrev pub books_turned : Books
+  abbrev pub books_turned : TableView
   books_turned = record b { paused = paused; removing = removing }
 
   abbrev as_now : Held → OpenRequest
@@ -164,7 +164,7 @@ module _ (stack_size : ℕ) (v : DeviceView) (b : Books) (s : State) (packets : 
 
 -- THE CALLS
 
-module _ (stack_size : ℕ) (v : DeviceView) (b : Books) where
+module _ (stack_size : ℕ) (v : DeviceView) (b : TableView) where
   abbrev open_late : Bool → Held → OpenRequest
   open_late l x = open_here v.rules l x
 
@@ -263,7 +263,7 @@ module _ (stack_size : ℕ) (v : DeviceView) (b : Books) where
         (IsPermutation-refl _) (rooms_refl v.rooms) refl k.kept.holds.not_paused k.kept.removing
         (λ removing. refl) k.kept k.kept.ordered (λ now_going stays. inl (none_left waits))
 
-    pub resumes : IsTrue b.paused → (v' : DeviceView) (b' : Books)
+    pub resumes : IsTrue b.paused → (v' : DeviceView) (b' : TableView)
         → Releases (view_of v (record b { paused = false })) (view_of v' b')
         → ResumesAll (view_of v b) (view_of v' b')
     resumes paused v' b' r =
@@ -292,7 +292,7 @@ module _ (stack_size : ℕ) (v : DeviceView) (b : Books) where
 
     -- A REMOVAL
 
-    abbrev pub books_removed : Books
+    abbrev pub books_removed : TableView
     books_removed = record b { paused = false; removing = true }
 
     -- whatever was held back before

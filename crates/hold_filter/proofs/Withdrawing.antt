@@ -19,12 +19,12 @@ use Rattle.machine.proofs.Held.{Cancels-held}
 use Rattle.device.specs.View.{DeviceView}
 use Rattle.device.specs.Served.{IsBeside, SameRooms}
 use Rattle.hold_filter.specs.declared.table.Held.{Held}
-use Rattle.hold_filter.specs.inside.Books.{Books, packet_in, here}
-use Rattle.hold_filter.specs.inside.Turns.{marked}
+use Rattle.hold_filter.specs.inside.TableView.{TableView, packet_in, here}
+use Rattle.hold_filter.specs.inside.TableCalls.{marked}
 use Rattle.hold_filter.specs.inside.View.{packet_below, packet_here, without, open_here, are_late}
 use Rattle.hold_filter.specs.inside.View.{frame_of, state_of, view_of}
-use Rattle.hold_filter.specs.inside.Kept.{IsBefore, AreInTurn, IsCancelled, IsFrom, IsAsked, IsWhole, CanGo}
-use Rattle.hold_filter.specs.inside.Kept.{EntryCanGo, FilterKept, IsInHand}
+use Rattle.hold_filter.specs.inside.Invariant.{IsBefore, AreInTurn, IsCancelled, IsFrom, IsAsked, IsWhole, CanGo}
+use Rattle.hold_filter.specs.inside.Invariant.{EntryCanGo, FilterKept, IsInHand}
 use Rattle.hold_filter.proofs.Lists.{here_of, others_of}
 use Rattle.hold_filter.proofs.Here.{held_first, ended_first}
 use Rattle.hold_filter.proofs.Moving.{in_hand}
@@ -39,10 +39,10 @@ turn_others [] e behind h = h.1
 turn_others (x ∷ before) e behind h =
     (others_of (IsBefore x) (before ++ e ∷ behind) before e behind refl h.0, turn_others before e behind h.1)
 
-module _ (stack_size : ℕ) (v : DeviceView) (b : Books) (at number : ℕ) (before : List (ℕ × Held)) (x : Held)
+module _ (stack_size : ℕ) (v : DeviceView) (b : TableView) (at number : ℕ) (before : List (ℕ × Held)) (x : Held)
     (behind : List (ℕ × Held)) (was_held : b.held ≡ before ++ (at, x) ∷ behind)
     (is_number : x.irp.value.number ≡ number) where
-  abbrev pub books_withdrawn : Books
+  abbrev pub books_withdrawn : TableView
   books_withdrawn = record b { held = before ++ behind; ended = b.ended ++ (at, marked x) ∷ [] }
 
   abbrev pub open_as : Held → OpenRequest

@@ -24,9 +24,9 @@ impl<D: Shown> Drop for Filter<D> {
 
 impl<D: Shown> Model for Filter<D> {
     ghost use Rattle.hold_filter.specs.Shown.{FilterView};
-    ghost use Rattle.hold_filter.specs.inside.Books.{books_of};
+    ghost use Rattle.hold_filter.specs.inside.TableView.{books_of};
     ghost use Rattle.hold_filter.specs.inside.View.{shown_of};
-    ghost use Rattle.hold_filter.specs.inside.Kept.{IsFilter};
+    ghost use Rattle.hold_filter.specs.inside.Invariant.{IsFilter};
 
     ghost Value = { FilterView };
 

@@ -1,7 +1,7 @@
 // The filter as a layer of the stack.
 ghost use Rattle.std.specs.Prelude.{ℕ, Bool, false, refl};
 ghost use Rattle.std.proofs.Common.{ap};
-ghost use Rattle.hold_filter.specs.inside.Kept.{stack_over};
+ghost use Rattle.hold_filter.specs.inside.Invariant.{stack_over};
 
 use crate::filter::Filter;
 use crate::packets::hand_up;

@@ -18,6 +18,6 @@ mod layer;
 mod packets;
 mod parts;
 mod table;
-mod turns;
+mod table_calls;
 
 pub use filter::Filter;

@@ -2,7 +2,7 @@
 ghost use Rattle.std.specs.Prelude.{◌≡◌, ◌<◌, ◌+◌, Some};
 ghost use Rattle.arrayvec.specs.ArrayVec.{array_vec_len};
 ghost use Rattle.irp.specs.Packet.{cancel_routine_of, with_cancel_routine};
-ghost use Rattle.hold_filter.specs.inside.Books.{own_routine};
+ghost use Rattle.hold_filter.specs.inside.TableView.{own_routine};
 ghost use Rattle.hold_filter.specs.inside.Packets.{PassesDown, HandsOver};
 
 use crate::table::Held;

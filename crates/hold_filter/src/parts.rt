@@ -1,8 +1,8 @@
 // The filter midway: the device below and the table, and what moves packets from the one to the other.
 ghost use Rattle.std.specs.Prelude.{◌≡◌, ◌<◌, ◌+◌, IsFalse, MatchBool};
 ghost use Rattle.device.specs.View.{IsOrderly};
-ghost use Rattle.hold_filter.specs.inside.Books.{books_of};
-ghost use Rattle.hold_filter.specs.inside.Kept.{FilterKept, IsInHand};
+ghost use Rattle.hold_filter.specs.inside.TableView.{books_of};
+ghost use Rattle.hold_filter.specs.inside.Invariant.{FilterKept, IsInHand};
 ghost use Rattle.hold_filter.specs.inside.View.{view_of};
 ghost use Rattle.hold_filter.specs.inside.Releases.{MaySend, Sends, Releases, LetsOneGo, NoneMayGo, Spares};
 

@@ -22,7 +22,7 @@ fn cancel_held<D: Device>(filter: &mut Filter<D>, spot: usize, number: u64) -> b
 }
 
 /// A layer that tells how many packets it holds, and finds one by its spot.
-pub(crate) trait Held: Hold {
+pub(crate) trait Holds: Hold {
     fn count_held(&self) -> usize;
 
     /// Cancels what is held at a spot; true where it was held.
@@ -30,7 +30,7 @@ pub(crate) trait Held: Hold {
         ensures keeps { Keeps (Self.view self.old) (Self.view self.new) };
 }
 
-impl<D: Device> Held for Filter<D> {
+impl<D: Device> Holds for Filter<D> {
     fn count_held(&self) -> usize {
         self.held()
     }
@@ -40,7 +40,7 @@ impl<D: Device> Held for Filter<D> {
     }
 }
 
-impl<'a, D: Held> Session<'a, D> {
+impl<'a, D: Holds> Session<'a, D> {
     fn pause(&mut self) -> bool {
         if self.paused || self.removed {
             return false;
@@ -86,7 +86,7 @@ impl<'a, D: Held> Session<'a, D> {
 }
 
 /// All steps in turn, on a filter of which nothing was asked yet.
-pub(crate) fn try_all_held<D: Held>(
+pub(crate) fn try_all_held<D: Holds>(
     rt: &impl Abort,
     alloc: Global,
     filter: D,

@@ -23,7 +23,7 @@ use Rattle.device.specs.View.{AsksFor, IsBounded, sent_bytes, transfer_length}
 use Rattle.sector.proofs.Splicing.{length-splice}
 use Rattle.port.specs.declared.queues.Sizes.{Sizes}
 use Rattle.port.specs.Shown.{rules_of, places_of}
-use Rattle.port.specs.inside.Kept.{IsEmptyIfFlush}
+use Rattle.port.specs.inside.Invariant.{IsEmptyIfFlush}
 use Rattle.device.specs.Served.{cut}
 use Rattle.port.proofs.Lists.{cut-concat}
 use Rattle.port.proofs.Codes.{read_code, write_code, flush_code, clash}

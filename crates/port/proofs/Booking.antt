@@ -21,10 +21,10 @@ use Rattle.machine.specs.State.{OpenRequest, Piece, State}
 use Rattle.machine.specs.Numbers.{AreDistinct}
 use Rattle.device.specs.View.{sent_bytes}
 use Rattle.device.specs.Served.{BooksPiece}
-use Rattle.port.specs.declared.queues.Held.{Held}
-use Rattle.port.specs.inside.Books.{Entry, Books as Queues, spot_in}
+use Rattle.port.specs.declared.queues.PortPacket.{PortPacket}
+use Rattle.port.specs.inside.TableView.{PacketEntry, TableView, spot_in}
 use Rattle.port.specs.Shown.{rules_of, entry_on, waiting_open, done_open, open_on, piece_on, packet, of_packets, of_waiting, of_tag, of_done, requests_of, state_of, view_of}
-use Rattle.port.specs.inside.Kept.{asked, PortKept, IsInHand, IsRoom, IsWaiting, IsAtWork, IsDoing, IsTaken}
+use Rattle.port.specs.inside.Invariant.{asked, PortKept, IsInHand, IsRoom, IsWaiting, IsAtWork, IsDoing, IsTaken}
 use Rattle.port.proofs.Starting.{room_moves, waiting_moves}
 use Rattle.port.proofs.Orderly.{in_hand, maps_are}
 
@@ -43,17 +43,17 @@ tag_same : (what : What) (u : TagInUse) → (with_booked what u).tag ≡ u.tag
 tag_same (Ok entry) u = refl
 tag_same (Err completion) u = refl
 
-open_same : (rules : Rules) (started : List (Option Held)) (what : What) (u : TagInUse) → open_on rules started (with_booked what u) ≡ open_on rules started u
+open_same : (rules : Rules) (started : List (Option PortPacket)) (what : What) (u : TagInUse) → open_on rules started (with_booked what u) ≡ open_on rules started u
 open_same rules started (Ok entry) u =
     ap (λ (bytes : List ℕ). record (open_on rules started u) { request = as_client rules (entry_on started u.tag).request bytes }) (sent_same (entry_on started u.tag).request.kind (Ok entry) u)
 open_same rules started (Err completion) u =
     ap (λ (bytes : List ℕ). record (open_on rules started u) { request = as_client rules (entry_on started u.tag).request bytes }) (sent_same (entry_on started u.tag).request.kind (Err completion) u)
 
-piece_same : (rules : Rules) (started : List (Option Held)) (what : What) (u : TagInUse) → piece_on rules started (with_booked what u) ≡ piece_on rules started u
+piece_same : (rules : Rules) (started : List (Option PortPacket)) (what : What) (u : TagInUse) → piece_on rules started (with_booked what u) ≡ piece_on rules started u
 piece_same rules started (Ok entry) u = refl
 piece_same rules started (Err completion) u = refl
 
-entry_same : {Y : Type 0} (f : Entry → Y) (started : List (Option Held)) (what : What) (u : TagInUse) → of_tag f started (with_booked what u) ≡ of_tag f started u
+entry_same : {Y : Type 0} (f : PacketEntry → Y) (started : List (Option PortPacket)) (what : What) (u : TagInUse) → of_tag f started (with_booked what u) ≡ of_tag f started u
 entry_same f started (Ok entry) u = refl
 entry_same f started (Err completion) u = refl
 
@@ -62,18 +62,18 @@ doing_same rules r Fresh entry srb long h = record { function = h.function; flag
 doing_same rules r (Acted moved) entry srb long h = h
 doing_same rules r Faulted entry srb long h = h
 
-work_with : (rules : Rules) (started : List (Option Held)) (what : What) (u : TagInUse) → IsAsLong what u.srb → IsAtWork rules started u → IsAtWork rules started (with_booked what u)
+work_with : (rules : Rules) (started : List (Option PortPacket)) (what : What) (u : TagInUse) → IsAsLong what u.srb → IsAtWork rules started u → IsAtWork rules started (with_booked what u)
 work_with rules started (Ok entry) u long h = record { held = h.held; on_tag = h.on_tag; bounded = h.bounded; doing = doing_same rules h.held.request u.fate entry u.srb long h.doing; empty = h.empty }
 work_with rules started (Err completion) u long h = record { held = h.held; on_tag = h.on_tag; bounded = h.bounded; doing = h.doing; empty = h.empty }
 
-work_by : (rules : Rules) (started : List (Option Held)) (tag : ℕ) (what : What) (u : TagInUse) → (u.tag ≡ tag → IsAsLong what u.srb) → IsAtWork rules started u
+work_by : (rules : Rules) (started : List (Option PortPacket)) (tag : ℕ) (what : What) (u : TagInUse) → (u.tag ≡ tag → IsAsLong what u.srb) → IsAtWork rules started u
     → (b : Bool) → (u.tag == tag) ≡ b → IsAtWork rules started (booked_on tag what u)
 work_by rules started tag what u long h true is = rw is (work_with rules started what u (long ((Decides-eqb u.tag tag).0 is)) h)
 work_by rules started tag what u long h false is = rw is h
 
 -- ALL OF IT
 
-module _ (b : Queues) (v : AdapterView) (tag : ℕ) (what : What) where
+module _ (b : TableView) (v : AdapterView) (tag : ℕ) (what : What) where
   abbrev v' : AdapterView
   v' = with_booking tag what v
 
@@ -82,7 +82,7 @@ module _ (b : Queues) (v : AdapterView) (tag : ℕ) (what : What) where
       (maps_are (booked_on tag what) (open_on (rules_of b.sizes) b.started) (open_on (rules_of b.sizes) b.started)
       (booked_same (open_on (rules_of b.sizes) b.started) tag what (open_same (rules_of b.sizes) b.started what)) v.tags)
 
-  packets_same : {Y : Type 0} (f : Entry → Y) → of_packets f b v' ≡ of_packets f b v
+  packets_same : {Y : Type 0} (f : PacketEntry → Y) → of_packets f b v' ≡ of_packets f b v
   packets_same {Y} f = ap (λ (ys : List Y). map (of_waiting f) b.waiting ++ (ys ++ map (of_done f) b.done))
       (maps_are (booked_on tag what) (of_tag f b.started) (of_tag f b.started) (booked_same (of_tag f b.started) tag what (entry_same f b.started what)) v.tags)
 
@@ -129,11 +129,11 @@ module _ (b : Queues) (v : AdapterView) (tag : ℕ) (what : What) where
   hand_booked rooms order long k = let n = length-map v.tags (booked_on tag what) in in_hand b v' rooms (kept_booked rooms order long k.kept) (λ free. k.busy (omega arith))
 
 -- what a booking leaves
-pub record IsLeft (b : Queues) (v : AdapterView) (tag piece : ℕ) (what : What) (v' : AdapterView) : Type 0 where
+pub record IsLeft (b : TableView) (v : AdapterView) (tag piece : ℕ) (what : What) (v' : AdapterView) : Type 0 where
   pub rooms : (rooms : List Request) → IsInHand b v rooms → IsInHand b v' rooms
   pub books : BooksPiece (view_of b v) tag piece what (view_of b v')
 
-by_booked : (b : Queues) (v v' : AdapterView) (tag piece : ℕ) (what : What) (h : Books v tag piece what v') → IsInOrder v → IsInOrder v' → (done : Bool) → h.booked ≡ done → IsLeft b v tag piece what v'
+by_booked : (b : TableView) (v v' : AdapterView) (tag piece : ℕ) (what : What) (h : Books v tag piece what v') → IsInOrder v → IsInOrder v' → (done : Bool) → h.booked ≡ done → IsLeft b v tag piece what v'
 by_booked b v v' tag piece what h before order true is =
     let after : v' ≡ with_booking tag what v = h.after ∙ ap (λ (d : Bool). if d then with_booking tag what v else v) is in
     let long = all_as_long v tag piece what before (h.decides.0 is) in
@@ -148,5 +148,5 @@ by_booked b v v' tag piece what h before order false is =
       books = record { adapter = h; same = subst (λ x. view_of b x ≡ record (view_of b v) { adapter = x }) (sym after) refl };
     }
 
-pub booked_all : (b : Queues) (v v' : AdapterView) (tag piece : ℕ) (what : What) (rooms : List Request) → IsInHand b v rooms → Books v tag piece what v' → IsInOrder v' → IsLeft b v tag piece what v'
+pub booked_all : (b : TableView) (v v' : AdapterView) (tag piece : ℕ) (what : What) (rooms : List Request) → IsInHand b v rooms → Books v tag piece what v' → IsInOrder v' → IsLeft b v tag piece what v'
 booked_all b v v' tag piece what rooms k h order = by_booked b v v' tag piece what h k.kept.adapter order h.booked refl

@@ -16,14 +16,14 @@ use Rattle.irp.specs.declared.Payload.{Payload}
 use Rattle.device.specs.View.{IsBounded, payload_bytes}
 use Rattle.device.specs.Served.{CancelsIfOpen, DrainsAll}
 use Rattle.machine.proofs.Numbers.{AreDistinct-same, AreDistinct-Step}
-use Rattle.port.specs.declared.queues.Held.{Held}
+use Rattle.port.specs.declared.queues.PortPacket.{PortPacket}
 use Rattle.port.specs.declared.queues.Ended.{Ended}
 use Rattle.port.specs.declared.queues.Outcome.{Outcome}
 use Rattle.port.specs.declared.queues.Outcome.TheVariants.{Returned, Withdrawn, Gone}
-use Rattle.port.specs.inside.Books.{Entry, Books, entry_of, ended_entry, spot_in}
-use Rattle.port.specs.inside.Turns.{gone, drained, cancelled, is_cancellable, Withdraws}
+use Rattle.port.specs.inside.TableView.{PacketEntry, TableView, entry_of, ended_entry, spot_in}
+use Rattle.port.specs.inside.TableCalls.{gone, drained, cancelled, is_cancellable, Withdraws}
 use Rattle.port.specs.Shown.{rules_of, waiting_open, done_open, open_on, packet as packet_as, of_packets, of_waiting, of_tag, of_done, state_of, view_of, requests_of}
-use Rattle.port.specs.inside.Kept.{asked, PortKept, IsInHand, IsRoom, IsWaiting, IsEmptyIfFlush, IsBefore, AreInTurn, HasEnded, HasOutcome, IsTaken}
+use Rattle.port.specs.inside.Invariant.{asked, PortKept, IsInHand, IsRoom, IsWaiting, IsEmptyIfFlush, IsBefore, AreInTurn, HasEnded, HasOutcome, IsTaken}
 use Rattle.port.proofs.Places.{distinct_same}
 use Rattle.port.proofs.Lists.{last_front}
 use Rattle.port.proofs.Sizing.{carries_empty}
@@ -35,20 +35,20 @@ use Rattle.port.proofs.Orderly.{in_hand, maps_are}
 pub to_end : {X : Type 0} (first second third : List X) → IsPermutation (second ++ (third ++ first)) (first ++ (second ++ third))
 to_end first second third = IsPermutation-sym _ _ (subst (λ xs. IsPermutation (first ++ (second ++ third)) xs) (append_assoc second third first) (IsPermutation-append_comm first (second ++ third)))
 
-requests_drained : (b : Books) (v : AdapterView) → IsPermutation (requests_of (drained b) v) (requests_of b v)
+requests_drained : (b : TableView) (v : AdapterView) → IsPermutation (requests_of (drained b) v) (requests_of b v)
 requests_drained b v =
     let rules : Rules = rules_of b.sizes in
     let e : map (done_open rules) (b.done ++ map gone b.waiting) ≡ map (done_open rules) b.done ++ map (waiting_open rules) b.waiting =
     map-append (done_open rules) b.done (map gone b.waiting) ∙ ap (λ xs. map (done_open rules) b.done ++ xs) (maps_are gone (done_open rules) (waiting_open rules) (λ h. refl) b.waiting) in
     rw e (to_end (map (waiting_open rules) b.waiting) (map (open_on rules b.started) v.tags) (map (done_open rules) b.done))
 
-packets_drained : {Y : Type 0} (f : Entry → Y) (b : Books) (v : AdapterView) → IsPermutation (of_packets f (drained b) v) (of_packets f b v)
+packets_drained : {Y : Type 0} (f : PacketEntry → Y) (b : TableView) (v : AdapterView) → IsPermutation (of_packets f (drained b) v) (of_packets f b v)
 packets_drained f b v =
     let e : map (of_done f) (b.done ++ map gone b.waiting) ≡ map (of_done f) b.done ++ map (of_waiting f) b.waiting =
     map-append (of_done f) b.done (map gone b.waiting) ∙ ap (λ xs. map (of_done f) b.done ++ xs) (maps_are gone (of_done f) (of_waiting f) (λ h. refl) b.waiting) in
     rw e (to_end (map (of_waiting f) b.waiting) (map (of_tag f b.started) v.tags) (map (of_done f) b.done))
 
-drains : (b : Books) (v : AdapterView) → Drains (rules_of b.sizes) (state_of b v) (state_of (drained b) v)
+drains : (b : TableView) (v : AdapterView) → Drains (rules_of b.sizes) (state_of b v) (state_of (drained b) v)
 drains b v = record {
   arrays = refl;
   next_request = refl;
@@ -71,10 +71,10 @@ ended_at_removal rules removing d h = record { bounded = h.bounded; why = by_out
     by_outcome Withdrawn h = h
     by_outcome Gone h = refl
 
-gone_ended : (rules : Rules) (v : AdapterView) (held : Held) → IsWaiting rules v held → HasEnded rules true (gone held)
+gone_ended : (rules : Rules) (v : AdapterView) (held : PortPacket) → IsWaiting rules v held → HasEnded rules true (gone held)
 gone_ended rules v held w = record { bounded = w.room.bounded; why = refl; empty = carries_empty rules held.request held.irp.value.payload w.carries }
 
-kept_drained : (b : Books) (v : AdapterView) (rooms : List Request) → PortKept b v rooms → PortKept (drained b) v rooms
+kept_drained : (b : TableView) (v : AdapterView) (rooms : List Request) → PortKept b v rooms → PortKept (drained b) v rooms
 kept_drained b v rooms k =
     let rules : Rules = rules_of b.sizes in
     let s : State = record (state_of b v) { removing = true } in
@@ -104,10 +104,10 @@ kept_drained b v rooms k =
       labels = k.labels;
     }
 
-pub hand_drained : (b b' : Books) (v : AdapterView) (rooms : List Request) → b' ≡ drained b → IsInHand b v rooms → IsInHand b' v rooms
+pub hand_drained : (b b' : TableView) (v : AdapterView) (rooms : List Request) → b' ≡ drained b → IsInHand b v rooms → IsInHand b' v rooms
 hand_drained b b' v rooms e i = subst (λ x. IsInHand x v rooms) (sym e) (in_hand (drained b) v rooms (kept_drained b v rooms i.kept) (λ free. refl))
 
-pub drains_all : (b b' : Books) (v : AdapterView) → b' ≡ drained b → DrainsAll (view_of b v) (view_of b' v)
+pub drains_all : (b b' : TableView) (v : AdapterView) → b' ≡ drained b → DrainsAll (view_of b v) (view_of b' v)
 drains_all b b' v e = subst (λ x. DrainsAll (view_of b v) (view_of x v)) (sym e) (record {
   drains = drains b v;
   beside = record { same_rules = refl; same_packets = packets_drained packet_as b v; same_rooms = λ _. refl; same_submitted = refl; same_most = refl; same_adapter = refl };
@@ -115,7 +115,7 @@ drains_all b b' v e = subst (λ x. DrainsAll (view_of b v) (view_of x v)) (sym e
 
 -- WHO CAN BE CANCELLED
 
-pub can_facts : (number : ℕ) (e : Entry) → is_cancellable number e ≡ true → (e.number ≡ number) × (e.cancelled ≡ false)
+pub can_facts : (number : ℕ) (e : PacketEntry) → is_cancellable number e ≡ true → (e.number ≡ number) × (e.cancelled ≡ false)
 can_facts number e h = both (e.number == number) e.cancelled refl refl h
   where
     both : (same was : Bool) → (e.number == number) ≡ same → e.cancelled ≡ was → (same && not was) ≡ true → (e.number ≡ number) × (e.cancelled ≡ false)
@@ -123,7 +123,7 @@ can_facts number e h = both (e.number == number) e.cancelled refl refl h
     both true true a b h = absurd (cc (h))
     both false was a b h = absurd (cc (h))
 
-pub cannot_facts : (number : ℕ) (e : Entry) → is_cancellable number e ≡ false → e.number ≡ number → e.cancelled ≡ false → ⊥
+pub cannot_facts : (number : ℕ) (e : PacketEntry) → is_cancellable number e ≡ false → e.number ≡ number → e.cancelled ≡ false → ⊥
 cannot_facts number e h same timely = both (e.number == number) e.cancelled refl refl h
   where
     both : (equal was : Bool) → (e.number == number) ≡ equal → e.cancelled ≡ was → (equal && not was) ≡ false → ⊥
@@ -131,21 +131,21 @@ cannot_facts number e h same timely = both (e.number == number) e.cancelled refl
     both true true a b h = absurd (cc (b, timely))
     both false was a b h = let differ : e.number ≢ number = grind (arith, nat_tests) in differ same
 
-pub record IsCancelled (b : Books) (v : AdapterView) (number : ℕ) (b' : Books) : Type 0 where
+pub record IsCancelled (b : TableView) (v : AdapterView) (number : ℕ) (b' : TableView) : Type 0 where
   pub rooms : (rooms : List Request) → IsInHand b v rooms → IsInHand b' v rooms
   pub cancels : CancelsIfOpen (view_of b v) number (view_of b' v)
 
 -- IN THE QUEUE
 
-turn_without : (before : List Held) (held : Held) (behind : List Held) → AreInTurn (before ++ held ∷ behind) → AreInTurn (before ++ behind)
+turn_without : (before : List PortPacket) (held : PortPacket) (behind : List PortPacket) → AreInTurn (before ++ held ∷ behind) → AreInTurn (before ++ behind)
 turn_without [] held behind h = h.1
 turn_without (x ∷ xs) held behind h =
     (All-tail (IsBefore x) held (xs ++ behind) (All-permutation (IsBefore x) _ _ (IsPermutation-middle xs held behind) h.0), turn_without xs held behind h.1)
 
-abbrev books_withdrawn : Books → List Held → Ended → Books
+abbrev books_withdrawn : TableView → List PortPacket → Ended → TableView
 books_withdrawn b waiting withdrawn = record b { waiting = waiting; done = b.done ++ withdrawn ∷ [] }
 
-module _ (b : Books) (v : AdapterView) (number : ℕ) (before : List Held) (held : Held) (behind : List Held) (withdrawn : Ended)
+module _ (b : TableView) (v : AdapterView) (number : ℕ) (before : List PortPacket) (held : PortPacket) (behind : List PortPacket) (withdrawn : Ended)
     (waits : b.waiting ≡ before ++ held ∷ behind) (can : is_cancellable number (entry_of held) ≡ true) (same_entry : ended_entry withdrawn ≡ cancelled (entry_of held))
     (carries : withdrawn.irp.value.payload ≡ held.irp.value.payload) (ends : withdrawn.outcome ≡ Withdrawn) where
   front : IsPermutation b.waiting (held ∷ (before ++ behind))
@@ -176,7 +176,7 @@ module _ (b : Books) (v : AdapterView) (number : ℕ) (before : List Held) (held
         };
       }
 
-  packets_withdrawn : {Y : Type 0} (f : Entry → Y) → ((e : Entry) → f (cancelled e) ≡ f e) → IsPermutation (of_packets f (books_withdrawn b (before ++ behind) withdrawn) v) (of_packets f b v)
+  packets_withdrawn : {Y : Type 0} (f : PacketEntry → Y) → ((e : PacketEntry) → f (cancelled e) ≡ f e) → IsPermutation (of_packets f (books_withdrawn b (before ++ behind) withdrawn) v) (of_packets f b v)
   packets_withdrawn {Y} f keeps =
       let more : map (of_done f) (b.done ++ withdrawn ∷ []) ≡ map (of_done f) b.done ++ of_done f withdrawn ∷ [] = map-append (of_done f) b.done (withdrawn ∷ []) in
       let is : of_done f withdrawn ≡ of_waiting f held = ap f same_entry ∙ keeps (entry_of held) in
@@ -187,7 +187,7 @@ module _ (b : Books) (v : AdapterView) (number : ℕ) (before : List Held) (held
       IsPermutation-trans _ _ _ (subst (λ y. IsPermutation (of_packets f (books_withdrawn b (before ++ behind) withdrawn) v) (y ∷ rest)) is after) (IsPermutation-sym _ _ old)
 
   not_empty : b.waiting ≡ [] → ⊥
-  not_empty e = let l = length_permutation _ _ front in let z = ap (λ (hs : List Held). length hs) e in absurd (omega arith)
+  not_empty e = let l = length_permutation _ _ front in let z = ap (λ (hs : List PortPacket). length hs) e in absurd (omega arith)
 
   kept_withdrawn : (rooms : List Request) → PortKept b v rooms → PortKept (books_withdrawn b (before ++ behind) withdrawn) v rooms
   kept_withdrawn rooms k =
@@ -204,10 +204,10 @@ module _ (b : Books) (v : AdapterView) (number : ℕ) (before : List Held) (held
         in_turn = turn_without before held behind (subst AreInTurn waits k.in_turn);
         at_work = k.at_work;
         ended = All-push (HasEnded rules b.removing) b.done withdrawn k.ended (record {
-          bounded = subst (λ (e : Entry). IsBounded rules e.request) (sym same_entry) w.room.bounded;
-          why = subst (HasOutcome rules b.removing withdrawn) (sym ends) (ap (λ (e : Entry). e.cancelled) same_entry);
+          bounded = subst (λ (e : PacketEntry). IsBounded rules e.request) (sym same_entry) w.room.bounded;
+          why = subst (HasOutcome rules b.removing withdrawn) (sym ends) (ap (λ (e : PacketEntry). e.cancelled) same_entry);
           empty = subst (λ (p : Payload). IsEmptyIfFlush withdrawn.request (payload_bytes p)) (sym carries)
-              (subst (λ (e : Entry). IsEmptyIfFlush e.request (payload_bytes held.irp.value.payload)) (sym same_entry) (carries_empty rules held.request held.irp.value.payload w.carries));
+              (subst (λ (e : PacketEntry). IsEmptyIfFlush e.request (payload_bytes held.irp.value.payload)) (sym same_entry) (carries_empty rules held.request held.irp.value.payload w.carries));
         });
         reserved = All-permutation (IsRoom rules v) _ _ (IsPermutation-sym _ _ (packets_withdrawn asked (λ e. refl))) k.reserved;
         spots = distinct_same _ _ (IsPermutation-sym _ _ (packets_withdrawn spot_in (λ e. refl))) k.spots;
@@ -228,5 +228,5 @@ module _ (b : Books) (v : AdapterView) (number : ℕ) (before : List Held) (held
     cancels = record { one_of = inl (withdraw_cancels, record { same_rules = refl; same_packets = packets_withdrawn packet_as (λ e. refl); same_rooms = λ _. refl; same_submitted = refl; same_most = refl; same_adapter = refl }) };
   }
 
-pub cancelled_waiting : (b b' : Books) (v : AdapterView) (number : ℕ) → Withdraws b number b' → IsCancelled b v number b'
+pub cancelled_waiting : (b b' : TableView) (v : AdapterView) (number : ℕ) → Withdraws b number b' → IsCancelled b v number b'
 cancelled_waiting b b' v number h = subst (λ x. IsCancelled b v number x) (sym h.after) (withdrawn_fields b v number h.before h.held h.behind h.withdrawn h.waits h.can h.same_entry h.carries h.ends)

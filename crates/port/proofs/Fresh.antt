@@ -3,29 +3,29 @@ use Rattle.std.proofs.Common.{◌≡◌, ◌≤◌, ℕ, Bool, false, List, [], 
 use Rattle.std.proofs.lemmas.List.Elements.{All-nil}
 use Rattle.srb.specs.declared.DeviceLabel.{DeviceLabel}
 use Rattle.adapter.specs.View.{AdapterView, TagInUse, IsInOrder}
-use Rattle.port.specs.declared.queues.Held.{Held}
+use Rattle.port.specs.declared.queues.PortPacket.{PortPacket}
 use Rattle.port.specs.declared.queues.Ended.{Ended}
 use Rattle.machine.specs.Rules.{Rules}
 use Rattle.sector.specs.Extents.{sectors_in}
 use Rattle.machine.proofs.Numbers.{AreDistinct-opening}
 use Rattle.port.specs.declared.queues.Sizes.{Sizes}
-use Rattle.port.specs.inside.Books.{Books}
-use Rattle.port.specs.inside.Turns.{IsEmpty}
+use Rattle.port.specs.inside.TableView.{TableView}
+use Rattle.port.specs.inside.TableCalls.{IsEmpty}
 use Rattle.port.specs.Shown.{rules_of, view_of}
-use Rattle.port.specs.inside.Kept.{IsInHand, IsRoom, IsWaiting, IsAtWork, HasEnded, IsTaken}
+use Rattle.port.specs.inside.Invariant.{IsInHand, IsRoom, IsWaiting, IsAtWork, HasEnded, IsTaken}
 use Rattle.std.specs.List.{IsDistinct}
 use Rattle.machine.specs.declared.Request.{Request}
 use Rattle.port.specs.Opening.{IsFresh, sizes_of, opening_view}
 use Rattle.port.proofs.Orderly.{in_hand}
 
 -- the books of empty queues over this adapter
-abbrev books_empty : Books → Sizes → Books
+abbrev books_empty : TableView → Sizes → TableView
 books_empty b sizes = record b { sizes = sizes; waiting = []; done = []; last_request = 0; next_piece = 1; submitted = 0; removing = false; places = 0; rooms = [] }
 
-empty_is : (b : Books) (sizes : Sizes) → IsEmpty sizes b → b ≡ books_empty b sizes
+empty_is : (b : TableView) (sizes : Sizes) → IsEmpty sizes b → b ≡ books_empty b sizes
 empty_is b sizes h =
     ap (λ (x : Sizes). record b { sizes = x }) h.sizes_are
-    ∙ ap (λ (x : List Held). record b { sizes = sizes; waiting = x }) h.waiting
+    ∙ ap (λ (x : List PortPacket). record b { sizes = sizes; waiting = x }) h.waiting
     ∙ ap (λ (x : List Ended). record b { sizes = sizes; waiting = []; done = x }) h.done
     ∙ ap (λ (x : ℕ). record b { sizes = sizes; waiting = []; done = []; last_request = x }) h.last_request
     ∙ ap (λ (x : ℕ). record b { sizes = sizes; waiting = []; done = []; last_request = 0; next_piece = x }) h.next_piece
@@ -47,7 +47,7 @@ fresh_is v h = ap (λ (x : List TagInUse). record v { tags = x }) h.tags ∙ ap 
 abbrev pub sizes_by : ℕ → ℕ → ℕ → ℕ → Bool → Sizes
 sizes_by sector_size sectors max_transfer depth faithful = record { sector_size = sector_size; sectors = sectors; max_transfer = max_transfer; depth = depth; faithful = faithful }
 
-hand_empty : (b : Books) (v : AdapterView) → v.accepted ≤ 3 → length b.started ≡ v.depth → IsInOrder (view_fresh v) → IsInHand (books_empty b (sizes_of v)) (view_fresh v) []
+hand_empty : (b : TableView) (v : AdapterView) → v.accepted ≤ 3 → length b.started ≡ v.depth → IsInOrder (view_fresh v) → IsInHand (books_empty b (sizes_of v)) (view_fresh v) []
 hand_empty b v few long order =
     let rules : Rules = rules_of (sizes_of v) in
     let depth = order.depth.1 in
@@ -72,18 +72,18 @@ hand_empty b v few long order =
       labels = omega arith;
     }) (λ _. refl)
 
-pub opens_in_hand : (b : Books) (v : AdapterView) (sizes : Sizes) → sizes ≡ sizes_of v → IsEmpty sizes b → IsFresh v → IsInOrder v → IsInHand b v []
+pub opens_in_hand : (b : TableView) (v : AdapterView) (sizes : Sizes) → sizes ≡ sizes_of v → IsEmpty sizes b → IsFresh v → IsInOrder v → IsInHand b v []
 opens_in_hand b v sizes e h f order =
     let h' : IsEmpty (sizes_of v) b = subst (λ (x : Sizes). IsEmpty x b) e h in
     let v_is : v ≡ view_fresh v = fresh_is v f in
     subst (λ x. IsInHand x v []) (sym (empty_is b (sizes_of v) h'))
     (subst (λ x. IsInHand (books_empty b (sizes_of v)) x []) (sym v_is) (hand_empty b v f.accepted (h'.started) (subst IsInOrder v_is order)))
 
-pub opens_seen : (b : Books) (v : AdapterView) (sizes : Sizes) → sizes ≡ sizes_of v → IsEmpty sizes b → IsFresh v → view_of b v ≡ opening_view v
+pub opens_seen : (b : TableView) (v : AdapterView) (sizes : Sizes) → sizes ≡ sizes_of v → IsEmpty sizes b → IsFresh v → view_of b v ≡ opening_view v
 opens_seen b v sizes e h f =
     let h' : IsEmpty (sizes_of v) b = subst (λ (x : Sizes). IsEmpty x b) e h in
     let v_is : v ≡ view_fresh v = fresh_is v f in
-    ap (λ (x : Books). view_of x v) (empty_is b (sizes_of v) h') ∙ ap (λ (x : AdapterView). view_of (books_empty b (sizes_of v)) x) v_is ∙ ap (λ (x : AdapterView). opening_view x) (sym v_is)
+    ap (λ (x : TableView). view_of x v) (empty_is b (sizes_of v) h') ∙ ap (λ (x : AdapterView). view_of (books_empty b (sizes_of v)) x) v_is ∙ ap (λ (x : AdapterView). opening_view x) (sym v_is)
 
 pub sizes_are : (v : AdapterView) (sector_size sectors max_transfer depth : ℕ) (faithful : Bool) → sector_size ≡ v.sector_size → sectors ≡ length v.sectors → max_transfer ≡ v.max_transfer → depth ≡ v.depth
     → faithful ≡ v.faithful → sizes_by sector_size sectors max_transfer depth faithful ≡ sizes_of v

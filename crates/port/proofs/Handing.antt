@@ -27,14 +27,14 @@ use Rattle.machine.specs.declared.Label.TheVariants.{Answer}
 use Rattle.machine.proofs.Numbers.{AreDistinct-Step}
 use Rattle.machine.proofs.Earned.{bad_status}
 use Rattle.machine.proofs.Commuting.{out_ends_not, untouched_ends_not}
-use Rattle.port.specs.declared.queues.Held.{Held}
+use Rattle.port.specs.declared.queues.PortPacket.{PortPacket}
 use Rattle.port.specs.declared.queues.Ended.{Ended}
 use Rattle.port.specs.declared.queues.Outcome.{Outcome}
 use Rattle.port.specs.declared.queues.Outcome.TheVariants.{Returned, Withdrawn, Gone}
-use Rattle.port.specs.inside.Books.{Entry, Books, entry, ended_entry, spot_in}
-use Rattle.port.specs.inside.Turns.{TakesDone, TakesNone, SetsSlot}
+use Rattle.port.specs.inside.TableView.{PacketEntry, TableView, entry, ended_entry, spot_in}
+use Rattle.port.specs.inside.TableCalls.{TakesDone, TakesNone, SetsSlot}
 use Rattle.port.specs.Shown.{rules_of, places_of, marks_left, busy_left, status_left, waiting_open, done_open, open_on, piece_on, entry_or_nobody, packet as packet_as, of_packets, of_waiting, of_tag, of_done, state_of, view_of, requests_of}
-use Rattle.port.specs.inside.Kept.{asked, PortKept, IsInHand, IsRoom, IsWaiting, HasOutcome, HasEnded as HasEndedBy, IsAtWork as IsOnTag, IsTaken}
+use Rattle.port.specs.inside.Invariant.{asked, PortKept, IsInHand, IsRoom, IsWaiting, HasOutcome, HasEnded as HasEndedBy, IsAtWork as IsOnTag, IsTaken}
 use Rattle.port.proofs.Places.{distinct_same, distinct_left, taken_left, sets_room}
 use Rattle.port.proofs.Lists.{all_done, bytes_done}
 use Rattle.adapter.proofs.Joining.{reserves_none}
@@ -51,11 +51,11 @@ unended rules s o mark zero some h all = absurd (omega arith)
 unended rules s o mark (suc n) some h all = h (All-head (HasEnded rules s o) mark (replicate n mark) all)
 
 -- while something waits the device stays
-stays_by : (removing : Bool) (waiting : List Held) (i : ℕ) → i < length waiting → (IsTrue removing → waiting ≡ []) → removing ≡ false
+stays_by : (removing : Bool) (waiting : List PortPacket) (i : ℕ) → i < length waiting → (IsTrue removing → waiting ≡ []) → removing ≡ false
 stays_by false waiting i low h = refl
-stays_by true waiting i low h = let l = ap (λ (hs : List Held). length hs) (h refl) in absurd (omega arith)
+stays_by true waiting i low h = let l = ap (λ (hs : List PortPacket). length hs) (h refl) in absurd (omega arith)
 
-module _ (b : Books) (v : AdapterView) (rooms : List Request) (k : IsInHand b v rooms) (none : b.done ≡ []) where
+module _ (b : TableView) (v : AdapterView) (rooms : List Request) (k : IsInHand b v rooms) (none : b.done ≡ []) where
   no_done : (P : Ended → Type 0) → All P b.done
   no_done P = subst (All P) (sym none) (All-nil P)
 
@@ -79,7 +79,7 @@ module _ (b : Books) (v : AdapterView) (rooms : List Request) (k : IsInHand b v 
       absurd (unended rules s (waiting_open rules (get_or b.waiting i d)) Untouched _ (places_some b.sizes (get_or b.waiting i d).request some w.room.bounded)
       (untouched_ends_not rules s (waiting_open rules (get_or b.waiting i d)) w.not_cancelled (stays_by b.removing b.waiting i low k.kept.removing)) all))
       (λ i d low all. let w : IsOnTag rules b.started (get_or v.tags i d) = k.kept.at_work i d low in
-      absurd (unended rules s (open_on rules b.started (get_or v.tags i d)) Out _ (subst (λ (e : Entry). 0 < places_of rules e.request) (sym (ap entry_or_nobody w.on_tag)) (places_some b.sizes w.held.request some w.bounded))
+      absurd (unended rules s (open_on rules b.started (get_or v.tags i d)) Out _ (subst (λ (e : PacketEntry). 0 < places_of rules e.request) (sym (ap entry_or_nobody w.on_tag)) (places_some b.sizes w.held.request some w.bounded))
       (out_ends_not rules s (open_on rules b.started (get_or v.tags i d))) all))
       (no_done (λ d. IsUnfinished rules s (done_open rules d)))
 
@@ -118,11 +118,11 @@ module _ (b : Books) (v : AdapterView) (rooms : List Request) (k : IsInHand b v 
         within_window = tt;
       }
 
-pub hands_up_none : (b b' : Books) (v : AdapterView) (rooms : List Request) → IsInHand b v rooms → TakesNone b b' → HandsUpNone (view_of b v) (view_of b' v)
+pub hands_up_none : (b b' : TableView) (v : AdapterView) (rooms : List Request) → IsInHand b v rooms → TakesNone b b' → HandsUpNone (view_of b v) (view_of b' v)
 hands_up_none b b' v rooms k h = record {
   unfinished = unfinished b v rooms k h.none_ended;
   settled = settled b v rooms k h.none_ended;
-  same = ap (λ (x : Books). view_of x v) h.same;
+  same = ap (λ (x : TableView). view_of x v) h.same;
 }
 
 -- WHAT HAS ENDED
@@ -207,21 +207,21 @@ handed rules s o d Gone limit some timely same are busy why =
 pub third_front : {X : Type 0} (first second third : List X) (x : X) → IsPermutation (first ++ (second ++ x ∷ third)) (x ∷ (first ++ (second ++ third)))
 third_front first second third x = IsPermutation-trans _ _ _ (IsPermutation-append_right first _ _ (IsPermutation-middle second x third)) (IsPermutation-middle first x (second ++ third))
 
-abbrev books_left : Books → List Ended → List (Option (Option Request)) → Books
+abbrev books_left : TableView → List Ended → List (Option (Option Request)) → TableView
 books_left b rest slots = record b { done = rest; rooms = slots }
 
-open_left : (b : Books) (v : AdapterView) (d : Ended) (rest : List Ended) (slots : List (Option (Option Request))) → b.done ≡ d ∷ rest → IsPermutation (requests_of b v) (done_open (rules_of b.sizes) d ∷ requests_of (books_left b rest slots) v)
+open_left : (b : TableView) (v : AdapterView) (d : Ended) (rest : List Ended) (slots : List (Option (Option Request))) → b.done ≡ d ∷ rest → IsPermutation (requests_of b v) (done_open (rules_of b.sizes) d ∷ requests_of (books_left b rest slots) v)
 open_left b v d rest slots is =
     let rules : Rules = rules_of b.sizes in
     subst (λ (ds : List Ended). IsPermutation (map (waiting_open rules) b.waiting ++ (map (open_on rules b.started) v.tags ++ map (done_open rules) ds)) (done_open rules d ∷ requests_of (books_left b rest slots) v)) (sym is)
     (third_front (map (waiting_open rules) b.waiting) (map (open_on rules b.started) v.tags) (map (done_open rules) rest) (done_open rules d))
 
-packets_left : {Y : Type 0} (f : Entry → Y) (b : Books) (v : AdapterView) (d : Ended) (rest : List Ended) (slots : List (Option (Option Request))) → b.done ≡ d ∷ rest → IsPermutation (of_packets f b v) (f (ended_entry d) ∷ of_packets f (books_left b rest slots) v)
+packets_left : {Y : Type 0} (f : PacketEntry → Y) (b : TableView) (v : AdapterView) (d : Ended) (rest : List Ended) (slots : List (Option (Option Request))) → b.done ≡ d ∷ rest → IsPermutation (of_packets f b v) (f (ended_entry d) ∷ of_packets f (books_left b rest slots) v)
 packets_left f b v d rest slots is =
     subst (λ (ds : List Ended). IsPermutation (map (of_waiting f) b.waiting ++ (map (of_tag f b.started) v.tags ++ map (of_done f) ds)) (f (ended_entry d) ∷ of_packets f (books_left b rest slots) v)) (sym is)
     (third_front (map (of_waiting f) b.waiting) (map (of_tag f b.started) v.tags) (map (of_done f) rest) (f (ended_entry d)))
 
-answers_left : (b : Books) (v : AdapterView) (rooms : List Request) (d : Ended) (rest : List Ended) (slots : List (Option (Option Request))) → PortKept b v rooms → b.done ≡ d ∷ rest
+answers_left : (b : TableView) (v : AdapterView) (rooms : List Request) (d : Ended) (rest : List Ended) (slots : List (Option (Option Request))) → PortKept b v rooms → b.done ≡ d ∷ rest
     → IsHanded (rules_of b.sizes) (state_of b v) (done_open (rules_of b.sizes) d) d.request d.irp.value.payload (status_left d.outcome)
     → Answers (rules_of b.sizes) (state_of b v) d.irp.value.number (status_left d.outcome) (answer_bytes d.request.kind (marks_left (rules_of b.sizes) d.request d.irp.value.payload d.outcome)) (state_of (books_left b rest slots) v)
 answers_left b v rooms d rest slots k is h = record {
@@ -236,14 +236,14 @@ answers_left b v rooms d rest slots k is h = record {
   after = IsSame-refl _;
 }
 
-is_handed : (b : Books) (v : AdapterView) (rooms : List Request) (d : Ended) (rest : List Ended) (slots : List (Option (Option Request))) → PortKept b v rooms → b.done ≡ d ∷ rest
+is_handed : (b : TableView) (v : AdapterView) (rooms : List Request) (d : Ended) (rest : List Ended) (slots : List (Option (Option Request))) → PortKept b v rooms → b.done ≡ d ∷ rest
     → IsHanded (rules_of b.sizes) (state_of b v) (done_open (rules_of b.sizes) d) d.request d.irp.value.payload (status_left d.outcome)
 is_handed b v rooms d rest slots k is =
     let rules : Rules = rules_of b.sizes in
     let e : HasEndedBy rules b.removing d = All-head (HasEndedBy rules b.removing) d rest (subst (All (HasEndedBy rules b.removing)) is k.ended) in
     handed rules (state_of b v) (done_open rules d) d d.outcome (omega arith) (places_some b.sizes d.request (kept_sector_some b v rooms k) e.bounded) refl refl refl refl e.why
 
-kept_left : (b : Books) (v : AdapterView) (rooms : List Request) (d : Ended) (rest : List Ended) (slots : List (Option (Option Request))) → PortKept b v rooms → b.done ≡ d ∷ rest → SetsSlot b.rooms d.spot (Some None) (Some (Some d.request)) slots → PortKept (books_left b rest slots) v (d.request ∷ rooms)
+kept_left : (b : TableView) (v : AdapterView) (rooms : List Request) (d : Ended) (rest : List Ended) (slots : List (Option (Option Request))) → PortKept b v rooms → b.done ≡ d ∷ rest → SetsSlot b.rooms d.spot (Some None) (Some (Some d.request)) slots → PortKept (books_left b rest slots) v (d.request ∷ rooms)
 unfolding answers_left
 kept_left b v rooms d rest slots k is slot =
     let rules : Rules = rules_of b.sizes in
@@ -272,18 +272,18 @@ kept_left b v rooms d rest slots k is slot =
       labels = k.labels;
     }
 
-pub hand_left : (b b' : Books) (v : AdapterView) (d : Ended) → TakesDone b d b' → (rooms : List Request) → IsInHand b v rooms → IsInHand b' v (d.request ∷ rooms)
+pub hand_left : (b b' : TableView) (v : AdapterView) (d : Ended) → TakesDone b d b' → (rooms : List Request) → IsInHand b v rooms → IsInHand b' v (d.request ∷ rooms)
 hand_left b b' v d h rooms k = subst (λ x. IsInHand x v (d.request ∷ rooms)) (sym h.after) (in_hand (books_left b h.rest b'.rooms) v (d.request ∷ rooms) (kept_left b v rooms d h.rest b'.rooms k.kept h.is_front h.slot) k.busy)
 
 -- the status and the information are as they were computed
-pub hands_up : (b b' : Books) (v : AdapterView) (rooms : List Request) (d : Ended) (status : NtStatus) (bytes_moved : ℕ) (climb : Climb) → IsInHand b v rooms → TakesDone b d b'
+pub hands_up : (b b' : TableView) (v : AdapterView) (rooms : List Request) (d : Ended) (status : NtStatus) (bytes_moved : ℕ) (climb : Climb) → IsInHand b v rooms → TakesDone b d b'
     → status ≡ status_left d.outcome → ((rules : Rules) → rules.sector_size ≡ b'.sizes.sector_size → bytes_moved ≡ information (as_client rules d.request []) status)
     → Climbs (entry d.irp.value d.request d.spot).above d.irp.value.number d.irp.value.cancelled status bytes_moved d.irp.value.payload climb → BringsRoutine (entry d.irp.value d.request d.spot).cancel_routine climb → HandsUp true (view_of b v) climb d.spot (view_of b' v)
 unfolding answers_left
 hands_up b b' v rooms d status bytes_moved climb k h status_is moved_is climbs brings =
     let rules : Rules = rules_of b.sizes in
     let x = is_handed b v rooms d h.rest b'.rooms k.kept h.is_front in
-    subst (λ (y : Books). HandsUp true (view_of b v) climb d.spot (view_of y v)) (sym h.after) (record {
+    subst (λ (y : TableView). HandsUp true (view_of b v) climb d.spot (view_of y v)) (sym h.after) (record {
       request = d.request;
       is_spot = refl;
       whole = true;
@@ -309,7 +309,7 @@ hands_up b b' v rooms d status bytes_moved climb k h status_is moved_is climbs b
           ap (λ (bytes : List ℕ). length bytes) (sym (x.brings is succeeds)) ∙ long ∙ whole;
       empty = (All-head (HasEndedBy rules b.removing) d h.rest (subst (All (HasEndedBy rules b.removing)) h.is_front k.kept.ended)).empty;
       climbs = subst (λ (st : NtStatus). Climbs (entry d.irp.value d.request d.spot).above d.irp.value.number d.irp.value.cancelled st (information (as_client rules d.request []) st) d.irp.value.payload climb) status_is
-          (subst (λ (n : ℕ). Climbs (entry d.irp.value d.request d.spot).above d.irp.value.number d.irp.value.cancelled status n d.irp.value.payload climb) (subst (λ (y : Books). bytes_moved ≡ information (as_client (rules_of y.sizes) d.request []) status) h.after (moved_is (rules_of b'.sizes) refl)) climbs);
+          (subst (λ (n : ℕ). Climbs (entry d.irp.value d.request d.spot).above d.irp.value.number d.irp.value.cancelled status n d.irp.value.payload climb) (subst (λ (y : TableView). bytes_moved ≡ information (as_client (rules_of y.sizes) d.request []) status) h.after (moved_is (rules_of b'.sizes) refl)) climbs);
       brings_routine = brings;
       only_starts = All-nil IsStart;
       moves = record { same_rules = refl; same_packets = IsPermutation-refl _; same_rooms = λ _. refl; same_submitted = refl; same_most = refl; run = IsSame-refl _; adapter = reserves_none v };
@@ -317,7 +317,7 @@ hands_up b b' v rooms d status bytes_moved climb k h status_is moved_is climbs b
       still = λ window. (refl, refl);
     })
 
-pub moved_few : (b b' : Books) (v : AdapterView) (rooms : List Request) (d : Ended) → IsInHand b v rooms → TakesDone b d b' → d.request.extent.count * b'.sizes.sector_size < 2 ^ 64
+pub moved_few : (b b' : TableView) (v : AdapterView) (rooms : List Request) (d : Ended) → IsInHand b v rooms → TakesDone b d b' → d.request.extent.count * b'.sizes.sector_size < 2 ^ 64
 moved_few b b' v rooms d k h =
     let rules : Rules = rules_of b.sizes in
     let e : HasEndedBy rules b.removing d = All-head (HasEndedBy rules b.removing) d h.rest (subst (All (HasEndedBy rules b.removing)) h.is_front k.kept.ended) in
@@ -325,4 +325,4 @@ moved_few b b' v rooms d k h =
     let m' = k.kept.sizes.max_transfer in
     let s' = k.kept.sizes.sector_size in
     let small : v.sector_size ≤ 4096 = elim k.kept.adapter.sector_size [ inl e ↦ omega arith | inr e ↦ omega arith ] in
-    subst (λ (x : Books). d.request.extent.count * x.sizes.sector_size < 2 ^ 64) (sym h.after) (bytes_short b.sizes d.request (omega arith) (omega arith) e.bounded)
+    subst (λ (x : TableView). d.request.extent.count * x.sizes.sector_size < 2 ^ 64) (sym h.after) (bytes_short b.sizes d.request (omega arith) (omega arith) e.bounded)

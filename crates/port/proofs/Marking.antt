@@ -18,15 +18,15 @@ use Rattle.srb.specs.declared.Kind.TheVariants.{Read}
 use Rattle.device.specs.View.{Carries, IsBounded, payload_bytes, transfer_length}
 use Rattle.device.specs.Served.{CancelsIfOpen, sectors_moved}
 use Rattle.machine.proofs.Numbers.{AreDistinct-Step}
-use Rattle.port.specs.declared.queues.Held.{Held}
+use Rattle.port.specs.declared.queues.PortPacket.{PortPacket}
 use Rattle.port.specs.declared.queues.Ended.{Ended}
 use Rattle.port.specs.declared.queues.Outcome.{Outcome}
 use Rattle.port.specs.declared.queues.Outcome.TheVariants.{Returned, Withdrawn, Gone}
-use Rattle.port.specs.inside.Books.{Entry, Books, entry_of, ended_entry, spot_in}
-use Rattle.port.specs.inside.Turns.{held_on, cancelled, is_cancellable, CannotCancelHeld, CannotCancelOn, WithdrawsNot, CancelsOn, CancelsEnded, CancelsNoEnded}
+use Rattle.port.specs.inside.TableView.{PacketEntry, TableView, entry_of, ended_entry, spot_in}
+use Rattle.port.specs.inside.TableCalls.{held_on, cancelled, is_cancellable, CannotCancelHeld, CannotCancelOn, WithdrawsNot, CancelsOn, CancelsEnded, CancelsNoEnded}
 use Rattle.port.specs.inside.Cancelling.{CancelsAt, CancelsNotAt, CancelsNoStarted}
 use Rattle.port.specs.Shown.{rules_of, waiting_open, done_open, out_open, out_piece, open_on, entry_on, entry_or_nobody, packet as packet_as, of_packets, of_waiting, of_tag, of_done, state_of, view_of, requests_of}
-use Rattle.port.specs.inside.Kept.{asked, PortKept, IsInHand, IsRoom, IsEmptyIfFlush, IsAtWork, IsDoing, HasEnded, HasOutcome, IsTaken}
+use Rattle.port.specs.inside.Invariant.{asked, PortKept, IsInHand, IsRoom, IsEmptyIfFlush, IsAtWork, IsDoing, HasEnded, HasOutcome, IsTaken}
 use Rattle.port.proofs.Places.{distinct_same}
 use Rattle.port.proofs.Lists.{second_front, last_front}
 use Rattle.port.proofs.Tags.{others_same, others_apart}
@@ -36,16 +36,16 @@ use Rattle.port.proofs.Handing.{third_front}
 use Rattle.port.proofs.Orderly.{in_hand, all_three}
 use Rattle.port.proofs.Draining.{IsCancelled, can_facts, cannot_facts}
 
-pub record IsCancelledTo (b : Books) (v : AdapterView) (number : ℕ) (b' : Books) (v' : AdapterView) : Type 0 where
+pub record IsCancelledTo (b : TableView) (v : AdapterView) (number : ℕ) (b' : TableView) (v' : AdapterView) : Type 0 where
   pub rooms : (rooms : List Request) → IsInHand b v rooms → IsInHand b' v' rooms
   pub cancels : CancelsIfOpen (view_of b v) number (view_of b' v')
 
 -- AT THE ADAPTER
 
-abbrev books_marked : Books → ℕ → Held → Books
+abbrev books_marked : TableView → ℕ → PortPacket → TableView
 books_marked b tag marked = record b { started = slice_set b.started tag (Some marked) }
 
-module _ (b : Books) (v : AdapterView) (number tag : ℕ) (use' : TagInUse) (others : List TagInUse) (held marked : Held)
+module _ (b : TableView) (v : AdapterView) (number tag : ℕ) (use' : TagInUse) (others : List TagInUse) (held marked : PortPacket)
     (k : (rooms : List Request) × IsInHand b v rooms) (on : IsOn v tag use' others) (there : held_on b.started tag ≡ Some held) (can : is_cancellable number (entry_of held) ≡ true)
     (same_entry : entry_of marked ≡ cancelled (entry_of held)) where
   low : tag < length b.started
@@ -60,15 +60,15 @@ module _ (b : Books) (v : AdapterView) (number tag : ℕ) (use' : TagInUse) (oth
   apart : All (HasNotTag tag) others
   apart = others_apart v tag use' others k.1.kept.adapter on
 
-  before_mark : {Y : Type 0} (f : Entry → TagInUse → Y) → IsPermutation (map (λ u. f (entry_on b.started u.tag) u) v.tags) (f (entry_of held) use' ∷ map (λ u. f (entry_on b.started u.tag) u) others)
+  before_mark : {Y : Type 0} (f : PacketEntry → TagInUse → Y) → IsPermutation (map (λ u. f (entry_on b.started u.tag) u) v.tags) (f (entry_of held) use' ∷ map (λ u. f (entry_on b.started u.tag) u) others)
   before_mark f = tags_on f b.started v.tags use' others held on.in_use (subst (λ t. held_on b.started t ≡ Some held) (sym on.has_tag) there)
 
-  after_mark : {Y : Type 0} (f : Entry → TagInUse → Y) → IsPermutation (map (λ u. f (entry_on (slice_set b.started tag (Some marked)) u.tag) u) v.tags) (f (cancelled (entry_of held)) use' ∷ map (λ u. f (entry_on b.started u.tag) u) others)
+  after_mark : {Y : Type 0} (f : PacketEntry → TagInUse → Y) → IsPermutation (map (λ u. f (entry_on (slice_set b.started tag (Some marked)) u.tag) u) v.tags) (f (cancelled (entry_of held)) use' ∷ map (λ u. f (entry_on b.started u.tag) u) others)
   after_mark f =
       let set_there : held_on (slice_set b.started tag (Some marked)) use'.tag ≡ Some marked = rw on.has_tag (get_or-set_same b.started tag (Some marked) None low) in
       let p = tags_on f (slice_set b.started tag (Some marked)) v.tags use' others marked on.in_use set_there in
       let q = rw (others_same f b.started tag (Some marked) others apart) at p in
-      subst (λ (e : Entry). IsPermutation (map (λ u. f (entry_on (slice_set b.started tag (Some marked)) u.tag) u) v.tags) (f e use' ∷ map (λ u. f (entry_on b.started u.tag) u) others)) same_entry q
+      subst (λ (e : PacketEntry). IsPermutation (map (λ u. f (entry_on (slice_set b.started tag (Some marked)) u.tag) u) v.tags) (f e use' ∷ map (λ u. f (entry_on b.started u.tag) u) others)) same_entry q
 
   mark_cancels : Cancels (state_of b v) number (state_of (books_marked b tag marked) v)
   mark_cancels =
@@ -92,7 +92,7 @@ module _ (b : Books) (v : AdapterView) (number tag : ℕ) (use' : TagInUse) (oth
         };
       }
 
-  packets_marked : {Y : Type 0} (f : Entry → Y) → ((e : Entry) → f (cancelled e) ≡ f e) → IsPermutation (of_packets f (books_marked b tag marked) v) (of_packets f b v)
+  packets_marked : {Y : Type 0} (f : PacketEntry → Y) → ((e : PacketEntry) → f (cancelled e) ≡ f e) → IsPermutation (of_packets f (books_marked b tag marked) v) (of_packets f b v)
   packets_marked f keeps =
       let after = subst (λ y. IsPermutation (map (of_tag f (slice_set b.started tag (Some marked))) v.tags) (y ∷ map (of_tag f b.started) others)) (keeps (entry_of held)) (after_mark (λ e u. f e)) in
       IsPermutation-append_right (map (of_waiting f) b.waiting) _ _ (IsPermutation-append_left (map (of_done f) b.done) _ _ (IsPermutation-trans _ _ _ after (IsPermutation-sym _ _ (before_mark (λ e u. f e)))))
@@ -102,7 +102,7 @@ module _ (b : Books) (v : AdapterView) (number tag : ℕ) (use' : TagInUse) (oth
       let rules : Rules = rules_of b.sizes in
       let work = on_tag_work rules b.started v.tags use' others tag held h.at_work on.in_use on.has_tag there in
       let rest : All (IsAtWork rules b.started) others = All-tail (IsAtWork rules b.started) use' others (All-permutation (IsAtWork rules b.started) _ _ on.in_use h.at_work) in
-      let request_is : marked.request ≡ held.request = ap (λ (e : Entry). e.request) same_entry in
+      let request_is : marked.request ≡ held.request = ap (λ (e : PacketEntry). e.request) same_entry in
       record {
         adapter = h.adapter;
         sizes = h.sizes;
@@ -139,17 +139,17 @@ module _ (b : Books) (v : AdapterView) (number tag : ℕ) (use' : TagInUse) (oth
     cancels = record { one_of = inl (mark_cancels, record { same_rules = refl; same_packets = packets_marked packet_as (λ e. refl); same_rooms = λ _. refl; same_submitted = refl; same_most = refl; same_adapter = refl }) };
   }
 
-pub cancelled_out : (b b' : Books) (v : AdapterView) (rooms : List Request) (number tag : ℕ) → IsInHand b v rooms → Any (HasTag tag) v.tags → CancelsOn b tag number b' → IsCancelled b v number b'
+pub cancelled_out : (b b' : TableView) (v : AdapterView) (rooms : List Request) (number tag : ℕ) → IsInHand b v rooms → Any (HasTag tag) v.tags → CancelsOn b tag number b' → IsCancelled b v number b'
 cancelled_out b b' v rooms number tag k here h =
     subst (λ x. IsCancelled b v number x) (sym h.after) (marked_fields b v number tag here.1 (remove v.tags here.0) h.held h.marked (rooms, k)
     (record { in_use = IsPermutation-remove v.tags here.0 here.1 here.2 (sym here.3); has_tag = here.4 }) h.on_tag h.can h.same_entry)
 
 -- AFTER IT ENDED
 
-abbrev books_ended : Books → List Ended → Ended → Books
+abbrev books_ended : TableView → List Ended → Ended → TableView
 books_ended b done marked = record b { done = done ++ marked ∷ [] }
 
-module _ (b : Books) (v : AdapterView) (number : ℕ) (before : List Ended) (ended : Ended) (behind : List Ended) (marked : Ended)
+module _ (b : TableView) (v : AdapterView) (number : ℕ) (before : List Ended) (ended : Ended) (behind : List Ended) (marked : Ended)
     (is_done : b.done ≡ before ++ ended ∷ behind) (can : is_cancellable number (ended_entry ended) ≡ true) (same_entry : ended_entry marked ≡ cancelled (ended_entry ended))
     (carries : marked.irp.value.payload ≡ ended.irp.value.payload) (ends : marked.outcome ≡ ended.outcome) where
   front : IsPermutation b.done (ended ∷ (before ++ behind))
@@ -187,7 +187,7 @@ module _ (b : Books) (v : AdapterView) (number : ℕ) (before : List Ended) (end
         };
       }
 
-  packets_ended : {Y : Type 0} (f : Entry → Y) → ((e : Entry) → f (cancelled e) ≡ f e) → IsPermutation (of_packets f (books_ended b (before ++ behind) marked) v) (of_packets f b v)
+  packets_ended : {Y : Type 0} (f : PacketEntry → Y) → ((e : PacketEntry) → f (cancelled e) ≡ f e) → IsPermutation (of_packets f (books_ended b (before ++ behind) marked) v) (of_packets f b v)
   packets_ended {Y} f keeps =
       let is : of_done f marked ≡ of_done f ended = ap f same_entry ∙ keeps (ended_entry ended) in
       let rest : List Y = map (of_waiting f) b.waiting ++ (map (of_tag f b.started) v.tags ++ map (of_done f) (before ++ behind)) in
@@ -198,7 +198,7 @@ module _ (b : Books) (v : AdapterView) (number : ℕ) (before : List Ended) (end
   why_marked rules removing outcome h = by_outcome outcome h
     where
       request_is : marked.request ≡ ended.request
-      request_is = ap (λ (e : Entry). e.request) same_entry
+      request_is = ap (λ (e : PacketEntry). e.request) same_entry
 
       by_outcome : (outcome : Outcome) → HasOutcome rules removing ended outcome → HasOutcome rules removing marked outcome
       by_outcome (Returned Good) h =
@@ -207,7 +207,7 @@ module _ (b : Books) (v : AdapterView) (number : ℕ) (before : List Ended) (end
           subst (λ p. P marked.request p) (sym carries) (subst (λ r. P r ended.irp.value.payload) (sym request_is) h)
       by_outcome (Returned Busy) h = subst (λ p. Carries true rules marked.request p) (sym carries) (subst (λ r. Carries true rules r ended.irp.value.payload) (sym request_is) h)
       by_outcome (Returned (Bad completion)) h = h
-      by_outcome Withdrawn h = ap (λ (e : Entry). e.cancelled) same_entry
+      by_outcome Withdrawn h = ap (λ (e : PacketEntry). e.cancelled) same_entry
       by_outcome Gone h = h
 
   kept_ended : (rooms : List Request) → PortKept b v rooms → PortKept (books_ended b (before ++ behind) marked) v rooms
@@ -225,10 +225,10 @@ module _ (b : Books) (v : AdapterView) (number : ℕ) (before : List Ended) (end
         in_turn = k.in_turn;
         at_work = k.at_work;
         ended = All-push (HasEnded rules b.removing) (before ++ behind) marked (All-tail (HasEnded rules b.removing) ended (before ++ behind) all) (record {
-          bounded = subst (λ (x : Entry). IsBounded rules x.request) (sym same_entry) e.bounded;
+          bounded = subst (λ (x : PacketEntry). IsBounded rules x.request) (sym same_entry) e.bounded;
           why = subst (HasOutcome rules b.removing marked) (sym ends) (why_marked rules b.removing ended.outcome e.why);
           empty = subst (λ (p : Payload). IsEmptyIfFlush marked.request (payload_bytes p)) (sym carries)
-              (subst (λ (x : Entry). IsEmptyIfFlush x.request (payload_bytes ended.irp.value.payload)) (sym same_entry) e.empty);
+              (subst (λ (x : PacketEntry). IsEmptyIfFlush x.request (payload_bytes ended.irp.value.payload)) (sym same_entry) e.empty);
         });
         reserved = All-permutation (IsRoom rules v) _ _ (IsPermutation-sym _ _ (packets_ended asked (λ e. refl))) k.reserved;
         spots = distinct_same _ _ (IsPermutation-sym _ _ (packets_ended spot_in (λ e. refl))) k.spots;
@@ -249,7 +249,7 @@ module _ (b : Books) (v : AdapterView) (number : ℕ) (before : List Ended) (end
     cancels = record { one_of = inl (end_cancels, record { same_rules = refl; same_packets = packets_ended packet_as (λ e. refl); same_rooms = λ _. refl; same_submitted = refl; same_most = refl; same_adapter = refl }) };
   }
 
-pub cancelled_ended : (b b' : Books) (v : AdapterView) (number : ℕ) → CancelsEnded b number b' → IsCancelled b v number b'
+pub cancelled_ended : (b b' : TableView) (v : AdapterView) (number : ℕ) → CancelsEnded b number b' → IsCancelled b v number b'
 cancelled_ended b b' v number h = subst (λ x. IsCancelled b v number x) (sym h.after) (ended_fields b v number h.before h.ended h.behind h.marked h.is_done h.can h.same_entry h.carries h.ends)
 
 -- NOBODY
@@ -257,7 +257,7 @@ cancelled_ended b b' v number h = subst (λ x. IsCancelled b v number x) (sym h.
 abbrev IsSafe : ℕ → OpenRequest → Type 0
 IsSafe number o = o.number ≡ number → o.cancelled ≡ false → ⊥
 
-pub cancelled_none : (b b' : Books) (v : AdapterView) (rooms : List Request) (number : ℕ) → IsInHand b v rooms → All (CannotCancelHeld number) b.waiting → All (λ u. CannotCancelOn b.started number u.tag) v.tags → CancelsNoEnded b number b'
+pub cancelled_none : (b b' : TableView) (v : AdapterView) (rooms : List Request) (number : ℕ) → IsInHand b v rooms → All (CannotCancelHeld number) b.waiting → All (λ u. CannotCancelOn b.started number u.tag) v.tags → CancelsNoEnded b number b'
     → IsCancelled b v number b'
 cancelled_none b b' v rooms number k waiting out h = subst (λ x. IsCancelled b v number x) (sym h.same) (record {
   rooms = λ rooms i. i;
@@ -268,11 +268,11 @@ cancelled_none b b' v rooms number k waiting out h = subst (λ x. IsCancelled b 
     all = all_three b v (IsSafe number)
         (λ i d low. cannot_facts number (entry_of (get_or b.waiting i d)) (waiting i d low))
         (λ i d low. let w : IsAtWork (rules_of b.sizes) b.started (get_or v.tags i d) = k.kept.at_work i d low in
-        subst (λ (e : Entry). e.number ≡ number → e.cancelled ≡ false → ⊥) (sym (ap entry_or_nobody w.on_tag)) (cannot_facts number (entry_of w.held) (out i d low w.held w.on_tag)))
+        subst (λ (e : PacketEntry). e.number ≡ number → e.cancelled ≡ false → ⊥) (sym (ap entry_or_nobody w.on_tag)) (cannot_facts number (entry_of w.held) (out i d low w.held w.on_tag)))
         (λ i d low. cannot_facts number (ended_entry (get_or b.done i d)) (h.none i d low))
 
 -- each tag in use is below the depth
-pub none_started : (b c : Books) (v : AdapterView) (rooms : List Request) (number tag : ℕ) → IsInHand b v rooms → b.sizes.depth ≤ tag → ((lower : ℕ) → lower < tag → Any (HasTag lower) v.tags → CannotCancelOn b.started number lower) → c ≡ b
+pub none_started : (b c : TableView) (v : AdapterView) (rooms : List Request) (number tag : ℕ) → IsInHand b v rooms → b.sizes.depth ≤ tag → ((lower : ℕ) → lower < tag → Any (HasTag lower) v.tags → CannotCancelOn b.started number lower) → c ≡ b
     → CancelsNoStarted b v number c
 none_started b c v rooms number tag k past none same = record {
   none = λ i d low.
@@ -282,10 +282,10 @@ none_started b c v rooms number tag k past none same = record {
   same = same;
 }
 
-pub cancels_first : (b c b' : Books) (v w : AdapterView) (number tag : ℕ) → c ≡ b → w ≡ v → CancelsAt c w tag number b' → CancelsAt b v tag number b'
+pub cancels_first : (b c b' : TableView) (v w : AdapterView) (number tag : ℕ) → c ≡ b → w ≡ v → CancelsAt c w tag number b' → CancelsAt b v tag number b'
 cancels_first b c b' v w number tag e f h = subst (λ x. CancelsAt x v tag number b') e (subst (λ y. CancelsAt c y tag number b') f h)
 
-pub none_to_here : (b c b' : Books) (v w : AdapterView) (number tag : ℕ) → c ≡ b → w ≡ v → CancelsNotAt c w tag number b' → ((lower : ℕ) → lower < tag → Any (HasTag lower) v.tags → CannotCancelOn b.started number lower)
+pub none_to_here : (b c b' : TableView) (v w : AdapterView) (number tag : ℕ) → c ≡ b → w ≡ v → CancelsNotAt c w tag number b' → ((lower : ℕ) → lower < tag → Any (HasTag lower) v.tags → CannotCancelOn b.started number lower)
     → (lower : ℕ) → lower < tag + 1 → Any (HasTag lower) v.tags → CannotCancelOn b.started number lower
 none_to_here b c b' v w number tag e f h none lower below = by_case (cases_lt lower tag)
   where
@@ -298,14 +298,14 @@ none_to_here b c b' v w number tag e f h none lower below = by_case (cases_lt lo
 
 -- THE THREE IN TURN
 
-pub hand_cancelled_out : (b c b' : Books) (v v' : AdapterView) (rooms : List Request) (number : ℕ) → IsInHand b v rooms → WithdrawsNot b number c → v' ≡ v → ((tag : ℕ) × CancelsAt c v tag number b') → IsCancelledTo b v number b' v'
+pub hand_cancelled_out : (b c b' : TableView) (v v' : AdapterView) (rooms : List Request) (number : ℕ) → IsInHand b v rooms → WithdrawsNot b number c → v' ≡ v → ((tag : ℕ) × CancelsAt c v tag number b') → IsCancelledTo b v number b' v'
 hand_cancelled_out b c b' v v' rooms number k f e h =
     let h' : CancelsAt b v h.0 number b' = cancels_first b c b' v v number h.0 f.same refl h.1 in
     let x = cancelled_out b b' v rooms number h.0 k h'.in_use h'.cancels in
     subst (λ y. IsCancelledTo b v number b' y) (sym e) (record { rooms = x.rooms; cancels = x.cancels })
 
 -- after two that found nobody
-pub hand_cancelled_last : (b c d b' : Books) (v v' : AdapterView) (rooms : List Request) (number : ℕ) (result : Bool) → IsInHand b v rooms → WithdrawsNot b number c → v' ≡ v → CancelsNoStarted c v number d
+pub hand_cancelled_last : (b c d b' : TableView) (v v' : AdapterView) (rooms : List Request) (number : ℕ) (result : Bool) → IsInHand b v rooms → WithdrawsNot b number c → v' ≡ v → CancelsNoStarted c v number d
     → MatchBool result (CancelsEnded d number b') (CancelsNoEnded d number b') → IsCancelledTo b v number b' v'
 hand_cancelled_last b c d b' v v' rooms number true k f e s h =
     let x = cancelled_ended d b' v number h in

@@ -14,14 +14,14 @@ use Rattle.machine.specs.Sending.{is_started, status_of_completion}
 use Rattle.machine.specs.Settled.{HasGone, IsAllSent}
 use Rattle.machine.specs.Numbers.{HasPlaces, HavePlaces, request_number}
 use Rattle.device.specs.View.{packet_number, packet_spot, IsSending, WaitsForTag, piece_on_tag, use_on_tag}
-use Rattle.port.specs.declared.queues.Held.{Held}
+use Rattle.port.specs.declared.queues.PortPacket.{PortPacket}
 use Rattle.port.specs.declared.queues.Ended.{Ended}
 use Rattle.port.specs.declared.queues.Outcome.{Outcome}
 use Rattle.port.specs.declared.queues.Outcome.TheVariants.{Returned, Withdrawn, Gone}
-use Rattle.port.specs.inside.Books.{Books, spot_in}
+use Rattle.port.specs.inside.TableView.{TableView, spot_in}
 use Rattle.port.specs.Shown.{entry_on, rules_of, places_of, marks_left, busy_left, waiting_open, open_on, piece_on, done_open, packet, of_waiting, of_tag, of_done, state_of, requests_of, packets_of, of_packets}
 use Rattle.device.specs.Served.{sectors_moved}
-use Rattle.port.specs.inside.Kept.{PortKept, IsBusy, IsInHand, IsWaiting, IsAtWork, HasEnded, HasOutcome, IsTaken}
+use Rattle.port.specs.inside.Invariant.{PortKept, IsBusy, IsInHand, IsWaiting, IsAtWork, HasEnded, HasOutcome, IsTaken}
 use Rattle.port.proofs.Places.{off_rooms}
 use Rattle.std.specs.List.{IsDistinct}
 use Rattle.port.specs.inside.Releases.{AreLowerInUse}
@@ -32,7 +32,7 @@ use Rattle.port.proofs.Opening.{untouched_all, started_by, ended_started, true_f
 use Rattle.port.proofs.Starting.{kept_sector_some}
 
 -- a fact of each open request, by where its packet is
-pub all_three : (b : Books) (v : AdapterView) (P : OpenRequest → Type 0) → All (λ h. P (waiting_open (rules_of b.sizes) h)) b.waiting → All (λ u. P (open_on (rules_of b.sizes) b.started u)) v.tags
+pub all_three : (b : TableView) (v : AdapterView) (P : OpenRequest → Type 0) → All (λ h. P (waiting_open (rules_of b.sizes) h)) b.waiting → All (λ u. P (open_on (rules_of b.sizes) b.started u)) v.tags
     → All (λ d. P (done_open (rules_of b.sizes) d)) b.done → All P (requests_of b v)
 all_three b v P waiting out ended =
     All-append P _ _ (All-map P (waiting_open (rules_of b.sizes)) b.waiting waiting)
@@ -49,7 +49,7 @@ marks_some rules r payload (Returned (Bad completion)) some = rw length-replicat
 marks_some rules r payload Withdrawn some = rw length-replicate some
 marks_some rules r payload Gone some = rw length-replicate some
 
-have_places : (b : Books) (v : AdapterView) (rooms : List Request) → PortKept b v rooms → HavePlaces (state_of b v)
+have_places : (b : TableView) (v : AdapterView) (rooms : List Request) → PortKept b v rooms → HavePlaces (state_of b v)
 have_places b v rooms k =
     let rules : Rules = rules_of b.sizes in
     let some : 0 < b.sizes.sector_size = kept_sector_some b v rooms k in
@@ -58,11 +58,11 @@ have_places b v rooms k =
     (All-weaker (IsAtWork rules b.started) (λ u. HasPlaces (open_on rules b.started u)) (λ u w. rw (w.on_tag, length-replicate) (places_some b.sizes w.held.request some w.bounded)) v.tags k.at_work)
     (All-weaker (HasEnded rules b.removing) (λ d. HasPlaces (done_open rules d)) (λ d e. marks_some rules d.request d.irp.value.payload d.outcome (places_some b.sizes d.request some e.bounded)) b.done k.ended)
 
-pub numbers_are : (b : Books) (v : AdapterView) → map packet_number (packets_of b v) ≡ map request_number (requests_of b v)
+pub numbers_are : (b : TableView) (v : AdapterView) → map packet_number (packets_of b v) ≡ map request_number (requests_of b v)
 numbers_are b v =
     let rules : Rules = rules_of b.sizes in
     let w : map packet_number (map (of_waiting packet) b.waiting) ≡ map request_number (map (waiting_open rules) b.waiting) =
-    maps_are (of_waiting packet) packet_number (λ (h : Held). h.irp.value.number) (λ h. refl) b.waiting ∙ sym (maps_are (waiting_open rules) request_number (λ (h : Held). h.irp.value.number) (λ h. refl) b.waiting) in
+    maps_are (of_waiting packet) packet_number (λ (h : PortPacket). h.irp.value.number) (λ h. refl) b.waiting ∙ sym (maps_are (waiting_open rules) request_number (λ (h : PortPacket). h.irp.value.number) (λ h. refl) b.waiting) in
     let d : map packet_number (map (of_done packet) b.done) ≡ map request_number (map (done_open rules) b.done) =
     maps_are (of_done packet) packet_number (λ (h : Ended). h.irp.value.number) (λ h. refl) b.done ∙ sym (maps_are (done_open rules) request_number (λ (h : Ended). h.irp.value.number) (λ h. refl) b.done) in
     let t : map packet_number (map (of_tag packet b.started) v.tags) ≡ map request_number (map (open_on rules b.started) v.tags) =
@@ -76,7 +76,7 @@ numbers_are b v =
     ∙ sym (map-append request_number (map (waiting_open rules) b.waiting) _)
 
 -- the spots that the packets show
-pub spots_are : (b : Books) (v : AdapterView) → map packet_spot (packets_of b v) ≡ of_packets spot_in b v
+pub spots_are : (b : TableView) (v : AdapterView) → map packet_spot (packets_of b v) ≡ of_packets spot_in b v
 spots_are b v =
     map-append packet_spot (map (of_waiting packet) b.waiting) _
     ∙ ap (λ ns. map packet_spot (map (of_waiting packet) b.waiting) ++ ns) (map-append packet_spot (map (of_tag packet b.started) v.tags) (map (of_done packet) b.done))
@@ -93,12 +93,12 @@ ended_sent rules o r payload (Returned (Bad completion)) e busy limit started = 
 ended_sent rules o r payload Withdrawn e busy limit started = true_false _ started (rw (e, untouched_all) refl)
 ended_sent rules o r payload Gone e busy limit started = true_false _ started (rw (e, untouched_all) refl)
 
-pub ended_is_started : (b : Books) (d : Ended) → 0 < b.sizes.sector_size → HasEnded (rules_of b.sizes) b.removing d → b.removing ≡ false → d.irp.value.cancelled ≡ false → is_started (done_open (rules_of b.sizes) d) ≡ true
+pub ended_is_started : (b : TableView) (d : Ended) → 0 < b.sizes.sector_size → HasEnded (rules_of b.sizes) b.removing d → b.removing ≡ false → d.irp.value.cancelled ≡ false → is_started (done_open (rules_of b.sizes) d) ≡ true
 ended_is_started b d some e stays timely =
     ended_started (rules_of b.sizes) d (places_some b.sizes d.request some e.bounded)
     (λ o. subst (HasOutcome (rules_of b.sizes) b.removing d) o e.why) (λ o. true_false b.removing (subst (HasOutcome (rules_of b.sizes) b.removing d) o e.why) stays) timely
 
-sending : (b : Books) (v : AdapterView) (rooms : List Request) → PortKept b v rooms → IsBusy b v → IsSending (rules_of b.sizes) (state_of b v)
+sending : (b : TableView) (v : AdapterView) (rooms : List Request) → PortKept b v rooms → IsBusy b v → IsSending (rules_of b.sizes) (state_of b v)
 sending b v rooms k busy =
     let rules : Rules = rules_of b.sizes in
     let some : 0 < b.sizes.sector_size = kept_sector_some b v rooms k in
@@ -118,11 +118,11 @@ sending b v rooms k busy =
     none_waits free = busy (let l = length-map v.tags (piece_on (rules_of b.sizes) b.started) in let e = k.sizes.depth in omega arith)
 
 -- after a loop over all tags none is free, or nothing waits
-pub busy_after : (b : Books) (v : AdapterView) (tag : ℕ) → v.depth ≤ tag → AreLowerInUse b v tag → IsBusy b v
+pub busy_after : (b : TableView) (v : AdapterView) (tag : ℕ) → v.depth ≤ tag → AreLowerInUse b v tag → IsBusy b v
 busy_after b v tag all (inl none) = λ free. none
 busy_after b v tag all (inr h) = λ free. let few = all_in_use tag v.tags h in absurd (omega arith)
 
-pub in_hand : (b : Books) (v : AdapterView) (rooms : List Request) → PortKept b v rooms → IsBusy b v → IsInHand b v rooms
+pub in_hand : (b : TableView) (v : AdapterView) (rooms : List Request) → PortKept b v rooms → IsBusy b v → IsInHand b v rooms
 in_hand b v rooms k busy = record {
   kept = k;
   busy = busy;

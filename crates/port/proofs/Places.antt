@@ -9,9 +9,9 @@ use Rattle.std.proofs.lemmas.Map.Keys.{IsDistinct-IsPermutation, IsDistinct-cons
 use Rattle.machine.specs.declared.Request.{Request}
 use Rattle.device.specs.View.{Reserved, room_at, Packet, packet_spot, IsOffRooms}
 use Rattle.device.specs.Served.{SetsRoom}
-use Rattle.port.specs.inside.Turns.{SetsSlot}
+use Rattle.port.specs.inside.TableCalls.{SetsSlot}
 use Rattle.port.specs.Shown.{reserved_in, reserved_of}
-use Rattle.port.specs.inside.Kept.{IsTaken}
+use Rattle.port.specs.inside.Invariant.{IsTaken}
 
 flips : (x y : ℕ) → eqb x y ≡ eqb y x
 flips x y = search (rules, tests)

@@ -7,11 +7,11 @@ use Rattle.std.proofs.lemmas.List.Elements.{All-nil, All-cons, All-head}
 use Rattle.std.proofs.lemmas.List.Sorted.{All-permutation, IsPermutation-middle}
 use Rattle.linked.specs.Queue.{Queue, HasNone, Lacks, Pops, RemovesNumber, RemovesNone, Finds}
 use Rattle.port.specs.declared.queues.Waiting.{Waiting}
-use Rattle.port.specs.declared.queues.Held.{Held}
+use Rattle.port.specs.declared.queues.PortPacket.{PortPacket}
 use Rattle.port.specs.declared.queues.Ended.{Ended}
 use Rattle.port.specs.declared.queues.Outcome.TheVariants.{Withdrawn}
-use Rattle.port.specs.inside.Books.{Books, entry_of, ended_entry, held_at}
-use Rattle.port.specs.inside.Turns.{cancelled, is_cancellable, CannotCancelHeld, IsUncancelled, IsPacked, Withdraws, WithdrawsNot, WithdrawsAt, WithdrawsNotAt, IsNotAt}
+use Rattle.port.specs.inside.TableView.{TableView, entry_of, ended_entry, held_at}
+use Rattle.port.specs.inside.TableCalls.{cancelled, is_cancellable, CannotCancelHeld, IsUncancelled, IsPacked, Withdraws, WithdrawsNot, WithdrawsAt, WithdrawsNotAt, IsNotAt}
 use Rattle.port.proofs.Draining.{can_facts}
 
 -- the number of a packet that waits
@@ -19,7 +19,7 @@ abbrev pub waiting_number : Waiting → ℕ
 waiting_number w = w.irp.value.number
 
 -- the packets of the entries
-abbrev pub packets_in : Queue Waiting → List Held
+abbrev pub packets_in : Queue Waiting → List PortPacket
 packets_in q = map held_at q.entries
 
 pub popped : (q q' : Queue Waiting) (spot : ℕ) (item : Waiting) → Pops q spot item q' → packets_in q ≡ held_at (spot, item) ∷ packets_in q'
@@ -32,17 +32,17 @@ not_at : (spot number : ℕ) (entries : List (ℕ × Waiting)) → HasNone waiti
 not_at spot number [] h = All-nil (IsNotAt spot number)
 not_at spot number (e ∷ entries) h = All-cons (IsNotAt spot number) (held_at e) (map held_at entries) h.0 (not_at spot number entries h.1)
 
-pub withdrawn_none : (b b' : Books) (q q' : Queue Waiting) (spot number : ℕ) → b.waiting ≡ packets_in q → RemovesNone waiting_number q spot number q' → b' ≡ record b { waiting = packets_in q' } → WithdrawsNotAt b spot number b'
+pub withdrawn_none : (b b' : TableView) (q q' : Queue Waiting) (spot number : ℕ) → b.waiting ≡ packets_in q → RemovesNone waiting_number q spot number q' → b' ≡ record b { waiting = packets_in q' } → WithdrawsNotAt b spot number b'
 withdrawn_none b b' q q' spot number is h after = record {
   none = subst (λ hs. All (IsNotAt spot number) hs) (sym is) (not_at spot number q.entries h.none);
   same = after ∙ ap (λ (x : Queue Waiting). record b { waiting = packets_in x }) h.same ∙ ap (λ hs. record b { waiting = hs }) (sym is);
 }
 
 -- a packet of the number that is not cancelled yet can be
-can_cancel : (number : ℕ) (held : Held) → held.irp.value.number ≡ number → IsUncancelled held → is_cancellable number (entry_of held) ≡ true
+can_cancel : (number : ℕ) (held : PortPacket) → held.irp.value.number ≡ number → IsUncancelled held → is_cancellable number (entry_of held) ≡ true
 can_cancel number held same timely = let equal = eq-eqb held.irp.value.number number same in rw (equal, timely) refl
 
-pub withdrawn : (b b' : Books) (q q' : Queue Waiting) (spot number : ℕ) (item : Waiting) (ended : Ended) (done' : List Ended) → b.waiting ≡ packets_in q → All IsUncancelled b.waiting → RemovesNumber waiting_number q spot number item q'
+pub withdrawn : (b b' : TableView) (q q' : Queue Waiting) (spot number : ℕ) (item : Waiting) (ended : Ended) (done' : List Ended) → b.waiting ≡ packets_in q → All IsUncancelled b.waiting → RemovesNumber waiting_number q spot number item q'
     → ended_entry ended ≡ cancelled (entry_of (held_at (spot, item))) → ended.irp.value.payload ≡ item.irp.value.payload → ended.outcome ≡ Withdrawn → done' ≡ b.done ++ ended ∷ [] → b' ≡ record b { waiting = packets_in q'; done = done' }
     → WithdrawsAt b spot number b'
 withdrawn b b' q q' spot number item ended done' is timely h entry carries ends more after =
@@ -70,7 +70,7 @@ withdrawn b b' q q' spot number item ended done' is timely h entry carries ends 
 
 -- THE SEARCH BY NUMBER
 
-cannot : (number : ℕ) (held : Held) → held.irp.value.number ≢ number → CannotCancelHeld number held
+cannot : (number : ℕ) (held : PortPacket) → held.irp.value.number ≢ number → CannotCancelHeld number held
 cannot number held differs = by_test (is_cancellable number (entry_of held)) refl
   where
     by_test : (can : Bool) → is_cancellable number (entry_of held) ≡ can → IsFalse can
@@ -81,13 +81,13 @@ lacking : (number : ℕ) (entries : List (ℕ × Waiting)) → Lacks waiting_num
 lacking number [] h = All-nil (CannotCancelHeld number)
 lacking number (e ∷ entries) h = All-cons (CannotCancelHeld number) (held_at e) (map held_at entries) (cannot number (held_at e) h.0) (lacking number entries h.1)
 
-pub found_none : (b b' : Books) (q q' : Queue Waiting) (number : ℕ) → b.waiting ≡ packets_in q → Lacks waiting_number number q.entries → q'.entries ≡ q.entries → b' ≡ record b { waiting = packets_in q' } → WithdrawsNot b number b'
+pub found_none : (b b' : TableView) (q q' : Queue Waiting) (number : ℕ) → b.waiting ≡ packets_in q → Lacks waiting_number number q.entries → q'.entries ≡ q.entries → b' ≡ record b { waiting = packets_in q' } → WithdrawsNot b number b'
 found_none b b' q q' number is h same after = record {
   none = subst (λ hs. All (CannotCancelHeld number) hs) (sym is) (lacking number q.entries h);
   same = after ∙ ap (λ es. record b { waiting = map held_at es }) same ∙ ap (λ hs. record b { waiting = hs }) (sym is);
 }
 
-pub found : (b b' : Books) (q q' : Queue Waiting) (number spot : ℕ) (result : Bool) → b.waiting ≡ packets_in q → Finds waiting_number q number spot q'
+pub found : (b b' : TableView) (q q' : Queue Waiting) (number spot : ℕ) (result : Bool) → b.waiting ≡ packets_in q → Finds waiting_number q number spot q'
     → MatchBool result (WithdrawsAt (record b { waiting = packets_in q' }) spot number b') (WithdrawsNotAt (record b { waiting = packets_in q' }) spot number b')
     → MatchBool result (Withdraws b number b') (WithdrawsNot b number b')
 found b b' q q' number spot true is f h =

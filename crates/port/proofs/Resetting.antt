@@ -20,10 +20,10 @@ use Rattle.device.specs.Served.{Resets, piece_tag, is_fresh_piece, fault_of}
 use Rattle.machine.specs.Step.{Run, as_label}
 use Rattle.machine.proofs.Same.{IsSame-refl, Run-same}
 use Rattle.machine.proofs.Numbers.{AreDistinct-Run}
-use Rattle.port.specs.declared.queues.Held.{Held}
-use Rattle.port.specs.inside.Books.{Entry, Books, entry_of, spot_in}
+use Rattle.port.specs.declared.queues.PortPacket.{PortPacket}
+use Rattle.port.specs.inside.TableView.{PacketEntry, TableView, entry_of, spot_in}
 use Rattle.port.specs.Shown.{rules_of, waiting_open, done_open, entry_on, entry_or_nobody, out_open, open_on, piece_on, packet as packet_as, of_packets, of_waiting, of_tag, of_done, state_of, view_of}
-use Rattle.port.specs.inside.Kept.{asked, IsInHand, IsRoom, IsWaiting, IsAtWork, IsDoing, IsTaken}
+use Rattle.port.specs.inside.Invariant.{asked, IsInHand, IsRoom, IsWaiting, IsAtWork, IsDoing, IsTaken}
 use Rattle.port.proofs.Places.{distinct_same}
 use Rattle.port.proofs.Tags.{tags_fit}
 use Rattle.port.proofs.Starting.{room_moves, waiting_moves}
@@ -87,7 +87,7 @@ fresh_fates (u ∷ us) = by_fate (fresh_fates us) u.fate refl
     by_fate h (Acted moved) is = rw is h
     by_fate h Faulted is = rw is h
 
-filter_pieces : (rules : Rules) (started : List (Option Held)) (tags : List TagInUse) → map (piece_on rules started) (filter is_fresh_use tags) ≡ filter is_fresh_piece (map (piece_on rules started) tags)
+filter_pieces : (rules : Rules) (started : List (Option PortPacket)) (tags : List TagInUse) → map (piece_on rules started) (filter is_fresh_use tags) ≡ filter is_fresh_piece (map (piece_on rules started) tags)
 filter_pieces rules started [] = refl
 filter_pieces rules started (u ∷ us) = by_fate (filter_pieces rules started us) u.fate refl
   where
@@ -99,7 +99,7 @@ filter_pieces rules started (u ∷ us) = by_fate (filter_pieces rules started us
     by_fate h Faulted is = rw is h
 
 -- what had done nothing has faulted, and all else is as it was
-reset_pieces : (left : TagInUse → Srb) (rules : Rules) (started : List (Option Held)) (tags : List TagInUse)
+reset_pieces : (left : TagInUse → Srb) (rules : Rules) (started : List (Option PortPacket)) (tags : List TagInUse)
     → IsPermutation (map (piece_on rules started) (map (after_reset left) tags)) (map faulted_piece (map (piece_on rules started) (filter is_fresh_use tags)) ++ map (piece_on rules started) (filter is_other tags))
 reset_pieces left rules started [] = IsPermutation-refl _
 reset_pieces left rules started (u ∷ us) = by_fate (reset_pieces left rules started us) u.fate refl
@@ -131,7 +131,7 @@ left_if_fresh left tags fresh p all = by tags (All-permutation (IsLeftSo left) _
     by [] h = All-nil (IsLeftIfFresh left)
     by (u ∷ us) h = All-cons (IsLeftIfFresh left) u us (one u us h) (by us (rest u us u.fate refl h))
 
-work_reset : (left : TagInUse → Srb) (rules : Rules) (started : List (Option Held)) (u : TagInUse) → IsLeftIfFresh left u → IsAtWork rules started u → IsAtWork rules started (after_reset left u)
+work_reset : (left : TagInUse → Srb) (rules : Rules) (started : List (Option PortPacket)) (u : TagInUse) → IsLeftIfFresh left u → IsAtWork rules started u → IsAtWork rules started (after_reset left u)
 work_reset left rules started u so w =
     record { held = w.held; on_tag = w.on_tag; bounded = w.bounded; doing = by_fate u.fate w.doing; empty = λ flush. none_by u.fate refl (w.empty flush) }
   where
@@ -145,7 +145,7 @@ work_reset left rules started u so w =
     none_by (Acted moved) is none = none
     none_by Faulted is none = none
 
-works_reset : (left : TagInUse → Srb) (rules : Rules) (started : List (Option Held)) (tags : List TagInUse) → All (IsLeftIfFresh left) tags → All (IsAtWork rules started) tags
+works_reset : (left : TagInUse → Srb) (rules : Rules) (started : List (Option PortPacket)) (tags : List TagInUse) → All (IsLeftIfFresh left) tags → All (IsAtWork rules started) tags
     → All (IsAtWork rules started) (map (after_reset left) tags)
 works_reset left rules started [] so w = All-nil (IsAtWork rules started)
 works_reset left rules started (u ∷ us) so w =
@@ -154,10 +154,10 @@ works_reset left rules started (u ∷ us) so w =
     (works_reset left rules started us (All-tail (IsLeftIfFresh left) u us so) (All-tail (IsAtWork rules started) u us w))
 
 -- what is shown open of a tag's packet, with another SRB
-abbrev open_with : Rules → List (Option Held) → TagInUse → Srb → OpenRequest
+abbrev open_with : Rules → List (Option PortPacket) → TagInUse → Srb → OpenRequest
 open_with rules started u srb = out_open rules (entry_on started u.tag) (record u { srb = srb })
 
-open_reset : (left : TagInUse → Srb) (rules : Rules) (started : List (Option Held)) (u : TagInUse) → IsLeftIfFresh left u → IsAtWork rules started u
+open_reset : (left : TagInUse → Srb) (rules : Rules) (started : List (Option PortPacket)) (u : TagInUse) → IsLeftIfFresh left u → IsAtWork rules started u
     → open_on rules started (after_reset left u) ≡ open_on rules started u
 open_reset left rules started u so w = by u.fate refl
   where
@@ -167,13 +167,13 @@ open_reset left rules started u so w = by u.fate refl
         let request : Request = w.held.request in
         let asks : AsksFor rules request u.srb = subst (λ f. IsDoing rules request f u.srb) fresh w.doing in
         let sent : sent_bytes request.kind (Packed (left u)) ≡ sent_bytes request.kind (Packed u.srb) = spoiled_same rules request request.kind u.srb (left u) refl asks.asks (so fresh) in
-        ap (λ (e : Entry). out_open rules e (record u { srb = left u })) is
+        ap (λ (e : PacketEntry). out_open rules e (record u { srb = left u })) is
         ∙ ap (λ (bytes : List ℕ). record (out_open rules (entry_of w.held) u) { request = as_client rules request bytes }) sent
-        ∙ sym (ap (λ (e : Entry). out_open rules e u) is)
+        ∙ sym (ap (λ (e : PacketEntry). out_open rules e u) is)
     by (Acted moved) fate = refl
     by Faulted fate = refl
 
-opens_reset : (left : TagInUse → Srb) (rules : Rules) (started : List (Option Held)) (tags : List TagInUse) → All (IsLeftIfFresh left) tags → All (IsAtWork rules started) tags
+opens_reset : (left : TagInUse → Srb) (rules : Rules) (started : List (Option PortPacket)) (tags : List TagInUse) → All (IsLeftIfFresh left) tags → All (IsAtWork rules started) tags
     → map (open_on rules started) (map (after_reset left) tags) ≡ map (open_on rules started) tags
 opens_reset left rules started [] so w = refl
 opens_reset left rules started (u ∷ us) so w =
@@ -188,13 +188,13 @@ opens_reset left rules started (u ∷ us) so w =
 abbrev view_reset : AdapterView → List TagInUse → ℕ → List DeviceLabel → AdapterView
 view_reset v tags failures labels = record v { tags = tags; failures = failures; labels = v.labels ++ labels }
 
-packets_reset : {Y : Type 0} (left : TagInUse → Srb) (f : Entry → Y) (b : Books) (v : AdapterView) (tags' : List TagInUse) (failures : ℕ) (labels : List DeviceLabel) → IsPermutation tags' (map (after_reset left) v.tags)
+packets_reset : {Y : Type 0} (left : TagInUse → Srb) (f : PacketEntry → Y) (b : TableView) (v : AdapterView) (tags' : List TagInUse) (failures : ℕ) (labels : List DeviceLabel) → IsPermutation tags' (map (after_reset left) v.tags)
     → IsPermutation (of_packets f b (view_reset v tags' failures labels)) (of_packets f b v)
 packets_reset left f b v tags' failures labels p =
     let e : map (of_tag f b.started) (map (after_reset left) v.tags) ≡ map (of_tag f b.started) v.tags = maps_are (after_reset left) (of_tag f b.started) (of_tag f b.started) (λ u. refl) v.tags in
     IsPermutation-append_right (map (of_waiting f) b.waiting) _ _ (IsPermutation-append_left (map (of_done f) b.done) _ _ (subst (λ xs. IsPermutation (map (of_tag f b.started) tags') xs) e (IsPermutation-map (of_tag f b.started) _ _ p)))
 
-reset_run : (left : TagInUse → Srb) (b : Books) (v : AdapterView) (tags' fresh : List TagInUse) (failures : ℕ) (labels : List DeviceLabel) → IsPermutation tags' (map (after_reset left) v.tags) → IsPermutation (filter is_fresh_use v.tags) fresh
+reset_run : (left : TagInUse → Srb) (b : TableView) (v : AdapterView) (tags' fresh : List TagInUse) (failures : ℕ) (labels : List DeviceLabel) → IsPermutation tags' (map (after_reset left) v.tags) → IsPermutation (filter is_fresh_use v.tags) fresh
     → All (IsLeftIfFresh left) v.tags → All (IsAtWork (rules_of b.sizes) b.started) v.tags
     → Run (rules_of b.sizes) (state_of b v) (map as_label (map fault_of (map (piece_on (rules_of b.sizes) b.started) fresh))) (state_of b (view_reset v tags' failures labels))
 reset_run left b v tags' fresh failures labels p f so w =
@@ -222,7 +222,7 @@ reset_run left b v tags' fresh failures labels p f so w =
       removed = refl;
     }) run
 
-hand_reset : (left : TagInUse → Srb) (b : Books) (v : AdapterView) (tags' fresh : List TagInUse) (failures : ℕ) (rooms : List Request) → IsInHand b v rooms → IsPermutation tags' (map (after_reset left) v.tags) → IsPermutation (filter is_fresh_use v.tags) fresh
+hand_reset : (left : TagInUse → Srb) (b : TableView) (v : AdapterView) (tags' fresh : List TagInUse) (failures : ℕ) (rooms : List Request) → IsInHand b v rooms → IsPermutation tags' (map (after_reset left) v.tags) → IsPermutation (filter is_fresh_use v.tags) fresh
     → length v.labels + (v.depth - length v.tags) + v.depth ≤ 64 → All (IsLeftIfFresh left) v.tags → IsInOrder (view_reset v tags' failures (map use_fault fresh)) → IsInHand b (view_reset v tags' failures (map use_fault fresh)) rooms
 hand_reset left b v tags' fresh failures rooms i p f space so order =
     let k = i.kept in
@@ -255,11 +255,11 @@ hand_reset left b v tags' fresh failures rooms i p f space so order =
       labels = omega (arith, length-append v.labels (map use_fault fresh), length-map fresh use_fault);
     }) (λ free. i.busy (omega arith))
 
-pub record IsReset (b : Books) (v v' : AdapterView) : Type 0 where
+pub record IsReset (b : TableView) (v v' : AdapterView) : Type 0 where
   pub rooms : (rooms : List Request) → IsInHand b v rooms → IsInHand b v' rooms
   pub resets : Resets (view_of b v) (view_of b v')
 
-pub reset_all : (b : Books) (v v' : AdapterView) (rooms : List Request) → IsInHand b v rooms → label_places (view_of b v) + (rules_of b.sizes).depth ≤ 64 → AdapterResets v v' → IsInOrder v' → IsReset b v v'
+pub reset_all : (b : TableView) (v v' : AdapterView) (rooms : List Request) → IsInHand b v rooms → label_places (view_of b v) + (rules_of b.sizes).depth ≤ 64 → AdapterResets v v' → IsInOrder v' → IsReset b v v'
 reset_all b v v' rooms k space h order =
     let rules : Rules = rules_of b.sizes in
     let l = length-map v.tags (piece_on rules b.started) in
@@ -289,7 +289,7 @@ reset_all b v v' rooms k space h order =
 
 -- LABELS
 
-pub hand_labels : (b : Books) (v v' : AdapterView) (rooms : List Request) (result : Option DeviceLabel) → MatchOption result (HasNoLabel v v') (λ label. LeavesFirst v label v') → IsInOrder v' → IsInHand b v rooms → IsInHand b v' rooms
+pub hand_labels : (b : TableView) (v v' : AdapterView) (rooms : List Request) (result : Option DeviceLabel) → MatchOption result (HasNoLabel v v') (λ label. LeavesFirst v label v') → IsInOrder v' → IsInHand b v rooms → IsInHand b v' rooms
 hand_labels b v v' rooms None h order i = subst (λ x. IsInHand b x rooms) (sym h.same) i
 hand_labels b v v' rooms (Some label) h order i =
     let k = i.kept in

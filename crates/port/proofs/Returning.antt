@@ -27,14 +27,14 @@ use Rattle.device.specs.View.{AsksFor, Carries, IsBounded, payload_bytes, sent_b
 use Rattle.device.specs.Served.{Finishes, FinishesNot, Moves, sectors_moved}
 use Rattle.machine.proofs.Same.{IsSame-refl}
 use Rattle.machine.proofs.Numbers.{AreDistinct-DeviceStep}
-use Rattle.port.specs.declared.queues.Held.{Held}
+use Rattle.port.specs.declared.queues.PortPacket.{PortPacket}
 use Rattle.port.specs.declared.queues.Ended.{Ended}
 use Rattle.port.specs.declared.queues.Outcome.{Outcome}
 use Rattle.port.specs.declared.queues.Outcome.TheVariants.{Returned, Withdrawn, Gone}
-use Rattle.port.specs.inside.Books.{Entry, Books, entry_of, ended_entry, spot_in}
-use Rattle.port.specs.inside.Turns.{held_on, EndsAs, Ends, as_returned, sense_left}
+use Rattle.port.specs.inside.TableView.{PacketEntry, TableView, entry_of, ended_entry, spot_in}
+use Rattle.port.specs.inside.TableCalls.{held_on, EndsAs, Ends, as_returned, sense_left}
 use Rattle.port.specs.Shown.{rules_of, places_of, marks_left, busy_left, open_as, waiting_open, done_open, out_open, out_piece, open_on, piece_on, entry_on, packet as packet_as, of_packets, of_waiting, of_tag, of_done, state_of, view_of, requests_of}
-use Rattle.port.specs.inside.Kept.{asked, PortKept, IsRoom, IsWaiting, IsEmptyIfFlush, IsAtWork, IsDoing, HasEnded, HasOutcome, IsTaken}
+use Rattle.port.specs.inside.Invariant.{asked, PortKept, IsRoom, IsWaiting, IsEmptyIfFlush, IsAtWork, IsDoing, HasEnded, HasOutcome, IsTaken}
 use Rattle.port.proofs.Places.{distinct_same}
 use Rattle.port.specs.inside.Releases.{Releases}
 use Rattle.port.proofs.Lists.{splice_whole, second_front, last_front, length-cut}
@@ -42,14 +42,14 @@ use Rattle.port.proofs.Tags.{others_same, others_apart}
 use Rattle.adapter.proofs.Joining.{moves_one}
 use Rattle.port.proofs.Starting.{work_beside, room_moves, waiting_moves, moves_then}
 
-abbrev pub books_returned : Books → ℕ → Ended → Books
+abbrev pub books_returned : TableView → ℕ → Ended → TableView
 books_returned b tag ended = record b { started = slice_set b.started tag None; done = b.done ++ ended ∷ [] }
 
 abbrev pub view_returned : AdapterView → List TagInUse → ℕ → ℕ → Class → AdapterView
 view_returned v tags failures piece class = record v { tags = tags; failures = failures; labels = v.labels ++ Return piece class ∷ [] }
 
 -- what is shown of the tags: that of the packet on the tag, and the others'
-pub tags_on : {Y : Type 0} (F : Entry → TagInUse → Y) (started : List (Option Held)) (tags : List TagInUse) (use' : TagInUse) (others : List TagInUse) (held : Held)
+pub tags_on : {Y : Type 0} (F : PacketEntry → TagInUse → Y) (started : List (Option PortPacket)) (tags : List TagInUse) (use' : TagInUse) (others : List TagInUse) (held : PortPacket)
     → IsPermutation tags (use' ∷ others) → held_on started use'.tag ≡ Some held
     → IsPermutation (map (λ u. F (entry_on started u.tag) u) tags) (F (entry_of held) use' ∷ map (λ u. F (entry_on started u.tag) u) others)
 tags_on F started tags use' others held p on =
@@ -57,7 +57,7 @@ tags_on F started tags use' others held p on =
     rw on at more
 
 -- and of the others where the tag's packet left
-pub tags_left : {Y : Type 0} (F : Entry → TagInUse → Y) (started : List (Option Held)) (tag : ℕ) (x : Option Held) (tags' others : List TagInUse)
+pub tags_left : {Y : Type 0} (F : PacketEntry → TagInUse → Y) (started : List (Option PortPacket)) (tag : ℕ) (x : Option PortPacket) (tags' others : List TagInUse)
     → All (HasNotTag tag) others → IsPermutation tags' others
     → IsPermutation (map (λ u. F (entry_on (slice_set started tag x) u.tag) u) tags') (map (λ u. F (entry_on started u.tag) u) others)
 tags_left F started tag x tags' others apart p =
@@ -65,19 +65,19 @@ tags_left F started tag x tags' others apart p =
     rw (others_same F started tag x others apart) at more
 
 -- what the packet on a tag is doing
-pub on_tag_work : (rules : Rules) (started : List (Option Held)) (tags : List TagInUse) (use' : TagInUse) (others : List TagInUse) (tag : ℕ) (held : Held)
+pub on_tag_work : (rules : Rules) (started : List (Option PortPacket)) (tags : List TagInUse) (use' : TagInUse) (others : List TagInUse) (tag : ℕ) (held : PortPacket)
     → All (IsAtWork rules started) tags → IsPermutation tags (use' ∷ others) → use'.tag ≡ tag → held_on started tag ≡ Some held
     → IsBounded rules held.request × IsDoing rules held.request use'.fate use'.srb × IsEmptyIfFlush held.request use'.srb.data
 on_tag_work rules started tags use' others tag held all p is on =
     let w : IsAtWork rules started use' = All-head (IsAtWork rules started) use' others (All-permutation (IsAtWork rules started) _ _ p all) in
     let same : w.held ≡ held = cc (w.on_tag, is, on) in
-    let bounded : IsBounded rules held.request = subst (λ (h : Held). IsBounded rules h.request) same w.bounded in
-    let doing : IsDoing rules held.request use'.fate use'.srb = subst (λ (h : Held). IsDoing rules h.request use'.fate use'.srb) same w.doing in
-    let empty : IsEmptyIfFlush held.request use'.srb.data = subst (λ (h : Held). IsEmptyIfFlush h.request use'.srb.data) same w.empty in
+    let bounded : IsBounded rules held.request = subst (λ (h : PortPacket). IsBounded rules h.request) same w.bounded in
+    let doing : IsDoing rules held.request use'.fate use'.srb = subst (λ (h : PortPacket). IsDoing rules h.request use'.fate use'.srb) same w.doing in
+    let empty : IsEmptyIfFlush held.request use'.srb.data = subst (λ (h : PortPacket). IsEmptyIfFlush h.request use'.srb.data) same w.empty in
     (bounded, doing, empty)
 
-pub on_tag_some : (rules : Rules) (started : List (Option Held)) (tags : List TagInUse) (use' : TagInUse) (others : List TagInUse) (tag : ℕ)
-    → All (IsAtWork rules started) tags → IsPermutation tags (use' ∷ others) → use'.tag ≡ tag → (held : Held) × (held_on started tag ≡ Some held)
+pub on_tag_some : (rules : Rules) (started : List (Option PortPacket)) (tags : List TagInUse) (use' : TagInUse) (others : List TagInUse) (tag : ℕ)
+    → All (IsAtWork rules started) tags → IsPermutation tags (use' ∷ others) → use'.tag ≡ tag → (held : PortPacket) × (held_on started tag ≡ Some held)
 on_tag_some rules started tags use' others tag all p is =
     let w : IsAtWork rules started use' = All-head (IsAtWork rules started) use' others (All-permutation (IsAtWork rules started) _ _ p all) in
     (w.held, subst (λ t. held_on started t ≡ Some w.held) is w.on_tag)
@@ -92,12 +92,12 @@ length_marks rules r payload Gone = length-replicate _ _
 abbrev pub with_sense : Srb → Option Sense → Srb
 with_sense srb sense = record srb { sense = sense }
 
-abbrev pub done_as : Rules → Entry → Payload → Outcome → OpenRequest
+abbrev pub done_as : Rules → PacketEntry → Payload → Outcome → OpenRequest
 done_as rules e payload outcome = open_as rules e payload (busy_left outcome) (marks_left rules e.request payload outcome)
 
-pub done_is : (rules : Rules) (d : Ended) (e : Entry) (payload : Payload) (outcome : Outcome) → ended_entry d ≡ e → d.irp.value.payload ≡ payload → d.outcome ≡ outcome → done_open rules d ≡ done_as rules e payload outcome
+pub done_is : (rules : Rules) (d : Ended) (e : PacketEntry) (payload : Payload) (outcome : Outcome) → ended_entry d ≡ e → d.irp.value.payload ≡ payload → d.outcome ≡ outcome → done_open rules d ≡ done_as rules e payload outcome
 done_is rules d e payload outcome same carries ends =
-    ap (λ (x : Entry). done_as rules x d.irp.value.payload d.outcome) same ∙ ap (λ (p : Payload). done_as rules e p d.outcome) carries ∙ ap (λ (o : Outcome). done_as rules e payload o) ends
+    ap (λ (x : PacketEntry). done_as rules x d.irp.value.payload d.outcome) same ∙ ap (λ (p : Payload). done_as rules e p d.outcome) carries ∙ ap (λ (o : Outcome). done_as rules e payload o) ends
 
 same_sent : (kind : Kind) (srb : Srb) (sense : Option Sense) → sent_bytes kind (Packed (with_sense srb sense)) ≡ sent_bytes kind (Packed srb)
 same_sent Read srb sense = refl
@@ -110,7 +110,7 @@ busy_is Busy = refl
 busy_is (Bad completion) = refl
 
 -- the marks are those that the class leaves
-leaves_marks : (rules : Rules) (failures : ℕ) (held : Held) (use' : TagInUse) (sense : Option Sense) (class : Class) → MayReturn failures use' class → IsDoing rules held.request use'.fate use'.srb
+leaves_marks : (rules : Rules) (failures : ℕ) (held : PortPacket) (use' : TagInUse) (sense : Option Sense) (class : Class) → MayReturn failures use' class → IsDoing rules held.request use'.fate use'.srb
     → LeavesMarks (out_piece rules (entry_of held) use') class (marks_left rules held.request (Packed (with_sense use'.srb sense)) (Returned class))
 leaves_marks rules failures held use' sense Good may doing =
     let moved : List (List ℕ) = may.0.0 in
@@ -131,13 +131,13 @@ quiet_left Busy sense = refl
 quiet_left (Bad completion) sense = tt
 
 -- and the packet has ended for that reason
-outcome_is : (rules : Rules) (removing : Bool) (failures : ℕ) (held : Held) (use' : TagInUse) (sense : Option Sense) (class : Class) (ended : Ended) → IsQuiet class sense → MayReturn failures use' class → IsDoing rules held.request use'.fate use'.srb
+outcome_is : (rules : Rules) (removing : Bool) (failures : ℕ) (held : PortPacket) (use' : TagInUse) (sense : Option Sense) (class : Class) (ended : Ended) → IsQuiet class sense → MayReturn failures use' class → IsDoing rules held.request use'.fate use'.srb
     → EndsAs held (Packed (with_sense use'.srb sense)) (Returned class) ended → HasOutcome rules removing ended ended.outcome
 outcome_is rules removing failures held use' sense class ended quiet may doing h =
     subst (HasOutcome rules removing ended) (sym h.ends) (by_class class quiet may)
   where
     request_is : ended.request ≡ held.request
-    request_is = ap (λ (e : Entry). e.request) h.same_entry
+    request_is = ap (λ (e : PacketEntry). e.request) h.same_entry
 
     by_class : (class : Class) → IsQuiet class sense → MayReturn failures use' class → HasOutcome rules removing ended (Returned class)
     by_class Good quiet may =
@@ -152,7 +152,7 @@ outcome_is rules removing failures held use' sense class ended quiet may doing h
         (record { function = d.function; flags = d.flags; asks = d.asks; plain = d.plain; data_length = d.data_length; label_length = d.label_length; sense = quiet }))
     by_class (Bad completion) quiet may = may.1
 
-pub record Back (b : Books) (v : AdapterView) (tag : ℕ) (use' : TagInUse) (others tags' : List TagInUse) (failures : ℕ) (class : Class) (sense : Option Sense) (held : Held) (ended : Ended) : Type 0 where
+pub record Back (b : TableView) (v : AdapterView) (tag : ℕ) (use' : TagInUse) (others tags' : List TagInUse) (failures : ℕ) (class : Class) (sense : Option Sense) (held : PortPacket) (ended : Ended) : Type 0 where
   pub on : IsOn v tag use' others
   pub counted : v.failures ≤ failures
   pub may : MayReturn failures use' class
@@ -161,12 +161,12 @@ pub record Back (b : Books) (v : AdapterView) (tag : ℕ) (use' : TagInUse) (oth
   pub ends_as : EndsAs held (Packed (with_sense use'.srb sense)) (Returned class) ended
   pub quiet : IsQuiet class sense
 
-module _ (b : Books) (v : AdapterView) (tag : ℕ) (use' : TagInUse) (others tags' : List TagInUse) (failures : ℕ) (class : Class) (sense : Option Sense) (held : Held) (ended : Ended) where
+module _ (b : TableView) (v : AdapterView) (tag : ℕ) (use' : TagInUse) (others tags' : List TagInUse) (failures : ℕ) (class : Class) (sense : Option Sense) (held : PortPacket) (ended : Ended) where
   machine_returns : (rooms : List Request) → PortKept b v rooms → Back b v tag use' others tags' failures class sense held ended
       → Returns (state_of b v) use'.piece class (state_of (books_returned b tag ended) (view_returned v tags' failures use'.piece class))
   machine_returns rooms k h =
       let rules : Rules = rules_of b.sizes in
-      let e : Entry = entry_of held in
+      let e : PacketEntry = entry_of held in
       let on : held_on b.started use'.tag ≡ Some held = subst (λ t. held_on b.started t ≡ Some held) (sym h.on.has_tag) h.held_is in
       let apart : All (HasNotTag tag) others = others_apart v tag use' others k.adapter h.on in
       let work = on_tag_work rules b.started v.tags use' others tag held k.at_work h.on.in_use h.on.has_tag h.held_is in
@@ -212,7 +212,7 @@ module _ (b : Books) (v : AdapterView) (tag : ℕ) (use' : TagInUse) (others tag
           rw more (IsPermutation-trans _ _ _ (IsPermutation-append_right (map (waiting_open rules) b.waiting) _ _ (IsPermutation-append_left (map (done_open rules) b.done ++ done_open rules ended ∷ []) _ _ (tags_left (out_open rules) b.started tag None tags' others apart h.left)))
           (last_front (map (waiting_open rules) b.waiting) (map (open_on rules b.started) others) (map (done_open rules) b.done) (done_open rules ended)))
 
-  packets_returned : {Y : Type 0} (f : Entry → Y) (rooms : List Request) → PortKept b v rooms → Back b v tag use' others tags' failures class sense held ended
+  packets_returned : {Y : Type 0} (f : PacketEntry → Y) (rooms : List Request) → PortKept b v rooms → Back b v tag use' others tags' failures class sense held ended
       → IsPermutation (of_packets f (books_returned b tag ended) (view_returned v tags' failures use'.piece class)) (of_packets f b v)
   packets_returned {Y} f rooms k h =
       let on : held_on b.started use'.tag ≡ Some held = subst (λ t. held_on b.started t ≡ Some held) (sym h.on.has_tag) h.held_is in
@@ -224,7 +224,7 @@ module _ (b : Books) (v : AdapterView) (tag : ℕ) (use' : TagInUse) (others tag
       (last_front (map (of_waiting f) b.waiting) (map (of_tag f b.started) others) (map (of_done f) b.done) (of_done f ended)) in
       let second : IsPermutation (of_packets f b v) (f (entry_of held) ∷ (map (of_waiting f) b.waiting ++ (map (of_tag f b.started) others ++ map (of_done f) b.done))) =
       second_front (map (of_waiting f) b.waiting) (map (of_tag f b.started) v.tags) (map (of_tag f b.started) others) (map (of_done f) b.done) (f (entry_of held)) (tags_on (λ e u. f e) b.started v.tags use' others held h.on.in_use on) in
-      rw more (IsPermutation-trans _ _ _ (subst (λ (e : Entry). IsPermutation shown (f e ∷ (map (of_waiting f) b.waiting ++ (map (of_tag f b.started) others ++ map (of_done f) b.done)))) h.ends_as.same_entry first) (IsPermutation-sym _ _ second))
+      rw more (IsPermutation-trans _ _ _ (subst (λ (e : PacketEntry). IsPermutation shown (f e ∷ (map (of_waiting f) b.waiting ++ (map (of_tag f b.started) others ++ map (of_done f) b.done)))) h.ends_as.same_entry first) (IsPermutation-sym _ _ second))
 
   kept_returned : (rooms : List Request) → PortKept b v rooms → Back b v tag use' others tags' failures class sense held ended → length v.labels + (v.depth - length v.tags) + 2 ≤ 64 → IsInOrder (view_returned v tags' failures use'.piece class)
       → PortKept (books_returned b tag ended) (view_returned v tags' failures use'.piece class) rooms
@@ -245,10 +245,10 @@ module _ (b : Books) (v : AdapterView) (tag : ℕ) (use' : TagInUse) (others tag
         in_turn = k.in_turn;
         at_work = All-permutation (IsAtWork rules (slice_set b.started tag None)) _ _ (IsPermutation-sym _ _ h.left) (λ i d below. work_beside rules b.started tag None _ (apart i d below) (rest i d below));
         ended = All-push (HasEnded rules b.removing) b.done ended k.ended (record {
-          bounded = subst (λ (e : Entry). IsBounded rules e.request) (sym h.ends_as.same_entry) work.0;
+          bounded = subst (λ (e : PacketEntry). IsBounded rules e.request) (sym h.ends_as.same_entry) work.0;
           why = outcome_is rules b.removing failures held use' sense class ended h.quiet h.may work.1 h.ends_as;
           empty = subst (λ (p : Payload). IsEmptyIfFlush ended.request (payload_bytes p)) (sym h.ends_as.carries)
-              (subst (λ (e : Entry). IsEmptyIfFlush e.request use'.srb.data) (sym h.ends_as.same_entry) work.2);
+              (subst (λ (e : PacketEntry). IsEmptyIfFlush e.request use'.srb.data) (sym h.ends_as.same_entry) work.2);
         });
         reserved = All-permutation (IsRoom rules v') _ _ (IsPermutation-sym _ _ (packets_returned asked rooms k h))
             (All-weaker (IsRoom rules v) (IsRoom rules v') (room_moves rules v v' (λ extent r. r)) (of_packets asked b v) k.reserved);
@@ -277,7 +277,7 @@ module _ (b : Books) (v : AdapterView) (tag : ℕ) (use' : TagInUse) (others tag
         (record { use' = use'; others = others; tags = tags'; failures = failures; is_on = h.on; is_piece = refl; counted = h.counted; may = h.may; in_use = h.left; after = refl });
   }
 
-  finishes_returned : (rooms : List Request) (c : Books) (w : AdapterView) → PortKept b v rooms → Back b v tag use' others tags' failures class sense held ended
+  finishes_returned : (rooms : List Request) (c : TableView) (w : AdapterView) → PortKept b v rooms → Back b v tag use' others tags' failures class sense held ended
       → Releases (books_returned b tag ended) (view_returned v tags' failures use'.piece class) c w → Finishes (view_of b v) tag (view_of c w)
   finishes_returned rooms c w k h r =
       let rules : Rules = rules_of b.sizes in
@@ -295,11 +295,11 @@ module _ (b : Books) (v : AdapterView) (tag : ℕ) (use' : TagInUse) (others tag
 
 -- ALL OF IT
 
-pub record Finished (b : Books) (v : AdapterView) (tag : ℕ) (b' : Books) (v' : AdapterView) : Type 0 where
+pub record Finished (b : TableView) (v : AdapterView) (tag : ℕ) (b' : TableView) (v' : AdapterView) : Type 0 where
   pub kept : (rooms : List Request) → PortKept b v rooms → PortKept b' v' rooms
-  pub finishes : (c : Books) (w : AdapterView) → Releases b' v' c w → Finishes (view_of b v) tag (view_of c w)
+  pub finishes : (c : TableView) (w : AdapterView) → Releases b' v' c w → Finishes (view_of b v) tag (view_of c w)
 
-pub finished : (b b' : Books) (v v' : AdapterView) (rooms : List Request) (tag : ℕ) (srb : Srb) (completion : Completion) (class : Class)
+pub finished : (b b' : TableView) (v v' : AdapterView) (rooms : List Request) (tag : ℕ) (srb : Srb) (completion : Completion) (class : Class)
     → PortKept b v rooms → label_places (view_of b v) + 2 ≤ 64 → class ≡ class_of completion → AdapterFinishes v tag srb completion v' → Ends b tag srb class b' → IsInOrder v' → Finished b v tag b' v'
 finished b b' v v' rooms tag srb completion class k space class_is f e order =
     let r = f.returns in
@@ -318,18 +318,18 @@ finished b b' v v' rooms tag srb completion class k space class_is f e order =
     let l = length-map v.tags (piece_on (rules_of b.sizes) b.started) in
     let d = k.sizes.depth in
     let room : length v.labels + (v.depth - length v.tags) + 2 ≤ 64 = omega arith in
-    subst (λ (x : Books). Finished b v tag x v') (sym e.after) (subst (λ (x : AdapterView). Finished b v tag (books_returned b tag e.ended) x) (sym v_is) (record {
+    subst (λ (x : TableView). Finished b v tag x v') (sym e.after) (subst (λ (x : AdapterView). Finished b v tag (books_returned b tag e.ended) x) (sym v_is) (record {
       kept = λ rs h. kept_returned b v tag u r.others r.tags r.failures class (sense_left class completion.sense) e.held e.ended rs h back room (subst IsInOrder v_is order);
       finishes = λ c w releases. finishes_returned b v tag u r.others r.tags r.failures class (sense_left class completion.sense) e.held e.ended rooms c w k back releases;
     }))
 
-pub finishes_not : (b : Books) (v v' : AdapterView) (tag : ℕ) → AdapterFinishesNot v tag v' → FinishesNot (view_of b v) tag (view_of b v')
+pub finishes_not : (b : TableView) (v v' : AdapterView) (tag : ℕ) → AdapterFinishesNot v tag v' → FinishesNot (view_of b v) tag (view_of b v')
 finishes_not b v v' tag h = record {
   free = All-map (HasOtherTag tag) (piece_on (rules_of b.sizes) b.started) v.tags h.is_free;
   same = ap (λ (x : AdapterView). view_of b x) h.same;
 }
 
-pub can_end : (b : Books) (v v' : AdapterView) (rooms : List Request) (tag : ℕ) (srb : Srb) (completion : Completion) → PortKept b v rooms → AdapterFinishes v tag srb completion v'
+pub can_end : (b : TableView) (v v' : AdapterView) (rooms : List Request) (tag : ℕ) (srb : Srb) (completion : Completion) → PortKept b v rooms → AdapterFinishes v tag srb completion v'
     → IsSome (held_on b.started tag) × (length b.done < b.places)
 can_end b v v' rooms tag srb completion k f =
     let on = f.returns.is_on in

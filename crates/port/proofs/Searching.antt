@@ -6,21 +6,21 @@ use Rattle.std.proofs.lemmas.List.{append-nil, nil_from_length, take-append-drop
 use Rattle.std.proofs.lemmas.List.Elements.{All-nil, All-cons}
 use Rattle.std.proofs.lemmas.List.Quantifiers.{position-Some}
 use Rattle.std.proofs.lemmas.Iterator.Adapters.{position_from-zero}
-use Rattle.port.specs.declared.queues.Held.{Held}
+use Rattle.port.specs.declared.queues.PortPacket.{PortPacket}
 use Rattle.port.specs.declared.queues.Ended.{Ended}
 use Rattle.port.specs.declared.queues.Outcome.TheVariants.{Withdrawn}
-use Rattle.port.specs.inside.Books.{Books, entry_of, ended_entry}
-use Rattle.port.specs.inside.Turns.{gone, drained, cancelled, can_cancel_held, can_cancel_ended, Withdraws, CancelsEnded, CancelsNoEnded}
+use Rattle.port.specs.inside.TableView.{TableView, entry_of, ended_entry}
+use Rattle.port.specs.inside.TableCalls.{gone, drained, cancelled, can_cancel_held, can_cancel_ended, Withdraws, CancelsEnded, CancelsNoEnded}
 
-pub drained_by : (b x : Books) (before after : List Held) → b.waiting ≡ before ++ x.waiting → x.done ≡ b.done ++ map gone before → x ≡ record b { waiting = x.waiting; done = x.done }
+pub drained_by : (b x : TableView) (before after : List PortPacket) → b.waiting ≡ before ++ x.waiting → x.done ≡ b.done ++ map gone before → x ≡ record b { waiting = x.waiting; done = x.done }
     → length x.waiting ≡ 0 → length after ≡ 0 → record x { waiting = after; removing = true } ≡ drained b
 drained_by b x before after waited went others none none' =
     let w : x.waiting ≡ [] = nil_from_length x.waiting none in
     let w' : after ≡ [] = nil_from_length after none' in
-    let all : before ≡ b.waiting = sym (waited ∙ ap (λ (hs : List Held). before ++ hs) w ∙ append-nil before) in
-    ap (λ (hs : List Held). record x { waiting = hs; removing = true }) w'
-    ∙ ap (λ (y : Books). record y { waiting = []; removing = true }) others
-    ∙ ap (λ (ds : List Ended). record b { waiting = []; done = ds; removing = true }) (went ∙ ap (λ (hs : List Held). b.done ++ map gone hs) all)
+    let all : before ≡ b.waiting = sym (waited ∙ ap (λ (hs : List PortPacket). before ++ hs) w ∙ append-nil before) in
+    ap (λ (hs : List PortPacket). record x { waiting = hs; removing = true }) w'
+    ∙ ap (λ (y : TableView). record y { waiting = []; removing = true }) others
+    ∙ ap (λ (ds : List Ended). record b { waiting = []; done = ds; removing = true }) (went ∙ ap (λ (hs : List PortPacket). b.done ++ map gone hs) all)
 
 -- SEARCHES
 
@@ -42,7 +42,7 @@ split_at {X} xs i x low is =
     let n : i + 1 ≡ suc i = omega arith in
     sym (take-append-drop i xs) ∙ ap (λ (ys : List X). take i xs ++ ys) (e ∙ ap (λ (y : X). y ∷ drop (i + 1) xs) (sym is) ∙ ap (λ (k : ℕ). x ∷ drop k xs) n)
 
-pub withdraws : (b b' : Books) (number index : ℕ) (held : Held) (withdrawn : Ended) (waiting' : List Held) (done' : List Ended) → Some index ≡ position (can_cancel_held number) b.waiting → held ≡ get_or b.waiting index held
+pub withdraws : (b b' : TableView) (number index : ℕ) (held : PortPacket) (withdrawn : Ended) (waiting' : List PortPacket) (done' : List Ended) → Some index ≡ position (can_cancel_held number) b.waiting → held ≡ get_or b.waiting index held
     → waiting' ≡ remove b.waiting index → ended_entry withdrawn ≡ cancelled (entry_of held) → withdrawn.irp.value.payload ≡ held.irp.value.payload → withdrawn.outcome ≡ Withdrawn → done' ≡ b.done ++ withdrawn ∷ []
     → b' ≡ record b { waiting = waiting'; done = done' } → Withdraws b number b'
 withdraws b b' number index held withdrawn waiting' done' found is left entry carries ends more after =
@@ -57,10 +57,10 @@ withdraws b b' number index held withdrawn waiting' done' found is left entry ca
       same_entry = entry;
       carries = carries;
       ends = ends;
-      after = after ∙ ap (λ (hs : List Held). record b { waiting = hs; done = done' }) left ∙ ap (λ (ds : List Ended). record b { waiting = remove b.waiting index; done = ds }) more;
+      after = after ∙ ap (λ (hs : List PortPacket). record b { waiting = hs; done = done' }) left ∙ ap (λ (ds : List Ended). record b { waiting = remove b.waiting index; done = ds }) more;
     }
 
-pub cancels_ended : (b b' : Books) (number index : ℕ) (ended marked : Ended) (done' done'' : List Ended) → Some index ≡ position (can_cancel_ended number) b.done → ended ≡ get_or b.done index ended
+pub cancels_ended : (b b' : TableView) (number index : ℕ) (ended marked : Ended) (done' done'' : List Ended) → Some index ≡ position (can_cancel_ended number) b.done → ended ≡ get_or b.done index ended
     → done' ≡ remove b.done index → ended_entry marked ≡ cancelled (ended_entry ended) → marked.irp.value.payload ≡ ended.irp.value.payload → marked.outcome ≡ ended.outcome → done'' ≡ done' ++ marked ∷ []
     → b' ≡ record b { done = done'' } → CancelsEnded b number b'
 cancels_ended b b' number index ended marked done' done'' found is left entry carries ends more after =
@@ -78,5 +78,5 @@ cancels_ended b b' number index ended marked done' done'' found is left entry ca
       after = after ∙ ap (λ (ds : List Ended). record b { done = ds }) (more ∙ ap (λ (ds : List Ended). ds ++ marked ∷ []) left);
     }
 
-pub cancels_no_ended : (b : Books) (number : ℕ) → None ≡ position (can_cancel_ended number) b.done → CancelsNoEnded b number b
+pub cancels_no_ended : (b : TableView) (number : ℕ) → None ≡ position (can_cancel_ended number) b.done → CancelsNoEnded b number b
 cancels_no_ended b number h = record { none = none_found (can_cancel_ended number) b.done (sym h); same = refl }

@@ -16,7 +16,7 @@ use Rattle.irp.specs.declared.Payload.{Payload}
 use Rattle.irp.specs.declared.Payload.TheVariants.{Srb as Packed, Buffer, Sent as AtAdapter}
 use Rattle.port.specs.declared.queues.Sizes.{Sizes}
 use Rattle.port.specs.Shown.{rules_of, places_of}
-use Rattle.port.specs.inside.Kept.{IsEmptyIfFlush}
+use Rattle.port.specs.inside.Invariant.{IsEmptyIfFlush}
 
 -- whole sectors are as many as they were
 pub sectors_are : (count size : ℕ) → 0 < size → (count * size) / size ≡ count

@@ -17,10 +17,10 @@ use Rattle.device.specs.Served.{SameRooms, ReservesSpot, ReservesNone, ReservesN
 use Rattle.device.proofs.Reserving.{home_of_whole}
 use Rattle.port.specs.declared.queues.Waiting.{Waiting}
 use Rattle.port.specs.declared.queues.Ended.{Ended}
-use Rattle.port.specs.inside.Books.{Books, held_at, spot_in}
-use Rattle.port.specs.inside.Turns.{HasOtherSpot, IsEndedTaken, AddsPlace, RemovesPlace, Queued, TakesDone, IsEmpty}
+use Rattle.port.specs.inside.TableView.{TableView, held_at, spot_in}
+use Rattle.port.specs.inside.TableCalls.{HasOtherSpot, IsEndedTaken, AddsPlace, RemovesPlace, Queued, TakesDone, IsEmpty}
 use Rattle.port.specs.Shown.{rules_of, view_of, reserved_in, reserved_of, of_waiting, of_tag, of_done}
-use Rattle.port.specs.inside.Kept.{PortKept, IsInHand, IsSound, IsTaken}
+use Rattle.port.specs.inside.Invariant.{PortKept, IsInHand, IsSound, IsTaken}
 use Rattle.port.specs.inside.Order.{any_order_lem}
 use Rattle.port.proofs.Places.{Slots, at_slot, sets_room, same_shown, one_more, one_less, all_right, all_left, from_map, away_of}
 use Rattle.port.proofs.Rooms.{hand_made, hand_freed}
@@ -37,11 +37,11 @@ vacant_in spot (e ∷ rest) h = (All-head (HasOtherSpot spot) (held_at e) (map h
 
 -- THE SPOTS
 
-pub ended_taken : (b : Books) (v : AdapterView) (rooms : List Request) → PortKept b v rooms → All (IsEndedTaken b.rooms) b.done
+pub ended_taken : (b : TableView) (v : AdapterView) (rooms : List Request) → PortKept b v rooms → All (IsEndedTaken b.rooms) b.done
 ended_taken b v rooms k =
     from_map (IsTaken b.rooms) (of_done spot_in) b.done (all_right (IsTaken b.rooms) (map (of_tag spot_in b.started) v.tags) _ (all_right (IsTaken b.rooms) (map (of_waiting spot_in) b.waiting) _ k.taken))
 
-pub waiting_away : (b : Books) (v : AdapterView) (rooms : List Request) (spot : ℕ) (r : Request) → slice_index_or b.rooms spot None ≡ Some (Some r) → PortKept b v rooms → All (HasOtherSpot spot) b.waiting
+pub waiting_away : (b : TableView) (v : AdapterView) (rooms : List Request) (spot : ℕ) (r : Request) → slice_index_or b.rooms spot None ≡ Some (Some r) → PortKept b v rooms → All (HasOtherSpot spot) b.waiting
 waiting_away b v rooms spot r at k =
     from_map (λ n. n ≢ spot) (of_waiting spot_in) b.waiting (away_of b.rooms spot r at (map (of_waiting spot_in) b.waiting) (all_left (IsTaken b.rooms) (map (of_waiting spot_in) b.waiting) _ k.taken))
 
@@ -51,26 +51,26 @@ slot_of None res e = absurd (cc (e))
 slot_of (Some None) res e = absurd (cc (e))
 slot_of (Some (Some r)) res e = let same : whole_for r ≡ res = cc (e) in ap (λ (q : Request). Some (Some q)) (ap (λ (y : Reserved). y.request) same)
 
-pub slot_at : (b : Books) (v : AdapterView) (old : DeviceView) (shown : view_of b v ≡ old) (spot : ℕ) (res : Reserved) → room_at old.rooms spot ≡ Some res → slice_index_or b.rooms spot None ≡ Some (Some res.request)
+pub slot_at : (b : TableView) (v : AdapterView) (old : DeviceView) (shown : view_of b v ≡ old) (spot : ℕ) (res : Reserved) → room_at old.rooms spot ≡ Some res → slice_index_or b.rooms spot None ≡ Some (Some res.request)
 slot_at b v old shown spot res is = slot_of (slice_index_or b.rooms spot None) res (sym (at_slot b.rooms spot) ∙ ap (λ (x : DeviceView). room_at x.rooms spot) shown ∙ is)
 
 -- IN ORDER AGAIN
 
-pub sound_on : (b b' : Books) (v v' : AdapterView) → SameRooms (view_of b v).rooms (view_of b' v').rooms → IsInHand b' v' (reserved_of b.rooms) → IsSound b' v'
+pub sound_on : (b b' : TableView) (v v' : AdapterView) → SameRooms (view_of b v).rooms (view_of b' v').rooms → IsInHand b' v' (reserved_of b.rooms) → IsSound b' v'
 sound_on b b' v v' same h =
     subst (IsInHand b' v') (sym (same_shown b.rooms b'.rooms (λ k. sym (at_slot b'.rooms k) ∙ same k ∙ at_slot b.rooms k))) h
 
-same_view : (b b' : Books) (v v' : AdapterView) → view_of b' v' ≡ view_of b v → SameRooms (view_of b v).rooms (view_of b' v').rooms
+same_view : (b b' : TableView) (v v' : AdapterView) → view_of b' v' ≡ view_of b v → SameRooms (view_of b v).rooms (view_of b' v').rooms
 same_view b b' v v' same = λ k. ap (λ (x : DeviceView). room_at x.rooms k) same
 
-pub same_cancelled : (b b' : Books) (v v' : AdapterView) (number : ℕ) → CancelsIfOpen (view_of b v) number (view_of b' v') → SameRooms (view_of b v).rooms (view_of b' v').rooms
+pub same_cancelled : (b b' : TableView) (v v' : AdapterView) (number : ℕ) → CancelsIfOpen (view_of b v) number (view_of b' v') → SameRooms (view_of b v).rooms (view_of b' v').rooms
 same_cancelled b b' v v' number h = by h.one_of
   where
     by : (Cancels (view_of b v).state number (view_of b' v').state × IsBeside (view_of b v) (view_of b' v')) ⊎ (NoneToCancel (view_of b v).state number × (view_of b' v' ≡ view_of b v)) → SameRooms (view_of b v).rooms (view_of b' v').rooms
     by (inl (c, beside)) = beside.same_rooms
     by (inr (none, same)) = same_view b b' v v' same
 
-pub same_cancelled_at : (b b' : Books) (v v' : AdapterView) (spot number : ℕ) → CancelsAt (view_of b v) spot number (view_of b' v') → SameRooms (view_of b v).rooms (view_of b' v').rooms
+pub same_cancelled_at : (b b' : TableView) (v v' : AdapterView) (spot number : ℕ) → CancelsAt (view_of b v) spot number (view_of b' v') → SameRooms (view_of b v).rooms (view_of b' v').rooms
 same_cancelled_at b b' v v' spot number h = by h.either
   where
     by : (Cancels (view_of b v).state number (view_of b' v').state × IsBeside (view_of b v) (view_of b' v')) ⊎ (view_of b' v' ≡ view_of b v) → SameRooms (view_of b v).rooms (view_of b' v').rooms
@@ -79,67 +79,67 @@ same_cancelled_at b b' v v' spot number h = by h.either
 
 -- A SPOT CHANGES
 
-pub sound_made : (b c d : Books) (v v' : AdapterView) (r : Request) (spot : ℕ) → c ≡ b → AddsPlace c spot r d → ReservesMore v v' → IsInOrder v'
+pub sound_made : (b c d : TableView) (v v' : AdapterView) (r : Request) (spot : ℕ) → c ≡ b → AddsPlace c spot r d → ReservesMore v v' → IsInOrder v'
     → IsBounded (view_of b v).rules r → (r.kind ≡ Write → IsReserved v' r.extent) → IsSound b v → IsSound d v'
 sound_made b c d v v' r spot e f h order bounded reserved k =
     let R : List Request = reserved_of b.rooms in
-    let more : IsPermutation (reserved_of d.rooms) (r ∷ R) = subst (λ (x : Books). IsPermutation (reserved_of d.rooms) (r ∷ reserved_of x.rooms)) e (one_more spot c.rooms d.rooms None r tt f.slot) in
+    let more : IsPermutation (reserved_of d.rooms) (r ∷ R) = subst (λ (x : TableView). IsPermutation (reserved_of d.rooms) (r ∷ reserved_of x.rooms)) e (one_more spot c.rooms d.rooms None r tt f.slot) in
     any_order_lem d v' (r ∷ R) (reserved_of d.rooms) (IsPermutation-sym _ _ more) (hand_made b c d v v' r spot R e f h order bounded reserved k)
 
 -- the sectors and the tags are as they were
-pub reserves_none_shown : (b c : Books) (v v' : AdapterView) → c ≡ b → ReservesMore v v' → ReservesNone (view_of b v) (view_of c v')
+pub reserves_none_shown : (b c : TableView) (v v' : AdapterView) → c ≡ b → ReservesMore v v' → ReservesNone (view_of b v) (view_of c v')
 reserves_none_shown b c v v' e h =
-    subst (λ (x : Books). ReservesNone (view_of b v) (view_of x v')) (sym e)
+    subst (λ (x : TableView). ReservesNone (view_of b v) (view_of x v')) (sym e)
     (subst (λ (x : AdapterView). ReservesNone (view_of b v) (view_of b x)) (sym h.after) (record {
       reserves = record { same = refl; adapter = subst (ReservesMore v) h.after h };
       room = λ k. refl;
     }))
 
-pub reserves_spot_shown : (b c d : Books) (v v' : AdapterView) (r : Request) (spot : ℕ) → c ≡ b → AddsPlace c spot r d → ReservesMore v v' → ReservesSpot (view_of b v) spot r (view_of d v')
+pub reserves_spot_shown : (b c d : TableView) (v v' : AdapterView) (r : Request) (spot : ℕ) → c ≡ b → AddsPlace c spot r d → ReservesMore v v' → ReservesSpot (view_of b v) spot r (view_of d v')
 reserves_spot_shown b c d v v' r spot e f h =
-    subst (λ (y : Books). ReservesSpot (view_of y v) spot r (view_of d v')) e
+    subst (λ (y : TableView). ReservesSpot (view_of y v) spot r (view_of d v')) e
     (subst (λ (x : AdapterView). ReservesSpot (view_of c v) spot r (view_of d x)) (sym h.after) (record {
       reserves = record {
-        same = ap (λ (x : Books). record (view_of x (record v { reserved = h.reserved })) { rooms = map reserved_in d.rooms }) f.after;
+        same = ap (λ (x : TableView). record (view_of x (record v { reserved = h.reserved })) { rooms = map reserved_in d.rooms }) f.after;
         adapter = subst (ReservesMore v) h.after h;
       };
       room = sets_room c.rooms spot None (Some (Some r)) d.rooms f.slot;
     }))
 
-pub sound_freed : (b b' : Books) (v : AdapterView) (spot : ℕ) → RemovesPlace b spot b' → IsSound b v → IsSound b' v
+pub sound_freed : (b b' : TableView) (v : AdapterView) (spot : ℕ) → RemovesPlace b spot b' → IsSound b v → IsSound b' v
 sound_freed b b' v spot e k =
     hand_freed b b' v spot (reserved_of b'.rooms) e (any_order_lem b v _ _ (one_less spot b.rooms b'.rooms None e.request tt e.slot) k)
 
-pub frees_shown : (b b' : Books) (v : AdapterView) (spot : ℕ) → RemovesPlace b spot b' → Frees (view_of b v) spot (view_of b' v)
+pub frees_shown : (b b' : TableView) (v : AdapterView) (spot : ℕ) → RemovesPlace b spot b' → Frees (view_of b v) spot (view_of b' v)
 frees_shown b b' v spot e = record {
   reserved = whole_for e.request;
   room = sets_room b.rooms spot (Some (Some e.request)) None b'.rooms e.slot;
-  same = ap (λ (x : Books). record (view_of x v) { rooms = map reserved_in b'.rooms }) e.after;
+  same = ap (λ (x : TableView). record (view_of x v) { rooms = map reserved_in b'.rooms }) e.after;
 }
 
 -- the spot of a packet that is taken in is its own
-pub hand_queued : (b b' : Books) (v : AdapterView) (irp : Box Irp) (r : Request) (spot : ℕ) → Queued b irp r spot b' → IsSound b v → IsInHand b v (r ∷ reserved_of b'.rooms)
+pub hand_queued : (b b' : TableView) (v : AdapterView) (irp : Box Irp) (r : Request) (spot : ℕ) → Queued b irp r spot b' → IsSound b v → IsInHand b v (r ∷ reserved_of b'.rooms)
 hand_queued b b' v irp r spot q k = any_order_lem b v _ _ (one_less spot b.rooms b'.rooms (Some None) r tt q.slot) k
 
-pub sound_left : (b b' : Books) (v : AdapterView) (d : Ended) → TakesDone b d b' → IsSound b v → IsSound b' v
+pub sound_left : (b b' : TableView) (v : AdapterView) (d : Ended) → TakesDone b d b' → IsSound b v → IsSound b' v
 sound_left b b' v d h k =
     any_order_lem b' v _ _ (IsPermutation-sym _ _ (one_more d.spot b.rooms b'.rooms (Some None) d.request tt h.slot)) (hand_left b b' v d h (reserved_of b.rooms) k)
 
 -- the request's sectors on the disk are those of its extent
-near_asked : (b b' : Books) (v v' : AdapterView) (r : Request) → IsBounded (rules_of b.sizes) r → AdapterReservesNear v r.extent v' → ReservesNear (view_of b v) r (view_of b' v')
+near_asked : (b b' : TableView) (v v' : AdapterView) (r : Request) → IsBounded (rules_of b.sizes) r → AdapterReservesNear v r.extent v' → ReservesNear (view_of b v) r (view_of b' v')
 near_asked b b' v v' r bounded near =
     let known = bounded.known in
     let first : home (rules_of b.sizes) (Some r.volume) r.extent.first ≡ r.extent.first = home_of_whole (rules_of b.sizes) r.volume r.extent.first b.sizes.sectors refl (omega arith) in
     subst (λ (n : ℕ). CoversMoreNear v.run (record { first = n; count = r.extent.count }) v.reserved v'.reserved) (sym first) near
 
-pub near_shown : (b b' : Books) (v v' : AdapterView) (old : DeviceView) (r : Request) → view_of b v ≡ old → IsBounded old.rules r → AdapterReservesNear v r.extent v'
+pub near_shown : (b b' : TableView) (v v' : AdapterView) (old : DeviceView) (r : Request) → view_of b v ≡ old → IsBounded old.rules r → AdapterReservesNear v r.extent v'
     → ReservesNear old r (view_of b' v')
 near_shown b b' v v' old r shown bounded near =
     subst (λ (x : DeviceView). IsBounded x.rules r → ReservesNear x r (view_of b' v')) shown (λ (h : IsBounded (rules_of b.sizes) r). near_asked b b' v v' r h near) bounded
 
 -- A PACKET IS TAKEN IN
 
-pub may_queue : (b : Books) (v : AdapterView) (old : DeviceView) (shown : view_of b v ≡ old) (irp : Box Irp) (r : Request) → IsFalse old.state.removing → old.state.next_request ≤ irp.value.number
+pub may_queue : (b : TableView) (v : AdapterView) (old : DeviceView) (shown : view_of b v ≡ old) (irp : Box Irp) (r : Request) → IsFalse old.state.removing → old.state.next_request ≤ irp.value.number
     → old.submitted < old.most → IsFalse irp.value.cancelled → Carries true old.rules r irp.value.payload → MayQueue b irp r
 may_queue b v old shown irp r stays number few timely carries = record {
   stays = subst (λ (x : DeviceView). IsFalse x.state.removing) (sym shown) stays;
@@ -149,5 +149,5 @@ may_queue b v old shown irp r stays number few timely carries = record {
   carries = subst (λ (x : DeviceView). Carries true x.rules r irp.value.payload) (sym shown) carries;
 }
 
-pub sound_opens : (b : Books) (v : AdapterView) (sizes : Sizes) → sizes ≡ sizes_of v → IsEmpty sizes b → IsFresh v → IsInOrder v → IsSound b v
+pub sound_opens : (b : TableView) (v : AdapterView) (sizes : Sizes) → sizes ≡ sizes_of v → IsEmpty sizes b → IsFresh v → IsInOrder v → IsSound b v
 sound_opens b v sizes e h f order = subst (λ (slots : Slots). IsInHand b v (reserved_of slots)) (sym h.rooms) (opens_in_hand b v sizes e h f order)

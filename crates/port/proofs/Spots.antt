@@ -12,12 +12,12 @@ use Rattle.device.specs.View.{DeviceView, Packet, packet_number, IsOrderly}
 use Rattle.device.specs.Served.{IsAt, HasOtherNumber, CancelsIfOpen, CancelsAt, IsBeside, NoneToCancel}
 use Rattle.machine.specs.Holding.{Cancels}
 use Rattle.machine.proofs.Permuting.{distinct_first}
-use Rattle.port.specs.declared.queues.Held.{Held}
-use Rattle.port.specs.inside.Books.{Books, entry_of}
-use Rattle.port.specs.inside.Turns.{CannotCancelHeld, CannotCancelOn, WithdrawsAt, WithdrawsNotAt, IsNotAt, is_cancellable, CancelsEnded, CancelsNoEnded}
+use Rattle.port.specs.declared.queues.PortPacket.{PortPacket}
+use Rattle.port.specs.inside.TableView.{TableView, entry_of}
+use Rattle.port.specs.inside.TableCalls.{CannotCancelHeld, CannotCancelOn, WithdrawsAt, WithdrawsNotAt, IsNotAt, is_cancellable, CancelsEnded, CancelsNoEnded}
 use Rattle.port.specs.inside.Cancelling.{IsQueued, CancelsQueued, CancelsAt as CancelsOnTag, CancelsNoStarted}
 use Rattle.port.specs.Shown.{packet as packet_as, packets_of, view_of, of_waiting, of_tag, of_done}
-use Rattle.port.specs.inside.Kept.{IsInHand}
+use Rattle.port.specs.inside.Invariant.{IsInHand}
 use Rattle.port.proofs.Lists.{to_front}
 use Rattle.port.proofs.Searching.{split_at}
 use Rattle.port.proofs.Draining.{IsCancelled, cancelled_waiting, can_facts}
@@ -46,11 +46,11 @@ cancelled_or_same old new number c = elim c.one_of [ inl h ↦ inl h | inr h ↦
 
 -- IN THE QUEUE
 
-pub record Queues (b : Books) (v : AdapterView) (spot number : ℕ) (result : Bool) (b' : Books) : Type 0 where
+pub record Queues (b : TableView) (v : AdapterView) (spot number : ℕ) (result : Bool) (b' : TableView) : Type 0 where
   pub rooms : (rooms : List Request) → IsInHand b v rooms → IsInHand b' v rooms
   pub cancels : MatchBool result (CancelsQueued b v spot number b') (WithdrawsNotAt b spot number b')
 
-pub queued : (b b' : Books) (v : AdapterView) (spot number : ℕ) (result : Bool) → MatchBool result (WithdrawsAt b spot number b') (WithdrawsNotAt b spot number b') → Queues b v spot number result b'
+pub queued : (b b' : TableView) (v : AdapterView) (spot number : ℕ) (result : Bool) → MatchBool result (WithdrawsAt b spot number b') (WithdrawsNotAt b spot number b') → Queues b v spot number result b'
 queued b b' v spot number true h =
     let x = cancelled_waiting b b' v number h.withdraws in
     let f = h.withdraws in
@@ -62,13 +62,13 @@ queued b b' v spot number true h =
       };
     }
   where
-    among : (before : List Held) (held : Held) (behind : List Held) → IsQueued spot number held → Any (IsQueued spot number) (before ++ held ∷ behind)
+    among : (before : List PortPacket) (held : PortPacket) (behind : List PortPacket) → IsQueued spot number held → Any (IsQueued spot number) (before ++ held ∷ behind)
     among [] held behind q = (0, held, omega arith, refl, q)
     among (x ∷ before) held behind q = let a = among before held behind q in (suc a.0, a.1, omega (arith, a.2), a.3, a.4)
 queued b b' v spot number false h = record { rooms = λ rooms k. subst (λ x. IsInHand x v rooms) (sym h.same) k; cancels = h }
 
 -- where a packet has this spot and this number, and none that waits has both, no packet of the number waits
-lacks_at : (b : Books) (v : AdapterView) (rooms : List Request) (spot number : ℕ) → IsInHand b v rooms → Any (IsAt spot number) (packets_of b v) → All (IsNotAt spot number) b.waiting → All (CannotCancelHeld number) b.waiting
+lacks_at : (b : TableView) (v : AdapterView) (rooms : List Request) (spot number : ℕ) → IsInHand b v rooms → Any (IsAt spot number) (packets_of b v) → All (IsNotAt spot number) b.waiting → All (CannotCancelHeld number) b.waiting
 lacks_at b v rooms spot number k there none = λ i d low. by_test i d low (is_cancellable number (entry_of (get_or b.waiting i d))) refl
   where
     IsElsewhere : Packet → Type 0
@@ -80,7 +80,7 @@ lacks_at b v rooms spot number k there none = λ i d low. by_test i d low (is_ca
     distinct : IsDistinct eqb (map packet_number (packets_of b v))
     distinct = subst (λ ns. IsDistinct eqb ns) (sym (numbers_are b v)) k.kept.distinct.requests
 
-    all_elsewhere : (before : List Held) (held : Held) (behind : List Held) → b.waiting ≡ before ++ held ∷ behind → held.irp.value.number ≡ number → IsNotAt spot number held → All IsElsewhere (packets_of b v)
+    all_elsewhere : (before : List PortPacket) (held : PortPacket) (behind : List PortPacket) → b.waiting ≡ before ++ held ∷ behind → held.irp.value.number ≡ number → IsNotAt spot number held → All IsElsewhere (packets_of b v)
     all_elsewhere before held behind waits same not_here =
         let front = packet_as (entry_of held) in
         let others = (map (of_waiting packet_as) before ++ map (of_waiting packet_as) behind) ++ rest in
@@ -90,7 +90,7 @@ lacks_at b v rooms spot number k there none = λ i d low. by_test i d low (is_ca
         All-permutation IsElsewhere _ _ (IsPermutation-sym _ _ perm)
         (All-cons IsElsewhere front others (λ at. not_here at.is_spot at.is_number) (All-weaker (λ p. packet_number p ≢ packet_number front) IsElsewhere (λ p differs at. differs (at.is_number ∙ sym same)) others differ))
 
-    by_test : (i : ℕ) (d : Held) → i < length b.waiting → (can : Bool) → is_cancellable number (entry_of (get_or b.waiting i d)) ≡ can → IsFalse can
+    by_test : (i : ℕ) (d : PortPacket) → i < length b.waiting → (can : Bool) → is_cancellable number (entry_of (get_or b.waiting i d)) ≡ can → IsFalse can
     by_test i d low false is = refl
     by_test i d low true is =
         let held = get_or b.waiting i d in
@@ -99,31 +99,31 @@ lacks_at b v rooms spot number k there none = λ i d low. by_test i d low (is_ca
 
 -- THE THREE IN TURN
 
-at_number : (b b' : Books) (v v' : AdapterView) (rooms : List Request) (spot number : ℕ) → IsInHand b v rooms → CancelsIfOpen (view_of b v) number (view_of b' v') → CancelsAt (view_of b v) spot number (view_of b' v')
+at_number : (b b' : TableView) (v v' : AdapterView) (rooms : List Request) (spot number : ℕ) → IsInHand b v rooms → CancelsIfOpen (view_of b v) number (view_of b' v') → CancelsAt (view_of b v) spot number (view_of b' v')
 at_number b b' v v' rooms spot number k h = record {
   there = λ at. h;
   gone = gone_same (view_of b v) (view_of b' v') number k.orderly h;
   either = cancelled_or_same (view_of b v) (view_of b' v') number h;
 }
 
-pub at_queued : (b b' : Books) (v v' : AdapterView) (rooms : List Request) (spot number : ℕ) → IsInHand b v rooms → v' ≡ v → CancelsQueued b v spot number b' → CancelsAt (view_of b v) spot number (view_of b' v')
+pub at_queued : (b b' : TableView) (v v' : AdapterView) (rooms : List Request) (spot number : ℕ) → IsInHand b v rooms → v' ≡ v → CancelsQueued b v spot number b' → CancelsAt (view_of b v) spot number (view_of b' v')
 at_queued b b' v v' rooms spot number k e h = subst (λ y. CancelsAt (view_of b v) spot number (view_of b' y)) (sym e) (at_number b b' v v rooms spot number k h.cancels)
 
 -- the packet is cancelled or gone, and the layer is in order
-pub record Cancelled (b : Books) (v : AdapterView) (spot number : ℕ) (b' : Books) (v' : AdapterView) : Type 0 where
+pub record Cancelled (b : TableView) (v : AdapterView) (spot number : ℕ) (b' : TableView) (v' : AdapterView) : Type 0 where
   pub rooms : (rooms : List Request) → IsInHand b v rooms → IsInHand b' v' rooms
   pub cancels : CancelsAt (view_of b v) spot number (view_of b' v')
 
-as_cancelled : (b b' : Books) (v : AdapterView) (rooms : List Request) (spot number : ℕ) → IsInHand b v rooms → IsCancelled b v number b' → Cancelled b v spot number b' v
+as_cancelled : (b b' : TableView) (v : AdapterView) (rooms : List Request) (spot number : ℕ) → IsInHand b v rooms → IsCancelled b v number b' → Cancelled b v spot number b' v
 as_cancelled b b' v rooms spot number k x = record { rooms = x.rooms; cancels = at_number b b' v v rooms spot number k x.cancels }
 
-pub at_started : (b c b' : Books) (v w v' : AdapterView) (rooms : List Request) (spot number : ℕ) → IsInHand b v rooms → WithdrawsNotAt b spot number c → w ≡ v → v' ≡ w → ((tag : ℕ) × CancelsOnTag c w tag number b')
+pub at_started : (b c b' : TableView) (v w v' : AdapterView) (rooms : List Request) (spot number : ℕ) → IsInHand b v rooms → WithdrawsNotAt b spot number c → w ≡ v → v' ≡ w → ((tag : ℕ) × CancelsOnTag c w tag number b')
     → Cancelled b v spot number b' v'
 at_started b c b' v w v' rooms spot number k f e e' h =
     let h' : CancelsOnTag b v h.0 number b' = cancels_first b c b' v w number h.0 f.same e h.1 in
     subst (λ y. Cancelled b v spot number b' y) (sym (e' ∙ e)) (as_cancelled b b' v rooms spot number k (cancelled_out b b' v rooms number h.0 k h'.in_use h'.cancels))
 
-pub at_last : (b c d b' : Books) (v w v' : AdapterView) (rooms : List Request) (spot number : ℕ) (result : Bool) → IsInHand b v rooms → WithdrawsNotAt b spot number c → w ≡ v → v' ≡ w → CancelsNoStarted c w number d
+pub at_last : (b c d b' : TableView) (v w v' : AdapterView) (rooms : List Request) (spot number : ℕ) (result : Bool) → IsInHand b v rooms → WithdrawsNotAt b spot number c → w ≡ v → v' ≡ w → CancelsNoStarted c w number d
     → MatchBool result (CancelsEnded d number b') (CancelsNoEnded d number b') → Cancelled b v spot number b' v'
 at_last b c d b' v w v' rooms spot number true k f e e' s h =
     let same : d ≡ b = s.same ∙ f.same in

@@ -1,7 +1,7 @@
 -- The packet that waited longest goes to a free tag.
 use Rattle.std.proofs.Common.{◌≡◌, ◌≢◌, ◌<◌, ◌≤◌, ◌⊎◌, inl, inr, ℕ, ◌+◌, Bool, true, false, List, [], ◌∷◌, ◌++◌, Option, Some, None, refl, sym, subst, ap, ◌∙◌, arith, add-one, map, length, get_or, replicate}
 use Rattle.std.proofs.lemmas.Bool.{cases_lt}
-use Rattle.port.specs.inside.Turns as Turn
+use Rattle.port.specs.inside.TableCalls as Calls
 use Rattle.std.specs.Prelude.{All, Any, IsTrue, IsPermutation, slice_set, slice_index}
 use Rattle.std.proofs.lemmas.List.{length-replicate, get_or-replicate, length-set, get_or-set_same, get_or-set_other, length-append, map-append}
 use Rattle.std.proofs.lemmas.List.Elements.{All-nil, All-cons, All-append, All-map, All-weaker, All-head, All-tail, All-contains_itself}
@@ -31,14 +31,14 @@ use Rattle.machine.specs.Solo.{all_places as all_places_of}
 use Rattle.machine.proofs.Same.{IsSame-refl, Run-append, Any-permutation}
 use Rattle.machine.proofs.Forms.{read_forms, write_forms, flush_forms, one_write}
 use Rattle.machine.proofs.Numbers.{AreDistinct-DeviceStep}
-use Rattle.port.specs.declared.queues.Held.{Held}
+use Rattle.port.specs.declared.queues.PortPacket.{PortPacket}
 use Rattle.port.specs.declared.queues.Ended.{Ended}
 use Rattle.port.specs.declared.queues.Outcome.TheVariants.{Withdrawn, Gone}
-use Rattle.port.specs.inside.Books.{Entry, Books, entry_of, spot_in}
-use Rattle.port.specs.inside.Turns.{held_on, IsPacked}
+use Rattle.port.specs.inside.TableView.{PacketEntry, TableView, entry_of, spot_in}
+use Rattle.port.specs.inside.TableCalls.{held_on, IsPacked}
 use Rattle.port.specs.declared.queues.Sizes.{Sizes}
 use Rattle.port.specs.Shown.{rules_of, places_of, open_as, waiting_open, done_open, out_open, out_piece, open_on, piece_on, entry_on, state_of, requests_of, of_packets, of_waiting, of_tag, of_done, packet as packet_as}
-use Rattle.port.specs.inside.Kept.{asked, PortKept, IsRoom, IsWaiting, IsEmptyIfFlush, HasEnded, HasOutcome, IsAtWork, IsBefore, AreInTurn, IsTaken}
+use Rattle.port.specs.inside.Invariant.{asked, PortKept, IsRoom, IsWaiting, IsEmptyIfFlush, HasEnded, HasOutcome, IsAtWork, IsBefore, AreInTurn, IsTaken}
 use Rattle.port.proofs.Places.{distinct_same}
 use Rattle.port.specs.inside.Releases.{begun_of, Releases, AreLowerInUse}
 use Rattle.port.proofs.Lists.{splice_whole, second_front, contains_behind, contains_through}
@@ -49,14 +49,14 @@ use Rattle.port.proofs.Codes.{write_code, clash}
 use Rattle.port.proofs.Opening.{Any-map, untouched_all, all_unsent, started_by, ended_started, true_false}
 
 -- the queues and the view after the start
-abbrev pub books_started : Books → List Held → ℕ → Held → Books
+abbrev pub books_started : TableView → List PortPacket → ℕ → PortPacket → TableView
 books_started b rest tag packet = record b { waiting = rest; started = slice_set b.started tag (Some packet); next_piece = b.next_piece + 1 }
 
 abbrev pub view_started : AdapterView → List TagInUse → ℕ → ℕ → Srb → AdapterView
 view_started v tags tag piece srb = record v { tags = tags; accepted = v.accepted + 1; labels = v.labels ++ Start piece tag srb.block ∷ [] }
 
 -- what is shown of the tags: the new one's, and the others'
-pub tags_started : {Y : Type 0} (F : Entry → TagInUse → Y) (started : List (Option Held)) (tag : ℕ) (packet : Held) (use' : TagInUse) (tags tags' : List TagInUse)
+pub tags_started : {Y : Type 0} (F : PacketEntry → TagInUse → Y) (started : List (Option PortPacket)) (tag : ℕ) (packet : PortPacket) (use' : TagInUse) (tags tags' : List TagInUse)
     → tag < length started → use'.tag ≡ tag → All (HasNotTag tag) tags → IsPermutation tags' (use' ∷ tags)
     → IsPermutation (map (λ u. F (entry_on (slice_set started tag (Some packet)) u.tag) u) tags') (F (entry_of packet) use' ∷ map (λ u. F (entry_on started u.tag) u) tags)
 tags_started F started tag packet use' tags tags' low is free p =
@@ -65,7 +65,7 @@ tags_started F started tag packet use' tags tags' low is free p =
     rw (first, others_same F started tag (Some packet) tags free) at more
 
 -- nothing may start before the front packet
-front_in_turn : (b : Books) (v : AdapterView) (rooms : List Request) (front : Held) (rest : List Held) → PortKept b v rooms → b.waiting ≡ front ∷ rest → b.removing ≡ false → 0 < b.sizes.sector_size
+front_in_turn : (b : TableView) (v : AdapterView) (rooms : List Request) (front : PortPacket) (rest : List PortPacket) → PortKept b v rooms → b.waiting ≡ front ∷ rest → b.removing ≡ false → 0 < b.sizes.sector_size
     → All (IsInTurn (waiting_open (rules_of b.sizes) front)) (requests_of b v)
 front_in_turn b v rooms front rest k is stays some =
     let owner : OpenRequest = waiting_open (rules_of b.sizes) front in
@@ -89,25 +89,25 @@ front_in_turn b v rooms front rest k is stays some =
         gone : (d : Ended) → d.outcome ≡ Gone → HasOutcome (rules_of b.sizes) b.removing d d.outcome → IsTrue b.removing
         gone d o h = subst (HasOutcome (rules_of b.sizes) b.removing d) o h
 
-not_removing : (removing : Bool) (waiting : List Held) (front : Held) (rest : List Held) → (IsTrue removing → waiting ≡ []) → waiting ≡ front ∷ rest → removing ≡ false
+not_removing : (removing : Bool) (waiting : List PortPacket) (front : PortPacket) (rest : List PortPacket) → (IsTrue removing → waiting ≡ []) → waiting ≡ front ∷ rest → removing ≡ false
 not_removing true waiting front rest h is = let e : [] ≡ front ∷ rest = sym (h refl) ∙ is in absurd (cc (e))
 not_removing false waiting front rest h is = refl
 
 pub sector_some : (v : AdapterView) → IsInOrder v → 0 < v.sector_size
 sector_some v h = elim h.sector_size [ inl e ↦ omega arith | inr e ↦ omega arith ]
 
-pub kept_sector_some : (b : Books) (v : AdapterView) (rooms : List Request) → PortKept b v rooms → 0 < b.sizes.sector_size
+pub kept_sector_some : (b : TableView) (v : AdapterView) (rooms : List Request) → PortKept b v rooms → 0 < b.sizes.sector_size
 kept_sector_some b v rooms k = let a = sector_some v k.adapter in let e = k.sizes.sector_size in omega arith
 
 -- what the adapter asks for before it takes a piece
-pub front_waits : (b : Books) (v : AdapterView) (rooms : List Request) (front : Held) (rest : List Held) (srb : Srb) → PortKept b v rooms → b.waiting ≡ front ∷ rest → front.irp.value.payload ≡ Packed srb
+pub front_waits : (b : TableView) (v : AdapterView) (rooms : List Request) (front : PortPacket) (rest : List PortPacket) (srb : Srb) → PortKept b v rooms → b.waiting ≡ front ∷ rest → front.irp.value.payload ≡ Packed srb
     → IsRoom (rules_of b.sizes) v front.request × AsksFor (rules_of b.sizes) front.request srb
 front_waits b v rooms front rest srb k is packs =
     let rules : Rules = rules_of b.sizes in
     let w : IsWaiting rules v front = All-head (IsWaiting rules v) front rest (subst (All (IsWaiting rules v)) is k.waiting) in
     (w.room, subst (Carries true rules front.request) packs w.carries)
 
-pub packed : (b : Books) (v : AdapterView) (rooms : List Request) → PortKept b v rooms → All IsPacked b.waiting
+pub packed : (b : TableView) (v : AdapterView) (rooms : List Request) → PortKept b v rooms → All IsPacked b.waiting
 packed b v rooms k = All-weaker (IsWaiting (rules_of b.sizes) v) IsPacked (λ h w. has_srb h.irp.value.payload (rules_of b.sizes) h.request w.carries) b.waiting k.waiting
   where
     has_srb : (payload : Payload) (rules : Rules) (r : Request) → Carries true rules r payload → (srb : Srb) × (payload ≡ Packed srb)
@@ -140,7 +140,7 @@ is_writable sizes v r srb some room asks lba count fua w inside =
     subst (λ (c : ℕ). IsReserved v (record { first = lba; count = c })) one.1 (subst (λ (f : ℕ). IsReserved v (record { first = f; count = r.extent.count })) one.0 (room.reserved is))
 
 -- the machine's start
-pub machine_starts : (b : Books) (v : AdapterView) (rooms : List Request) (front : Held) (rest : List Held) (tag : ℕ) (srb : Srb) (packet : Held) (tags' : List TagInUse)
+pub machine_starts : (b : TableView) (v : AdapterView) (rooms : List Request) (front : PortPacket) (rest : List PortPacket) (tag : ℕ) (srb : Srb) (packet : PortPacket) (tags' : List TagInUse)
     → PortKept b v rooms → b.waiting ≡ front ∷ rest → front.irp.value.payload ≡ Packed srb → entry_of packet ≡ entry_of front
     → tag < v.depth → IsFree v tag → ((lower : ℕ) → lower < tag → Any (UseHasTag lower) v.tags) → IsPermutation tags' (in_use_from v tag b.next_piece srb ∷ v.tags)
     → Starts (rules_of b.sizes) (state_of b v) b.next_piece tag srb.block (state_of (books_started b rest tag packet) (view_started v tags' tag b.next_piece srb))
@@ -206,7 +206,7 @@ machine_starts b v rooms front rest tag srb packet tags' k is packs same low fre
         let x : OpenRequest = out_open rules (entry_of packet) (in_use_from v tag b.next_piece srb) in
         let marks : splice (replicate n Untouched) 0 (replicate n Out) ≡ replicate n Out = splice_whole _ _ (let a = length-replicate n Untouched in let c = length-replicate n Out in omega arith) in
         let e : x ≡ sent (record { first = 0; count = n }) (waiting_open rules front) =
-        ap (λ (e : Entry). out_open rules e (in_use_from v tag b.next_piece srb)) same
+        ap (λ (e : PacketEntry). out_open rules e (in_use_from v tag b.next_piece srb)) same
         ∙ ap (λ (q : Payload). open_as rules (entry_of front) q 0 (replicate n Out)) (sym packs)
         ∙ ap (λ (ms : List Mark). open_as rules (entry_of front) front.irp.value.payload 0 ms) (sym marks) in
         subst (λ y. IsPermutation (map (waiting_open rules) rest ++ (map (open_on rules (slice_set b.started tag (Some packet))) tags' ++ map (done_open rules) b.done)) (y ∷ (map (waiting_open rules) rest ++ (map (open_on rules b.started) v.tags ++ map (done_open rules) b.done)))) e
@@ -217,11 +217,11 @@ machine_starts b v rooms front rest tag srb packet tags' k is packs same low fre
 pub room_moves : (rules : Rules) (v v' : AdapterView) → ((extent : Extent) → IsReserved v extent → IsReserved v' extent) → (r : Request) → IsRoom rules v r → IsRoom rules v' r
 room_moves rules v v' lasts r h = record { bounded = h.bounded; reserved = λ is. lasts r.extent (h.reserved is) }
 
-pub waiting_moves : (rules : Rules) (v v' : AdapterView) → ((extent : Extent) → IsReserved v extent → IsReserved v' extent) → (held : Held) → IsWaiting rules v held → IsWaiting rules v' held
+pub waiting_moves : (rules : Rules) (v v' : AdapterView) → ((extent : Extent) → IsReserved v extent → IsReserved v' extent) → (held : PortPacket) → IsWaiting rules v held → IsWaiting rules v' held
 waiting_moves rules v v' lasts held h = record { room = room_moves rules v v' lasts held.request h.room; carries = h.carries; not_cancelled = h.not_cancelled }
 
 -- a tag's packet is as it was where another tag's changed
-pub work_beside : (rules : Rules) (started : List (Option Held)) (tag : ℕ) (x : Option Held) (u : TagInUse) → u.tag ≢ tag → IsAtWork rules started u → IsAtWork rules (slice_set started tag x) u
+pub work_beside : (rules : Rules) (started : List (Option PortPacket)) (tag : ℕ) (x : Option PortPacket) (u : TagInUse) → u.tag ≢ tag → IsAtWork rules started u → IsAtWork rules (slice_set started tag x) u
 work_beside rules started tag x u differs h = record {
   held = h.held;
   on_tag = get_or-set_other started tag u.tag x None differs ∙ h.on_tag;
@@ -230,16 +230,16 @@ work_beside rules started tag x u differs h = record {
   empty = h.empty;
 }
 
-packets_started : {Y : Type 0} (f : Entry → Y) (b : Books) (v : AdapterView) (front : Held) (rest : List Held) (tag : ℕ) (srb : Srb) (packet : Held) (tags' : List TagInUse)
+packets_started : {Y : Type 0} (f : PacketEntry → Y) (b : TableView) (v : AdapterView) (front : PortPacket) (rest : List PortPacket) (tag : ℕ) (srb : Srb) (packet : PortPacket) (tags' : List TagInUse)
     → b.waiting ≡ front ∷ rest → entry_of packet ≡ entry_of front → tag < length b.started → IsFree v tag
     → IsPermutation tags' (in_use_from v tag b.next_piece srb ∷ v.tags)
     → IsPermutation (of_packets f (books_started b rest tag packet) (view_started v tags' tag b.next_piece srb)) (of_packets f b v)
 packets_started f b v front rest tag srb packet tags' is same inside free p =
-    subst (λ (hs : List Held). IsPermutation (of_packets f (books_started b rest tag packet) (view_started v tags' tag b.next_piece srb)) (map (of_waiting f) hs ++ (map (of_tag f b.started) v.tags ++ map (of_done f) b.done))) (sym is)
-    (subst (λ (e : Entry). IsPermutation (of_packets f (books_started b rest tag packet) (view_started v tags' tag b.next_piece srb)) (f e ∷ (map (of_waiting f) rest ++ (map (of_tag f b.started) v.tags ++ map (of_done f) b.done)))) same
+    subst (λ (hs : List PortPacket). IsPermutation (of_packets f (books_started b rest tag packet) (view_started v tags' tag b.next_piece srb)) (map (of_waiting f) hs ++ (map (of_tag f b.started) v.tags ++ map (of_done f) b.done))) (sym is)
+    (subst (λ (e : PacketEntry). IsPermutation (of_packets f (books_started b rest tag packet) (view_started v tags' tag b.next_piece srb)) (f e ∷ (map (of_waiting f) rest ++ (map (of_tag f b.started) v.tags ++ map (of_done f) b.done)))) same
     (second_front (map (of_waiting f) rest) (map (of_tag f (slice_set b.started tag (Some packet))) tags') (map (of_tag f b.started) v.tags) (map (of_done f) b.done) (f (entry_of packet)) (tags_started (λ e u. f e) b.started tag packet (in_use_from v tag b.next_piece srb) v.tags tags' inside refl free p)))
 
-pub kept_started : (b : Books) (v : AdapterView) (rooms : List Request) (front : Held) (rest : List Held) (tag : ℕ) (srb : Srb) (packet : Held) (tags' : List TagInUse)
+pub kept_started : (b : TableView) (v : AdapterView) (rooms : List Request) (front : PortPacket) (rest : List PortPacket) (tag : ℕ) (srb : Srb) (packet : PortPacket) (tags' : List TagInUse)
     → PortKept b v rooms → b.waiting ≡ front ∷ rest → front.irp.value.payload ≡ Packed srb → entry_of packet ≡ entry_of front
     → tag < v.depth → IsFree v tag → IsPermutation tags' (in_use_from v tag b.next_piece srb ∷ v.tags)
     → IsInOrder (view_started v tags' tag b.next_piece srb)
@@ -251,7 +251,7 @@ kept_started b v rooms front rest tag srb packet tags' k is packs same low free 
     let waits : All (IsWaiting rules v) (front ∷ rest) = subst (All (IsWaiting rules v)) is k.waiting in
     let w : IsWaiting rules v front = All-head (IsWaiting rules v) front rest waits in
     let asks : AsksFor rules front.request srb = subst (Carries true rules front.request) packs w.carries in
-    let l = ap (λ (hs : List Held). length hs) is in
+    let l = ap (λ (hs : List PortPacket). length hs) is in
     let t = length_permutation _ _ p in
     let depth = k.sizes.depth in
     let long = k.started in
@@ -267,9 +267,9 @@ kept_started b v rooms front rest tag srb packet tags' k is packs same low free 
           (record {
             held = packet;
             on_tag = get_or-set_same b.started tag (Some packet) None inside;
-            bounded = subst (λ (e : Entry). IsBounded rules e.request) (sym same) w.room.bounded;
-            doing = subst (λ (e : Entry). AsksFor rules e.request srb) (sym same) asks;
-            empty = subst (λ (e : Entry). IsEmptyIfFlush e.request srb.data) (sym same) (asks_empty rules front.request srb asks);
+            bounded = subst (λ (e : PacketEntry). IsBounded rules e.request) (sym same) w.room.bounded;
+            doing = subst (λ (e : PacketEntry). AsksFor rules e.request srb) (sym same) asks;
+            empty = subst (λ (e : PacketEntry). IsEmptyIfFlush e.request srb.data) (sym same) (asks_empty rules front.request srb asks);
           })
           (λ i d below. work_beside rules b.started tag (Some packet) _ (free i d below) (k.at_work i d below)));
       ended = k.ended;
@@ -288,7 +288,7 @@ kept_started b v rooms front rest tag srb packet tags' k is packs same low free 
     }
 
 -- the label of a start, as the port shows it
-pub start_moves : (b : Books) (v : AdapterView) (front : Held) (rest : List Held) (tag : ℕ) (srb : Srb) (packet : Held) (tags' : List TagInUse)
+pub start_moves : (b : TableView) (v : AdapterView) (front : PortPacket) (rest : List PortPacket) (tag : ℕ) (srb : Srb) (packet : PortPacket) (tags' : List TagInUse)
     → b.waiting ≡ front ∷ rest → entry_of packet ≡ entry_of front → tag < length b.started → tag < v.depth → IsFree v tag → length v.tags < v.depth
     → IsPermutation tags' (in_use_from v tag b.next_piece srb ∷ v.tags)
     → Starts (rules_of b.sizes) (state_of b v) b.next_piece tag srb.block (state_of (books_started b rest tag packet) (view_started v tags' tag b.next_piece srb))
@@ -316,12 +316,12 @@ start_moves b v front rest tag srb packet tags' is same inside low free few p st
 
 -- ALL OF ONE START
 
-pub record Started (b : Books) (v : AdapterView) (tag : ℕ) (b' : Books) (v' : AdapterView) : Type 0 where
+pub record Started (b : TableView) (v : AdapterView) (tag : ℕ) (b' : TableView) (v' : AdapterView) : Type 0 where
   pub kept : (rooms : List Request) → PortKept b v rooms → PortKept b' v' rooms
   pub releases : Releases b v b' v'
   pub lower : AreLowerInUse b' v' (tag + 1)
 
-started_fields : (b : Books) (v : AdapterView) (rooms : List Request) (front : Held) (rest : List Held) (tag : ℕ) (srb : Srb) (packet : Held) (tags' : List TagInUse)
+started_fields : (b : TableView) (v : AdapterView) (rooms : List Request) (front : PortPacket) (rest : List PortPacket) (tag : ℕ) (srb : Srb) (packet : PortPacket) (tags' : List TagInUse)
     → PortKept b v rooms → b.waiting ≡ front ∷ rest → front.irp.value.payload ≡ Packed srb → entry_of packet ≡ entry_of front
     → tag < v.depth → IsFree v tag → ((lower : ℕ) → lower < tag → Any (UseHasTag lower) v.tags) → IsPermutation tags' (in_use_from v tag b.next_piece srb ∷ v.tags)
     → IsInOrder (view_started v tags' tag b.next_piece srb)
@@ -343,8 +343,8 @@ started_fields b v rooms front rest tag srb packet tags' k is packs same low fre
         further h = rw add-one h.3
     at_or_below l (inr over) below = (0, in_use_from v tag b.next_piece srb, omega arith, refl, omega arith)
 
-pub started_one : (b b' : Books) (v v' : AdapterView) (rooms : List Request) (tag piece : ℕ) (srb : Srb)
-    → PortKept b v rooms → AreLowerInUse b v tag → Turn.Starts b tag piece srb b' → Accepts v tag piece srb v' → IsInOrder v' → Started b v tag b' v'
+pub started_one : (b b' : TableView) (v v' : AdapterView) (rooms : List Request) (tag piece : ℕ) (srb : Srb)
+    → PortKept b v rooms → AreLowerInUse b v tag → Calls.Starts b tag piece srb b' → Accepts v tag piece srb v' → IsInOrder v' → Started b v tag b' v'
 started_one b b' v v' rooms tag piece srb k lower s a order =
     let tags_in : IsPermutation a.tags (in_use_from v tag b.next_piece srb ∷ v.tags) = subst (λ (n : ℕ). IsPermutation a.tags (in_use_from v tag n srb ∷ v.tags)) s.is_piece a.in_use in
     let view_is : v' ≡ view_started v a.tags tag b.next_piece srb = a.after ∙ ap (λ (n : ℕ). view_started v a.tags tag n srb) s.is_piece in
@@ -355,7 +355,7 @@ started_one b b' v v' rooms tag piece srb k lower s a order =
     lowers (inl none) l below = let e : [] ≡ s.front ∷ s.rest = sym none ∙ s.is_front in absurd (cc (e))
     lowers (inr h) l below = h l below
 
-pub releases_none : (b : Books) (v : AdapterView) → Releases b v b v
+pub releases_none : (b : TableView) (v : AdapterView) → Releases b v b v
 releases_none b v = record {
   starts = [];
   only_starts = All-nil IsStart;
@@ -375,7 +375,7 @@ moves_then o m n xs ys h k = record {
   adapter = moves_joined o.adapter xs m.adapter ys n.adapter h.adapter k.adapter;
 }
 
-pub releases_then : (b c d : Books) (u v w : AdapterView) → Releases b u c v → Releases c v d w → Releases b u d w
+pub releases_then : (b c d : TableView) (u v w : AdapterView) → Releases b u c v → Releases c v d w → Releases b u d w
 releases_then b c d u v w h k = record {
   starts = h.starts ++ k.starts;
   only_starts = All-append IsStart h.starts k.starts h.only_starts k.only_starts;
@@ -387,7 +387,7 @@ releases_then b c d u v w h k = record {
       (second.0 ∙ first.0, second.1 ∙ first.1);
 }
 
-pub in_use_lower : (b : Books) (v : AdapterView) (tag : ℕ) → AreLowerInUse b v tag → Any (UseHasTag tag) v.tags → AreLowerInUse b v (tag + 1)
+pub in_use_lower : (b : TableView) (v : AdapterView) (tag : ℕ) → AreLowerInUse b v tag → Any (UseHasTag tag) v.tags → AreLowerInUse b v (tag + 1)
 in_use_lower b v tag (inl none) here = inl none
 in_use_lower b v tag (inr h) here = inr (λ l below. at_or_below l (cases_lt l tag) below)
   where
@@ -396,13 +396,13 @@ in_use_lower b v tag (inr h) here = inr (λ l below. at_or_below l (cases_lt l t
     at_or_below l (inr over) below = let e : tag ≡ l = omega arith in subst (λ t. Any (UseHasTag t) v.tags) e here
 
 -- where nothing waits nothing changed
-pub releases_same : (b b' : Books) (v : AdapterView) → Turn.StartsNot b b' → Releases b v b' v
+pub releases_same : (b b' : TableView) (v : AdapterView) → Calls.StartsNot b b' → Releases b v b' v
 releases_same b b' v h = subst (λ x. Releases b v x v) (sym h.same) (releases_none b v)
 
-pub label_room : (b : Books) (v : AdapterView) (rooms : List Request) (tag : ℕ) → PortKept b v rooms → IsFree v tag → tag < v.depth → length v.labels < 64
+pub label_room : (b : TableView) (v : AdapterView) (rooms : List Request) (tag : ℕ) → PortKept b v rooms → IsFree v tag → tag < v.depth → length v.labels < 64
 label_room b v rooms tag k free low = let few = free_leaves v tag k.adapter free low in let l = k.labels in omega arith
 
-pub accepts_front : (b : Books) (v : AdapterView) (rooms : List Request) (tag piece : ℕ) (srb : Srb) (b' : Books) → PortKept b v rooms → Turn.Starts b tag piece srb b' → IsWritable v srb × (length srb.for_label ≡ length srb.data)
+pub accepts_front : (b : TableView) (v : AdapterView) (rooms : List Request) (tag piece : ℕ) (srb : Srb) (b' : TableView) → PortKept b v rooms → Calls.Starts b tag piece srb b' → IsWritable v srb × (length srb.for_label ≡ length srb.data)
 accepts_front b v rooms tag piece srb b' k s =
     let h = front_waits b v rooms s.front s.rest srb k s.is_front s.is_srb in
     (is_writable b.sizes v s.front.request srb (kept_sector_some b v rooms k) h.0 h.1, h.1.label_length ∙ sym h.1.data_length)

@@ -15,8 +15,8 @@ use Rattle.adapter.specs.View.{AdapterView, TagInUse, IsInOrder, IsFree, HasTag,
 use Rattle.adapter.specs.Calls.{tag_of}
 use Rattle.machine.proofs.Same.{Any-permutation}
 use Rattle.machine.proofs.Permuting.{distinct_first}
-use Rattle.port.specs.declared.queues.Held.{Held}
-use Rattle.port.specs.inside.Books.{Entry}
+use Rattle.port.specs.declared.queues.PortPacket.{PortPacket}
+use Rattle.port.specs.inside.TableView.{PacketEntry}
 use Rattle.port.specs.Shown.{entry_on}
 
 map_apart : (tags : List TagInUse) → AllPairs HaveOtherTags tags → AllPairs (λ x y. x ≢ y) (map tag_of tags)
@@ -36,7 +36,7 @@ others_apart view tag use' others order on =
     subst (λ t. All (HasNotTag t) others) on.has_tag (distinct_first tag_of view.tags use' others (tags_distinct view.tags order.tags_differ) on.in_use)
 
 -- what stands at another tag stays
-pub others_same : {Y : Type 0} (F : Entry → TagInUse → Y) (started : List (Option Held)) (tag : ℕ) (x : Option Held) (others : List TagInUse) → All (HasNotTag tag) others
+pub others_same : {Y : Type 0} (F : PacketEntry → TagInUse → Y) (started : List (Option PortPacket)) (tag : ℕ) (x : Option PortPacket) (others : List TagInUse) → All (HasNotTag tag) others
     → map (λ u. F (entry_on (slice_set started tag x) u.tag) u) others ≡ map (λ u. F (entry_on started u.tag) u) others
 others_same F started tag x [] h = refl
 others_same F started tag x (u ∷ us) h =

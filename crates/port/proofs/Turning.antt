@@ -21,11 +21,11 @@ use Rattle.device.specs.Served.{IsAct, IsActOrFault, ActsOrFaults, ActsNot}
 use Rattle.machine.specs.Step.{DeviceStep}
 use Rattle.machine.proofs.Same.{IsSame-refl}
 use Rattle.machine.proofs.Numbers.{AreDistinct-DeviceStep}
-use Rattle.port.specs.declared.queues.Held.{Held}
-use Rattle.port.specs.inside.Books.{Entry, Books, entry_of, spot_in}
-use Rattle.port.specs.inside.Turns.{held_on}
+use Rattle.port.specs.declared.queues.PortPacket.{PortPacket}
+use Rattle.port.specs.inside.TableView.{PacketEntry, TableView, entry_of, spot_in}
+use Rattle.port.specs.inside.TableCalls.{held_on}
 use Rattle.port.specs.Shown.{rules_of, waiting_open, done_open, out_open, out_piece, open_on, piece_on, packet as packet_as, of_packets, of_waiting, of_done, state_of, view_of, requests_of}
-use Rattle.port.specs.inside.Kept.{asked, PortKept, IsInHand, IsRoom, IsWaiting, IsEmptyIfFlush, IsAtWork, IsDoing, IsTaken}
+use Rattle.port.specs.inside.Invariant.{asked, PortKept, IsInHand, IsRoom, IsWaiting, IsEmptyIfFlush, IsAtWork, IsDoing, IsTaken}
 use Rattle.port.proofs.Places.{distinct_same}
 use Rattle.port.proofs.Lists.{second_front}
 use Rattle.adapter.proofs.Joining.{moves_one}
@@ -39,7 +39,7 @@ use Rattle.port.proofs.Acting.{IsCarried, carried, the_arrays}
 abbrev pub view_turned : AdapterView → List (List ℕ) → List TagInUse → ℕ → DeviceLabel → AdapterView
 view_turned v sectors tags failures label = record v { sectors = sectors; tags = tags; failures = failures; labels = v.labels ++ label ∷ [] }
 
-record Turned (b : Books) (v : AdapterView) (tag : ℕ) (use' use'' : TagInUse) (others tags' : List TagInUse) (sectors : List (List ℕ)) (held : Held) : Type 0 where
+record Turned (b : TableView) (v : AdapterView) (tag : ℕ) (use' use'' : TagInUse) (others tags' : List TagInUse) (sectors : List (List ℕ)) (held : PortPacket) : Type 0 where
   on : IsOn v tag use' others
   in_use : IsPermutation tags' (use'' ∷ others)
   same_tag : use''.tag ≡ use'.tag
@@ -50,11 +50,11 @@ record Turned (b : Books) (v : AdapterView) (tag : ℕ) (use' use'' : TagInUse) 
   long : length sectors ≡ length v.sectors
 
 -- all of it, of an act or a fault
-pub record IsTurned (b : Books) (v : AdapterView) (tag : ℕ) (v' : AdapterView) : Type 0 where
+pub record IsTurned (b : TableView) (v : AdapterView) (tag : ℕ) (v' : AdapterView) : Type 0 where
   pub rooms : (rooms : List Request) → IsInHand b v rooms → IsInHand b v' rooms
   pub acts : ActsOrFaults (view_of b v) tag (view_of b v')
 
-module _ (b : Books) (v : AdapterView) (tag : ℕ) (use' use'' : TagInUse) (others tags' : List TagInUse) (sectors : List (List ℕ)) (held : Held) (failures : ℕ) (label : DeviceLabel) where
+module _ (b : TableView) (v : AdapterView) (tag : ℕ) (use' use'' : TagInUse) (others tags' : List TagInUse) (sectors : List (List ℕ)) (held : PortPacket) (failures : ℕ) (label : DeviceLabel) where
   -- before and after, the tag's and the others'
   on_before : Turned b v tag use' use'' others tags' sectors held → held_on b.started use'.tag ≡ Some held
   on_before h = subst (λ t. held_on b.started t ≡ Some held) (sym h.on.has_tag) h.held_is
@@ -71,7 +71,7 @@ module _ (b : Books) (v : AdapterView) (tag : ℕ) (use' use'' : TagInUse) (othe
       IsPermutation-trans _ _ _ (subst (λ (x : OpenRequest). IsPermutation (map (open_on rules b.started) tags') (x ∷ map (open_on rules b.started) others)) h.same_open after) (IsPermutation-sym _ _ before) in
       IsPermutation-append_right (map (waiting_open rules) b.waiting) _ _ (IsPermutation-append_left (map (done_open rules) b.done) _ _ both)
 
-  packets_turned : {Y : Type 0} (f : Entry → Y) → Turned b v tag use' use'' others tags' sectors held → IsPermutation (of_packets f b (view_turned v sectors tags' failures label)) (of_packets f b v)
+  packets_turned : {Y : Type 0} (f : PacketEntry → Y) → Turned b v tag use' use'' others tags' sectors held → IsPermutation (of_packets f b (view_turned v sectors tags' failures label)) (of_packets f b v)
   packets_turned f h =
       let after = tags_on (λ e u. f e) b.started tags' use'' others held h.in_use (on_after h) in
       let before = tags_on (λ e u. f e) b.started v.tags use' others held h.on.in_use (on_before h) in
@@ -149,7 +149,7 @@ module _ (b : Books) (v : AdapterView) (tag : ℕ) (use' use'' : TagInUse) (othe
 
 -- AN ACT
 
-turned_act : (b : Books) (v v' : AdapterView) (rooms : List Request) (tag piece : ℕ) (bytes : List ℕ) (a : AdapterActsOn v tag piece bytes v') (held : Held) → PortKept b v rooms → held_on b.started tag ≡ Some held
+turned_act : (b : TableView) (v v' : AdapterView) (rooms : List Request) (tag piece : ℕ) (bytes : List ℕ) (a : AdapterActsOn v tag piece bytes v') (held : PortPacket) → PortKept b v rooms → held_on b.started tag ≡ Some held
     → IsCarried (rules_of b.sizes) (state_of b v) held.request held.request.kind a.use'.srb v.sectors a.moved a.sectors a.left
 turned_act b v v' rooms tag piece bytes a held k on =
     let rules : Rules = rules_of b.sizes in
@@ -160,13 +160,13 @@ turned_act b v v' rooms tag piece bytes a held k on =
     (subst (λ n. All (IsSector n) v.sectors) (sym size) k.adapter.whole_sectors) refl held.request.kind refl asks a.means
     (subst (λ n. CarriesOut v.faithful (piece == 0) n v.sectors a.use'.srb.data a.command a.moved a.sectors) (sym size) a.performs)
 
-acted_all : (b : Books) (v v' : AdapterView) (rooms : List Request) (tag piece : ℕ) (bytes : List ℕ) → PortKept b v rooms → length v.labels + (v.depth - length v.tags) + 1 ≤ 64
+acted_all : (b : TableView) (v v' : AdapterView) (rooms : List Request) (tag piece : ℕ) (bytes : List ℕ) → PortKept b v rooms → length v.labels + (v.depth - length v.tags) + 1 ≤ 64
     → AdapterActsOn v tag piece bytes v' → IsInOrder v' → IsTurned b v tag v'
 acted_all b v v' rooms tag piece bytes k space a order =
     let rules : Rules = rules_of b.sizes in
     let w = on_tag_some rules b.started v.tags a.use' a.others tag k.at_work a.is_on.in_use a.is_on.has_tag in
-    let held : Held = w.0 in
-    let e : Entry = entry_of held in
+    let held : PortPacket = w.0 in
+    let e : PacketEntry = entry_of held in
     let c : IsCarried rules (state_of b v) held.request held.request.kind a.use'.srb v.sectors a.moved a.sectors a.left = turned_act b v v' rooms tag piece bytes a held k w.1 in
     let label : DeviceLabel = Act piece bytes in
     let u : TagInUse = acted a.moved a.left a.use' in
@@ -211,13 +211,13 @@ acted_all b v v' rooms tag piece bytes k space a order =
 
 -- A FAULT
 
-faulted_all : (b : Books) (v v' : AdapterView) (rooms : List Request) (tag piece : ℕ) → PortKept b v rooms → length v.labels + (v.depth - length v.tags) + 1 ≤ 64
+faulted_all : (b : TableView) (v v' : AdapterView) (rooms : List Request) (tag piece : ℕ) → PortKept b v rooms → length v.labels + (v.depth - length v.tags) + 1 ≤ 64
     → AdapterFaultsOn v tag piece v' → ¬ IsBooked v tag → IsInOrder v' → IsTurned b v tag v'
 faulted_all b v v' rooms tag piece k space a not_booked order =
     let rules : Rules = rules_of b.sizes in
     let w = on_tag_some rules b.started v.tags a.use' a.others tag k.at_work a.is_on.in_use a.is_on.has_tag in
-    let held : Held = w.0 in
-    let e : Entry = entry_of held in
+    let held : PortPacket = w.0 in
+    let e : PacketEntry = entry_of held in
     let work = on_tag_work rules b.started v.tags a.use' a.others tag held k.at_work a.is_on.in_use a.is_on.has_tag w.1 in
     let label : DeviceLabel = Fault piece in
     let asks : AsksFor rules held.request a.use'.srb = subst (λ f. IsDoing rules held.request f a.use'.srb) a.is_fresh work.1 in
@@ -254,13 +254,13 @@ faulted_all b v v' rooms tag piece k space a not_booked order =
     subst (λ y. IsTurned b v tag y) (sym a.after) (shown_turned b v tag a.use' u a.others a.tags v.sectors held a.failures label h a.is_fresh (sym a.is_piece) (λ booked. absurd (not_booked booked)) space
     (subst IsInOrder a.after order) step (subst (AdapterFaultsOn v tag piece) a.after a))
 
-label_space : (b : Books) (v : AdapterView) (rooms : List Request) → PortKept b v rooms → label_places (view_of b v) + 1 ≤ 64 → length v.labels + (v.depth - length v.tags) + 1 ≤ 64
+label_space : (b : TableView) (v : AdapterView) (rooms : List Request) → PortKept b v rooms → label_places (view_of b v) + 1 ≤ 64 → length v.labels + (v.depth - length v.tags) + 1 ≤ 64
 label_space b v rooms k space =
     let l = length-map v.tags (piece_on (rules_of b.sizes) b.started) in
     let d = k.sizes.depth in
     omega arith
 
-pub turned : (b : Books) (v v' : AdapterView) (rooms : List Request) (tag : ℕ) → PortKept b v rooms → label_places (view_of b v) + 1 ≤ 64 → AdapterActsOrFaults v tag v' → IsInOrder v' → IsTurned b v tag v'
+pub turned : (b : TableView) (v v' : AdapterView) (rooms : List Request) (tag : ℕ) → PortKept b v rooms → label_places (view_of b v) + 1 ≤ 64 → AdapterActsOrFaults v tag v' → IsInOrder v' → IsTurned b v tag v'
 turned b v v' rooms tag k space a order = by_label a.one_of
   where
     by_label : ((bytes : List ℕ) × AdapterActsOn v tag a.piece bytes v') ⊎ (AdapterFaultsOn v tag a.piece v' × ¬ IsBooked v tag) → IsTurned b v tag v'
@@ -280,7 +280,7 @@ from_map f (x ∷ xs) y (suc k, low, is) =
     let h = from_map f xs y (k, omega arith, is) in
     (h.0, (x ∷ h.1.0, IsPermutation-trans _ _ _ (IsPermutation-cons x _ _ h.1.1) (IsPermutation-middle (x ∷ []) h.0 h.1.0)), h.2)
 
-turned_not : (b : Books) (v v' : AdapterView) (tag : ℕ) → AdapterActsNot v tag v' → ActsNot (view_of b v) tag (view_of b v')
+turned_not : (b : TableView) (v v' : AdapterView) (tag : ℕ) → AdapterActsNot v tag v' → ActsNot (view_of b v) tag (view_of b v')
 turned_not b v v' tag h = record {
   none = λ piece fresh.
       let u = from_map (piece_on (rules_of b.sizes) b.started) v.tags piece fresh.is_out in
@@ -288,7 +288,7 @@ turned_not b v v' tag h = record {
   same = ap (λ (x : AdapterView). view_of b x) h.same;
 }
 
-pub turned_either : (b : Books) (v v' : AdapterView) (rooms : List Request) (tag : ℕ) (result : Bool) → IsInHand b v rooms → label_places (view_of b v) + 1 ≤ 64
+pub turned_either : (b : TableView) (v v' : AdapterView) (rooms : List Request) (tag : ℕ) (result : Bool) → IsInHand b v rooms → label_places (view_of b v) + 1 ≤ 64
     → MatchBool result (AdapterActsOrFaults v tag v') (AdapterActsNot v tag v') → IsInOrder v'
     → ((rooms : List Request) → IsInHand b v rooms → IsInHand b v' rooms) × MatchBool result (ActsOrFaults (view_of b v) tag (view_of b v')) (ActsNot (view_of b v) tag (view_of b v'))
 turned_either b v v' rooms tag true k space h order = let t = turned b v v' rooms tag k.kept space h order in (t.rooms, t.acts)

@@ -1,4 +1,4 @@
-pub mod Shown
 pub mod Opening
-pub mod Seen
+pub mod Over
+pub mod Shown
 pub mod inside

@@ -18,12 +18,12 @@ use Rattle.sector.specs.Extents.{sectors_in}
 use Rattle.device.specs.View.{Packet, DeviceView, sent_bytes, Reserved, whole_for}
 use Rattle.device.specs.Served.{sectors_moved}
 use Rattle.port.specs.declared.queues.Sizes.{Sizes}
-use Rattle.port.specs.declared.queues.Held.{Held}
+use Rattle.port.specs.declared.queues.PortPacket.{PortPacket}
 use Rattle.port.specs.declared.queues.Ended.{Ended}
 use Rattle.port.specs.declared.queues.Outcome.{Outcome}
 use Rattle.port.specs.declared.queues.Outcome.TheVariants.{Returned, Withdrawn, Gone}
-use Rattle.port.specs.inside.Books.{Entry, Books, entry_of, ended_entry}
-use Rattle.port.specs.inside.Turns.{held_on}
+use Rattle.port.specs.inside.TableView.{PacketEntry, TableView, entry_of, ended_entry}
+use Rattle.port.specs.inside.TableCalls.{held_on}
 
 -- one volume, the whole disk; each request goes as one piece, once, and its first busy return ends it
 abbrev pub rules_of : Sizes → Rules
@@ -77,7 +77,7 @@ status_left Gone = status_of (code_of NoDevice) 0 None
 -- OPEN REQUESTS AND PIECES
 
 -- a packet as an open request of the machine
-abbrev pub open_as : Rules → Entry → Payload → ℕ → List Mark → OpenRequest
+abbrev pub open_as : Rules → PacketEntry → Payload → ℕ → List Mark → OpenRequest
 open_as rules e payload busy marks = record {
   number = e.number;
   request = as_client rules e.request (sent_bytes e.request.kind payload);
@@ -88,7 +88,7 @@ open_as rules e payload busy marks = record {
 }
 
 -- the open request of a packet that waits: nothing of it was sent
-abbrev pub waiting_open : Rules → Held → OpenRequest
+abbrev pub waiting_open : Rules → PortPacket → OpenRequest
 waiting_open rules held = open_as rules (entry_of held) held.irp.value.payload 0 (all_places rules held.request Untouched)
 
 -- the open request of a packet that ended
@@ -96,7 +96,7 @@ abbrev pub done_open : Rules → Ended → OpenRequest
 done_open rules d = open_as rules (ended_entry d) d.irp.value.payload (busy_left d.outcome) (marks_left rules d.request d.irp.value.payload d.outcome)
 
 -- stands for the packet of a tag that has none, which is never shown
-abbrev pub nobody : Entry
+abbrev pub nobody : PacketEntry
 nobody = record {
   number = 0;
   above = [];
@@ -107,20 +107,20 @@ nobody = record {
 }
 
 -- a packet, or what stands for none
-abbrev pub entry_or_nobody : Option Held → Entry
+abbrev pub entry_or_nobody : Option PortPacket → PacketEntry
 entry_or_nobody None = nobody
 entry_or_nobody (Some held) = entry_of held
 
 -- the packet of a tag
-abbrev pub entry_on : List (Option Held) → ℕ → Entry
+abbrev pub entry_on : List (Option PortPacket) → ℕ → PacketEntry
 entry_on started tag = entry_or_nobody (held_on started tag)
 
 -- what a packet at the adapter is, beside what the adapter shows of it
-abbrev pub out_open : Rules → Entry → TagInUse → OpenRequest
+abbrev pub out_open : Rules → PacketEntry → TagInUse → OpenRequest
 out_open rules e use' = open_as rules e (Packed use'.srb) 0 (all_places rules e.request Out)
 
 -- its one piece, which is all of its places
-abbrev pub out_piece : Rules → Entry → TagInUse → Piece
+abbrev pub out_piece : Rules → PacketEntry → TagInUse → Piece
 out_piece rules e use' = record {
   number = use'.piece;
   tag = use'.tag;
@@ -130,27 +130,27 @@ out_piece rules e use' = record {
 }
 
 -- the packet as the layer above sees it
-abbrev pub packet : Entry → Packet
+abbrev pub packet : PacketEntry → Packet
 packet e = record { number = e.number; spot = e.spot; above = e.above; cancel_routine = e.cancel_routine }
 
 -- the open request of a tag in use
-abbrev pub open_on : Rules → List (Option Held) → TagInUse → OpenRequest
+abbrev pub open_on : Rules → List (Option PortPacket) → TagInUse → OpenRequest
 open_on rules started use' = out_open rules (entry_on started use'.tag) use'
 
 -- the piece of a tag in use
-abbrev pub piece_on : Rules → List (Option Held) → TagInUse → Piece
+abbrev pub piece_on : Rules → List (Option PortPacket) → TagInUse → Piece
 piece_on rules started use' = out_piece rules (entry_on started use'.tag) use'
 
 -- something of a packet that waits
-abbrev pub of_waiting : {Y : Type 0} → (Entry → Y) → Held → Y
+abbrev pub of_waiting : {Y : Type 0} → (PacketEntry → Y) → PortPacket → Y
 of_waiting f held = f (entry_of held)
 
 -- the same of the packet of a tag in use
-abbrev pub of_tag : {Y : Type 0} → (Entry → Y) → List (Option Held) → TagInUse → Y
+abbrev pub of_tag : {Y : Type 0} → (PacketEntry → Y) → List (Option PortPacket) → TagInUse → Y
 of_tag f started use' = f (entry_on started use'.tag)
 
 -- and of a packet that ended
-abbrev pub of_done : {Y : Type 0} → (Entry → Y) → Ended → Y
+abbrev pub of_done : {Y : Type 0} → (PacketEntry → Y) → Ended → Y
 of_done f d = f (ended_entry d)
 
 -- WHAT IS SHOWN
@@ -169,21 +169,21 @@ reserved_of (Some None ∷ slots) = reserved_of slots
 reserved_of (Some (Some request) ∷ slots) = request ∷ reserved_of slots
 
 -- the open requests: of packets that wait, at the adapter and that ended
-abbrev pub requests_of : Books → AdapterView → List OpenRequest
+abbrev pub requests_of : TableView → AdapterView → List OpenRequest
 requests_of b v =
     map (waiting_open (rules_of b.sizes)) b.waiting
     ++ (map (open_on (rules_of b.sizes) b.started) v.tags ++ map (done_open (rules_of b.sizes)) b.done)
 
 -- something of each packet
-abbrev pub of_packets : {Y : Type 0} → (Entry → Y) → Books → AdapterView → List Y
+abbrev pub of_packets : {Y : Type 0} → (PacketEntry → Y) → TableView → AdapterView → List Y
 of_packets {Y} f b v = map (of_waiting f) b.waiting ++ (map (of_tag f b.started) v.tags ++ map (of_done f) b.done)
 
 -- all packets as the layer above sees them
-abbrev pub packets_of : Books → AdapterView → List Packet
+abbrev pub packets_of : TableView → AdapterView → List Packet
 packets_of b v = of_packets packet b v
 
 -- the machine
-abbrev pub state_of : Books → AdapterView → State
+abbrev pub state_of : TableView → AdapterView → State
 state_of b v = record {
   arrays = map (sectors_in v.sectors) (rules_of b.sizes).partitions;
   next_request = b.last_request + 1;
@@ -201,7 +201,7 @@ abbrev pub most : ℕ
 most = 2 ^ 96
 
 -- all that the port shows
-abbrev pub view_of : Books → AdapterView → DeviceView
+abbrev pub view_of : TableView → AdapterView → DeviceView
 view_of b v = record {
   rules = rules_of b.sizes;
   state = state_of b v;

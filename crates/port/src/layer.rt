@@ -4,11 +4,11 @@ ghost use Rattle.std.specs.Prelude.{OnOk, OnErr, MatchBool};
 ghost use Rattle.adapter.specs.View.{IsInOrder, IsReserved, ReservesMore, ReservesNear};
 ghost use Rattle.srb.specs.declared.Kind.TheVariants.{Write};
 ghost use Rattle.machine.specs.declared.Request.{Request};
-ghost use Rattle.port.specs.inside.Books.{books_of, visits_of};
+ghost use Rattle.port.specs.inside.TableView.{books_of, visits_of};
 ghost use Rattle.port.specs.inside.Cancelling.{CancelsQueued, CancelsAt, CancelsNotAt, CancelsNoStarted};
-ghost use Rattle.port.specs.inside.Turns.{WithdrawsNotAt};
+ghost use Rattle.port.specs.inside.TableCalls.{WithdrawsNotAt};
 ghost use Rattle.linked.specs.Queue.{VisitsAtMost};
-ghost use Rattle.port.specs.inside.Kept.{IsInHand, PortKept};
+ghost use Rattle.port.specs.inside.Invariant.{IsInHand, PortKept};
 ghost use Rattle.port.specs.inside.Releases.{Releases, AreLowerInUse};
 
 use crate::queues::{Ended, Sizes};

@@ -13,11 +13,11 @@
 ghost use Rattle.std.specs.Prelude.{[], ◌≡◌, IfOk, MatchBool};
 ghost use Rattle.linked.specs.Queue.{VisitsAtMost};
 ghost use Rattle.port.specs.Opening.{IsFresh, opening_view};
-ghost use Rattle.port.specs.Seen.{CancelsWaiting, CancelsNoneWaiting};
+ghost use Rattle.port.specs.Over.{CancelsWaiting, CancelsNoneWaiting};
 
 mod layer;
 mod queues;
-mod turns;
+mod table_calls;
 
 use adapter::Adapter;
 use queues::{Queues, Sizes};
@@ -37,9 +37,9 @@ pub struct Port<A: Adapter> {
 }
 
 impl<A: Adapter> Model for Port<A> {
-    ghost use Rattle.port.specs.inside.Books.{books_of, visits_of};
-    ghost use Rattle.port.specs.Seen.{PortView, port_of};
-    ghost use Rattle.port.specs.inside.Kept.{IsSound};
+    ghost use Rattle.port.specs.inside.TableView.{books_of, visits_of};
+    ghost use Rattle.port.specs.Over.{PortView, port_of};
+    ghost use Rattle.port.specs.inside.Invariant.{IsSound};
 
     ghost Value = { PortView };
 

@@ -54,7 +54,7 @@ impl Numbered for Waiting {
 
 /// A packet at the adapter, with the spot that it had in the queue.
 #[derive(Debug, Drop)]
-pub struct Held {
+pub struct PortPacket {
     pub irp: Box<Irp>,
     pub request: Request,
     pub spot: usize,
@@ -75,7 +75,7 @@ pub struct Queues {
     pub sizes: Sizes,
     /// First in, first out.
     pub waiting: Linked<Waiting>,
-    pub started: Vec<Option<Held>>,
+    pub started: Vec<Option<PortPacket>>,
     pub done: VecDeque<Ended>,
     /// The last number submitted; 0 before the first.
     pub last_request: u128,

@@ -22,12 +22,12 @@ use Rattle.class_disk.specs.declared.parts.Outcome.{Outcome}
 use Rattle.class_disk.specs.declared.parts.Outcome.TheVariants.{Good, Failed as IsBad, Busy, Withdrawn}
 use Rattle.class_disk.specs.declared.parts.PartId.{PartId}
 use Rattle.class_disk.specs.inside.Blocks.{requests_for, AreSizes}
-use Rattle.class_disk.specs.inside.Books.{Opened, Books, Held, all_open, ended_in, restarts_left}
+use Rattle.class_disk.specs.inside.TableView.{Opened, TableView, ClosedSlot, all_open, ended_in, restarts_left}
 use Rattle.class_disk.specs.inside.Parts.{HasBuffers, payload_in, tickets_of, IsHere, WasSent, restarts_of}
 use Rattle.class_disk.specs.inside.Parts.{unfinished_of}
-use Rattle.class_disk.specs.inside.Turns.{bytes_from}
+use Rattle.class_disk.specs.inside.TableCalls.{bytes_from}
 use Rattle.class_disk.specs.inside.Joint.{Note, Sent, Kept, Known, Joint, known_of, shown_mark, below}
-use Rattle.class_disk.specs.inside.Kept.{IsSound, Keeps, HasSome, IsOver, noted_busy}
+use Rattle.class_disk.specs.inside.Invariant.{IsSound, Keeps, HasSome, IsOver, noted_busy}
 use Rattle.class_disk.specs.Opening.{TakesParts, most_over}
 use Rattle.class_disk.specs.Shown.{class_rules, IsPort, shown_state}
 
@@ -86,7 +86,7 @@ known rules o = record {
 }
 
 -- what the class driver knows of each open request
-abbrev pub knowns : Rules → Books → List Known
+abbrev pub knowns : Rules → TableView → List Known
 knowns rules b = map (known rules) (all_open b)
 
 -- the packet of an open request as the layer above has it: its spot is its slot
@@ -95,7 +95,7 @@ packet_above e = packet_of e.1.irp e.0
 
 -- WHAT IT SHOWS
 
-abbrev pub view_of : DeviceView → Books → DeviceView
+abbrev pub view_of : DeviceView → TableView → DeviceView
 view_of v b = record {
   rules = class_rules v.rules;
   state = shown_state v.state (b.last_request + 1) (knowns (class_rules v.rules) b);
@@ -109,7 +109,7 @@ view_of v b = record {
 -- ROOMS
 
 -- the spots of all slots with no packet
-abbrev pub tickets_held : List Held → List Ticket
+abbrev pub tickets_held : List ClosedSlot → List Ticket
 tickets_held [] = []
 tickets_held (held ∷ rest) = tickets_of held.parts ++ tickets_held rest
 
@@ -119,7 +119,7 @@ tickets_open [] = []
 tickets_open (o ∷ os) = tickets_of o.parts ++ tickets_open os
 
 -- all rooms below
-abbrev pub tickets : Books → List Ticket
+abbrev pub tickets : TableView → List Ticket
 tickets b = tickets_held b.held ++ tickets_open (all_open b)
 
 abbrev pub request_of_part : Part → Request
@@ -130,7 +130,7 @@ pub record IsCut (rules : Rules) (r : Request) (parts : List Part) : Type 0 wher
   pub bounded : IsBounded rules r
   pub parts_are : map request_of_part parts ≡ requests_for rules.max_transfer r
 
-abbrev pub IsHeldCut : Rules → Held → Type 0
+abbrev pub IsHeldCut : Rules → ClosedSlot → Type 0
 IsHeldCut rules held = IsCut rules held.request held.parts
 
 abbrev pub IsOpenCut : Rules → Opened → Type 0
@@ -228,7 +228,7 @@ HaveCauses rules removing e =
 
 -- a slot with no packet has its parts as the class driver cuts them, none of them below; where it is reserved, each can
 -- be sent
-pub record IsHeld (rules : Rules) (owners : List PartId) (held : Held) : Type 0 where
+pub record IsHeld (rules : Rules) (owners : List PartId) (held : ClosedSlot) : Type 0 where
   pub cut : IsHeldCut rules held
   pub here : All IsHere held.parts
   pub buffered : All (IsBuffered rules) held.parts
@@ -250,7 +250,7 @@ pub record IsOpen (rules : Rules) (owners : List PartId) (e : ℕ × Opened) : T
 -- IN ORDER
 
 -- what the class driver keeps by itself
-pub record AreKept (rules : Rules) (b : Books) : Type 0 where
+pub record AreKept (rules : Rules) (b : TableView) : Type 0 where
   pub sizes : AreSizes b.sizes rules
   pub in_hand : All (IsHeld rules b.owners) b.held
   pub opens : All (IsOpen rules b.owners) b.opens
@@ -261,7 +261,7 @@ pub record AreKept (rules : Rules) (b : Books) : Type 0 where
   pub budget : b.next_packet + restarts_left b.opens + b.submitted ≤ b.submitted * 2 ^ 17 + 1
 
 -- what it keeps between its parts and their packets below
-pub record AreBelow (v : DeviceView) (b : Books) : Type 0 where
+pub record AreBelow (v : DeviceView) (b : TableView) : Type 0 where
   pub removing : b.removing ≡ v.state.removing
   pub next_number : v.state.next_request ≤ b.next_packet
   pub sent : v.submitted < b.next_packet
@@ -275,7 +275,7 @@ pub record AreBelow (v : DeviceView) (b : Books) : Type 0 where
   pub over : All (IsOver 17 v.state.removing) (knowns (class_rules v.rules) b)
 
 -- the coupling of what the class driver knows with what the layer below shows
-pub record IsCoupled (v : DeviceView) (b : Books) : Type 0 where
+pub record IsCoupled (v : DeviceView) (b : TableView) : Type 0 where
   pub j : Joint
   pub same : IsSame (below j) v.state
   pub knows : IsPermutation (map known_of j.divided) (knowns (class_rules v.rules) b)
@@ -283,7 +283,7 @@ pub record IsCoupled (v : DeviceView) (b : Books) : Type 0 where
   pub keeps : Keeps (class_rules v.rules) j
 
 -- between calls; the rooms below that are in the class driver's hands are out there
-pub record IsInHand (v : DeviceView) (b : Books) : Type 0 where
+pub record IsInHand (v : DeviceView) (b : TableView) : Type 0 where
   pub port : IsPort v.rules
   pub sound : IsSound v.state
   pub counted : AreCounted v.rules v.state
@@ -297,6 +297,6 @@ pub record IsInHand (v : DeviceView) (b : Books) : Type 0 where
   pub orderly : IsOrderly (view_of v b)
 
 -- between calls, over a layer of which the class driver knows what it takes
-pub record IsDriver (takes_srb : Bool) (stack_size : ℕ) (v : DeviceView) (b : Books) : Type 0 where
+pub record IsDriver (takes_srb : Bool) (stack_size : ℕ) (v : DeviceView) (b : TableView) : Type 0 where
   pub takes : TakesParts takes_srb stack_size
   pub in_hand : IsInHand v b

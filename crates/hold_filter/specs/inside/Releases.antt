@@ -5,7 +5,7 @@ use Rattle.srb.specs.declared.DeviceLabel.{DeviceLabel}
 use Rattle.machine.specs.Sending.{IsStart}
 use Rattle.device.specs.View.{DeviceView, IsReady, AsksInLocation, Carries, packet_of, request_at}
 use Rattle.device.specs.Served.{Moves, StaysOpen, Submits}
-use Rattle.hold_filter.specs.inside.Books.{Books}
+use Rattle.hold_filter.specs.inside.TableView.{TableView}
 use Rattle.hold_filter.specs.inside.Packets.{PassesDown}
 
 -- what is asked of a packet that goes below
@@ -33,16 +33,16 @@ pub record Releases (old new : DeviceView) : Type 0 where
   pub moves : Moves old starts new
 
 -- one packet fewer is held
-abbrev pub LetsOneGo : Books → Books → Type 0
+abbrev pub LetsOneGo : TableView → TableView → Type 0
 LetsOneGo old new = length new.held < length old.held
 
 -- none may go: the filter is paused or removed, none is held, or the window is full
-abbrev pub NoneMayGo : DeviceView → Books → Type 0
+abbrev pub NoneMayGo : DeviceView → TableView → Type 0
 NoneMayGo v b = IsFalse b.paused → IsFalse b.removing → (b.held ≡ []) ⊎ (b.window ≤ length v.state.requests)
 
 -- what it leaves as it is: all that is open below and all that was cancelled while it was held, and everything where
 -- none may go
-pub record Spares (v : DeviceView) (b : Books) (v' : DeviceView) (b' : Books) : Type 0 where
+pub record Spares (v : DeviceView) (b : TableView) (v' : DeviceView) (b' : TableView) : Type 0 where
   pub below : All (StaysOpen v'.state) v.state.requests
   pub rules : v'.rules ≡ v.rules
   pub ended : b'.ended ≡ b.ended

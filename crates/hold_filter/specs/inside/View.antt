@@ -10,7 +10,7 @@ use Rattle.device.specs.View.{DeviceView, Packet, Reserved, sent_bytes}
 use Rattle.hold_filter.specs.declared.table.Held.{Held}
 use Rattle.hold_filter.specs.declared.table.Table.{Table}
 use Rattle.hold_filter.specs.Shown.{Queued, FilterView}
-use Rattle.hold_filter.specs.inside.Books.{Books, books_of, here}
+use Rattle.hold_filter.specs.inside.TableView.{TableView, books_of, here}
 use Rattle.hold_filter.specs.inside.Packets.{request_in}
 
 -- PACKETS
@@ -33,7 +33,7 @@ packet_here held = record {
 }
 
 -- all packets
-abbrev pub packets_of : DeviceView → Books → List Packet
+abbrev pub packets_of : DeviceView → TableView → List Packet
 packets_of v b = map packet_below v.packets ++ map packet_here (here b)
 
 -- what is reserved below, but for the rooms of these packets
@@ -56,23 +56,23 @@ open_here rules late held = record {
 }
 
 -- during a pause, and once the device is removed, all that are here are late
-abbrev pub are_late : Books → Bool
+abbrev pub are_late : TableView → Bool
 are_late b = b.paused || b.removing
 
 -- the requests here
-abbrev pub requests_here : Rules → Books → List OpenRequest
+abbrev pub requests_here : Rules → TableView → List OpenRequest
 requests_here rules b = map (open_here rules (are_late b)) (here b)
 
 -- what the filter adds to the machine below
-abbrev pub frame_of : Rules → Books → Frame
+abbrev pub frame_of : Rules → TableView → Frame
 frame_of rules b = record { held = requests_here rules b; next_request = b.last_number + 1; paused = b.paused }
 
 -- the machine
-abbrev pub state_of : DeviceView → Books → State
+abbrev pub state_of : DeviceView → TableView → State
 state_of v b = framed (frame_of v.rules b) v.state
 
 -- the device that the filter is
-abbrev pub view_of : DeviceView → Books → DeviceView
+abbrev pub view_of : DeviceView → TableView → DeviceView
 view_of v b = record {
   rules = with_window (Some b.window) v.rules;
   state = state_of v b;

@@ -4,11 +4,11 @@ use Rattle.std.specs.List.Sorted.{IsPermutation}
 use Rattle.std.proofs.lemmas.List.Sorted.{length_permutation, All-permutation}
 use Rattle.adapter.specs.View.{AdapterView}
 use Rattle.machine.specs.declared.Request.{Request}
-use Rattle.port.specs.inside.Books.{Books}
+use Rattle.port.specs.inside.TableView.{TableView}
 use Rattle.port.specs.Shown.{rules_of}
-use Rattle.port.specs.inside.Kept.{PortKept, IsInHand, IsRoom}
+use Rattle.port.specs.inside.Invariant.{PortKept, IsInHand, IsRoom}
 
-pub kept_any_order : (b : Books) (v : AdapterView) (some others : List Request) → IsPermutation some others → PortKept b v some → PortKept b v others
+pub kept_any_order : (b : TableView) (v : AdapterView) (some others : List Request) → IsPermutation some others → PortKept b v some → PortKept b v others
 kept_any_order b v some others same h = record {
   adapter = h.adapter;
   sizes = h.sizes;
@@ -30,5 +30,5 @@ kept_any_order b v some others same h = record {
   labels = h.labels;
 }
 
-pub any_order_lem : (b : Books) (v : AdapterView) (some others : List Request) → IsPermutation some others → IsInHand b v some → IsInHand b v others
+pub any_order_lem : (b : TableView) (v : AdapterView) (some others : List Request) → IsPermutation some others → IsInHand b v some → IsInHand b v others
 any_order_lem b v some others same h = record { kept = kept_any_order b v some others same h.kept; busy = h.busy; orderly = h.orderly }

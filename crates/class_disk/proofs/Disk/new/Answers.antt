@@ -1,4 +1,4 @@
-use Rattle.class_disk.specs.inside.Books.{books_of}
+use Rattle.class_disk.specs.inside.TableView.{books_of}
 use Rattle.class_disk.proofs.Fresh.{opens_in_hand}
 use Rattle.class_disk.proofs.Disk.new.Goals as goal
 

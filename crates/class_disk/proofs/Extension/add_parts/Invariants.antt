@@ -3,7 +3,7 @@ use Rattle.std.specs.Prelude.{vec_capacity}
 use Rattle.device.specs.Served.{ReservesNear}
 use Rattle.srb.specs.declared.Kind.TheVariants.{Write}
 use Rattle.class_disk.specs.inside.Blocks.{part_count_of}
-use Rattle.class_disk.specs.inside.Midway.{AreNewParts, MakesParts}
+use Rattle.class_disk.specs.inside.DuringACall.{AreNewParts, MakesParts}
 use Rattle.class_disk.proofs.Extension.add_parts.Given as goal
 
 -- this many parts were made, and their rooms are out

@@ -1,5 +1,5 @@
 -- The part's packet goes down with the payload that came back, under the next number.
-use Rattle.class_disk.specs.inside.Books.{books_of}
+use Rattle.class_disk.specs.inside.TableView.{books_of}
 use Rattle.class_disk.proofs.PartSending.{is_ready, number_high, few_locations, asks_there, carries_there, own_again, carries_again, sends_again_there}
 use Rattle.class_disk.proofs.Extension.send_again.Goals as goal
 

@@ -1,5 +1,5 @@
 -- The layer below is asked for what the part can be sent with.
-use Rattle.class_disk.specs.inside.Books.{books_of}
+use Rattle.class_disk.specs.inside.TableView.{books_of}
 use Rattle.class_disk.proofs.PartSending.{is_ready, number_high, few_locations, asks_there, carries_there, own_sent, carries_sent, sends_there}
 use Rattle.class_disk.proofs.Extension.send_part.Goals as goal
 

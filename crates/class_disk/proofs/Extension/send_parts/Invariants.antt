@@ -1,4 +1,4 @@
-use Rattle.class_disk.specs.inside.Books.{books_of}
+use Rattle.class_disk.specs.inside.TableView.{books_of}
 use Rattle.class_disk.proofs.AllSent.{SentSoFar}
 use Rattle.class_disk.proofs.Extension.send_parts.Given as goal
 

@@ -2,9 +2,9 @@
 use Rattle.std.proofs.Common.{ap, subst}
 use Rattle.irp.specs.declared.Irp.{Irp}
 use Rattle.class_disk.specs.declared.parts.PartId.{PartId}
-use Rattle.class_disk.specs.inside.Kept.{WasSent}
+use Rattle.class_disk.specs.inside.Invariant.{WasSent}
 use Rattle.class_disk.specs.inside.Parts.{EndsBack, GoesAgain}
-use Rattle.class_disk.specs.inside.Books.{books_of}
+use Rattle.class_disk.specs.inside.TableView.{books_of}
 use Rattle.class_disk.proofs.Standing.{rising}
 use Rattle.class_disk.proofs.Handed.{finished_by}
 use Rattle.class_disk.proofs.TakingOne.{is_open_there, end_needs, end_place, owner_inside}

@@ -2,9 +2,9 @@ use Rattle.std.proofs.Common.{◌≡◌, ap, subst}
 use Rattle.irp.specs.declared.Irp.{Irp}
 use Rattle.class_disk.specs.declared.parts.PartId.{PartId}
 use Rattle.class_disk.specs.declared.parts.Outcome.TheVariants.{Withdrawn}
-use Rattle.class_disk.specs.inside.Kept.{NeverSent}
-use Rattle.class_disk.specs.inside.Books.{books_of}
-use Rattle.class_disk.specs.inside.Turns.{ended_at, ended_books}
+use Rattle.class_disk.specs.inside.Invariant.{NeverSent}
+use Rattle.class_disk.specs.inside.TableView.{books_of}
+use Rattle.class_disk.specs.inside.TableCalls.{ended_at, ended_books}
 use Rattle.class_disk.proofs.Standing.{rising}
 use Rattle.class_disk.proofs.Handed.{finished_by}
 use Rattle.class_disk.proofs.TakingOne.{end_needs, end_place, owner_inside, takes_one}

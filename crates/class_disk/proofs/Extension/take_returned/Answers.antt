@@ -1,6 +1,6 @@
 -- Each packet taken leaves fewer below, or uses up a restart.
-use Rattle.class_disk.specs.inside.Kept.{WasSent}
-use Rattle.class_disk.specs.inside.Books.{books_of}
+use Rattle.class_disk.specs.inside.Invariant.{WasSent}
+use Rattle.class_disk.specs.inside.TableView.{books_of}
 use Rattle.class_disk.proofs.TakingAll.{takes_nothing, takes_more, takes_all}
 use Rattle.class_disk.proofs.Extension.take_returned.Goals as goal
 

@@ -1,6 +1,6 @@
 use Rattle.std.proofs.Common.{◌+◌, length}
-use Rattle.class_disk.specs.inside.Kept.{WasSent}
-use Rattle.class_disk.specs.inside.Books.{books_of, restarts_left}
+use Rattle.class_disk.specs.inside.Invariant.{WasSent}
+use Rattle.class_disk.specs.inside.TableView.{books_of, restarts_left}
 use Rattle.class_disk.proofs.TakingAll.{TakesSome}
 use Rattle.class_disk.proofs.Extension.take_returned.Given as goal
 

@@ -1,4 +1,4 @@
-use Rattle.class_disk.specs.inside.Books.{books_of}
+use Rattle.class_disk.specs.inside.TableView.{books_of}
 use Rattle.class_disk.proofs.TakingOne.{takes_none_yet, takes_one_more, takes_all}
 use Rattle.class_disk.proofs.Extension.take_withdrawn.Goals as goal
 

@@ -1,5 +1,5 @@
 use Rattle.std.proofs.Common.{◌+◌, length}
-use Rattle.class_disk.specs.inside.Books.{books_of, restarts_left}
+use Rattle.class_disk.specs.inside.TableView.{books_of, restarts_left}
 use Rattle.class_disk.proofs.TakingOne.{WithdrawsSome}
 use Rattle.class_disk.proofs.Extension.take_withdrawn.Given as goal
 

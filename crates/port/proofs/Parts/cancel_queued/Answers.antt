@@ -1,4 +1,4 @@
-use Rattle.port.specs.inside.Books.{books_of}
+use Rattle.port.specs.inside.TableView.{books_of}
 use Rattle.port.proofs.Spots.{queued}
 use Rattle.port.proofs.Parts.cancel_queued.Goals as goal
 

@@ -1,5 +1,5 @@
 use Rattle.std.proofs.Common.{◌∙◌, ap, refl, arith, length}
-use Rattle.port.specs.inside.Books.{Books, books_of}
+use Rattle.port.specs.inside.TableView.{TableView, books_of}
 use Rattle.port.proofs.Marking.{none_started, cancels_first, none_to_here}
 use Rattle.port.proofs.Parts.cancel_started.Goals as goal
 
@@ -8,7 +8,7 @@ loop-tag-init g c = record { adapter = refl; queues = refl; none = λ lower belo
 
 pub cancel_on_tag-requires : goal.cancel_on_tag-requires
 cancel_on_tag-requires g c =
-    let e = ap (λ (b : Books). length b.started) c.loop-tag.invariant.queues in
+    let e = ap (λ (b : TableView). length b.started) c.loop-tag.invariant.queues in
     let k = c.requires.1.kept.started in
     omega arith
 

@@ -1,8 +1,8 @@
 use Rattle.std.proofs.Common.{◌≡◌, ◌<◌, ℕ}
 use Rattle.std.specs.Prelude.{Any}
 use Rattle.adapter.specs.View.{HasTag}
-use Rattle.port.specs.inside.Books.{books_of}
-use Rattle.port.specs.inside.Turns.{CannotCancelOn}
+use Rattle.port.specs.inside.TableView.{books_of}
+use Rattle.port.specs.inside.TableCalls.{CannotCancelOn}
 use Rattle.port.proofs.Parts.cancel_started.Given as goal
 
 abbrev pub invariant-loop-tag : goal.invariant-loop-tag

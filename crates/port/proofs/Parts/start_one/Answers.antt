@@ -1,4 +1,4 @@
-use Rattle.port.specs.inside.Books.{books_of}
+use Rattle.port.specs.inside.TableView.{books_of}
 use Rattle.port.proofs.Starting.{started_one, releases_none, releases_same, in_use_lower, packed, accepts_front, label_room}
 use Rattle.port.proofs.Parts.start_one.Goals as goal
 

@@ -1,6 +1,6 @@
 use Rattle.std.proofs.Common.{◌≡◌, ap, arith, inr, length, refl}
 use Rattle.machine.specs.Rules.{Rules}
-use Rattle.port.specs.inside.Books.{books_of}
+use Rattle.port.specs.inside.TableView.{books_of}
 use Rattle.port.proofs.Starting.{releases_none, releases_then}
 use Rattle.port.proofs.Queued.{none_waits}
 use Rattle.port.proofs.Orderly.{in_hand, busy_after}

@@ -1,7 +1,7 @@
 use Rattle.std.proofs.Common.{◌≡◌, List}
 use Rattle.machine.specs.declared.Request.{Request}
-use Rattle.port.specs.inside.Books.{books_of}
-use Rattle.port.specs.inside.Kept.{PortKept}
+use Rattle.port.specs.inside.TableView.{books_of}
+use Rattle.port.specs.inside.Invariant.{PortKept}
 use Rattle.port.specs.inside.Releases.{Releases, AreLowerInUse}
 use Rattle.port.proofs.Parts.start_waiting.Given as goal
 

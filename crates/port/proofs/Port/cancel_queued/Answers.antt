@@ -1,4 +1,4 @@
-use Rattle.port.specs.inside.Books.{books_of}
+use Rattle.port.specs.inside.TableView.{books_of}
 use Rattle.port.specs.Shown.{reserved_of}
 use Rattle.port.proofs.Seeing.{queue_seen}
 use Rattle.port.proofs.Sound.{sound_on}

@@ -2,7 +2,7 @@ use Rattle.std.proofs.Common.{ap, map}
 use Rattle.port.specs.Shown.{packet, of_waiting}
 use Rattle.port.proofs.Fresh.{opens_seen, sizes_are}
 use Rattle.port.proofs.Sound.{sound_opens}
-use Rattle.port.specs.inside.Books.{books_of}
+use Rattle.port.specs.inside.TableView.{books_of}
 use Rattle.port.proofs.Port.new.Goals as goal
 
 pub invariant_of-result : goal.invariant_of-result

@@ -1,4 +1,4 @@
-use Rattle.class_disk.specs.inside.Books.{books_of}
+use Rattle.class_disk.specs.inside.TableView.{books_of}
 use Rattle.class_disk.proofs.Acting.{books_above}
 use Rattle.class_disk.proofs.layer.DiskDevice.book.Goals as goal
 

@@ -1,7 +1,7 @@
 use Rattle.std.proofs.Common.{sym, subst}
 use Rattle.device.specs.View.{DeviceView}
 use Rattle.device.specs.Served.{CancelsIfOpen, CancelsAt}
-use Rattle.class_disk.specs.inside.Books.{books_of}
+use Rattle.class_disk.specs.inside.TableView.{books_of}
 use Rattle.class_disk.proofs.CancellingAt.{none_cancellable, by_spot}
 use Rattle.class_disk.proofs.layer.DiskDevice.cancel.Goals as goal
 

@@ -1,6 +1,6 @@
 use Rattle.std.proofs.Common.{[], refl, ap}
 use Rattle.class_disk.specs.declared.table.Table.{Table}
-use Rattle.class_disk.specs.inside.Books.{books_of}
+use Rattle.class_disk.specs.inside.TableView.{books_of}
 use Rattle.class_disk.proofs.Standing.{rising, apart_in}
 use Rattle.class_disk.proofs.CancellingAt.{none_at, still_open, midway_at, hand_at, cancels_at}
 use Rattle.class_disk.proofs.layer.DiskDevice.cancel_at.Goals as goal

@@ -1,5 +1,5 @@
 use Rattle.std.proofs.Common.{[], refl}
-use Rattle.class_disk.specs.inside.Books.{books_of}
+use Rattle.class_disk.specs.inside.TableView.{books_of}
 use Rattle.class_disk.proofs.Standing.{apart_in}
 use Rattle.class_disk.proofs.Draining.{midway_drained, hand_drained, drains_above}
 use Rattle.class_disk.proofs.layer.DiskDevice.drain.Goals as goal

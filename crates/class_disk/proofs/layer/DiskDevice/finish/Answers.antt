@@ -1,7 +1,7 @@
 -- The piece comes back below, and all that has ended is taken.
 use Rattle.std.proofs.Common.{◌+◌, ◌≤◌, refl, sym, subst}
 use Rattle.device.specs.View.{DeviceView, label_places}
-use Rattle.class_disk.specs.inside.Books.{books_of}
+use Rattle.class_disk.specs.inside.TableView.{books_of}
 use Rattle.class_disk.proofs.Acting.{label_place, hand_same}
 use Rattle.class_disk.proofs.Standing.{apart_in}
 use Rattle.class_disk.proofs.Finished.{free_above, midway_begins, finish_ends}

@@ -2,7 +2,7 @@
 use Rattle.std.proofs.Common.{refl, sym, subst}
 use Rattle.device.specs.View.{DeviceView, IsReserved}
 use Rattle.class_disk.specs.declared.table.Table.{Table}
-use Rattle.class_disk.specs.inside.Books.{books_of}
+use Rattle.class_disk.specs.inside.TableView.{books_of}
 use Rattle.class_disk.specs.inside.Driver.{tickets, view_of, IsInHand}
 use Rattle.device.specs.Served.{Frees}
 use Rattle.class_disk.proofs.Standing.{apart_in}

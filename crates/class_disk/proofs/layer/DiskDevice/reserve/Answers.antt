@@ -4,8 +4,8 @@ use Rattle.device.specs.View.{DeviceView, IsBounded}
 use Rattle.class_disk.specs.declared.Sizes.{Sizes}
 use Rattle.class_disk.specs.declared.table.Table.{Table}
 use Rattle.class_disk.specs.inside.Blocks.{AreSizes}
-use Rattle.class_disk.specs.inside.Books.{Books, books_of, held_as}
-use Rattle.class_disk.specs.inside.Midway.{CanCut}
+use Rattle.class_disk.specs.inside.TableView.{TableView, books_of, held_as}
+use Rattle.class_disk.specs.inside.DuringACall.{CanCut}
 use Rattle.class_disk.specs.Shown.{class_rules}
 use Rattle.class_disk.specs.inside.Driver.{view_of}
 use Rattle.device.specs.Served.{ReservesNone}
@@ -40,7 +40,7 @@ reserve_parts-requires-clause-in_order g c = (_, c.self.invariant.in_hand.rooms_
 
 pub reserve_parts-requires-clause-cuts : goal.reserve_parts-requires-clause-cuts
 reserve_parts-requires-clause-cuts g c =
-    subst (λ (s : Sizes). CanCut s (g.D.Shown.view c.self.inside.extension.device).rules c.args.request.now) (sym (ap (λ (b : Books). b.sizes) c.make_slot.ensures.same.after))
+    subst (λ (s : Sizes). CanCut s (g.D.Shown.view c.self.inside.extension.device).rules c.args.request.now) (sym (ap (λ (b : TableView). b.sizes) c.make_slot.ensures.same.after))
     (can_cut (g.D.Shown.view c.self.inside.extension.device) c.self.inside.extension.table.sizes c.args.request.now c.self.invariant.in_hand.port c.self.invariant.in_hand.rooms_out.orderly c.self.invariant.in_hand.kept.sizes
     (subst (λ (x : DeviceView). IsBounded x.rules c.args.request.now) (sym c.self.view_is) c.requires.bounded))
 
@@ -71,7 +71,7 @@ invariant_of-self-2 g c = record {
       (ap (λ (t : Table). books_of t) c.reserve_parts.ensures.table) (held_as c.in_ok-slot.slot (record { request = c.args.request.now; parts = c.in_ok-parts.parts })) refl c.in_ok-parts.ensures.makes
       (books_of c.fill.new.self) c.fill.ensures
       (new_held c.make_slot.new.self.sizes c.args.request.now _ _ (held_as c.in_ok-slot.slot (record { request = c.args.request.now; parts = c.in_ok-parts.parts })) refl
-      (subst (λ (s : Sizes). AreSizes s (class_rules (g.D.Shown.view c.self.inside.extension.device).rules)) (sym (ap (λ (b : Books). b.sizes) c.make_slot.ensures.same.after)) c.self.invariant.in_hand.kept.sizes)
+      (subst (λ (s : Sizes). AreSizes s (class_rules (g.D.Shown.view c.self.inside.extension.device).rules)) (sym (ap (λ (b : TableView). b.sizes) c.make_slot.ensures.same.after)) c.self.invariant.in_hand.kept.sizes)
       (subst (λ (x : DeviceView). IsBounded x.rules c.args.request.now) (sym c.self.view_is) c.requires.bounded) c.in_ok-parts.ensures.parts c.in_ok-parts.ensures.makes.owned)
       (apart_in _ c.fill.new.self.slots.slots refl refl) (place_there c.make_slot.new.self c.in_ok-slot.ensures.place)).0;
 }
@@ -82,7 +82,7 @@ returns-clause-reserved g c =
     (ap (λ (t : Table). books_of t) c.reserve_parts.ensures.table) (held_as c.in_ok-slot.slot (record { request = c.args.request.now; parts = c.in_ok-parts.parts })) refl c.in_ok-parts.ensures.makes
     (books_of c.fill.new.self) c.fill.ensures
     (new_held c.make_slot.new.self.sizes c.args.request.now _ _ (held_as c.in_ok-slot.slot (record { request = c.args.request.now; parts = c.in_ok-parts.parts })) refl
-    (subst (λ (s : Sizes). AreSizes s (class_rules (g.D.Shown.view c.self.inside.extension.device).rules)) (sym (ap (λ (b : Books). b.sizes) c.make_slot.ensures.same.after)) c.self.invariant.in_hand.kept.sizes)
+    (subst (λ (s : Sizes). AreSizes s (class_rules (g.D.Shown.view c.self.inside.extension.device).rules)) (sym (ap (λ (b : TableView). b.sizes) c.make_slot.ensures.same.after)) c.self.invariant.in_hand.kept.sizes)
     (subst (λ (x : DeviceView). IsBounded x.rules c.args.request.now) (sym c.self.view_is) c.requires.bounded) c.in_ok-parts.ensures.parts c.in_ok-parts.ensures.makes.owned)
     (apart_in _ c.fill.new.self.slots.slots refl refl) (place_there c.make_slot.new.self c.in_ok-slot.ensures.place)).1
 

@@ -1,6 +1,6 @@
 -- The packet of a request that has ended goes up, and its room is left.
 use Rattle.std.proofs.Common.{refl}
-use Rattle.class_disk.specs.inside.Books.{books_of, opened_of}
+use Rattle.class_disk.specs.inside.TableView.{books_of, opened_of}
 use Rattle.class_disk.proofs.Ended.{ended_open, small_up, room_up, hands_up}
 use Rattle.class_disk.proofs.Standing.{apart_in}
 use Rattle.class_disk.proofs.NoneEnded.{none_up}

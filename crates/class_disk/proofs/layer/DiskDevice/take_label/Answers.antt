@@ -1,4 +1,4 @@
-use Rattle.class_disk.specs.inside.Books.{books_of}
+use Rattle.class_disk.specs.inside.TableView.{books_of}
 use Rattle.class_disk.proofs.Acting.{takes_above}
 use Rattle.class_disk.proofs.layer.DiskDevice.take_label.Goals as goal
 

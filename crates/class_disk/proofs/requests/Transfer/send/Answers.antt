@@ -7,9 +7,9 @@ use Rattle.device.specs.View.{AsksFor, AsksInLocation, payload_bytes, transfer_l
 use Rattle.class_disk.specs.declared.parts.Part.{Part}
 use Rattle.class_disk.specs.declared.parts.Place.{Place}
 use Rattle.class_disk.specs.inside.Blocks.{FitsBlock, data_length, IsOwnPacket}
-use Rattle.class_disk.specs.inside.Books.{opened_of}
+use Rattle.class_disk.specs.inside.TableView.{opened_of}
 use Rattle.class_disk.specs.inside.Parts.{HasBuffers}
-use Rattle.class_disk.specs.inside.Turns.{bytes_from, with_part, sent_part}
+use Rattle.class_disk.specs.inside.TableCalls.{bytes_from, with_part, sent_part}
 use Rattle.class_disk.proofs.SentData.{found_part, same_place, write_buffer, IsDataOf, data_written, data_other, sends_with, still_inside}
 use Rattle.class_disk.proofs.requests.Transfer.send.Goals.{in-Buffer-Write, in_default, in_default-via-in-Buffer+in_default, in_default-via-in_default}
 use Rattle.class_disk.proofs.requests.Transfer.send.Goals as goal

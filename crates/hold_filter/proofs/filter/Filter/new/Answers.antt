@@ -1,15 +1,15 @@
 use Rattle.std.proofs.Common.{◌≡◌, subst, sym}
 use Rattle.hold_filter.specs.Opening.{opening_over}
-use Rattle.hold_filter.specs.inside.Books.{Books}
+use Rattle.hold_filter.specs.inside.TableView.{TableView}
 use Rattle.hold_filter.specs.inside.View.{view_of}
-use Rattle.hold_filter.specs.inside.Kept.{IsInHand}
+use Rattle.hold_filter.specs.inside.Invariant.{IsInHand}
 use Rattle.hold_filter.proofs.Opening.{hand_opening, opening_is}
 use Rattle.hold_filter.proofs.filter.Filter.new.Goals as goal
 
 pub invariant_of-result : goal.invariant_of-result
 invariant_of-result g c = record {
   buffers = c.requires.buffers;
-  in_hand = subst (λ (b : Books). IsInHand g.D.Shown.stack_size (g.D.Shown.view c.args.device) b)
+  in_hand = subst (λ (b : TableView). IsInHand g.D.Shown.stack_size (g.D.Shown.view c.args.device) b)
       (sym c.new-table.ensures)
       (hand_opening g.D.Shown.stack_size (g.D.Shown.view c.args.device) c.args.window c.requires.locations
       c.requires.some c.requires.device c.shows_order.ensures.order c.most_fits.ensures.fits);
@@ -17,7 +17,7 @@ invariant_of-result g c = record {
 
 pub returns-clause-opening : goal.returns-clause-opening
 returns-clause-opening g c =
-    subst (λ (b : Books). view_of (g.D.Shown.view c.args.device) b ≡ opening_over c.args.window
+    subst (λ (b : TableView). view_of (g.D.Shown.view c.args.device) b ≡ opening_over c.args.window
     (g.D.Shown.view c.args.device)) (sym c.new-table.ensures)
     (opening_is g.D.Shown.stack_size (g.D.Shown.view c.args.device) c.args.window c.requires.locations
     c.requires.some

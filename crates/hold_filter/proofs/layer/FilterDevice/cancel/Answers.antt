@@ -1,14 +1,14 @@
 use Rattle.std.proofs.Common.{subst, sym}
 use Rattle.std.specs.Prelude.{All}
-use Rattle.hold_filter.specs.inside.Books.{Books, books_of}
-use Rattle.hold_filter.specs.inside.Turns.{MayEnd}
+use Rattle.hold_filter.specs.inside.TableView.{TableView, books_of}
+use Rattle.hold_filter.specs.inside.TableCalls.{MayEnd}
 use Rattle.hold_filter.proofs.Cancelling.{may_end_all, cancelled_held, cancelled_below}
 use Rattle.hold_filter.proofs.layer.FilterDevice.cancel.Goals as goal
 
 pub withdraw-requires : goal.withdraw-requires
 withdraw-requires g c =
     record {
-      may_end = subst (λ (b : Books). All (MayEnd b) b.held) (sym c.find_held.ensures.same)
+      may_end = subst (λ (b : TableView). All (MayEnd b) b.held) (sym c.find_held.ensures.same)
           (may_end_all _ _ _ c.self.invariant.in_hand);
     }
 

@@ -1,4 +1,4 @@
-use Rattle.hold_filter.specs.inside.Books.{books_of}
+use Rattle.hold_filter.specs.inside.TableView.{books_of}
 use Rattle.hold_filter.proofs.Cancelling.{may_end_all, if_true, if_false, at_held, at_any}
 use Rattle.hold_filter.proofs.layer.FilterDevice.cancel_at.Goals as goal
 

@@ -2,9 +2,9 @@ use Rattle.std.proofs.Common.{ap, subst, sym, ◌∙◌}
 use Rattle.std.specs.Prelude.{All}
 use Rattle.machine.specs.Settled.{WaitsIfCancelled}
 use Rattle.hold_filter.specs.Shown.{FilterView}
-use Rattle.hold_filter.specs.inside.Books.{Books, books_of}
+use Rattle.hold_filter.specs.inside.TableView.{TableView, books_of}
 use Rattle.hold_filter.specs.inside.View.{view_of}
-use Rattle.hold_filter.specs.inside.Kept.{FilterKept}
+use Rattle.hold_filter.specs.inside.Invariant.{FilterKept}
 use Rattle.hold_filter.specs.inside.Releases.{Releases}
 use Rattle.hold_filter.proofs.Turning.{kept_resumed, resumes}
 use Rattle.hold_filter.proofs.layer.FilterHold.resume.Goals as goal
@@ -14,14 +14,14 @@ release-requires-clause-kept g c =
     let paused = ap (λ (f : FilterView). f.shown.state.paused) c.self.view_is ∙ c.requires.paused in
     let taken = subst (λ (f : FilterView). All WaitsIfCancelled f.shown.state.requests)
     (sym c.self.view_is) c.requires.taken in
-    subst (λ (b : Books). FilterKept g.D.Shown.stack_size (g.D.Shown.view c.self.inside.parts.device) b)
+    subst (λ (b : TableView). FilterKept g.D.Shown.stack_size (g.D.Shown.view c.self.inside.parts.device) b)
     (sym c.resume.ensures) (kept_resumed _ _ _ c.self.invariant.in_hand paused taken)
 
 pub returns : goal.returns
 returns g c =
     let paused = ap (λ (f : FilterView). f.shown.state.paused) c.self.view_is ∙ c.requires.paused in
     let released = subst
-    (λ (b : Books). Releases (view_of (g.D.Shown.view c.self.inside.parts.device) b)
+    (λ (b : TableView). Releases (view_of (g.D.Shown.view c.self.inside.parts.device) b)
     (view_of (g.D.Shown.view c.release.new.self.device) (books_of c.release.new.self.table))) c.resume.ensures
     c.release.ensures.releases in
     rw (← c.self.view_is)

@@ -1,7 +1,7 @@
 use Rattle.std.proofs.Common.{length}
-use Rattle.hold_filter.specs.inside.Books.{books_of}
+use Rattle.hold_filter.specs.inside.TableView.{books_of}
 use Rattle.hold_filter.specs.inside.View.{view_of}
-use Rattle.hold_filter.specs.inside.Kept.{FilterKept}
+use Rattle.hold_filter.specs.inside.Invariant.{FilterKept}
 use Rattle.hold_filter.specs.inside.Releases.{Releases, Spares}
 use Rattle.hold_filter.proofs.parts.Parts.release.Given as goal
 

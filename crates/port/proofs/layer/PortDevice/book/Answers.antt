@@ -1,4 +1,4 @@
-use Rattle.port.specs.inside.Books.{books_of}
+use Rattle.port.specs.inside.TableView.{books_of}
 use Rattle.port.specs.Shown.{reserved_of}
 use Rattle.port.proofs.Booking.{booked_all}
 use Rattle.port.proofs.Seeing.{shown_is}

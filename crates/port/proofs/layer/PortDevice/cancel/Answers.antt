@@ -1,4 +1,4 @@
-use Rattle.port.specs.inside.Books.{books_of}
+use Rattle.port.specs.inside.TableView.{books_of}
 use Rattle.port.specs.Shown.{reserved_of}
 use Rattle.port.proofs.Draining.{cancelled_waiting}
 use Rattle.port.proofs.Marking.{hand_cancelled_out, hand_cancelled_last}

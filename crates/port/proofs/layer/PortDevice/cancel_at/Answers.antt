@@ -1,4 +1,4 @@
-use Rattle.port.specs.inside.Books.{books_of}
+use Rattle.port.specs.inside.TableView.{books_of}
 use Rattle.port.specs.Shown.{reserved_of}
 use Rattle.port.proofs.Spots.{at_queued, at_started, at_last}
 use Rattle.port.proofs.Sound.{sound_on, same_cancelled_at}

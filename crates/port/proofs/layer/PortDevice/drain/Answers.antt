@@ -1,5 +1,5 @@
 use Rattle.std.proofs.Common.{arith}
-use Rattle.port.specs.inside.Books.{books_of}
+use Rattle.port.specs.inside.TableView.{books_of}
 use Rattle.port.specs.Shown.{reserved_of}
 use Rattle.port.proofs.Draining.{hand_drained, drains_all}
 use Rattle.port.proofs.Sound.{sound_on}

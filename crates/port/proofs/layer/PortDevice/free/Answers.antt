@@ -1,4 +1,4 @@
-use Rattle.port.specs.inside.Books.{books_of}
+use Rattle.port.specs.inside.TableView.{books_of}
 use Rattle.port.proofs.Sound.{slot_at, sound_freed, frees_shown}
 use Rattle.port.proofs.Seeing.{shown_is}
 use Rattle.port.proofs.layer.PortDevice.free.Goals as goal

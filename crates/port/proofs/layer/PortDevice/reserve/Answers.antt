@@ -1,5 +1,5 @@
 use Rattle.std.proofs.Common.{rules, ◌≡◌, ◌≤◌, ◌+◌, ◌∙◌, length, sym, subst, arith, Err}
-use Rattle.port.specs.inside.Books.{Books, books_of}
+use Rattle.port.specs.inside.TableView.{TableView, books_of}
 use Rattle.port.specs.Shown.{reserved_of}
 use Rattle.device.specs.View.{DeviceView, IsBounded}
 use Rattle.port.proofs.Rooms.{hand_after}
@@ -10,7 +10,7 @@ use Rattle.port.proofs.layer.PortDevice.reserve.Goals as goal
 pub add_place-requires : goal.add_place-requires
 add_place-requires g c =
     let k = c.self.invariant.kept.places in
-    subst (λ (b : Books). length b.waiting + length b.done ≤ b.places) (sym c.reserve_extent.ensures.queues) (omega arith)
+    subst (λ (b : TableView). length b.waiting + length b.done ≤ b.places) (sym c.reserve_extent.ensures.queues) (omega arith)
 
 pub returns-in_err-reserve_extent-clause-refused : goal.returns-in_err-reserve_extent-clause-refused
 returns-in_err-reserve_extent-clause-refused g c =

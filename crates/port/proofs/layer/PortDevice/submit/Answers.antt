@@ -1,5 +1,5 @@
 use Rattle.std.proofs.Common.{subst}
-use Rattle.port.specs.inside.Books.{books_of}
+use Rattle.port.specs.inside.TableView.{books_of}
 use Rattle.port.specs.Shown.{reserved_of, view_of}
 use Rattle.device.specs.View.{DeviceView, request_at, whole_for, packet_of}
 use Rattle.device.specs.Served.{Submits}

@@ -1,4 +1,4 @@
-use Rattle.port.specs.inside.Books.{books_of}
+use Rattle.port.specs.inside.TableView.{books_of}
 use Rattle.port.proofs.Handing.{hands_up_none, hands_up, moved_few}
 use Rattle.port.proofs.Sound.{ended_taken, sound_left}
 use Rattle.port.proofs.Seeing.{shown_is}

@@ -1,5 +1,5 @@
 use Rattle.std.proofs.Common.{refl}
-use Rattle.port.specs.inside.Books.{books_of}
+use Rattle.port.specs.inside.TableView.{books_of}
 use Rattle.port.proofs.Searching.{cancels_ended, cancels_no_ended}
 use Rattle.port.proofs.queues.Queues.cancel_done.Goals as goal
 

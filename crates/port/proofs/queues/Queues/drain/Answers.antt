@@ -1,9 +1,9 @@
 use Rattle.std.proofs.Common.{◌++◌, [], ◌∷◌, List, ap, sym, refl, ◌∙◌, arith, length, map, length-append, append_assoc}
 use Rattle.std.proofs.lemmas.List.{append-nil, map-append}
-use Rattle.port.specs.declared.queues.Held.{Held}
+use Rattle.port.specs.declared.queues.PortPacket.{PortPacket}
 use Rattle.port.specs.declared.queues.Ended.{Ended}
-use Rattle.port.specs.inside.Books.{Books, books_of, held_at}
-use Rattle.port.specs.inside.Turns.{gone}
+use Rattle.port.specs.inside.TableView.{TableView, books_of, held_at}
+use Rattle.port.specs.inside.TableCalls.{gone}
 use Rattle.port.proofs.Searching.{drained_by}
 use Rattle.port.proofs.Queued.{popped}
 use Rattle.port.proofs.queues.Queues.drain.Goals as goal
@@ -13,25 +13,25 @@ loop-spot-init c = record { before = []; waited = refl; went = sym (append-nil _
 
 pub push_back_reserved-requires : goal.push_back_reserved-requires
 push_back_reserved-requires c =
-    let l = ap (λ (hs : List Held). length hs) (popped _ _ _ _ c.in-Some.ensures) in
+    let l = ap (λ (hs : List PortPacket). length hs) (popped _ _ _ _ c.in-Some.ensures) in
     let few = c.loop-spot.invariant.few in
     omega (arith, c.loop-spot.self.done.ok, c.loop-spot.self.done_places)
 
 pub loop-spot-smaller : goal.loop-spot-smaller
-loop-spot-smaller c = let l = ap (λ (hs : List Held). length hs) (popped _ _ _ _ c.in-Some.ensures) in omega arith
+loop-spot-smaller c = let l = ap (λ (hs : List PortPacket). length hs) (popped _ _ _ _ c.in-Some.ensures) in omega arith
 
 pub loop-spot-preserved : goal.loop-spot-preserved
 loop-spot-preserved c =
     let h = held_at (c.in-Some.spot, c.in-Some.waiting) in
     let i = c.loop-spot.invariant in
     let p = popped _ _ _ _ c.in-Some.ensures in
-    let l = ap (λ (hs : List Held). length hs) p in
+    let l = ap (λ (hs : List PortPacket). length hs) p in
     let m = ap (λ (ds : List Ended). length ds) c.push_back_reserved.ensures.items in
     record {
       before = i.before ++ h ∷ [];
-      waited = i.waited ∙ ap (λ (hs : List Held). i.before ++ hs) p ∙ sym (append_assoc i.before (h ∷ []) _);
+      waited = i.waited ∙ ap (λ (hs : List PortPacket). i.before ++ hs) p ∙ sym (append_assoc i.before (h ∷ []) _);
       went = c.push_back_reserved.ensures.items ∙ ap (λ (ds : List Ended). ds ++ gone h ∷ []) i.went ∙ append_assoc _ (map gone i.before) (gone h ∷ []) ∙ ap (λ (ds : List Ended). c.args.self.now.done.items ++ ds) (sym (map-append gone i.before (h ∷ [])));
-      others = ap (λ (x : Books). record x { waiting = map held_at c.pop_front.new.self.entries; done = c.push_back_reserved.new.self.items }) i.others;
+      others = ap (λ (x : TableView). record x { waiting = map held_at c.pop_front.new.self.entries; done = c.push_back_reserved.new.self.items }) i.others;
       few = omega (arith, i.few, length-append c.loop-spot.self.done.items (gone h ∷ []));
     }
 

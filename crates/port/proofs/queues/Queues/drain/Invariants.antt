@@ -1,12 +1,12 @@
 use Rattle.std.proofs.Common.{◌≡◌, ◌≤◌, ◌+◌, List, ◌++◌, map, length}
-use Rattle.port.specs.declared.queues.Held.{Held}
-use Rattle.port.specs.inside.Books.{books_of}
-use Rattle.port.specs.inside.Turns.{gone}
+use Rattle.port.specs.declared.queues.PortPacket.{PortPacket}
+use Rattle.port.specs.inside.TableView.{books_of}
+use Rattle.port.specs.inside.TableCalls.{gone}
 use Rattle.port.proofs.queues.Queues.drain.Given as goal
 
 abbrev pub invariant-loop-spot : goal.invariant-loop-spot
 invariant-loop-spot l = record {
-  before : List Held;
+  before : List PortPacket;
   waited : (books_of l.initial.self).waiting ≡ before ++ (books_of l.self).waiting;
   went : l.self.done.items ≡ l.initial.self.done.items ++ map gone before;
   others : books_of l.self ≡ record (books_of l.initial.self) { waiting = (books_of l.self).waiting; done = l.self.done.items };

@@ -1,6 +1,6 @@
 use Rattle.std.proofs.Common.{refl, ap, map, arith}
 use Rattle.std.specs.Prelude.{is_some, count_by}
-use Rattle.port.specs.inside.Books.{held_at}
+use Rattle.port.specs.inside.TableView.{held_at}
 use Rattle.port.proofs.queues.Queues.new.Goals as goal
 
 pub returns : goal.returns

@@ -1,5 +1,5 @@
 use Rattle.std.proofs.Common.{refl, ap}
-use Rattle.port.specs.inside.Books.{books_of}
+use Rattle.port.specs.inside.TableView.{books_of}
 use Rattle.port.proofs.Queued.{found_none, found}
 use Rattle.port.proofs.queues.Queues.withdraw.Goals as goal
 

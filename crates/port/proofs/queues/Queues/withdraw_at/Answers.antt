@@ -1,5 +1,5 @@
 use Rattle.std.proofs.Common.{refl}
-use Rattle.port.specs.inside.Books.{books_of}
+use Rattle.port.specs.inside.TableView.{books_of}
 use Rattle.port.proofs.Queued.{withdrawn_none, withdrawn}
 use Rattle.port.proofs.queues.Queues.withdraw_at.Goals as goal
 

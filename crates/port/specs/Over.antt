@@ -3,7 +3,7 @@ use Rattle.std.specs.Prelude.{◌≡◌, ◌≢◌, ℕ, List, map, All, Any}
 use Rattle.adapter.specs.View.{AdapterView}
 use Rattle.device.specs.View.{DeviceView, Packet}
 use Rattle.device.specs.Served.{IsAt, CancelsIfOpen}
-use Rattle.port.specs.inside.Books.{Books}
+use Rattle.port.specs.inside.TableView.{TableView}
 use Rattle.port.specs.Shown.{packet, of_waiting, view_of}
 
 -- the layer that it is
@@ -15,7 +15,7 @@ pub record PortView : Type 0 where
   pub visits : ℕ
 
 -- what the queues over an adapter show
-abbrev pub port_of : Books → AdapterView → ℕ → PortView
+abbrev pub port_of : TableView → AdapterView → ℕ → PortView
 port_of b v visits = record { shown = view_of b v; waiting = map (of_waiting packet) b.waiting; visits = visits }
 
 -- a packet of this number waits at the spot, and is cancelled

@@ -21,14 +21,14 @@ use Rattle.class_disk.specs.declared.parts.TransferPacket.{TransferPacket}
 use Rattle.class_disk.specs.declared.parts.PartId.{PartId}
 use Rattle.class_disk.specs.inside.Joint.{Known, Joint, known_of, below, above}
 use Rattle.class_disk.specs.PortRules.{below_rules}
-use Rattle.class_disk.specs.inside.Kept.{IsSound, Keeps, EndedAre, NeverSent, IsNothing, IsOver, HasSome}
+use Rattle.class_disk.specs.inside.Invariant.{IsSound, Keeps, EndedAre, NeverSent, IsNothing, IsOver, HasSome}
 use Rattle.class_disk.specs.Shown.{class_rules, IsPort}
 use Rattle.class_disk.specs.declared.Sizes.{Sizes}
 use Rattle.class_disk.specs.inside.Blocks.{IsCuttable, part_count_of, part_request_of, AreSizes}
 use Rattle.class_disk.specs.inside.Parts.{HasBuffers, payload_in, ticket_for, tickets_of, IsDown, below_by}
 use Rattle.class_disk.specs.inside.Parts.{restarts_of}
-use Rattle.class_disk.specs.inside.Books.{Opened, Books, opened, ended_in, all_open, restarts_left, open_at}
-use Rattle.class_disk.specs.inside.Turns.{IsReadyAt, CanNumber, SendsPart, SendsPartAgain}
+use Rattle.class_disk.specs.inside.TableView.{Opened, TableView, opened, ended_in, all_open, restarts_left, open_at}
+use Rattle.class_disk.specs.inside.TableCalls.{IsReadyAt, CanNumber, SendsPart, SendsPartAgain}
 use Rattle.class_disk.specs.inside.Driver.{known, knowns, tickets, packet_above, IsReadyPart, IsHeld, IsOpen}
 use Rattle.class_disk.specs.inside.Driver.{IsOpenCut, IsBuffered, IsWritten, HaveCauses, AreOwned, WentInTurn}
 use Rattle.class_disk.specs.inside.Driver.{AreAsked, AreSpotted, AreKept, AreBelow}
@@ -50,7 +50,7 @@ pub record IsTaking (rules : Rules) (first : State) (labels : List DeviceLabel)
 -- WHAT WAITS TO BE TAKEN
 
 -- starts behind the first labels, and what of the class driver stays as it was
-pub record GoesOn (v : DeviceView) (b : Books) (starts : List DeviceLabel) (v' : DeviceView) (b' : Books) : Type 0 where
+pub record GoesOn (v : DeviceView) (b : TableView) (starts : List DeviceLabel) (v' : DeviceView) (b' : TableView) : Type 0 where
   pub only_starts : All IsStart starts
   pub adapter : MovesByAll v.adapter starts v'.adapter
   pub same_rules : v'.rules ≡ v.rules
@@ -64,7 +64,7 @@ pub record GoesOn (v : DeviceView) (b : Books) (starts : List DeviceLabel) (v' :
 -- taken yet is all like this: sent, behind a return; never sent, behind a cancellation or a removal; nothing, behind a
 -- submission
 pub record IsMidway (Is : OpenRequest → Type 0) (first : State) (labels : List DeviceLabel)
-    (v : DeviceView) (b : Books) : Type 0 where
+    (v : DeviceView) (b : TableView) : Type 0 where
   pub port : IsPort v.rules
   pub taking : IsTaking (class_rules v.rules) first labels v.state (knowns (class_rules v.rules) b)
   pub rooms_out : AllOut v (tickets b)
@@ -73,8 +73,8 @@ pub record IsMidway (Is : OpenRequest → Type 0) (first : State) (labels : List
   pub ended : EndedAre Is v.rules v.state
 
 -- one packet is taken: wherever the class driver was midway before, it is so after some starts more
-pub record TakesOne (Is : OpenRequest → Type 0) (v : DeviceView) (b : Books)
-    (v' : DeviceView) (b' : Books) : Type 0 where
+pub record TakesOne (Is : OpenRequest → Type 0) (v : DeviceView) (b : TableView)
+    (v' : DeviceView) (b' : TableView) : Type 0 where
   pub starts : List DeviceLabel
   pub goes_on : GoesOn v b starts v' b'
   -- each packet taken is one fewer below, or uses up a restart
@@ -83,13 +83,13 @@ pub record TakesOne (Is : OpenRequest → Type 0) (v : DeviceView) (b : Books)
       → IsMidway Is first (labels ++ starts) v' b'
 
 -- none has ended, and nothing changes
-pub record FindsNone (v : DeviceView) (b : Books) (v' : DeviceView) (b' : Books) : Type 0 where
+pub record FindsNone (v : DeviceView) (b : TableView) (v' : DeviceView) (b' : TableView) : Type 0 where
   pub none : HandsUpNone v v'
   pub same : b' ≡ b
 
 -- all are taken, and none is left
-pub record TakesAll (Is : OpenRequest → Type 0) (v : DeviceView) (b : Books)
-    (v' : DeviceView) (b' : Books) : Type 0 where
+pub record TakesAll (Is : OpenRequest → Type 0) (v : DeviceView) (b : TableView)
+    (v' : DeviceView) (b' : TableView) : Type 0 where
   pub starts : List DeviceLabel
   pub goes_on : GoesOn v b starts v' b'
   pub stays : (first : State) (labels : List DeviceLabel) → IsMidway Is first labels v b
@@ -98,7 +98,7 @@ pub record TakesAll (Is : OpenRequest → Type 0) (v : DeviceView) (b : Books)
 
 -- one packet that ended unsent is taken: nothing starts, the adapter stays as it was, and wherever the class driver was
 -- midway before, it is so still
-pub record WithdrawsOne (v : DeviceView) (b : Books) (v' : DeviceView) (b' : Books) : Type 0 where
+pub record WithdrawsOne (v : DeviceView) (b : TableView) (v' : DeviceView) (b' : TableView) : Type 0 where
   pub same_rules : v'.rules ≡ v.rules
   pub same_most : v'.most ≡ v.most
   pub same_adapter : v'.adapter ≡ v.adapter
@@ -111,7 +111,7 @@ pub record WithdrawsOne (v : DeviceView) (b : Books) (v' : DeviceView) (b' : Boo
       → IsMidway NeverSent first labels v' b'
 
 -- so are all, and none is left
-pub record WithdrawsAll (v : DeviceView) (b : Books) (v' : DeviceView) (b' : Books) : Type 0 where
+pub record WithdrawsAll (v : DeviceView) (b : TableView) (v' : DeviceView) (b' : TableView) : Type 0 where
   pub same_rules : v'.rules ≡ v.rules
   pub same_most : v'.most ≡ v.most
   pub same_adapter : v'.adapter ≡ v.adapter
@@ -126,16 +126,16 @@ pub record WithdrawsAll (v : DeviceView) (b : Books) (v' : DeviceView) (b' : Boo
 -- PARTS GO DOWN
 
 -- a part of the open request goes below for the first time
-pub record SendsDown (v : DeviceView) (b : Books) (slot k : ℕ)
-    (o : Opened) (part : Part) (place : Place) (v' : DeviceView) (b' : Books) : Type 0 where
+pub record SendsDown (v : DeviceView) (b : TableView) (slot k : ℕ)
+    (o : Opened) (part : Part) (place : Place) (v' : DeviceView) (b' : TableView) : Type 0 where
   pub packet : TransferPacket
   pub sends : SendsPart b slot k o part place packet b'
   pub submits : Submits v (packet_of packet.irp.value place.packet.room.spot) part.request packet.irp.value.payload v'
   pub ordered : IsOrderly v'
 
 -- a part goes below again
-pub record SendsDownAgain (v : DeviceView) (b : Books) (slot k : ℕ) (packet : TransferPacket)
-    (o : Opened) (part : Part) (v' : DeviceView) (b' : Books) : Type 0 where
+pub record SendsDownAgain (v : DeviceView) (b : TableView) (slot k : ℕ) (packet : TransferPacket)
+    (o : Opened) (part : Part) (v' : DeviceView) (b' : TableView) : Type 0 where
   pub packet' : TransferPacket
   pub sends : SendsPartAgain b slot k packet o part packet' b'
   pub submits : Submits v (packet_of packet'.irp.value packet.room.spot) part.request (payload_in packet) v'
@@ -207,7 +207,7 @@ pub record MakesParts (v : DeviceView) (owners : List PartId) (slot k : ℕ) (pa
 -- WHAT A CALL BELOW ASKS FOR
 
 -- a packet can be submitted below, with this room
-pub record CanSubmit (v : DeviceView) (b : Books)
+pub record CanSubmit (v : DeviceView) (b : TableView)
     (packet : TransferPacket) (others : List Ticket) (request : Request) : Type 0 where
   pub rooms_out : AllOut v (ticket_for request packet ∷ others)
   pub not_removing : IsFalse v.state.removing
@@ -217,7 +217,7 @@ pub record CanSubmit (v : DeviceView) (b : Books)
   pub sizes : AreSizes b.sizes v.rules
 
 -- a part can be sent for the first time
-pub record CanSendPart (v : DeviceView) (b : Books) (slot k : ℕ) (others : List Ticket)
+pub record CanSendPart (v : DeviceView) (b : TableView) (slot k : ℕ) (others : List Ticket)
     (o : Opened) (part : Part) (place : Place) : Type 0 where
   pub submit : CanSubmit v b place.packet others part.request
   pub is_open : open_at slot b.opens ≡ Some o
@@ -226,7 +226,7 @@ pub record CanSendPart (v : DeviceView) (b : Books) (slot k : ℕ) (others : Lis
   pub ready_at : IsReadyAt b.sizes o k
 
 -- a part can be sent again
-pub record CanSendAgain (v : DeviceView) (b : Books) (slot k : ℕ)
+pub record CanSendAgain (v : DeviceView) (b : TableView) (slot k : ℕ)
     (packet : TransferPacket) (others : List Ticket) (o : Opened) (part : Part) : Type 0 where
   pub submit : CanSubmit v b packet others part.request
   pub is_open : open_at slot b.opens ≡ Some o
@@ -255,11 +255,11 @@ abbrev pub AreReady : List Part → Type 0
 AreReady parts = All IsReadyPart parts
 
 -- the machine above has run so far from the first state, and the new request is open in it, all of its parts here
-pub record OpeningSoFar (v : DeviceView) (b : Books) (first : State) (labels : List DeviceLabel) : Type 0 where
+pub record OpeningSoFar (v : DeviceView) (b : TableView) (first : State) (labels : List DeviceLabel) : Type 0 where
   pub taking : IsTaking (class_rules v.rules) first labels v.state (knowns (class_rules v.rules) b)
 
 -- the parts of the open request in a slot are sent up to this one, and ready from it on; all else is in order
-pub record IsOpening (v : DeviceView) (b : Books) (slot k : ℕ) : Type 0 where
+pub record IsOpening (v : DeviceView) (b : TableView) (slot k : ℕ) : Type 0 where
   pub port : IsPort v.rules
   pub o : Opened
   pub others : List (ℕ × Opened)
@@ -301,7 +301,7 @@ pub record IsOpening (v : DeviceView) (b : Books) (slot k : ℕ) : Type 0 where
 -- all parts of the open request in a slot are sent, by rising places: wherever the class driver was, it is midway after
 -- some starts more, nothing that has ended waits below, and each other request is as it was, there and in the table
 pub record SendsAll (first : State) (labels : List DeviceLabel)
-    (v : DeviceView) (b : Books) (slot : ℕ) (v' : DeviceView) (b' : Books) : Type 0 where
+    (v : DeviceView) (b : TableView) (slot : ℕ) (v' : DeviceView) (b' : TableView) : Type 0 where
   pub starts : List DeviceLabel
   pub goes_on : GoesOn v b starts v' b'
   pub in_turn : (o : Opened) → open_at slot b'.opens ≡ Some o → WentInTurn b.next_packet o.parts

@@ -2,10 +2,10 @@
 ghost use Rattle.std.specs.Prelude.{◌≡◌, ◌<◌, ◌+◌, ◌^◌, ◌-◌, ◌&&◌, not, nat_lt, true, false};
 ghost use Rattle.std.specs.Prelude.{IsOk, OnOk, MatchBool, MatchOption, All};
 ghost use Rattle.linked.specs.Queue.{IsVacant, VisitsAtMost};
-ghost use Rattle.hold_filter.specs.inside.Books.{books_of};
-ghost use Rattle.hold_filter.specs.inside.Turns.{empty, counted, Covers, IsCovered, MayEnd, LacksNumber, HoldsAt};
-ghost use Rattle.hold_filter.specs.inside.Turns.{TakesIn, LetsGo, LetsNoneGo};
-ghost use Rattle.hold_filter.specs.inside.Turns.{Withdraws, WithdrawsNot, Hands, HandsNone};
+ghost use Rattle.hold_filter.specs.inside.TableView.{books_of};
+ghost use Rattle.hold_filter.specs.inside.TableCalls.{empty, counted, Covers, IsCovered, MayEnd, LacksNumber, HoldsAt};
+ghost use Rattle.hold_filter.specs.inside.TableCalls.{TakesIn, LetsGo, LetsNoneGo};
+ghost use Rattle.hold_filter.specs.inside.TableCalls.{Withdraws, WithdrawsNot, Hands, HandsNone};
 
 use crate::packets::take_over;
 use crate::table::{Held, Table};

@@ -7,15 +7,15 @@ use Rattle.std.specs.Global.{Box}
 use Rattle.device.specs.declared.Room.{Room}
 use Rattle.linked.specs.Queue.{IsVacant}
 use Rattle.hold_filter.specs.declared.table.Held.{Held}
-use Rattle.hold_filter.specs.inside.Books.{Places, Books, held_with}
+use Rattle.hold_filter.specs.inside.TableView.{Limits, TableView, held_with}
 
 -- both queues have a place for this spot
-pub record IsCovered (places : Places) (spot : ℕ) : Type 0 where
+pub record IsCovered (places : Limits) (spot : ℕ) : Type 0 where
   pub in_held : spot < places.held
   pub in_ended : spot < places.ended
 
 -- no place is lost, and none is made beyond this spot
-pub record Covers (old : Books) (spot : ℕ) (new : Books) : Type 0 where
+pub record Covers (old : TableView) (spot : ℕ) (new : TableView) : Type 0 where
   pub more_held : old.places.held ≤ new.places.held
   pub more_ended : old.places.ended ≤ new.places.ended
   pub few_held : (new.places.held ≡ old.places.held) ⊎ (new.places.held ≤ spot + 1)
@@ -23,7 +23,7 @@ pub record Covers (old : Books) (spot : ℕ) (new : Books) : Type 0 where
   pub after : new ≡ record old { places = new.places }
 
 -- a packet that is held may go to those that have ended
-pub record MayEnd (b : Books) (e : ℕ × Held) : Type 0 where
+pub record MayEnd (b : TableView) (e : ℕ × Held) : Type 0 where
   pub covered : e.0 < b.places.ended
   pub vacant : IsVacant e.0 b.ended
 
@@ -36,7 +36,7 @@ abbrev pub HoldsAt : ℕ → ℕ → List (ℕ × Held) → Type 0
 HoldsAt number spot held = Any (λ (e : ℕ × Held). (e.0 ≡ spot) × (e.1.irp.value.number ≡ number)) held
 
 -- nothing is in, and nothing ever was
-abbrev pub empty : ℕ → Books
+abbrev pub empty : ℕ → TableView
 empty window = record {
   window = window;
   held = [];
@@ -50,22 +50,22 @@ empty window = record {
 }
 
 -- one more was submitted
-abbrev pub counted : ℕ → Books → Books
+abbrev pub counted : ℕ → TableView → TableView
 counted number b = record b { last_number = number; submitted = b.submitted + 1 }
 
 -- the packet is queued last
-abbrev pub TakesIn : Books → Box Irp → Room → Books → Type 0
+abbrev pub TakesIn : TableView → Box Irp → Room → TableView → Type 0
 TakesIn old irp room new = new ≡ record old { held = old.held ++ (room.spot, held_with irp room) ∷ [] }
 
 -- the packet that was held longest leaves the queue
-pub record LetsGo (old : Books) (held : Held) (new : Books) : Type 0 where
+pub record LetsGo (old : TableView) (held : Held) (new : TableView) : Type 0 where
   pub spot : ℕ
   pub rest : List (ℕ × Held)
   pub is_front : old.held ≡ (spot, held) ∷ rest
   pub after : new ≡ record old { held = rest }
 
 -- none is held, and nothing changes
-pub record LetsNoneGo (old new : Books) : Type 0 where
+pub record LetsNoneGo (old new : TableView) : Type 0 where
   pub none_held : old.held ≡ []
   pub same : new ≡ old
 
@@ -74,7 +74,7 @@ abbrev pub marked : Held → Held
 marked held = record held { irp = record held.irp { value = record held.irp.value { cancelled = true } } }
 
 -- the packet that is held at this spot has this number, and is cancelled
-pub record Withdraws (old : Books) (spot number : ℕ) (new : Books) : Type 0 where
+pub record Withdraws (old : TableView) (spot number : ℕ) (new : TableView) : Type 0 where
   pub before : List (ℕ × Held)
   pub held : Held
   pub behind : List (ℕ × Held)
@@ -83,12 +83,12 @@ pub record Withdraws (old : Books) (spot number : ℕ) (new : Books) : Type 0 wh
   pub after : new ≡ record old { held = before ++ behind; ended = old.ended ++ (spot, marked held) ∷ [] }
 
 -- no packet is held at this spot under this number, and nothing changes
-pub record WithdrawsNot (old : Books) (spot number : ℕ) (new : Books) : Type 0 where
+pub record WithdrawsNot (old : TableView) (spot number : ℕ) (new : TableView) : Type 0 where
   pub none : All (λ (e : ℕ × Held). e.0 ≡ spot → e.1.irp.value.number ≢ number) old.held
   pub same : new ≡ old
 
 -- a packet that was cancelled while it was held leaves
-pub record HandsCancelled (old : Books) (held : Held) (status : NtStatus) (new : Books) : Type 0 where
+pub record HandsCancelled (old : TableView) (held : Held) (status : NtStatus) (new : TableView) : Type 0 where
   pub spot : ℕ
   pub rest : List (ℕ × Held)
   pub is_front : old.ended ≡ (spot, held) ∷ rest
@@ -96,7 +96,7 @@ pub record HandsCancelled (old : Books) (held : Held) (status : NtStatus) (new :
   pub after : new ≡ record old { ended = rest }
 
 -- none was; the device is removed, and the packet that was held longest leaves
-pub record HandsRemoved (old : Books) (held : Held) (status : NtStatus) (new : Books) : Type 0 where
+pub record HandsRemoved (old : TableView) (held : Held) (status : NtStatus) (new : TableView) : Type 0 where
   pub spot : ℕ
   pub rest : List (ℕ × Held)
   pub none_ended : old.ended ≡ []
@@ -106,11 +106,11 @@ pub record HandsRemoved (old : Books) (held : Held) (status : NtStatus) (new : B
   pub after : new ≡ record old { held = rest }
 
 -- a packet leaves that ended here
-abbrev pub Hands : Books → Held → NtStatus → Books → Type 0
+abbrev pub Hands : TableView → Held → NtStatus → TableView → Type 0
 Hands old held status new = HandsCancelled old held status new ⊎ HandsRemoved old held status new
 
 -- none ended here, and nothing changes
-pub record HandsNone (old new : Books) : Type 0 where
+pub record HandsNone (old new : TableView) : Type 0 where
   pub none_ended : old.ended ≡ []
   pub none_held : IsTrue old.removing → old.held ≡ []
   pub same : new ≡ old

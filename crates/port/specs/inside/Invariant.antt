@@ -12,12 +12,12 @@ use Rattle.machine.specs.Rules.{Rules}
 use Rattle.machine.specs.Numbers.{AreDistinct}
 use Rattle.device.specs.View.{AsksFor, Carries, IsBounded, IsOrderly, payload_bytes, transfer_length}
 use Rattle.port.specs.declared.queues.Sizes.{Sizes}
-use Rattle.port.specs.declared.queues.Held.{Held}
+use Rattle.port.specs.declared.queues.PortPacket.{PortPacket}
 use Rattle.port.specs.declared.queues.Ended.{Ended}
 use Rattle.port.specs.declared.queues.Outcome.{Outcome}
 use Rattle.port.specs.declared.queues.Outcome.TheVariants.{Returned, Withdrawn, Gone}
-use Rattle.port.specs.inside.Books.{Entry, Books, spot_in}
-use Rattle.port.specs.inside.Turns.{held_on}
+use Rattle.port.specs.inside.TableView.{PacketEntry, TableView, spot_in}
+use Rattle.port.specs.inside.TableCalls.{held_on}
 use Rattle.port.specs.Shown.{rules_of, of_packets, state_of, view_of, most, reserved_of}
 use Rattle.device.specs.Served.{sectors_moved}
 
@@ -35,7 +35,7 @@ pub record IsRoom (rules : Rules) (v : AdapterView) (r : Request) : Type 0 where
   pub reserved : r.kind ≡ Write → IsReserved v r.extent
 
 -- a packet that waits carries what its request asks for, has its room, and is not cancelled
-pub record IsWaiting (rules : Rules) (v : AdapterView) (held : Held) : Type 0 where
+pub record IsWaiting (rules : Rules) (v : AdapterView) (held : PortPacket) : Type 0 where
   pub room : IsRoom rules v held.request
   pub carries : Carries true rules held.request held.irp.value.payload
   pub not_cancelled : IsFalse held.irp.value.cancelled
@@ -45,11 +45,11 @@ abbrev pub IsEmptyIfFlush : Request → List ℕ → Type 0
 IsEmptyIfFlush r bytes = r.kind ≡ Flush → bytes ≡ []
 
 -- each was submitted before those behind it
-abbrev pub IsBefore : Held → Held → Type 0
+abbrev pub IsBefore : PortPacket → PortPacket → Type 0
 IsBefore held other = held.irp.value.number < other.irp.value.number
 
 -- packets in the order in which they were submitted
-abbrev pub AreInTurn : List Held → Type 0
+abbrev pub AreInTurn : List PortPacket → Type 0
 AreInTurn [] = Unit {0}
 AreInTurn (held ∷ rest) = All (IsBefore held) rest × AreInTurn rest
 
@@ -61,8 +61,8 @@ IsDoing rules r (Acted moved) srb =
 IsDoing rules r Faulted srb = Unit {0}
 
 -- the packet of a tag in use
-pub record IsAtWork (rules : Rules) (started : List (Option Held)) (use' : TagInUse) : Type 0 where
-  pub held : Held
+pub record IsAtWork (rules : Rules) (started : List (Option PortPacket)) (use' : TagInUse) : Type 0 where
+  pub held : PortPacket
   pub on_tag : held_on started use'.tag ≡ Some held
   pub bounded : IsBounded rules held.request
   pub doing : IsDoing rules held.request use'.fate use'.srb
@@ -85,7 +85,7 @@ pub record HasEnded (rules : Rules) (removing : Bool) (d : Ended) : Type 0 where
   pub empty : IsEmptyIfFlush d.request (payload_bytes d.irp.value.payload)
 
 -- what a packet asks for
-abbrev pub asked : Entry → Request
+abbrev pub asked : PacketEntry → Request
 asked e = e.request
 
 -- a packet has the spot
@@ -93,7 +93,7 @@ abbrev pub IsTaken : List (Option (Option Request)) → ℕ → Type 0
 IsTaken rooms spot = slice_index_or rooms spot None ≡ Some None
 
 -- what holds at every moment, the moments between two starts among them
-pub record PortKept (b : Books) (v : AdapterView) (rooms : List Request) : Type 0 where
+pub record PortKept (b : TableView) (v : AdapterView) (rooms : List Request) : Type 0 where
   pub adapter : IsInOrder v
   pub sizes : AreSizes b.sizes v
   pub started : length b.started ≡ b.sizes.depth
@@ -116,15 +116,15 @@ pub record PortKept (b : Books) (v : AdapterView) (rooms : List Request) : Type 
   pub labels : length v.labels + (v.depth - length v.tags) ≤ 64
 
 -- with a tag free nothing waits
-abbrev pub IsBusy : Books → AdapterView → Type 0
+abbrev pub IsBusy : TableView → AdapterView → Type 0
 IsBusy b v = length v.tags < v.depth → b.waiting ≡ []
 
 -- what holds between calls
-pub record IsInHand (b : Books) (v : AdapterView) (rooms : List Request) : Type 0 where
+pub record IsInHand (b : TableView) (v : AdapterView) (rooms : List Request) : Type 0 where
   pub kept : PortKept b v rooms
   pub busy : IsBusy b v
   pub orderly : IsOrderly (view_of b v)
 
 -- what holds of a port: the rooms are the spots that are reserved
-abbrev pub IsSound : Books → AdapterView → Type 0
+abbrev pub IsSound : TableView → AdapterView → Type 0
 IsSound b v = IsInHand b v (reserved_of b.rooms)

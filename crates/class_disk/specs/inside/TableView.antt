@@ -25,19 +25,19 @@ pub record Opened : Type 0 where
   pub unfinished : ℕ
 
 -- a slot that has no packet: a request with its parts, each of which can be sent, or was left behind
-pub record Held : Type 0 where
+pub record ClosedSlot : Type 0 where
   pub slot : ℕ
   pub request : Request
   pub parts : List Part
   pub whole : Bool
 
 -- the table, as lists
-pub record Books : Type 0 where
+pub record TableView : Type 0 where
   pub sizes : Sizes
   -- the open requests with their slots, by rising slots
   pub opens : List (ℕ × Opened)
   -- the slots with no packet, rising
-  pub held : List Held
+  pub held : List ClosedSlot
   -- what is reserved, by slots
   pub rooms : List (Option DeviceRoom)
   -- the part that the room at a spot below is for
@@ -61,10 +61,10 @@ opened_of t = record {
   unfinished = t.unfinished;
 }
 
-abbrev pub held_as : ℕ → Places → Held
+abbrev pub held_as : ℕ → Places → ClosedSlot
 held_as slot places = record { slot = slot; request = places.request; parts = places.parts.items; whole = true }
 
-abbrev pub left_as : ℕ → Places → Held
+abbrev pub left_as : ℕ → Places → ClosedSlot
 left_as slot places = record { slot = slot; request = places.request; parts = places.parts.items; whole = false }
 
 -- the open requests of these slots, of which the first has this number
@@ -76,7 +76,7 @@ open_from slot (Some (Open t) ∷ rest) = (slot, opened_of t) ∷ open_from (slo
 open_from slot (Some (Left places) ∷ rest) = open_from (slot + 1) rest
 
 -- the slots among these that have no packet
-abbrev pub held_from : ℕ → List (Option Slot) → List Held
+abbrev pub held_from : ℕ → List (Option Slot) → List ClosedSlot
 held_from slot [] = []
 held_from slot (None ∷ rest) = held_from (slot + 1) rest
 held_from slot (Some (Reserved places) ∷ rest) = held_as slot places ∷ held_from (slot + 1) rest
@@ -84,7 +84,7 @@ held_from slot (Some (Open t) ∷ rest) = held_from (slot + 1) rest
 held_from slot (Some (Left places) ∷ rest) = left_as slot places ∷ held_from (slot + 1) rest
 
 -- what a room is reserved for
-abbrev pub reserved_for : Held → DeviceRoom
+abbrev pub reserved_for : ClosedSlot → DeviceRoom
 reserved_for held = record { request = held.request; whole = held.whole }
 
 -- what is reserved in a slot
@@ -105,7 +105,7 @@ abbrev pub rooms_from : List (Option Slot) → List (Option DeviceRoom)
 rooms_from [] = []
 rooms_from (slot ∷ rest) = before (room_of slot) (rooms_from rest)
 
-abbrev pub books_of : Table → Books
+abbrev pub books_of : Table → TableView
 books_of table = record {
   sizes = table.sizes;
   opens = open_from 0 table.slots.slots;
@@ -152,7 +152,7 @@ abbrev pub opened : ℕ × Opened → Opened
 opened e = e.1
 
 -- all open requests
-abbrev pub all_open : Books → List Opened
+abbrev pub all_open : TableView → List Opened
 all_open b = map opened b.opens
 
 -- the slots of those that have ended

@@ -4,17 +4,20 @@ ghost use Rattle.std.specs.Prelude.{IfOk, IsSome, OnOk, OnErr, IsTrue, MatchBool
 ghost use Rattle.std.specs.Prelude.{slice_index_or};
 ghost use Rattle.irp.specs.declared.Payload.TheVariants.{Srb as Packed};
 ghost use Rattle.machine.specs.declared.Request.{Request};
-ghost use Rattle.port.specs.inside.Books.{books_of, visits_of, entry, entry_of};
-ghost use Rattle.port.specs.inside.Turns.{IsEmpty, IsPacked, cancelled, can_cancel_held, can_cancel_ended, held_on};
-ghost use Rattle.port.specs.inside.Turns.{AddsPlace, RemovesPlace, HasOtherSpot, IsEndedTaken, Queued, Starts};
-ghost use Rattle.port.specs.inside.Turns.{StartsNot, Ends, TakesDone, TakesNone, drained, as_returned, IsUncancelled};
-ghost use Rattle.port.specs.inside.Turns.{Withdraws, WithdrawsNot, WithdrawsAt, WithdrawsNotAt, CancelsIn, CancelsNotIn};
-ghost use Rattle.port.specs.inside.Turns.{CancelsOn, CancelsNotOn, CancelsEnded, CancelsNoEnded};
+ghost use Rattle.port.specs.inside.TableView.{books_of, visits_of, entry, entry_of};
+ghost use Rattle.port.specs.inside.TableCalls.{IsEmpty, IsPacked, cancelled, can_cancel_held, can_cancel_ended};
+ghost use Rattle.port.specs.inside.TableCalls.{held_on};
+ghost use Rattle.port.specs.inside.TableCalls.{AddsPlace, RemovesPlace, HasOtherSpot, IsEndedTaken, Queued, Starts};
+ghost use Rattle.port.specs.inside.TableCalls.{StartsNot, Ends, TakesDone, TakesNone, drained, as_returned};
+ghost use Rattle.port.specs.inside.TableCalls.{IsUncancelled};
+ghost use Rattle.port.specs.inside.TableCalls.{Withdraws, WithdrawsNot, WithdrawsAt, WithdrawsNotAt, CancelsIn};
+ghost use Rattle.port.specs.inside.TableCalls.{CancelsNotIn};
+ghost use Rattle.port.specs.inside.TableCalls.{CancelsOn, CancelsNotOn, CancelsEnded, CancelsNoEnded};
 ghost use Rattle.port.specs.Shown.{status_left};
 ghost use Rattle.linked.specs.Queue.{VisitsAtMost};
 ghost use Rattle.slab.specs.Slab.{get, slab_len, with_value, HasRoomFor};
 
-use crate::queues::{Ended, Held, Outcome, Queues, Sizes, Waiting};
+use crate::queues::{Ended, Outcome, PortPacket, Queues, Sizes, Waiting};
 use device::Request;
 use irp::{Irp, Payload};
 use linked::Linked;
@@ -40,7 +43,7 @@ impl Outcome {
 }
 
 /// Takes the SRB out of a packet that carries one; all else of the packet stays, its cancel routine too.
-fn take_srb(held: &mut Held) -> Srb
+fn take_srb(held: &mut PortPacket) -> Srb
     requires { IsPacked held.old }
     ensures srb { held.old.irp.value.payload ≡ Packed result }
     ensures same_entry { entry_of held.new ≡ entry_of held.old }
@@ -77,7 +80,7 @@ fn is_cancellable(irp: &Irp, number: u128) -> bool
 }
 
 /// Cancels the packet in a place, where it has this number and is not cancelled yet.
-fn cancel_in(place: &mut Option<Held>, number: u128) -> bool
+fn cancel_in(place: &mut Option<PortPacket>, number: u128) -> bool
     ensures { MatchBool result (CancelsIn place.old number place.new) (CancelsNotIn place.old number place.new) }
 {
     let Some(held) = place else {
@@ -199,7 +202,7 @@ impl Queues {
             (λ start. Starts (books_of self.old) tag start.0 start.1 (books_of self.new)) }
     {
         let (spot, Waiting { irp, request }) = self.waiting.pop_front()?;
-        let mut held = Held { irp, request, spot };
+        let mut held = PortPacket { irp, request, spot };
         let srb = take_srb(&mut held);
         self.started[tag as usize] = Some(held);
         let piece = self.next_piece;
@@ -214,7 +217,7 @@ impl Queues {
         ensures { Ends (books_of self.old) tag srb class (books_of self.new) }
     {
         let Some(
-            Held {
+            PortPacket {
                 mut irp,
                 request,
                 spot,

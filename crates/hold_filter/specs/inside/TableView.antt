@@ -10,18 +10,18 @@ use Rattle.hold_filter.specs.declared.table.Held.{Held}
 use Rattle.hold_filter.specs.declared.table.Table.{Table}
 
 -- both queues have places for the spots below these
-pub record Places : Type 0 where
+pub record Limits : Type 0 where
   pub held : ℕ
   pub ended : ℕ
 
 -- the table, each queue as the list of its entries: the spot there and the packet
-pub record Books : Type 0 where
+pub record TableView : Type 0 where
   pub window : ℕ
   -- the packets that are held, the one that was held longest first
   pub held : List (ℕ × Held)
   -- those that were cancelled while they were held
   pub ended : List (ℕ × Held)
-  pub places : Places
+  pub places : Limits
   -- the packets below
   pub below : ℕ
   pub last_number : ℕ
@@ -34,7 +34,7 @@ abbrev pub own_routine : CancelRoutine
 own_routine = record { driver = IsFilter }
 
 -- the books that the table is
-abbrev pub books_of : Table → Books
+abbrev pub books_of : Table → TableView
 books_of t = record {
   window = t.window;
   held = t.held.entries;
@@ -52,7 +52,7 @@ abbrev pub packet_in : ℕ × Held → Held
 packet_in entry = entry.1
 
 -- the packets here: those that are held, and those that were cancelled meanwhile
-abbrev pub here : Books → List Held
+abbrev pub here : TableView → List Held
 here b = map packet_in b.held ++ map packet_in b.ended
 
 -- a packet as the filter holds it

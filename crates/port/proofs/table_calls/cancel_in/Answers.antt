@@ -1,8 +1,8 @@
 use Rattle.std.proofs.Common.{ap, ◌∙◌, sym, refl}
 use Rattle.irp.specs.declared.Irp.{Irp}
-use Rattle.port.specs.inside.Books.{entry}
-use Rattle.port.specs.inside.Turns.{is_cancellable}
-use Rattle.port.proofs.turns.cancel_in.Goals as goal
+use Rattle.port.specs.inside.TableView.{entry}
+use Rattle.port.specs.inside.TableCalls.{is_cancellable}
+use Rattle.port.proofs.table_calls.cancel_in.Goals as goal
 
 pub returns : goal.returns
 returns c = record {

@@ -27,7 +27,7 @@ use Rattle.class_disk.specs.declared.requests.Slot.{Slot}
 use Rattle.class_disk.specs.declared.requests.Slot.TheVariants.{Reserved, Open, Left}
 use Rattle.class_disk.specs.inside.Blocks.{FitsBlock, data_length, AreSizes, IsOwnPacket}
 use Rattle.class_disk.specs.inside.Parts.{HasBuffers, payload_in, joined_of, lowest_status}
-use Rattle.class_disk.specs.inside.Books.{Opened, Books, Held, reserved_for, open_at, put_at}
+use Rattle.class_disk.specs.inside.TableView.{Opened, TableView, ClosedSlot, reserved_for, open_at, put_at}
 
 -- where the bytes of a part begin among those of its request
 abbrev pub bytes_from : ℕ → Request → Request → ℕ
@@ -132,7 +132,7 @@ pub record Completes (sizes : Sizes) (o : Opened) (climb : Climb) (places : Plac
 -- THE TABLE
 
 -- no request is open, and there are no slots; the list of the ended has so much room
-abbrev pub empty_books : Sizes → ℕ → Books
+abbrev pub empty_books : Sizes → ℕ → TableView
 empty_books sizes ended_places = record {
   sizes = sizes;
   opens = [];
@@ -148,19 +148,19 @@ empty_books sizes ended_places = record {
 }
 
 -- a slot that was not there is reserved, or left behind
-pub record AddsSlot (old : Books) (held : Held) (new : Books) : Type 0 where
+pub record AddsSlot (old : TableView) (held : ClosedSlot) (new : TableView) : Type 0 where
   pub more : IsPermutation new.held (held ∷ old.held)
   pub room : SetsRoom old.rooms held.slot None (Some (reserved_for held)) new.rooms
   pub after : new ≡ record old { held = new.held; rooms = new.rooms }
 
 -- none is made; the list of the ended may have more room
-pub record AddsNoSlot (old new : Books) : Type 0 where
+pub record AddsNoSlot (old new : TableView) : Type 0 where
   pub places : old.ended_places ≤ new.ended_places
   pub after : new ≡ record old { ended_places = new.ended_places }
 
 -- a slot with no packet is given up, and what it had is this
-pub record RemovesSlot (old : Books) (slot : ℕ) (places : Places) (new : Books) : Type 0 where
-  pub held : Held
+pub record RemovesSlot (old : TableView) (slot : ℕ) (places : Places) (new : TableView) : Type 0 where
+  pub held : ClosedSlot
   pub slot_is : held.slot ≡ slot
   pub request : places.request ≡ held.request
   pub parts : places.parts.items ≡ held.parts
@@ -169,8 +169,8 @@ pub record RemovesSlot (old : Books) (slot : ℕ) (places : Places) (new : Books
   pub after : new ≡ record old { held = new.held; rooms = new.rooms }
 
 -- a packet comes to a slot that is reserved
-pub record OpensAt (old : Books) (slot : ℕ) (irp : Irp) (new : Books) : Type 0 where
-  pub held : Held
+pub record OpensAt (old : TableView) (slot : ℕ) (irp : Irp) (new : TableView) : Type 0 where
+  pub held : ClosedSlot
   pub slot_is : held.slot ≡ slot
   pub whole : held.whole ≡ true
   pub fewer : IsPermutation old.held (held ∷ new.held)
@@ -187,31 +187,31 @@ pub record OpensAt (old : Books) (slot : ℕ) (irp : Irp) (new : Books) : Type 0
       }
 
 -- part k of the open request in a slot
-pub record IsPartAt (b : Books) (slot k : ℕ) (part : Part) : Type 0 where
+pub record IsPartAt (b : TableView) (slot k : ℕ) (part : Part) : Type 0 where
   pub o : Opened
   pub is_open : open_at slot b.opens ≡ Some o
   pub is_there : slice_get o.parts k ≡ Some part
 
 -- a packet can have a number
-pub record CanNumber (b : Books) : Type 0 where
+pub record CanNumber (b : TableView) : Type 0 where
   pub count : b.next_packet < 2 ^ 80
 
 -- a part goes below for the first time
-pub record SendsPart (old : Books) (slot k : ℕ) (o : Opened) (part : Part) (place : Place)
-    (packet : TransferPacket) (new : Books) : Type 0 where
+pub record SendsPart (old : TableView) (slot k : ℕ) (o : Opened) (part : Part) (place : Place)
+    (packet : TransferPacket) (new : TableView) : Type 0 where
   pub o' : Opened
   pub sends : SendsAs old.sizes o k old.next_packet part place packet o'
   pub after : new ≡ record old { opens = put_at slot o' old.opens; next_packet = old.next_packet + 1 }
 
 -- a part goes below again
-pub record SendsPartAgain (old : Books) (slot k : ℕ) (packet : TransferPacket)
-    (o : Opened) (part : Part) (packet' : TransferPacket) (new : Books) : Type 0 where
+pub record SendsPartAgain (old : TableView) (slot k : ℕ) (packet : TransferPacket)
+    (o : Opened) (part : Part) (packet' : TransferPacket) (new : TableView) : Type 0 where
   pub o' : Opened
   pub sends : SendsAgain o k old.next_packet packet part packet' o'
   pub after : new ≡ record old { opens = put_at slot o' old.opens; next_packet = old.next_packet + 1 }
 
 -- a part has ended; with its last one its request has
-abbrev pub ended_books : ℕ → Opened → Books → Books
+abbrev pub ended_books : ℕ → Opened → TableView → TableView
 ended_books slot o' old = record old {
   opens = put_at slot o' old.opens;
   ended = if o'.unfinished == 0 then old.ended ++ slot ∷ [] else old.ended;
@@ -235,35 +235,35 @@ can_cancel number (Open t) = (t.irp.value.number == number) && not t.irp.value.c
 can_cancel number (Left places) = false
 
 -- the slot has a request of this number that is not cancelled yet
-pub record CanCancelAt (b : Books) (slot number : ℕ) : Type 0 where
+pub record CanCancelAt (b : TableView) (slot number : ℕ) : Type 0 where
   pub o : Opened
   pub is_open : open_at slot b.opens ≡ Some o
   pub can : is_cancellable number (slot, o) ≡ true
 
 -- it has none
-abbrev pub CannotCancelAt : Books → ℕ → ℕ → Type 0
+abbrev pub CannotCancelAt : TableView → ℕ → ℕ → Type 0
 CannotCancelAt b slot number = (o : Opened) → open_at slot b.opens ≡ Some o → is_cancellable number (slot, o) ≡ false
 
 -- the request in the slot is cancelled, and nothing else changes
-pub record CancelsAtSlot (old : Books) (slot number : ℕ) (new : Books) : Type 0 where
+pub record CancelsAtSlot (old : TableView) (slot number : ℕ) (new : TableView) : Type 0 where
   pub o : Opened
   pub is_open : open_at slot old.opens ≡ Some o
   pub can : is_cancellable number (slot, o) ≡ true
   pub after : new ≡ record old { opens = put_at slot (cancelled_one o) old.opens }
 
 -- there is none of this number in the slot that is not cancelled, and nothing changes
-pub record CancelsNoneAt (old : Books) (slot number : ℕ) (new : Books) : Type 0 where
+pub record CancelsNoneAt (old : TableView) (slot number : ℕ) (new : TableView) : Type 0 where
   pub none : CannotCancelAt old slot number
   pub same : new ≡ old
 
 -- the request that ended first is taken out of its slot
-pub record TakesEnded (old : Books) (slot : ℕ) (o : Opened) (new : Books) : Type 0 where
+pub record TakesEnded (old : TableView) (slot : ℕ) (o : Opened) (new : TableView) : Type 0 where
   pub front : old.ended ≡ slot ∷ new.ended
   pub is_open : open_at slot old.opens ≡ Some o
   pub opens : IsPermutation old.opens ((slot, o) ∷ new.opens)
   pub after : new ≡ record old { opens = new.opens; ended = new.ended }
 
 -- none has ended, and nothing changes
-pub record TakesNone (old new : Books) : Type 0 where
+pub record TakesNone (old new : TableView) : Type 0 where
   pub none : old.ended ≡ []
   pub same : new ≡ old

@@ -11,9 +11,9 @@ use Rattle.machine.specs.Window.{Holds}
 use Rattle.device.specs.View.{DeviceView, Packet, Reserved, IsOrderly, AsksInLocation, Carries}
 use Rattle.device.specs.View.{room_at, whole_for, packet_spot}
 use Rattle.hold_filter.specs.declared.table.Held.{Held}
-use Rattle.hold_filter.specs.inside.Books.{Places, Books, packet_in, here}
+use Rattle.hold_filter.specs.inside.TableView.{Limits, TableView, packet_in, here}
 use Rattle.hold_filter.specs.inside.Packets.{request_in, silent}
-use Rattle.hold_filter.specs.inside.Turns.{IsCovered}
+use Rattle.hold_filter.specs.inside.TableCalls.{IsCovered}
 use Rattle.hold_filter.specs.inside.View.{frame_of, state_of, view_of}
 use Rattle.hold_filter.specs.inside.Releases.{NoneMayGo}
 
@@ -94,13 +94,13 @@ abbrev pub HasRoom : List (Option Reserved) → Held → Type 0
 HasRoom rooms held = room_at rooms held.room.spot ≡ Some (whole_for (request_in held.irp.value))
 
 -- the queues have a place for the spot of this packet below
-abbrev pub HasPlace : Places → Packet → Type 0
+abbrev pub HasPlace : Limits → Packet → Type 0
 HasPlace places packet = IsCovered places (packet_spot packet)
 
 -- what is reserved below is admitted, and has its place here; so has each packet below; those here have rooms of their
 -- own
 pub record RoomsKept (rules : Rules) (rooms : List (Option Reserved)) (packets : List Packet)
-    (held ended : List (ℕ × Held)) (places : Places) : Type 0 where
+    (held ended : List (ℕ × Held)) (places : Limits) : Type 0 where
   pub bounded : (spot : ℕ) (r : Reserved) → room_at rooms spot ≡ Some r
       → IsAdmitted rules (as_client rules r.request [])
   pub covered : (spot : ℕ) (r : Reserved) → room_at rooms spot ≡ Some r → IsCovered places spot
@@ -113,7 +113,7 @@ pub record RoomsKept (rules : Rules) (rooms : List (Option Reserved)) (packets :
 -- ALL
 
 -- what holds at every moment, the moments between two packets that go below among them
-pub record FilterKept (stack_size : ℕ) (v : DeviceView) (b : Books) : Type 0 where
+pub record FilterKept (stack_size : ℕ) (v : DeviceView) (b : TableView) : Type 0 where
   pub below : IsBelow stack_size v
   pub ordered : IsOrderly v
   pub rooms : RoomsKept v.rules v.rooms v.packets b.held b.ended b.places
@@ -139,12 +139,12 @@ pub record FilterKept (stack_size : ℕ) (v : DeviceView) (b : Books) : Type 0 w
   pub few : b.submitted ≤ v.most
 
 -- what holds between calls
-pub record IsInHand (stack_size : ℕ) (v : DeviceView) (b : Books) : Type 0 where
+pub record IsInHand (stack_size : ℕ) (v : DeviceView) (b : TableView) : Type 0 where
   pub kept : FilterKept stack_size v b
   pub released : NoneMayGo v b
   pub orderly : IsOrderly (view_of v b)
 
 -- what holds of a filter: the device below takes packets without an SRB
-pub record IsFilter (takes_srb : Bool) (stack_size : ℕ) (v : DeviceView) (b : Books) : Type 0 where
+pub record IsFilter (takes_srb : Bool) (stack_size : ℕ) (v : DeviceView) (b : TableView) : Type 0 where
   pub buffers : IsFalse takes_srb
   pub in_hand : IsInHand stack_size v b

@@ -10,12 +10,12 @@ use Rattle.machine.specs.declared.Request.{Request}
 use Rattle.slab.specs.Slab.{slab_len}
 use Rattle.port.specs.declared.queues.Sizes.{Sizes}
 use Rattle.port.specs.declared.queues.Waiting.{Waiting}
-use Rattle.port.specs.declared.queues.Held.{Held}
+use Rattle.port.specs.declared.queues.PortPacket.{PortPacket}
 use Rattle.port.specs.declared.queues.Ended.{Ended}
 use Rattle.port.specs.declared.queues.Queues.{Queues}
 
 -- a packet but for what it carries
-pub record Entry : Type 0 where
+pub record PacketEntry : Type 0 where
   pub number : ℕ
   pub above : List StackLocation
   pub cancelled : Bool
@@ -26,7 +26,7 @@ pub record Entry : Type 0 where
   pub spot : ℕ
 
 -- a packet with its request, as it stands in the books
-abbrev pub entry : Irp → Request → ℕ → Entry
+abbrev pub entry : Irp → Request → ℕ → PacketEntry
 entry irp request spot = record {
   number = irp.number;
   above = locations_above irp;
@@ -37,28 +37,28 @@ entry irp request spot = record {
 }
 
 -- what the books say of a packet that waits, or that is at the adapter
-abbrev pub entry_of : Held → Entry
+abbrev pub entry_of : PortPacket → PacketEntry
 entry_of held = entry held.irp.value held.request held.spot
 
 -- what they say of one that ended
-abbrev pub ended_entry : Ended → Entry
+abbrev pub ended_entry : Ended → PacketEntry
 ended_entry ended = entry ended.irp.value ended.request ended.spot
 
 -- the packet with its request and its spot
-abbrev pub held_with : Box Irp → Request → ℕ → Held
+abbrev pub held_with : Box Irp → Request → ℕ → PortPacket
 held_with irp request spot = record { irp = irp; request = request; spot = spot }
 
 -- the packet of an entry of the queue
-abbrev pub held_at : ℕ × Waiting → Held
+abbrev pub held_at : ℕ × Waiting → PortPacket
 held_at e = held_with e.1.irp e.1.request e.0
 
 -- the queues, each as the list of its packets
-pub record Books : Type 0 where
+pub record TableView : Type 0 where
   pub sizes : Sizes
   -- the packets that wait, the one that waited longest first
-  pub waiting : List Held
+  pub waiting : List PortPacket
   -- by tags, the packets at the adapter; what stands at a free tag says nothing
-  pub started : List (Option Held)
+  pub started : List (Option PortPacket)
   -- the packets that ended
   pub done : List Ended
   pub last_request : ℕ
@@ -71,7 +71,7 @@ pub record Books : Type 0 where
   pub rooms : List (Option (Option Request))
 
 -- the books that the queues are
-abbrev pub books_of : Queues → Books
+abbrev pub books_of : Queues → TableView
 books_of q = record {
   sizes = q.sizes;
   waiting = map held_at q.waiting.entries;
@@ -90,5 +90,5 @@ abbrev pub visits_of : Queues → ℕ
 visits_of q = q.waiting.visits
 
 -- where a packet stood
-abbrev pub spot_in : Entry → ℕ
+abbrev pub spot_in : PacketEntry → ℕ
 spot_in e = e.spot

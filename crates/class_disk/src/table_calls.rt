@@ -5,11 +5,11 @@ ghost use Rattle.class_disk.specs.declared.parts.Part.{Part};
 ghost use Rattle.class_disk.specs.declared.parts.Place.{Place};
 ghost use Rattle.class_disk.specs.declared.parts.Progress.TheVariants.{Ready};
 ghost use Rattle.class_disk.specs.inside.Parts.{EndsBack, HasReason, GoesAgain, below_by};
-ghost use Rattle.class_disk.specs.inside.Books.{Opened, books_of, opened_of, open_at};
-ghost use Rattle.class_disk.specs.inside.Turns.{IsReadyAt, IsPartAt, CanNumber, SendsPart, SendsPartAgain};
-ghost use Rattle.class_disk.specs.inside.Turns.{ended_at, ended_books};
-ghost use Rattle.class_disk.specs.inside.Turns.{is_cancellable, can_cancel, CannotCancel, CanCancelAt};
-ghost use Rattle.class_disk.specs.inside.Turns.{CannotCancelAt, CancelsAtSlot, CancelsNoneAt};
+ghost use Rattle.class_disk.specs.inside.TableView.{Opened, books_of, opened_of, open_at};
+ghost use Rattle.class_disk.specs.inside.TableCalls.{IsReadyAt, IsPartAt, CanNumber, SendsPart, SendsPartAgain};
+ghost use Rattle.class_disk.specs.inside.TableCalls.{ended_at, ended_books};
+ghost use Rattle.class_disk.specs.inside.TableCalls.{is_cancellable, can_cancel, CannotCancel, CanCancelAt};
+ghost use Rattle.class_disk.specs.inside.TableCalls.{CannotCancelAt, CancelsAtSlot, CancelsNoneAt};
 
 use crate::parts::{Ended, Outcome, PartId, TransferPacket};
 use crate::requests::{Slot, Transfer};
