@@ -20,7 +20,7 @@ use Rattle.machine.proofs.Same.{IsSame-sym}
 use Rattle.io_manager.specs.declared.Answer.{Answer}
 use Rattle.io_manager.specs.declared.Handle.{Handle}
 use Rattle.io_manager.specs.declared.Limits.{Limits}
-use Rattle.io_manager.specs.declared.admission.Copies.{Copies}
+use Rattle.io_manager.specs.declared.admission.LabelBytes.{LabelBytes}
 use Rattle.io_manager.specs.declared.tables.OpenRequest.{OpenRequest}
 use Rattle.io_manager.specs.declared.tables.Tables.{Tables}
 use Rattle.io_manager.specs.Calls.{number_limit}
@@ -28,7 +28,7 @@ use Rattle.io_manager.specs.inside.Ordering.{HasOtherNumber}
 use Rattle.io_manager.specs.inside.Chains.{IsOpenIn}
 use Rattle.io_manager.specs.inside.Sound.{shown_state, is_gone, view_of, IsHeldAt, AreHeld, IsSpotted, WasGiven, AreApart, IsInState, IsSound}
 use Rattle.io_manager.specs.Opening.{rules_of}
-use Rattle.io_manager.specs.inside.Admitting.{request_of, HasCopies, Admits, SendsDown, IsAdmissible}
+use Rattle.io_manager.specs.inside.Admitting.{request_of, HasLabelBytes, Admits, SendsDown, IsAdmissible}
 use Rattle.io_manager.proofs.Chained.{AreChained-more}
 use Rattle.io_manager.proofs.Numbered.{AreNumbered-more}
 use Rattle.io_manager.proofs.Counted.{AreCounted-more}
@@ -178,7 +178,7 @@ module _ (limits : Limits) (below : DeviceView) (tables : Tables) (q : ClientReq
         };
       }
 
-  pub admitted_sound : (handle : Handle) (copies : Copies) (spot slot : ℕ) (tables1 : Tables) (buffer : List ℕ) (below1 : DeviceView) → AreDistinct below.state → IsOpenIn tables.handles handle.slot handle.number → HasCopies q.kind buffer copies → q.length ≡ length buffer
+  pub admitted_sound : (handle : Handle) (copies : LabelBytes) (spot slot : ℕ) (tables1 : Tables) (buffer : List ℕ) (below1 : DeviceView) → AreDistinct below.state → IsOpenIn tables.handles handle.slot handle.number → HasLabelBytes q.kind buffer copies → q.length ≡ length buffer
       → deque_len tables.untaken + (slab_len tables.requests + 1) ≤ deque_capacity tables.untaken → Admits tables handle q copies spot slot tables1
       → SendsDown below tables.next_request spot (request_of limits.sector_size q) buffer below1 → IsSound limits below1 tables1
   admitted_sound handle copies spot slot tables1 buffer below1 distinct is_open buffers same_length place admits sends =

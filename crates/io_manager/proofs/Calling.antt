@@ -28,14 +28,14 @@ use Rattle.io_manager.specs.declared.Refusal.TheVariants.{InsufficientResources}
 use Rattle.io_manager.specs.declared.Reply.{Reply}
 use Rattle.io_manager.specs.declared.Reply.TheVariants.{Request as Requested, Refused}
 use Rattle.io_manager.specs.declared.Limits.{Limits}
-use Rattle.io_manager.specs.declared.admission.Copies.{Copies}
+use Rattle.io_manager.specs.declared.admission.LabelBytes.{LabelBytes}
 use Rattle.io_manager.specs.declared.tables.Tables.{Tables}
 use Rattle.io_manager.specs.Shown.{ManagerView, Holder}
 use Rattle.io_manager.specs.Calls.{bytes_called, call_on, without_bytes}
 use Rattle.io_manager.specs.Right.{tells_nothing, IsRight, IsRightBy, CallReplies}
 use Rattle.io_manager.specs.inside.Sound.{shown_state, is_gone, holder_of, view_of, WasGiven, AreApart, IsInState, IsSound, AsksInside, Collects, ManagerKept}
 use Rattle.io_manager.specs.Opening.{rules_of}
-use Rattle.io_manager.specs.inside.Admitting.{request_of, HasCopies, Admits, KeepsAnswers, SendsDown, IsSent, IsAdmissible}
+use Rattle.io_manager.specs.inside.Admitting.{request_of, HasLabelBytes, Admits, KeepsAnswers, SendsDown, IsSent, IsAdmissible}
 use Rattle.io_manager.proofs.Refusing.{Calls-opened}
 use Rattle.io_manager.proofs.Fitted.{FitsBelow-same}
 use Rattle.io_manager.proofs.Righting.{IsServed, told_by, IsRightBy-served, have_partitions}
@@ -145,8 +145,8 @@ module _ (limits : Limits) (below : DeviceView) (tables : Tables) (handle : Hand
   told_is : told_request ≡ called
   told_is = ap (λ (r : ClientRequest). record r { bytes = bytes_called q.kind buffer }) is_call
 
-  module _ (below' : DeviceView) (tables' : Tables) (copies : Copies) (spot slot : ℕ) (below1 : DeviceView) (tables1 : Tables) (reserves : Reserves below below') (keeps : KeepsAnswers tables tables')
-      (buffers : HasCopies q.kind buffer copies) (admits' : Admits tables' handle q copies spot slot tables1) (sends' : SendsDown below' tables'.next_request spot (request_of limits.sector_size q) buffer below1) where
+  module _ (below' : DeviceView) (tables' : Tables) (copies : LabelBytes) (spot slot : ℕ) (below1 : DeviceView) (tables1 : Tables) (reserves : Reserves below below') (keeps : KeepsAnswers tables tables')
+      (buffers : HasLabelBytes q.kind buffer copies) (admits' : Admits tables' handle q copies spot slot tables1) (sends' : SendsDown below' tables'.next_request spot (request_of limits.sector_size q) buffer below1) where
     abbrev reserved_below : DeviceView
     reserved_below = record below { rooms = below'.rooms; adapter = record below.adapter { reserved = below'.adapter.reserved } }
 
@@ -282,8 +282,8 @@ module _ (limits : Limits) (below : DeviceView) (tables : Tables) (old : Manager
             (ap (λ (t : Tables). t.state) keeps.after),
       )
 
-  pub admitted_kept : (below1 : DeviceView) (tables1 : Tables) (copies : Copies) (spot : ℕ) (below2 : DeviceView) (tables2 : Tables) (limits' : Limits) (below3 : DeviceView) (tables3 : Tables) (id : Id)
-      → Reserves below below1 → KeepsAnswers tables tables1 → HasCopies q.kind buffer copies
+  pub admitted_kept : (below1 : DeviceView) (tables1 : Tables) (copies : LabelBytes) (spot : ℕ) (below2 : DeviceView) (tables2 : Tables) (limits' : Limits) (below3 : DeviceView) (tables3 : Tables) (id : Id)
+      → Reserves below below1 → KeepsAnswers tables tables1 → HasLabelBytes q.kind buffer copies
       → IsSent below1 tables1 handle q (request_of limits.sector_size q) copies buffer spot id.slot below2 tables2 → id.number ≡ tables1.next_request
       → limits' ≡ limits → IsSound limits' below3 tables3 → Collects below2 tables2 below3 tables3
       → IsRight (CallReplies old handle (call_on old handle q.kind q.offset buffer q.through) buffer (Requested id) (view_of limits' below3 tables3)) old (view_of limits' below3 tables3) × ManagerKept limits' below3 tables3

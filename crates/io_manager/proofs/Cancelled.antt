@@ -21,13 +21,13 @@ use Rattle.io_manager.specs.declared.OpenHandle.{OpenHandle}
 use Rattle.io_manager.specs.declared.Refusal.{Refusal}
 use Rattle.io_manager.specs.declared.Refusal.TheVariants.{InvalidHandle, NotFound}
 use Rattle.io_manager.specs.declared.Reply.TheVariants.{Ok as OkReply, Refused, Ignored}
-use Rattle.io_manager.specs.declared.cancelling.Place.{Place}
+use Rattle.io_manager.specs.declared.cancelling.PacketBelow.{PacketBelow}
 use Rattle.io_manager.specs.declared.tables.OpenRequest.{OpenRequest}
 use Rattle.io_manager.specs.declared.tables.Tables.{Tables}
 use Rattle.io_manager.specs.Calls.{partition_of}
 use Rattle.io_manager.specs.inside.Cancelling.{HasSome, HasNoneOf, IsOpenAt, IsNotOpenAt, ClosesSlot, HasNoneToMark, CancelsSlot, CancelsUnlessMarked, IsUnmarked, CancelsAll}
 use Rattle.io_manager.specs.inside.Chains.{IsOpenIn}
-use Rattle.io_manager.specs.inside.Collecting.{IsAt, HasNone}
+use Rattle.io_manager.specs.inside.Completion.{IsAt, HasNone}
 use Rattle.io_manager.specs.Shown.{ManagerView, Holder}
 use Rattle.io_manager.specs.Right.{Told, SameHandles, RefusesAlone, tells_nothing, as_cancel, IsHandleOpen, IsToCancel, CancelsAllOf, CancelsOne, HasTarget, HasOtherNumber, CloseReplies, CancelReplies, MarkReplies, IsRight}
 use Rattle.io_manager.specs.inside.Sound.{shown_state, is_gone, holder_of, view_of, IsHeldAt, IsOnMap, IsSound, HasNoneToStart, Collects, ManagerKept}
@@ -314,7 +314,7 @@ module _ (limits : Limits) (below : DeviceView) (tables : Tables) (old : Manager
       is_request = let e : Some s.marks.request ≡ Some request = sym s.marks.there ∙ there in cc (e)
 
       number_is : s.place.number ≡ request.number
-      number_is = ap (λ (p : Place). p.number) s.marks.is_place ∙ ap (λ (r : OpenRequest). r.number) is_request
+      number_is = ap (λ (p : PacketBelow). p.number) s.marks.is_place ∙ ap (λ (r : OpenRequest). r.number) is_request
 
       slot_run : Run below.rules below.state (map as_cancel (request.number ∷ [])) below1.state
       slot_run = (below1.state, inl (kept.settled.none_owed, subst (λ m. Cancels below.state m below1.state) number_is s.cancels), IsSame-refl below1.state)

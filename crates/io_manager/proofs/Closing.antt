@@ -24,7 +24,7 @@ use Rattle.io_manager.specs.declared.tables.OpenRequest.{OpenRequest}
 use Rattle.io_manager.specs.declared.tables.Tables.{Tables}
 use Rattle.io_manager.specs.inside.Chains.{TakesOut, IsWaiting, AreChained, AreNumbered}
 use Rattle.io_manager.specs.inside.Sound.{IsHeldAt, AreHeld}
-use Rattle.io_manager.specs.inside.Collecting.{IsAt, AreFilled, Closes, brought, done_of}
+use Rattle.io_manager.specs.inside.Completion.{IsAt, AreFilled, Closes, brought, done_of}
 use Rattle.io_manager.proofs.Chained.{IsKept, AreChained-same, AreChained-less}
 use Rattle.io_manager.proofs.Numbered.{AreNumbered-less}
 

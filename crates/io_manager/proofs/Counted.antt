@@ -14,7 +14,7 @@ use Rattle.io_manager.specs.declared.tables.Tables.{Tables}
 use Rattle.io_manager.specs.Calls.{partition_of}
 use Rattle.io_manager.specs.inside.Cancelling.{HasSome, HasNoneOf}
 use Rattle.io_manager.specs.inside.Chains.{IsOpenIn, AreChained, of_handle, count_open, AreCounted}
-use Rattle.io_manager.specs.inside.Collecting.{Closes}
+use Rattle.io_manager.specs.inside.Completion.{Closes}
 use Rattle.io_manager.proofs.Linked.{set_same, set_other}
 use Rattle.io_manager.proofs.Chained.{open_in, partition_in}
 

@@ -34,7 +34,7 @@ use Rattle.io_manager.specs.inside.Ordering.{inserted, HasOtherNumber}
 use Rattle.io_manager.specs.Right.{as_answer, unless_answered, end_labels}
 use Rattle.io_manager.specs.inside.Chains.{AreChained, AreCounted}
 use Rattle.io_manager.specs.inside.Sound.{HasPlaces, WasGiven, AreApart, AreHeld, IsSpotted, IsInState, EndsIf, IsSound, IsSoundWith, SamePlaces, Collects, holder_of}
-use Rattle.io_manager.specs.inside.Collecting.{Closes, EndsRemoval, TakesEnded, Gathers, brought, answer_for, done_of, unlabelled}
+use Rattle.io_manager.specs.inside.Completion.{Closes, EndsRemoval, TakesEnded, Gathers, brought, answer_for, done_of, unlabelled}
 use Rattle.io_manager.proofs.AdapterJoins.{labels_moved}
 use Rattle.io_manager.proofs.Askings.{KeepsAsked, KeepsAsked-same, KeepsAsked-trans, asks_same, as_many, run_keeps, AreHeld-along}
 use Rattle.io_manager.proofs.Counted.{AreCounted-ended}

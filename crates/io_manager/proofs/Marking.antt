@@ -20,7 +20,7 @@ use Rattle.device.specs.View.{DeviceView, Packet, IsOrderly, packet_number, IsTo
 use Rattle.device.specs.Served.{IsAt, IsBeside, CancelsAt, NoneToCancel}
 use Rattle.io_manager.specs.declared.Answer.{Answer}
 use Rattle.io_manager.specs.declared.Limits.{Limits}
-use Rattle.io_manager.specs.declared.cancelling.Place.{Place}
+use Rattle.io_manager.specs.declared.cancelling.PacketBelow.{PacketBelow}
 use Rattle.io_manager.specs.declared.tables.OpenRequest.{OpenRequest}
 use Rattle.io_manager.specs.declared.tables.Tables.{Tables}
 use Rattle.io_manager.specs.inside.Cancelling.{as_marked, IsLowestToMark, MarksAt, CancelsSlot, IsUnmarked, IsBelowUnmarked, CancelsAll}
@@ -241,7 +241,7 @@ module _ (old new : Slab OpenRequest) (slot : ℕ) (request : OpenRequest) (ther
 
 -- THE TABLES STAY SOUND
 
-pub marked_sound : (limits : Limits) (below below' : DeviceView) (tables tables' : Tables) (slot : ℕ) (place : Place) → IsSound limits below tables → AreDistinct below.state → (m : MarksAt tables slot place tables')
+pub marked_sound : (limits : Limits) (below below' : DeviceView) (tables tables' : Tables) (slot : ℕ) (place : PacketBelow) → IsSound limits below tables → AreDistinct below.state → (m : MarksAt tables slot place tables')
     → Cancels below.state m.request.number below'.state → IsBeside below below' → IsSound limits below' tables'
 marked_sound limits below below' tables tables' slot place h distinct m cancels beside =
     subst (IsSound limits below') (sym m.after) (record {
@@ -360,7 +360,7 @@ module _ (below0 : DeviceView) (tables0 : Tables) (handle : ℕ) (below : Device
   same_entry = same_item c.marks.request low.request (sym c.marks.there ∙ low.there)
 
   number_is : c.place.number ≡ n
-  number_is = ap (λ (p : Place). p.number) c.marks.is_place ∙ ap (λ (r : OpenRequest). r.number) same_entry
+  number_is = ap (λ (p : PacketBelow). p.number) c.marks.is_place ∙ ap (λ (r : OpenRequest). r.number) same_entry
 
   marked_now : get tables'.requests slot ≡ Some (as_marked low.request)
   marked_now = c.marks.marks.changed ∙ ap (λ r. Some (as_marked r)) same_entry

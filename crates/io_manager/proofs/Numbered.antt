@@ -6,7 +6,7 @@ use Rattle.slab.specs.Slab.{Slab, get, Updates as SlabUpdates}
 use Rattle.io_manager.specs.declared.chains.Chains.{Chains}
 use Rattle.io_manager.specs.declared.tables.OpenRequest.{OpenRequest}
 use Rattle.io_manager.specs.inside.Chains.{IsLowestFrom, IsNextFrom, IsChain, chain_end, LeadsTo, CanLeave, CanJoin, PutsLast, TakesOut, IsNumbered, AreNumbered, remainder_of}
-use Rattle.io_manager.specs.inside.Collecting.{HasNone}
+use Rattle.io_manager.specs.inside.Completion.{HasNone}
 use Rattle.io_manager.proofs.Linked.{end_joint, can_leave, can_join, AreLinked-less, AreLinked-more}
 use Rattle.io_manager.proofs.Chained.{same_item, not_free, was_or_new, still_there}
 

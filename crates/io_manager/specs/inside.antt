@@ -2,8 +2,8 @@
 pub mod Admitting
 pub mod Cancelling
 pub mod Chains
-pub mod Collecting
+pub mod Completion
+pub mod Handover
 pub mod Inside
 pub mod Ordering
 pub mod Sound
-pub mod Taking

@@ -9,7 +9,7 @@ ghost use Rattle.irp.specs.declared.Payload.TheVariants.{Buffer};
 ghost use Rattle.io_manager.specs.Calls.{status_of_refusal};
 ghost use Rattle.io_manager.specs.Opening.{AreFirsts};
 ghost use Rattle.io_manager.specs.inside.Admitting.{asked_for, status_at_once, AreBoundsOf, IsKnown, request_of};
-ghost use Rattle.io_manager.specs.inside.Admitting.{HasCopies, first_location, IsOnTop};
+ghost use Rattle.io_manager.specs.inside.Admitting.{HasLabelBytes, first_location, IsOnTop};
 
 use crate::{Limits, Refusal};
 use device::{ClientRequest, Kind, Request, major_for};
@@ -203,7 +203,7 @@ pub(crate) fn request_below(sector_size: u64, request: &ClientRequest) -> Reques
 
 /// The buffers that a request needs for the manager's own labels.
 #[derive(Drop)]
-pub(crate) struct Copies {
+pub(crate) struct LabelBytes {
     /// The bytes of a write, for the label of its call.
     pub(crate) call_bytes: Bytes,
     /// For the label of a read's answer.
@@ -215,8 +215,12 @@ pub(crate) struct Copies {
 /// # Errors
 ///
 /// [`AllocError`] where memory for one was refused.
-pub(crate) fn copies_for(alloc: Global, kind: Kind, buffer: &Bytes) -> Result<Copies, AllocError>
-    ensures { IfOk result (λ copies. HasCopies kind buffer.now copies) }
+pub(crate) fn label_bytes_for(
+    alloc: Global,
+    kind: Kind,
+    buffer: &Bytes,
+) -> Result<LabelBytes, AllocError>
+    ensures { IfOk result (λ copies. HasLabelBytes kind buffer.now copies) }
 {
     let none = Vec::new(alloc);
     let (call_bytes, label_bytes) = match kind {
@@ -225,7 +229,7 @@ pub(crate) fn copies_for(alloc: Global, kind: Kind, buffer: &Bytes) -> Result<Co
         Kind::Read => (none, vec![in alloc; 0u8; buffer.len()]?),
         Kind::Flush => (none, Vec::new(alloc)),
     };
-    Ok(Copies {
+    Ok(LabelBytes {
         call_bytes: Bytes::new(call_bytes),
         label_bytes: Bytes::new(label_bytes),
     })

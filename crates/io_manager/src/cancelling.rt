@@ -15,7 +15,7 @@ use device::{Device, Label};
 
 /// A packet below, by its spot and its number.
 #[derive(Debug, Clone, Copy, PartialEq, Eq)]
-pub(crate) struct Place {
+pub(crate) struct PacketBelow {
     pub(crate) spot: usize,
     pub(crate) number: u64,
 }
@@ -42,7 +42,7 @@ impl Tables {
     }
 
     /// Sets the cancel flag of an open request, and tells that.
-    fn mark_at(&mut self, slot: usize) -> Place
+    fn mark_at(&mut self, slot: usize) -> PacketBelow
         requires chained { AreChained self.old.handles self.old.requests self.old.next_handle self.old.chains }
         requires there { IsToMark self.old.requests slot }
         requires label_place { deque_len self.old.labels < deque_capacity self.old.labels }
@@ -52,7 +52,7 @@ impl Tables {
             unreachable!()
         };
         request.cancelled = true;
-        let place = Place {
+        let place = PacketBelow {
             spot: request.spot,
             number: request.number,
         };

@@ -11,16 +11,16 @@
 #![tactic(auto)]
 
 mod admission;
+mod answer_queue;
 mod cancelling;
 mod chains;
-mod collecting;
+mod completion;
+mod handover;
 mod manager;
 mod opening;
 mod parts;
 mod removal;
-mod rising;
 mod tables;
-mod taking;
 
 pub use manager::IoManager;
 use ntstatus::NtStatus;

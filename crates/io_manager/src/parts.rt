@@ -8,10 +8,10 @@ ghost use Rattle.srb.specs.declared.Kind.TheVariants.{Write};
 ghost use Rattle.device.specs.View.{IsBounded, room_at, whole_for};
 ghost use Rattle.device.specs.Served.{ReservesSpot, ReservesNone};
 ghost use Rattle.io_manager.specs.Calls.{partition_of};
-ghost use Rattle.io_manager.specs.inside.Admitting.{request_of, HasCopies, IsSent, KeepsAnswers, IsAdmissible};
+ghost use Rattle.io_manager.specs.inside.Admitting.{request_of, HasLabelBytes, IsSent, KeepsAnswers, IsAdmissible};
 ghost use Rattle.io_manager.specs.inside.Sound.{IsSound, view_of};
 
-use crate::admission::{Copies, copies_for, ready_packet, request_below};
+use crate::admission::{LabelBytes, label_bytes_for, ready_packet, request_below};
 use crate::tables::Tables;
 use crate::{Handle, Id, Limits};
 use device::{ClientRequest, Device, Request, Room, Shown};
@@ -32,7 +32,7 @@ pub(crate) struct Parts<D: Shown> {
 pub(crate) struct Prepared {
     pub(crate) irp: Box<Irp>,
     pub(crate) room: Room,
-    pub(crate) copies: Copies,
+    pub(crate) copies: LabelBytes,
 }
 
 impl<D: Device> Parts<D> {
@@ -56,12 +56,12 @@ impl<D: Device> Parts<D> {
         ensures unless_write { below.now.kind ≢ Write
             → (D.view self.new.device).adapter ≡ (D.view self.old.device).adapter }
         ensures tables { KeepsAnswers self.old.tables self.new.tables }
-        ensures copies { IfOk result (λ made. HasCopies below.now.kind buffer.now made.copies) }
+        ensures copies { IfOk result (λ made. HasLabelBytes below.now.kind buffer.now made.copies) }
         ensures place { OnOk result (deque_len self.new.tables.untaken + (slab_len self.new.tables.requests + 1)
             ≤ deque_capacity self.new.tables.untaken) }
     {
         self.tables.cover_answers()?;
-        let copies = copies_for(alloc, below.kind, buffer)?;
+        let copies = label_bytes_for(alloc, below.kind, buffer)?;
         let irp = Box::new(alloc, Irp::new(0, Payload::Sent))?;
         let room = self.device.reserve(below)?;
         Ok(Prepared { irp, room, copies })
@@ -83,7 +83,7 @@ impl<D: Device> Parts<D> {
         requires untold { self.old.tables.labels.items ≡ [] }
         requires open { is_some (partition_of self.old.tables.handles.slots handle) ≡ true }
         requires admissible { IsAdmissible (view_of self.old.limits (D.view self.old.device) self.old.tables) request }
-        requires copies { HasCopies request.kind buffer prepared.copies }
+        requires copies { HasLabelBytes request.kind buffer prepared.copies }
         requires length { request.length ≡ length buffer }
         requires place { deque_len self.old.tables.untaken + (slab_len self.old.tables.requests + 1)
             ≤ deque_capacity self.old.tables.untaken }

@@ -10,7 +10,7 @@ ghost use Rattle.io_manager.specs.inside.Cancelling.{ClosesSlot, HasSome, HasNon
 ghost use Rattle.io_manager.specs.inside.Admitting.{AnswersAtOnce, KeepsAnswers, Admits, OpensHandle, status_at_once};
 ghost use Rattle.io_manager.specs.inside.Admitting.{reply_at_once, is_going};
 
-use crate::admission::{AtOnce, Copies};
+use crate::admission::{AtOnce, LabelBytes};
 use crate::chains::{CHAIN_LIMIT, Chains, REQUEST_LIMIT};
 use crate::{Answer, Handle, Id, OpenHandle, Refusal, Reply};
 use device::{ClientRequest, Kind, Label};
@@ -243,7 +243,7 @@ impl Tables {
         handle: Handle,
         request: ClientRequest,
         spot: usize,
-        copies: Copies,
+        copies: LabelBytes,
     ) -> u32
         requires numbers_last { are_used_up self.old.next_request ≡ false }
         requires label_place { deque_len self.old.labels < deque_capacity self.old.labels }
@@ -255,7 +255,7 @@ impl Tables {
         requires open { is_some (partition_of self.old.handles.slots handle) ≡ true }
         ensures { Admits self.old handle request copies spot result self.new }
     {
-        let Copies {
+        let LabelBytes {
             call_bytes,
             label_bytes,
         } = copies;

@@ -36,7 +36,7 @@ use Rattle.io_manager.specs.declared.admission.Decision.TheVariants.{UsedUp, End
 use Rattle.io_manager.specs.declared.admission.AtOnce.{AtOnce}
 use Rattle.io_manager.specs.declared.admission.AtOnce.TheVariants.{Empty, Refused as RefusedFor}
 use Rattle.io_manager.specs.declared.admission.Bounds.{Bounds}
-use Rattle.io_manager.specs.declared.admission.Copies.{Copies}
+use Rattle.io_manager.specs.declared.admission.LabelBytes.{LabelBytes}
 use Rattle.io_manager.specs.Calls.{status_of_refusal, bytes_called, are_used_up, handle_limit}
 use Rattle.io_manager.specs.inside.Chains.{PutsLast, remainder_of}
 use Rattle.io_manager.specs.Shown.{ManagerView}
@@ -90,7 +90,7 @@ request_of sector_size q = record {
 }
 
 -- the buffers that a request needs for the manager's own labels
-pub record HasCopies (kind : Kind) (buffer : List ℕ) (copies : Copies) : Type 0 where
+pub record HasLabelBytes (kind : Kind) (buffer : List ℕ) (copies : LabelBytes) : Type 0 where
   pub call_bytes : copies.call_bytes ≡ bytes_called kind buffer
   pub label_bytes : kind ≡ Read → length copies.label_bytes ≡ length buffer
   pub none_else : kind ≢ Read → copies.label_bytes ≡ []
@@ -126,7 +126,7 @@ reply_at_once number buffer Empty = Answered (record { number = number; status =
 reply_at_once number buffer (RefusedFor refusal) = Refused refusal buffer
 
 -- a request is open under the next number, in a slot that was free, and its call is told
-pub record Admits (old : Tables) (handle : Handle) (q : ClientRequest) (copies : Copies) (spot slot : ℕ)
+pub record Admits (old : Tables) (handle : Handle) (q : ClientRequest) (copies : LabelBytes) (spot slot : ℕ)
     (new : Tables) : Type 0 where
   pub was_free : get old.requests slot ≡ None
   pub in_range : slot < old.requests.capacity
@@ -213,7 +213,7 @@ pub record SendsDown (old : DeviceView) (number spot : ℕ) (request : Request) 
 
 -- a request is open, and its packet is below at the spot that its entry keeps
 pub record IsSent (below : DeviceView) (tables : Tables) (handle : Handle) (q : ClientRequest) (request : Request)
-    (copies : Copies) (buffer : List ℕ) (spot slot : ℕ) (below' : DeviceView) (tables' : Tables) : Type 0 where
+    (copies : LabelBytes) (buffer : List ℕ) (spot slot : ℕ) (below' : DeviceView) (tables' : Tables) : Type 0 where
   pub admits : Admits tables handle q copies spot slot tables'
   pub sends : SendsDown below tables.next_request spot request buffer below'
 

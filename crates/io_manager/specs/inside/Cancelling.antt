@@ -9,7 +9,7 @@ use Rattle.machine.specs.Step.{Run}
 use Rattle.device.specs.View.{DeviceView}
 use Rattle.device.specs.Served.{IsBeside}
 use Rattle.io_manager.specs.declared.Id.{Id}
-use Rattle.io_manager.specs.declared.cancelling.Place.{Place}
+use Rattle.io_manager.specs.declared.cancelling.PacketBelow.{PacketBelow}
 use Rattle.io_manager.specs.declared.tables.OpenRequest.{OpenRequest}
 use Rattle.io_manager.specs.declared.tables.Tables.{Tables}
 use Rattle.io_manager.specs.inside.Chains.{TakesOut}
@@ -80,7 +80,7 @@ pub record IsLowestToMark (requests : Slab OpenRequest) (handle slot : ℕ) : Ty
       → higher.cancelled ≡ false → request.number ≤ higher.number
 
 -- the open request in this slot is cancelled, and that is told
-pub record MarksAt (old : Tables) (slot : ℕ) (place : Place) (new : Tables) : Type 0 where
+pub record MarksAt (old : Tables) (slot : ℕ) (place : PacketBelow) (new : Tables) : Type 0 where
   pub request : OpenRequest
   pub there : get old.requests slot ≡ Some request
   pub not_yet : request.cancelled ≡ false
@@ -98,7 +98,7 @@ pub record MarksAt (old : Tables) (slot : ℕ) (place : Place) (new : Tables) : 
 -- and its packet is cancelled below
 pub record CancelsSlot (below : DeviceView) (tables : Tables) (slot : ℕ) (below' : DeviceView)
     (tables' : Tables) : Type 0 where
-  pub place : Place
+  pub place : PacketBelow
   pub marks : MarksAt tables slot place tables'
   pub cancels : Cancels below.state place.number below'.state
   pub beside : IsBeside below below'

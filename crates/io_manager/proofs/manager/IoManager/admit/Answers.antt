@@ -8,7 +8,7 @@ use Rattle.io_manager.specs.declared.Limits.{Limits}
 use Rattle.io_manager.specs.declared.Reply.TheVariants.{Request as Requested}
 use Rattle.io_manager.specs.Shown.{ManagerView}
 use Rattle.io_manager.specs.Calls.{call_on}
-use Rattle.io_manager.specs.inside.Admitting.{request_of, HasCopies, IsSent, IsAdmissible}
+use Rattle.io_manager.specs.inside.Admitting.{request_of, HasLabelBytes, IsSent, IsAdmissible}
 use Rattle.io_manager.specs.Right.{IsRight, CallReplies}
 use Rattle.io_manager.specs.inside.Sound.{IsSound, ManagerKept, view_of}
 use Rattle.io_manager.proofs.Vacant.{vacant_still, sent_vacant}
@@ -69,8 +69,8 @@ reserved_for g c =
     subst (λ (r : Request). SetsRoom (g.D.Shown.view c.self.inside.parts.device).rooms c.in-Ok.prepared.room.spot None (Some (whole_for r)) (g.D.Shown.view c.reserve.new.self.device).rooms) c.request_below-below.ensures
     c.in-Ok.ensures.reserved.room
 
-made : (g : _) (c : goal.After-collect g) → HasCopies c.args.request.kind c.args.buffer c.in-Ok.prepared.copies
-made g c = subst (λ (r : Request). HasCopies r.kind c.args.buffer c.in-Ok.prepared.copies) c.request_below-below.ensures c.in-Ok.ensures.copies
+made : (g : _) (c : goal.After-collect g) → HasLabelBytes c.args.request.kind c.args.buffer c.in-Ok.prepared.copies
+made g c = subst (λ (r : Request). HasLabelBytes r.kind c.args.buffer c.in-Ok.prepared.copies) c.request_below-below.ensures c.in-Ok.ensures.copies
 
 sent : (g : _) (c : goal.After-collect g)
     → IsSent (g.D.Shown.view c.reserve.new.self.device) c.reserve.new.self.tables c.args.handle c.args.request (request_of c.self.inside.parts.limits.sector_size c.args.request) c.in-Ok.prepared.copies c.args.buffer c.in-Ok.prepared.room.spot c.send-id.result.slot

@@ -3,7 +3,7 @@ use Rattle.std.proofs.Common.{◌≡◌, ◌≤◌, ◌<◌, ◌+◌, ◌∙◌,
 use Rattle.std.specs.Prelude.{count_by, is_some}
 use Rattle.std.specs.VecDeque.{deque_len}
 use Rattle.io_manager.specs.declared.Handle.{Handle}
-use Rattle.io_manager.specs.declared.cancelling.Place.{Place}
+use Rattle.io_manager.specs.declared.cancelling.PacketBelow.{PacketBelow}
 use Rattle.io_manager.specs.declared.tables.Tables.{Tables}
 use Rattle.io_manager.specs.Calls.{partition_of}
 use Rattle.io_manager.specs.inside.Cancelling.{MarksAt}
@@ -13,7 +13,7 @@ use Rattle.io_manager.proofs.parts.Parts.cancel_all_of.Goals as goal
 less : (a b : ℕ) → a + 1 ≡ b → a < b
 less a b e = omega arith
 
-still_open : (handle : Handle) (old new : Tables) (slot : ℕ) (place : Place) → MarksAt old slot place new → is_some (partition_of old.handles.slots handle) ≡ true → is_some (partition_of new.handles.slots handle) ≡ true
+still_open : (handle : Handle) (old new : Tables) (slot : ℕ) (place : PacketBelow) → MarksAt old slot place new → is_some (partition_of old.handles.slots handle) ≡ true → is_some (partition_of new.handles.slots handle) ≡ true
 still_open handle old new slot place marks is = subst (λ (t : Tables). is_some (partition_of t.handles.slots handle) ≡ true) (sym marks.after) is
 
 pub next-smaller : goal.next-smaller

@@ -2,7 +2,7 @@
 use Rattle.std.proofs.Common.{sym, subst}
 use Rattle.machine.specs.Holding.{Cancels}
 use Rattle.device.specs.Served.{IsBeside, CancelsAt}
-use Rattle.io_manager.specs.declared.cancelling.Place.{Place}
+use Rattle.io_manager.specs.declared.cancelling.PacketBelow.{PacketBelow}
 use Rattle.io_manager.proofs.Marking.{cancelled_below, marked_sound}
 use Rattle.io_manager.proofs.parts.Parts.cancel_slot.Goals as goal
 
@@ -11,7 +11,7 @@ cancelled : (g : _) (c : goal.After-cancel_at g)
 cancelled g c =
     cancelled_below c.args.self.now.limits (g.D.Shown.view c.args.self.now.device) (g.D.Shown.view c.cancel_at.new.self) c.args.self.now.tables c.requires.sound
     c.shows_order.ensures.order c.args.slot c.mark_at-place.ensures.request c.mark_at-place.ensures.there c.mark_at-place.ensures.not_yet
-    (subst (λ (p : Place). CancelsAt (g.D.Shown.view c.args.self.now.device) p.spot p.number (g.D.Shown.view c.cancel_at.new.self)) c.mark_at-place.ensures.is_place c.cancel_at.ensures.cancels)
+    (subst (λ (p : PacketBelow). CancelsAt (g.D.Shown.view c.args.self.now.device) p.spot p.number (g.D.Shown.view c.cancel_at.new.self)) c.mark_at-place.ensures.is_place c.cancel_at.ensures.cancels)
 
 pub returns-clause-sound : goal.returns-clause-sound
 returns-clause-sound g c =
@@ -23,6 +23,6 @@ returns-clause-cancels g c = record {
   place = c.mark_at-place.result;
   marks = c.mark_at-place.ensures;
   cancels =
-      subst (λ (p : Place). Cancels (g.D.Shown.view c.args.self.now.device).state p.number (g.D.Shown.view c.cancel_at.new.self).state) (sym c.mark_at-place.ensures.is_place) (cancelled g c).0;
+      subst (λ (p : PacketBelow). Cancels (g.D.Shown.view c.args.self.now.device).state p.number (g.D.Shown.view c.cancel_at.new.self).state) (sym c.mark_at-place.ensures.is_place) (cancelled g c).0;
   beside = (cancelled g c).1;
 }

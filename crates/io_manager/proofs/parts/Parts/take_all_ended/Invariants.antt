@@ -1,7 +1,7 @@
 use Rattle.std.proofs.Common.{◌≡◌, ◌≤◌, ◌+◌, length}
 use Rattle.std.specs.VecDeque.{deque_len}
 use Rattle.slab.specs.Slab.{slab_len}
-use Rattle.io_manager.specs.inside.Collecting.{Gathers}
+use Rattle.io_manager.specs.inside.Completion.{Gathers}
 use Rattle.io_manager.specs.inside.Sound.{IsSoundWith}
 use Rattle.io_manager.proofs.parts.Parts.take_all_ended.Given as goal
 

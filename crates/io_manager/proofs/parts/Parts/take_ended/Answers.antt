@@ -2,7 +2,7 @@
 use Rattle.std.proofs.Common.{◌<◌, ◌≤◌, ◌^◌, sym, subst, arith, deque_len, deque_capacity}
 use Rattle.device.specs.View.{DeviceView}
 use Rattle.device.specs.Served.{HandsUp}
-use Rattle.io_manager.specs.inside.Collecting.{TakesEnded}
+use Rattle.io_manager.specs.inside.Completion.{TakesEnded}
 use Rattle.io_manager.specs.inside.Sound.{IsSoundWith}
 use Rattle.io_manager.proofs.Vacant.{handed_reserved, given_back}
 use Rattle.io_manager.proofs.Closing.{no_routine, handed, is_at, is_given, are_filled, answered_place}

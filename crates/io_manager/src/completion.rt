@@ -12,13 +12,13 @@ ghost use Rattle.device.specs.Served.{HandsUpNone};
 ghost use Rattle.machine.specs.Settled.{Settled};
 ghost use Rattle.io_manager.specs.Calls.{partition_of};
 ghost use Rattle.io_manager.specs.inside.Chains.{AreChained, AreNumbered, AreCounted};
-ghost use Rattle.io_manager.specs.inside.Collecting.{IsAt, HasNone, done_of, AreFilled, CountsOut, Closes, EndsRemoval};
-ghost use Rattle.io_manager.specs.inside.Collecting.{TakesEnded, Gathers, brought, unlabelled};
+ghost use Rattle.io_manager.specs.inside.Completion.{IsAt, HasNone, done_of, AreFilled, CountsOut, Closes, EndsRemoval};
+ghost use Rattle.io_manager.specs.inside.Completion.{TakesEnded, Gathers, brought, unlabelled};
 ghost use Rattle.io_manager.specs.Right.{as_answer, AreRising, answer_number};
 ghost use Rattle.io_manager.specs.inside.Sound.{IsSound, IsSoundWith, TakesLabels, Collects};
 
+use crate::answer_queue::insert_rising;
 use crate::parts::Parts;
-use crate::rising::insert_rising;
 use crate::tables::{OpenRequest, Tables, remainder_of};
 use crate::{Answer, Handle};
 use device::{Climb, Device, Kind, Label};

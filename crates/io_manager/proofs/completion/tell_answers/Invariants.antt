@@ -1,7 +1,7 @@
 use Rattle.std.proofs.Common.{◌≡◌, ◌≤◌, ◌+◌, ◌++◌, map}
 use Rattle.std.specs.VecDeque.{deque_len, deque_capacity}
 use Rattle.io_manager.specs.Right.{as_answer}
-use Rattle.io_manager.proofs.collecting.tell_answers.Given as goal
+use Rattle.io_manager.proofs.completion.tell_answers.Given as goal
 
 abbrev pub invariant-loop-answer : goal.invariant-loop-answer
 invariant-loop-answer l = record {

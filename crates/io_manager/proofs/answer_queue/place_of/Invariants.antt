@@ -1,6 +1,6 @@
 use Rattle.std.proofs.Common.{◌≤◌, length}
 use Rattle.io_manager.specs.inside.Ordering.{lower_first}
-use Rattle.io_manager.proofs.rising.place_of.Given as goal
+use Rattle.io_manager.proofs.answer_queue.place_of.Given as goal
 
 abbrev pub invariant-loop-place : goal.invariant-loop-place
 invariant-loop-place l = record {

@@ -3,7 +3,7 @@
 ghost use Rattle.std.specs.Prelude.{◌≡◌, ◌≤◌, ◌<◌, [], IfOk, All, MatchOption, length, slice_get, Some};
 ghost use Rattle.std.specs.VecDeque.{deque_capacity};
 ghost use Rattle.io_manager.specs.Right.{IsOfAnother, TakesAnswerOf};
-ghost use Rattle.io_manager.specs.inside.Taking.{IsAt};
+ghost use Rattle.io_manager.specs.inside.Handover.{IsAt};
 
 use crate::Answer;
 use crate::manager::IoManager;

@@ -2,7 +2,7 @@
 use Rattle.std.proofs.Common.{◌≡◌, ◌<◌, ◌+◌, ◌-◌, ◌≤◌, sym, arith, length}
 use Rattle.io_manager.specs.inside.Ordering.{lower_first}
 use Rattle.io_manager.proofs.Inserting.{lower_first_within, not_lower, all_lower}
-use Rattle.io_manager.proofs.rising.place_of.Goals as goal
+use Rattle.io_manager.proofs.answer_queue.place_of.Goals as goal
 
 pub loop-place-init : goal.loop-place-init
 loop-place-init c =

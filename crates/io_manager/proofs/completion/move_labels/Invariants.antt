@@ -1,8 +1,8 @@
 use Rattle.std.proofs.Common.{◌≡◌, ◌≤◌, ◌+◌, ◌++◌, map, length}
 use Rattle.std.specs.VecDeque.{deque_len, deque_capacity}
 use Rattle.machine.specs.Step.{as_label}
-use Rattle.io_manager.specs.inside.Collecting.{unlabelled}
-use Rattle.io_manager.proofs.collecting.move_labels.Given as goal
+use Rattle.io_manager.specs.inside.Completion.{unlabelled}
+use Rattle.io_manager.proofs.completion.move_labels.Given as goal
 
 abbrev pub invariant-loop-label : goal.invariant-loop-label
 invariant-loop-label g l = record {

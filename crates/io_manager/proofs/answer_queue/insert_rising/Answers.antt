@@ -3,7 +3,7 @@ use Rattle.std.proofs.Common.{◌≡◌, ◌≤◌, ◌+◌, ◌∙◌, ap, arit
 use Rattle.std.specs.VecDeque.{deque_len}
 use Rattle.io_manager.specs.inside.Ordering.{lower_first}
 use Rattle.io_manager.proofs.Inserting.{lower_first_within, turned_in}
-use Rattle.io_manager.proofs.rising.insert_rising.Goals as goal
+use Rattle.io_manager.proofs.answer_queue.insert_rising.Goals as goal
 
 pub rotate_left-requires : goal.rotate_left-requires
 rotate_left-requires c =
