@@ -18,7 +18,7 @@ use Rattle.sector_journal.specs.Arming.{AskTheSame, IsCopy}
 use Rattle.sector_journal.specs.Entering.{named, Names}
 use Rattle.sector_journal.specs.Reserving.{covers, is_write, lies_in}
 use Rattle.sector_journal.specs.Slots.{armed_count, IsFree}
-use Rattle.sector_journal.specs.Stocking.{Room, pieces_at}
+use Rattle.sector_journal.specs.Stocking.{ShelfView, pieces_at}
 use Rattle.sector_journal.specs.Journal.{JournalView, IsHeld, MayArm, Arms}
 use Rattle.sector_journal.specs.inside.Journal.{CanEnter}
 
@@ -96,7 +96,7 @@ ask_the_same kind extent srb copy names is = record {
 }
 
 module _ (old shown : JournalView) (tag piece : ℕ) (kind : Kind) (extent : Extent) (srb : Srb) (shown_is : shown ≡ old) where
-  pub may_arm : Names srb.block (kind, extent) → IsFree shown.slots tag → list_any (covers kind extent) shown.reservations ≡ true → (room' : List Room) → pieces_at room' (length srb.data) + 1 ≡ pieces_at shown.room (length srb.data)
+  pub may_arm : Names srb.block (kind, extent) → IsFree shown.slots tag → list_any (covers kind extent) shown.reservations ≡ true → (room' : List ShelfView) → pieces_at room' (length srb.data) + 1 ≡ pieces_at shown.room (length srb.data)
       → length shown.entered + armed_count shown.slots < shown.places → length shown.armings < 2 ^ 64 - 1 → MayArm old tag srb
   may_arm names free covered room' less place number = subst (λ (j : JournalView). MayArm j tag srb) shown_is (record {
     what = (kind, extent);
@@ -108,7 +108,7 @@ module _ (old shown : JournalView) (tag piece : ℕ) (kind : Kind) (extent : Ext
     number = number;
   })
 
-  pub arms : (armed : Armed) (slots' : List (Option Armed)) (armings' : List Armed) (room' : List Room) → AlwaysNames srb.block (kind, extent) → IsCopy kind srb armed.srb → armed.tag ≡ tag → armed.piece ≡ piece
+  pub arms : (armed : Armed) (slots' : List (Option Armed)) (armings' : List Armed) (room' : List ShelfView) → AlwaysNames srb.block (kind, extent) → IsCopy kind srb armed.srb → armed.tag ≡ tag → armed.piece ≡ piece
       → armed.number ≡ length shown.armings → pieces_at room' (length srb.data) + 1 ≡ pieces_at shown.room (length srb.data)
       → ((long : ℕ) → long ≢ length srb.data → pieces_at room' long ≡ pieces_at shown.room long) → slots' ≡ slice_set shown.slots tag (Some armed) → armings' ≡ shown.armings ++ armed ∷ []
       → Arms old tag piece srb (record shown { slots = slots'; armings = armings'; room = room' })

@@ -9,7 +9,7 @@ use Rattle.disk.specs.Medium.{MediumView, Reserves}
 use Rattle.sector_journal.specs.declared.acted.Entered.{Entered}
 use Rattle.sector_journal.specs.declared.reservation.Reservation.{Reservation}
 use Rattle.sector_journal.specs.Reserving.{pieces_of}
-use Rattle.sector_journal.specs.Stocking.{Room, pieces_at}
+use Rattle.sector_journal.specs.Stocking.{ShelfView, pieces_at}
 use Rattle.sector_journal.specs.Journal.{JournalView, GainsRoom, HoldsNear}
 
 pub reserves_none : (medium : MediumView) → Reserves medium medium
@@ -31,7 +31,7 @@ on_err (Ok x) p = tt
 on_err (Err e) p = p
 
 -- more room for entries and in the medium, and as many buffers
-pub gains : (old shown : JournalView) (medium' : MediumView) (entered' : List Entered) (places' : ℕ) (reservations' : List Reservation) (room' : List Room) → shown ≡ old → Reserves shown.medium medium' → shown.places ≤ places'
+pub gains : (old shown : JournalView) (medium' : MediumView) (entered' : List Entered) (places' : ℕ) (reservations' : List Reservation) (room' : List ShelfView) → shown ≡ old → Reserves shown.medium medium' → shown.places ≤ places'
     → entered' ≡ shown.entered → reservations' ≡ shown.reservations → ((long : ℕ) → pieces_at room' long ≡ pieces_at shown.room long)
     → GainsRoom old (record shown { medium = medium'; places = places'; entered = entered'; reservations = reservations'; room = room' })
 gains old shown medium' entered' places' reservations' room' shown_is reserves more same same' buffers =

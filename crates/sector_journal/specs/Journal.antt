@@ -16,7 +16,7 @@ use Rattle.sector_journal.specs.Arming.{AskTheSame}
 use Rattle.sector_journal.specs.Entering.{Names, Enters, Refuses}
 use Rattle.sector_journal.specs.Slots.{armed_at, armed_count, IsFree}
 use Rattle.sector_journal.specs.Reserving.{covers, is_of, pieces_of, pieces_with}
-use Rattle.sector_journal.specs.Stocking.{Room, pieces_at}
+use Rattle.sector_journal.specs.Stocking.{ShelfView, pieces_at}
 
 pub record JournalView : Type 0 where
   -- the sectors
@@ -33,7 +33,7 @@ pub record JournalView : Type 0 where
   -- what open requests may move
   pub reservations : List Reservation
   -- for how many pieces of this many bytes there are buffers
-  pub room : List Room
+  pub room : List ShelfView
 
 -- what acts did, without their armings
 abbrev pub entries_in : List Entered → List Entry

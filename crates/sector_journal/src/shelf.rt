@@ -19,10 +19,10 @@ pub(crate) struct Shelf {
 
 impl Model for Shelf {
     ghost use Rattle.std.specs.Prelude.{All, length};
-    ghost use Rattle.sector_journal.specs.Stocking.{Room};
+    ghost use Rattle.sector_journal.specs.Stocking.{ShelfView};
     ghost use Rattle.sector_journal.specs.inside.Stocking.{IsOfLength};
 
-    ghost Value = { Room };
+    ghost Value = { ShelfView };
 
     ghost view = { λ s. record { bytes = s.bytes; pieces = length s.free.items } };
 

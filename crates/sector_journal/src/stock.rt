@@ -21,9 +21,9 @@ pub(crate) struct Stock {
 
 impl Model for Stock {
     ghost use Rattle.std.specs.Prelude.{List};
-    ghost use Rattle.sector_journal.specs.Stocking.{Room};
+    ghost use Rattle.sector_journal.specs.Stocking.{ShelfView};
 
-    ghost Value = { List Room };
+    ghost Value = { List ShelfView };
 
     ghost view = { λ s. s.shelves.items };
 }

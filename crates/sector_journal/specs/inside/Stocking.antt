@@ -1,12 +1,12 @@
 -- How one buffer is taken off a shelf.
 use Rattle.std.specs.Prelude.{◌≡◌, ℕ, ◌+◌, List, length}
-use Rattle.sector_journal.specs.Stocking.{Room}
+use Rattle.sector_journal.specs.Stocking.{ShelfView}
 
 -- a buffer of this length
 abbrev pub IsOfLength : List ℕ → ℕ → Type 0
 IsOfLength buffer long = length buffer ≡ long
 
 -- the buffer of one piece is taken
-pub record TakesOne (old new : Room) : Type 0 where
+pub record TakesOne (old new : ShelfView) : Type 0 where
   pub same : new.bytes ≡ old.bytes
   pub less : new.pieces + 1 ≡ old.pieces

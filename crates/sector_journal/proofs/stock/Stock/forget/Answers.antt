@@ -1,9 +1,9 @@
 use Rattle.std.proofs.Common.{sym, ap, ◌∙◌}
-use Rattle.sector_journal.specs.Stocking.{Room}
+use Rattle.sector_journal.specs.Stocking.{ShelfView}
 use Rattle.sector_journal.proofs.Shelves.{made_less_in}
 use Rattle.sector_journal.proofs.stock.Stock.forget.Goals as goal
 
 pub returns-in-Some : goal.returns-in-Some
 returns-in-Some c =
     made_less_in c.self.inside.shelves.items c.args.self.now c.args.batch.length c.in-Some.at c.index_mut.result.now c.forget.new.self c.args.batch.pieces c.self.view_is (sym c.find.ensures ∙ c.in-Some.is)
-    c.index_mut.ensures.value (ap (λ (r : Room). r.bytes) c.forget.ensures) (ap (λ (r : Room). r.pieces) c.forget.ensures)
+    c.index_mut.ensures.value (ap (λ (r : ShelfView). r.bytes) c.forget.ensures) (ap (λ (r : ShelfView). r.pieces) c.forget.ensures)
