@@ -12,6 +12,9 @@ use sector::Bytes;
 use std::alloc::{AllocError, Global};
 use std::marker::Model;
 
+/// So many shelves stay though no open request has a piece for them: the next request is often as long.
+const SPENT_SHELVES: usize = 4;
+
 /// The buffers that armings have yet to take, by their length.
 #[derive(Debug, Drop)]
 pub(crate) struct Stock {
@@ -88,7 +91,7 @@ impl Stock {
             return;
         };
         self.shelves[at].withdraw(batch.pieces, out);
-        if self.shelves[at].is_spent() {
+        if self.shelves[at].is_spent() && self.shelves.len() > SPENT_SHELVES {
             self.shelves.remove(at);
         }
     }
