@@ -24,12 +24,12 @@ const MIDDLE: Entry = (7, 2048, 1024);
 
 /// Sector 0 with these entries in its table.
 #[derive(Debug, Clone, Copy)]
-struct Table {
+struct PartitionTable {
     signature: [u8; 2],
     entries: [Entry; 4],
 }
 
-impl Table {
+impl PartitionTable {
     /// Entries have sixteen bytes each from byte 446 on; their type is byte 4, the first sector and the count are the bytes
     /// from 8 and 12 on, the lowest first.
     fn sector(&self) -> [u8; 512] {
@@ -47,21 +47,21 @@ impl Table {
 }
 
 /// A signed table of these entries.
-const fn four(entries: [Entry; 4]) -> Table {
-    Table {
+const fn four(entries: [Entry; 4]) -> PartitionTable {
+    PartitionTable {
         signature: [0x55, 0xAA],
         entries,
     }
 }
 
 /// A signed table of one entry.
-const fn one(entry: Entry) -> Table {
+const fn one(entry: Entry) -> PartitionTable {
     four([entry, UNUSED, UNUSED, UNUSED])
 }
 
 /// A table of one entry with this signature.
-const fn signed(signature: [u8; 2]) -> Table {
-    Table {
+const fn signed(signature: [u8; 2]) -> PartitionTable {
+    PartitionTable {
         signature,
         entries: [MIDDLE, UNUSED, UNUSED, UNUSED],
     }
@@ -76,7 +76,7 @@ fn no_memory(_refused: NoMemory) -> AllocError {
 }
 
 /// A disk of 4,096 sectors of 512 bytes with this table, in which the sectors of the list are bad.
-fn disk(alloc: Global, table: &Table, bad: &[u64]) -> Result<VecDisk, AllocError> {
+fn disk(alloc: Global, table: &PartitionTable, bad: &[u64]) -> Result<VecDisk, AllocError> {
     let bad = Vec::from_slice(alloc, bad)?;
     VecDisk::starting_with(alloc, 512, 4096, &table.sector(), bad).map_err(no_memory)
 }
@@ -86,7 +86,7 @@ fn sparse(
     rt: &impl Abort,
     alloc: Global,
     sectors: u64,
-    table: &Table,
+    table: &PartitionTable,
 ) -> Result<SparseDisk, AllocError> {
     assert!(rt; 1 <= sectors);
     let bad = Vec::new(alloc);
@@ -160,7 +160,7 @@ const FAR: u64 = 0x1_0000_0000;
 fn finds_the_partitions(rt: HostRuntime) -> Result<(), Fail> {
     let alloc = rt.alloc();
     let (low, high) = ((7, 1, 2047), (0xEE, 3072, 1024));
-    let cases: [(Table, &[Extent]); 8] = [
+    let cases: [(PartitionTable, &[Extent]); 8] = [
         (one(MIDDLE), &[extent(2048, 1024)]),
         (one((7, 4095, 1)), &[extent(4095, 1)]),
         (one((7, 1, 4095)), &[extent(1, 4095)]),

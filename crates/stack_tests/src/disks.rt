@@ -21,12 +21,12 @@ pub(crate) const SIGNATURE: [u8; 2] = [0x55, 0xAA];
 
 /// Sector 0 with these entries in its table.
 #[derive(Debug, Clone, Copy)]
-pub(crate) struct Table {
+pub(crate) struct PartitionTable {
     pub signature: [u8; 2],
     pub entries: [Entry; 4],
 }
 
-impl Table {
+impl PartitionTable {
     /// Entries have sixteen bytes each from byte 446 on; their type is byte 4, the first sector and the count are the bytes
     /// from 8 and 12 on, the lowest first.
     pub(crate) fn sector(&self) -> [u8; 512] {
@@ -44,13 +44,13 @@ impl Table {
 }
 
 /// A table of one partition.
-pub(crate) const ONE: Table = Table {
+pub(crate) const ONE: PartitionTable = PartitionTable {
     signature: SIGNATURE,
     entries: [MIDDLE, UNUSED, UNUSED, UNUSED],
 };
 
 /// A table of two, of which the second has the sectors 3,072 to 4,095.
-pub(crate) const TWO: Table = Table {
+pub(crate) const TWO: PartitionTable = PartitionTable {
     signature: SIGNATURE,
     entries: [MIDDLE, (7, 3072, 1024), UNUSED, UNUSED],
 };
@@ -60,7 +60,11 @@ fn no_memory(_refused: NoMemory) -> AllocError {
 }
 
 /// A disk with this table, in which the sectors of the list are bad.
-pub(crate) fn disk(alloc: Global, table: &Table, bad: &[u64]) -> Result<VecDisk, AllocError> {
+pub(crate) fn disk(
+    alloc: Global,
+    table: &PartitionTable,
+    bad: &[u64],
+) -> Result<VecDisk, AllocError> {
     let bad = Vec::from_slice(alloc, bad)?;
     VecDisk::starting_with(alloc, 512, 4096, &table.sector(), bad).map_err(no_memory)
 }

@@ -3,7 +3,7 @@
 ghost use Rattle.std.specs.Prelude.{◌≡◌, [], IfOk};
 ghost use Rattle.probe.specs.Exchange.{IsIdle};
 
-use crate::disks::{Table, adapter, disk};
+use crate::disks::{PartitionTable, adapter, disk};
 use compose::{Settings, Stack, StartFault};
 use disk::VecDisk;
 use miniport::{Adapter, MemAdapter};
@@ -35,7 +35,7 @@ pub(crate) fn stack_on<A: Adapter>(
 pub(crate) fn disk_adapter(
     rt: &impl Abort,
     alloc: Global,
-    table: &Table,
+    table: &PartitionTable,
     bad: &[u64],
 ) -> Result<MemAdapter<VecDisk>, AllocError>
     ensures idle { IfOk result (λ a. IsIdle a.shown) }

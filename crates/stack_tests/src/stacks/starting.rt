@@ -3,7 +3,7 @@
 ghost use Rattle.std.specs.Prelude.{◌≡◌};
 ghost use Rattle.probe.specs.Exchange.{IsIdle};
 
-use crate::disks::{MIDDLE, SIGNATURE, Table, UNUSED};
+use crate::disks::{MIDDLE, PartitionTable, SIGNATURE, UNUSED};
 use crate::expect::same_at;
 use crate::stacks::disks::disk_adapter;
 use crate::stacks::steps::{FIRST, Row, Step, go_on};
@@ -14,34 +14,34 @@ use std::alloc::{AllocError, Global};
 use std::process::Abort;
 use std::test::Fail;
 
-const BLANK: Table = Table {
+const BLANK: PartitionTable = PartitionTable {
     signature: [0, 0],
     entries: [UNUSED, UNUSED, UNUSED, UNUSED],
 };
 
-const NO_PARTITION: Table = Table {
+const NO_PARTITION: PartitionTable = PartitionTable {
     signature: SIGNATURE,
     entries: [UNUSED, UNUSED, UNUSED, UNUSED],
 };
 
-const PAST_END: Table = Table {
+const PAST_END: PartitionTable = PartitionTable {
     signature: SIGNATURE,
     entries: [(7, 4095, 2), UNUSED, UNUSED, UNUSED],
 };
 
-const OVERLAPPING: Table = Table {
+const OVERLAPPING: PartitionTable = PartitionTable {
     signature: SIGNATURE,
     entries: [MIDDLE, UNUSED, (7, 3000, 10), UNUSED],
 };
 
 /// The last partition begins at sector 2.
-const FOUR: Table = Table {
+const FOUR: PartitionTable = PartitionTable {
     signature: SIGNATURE,
     entries: [(7, 1, 1), (7, 4095, 1), MIDDLE, (0xEE, 2, 2046)],
 };
 
 /// A disk by its table and its bad sector, settings by their two limits, and what stops a start.
-type Start<'a> = (&'a Table, u64, u32, u32, Option<StartFault>);
+type Start<'a> = (&'a PartitionTable, u64, u32, u32, Option<StartFault>);
 
 /// Returns what stops a start, if anything.
 fn fault<A: Adapter>(
