@@ -16,10 +16,10 @@ use Rattle.rounds.specs.declared.RoundsFault.{RoundsFault}
 use Rattle.rounds.specs.declared.RoundsFault.TheVariants.{NoPartition}
 use Rattle.rounds.specs.Faults.{IsRoundsFault}
 use Rattle.startup.specs.Started.{rules_over}
-use Rattle.startup.specs.declared.faults.Fault.TheVariants.{Settings}
+use Rattle.startup.specs.declared.faults.Error.TheVariants.{Settings}
 use Rattle.startup.specs.Reading.{AreRead, IsAllOf}
-use Rattle.commands.specs.declared.faults.Fault.{Fault}
-use Rattle.commands.specs.declared.faults.Fault.TheVariants.{Startup, Script}
+use Rattle.commands.specs.declared.faults.Error.{Error}
+use Rattle.commands.specs.declared.faults.Error.TheVariants.{Startup, Script}
 use Rattle.commands.specs.Clients.{HasRoom, IsClientsFault, IsOutputFault}
 use Rattle.commands.specs.Trace.{AreGiven, IsTraceFault, IsUnreadScript}
 
@@ -27,7 +27,7 @@ use Rattle.commands.specs.Trace.{AreGiven, IsTraceFault, IsUnreadScript}
 
 module _ (config script : Option (List ℕ)) where
   module _ (settings : Config) (are_read : AreRead config settings) where
-    pub by_reading : (fault : Fault) → IsUnreadScript fault → IsTraceFault config script fault
+    pub by_reading : (fault : Error) → IsUnreadScript fault → IsTraceFault config script fault
     by_reading fault (inl is) = subst (IsTraceFault config script) (sym is) (settings, are_read)
     by_reading fault (inr is) = subst (IsTraceFault config script) (sym is) tt
 
@@ -52,10 +52,10 @@ module _ (config script : Option (List ℕ)) where
 
 module _ (config : Option (List ℕ)) (threads : ℕ) where
   module _ (settings : Config) (are_read : AreRead config settings) where
-    out_of_range : (fault : Fault) → fault ≡ Startup (Settings OutOfRange) → (HasRoom settings threads → ⊥) → IsClientsFault config threads fault
+    out_of_range : (fault : Error) → fault ≡ Startup (Settings OutOfRange) → (HasRoom settings threads → ⊥) → IsClientsFault config threads fault
     out_of_range fault is none = subst (IsClientsFault config threads) (sym is) (inr (settings, are_read, none))
 
-    pub no_room : (has : Bool) (fault : Fault) → IsTrue has ↔ HasRoom settings threads → has ≡ false → fault ≡ Startup (Settings OutOfRange) → IsClientsFault config threads fault
+    pub no_room : (has : Bool) (fault : Error) → IsTrue has ↔ HasRoom settings threads → has ≡ false → fault ≡ Startup (Settings OutOfRange) → IsClientsFault config threads fault
     no_room true fault means lacks is = absurd (cc (lacks))
     no_room false fault means lacks is = out_of_range fault is (λ room. never (means.1 room))
       where
@@ -63,7 +63,7 @@ module _ (config : Option (List ℕ)) (threads : ℕ) where
         never holds = absurd (cc (holds))
 
     -- settings without a partition have room for nobody
-    pub no_partition : (rules : Rules) (missed : RoundsFault) (fault : Fault) → rules ≡ rules_over false settings → missed ≡ NoPartition → IsRoundsFault rules missed → fault ≡ Startup (Settings OutOfRange)
+    pub no_partition : (rules : Rules) (missed : RoundsFault) (fault : Error) → rules ≡ rules_over false settings → missed ≡ NoPartition → IsRoundsFault rules missed → fault ≡ Startup (Settings OutOfRange)
         → IsClientsFault config threads fault
     no_partition rules missed fault of_them named why is = out_of_range fault is (λ room. by settings.partitions.items (sym (ap (λ (r : Rules). r.partitions) of_them) ∙ none) room.sectors)
       where
@@ -75,6 +75,6 @@ module _ (config : Option (List ℕ)) (threads : ℕ) where
         by (p ∷ ps) none some = absurd (cc (none))
 
     -- where there is room, the output alone can fail
-    pub no_output : (has : Bool) (fault : Fault) → IsTrue has ↔ HasRoom settings threads → has ≡ true → IsOutputFault fault → IsClientsFault config threads fault
+    pub no_output : (has : Bool) (fault : Error) → IsTrue has ↔ HasRoom settings threads → has ≡ true → IsOutputFault fault → IsClientsFault config threads fault
     no_output has fault means room (inl is) = subst (IsClientsFault config threads) (sym is) (settings, are_read, means.0 room)
     no_output has fault means room (inr is) = subst (IsClientsFault config threads) (sym is) tt

@@ -6,13 +6,13 @@ use Rattle.rounds.specs.declared.Tally.{Tally}
 use Rattle.settings.specs.declared.Config.{Config}
 use Rattle.settings.specs.declared.ConfigFault.TheVariants.{OutOfRange}
 use Rattle.script.specs.declared.ScriptFault.TheVariants.{OutputFailed}
-use Rattle.startup.specs.declared.faults.Fault.TheVariants.{Settings, Start}
+use Rattle.startup.specs.declared.faults.Error.TheVariants.{Settings, Start}
 use Rattle.startup.specs.Reading.{AreRead, HasFault}
 use Rattle.startup.specs.Started.{IsApartFault}
 use Rattle.startup.specs.declared.ending.Verdict.{Verdict}
 use Rattle.startup.specs.declared.ending.Verdict.TheVariants.{Passed, Failed}
-use Rattle.commands.specs.declared.faults.Fault.{Fault}
-use Rattle.commands.specs.declared.faults.Fault.TheVariants.{Usage, Startup, ScriptUnreadable, Script, NoMemory}
+use Rattle.commands.specs.declared.faults.Error.{Error}
+use Rattle.commands.specs.declared.faults.Error.TheVariants.{Usage, Startup, ScriptUnreadable, Script, NoMemory}
 
 -- the line of a tally, with its end
 abbrev pub tally_line : ℕ → ℕ → Tally → List ℕ
@@ -36,11 +36,11 @@ pub record HasRoom (c : Config) (threads : ℕ) : Type 0 where
   pub requests : threads ≤ c.open_requests
 
 -- the output failed, or memory was refused
-abbrev pub IsOutputFault : Fault → Type 0
+abbrev pub IsOutputFault : Error → Type 0
 IsOutputFault fault = (fault ≡ Script OutputFailed) ⊎ (fault ≡ NoMemory)
 
 -- why nothing is printed of so many clients. Settings are looked at first, then a stack is started, and then there has to be room
-abbrev pub IsClientsFault : Option (List ℕ) → ℕ → Fault → Type 0
+abbrev pub IsClientsFault : Option (List ℕ) → ℕ → Error → Type 0
 IsClientsFault config threads Usage = ⊥
 IsClientsFault config threads (Startup (Start fault)) = (settings : Config) × AreRead config settings × IsApartFault settings fault
 IsClientsFault config threads (Startup (Settings OutOfRange)) =

@@ -2,11 +2,11 @@
 use Rattle.std.specs.Prelude.{ℕ, ◌++◌, List, Bool, true, false, codes}
 use Rattle.script.specs.Faults.{text_of as script_text}
 use Rattle.startup.specs.Texts.{text_of as startup_text}
-use Rattle.commands.specs.declared.faults.Fault.{Fault}
-use Rattle.commands.specs.declared.faults.Fault.TheVariants.{Usage, Startup, ScriptUnreadable, Script, NoMemory}
+use Rattle.commands.specs.declared.faults.Error.{Error}
+use Rattle.commands.specs.declared.faults.Error.TheVariants.{Usage, Startup, ScriptUnreadable, Script, NoMemory}
 
 -- the line of a fault, without its end
-abbrev pub line_of : Fault → List ℕ
+abbrev pub line_of : Error → List ℕ
 line_of Usage = codes "usage: stackrun trace CONFIG SCRIPT | stackrun clients CONFIG THREADS CALLS"
 line_of (Startup fault) = codes "stackrun: " ++ startup_text fault
 line_of ScriptUnreadable = codes "stackrun: cannot read SCRIPT"
@@ -14,6 +14,6 @@ line_of (Script fault) = codes "stackrun: " ++ script_text fault
 line_of NoMemory = codes "stackrun: no memory"
 
 -- nothing was run, since the words of the command line ask for nothing that there is
-abbrev pub is_usage : Fault → Bool
+abbrev pub is_usage : Error → Bool
 is_usage Usage = true
 is_usage _ = false

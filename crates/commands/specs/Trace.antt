@@ -3,15 +3,15 @@ use Rattle.std.specs.Prelude.{◌≡◌, ◌⊎◌, ℕ, List, Option, false}
 use Rattle.std.specs.Str.{is_utf8}
 use Rattle.io_manager.specs.Shown.{ManagerView}
 use Rattle.settings.specs.declared.Config.{Config}
-use Rattle.startup.specs.declared.faults.Fault.TheVariants.{Start}
+use Rattle.startup.specs.declared.faults.Error.TheVariants.{Start}
 use Rattle.startup.specs.Reading.{AreRead, HasFault, IsAllOf}
 use Rattle.startup.specs.Started.{IsStartFault, IsStartOf}
 use Rattle.script.specs.declared.Line.{Line}
 use Rattle.script.specs.declared.ScriptFault.TheVariants.{BadLine, NoMemory as WantOfMemory, OutputFailed}
 use Rattle.script.specs.Script.{AreEvents, IsFirstBad, lines_of}
 use Rattle.script.specs.Trace.{IsTrace}
-use Rattle.commands.specs.declared.faults.Fault.{Fault}
-use Rattle.commands.specs.declared.faults.Fault.TheVariants.{Usage, Startup, ScriptUnreadable, Script, NoMemory}
+use Rattle.commands.specs.declared.faults.Error.{Error}
+use Rattle.commands.specs.declared.faults.Error.TheVariants.{Usage, Startup, ScriptUnreadable, Script, NoMemory}
 
 -- the settings and the events that two inputs give
 pub record AreGiven (config script : Option (List ℕ)) (settings : Config) (lines : List Line) : Type 0 where
@@ -31,7 +31,7 @@ pub record IsPrintOf (config script : Option (List ℕ)) (text : List ℕ) : Typ
   pub trace : IsTrace start lines text last
 
 -- all bytes of a script could not be had
-abbrev pub IsUnreadScript : Fault → Type 0
+abbrev pub IsUnreadScript : Error → Type 0
 IsUnreadScript fault = (fault ≡ ScriptUnreadable) ⊎ (fault ≡ NoMemory)
 
 -- the line of this number is blamed: the first bad one, or line 1 of a script that is not UTF-8
@@ -39,7 +39,7 @@ abbrev pub IsBlamed : List ℕ → ℕ → Type 0
 IsBlamed text line = IsFirstBad text line ⊎ ((is_utf8 text ≡ false) × (line ≡ 1))
 
 -- why a script is not run to its end. Settings are looked at first, then the script, and then a stack is started
-abbrev pub IsTraceFault : Option (List ℕ) → Option (List ℕ) → Fault → Type 0
+abbrev pub IsTraceFault : Option (List ℕ) → Option (List ℕ) → Error → Type 0
 IsTraceFault config script Usage = ⊥
 IsTraceFault config script (Startup (Start fault)) = (settings : Config) × (lines : List Line) × AreGiven config script settings lines × IsStartFault settings fault
 IsTraceFault config script (Startup fault) = HasFault config fault

@@ -6,11 +6,11 @@ ghost use Rattle.traced.specs.Sizes.{AreSizes, sizes_of};
 ghost use Rattle.settings.specs.InRange.{AreInRange};
 ghost use Rattle.commands.specs.Clients.{HasRoom, IsClientsFault, IsOutputFault, PrintsTally, tally_line, verdict_on};
 ghost use Rattle.settings.specs.declared.ConfigFault.TheVariants.{OutOfRange};
-ghost use Rattle.commands.specs.declared.faults.Fault.TheVariants.{Startup};
-ghost use Rattle.startup.specs.declared.faults.Fault.TheVariants.{Settings};
+ghost use Rattle.commands.specs.declared.faults.Error.TheVariants.{Startup};
+ghost use Rattle.startup.specs.declared.faults.Error.TheVariants.{Settings};
 ghost use Rattle.startup.specs.Started.{rules_over};
 
-use crate::faults::Fault;
+use crate::faults::Error;
 use rounds::{Plan, RoundsFault, Tally, run};
 use script::ScriptFault;
 use settings::{Config, ConfigFault};
@@ -35,7 +35,7 @@ const BUSY_LIMIT: u32 = 17;
 ///
 /// The first of these that fits: the settings can't be read, or are refused; no stack of the settings could be started;
 /// there is no partition, or more clients than sectors of partition 0 or than requests may be open; `out` failed.
-/// [`Fault::NoMemory`] in place of any of them, where memory was refused or a thread could not be started.
+/// [`Error::NoMemory`] in place of any of them, where memory was refused or a thread could not be started.
 pub fn clients<C: Read + Drop, O: Write, R: Threads + Wait + Sync>(
     rt: &R,
     alloc: Global,
@@ -43,7 +43,7 @@ pub fn clients<C: Read + Drop, O: Write, R: Threads + Wait + Sync>(
     threads: u16,
     rounds: u16,
     out: &mut O,
-) -> Result<Verdict, Fault>
+) -> Result<Verdict, Error>
     requires { (1 ≤ threads) × (threads ≤ 32) }
     ensures printed { IfOk result (PrintsTally threads rounds (O.contents out.old) (O.contents out.new)) }
     ensures fault { IfErr result (IsClientsFault (C.remaining config) threads) }
@@ -65,7 +65,7 @@ pub fn clients<C: Read + Drop, O: Write, R: Threads + Wait + Sync>(
     }
     let tally = match run(rt, alloc, stack, disk, sizes, slots, plan) {
         Ok(done) => done.tally,
-        Err(RoundsFault::NoMemory) => return Err(Fault::NoMemory),
+        Err(RoundsFault::NoMemory) => return Err(Error::NoMemory),
         Err(RoundsFault::NoPartition) => return Err(out_of_range()),
     };
     match write_tally(out, threads, rounds, &tally) {
@@ -75,17 +75,17 @@ pub fn clients<C: Read + Drop, O: Write, R: Threads + Wait + Sync>(
 }
 
 /// The fault of settings that have no room for the clients.
-fn out_of_range() -> Fault
+fn out_of_range() -> Error
     ensures { result ≡ Startup (Settings OutOfRange) }
 {
-    Fault::Startup(startup::Fault::Settings(ConfigFault::OutOfRange))
+    Error::Startup(startup::Error::Settings(ConfigFault::OutOfRange))
 }
 
 /// The fault of a line that could not be written.
-fn output_fault(error: &io::Error) -> Fault
+fn output_fault(error: &io::Error) -> Error
     ensures { IsOutputFault result }
 {
-    fault_of(error, Fault::Script(ScriptFault::OutputFailed))
+    fault_of(error, Error::Script(ScriptFault::OutputFailed))
 }
 
 /// Whether each client has a sector of partition 0 and may have a request open.

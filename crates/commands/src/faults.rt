@@ -2,23 +2,22 @@
 
 ghost use Rattle.std.specs.Prelude.{◌≡◌};
 ghost use Rattle.commands.specs.Faults.{is_usage};
-ghost use Rattle.startup.specs.declared.faults.Fault.TheVariants.{Start};
-ghost use Rattle.commands.specs.declared.faults.Fault.TheVariants.{NoMemory, Script, Startup};
+ghost use Rattle.startup.specs.declared.faults.Error.TheVariants.{Start};
+ghost use Rattle.commands.specs.declared.faults.Error.TheVariants.{NoMemory, Script, Startup};
 
 use compose::StartFault;
 use script::ScriptFault;
 use startup::Ending;
 use std::alloc::{AllocError, AllocFailed};
-use std::error::Error;
 use std::fmt;
 
 /// Why the program ends early. Its text is the line that is said, without its end.
 #[derive(Debug, Clone, Copy, PartialEq, Eq)]
-pub enum Fault {
+pub enum Error {
     /// The words of the command line ask for nothing that there is, or for help.
     Usage,
     /// There is no stack of the settings.
-    Startup(startup::Fault),
+    Startup(startup::Error),
     /// The script can't be opened, or not be read to its end.
     ScriptUnreadable,
     /// The script has a bad line, or not all could be printed.
@@ -27,16 +26,16 @@ pub enum Fault {
     NoMemory,
 }
 
-impl Ending for Fault {
+impl Ending for Error {
     ghost usage = { is_usage };
 
     fn is_usage(&self) -> bool {
-        matches!(self, Fault::Usage)
+        matches!(self, Error::Usage)
     }
 }
 
 /// The line that the program says, without its end.
-impl fmt::Display for Fault {
+impl fmt::Display for Error {
     ghost use Rattle.std.specs.Prelude.{Some};
     ghost use Rattle.commands.specs.Faults.{line_of};
 
@@ -44,55 +43,55 @@ impl fmt::Display for Fault {
 
     fn fmt<W: fmt::Write>(&self, f: &mut fmt::Formatter<W>) -> fmt::Result {
         match self {
-            Fault::Usage => f.write_str(
+            Error::Usage => f.write_str(
                 "usage: stackrun trace CONFIG SCRIPT | stackrun clients CONFIG THREADS CALLS",
             ),
-            Fault::Startup(fault) => write!(f, "stackrun: {fault}"),
-            Fault::ScriptUnreadable => f.write_str("stackrun: cannot read SCRIPT"),
-            Fault::Script(fault) => write!(f, "stackrun: {fault}"),
-            Fault::NoMemory => f.write_str("stackrun: no memory"),
+            Error::Startup(fault) => write!(f, "stackrun: {fault}"),
+            Error::ScriptUnreadable => f.write_str("stackrun: cannot read SCRIPT"),
+            Error::Script(fault) => write!(f, "stackrun: {fault}"),
+            Error::NoMemory => f.write_str("stackrun: no memory"),
         }
     }
 }
 
-impl Error for Fault {}
+impl std::error::Error for Error {}
 
-impl From<AllocError> for Fault {
+impl From<AllocError> for Error {
     ghost from_gives = { λ _ fault. fault ≡ NoMemory };
 
-    fn from(_error: AllocError) -> Fault {
-        Fault::NoMemory
+    fn from(_error: AllocError) -> Error {
+        Error::NoMemory
     }
 }
 
-impl<T: Drop> From<AllocFailed<T>> for Fault {
+impl<T: Drop> From<AllocFailed<T>> for Error {
     ghost from_gives = { λ _ fault. fault ≡ NoMemory };
 
-    fn from(_error: AllocFailed<T>) -> Fault {
-        Fault::NoMemory
+    fn from(_error: AllocFailed<T>) -> Error {
+        Error::NoMemory
     }
 }
 
-impl From<startup::Fault> for Fault {
+impl From<startup::Error> for Error {
     ghost from_gives = { λ why fault. fault ≡ Startup why };
 
-    fn from(fault: startup::Fault) -> Fault {
-        Fault::Startup(fault)
+    fn from(fault: startup::Error) -> Error {
+        Error::Startup(fault)
     }
 }
 
-impl From<StartFault> for Fault {
+impl From<StartFault> for Error {
     ghost from_gives = { λ why fault. fault ≡ Startup (Start why) };
 
-    fn from(fault: StartFault) -> Fault {
-        Fault::Startup(startup::Fault::Start(fault))
+    fn from(fault: StartFault) -> Error {
+        Error::Startup(startup::Error::Start(fault))
     }
 }
 
-impl From<ScriptFault> for Fault {
+impl From<ScriptFault> for Error {
     ghost from_gives = { λ why fault. fault ≡ Script why };
 
-    fn from(fault: ScriptFault) -> Fault {
-        Fault::Script(fault)
+    fn from(fault: ScriptFault) -> Error {
+        Error::Script(fault)
     }
 }

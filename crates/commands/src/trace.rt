@@ -6,7 +6,7 @@ ghost use Rattle.settings.specs.InRange.{AreInRange};
 ghost use Rattle.startup.specs.Reading.{IsAllOf};
 ghost use Rattle.commands.specs.Trace.{AreGiven, IsPrintOf, IsTraceFault, IsUnreadScript};
 
-use crate::faults::Fault;
+use crate::faults::Error;
 use script::{Line, ScriptFault, lines, play};
 use settings::Config;
 use startup::{contents, fault_of, read_settings, start};
@@ -18,21 +18,21 @@ use std::io::{Read, Write};
 /// # Errors
 ///
 /// The first of these that fits: the settings can't be read, or are refused; the script can't be read, or has a bad
-/// line; no stack of the settings could be started; `out` failed, after a beginning of the text. [`Fault::NoMemory`], or
-/// that of the step, in place of any of them, where memory was refused.
+/// line; no stack of the settings could be started; `out` failed, after a beginning of the text. [`Error::NoMemory`],
+/// or that of the step, in place of any of them, where memory was refused.
 pub fn trace<C: Read + Drop, S: Read + Drop, O: Write>(
     alloc: Global,
     config: C,
     script: S,
     out: &mut O,
-) -> Result<(), Fault>
+) -> Result<(), Error>
     ensures text { OnOk result (Prints (O.contents out.old) (O.contents out.new) (IsPrintOf (C.remaining config) (S.remaining script))) }
     ensures fault { IfErr result (IsTraceFault (C.remaining config) (S.remaining script)) }
 {
     let config = read_settings(alloc, config)?;
     let script = bytes_of(alloc, script)?;
     let Ok(text) = std::str::from_utf8(script.as_slice()) else {
-        return Err(Fault::Script(ScriptFault::BadLine { line: 1 }));
+        return Err(Error::Script(ScriptFault::BadLine { line: 1 }));
     };
     let lines = lines(alloc, text)?;
     play_lines(alloc, config, lines.as_slice(), out)
@@ -48,7 +48,7 @@ fn play_lines<O: Write>(
     config: Config,
     lines: &[Line<'_>],
     out: &mut O,
-) -> Result<(), Fault>
+) -> Result<(), Error>
     requires { AreInRange config }
     ensures text { (settings script : Option (List ℕ)) → AreGiven settings script config lines.now → OnOk result (Prints (O.contents out.old) (O.contents out.new) (IsPrintOf settings script)) }
     ensures fault { (settings script : Option (List ℕ)) → AreGiven settings script config lines.now → IfErr result (IsTraceFault settings script) }
@@ -56,17 +56,17 @@ fn play_lines<O: Write>(
     let mut stack = start(alloc, config)?;
     match play(alloc, &mut stack, lines, out) {
         Ok(()) => Ok(()),
-        Err(fault) => Err(Fault::Script(fault)),
+        Err(fault) => Err(Error::Script(fault)),
     }
 }
 
 /// All bytes of a script.
-fn bytes_of<R: Read + Drop>(alloc: Global, script: R) -> Result<Vec<u8>, Fault>
+fn bytes_of<R: Read + Drop>(alloc: Global, script: R) -> Result<Vec<u8>, Error>
     ensures all { IfOk result (λ bytes. IsAllOf (R.remaining script) bytes.items) }
     ensures fault { IfErr result IsUnreadScript }
 {
     match contents(alloc, script) {
         Ok(bytes) => Ok(bytes),
-        Err(error) => Err(fault_of(&error, Fault::ScriptUnreadable)),
+        Err(error) => Err(fault_of(&error, Error::ScriptUnreadable)),
     }
 }

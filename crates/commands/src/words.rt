@@ -6,11 +6,11 @@ ghost use Rattle.std.specs.Prelude.{◌≡◌, ◌≢◌, ◌⊎◌, ℕ, IfErr,
 ghost use Rattle.clap.specs.Words.{app_of, found_of, rule_of, subcommand_rows_of};
 ghost use Rattle.clap.specs.Walk.{rows_of};
 ghost use Rattle.clap.specs.declared.error.ErrorKind.TheVariants.{OutOfMemory};
-ghost use Rattle.commands.specs.declared.faults.Fault.TheVariants.{NoMemory, Usage};
+ghost use Rattle.commands.specs.declared.faults.Error.TheVariants.{NoMemory, Usage};
 ghost use Rattle.commands.specs.declared.words.asked.Command.{Command};
 ghost use Rattle.commands.specs.CommandLine.{AsksForNothing, HasWords, IsAsked, IsCount, IsFoundIn, name_of, program, word_rule};
 
-use crate::faults::Fault;
+use crate::faults::Error;
 use crate::words::asked::Command;
 use clap::error::ErrorKind;
 use clap::{Arg, ArgAction, ArgMatches};
@@ -27,13 +27,13 @@ const MOST_ROUNDS: u16 = 10_000;
 ///
 /// # Errors
 ///
-/// [`Fault::NoMemory`] where memory was refused, else [`Fault::Usage`] where the words ask for nothing.
-pub fn command<'a, S: AsStr>(alloc: Global, words: &'a [S]) -> Result<Command<'a>, Fault>
+/// [`Error::NoMemory`] where memory was refused, else [`Error::Usage`] where the words ask for nothing.
+pub fn command<'a, S: AsStr>(alloc: Global, words: &'a [S]) -> Result<Command<'a>, Error>
     ensures asked { IfOk result (IsAsked (map S.text words.now)) }
     ensures fault { IfErr result (λ fault. (fault ≡ NoMemory) ⊎ ((fault ≡ Usage) × AsksForNothing (map S.text words.now))) }
 {
     let Ok(grammar) = grammar(alloc) else {
-        return Err(Fault::NoMemory);
+        return Err(Error::NoMemory);
     };
     match grammar.try_get_matches_from(words) {
         Ok(matches) => found_in(&matches),
@@ -64,7 +64,7 @@ fn word<'a>(alloc: Global, name: &'a str) -> Arg<'a>
     Arg::new(alloc, name).required(true).action(ArgAction::Set)
 }
 
-fn found_in<'a>(matches: &ArgMatches<'a>) -> Result<Command<'a>, Fault>
+fn found_in<'a>(matches: &ArgMatches<'a>) -> Result<Command<'a>, Error>
     ensures found { IfOk result (IsFoundIn (subcommand_rows_of matches.now)) }
     ensures fault { IfErr result (λ fault. fault ≡ Usage) }
     ensures none { IfErr result (λ _. (command : Command) → ¬ (IsFoundIn (subcommand_rows_of matches.now) command)) }
@@ -74,31 +74,31 @@ fn found_in<'a>(matches: &ArgMatches<'a>) -> Result<Command<'a>, Fault>
     }
     match matches.subcommand_matches("clients") {
         Some(words) => clients_of(words),
-        None => Err(Fault::Usage),
+        None => Err(Error::Usage),
     }
 }
 
-fn trace_of<'a>(words: &ArgMatches<'a>) -> Result<Command<'a>, Fault>
+fn trace_of<'a>(words: &ArgMatches<'a>) -> Result<Command<'a>, Error>
     ensures words { IfOk result (λ command. (name_of command ≡ codes "trace") × HasWords (rows_of (found_of words.now)) command) }
     ensures fault { IfErr result (λ fault. fault ≡ Usage) }
     ensures none { IfErr result (λ _. (command : Command) → name_of command ≡ codes "trace" → ¬ (HasWords (rows_of (found_of words.now)) command)) }
 {
     let Some(config) = words.get_str("CONFIG") else {
-        return Err(Fault::Usage);
+        return Err(Error::Usage);
     };
     let Some(script) = words.get_str("SCRIPT") else {
-        return Err(Fault::Usage);
+        return Err(Error::Usage);
     };
     Ok(Command::Trace { config, script })
 }
 
-fn clients_of<'a>(words: &ArgMatches<'a>) -> Result<Command<'a>, Fault>
+fn clients_of<'a>(words: &ArgMatches<'a>) -> Result<Command<'a>, Error>
     ensures words { IfOk result (λ command. (name_of command ≡ codes "clients") × HasWords (rows_of (found_of words.now)) command) }
     ensures fault { IfErr result (λ fault. fault ≡ Usage) }
     ensures none { IfErr result (λ _. (command : Command) → name_of command ≡ codes "clients" → ¬ (HasWords (rows_of (found_of words.now)) command)) }
 {
     let Some(config) = words.get_str("CONFIG") else {
-        return Err(Fault::Usage);
+        return Err(Error::Usage);
     };
     let threads = count_of(words.get_str("THREADS"), MOST_THREADS)?;
     let rounds = count_of(words.get_str("CALLS"), MOST_ROUNDS)?;
@@ -110,32 +110,32 @@ fn clients_of<'a>(words: &ArgMatches<'a>) -> Result<Command<'a>, Fault>
 }
 
 /// The number that a word spells in decimal, where there is one from 1 to `most`.
-fn count_of(word: Option<&str>, most: u16) -> Result<u16, Fault>
+fn count_of(word: Option<&str>, most: u16) -> Result<u16, Error>
     ensures count { IfOk result (λ n. IsSomeAnd (option_map (λ w. w.now) word.entry) (λ text. IsCount most text n)) }
     ensures fault { IfErr result (λ fault. fault ≡ Usage) }
     ensures none { IfErr result (λ _. (n : ℕ) → ¬ (IsSomeAnd (option_map (λ w. w.now) word.entry) (λ text. IsCount most text n))) }
 {
     let Some(word) = word else {
-        return Err(Fault::Usage);
+        return Err(Error::Usage);
     };
     // A plus sign would be taken by `parse`.
     if word.starts_with('+') {
-        return Err(Fault::Usage);
+        return Err(Error::Usage);
     }
     match word.parse::<u16>() {
         Ok(count) if count >= 1 && count <= most => Ok(count),
-        _ => Err(Fault::Usage),
+        _ => Err(Error::Usage),
     }
 }
 
 /// Returns what it means that the words were refused.
-fn fault_of(kind: ErrorKind) -> Fault
+fn fault_of(kind: ErrorKind) -> Error
     ensures memory { kind ≡ OutOfMemory → result ≡ NoMemory }
     ensures usage { kind ≢ OutOfMemory → result ≡ Usage }
     ensures either { (result ≡ NoMemory) ⊎ (result ≡ Usage) }
 {
     match kind {
-        ErrorKind::OutOfMemory => Fault::NoMemory,
-        _ => Fault::Usage,
+        ErrorKind::OutOfMemory => Error::NoMemory,
+        _ => Error::Usage,
     }
 }

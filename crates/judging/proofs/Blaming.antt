@@ -8,8 +8,8 @@ use Rattle.script.specs.declared.ScriptFault.{ScriptFault}
 use Rattle.script.specs.declared.ScriptFault.TheVariants.{BadLine, NoMemory as ScriptMemory, OutputFailed}
 use Rattle.script.specs.Script.{IsFaultOf}
 use Rattle.startup.specs.Reading.{AreRead, IsAllOf}
-use Rattle.judging.specs.declared.faults.Fault.{Fault}
-use Rattle.judging.specs.declared.faults.Fault.TheVariants.{Script}
+use Rattle.judging.specs.declared.faults.Error.{Error}
+use Rattle.judging.specs.declared.faults.Error.TheVariants.{Script}
 use Rattle.judging.specs.inside.Checked.{IsOutputFault}
 use Rattle.judging.specs.Recorded.{AreGiven, IsRecordFault, IsUnreadScript}
 
@@ -17,7 +17,7 @@ use Rattle.judging.specs.Recorded.{AreGiven, IsRecordFault, IsUnreadScript}
 
 module _ (config script : Option (List ℕ)) where
   module _ (settings : Config) (are_read : AreRead config settings) where
-    pub by_reading : (fault : Fault) → IsUnreadScript fault → IsRecordFault config script fault
+    pub by_reading : (fault : Error) → IsUnreadScript fault → IsRecordFault config script fault
     by_reading fault (inl is) = subst (IsRecordFault config script) (sym is) (settings, are_read)
     by_reading fault (inr is) = subst (IsRecordFault config script) (sym is) tt
 
@@ -34,6 +34,6 @@ module _ (config script : Option (List ℕ)) where
     by_lines text bytes items ScriptMemory all same_text same_bytes bad = tt
     by_lines text bytes items OutputFailed all same_text same_bytes bad = absurd bad
 
-    pub by_play : (lines : List Line) (fault : Fault) → AreGiven config script settings lines → IsOutputFault fault → IsRecordFault config script fault
+    pub by_play : (lines : List Line) (fault : Error) → AreGiven config script settings lines → IsOutputFault fault → IsRecordFault config script fault
     by_play lines fault given (inl is) = subst (IsRecordFault config script) (sym is) (settings, lines, given)
     by_play lines fault given (inr is) = subst (IsRecordFault config script) (sym is) tt

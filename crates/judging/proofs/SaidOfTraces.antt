@@ -11,11 +11,11 @@ use Rattle.judging.specs.inside.Checked.{IsFaultBy, IsOutputFault, IsSaid, IsTex
 use Rattle.judging.specs.Told.{AreTold}
 use Rattle.judging.specs.declared.told.Told.{Told}
 use Rattle.judging.specs.declared.opened.Standard.{Standard}
-use Rattle.judging.specs.declared.faults.Fault.{Fault}
-use Rattle.judging.specs.declared.faults.Fault.TheVariants.{Usage, Startup, TraceUnreadable, ScriptUnreadable, BadLine, Script, OutputFailed, NoMemory}
+use Rattle.judging.specs.declared.faults.Error.{Error}
+use Rattle.judging.specs.declared.faults.Error.TheVariants.{Usage, Startup, TraceUnreadable, ScriptUnreadable, BadLine, Script, OutputFailed, NoMemory}
 
 module _ (config trace : Option (List ℕ)) (settings : Config) (are_read : AreRead config settings) where
-  pub by_reading : (fault : Fault) → IsUnreadTrace fault → IsCheckFault config trace fault
+  pub by_reading : (fault : Error) → IsUnreadTrace fault → IsCheckFault config trace fault
   by_reading fault (inl is) = subst (IsCheckFault config trace) (sym is) (settings, are_read)
   by_reading fault (inr is) = subst (IsCheckFault config trace) (sym is) tt
 
@@ -31,7 +31,7 @@ module _ (config trace : Option (List ℕ)) (settings : Config) (are_read : AreR
     whole : IsAllOf trace text
     whole = subst (IsAllOf trace) (sym (same_text ∙ same_bytes)) all
 
-    pub by_lines : (fault : Fault) → IsTextFault (lines text) fault → IsCheckFault config trace fault
+    pub by_lines : (fault : Error) → IsTextFault (lines text) fault → IsCheckFault config trace fault
     by_lines (BadLine line column) bad = (settings, are_read, (text, whole, inl bad))
     by_lines NoMemory bad = tt
     by_lines Usage bad = absurd bad
@@ -55,30 +55,30 @@ module _ (config trace : Option (List ℕ)) (settings : Config) (are_read : AreR
         appends = h.appends;
       }
 
-      pub unsaid : (fault : Fault) → IsOutputFault fault → IsCheckFault config trace fault
+      pub unsaid : (fault : Error) → IsOutputFault fault → IsCheckFault config trace fault
       unsaid fault (inl is) = subst (IsCheckFault config trace) (sym is) (settings, are_read, (text, whole, told, are_told))
       unsaid fault (inr is) = subst (IsCheckFault config trace) (sym is) tt
 
 -- by a standard, over whatever gave its settings
 pub printed_by : (standard : Standard) (trace : Option (List ℕ)) (text bytes items : List ℕ) (all : IsAllOf trace items) (same_text : text ≡ bytes) (same_bytes : bytes ≡ items)
-    (told : Told) (are_told : AreTold (lines text) told) (a b : Option (List ℕ)) (result : Result Verdict Fault) → IfOk result (IsSaid standard told a b) → IfOk result (PrintsBy standard trace a b)
+    (told : Told) (are_told : AreTold (lines text) told) (a b : Option (List ℕ)) (result : Result Verdict Error) → IfOk result (IsSaid standard told a b) → IfOk result (PrintsBy standard trace a b)
 printed_by standard trace text bytes items all same_text same_bytes told are_told a b (Ok verdict) h =
     λ config read. printed config trace standard.config read text bytes items all same_text same_bytes told are_told standard.any_cut a b verdict h
 printed_by standard trace text bytes items all same_text same_bytes told are_told a b (Err fault) h = tt
 
 pub not_said_by : (standard : Standard) (trace : Option (List ℕ)) (text bytes items : List ℕ) (all : IsAllOf trace items) (same_text : text ≡ bytes) (same_bytes : bytes ≡ items)
-    (told : Told) (are_told : AreTold (lines text) told) (result : Result Verdict Fault) → IfErr result IsOutputFault → IfErr result (IsFaultBy standard trace)
+    (told : Told) (are_told : AreTold (lines text) told) (result : Result Verdict Error) → IfErr result IsOutputFault → IfErr result (IsFaultBy standard trace)
 not_said_by standard trace text bytes items all same_text same_bytes told are_told (Ok verdict) h = tt
 not_said_by standard trace text bytes items all same_text same_bytes told are_told (Err fault) h =
     λ config read. unsaid config trace standard.config read text bytes items all same_text same_bytes told are_told fault h
 
 -- a call of it, over the input that gave the settings
-pub printed_over : (standard : Standard) (config trace a b : Option (List ℕ)) (result : Result Verdict Fault) → AreRead config standard.config → IfOk result (PrintsBy standard trace a b)
+pub printed_over : (standard : Standard) (config trace a b : Option (List ℕ)) (result : Result Verdict Error) → AreRead config standard.config → IfOk result (PrintsBy standard trace a b)
     → IfOk result (PrintsVerdict standard.any_cut config trace a b)
 printed_over standard config trace a b (Ok verdict) read h = h config read
 printed_over standard config trace a b (Err fault) read h = tt
 
-pub fault_over : (standard : Standard) (config trace : Option (List ℕ)) (result : Result Verdict Fault) → AreRead config standard.config → IfErr result (IsFaultBy standard trace)
+pub fault_over : (standard : Standard) (config trace : Option (List ℕ)) (result : Result Verdict Error) → AreRead config standard.config → IfErr result (IsFaultBy standard trace)
     → IfErr result (IsCheckFault config trace)
 fault_over standard config trace (Ok verdict) read h = tt
 fault_over standard config trace (Err fault) read h = h config read

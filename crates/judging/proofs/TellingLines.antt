@@ -15,8 +15,8 @@ use Rattle.machine.specs.declared.Label.{Label}
 use Rattle.label_text.specs.Lines.{Spells, is_told}
 use Rattle.judging.specs.inside.Checked.{IsLineFault, IsTextFault}
 use Rattle.judging.specs.Told.{IsBad, IsFirstBad, numbers_from}
-use Rattle.judging.specs.declared.faults.Fault.{Fault}
-use Rattle.judging.specs.declared.faults.Fault.TheVariants.{Usage, Startup, TraceUnreadable, ScriptUnreadable, BadLine, Script, OutputFailed, NoMemory}
+use Rattle.judging.specs.declared.faults.Error.{Error}
+use Rattle.judging.specs.declared.faults.Error.TheVariants.{Usage, Startup, TraceUnreadable, ScriptUnreadable, BadLine, Script, OutputFailed, NoMemory}
 
 -- this many lines were read, and these labels are told by them
 pub record SoFar (texts : List (List ℕ)) (labels : List Label) (numbers : List ℕ) (number : ℕ) : Type 0 where
@@ -160,7 +160,7 @@ all_told texts all labels numbers n h e =
     (subst (λ xs. AllZip Spells (filter is_told xs) labels) e h.spelled, h.numbers_are ∙ ap (numbers_from 1) e, h.as_many)
 
 -- a line that is to tell a label and spells none is the first bad one, and want of memory is told as what it is
-pub bad_line : (all texts after : List (List ℕ)) (text : List ℕ) (labels : List Label) (numbers : List ℕ) (n m : ℕ) (fault : Fault) → SoFar texts labels numbers n
+pub bad_line : (all texts after : List (List ℕ)) (text : List ℕ) (labels : List Label) (numbers : List ℕ) (n m : ℕ) (fault : Error) → SoFar texts labels numbers n
     → all ≡ texts ++ text ∷ after → is_told text ≡ true → IsLineFault text m fault → m ≡ n + 1 → IsTextFault all fault
 bad_line all texts after text labels numbers n m (BadLine line column) h split some why e =
     first_bad all texts after text labels numbers n line h split some why.1 (why.0 ∙ e)

@@ -22,8 +22,8 @@ use Rattle.startup.specs.declared.ending.Verdict.TheVariants.{Passed, Failed}
 use Rattle.judging.specs.Told.{AreTold, IsFirstBad}
 use Rattle.judging.specs.declared.told.Told.{Told}
 use Rattle.judging.specs.declared.opened.Standard.{Standard}
-use Rattle.judging.specs.declared.faults.Fault.{Fault}
-use Rattle.judging.specs.declared.faults.Fault.TheVariants.{Usage, Startup, TraceUnreadable, ScriptUnreadable, BadLine, Script, OutputFailed, NoMemory}
+use Rattle.judging.specs.declared.faults.Error.{Error}
+use Rattle.judging.specs.declared.faults.Error.TheVariants.{Usage, Startup, TraceUnreadable, ScriptUnreadable, BadLine, Script, OutputFailed, NoMemory}
 
 -- the sectors of each partition of the settings: zeros
 abbrev pub arrays_of : Config → List (List (List ℕ))
@@ -91,7 +91,7 @@ abbrev pub IsBlamed : List ℕ → ℕ → Type 0
 IsBlamed text line = IsFirstBad (lines text) line ⊎ ((is_utf8 text ≡ false) × (line ≡ 1))
 
 -- why no verdict is printed. Settings are looked at first, then the trace
-abbrev pub IsCheckFault : Option (List ℕ) → Option (List ℕ) → Fault → Type 0
+abbrev pub IsCheckFault : Option (List ℕ) → Option (List ℕ) → Error → Type 0
 IsCheckFault config trace Usage = ⊥
 IsCheckFault config trace (Startup fault) = HasFault config fault
 IsCheckFault config trace TraceUnreadable = (settings : Config) × AreRead config settings

@@ -15,10 +15,10 @@ use Rattle.script.specs.Script.{AreEvents, IsFirstBad, lines_of}
 use Rattle.settings.specs.declared.Config.{Config}
 use Rattle.startup.specs.Reading.{AreRead, HasFault, IsAllOf}
 use Rattle.startup.specs.Started.{IsStartFault, IsStartOf}
-use Rattle.startup.specs.declared.faults.Fault.TheVariants.{Start}
+use Rattle.startup.specs.declared.faults.Error.TheVariants.{Start}
 use Rattle.label_text.specs.Lines.{line_end, line_of}
-use Rattle.judging.specs.declared.faults.Fault.{Fault}
-use Rattle.judging.specs.declared.faults.Fault.TheVariants.{Usage, Startup, TraceUnreadable, ScriptUnreadable, BadLine, Script, OutputFailed, NoMemory}
+use Rattle.judging.specs.declared.faults.Error.{Error}
+use Rattle.judging.specs.declared.faults.Error.TheVariants.{Usage, Startup, TraceUnreadable, ScriptUnreadable, BadLine, Script, OutputFailed, NoMemory}
 
 -- a label as a line, with its end
 abbrev pub whole_line : Label → List ℕ
@@ -74,7 +74,7 @@ pub record IsRecordOf (config script : Option (List ℕ)) (text : List ℕ) : Ty
   pub is_record : IsRecord start lines text last
 
 -- all bytes of a script could not be had
-abbrev pub IsUnreadScript : Fault → Type 0
+abbrev pub IsUnreadScript : Error → Type 0
 IsUnreadScript fault = (fault ≡ ScriptUnreadable) ⊎ (fault ≡ NoMemory)
 
 -- the line of this number is blamed: the first bad one, or line 1 of a script that is not UTF-8
@@ -82,7 +82,7 @@ abbrev pub IsBlamedIn : List ℕ → ℕ → Type 0
 IsBlamedIn text line = IsFirstBad text line ⊎ ((is_utf8 text ≡ false) × (line ≡ 1))
 
 -- why a script is not recorded to its end. Settings are looked at first, then the script, and then a stack is started
-abbrev pub IsRecordFault : Option (List ℕ) → Option (List ℕ) → Fault → Type 0
+abbrev pub IsRecordFault : Option (List ℕ) → Option (List ℕ) → Error → Type 0
 IsRecordFault config script Usage = ⊥
 IsRecordFault config script (Startup (Start fault)) = (settings : Config) × (lines : List Line) × AreGiven config script settings lines × IsStartFault settings fault
 IsRecordFault config script (Startup fault) = HasFault config fault

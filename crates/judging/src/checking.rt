@@ -5,9 +5,9 @@ ghost use Rattle.std.specs.Io.KnownBytes.{Appends};
 ghost use Rattle.startup.specs.Reading.{IsAllOf};
 ghost use Rattle.judging.specs.Checked.{IsCheckFault, PrintsVerdict, is_call, is_start, legal_line, refused_line};
 ghost use Rattle.judging.specs.inside.Checked.{IsFaultBy, IsFound, IsJudged, IsOutputFault, IsSaid, IsUnreadTrace, PrintsBy};
-ghost use Rattle.judging.specs.declared.faults.Fault.TheVariants.{NoMemory};
+ghost use Rattle.judging.specs.declared.faults.Error.TheVariants.{NoMemory};
 
-use crate::Fault;
+use crate::Error;
 use crate::opened::{Standard, arrays_of, rules_of};
 use crate::progress::Progress;
 use crate::told::{Told, told_by};
@@ -27,7 +27,7 @@ use std::io::{Read, Write};
 /// # Errors
 ///
 /// The first of these that fits: the settings can't be read, or are refused; the trace can't be read, or has a bad
-/// line; `out` failed. [`Fault::NoMemory`] in place of any of them, where memory was refused, or a count of the trace
+/// line; `out` failed. [`Error::NoMemory`] in place of any of them, where memory was refused, or a count of the trace
 /// is full.
 pub fn check<C: Read + Drop, T: Read + Drop, O: Write, W: Write>(
     alloc: Global,
@@ -35,7 +35,7 @@ pub fn check<C: Read + Drop, T: Read + Drop, O: Write, W: Write>(
     trace: T,
     out: &mut O,
     progress: &mut Progress<W>,
-) -> Result<Verdict, Fault>
+) -> Result<Verdict, Error>
     ensures printed { IfOk result (PrintsVerdict false (C.remaining config) (T.remaining trace) (O.contents out.old) (O.contents out.new)) }
     ensures fault { IfErr result (IsCheckFault (C.remaining config) (T.remaining trace)) }
 {
@@ -58,7 +58,7 @@ pub fn check_any_cut<C: Read + Drop, T: Read + Drop, O: Write, W: Write>(
     trace: T,
     out: &mut O,
     progress: &mut Progress<W>,
-) -> Result<Verdict, Fault>
+) -> Result<Verdict, Error>
     ensures printed { IfOk result (PrintsVerdict true (C.remaining config) (T.remaining trace) (O.contents out.old) (O.contents out.new)) }
     ensures fault { IfErr result (IsCheckFault (C.remaining config) (T.remaining trace)) }
 {
@@ -76,26 +76,26 @@ fn check_by<T: Read + Drop, O: Write, W: Write>(
     trace: T,
     out: &mut O,
     progress: &mut Progress<W>,
-) -> Result<Verdict, Fault>
+) -> Result<Verdict, Error>
     ensures printed { IfOk result (PrintsBy standard.now (T.remaining trace) (O.contents out.old) (O.contents out.new)) }
     ensures fault { IfErr result (IsFaultBy standard.now (T.remaining trace)) }
 {
     let trace = bytes_of(alloc, trace)?;
     let Ok(text) = std::str::from_utf8(trace.as_slice()) else {
-        return Err(Fault::BadLine { line: 1, column: 1 });
+        return Err(Error::BadLine { line: 1, column: 1 });
     };
     let told = told_by(alloc, text)?;
     say_verdict(alloc, standard, &told, out, progress)
 }
 
 /// All bytes of a trace.
-pub(crate) fn bytes_of<R: Read + Drop>(alloc: Global, trace: R) -> Result<Vec<u8>, Fault>
+pub(crate) fn bytes_of<R: Read + Drop>(alloc: Global, trace: R) -> Result<Vec<u8>, Error>
     ensures all { IfOk result (λ bytes. IsAllOf (R.remaining trace) bytes.items) }
     ensures fault { IfErr result IsUnreadTrace }
 {
     match contents(alloc, trace) {
         Ok(bytes) => Ok(bytes),
-        Err(error) => Err(fault_of(&error, Fault::TraceUnreadable)),
+        Err(error) => Err(fault_of(&error, Error::TraceUnreadable)),
     }
 }
 
@@ -107,7 +107,7 @@ fn say_verdict<O: Write, W: Write>(
     told: &Told,
     out: &mut O,
     progress: &mut Progress<W>,
-) -> Result<Verdict, Fault>
+) -> Result<Verdict, Error>
     requires { length told.now.lines.items ≡ length told.now.labels.items }
     ensures said { IfOk result (IsSaid standard.now told.now (O.contents out.old) (O.contents out.new)) }
     ensures fault { IfErr result IsOutputFault }
@@ -141,14 +141,14 @@ fn judged<W: Write>(
     standard: &Standard,
     labels: &[Label],
     progress: &mut Progress<W>,
-) -> Result<Option<Stop>, Fault>
+) -> Result<Option<Stop>, Error>
     ensures judged { IfOk result (IsJudged standard.now labels.now) }
     ensures fault { IfErr result (λ fault. fault ≡ NoMemory) }
 {
     let rules = rules_of(alloc, standard)?;
     let arrays = arrays_of(alloc, &standard.config)?;
     let Ok(mut judge) = Judge::new(alloc, rules, arrays) else {
-        return Err(Fault::NoMemory);
+        return Err(Error::NoMemory);
     };
     match first_broken(alloc, &mut judge, labels, progress)? {
         None => Ok(None),
@@ -165,7 +165,7 @@ fn first_broken<W: Write>(
     judge: &mut Judge,
     labels: &[Label],
     progress: &mut Progress<W>,
-) -> Result<Option<(usize, Rule)>, Fault>
+) -> Result<Option<(usize, Rule)>, Error>
     ensures found { IfOk result (IsFound judge.old labels.now) }
     ensures fault { IfErr result (λ fault. fault ≡ NoMemory) }
 {
@@ -174,7 +174,7 @@ fn first_broken<W: Write>(
         match judge.take(alloc, label) {
             Ok(()) => {}
             Err(Refusal::Breaks(rule)) => return Ok(Some((at, rule))),
-            Err(Refusal::NoVerdict(_)) => return Err(Fault::NoMemory),
+            Err(Refusal::NoVerdict(_)) => return Err(Error::NoMemory),
         }
     }
     Ok(None)

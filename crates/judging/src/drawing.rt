@@ -1,6 +1,6 @@
 //! A trace, drawn.
 
-use crate::Fault;
+use crate::Error;
 use crate::checking::bytes_of;
 use crate::told::{Told, told_by};
 use startup::Verdict;
@@ -13,17 +13,17 @@ use trace_picture::Picture;
 ///
 /// # Errors
 ///
-/// The first of these that fits: the trace can't be read, or has a bad line; `out` failed. [`Fault::NoMemory`] in
+/// The first of these that fits: the trace can't be read, or has a bad line; `out` failed. [`Error::NoMemory`] in
 /// place of any of them, where memory was refused.
 pub fn draw<T: Read + Drop, O: Write>(
     alloc: Global,
     trace: T,
     events: bool,
     out: &mut O,
-) -> Result<Verdict, Fault> {
+) -> Result<Verdict, Error> {
     let trace = bytes_of(alloc, trace)?;
     let Ok(text) = std::str::from_utf8(trace.as_slice()) else {
-        return Err(Fault::BadLine { line: 1, column: 1 });
+        return Err(Error::BadLine { line: 1, column: 1 });
     };
     let told = told_by(alloc, text)?;
     let mut picture = taken(alloc, &told)?;
@@ -37,7 +37,7 @@ pub fn draw<T: Read + Drop, O: Write>(
 }
 
 /// The picture of these labels.
-fn taken(alloc: Global, told: &Told) -> Result<Picture, Fault> {
+fn taken(alloc: Global, told: &Told) -> Result<Picture, Error> {
     let mut picture = Picture::new(alloc);
     for (line, label) in told.lines.iter().zip(told.labels.iter()) {
         picture.take(*line, label)?;

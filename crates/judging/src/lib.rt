@@ -24,4 +24,4 @@ pub mod scripts;
 mod told;
 pub mod words;
 
-pub use faults::Fault;
+pub use faults::Error;

@@ -7,7 +7,7 @@ ghost use Rattle.script.specs.Trace.{IsAllTaken, IsCarriedOut, Prints, left_by, 
 ghost use Rattle.judging.specs.inside.Checked.{IsOutputFault};
 ghost use Rattle.judging.specs.Recorded.{IsLineRecorded, IsRecord, lines_text};
 
-use crate::Fault;
+use crate::Error;
 use adapter::Adapter;
 use compose::{Reply, Stack};
 use label_text::write_line;
@@ -22,13 +22,13 @@ use std::io::Write;
 ///
 /// # Errors
 ///
-/// [`Fault::NoMemory`], or [`Fault::OutputFailed`]; the lines before may have been carried out.
+/// [`Error::NoMemory`], or [`Error::OutputFailed`]; the lines before may have been carried out.
 pub fn record_lines<A: Adapter, W: Write>(
     alloc: Global,
     stack: &mut Stack<A>,
     lines: &[Line<'_>],
     out: &mut W,
-) -> Result<(), Fault>
+) -> Result<(), Error>
     requires taken { IsAllTaken stack.old }
     ensures text { OnOk result (Prints (W.contents out.old) (W.contents out.new) (λ text. IsRecord stack.old lines.now text stack.new)) }
     ensures fault { IfErr result IsOutputFault }
@@ -44,7 +44,7 @@ fn record_each<A: Adapter, W: Write>(
     stack: &mut Stack<A>,
     lines: &[Line<'_>],
     out: &mut W,
-) -> Result<(), Fault>
+) -> Result<(), Error>
     requires taken { IsAllTaken stack.old }
     ensures text { OnOk result (Prints (W.contents out.old) (W.contents out.new) (λ text. IsRecord stack.old lines.now text stack.new)) }
     ensures fault { IfErr result IsOutputFault }
@@ -63,7 +63,7 @@ fn record_line<A: Adapter, W: Write>(
     line: &Line<'_>,
     given: &mut Given,
     out: &mut W,
-) -> Result<(), Fault>
+) -> Result<(), Error>
     requires taken { IsAllTaken stack.old }
     requires named { AreNamed given.old }
     ensures named { OnOk result (AreNamed given.new) }

@@ -6,7 +6,7 @@ ghost use Rattle.settings.specs.InRange.{AreInRange};
 ghost use Rattle.startup.specs.Reading.{IsAllOf};
 ghost use Rattle.judging.specs.Recorded.{AreGiven, IsRecordFault, IsRecordOf, IsUnreadScript};
 
-use crate::faults::Fault;
+use crate::faults::Error;
 use crate::recording::record_lines;
 use script::{Line, ScriptFault, lines};
 use settings::Config;
@@ -19,21 +19,21 @@ use std::io::{Read, Write};
 /// # Errors
 ///
 /// The first of these that fits: the settings can't be read, or are refused; the script can't be read, or has a bad
-/// line; no stack of the settings could be started; `out` failed, after a beginning of the text. [`Fault::NoMemory`],
+/// line; no stack of the settings could be started; `out` failed, after a beginning of the text. [`Error::NoMemory`],
 /// or that of the step, in place of any of them, where memory was refused.
 pub fn record_script<C: Read + Drop, S: Read + Drop, O: Write>(
     alloc: Global,
     config: C,
     script: S,
     out: &mut O,
-) -> Result<(), Fault>
+) -> Result<(), Error>
     ensures text { OnOk result (Prints (O.contents out.old) (O.contents out.new) (IsRecordOf (C.remaining config) (S.remaining script))) }
     ensures fault { IfErr result (IsRecordFault (C.remaining config) (S.remaining script)) }
 {
     let config = read_settings(alloc, config)?;
     let script = bytes_of(alloc, script)?;
     let Ok(text) = std::str::from_utf8(script.as_slice()) else {
-        return Err(Fault::Script(ScriptFault::BadLine { line: 1 }));
+        return Err(Error::Script(ScriptFault::BadLine { line: 1 }));
     };
     let lines = lines(alloc, text)?;
     play_lines(alloc, config, lines.as_slice(), out)
@@ -49,7 +49,7 @@ fn play_lines<O: Write>(
     config: Config,
     lines: &[Line<'_>],
     out: &mut O,
-) -> Result<(), Fault>
+) -> Result<(), Error>
     requires { AreInRange config }
     ensures text { (settings script : Option (List ℕ)) → AreGiven settings script config lines.now → OnOk result (Prints (O.contents out.old) (O.contents out.new) (IsRecordOf settings script)) }
     ensures fault { (settings script : Option (List ℕ)) → AreGiven settings script config lines.now → IfErr result (IsRecordFault settings script) }
@@ -62,12 +62,12 @@ fn play_lines<O: Write>(
 }
 
 /// All bytes of a script.
-fn bytes_of<R: Read + Drop>(alloc: Global, script: R) -> Result<Vec<u8>, Fault>
+fn bytes_of<R: Read + Drop>(alloc: Global, script: R) -> Result<Vec<u8>, Error>
     ensures all { IfOk result (λ bytes. IsAllOf (R.remaining script) bytes.items) }
     ensures fault { IfErr result IsUnreadScript }
 {
     match contents(alloc, script) {
         Ok(bytes) => Ok(bytes),
-        Err(error) => Err(fault_of(&error, Fault::ScriptUnreadable)),
+        Err(error) => Err(fault_of(&error, Error::ScriptUnreadable)),
     }
 }

@@ -6,7 +6,7 @@ ghost use Rattle.label_text.specs.Lines.{Spells};
 ghost use Rattle.judging.specs.inside.Checked.{IsLineFault, IsTextFault};
 ghost use Rattle.judging.specs.Told.{AreTold};
 
-use crate::Fault;
+use crate::Error;
 use label_text::{LineFault, is_told, read_line};
 use machine::Label;
 use std::alloc::{AllocError, Global};
@@ -22,8 +22,8 @@ pub struct Told {
 ///
 /// # Errors
 ///
-/// [`Fault::BadLine`] with the first line that is to tell a label and is the line of none; [`Fault::NoMemory`].
-pub fn told_by(alloc: Global, text: &str) -> Result<Told, Fault>
+/// [`Error::BadLine`] with the first line that is to tell a label and is the line of none; [`Error::NoMemory`].
+pub fn told_by(alloc: Global, text: &str) -> Result<Told, Error>
     ensures told { IfOk result (AreTold (lines text.now)) }
     ensures fault { IfErr result (IsTextFault (lines text.now)) }
 {
@@ -44,17 +44,17 @@ pub fn told_by(alloc: Global, text: &str) -> Result<Told, Fault>
 }
 
 /// The label of a line of this number.
-fn label_of(alloc: Global, line: &str, number: u64) -> Result<Label, Fault>
+fn label_of(alloc: Global, line: &str, number: u64) -> Result<Label, Error>
     ensures spelled { IfOk result (Spells line.now) }
     ensures fault { IfErr result (IsLineFault line.now number) }
 {
     match read_line(alloc, line) {
         Ok(label) => Ok(label),
-        Err(LineFault::BadWord { column }) => Err(Fault::BadLine {
+        Err(LineFault::BadWord { column }) => Err(Error::BadLine {
             line: number,
             column,
         }),
-        Err(LineFault::NoMemory) => Err(Fault::NoMemory),
+        Err(LineFault::NoMemory) => Err(Error::NoMemory),
     }
 }
 

@@ -6,11 +6,11 @@ ghost use Rattle.std.specs.Prelude.{◌≡◌, ◌≢◌, ◌⊎◌, IfErr, IfOk
 ghost use Rattle.clap.specs.Words.{app_of, found_of, rule_of, subcommand_rows_of};
 ghost use Rattle.clap.specs.Walk.{rows_of};
 ghost use Rattle.clap.specs.declared.error.ErrorKind.TheVariants.{OutOfMemory};
-ghost use Rattle.judging.specs.declared.faults.Fault.TheVariants.{NoMemory, Usage};
+ghost use Rattle.judging.specs.declared.faults.Error.TheVariants.{NoMemory, Usage};
 ghost use Rattle.judging.specs.declared.words.asked.Command.{Command};
 ghost use Rattle.judging.specs.CommandLine.{AsksForNothing, HasWords, IsAsked, IsFoundIn, any_cut_rule, events_rule, name_of, program, progress_rule, word_rule};
 
-use crate::faults::Fault;
+use crate::faults::Error;
 use crate::words::asked::Command;
 use clap::error::ErrorKind;
 use clap::{Arg, ArgAction, ArgMatches};
@@ -21,13 +21,13 @@ use std::convert::AsStr;
 ///
 /// # Errors
 ///
-/// [`Fault::NoMemory`] where memory was refused, else [`Fault::Usage`] where the words ask for nothing.
-pub fn command<'a, S: AsStr>(alloc: Global, words: &'a [S]) -> Result<Command<'a>, Fault>
+/// [`Error::NoMemory`] where memory was refused, else [`Error::Usage`] where the words ask for nothing.
+pub fn command<'a, S: AsStr>(alloc: Global, words: &'a [S]) -> Result<Command<'a>, Error>
     ensures asked { IfOk result (IsAsked (map S.text words.now)) }
     ensures fault { IfErr result (λ fault. (fault ≡ NoMemory) ⊎ ((fault ≡ Usage) × AsksForNothing (map S.text words.now))) }
 {
     let Ok(grammar) = grammar(alloc) else {
-        return Err(Fault::NoMemory);
+        return Err(Error::NoMemory);
     };
     match grammar.try_get_matches_from(words) {
         Ok(matches) => found_in(&matches),
@@ -90,7 +90,7 @@ fn word<'a>(alloc: Global, name: &'a str) -> Arg<'a>
     Arg::new(alloc, name).required(true).action(ArgAction::Set)
 }
 
-fn found_in<'a>(matches: &ArgMatches<'a>) -> Result<Command<'a>, Fault>
+fn found_in<'a>(matches: &ArgMatches<'a>) -> Result<Command<'a>, Error>
     ensures found { IfOk result (IsFoundIn (subcommand_rows_of matches.now)) }
     ensures fault { IfErr result (λ fault. fault ≡ Usage) }
     ensures none { IfErr result (λ _. (command : Command) → ¬ (IsFoundIn (subcommand_rows_of matches.now) command)) }
@@ -103,20 +103,20 @@ fn found_in<'a>(matches: &ArgMatches<'a>) -> Result<Command<'a>, Fault>
     }
     match matches.subcommand_matches("picture") {
         Some(words) => picture_of(words),
-        None => Err(Fault::Usage),
+        None => Err(Error::Usage),
     }
 }
 
-fn check_of<'a>(words: &ArgMatches<'a>) -> Result<Command<'a>, Fault>
+fn check_of<'a>(words: &ArgMatches<'a>) -> Result<Command<'a>, Error>
     ensures words { IfOk result (λ command. (name_of command ≡ codes "check") × HasWords (rows_of (found_of words.now)) command) }
     ensures fault { IfErr result (λ fault. fault ≡ Usage) }
     ensures none { IfErr result (λ _. (command : Command) → name_of command ≡ codes "check" → ¬ (HasWords (rows_of (found_of words.now)) command)) }
 {
     let Some(config) = words.get_str("CONFIG") else {
-        return Err(Fault::Usage);
+        return Err(Error::Usage);
     };
     let Some(trace) = words.get_str("TRACE") else {
-        return Err(Fault::Usage);
+        return Err(Error::Usage);
     };
     let any_cut = words.get_flag("any-cut");
     let progress = words.get_flag("progress");
@@ -128,21 +128,21 @@ fn check_of<'a>(words: &ArgMatches<'a>) -> Result<Command<'a>, Fault>
     })
 }
 
-fn record_of<'a>(words: &ArgMatches<'a>) -> Result<Command<'a>, Fault>
+fn record_of<'a>(words: &ArgMatches<'a>) -> Result<Command<'a>, Error>
     ensures words { IfOk result (λ command. (name_of command ≡ codes "record") × HasWords (rows_of (found_of words.now)) command) }
     ensures fault { IfErr result (λ fault. fault ≡ Usage) }
     ensures none { IfErr result (λ _. (command : Command) → name_of command ≡ codes "record" → ¬ (HasWords (rows_of (found_of words.now)) command)) }
 {
     let Some(config) = words.get_str("CONFIG") else {
-        return Err(Fault::Usage);
+        return Err(Error::Usage);
     };
     let Some(script) = words.get_str("SCRIPT") else {
-        return Err(Fault::Usage);
+        return Err(Error::Usage);
     };
     Ok(Command::Record { config, script })
 }
 
-fn picture_of<'a>(matches: &ArgMatches<'a>) -> Result<Command<'a>, Fault>
+fn picture_of<'a>(matches: &ArgMatches<'a>) -> Result<Command<'a>, Error>
     ensures words { IfOk result (λ command. (name_of command ≡ codes "picture") × HasWords (rows_of (found_of matches.now)) command) }
     ensures fault { IfErr result (λ fault. fault ≡ Usage) }
     ensures none { IfErr result (λ _. (command : Command) → name_of command ≡ codes "picture" → ¬ (HasWords (rows_of (found_of matches.now)) command)) }
@@ -150,18 +150,18 @@ fn picture_of<'a>(matches: &ArgMatches<'a>) -> Result<Command<'a>, Fault>
     let events = matches.get_flag("events");
     match matches.get_str("TRACE") {
         Some(trace) => Ok(Command::Picture { trace, events }),
-        None => Err(Fault::Usage),
+        None => Err(Error::Usage),
     }
 }
 
 /// Returns what it means that the words were refused.
-fn fault_of(kind: ErrorKind) -> Fault
+fn fault_of(kind: ErrorKind) -> Error
     ensures memory { kind ≡ OutOfMemory → result ≡ NoMemory }
     ensures usage { kind ≢ OutOfMemory → result ≡ Usage }
     ensures either { (result ≡ NoMemory) ⊎ (result ≡ Usage) }
 {
     match kind {
-        ErrorKind::OutOfMemory => Fault::NoMemory,
-        _ => Fault::Usage,
+        ErrorKind::OutOfMemory => Error::NoMemory,
+        _ => Error::Usage,
     }
 }

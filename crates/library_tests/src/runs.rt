@@ -7,7 +7,7 @@ mod tallies;
 mod traces;
 
 use crate::expect::same;
-use commands::Fault;
+use commands::Error;
 use commands::words::asked::Command;
 use commands::words::command;
 use std::test::Fail;
@@ -62,7 +62,7 @@ fn refuses_other_command_lines(rt: HostRuntime) -> Result<(), Fail> {
         let mut words = Vec::new(alloc);
         words.push("stackrun")?;
         words.extend_from_slice(row)?;
-        let refused = command(alloc, words.as_slice()) == Err(Fault::Usage);
+        let refused = command(alloc, words.as_slice()) == Err(Error::Usage);
         assert!(rt; refused, "at {row:?}");
     }
     Ok(())

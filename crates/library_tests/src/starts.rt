@@ -7,7 +7,7 @@ use mbr::MbrFault;
 use ntstatus::NtStatus;
 use settings::ConfigFault;
 use startup::{
-    Ending, Fault, Verdict, contents, ended, open, read_settings, say, settings_of, start,
+    Ending, Error, Verdict, contents, ended, open, read_settings, say, settings_of, start,
     start_apart,
 };
 use std::alloc::Global;
@@ -114,7 +114,7 @@ impl Write for Torn<'_> {
 }
 
 /// Why settings that are cut off by this failure can't be read.
-fn unread(alloc: Global, kind: ErrorKind) -> Option<Fault> {
+fn unread(alloc: Global, kind: ErrorKind) -> Option<Error> {
     let bytes = SETTINGS.as_bytes();
     read_settings(alloc, Torn { bytes, kind }).err()
 }
@@ -122,10 +122,10 @@ fn unread(alloc: Global, kind: ErrorKind) -> Option<Fault> {
 #[test]
 fn says_what_cannot_be_read(rt: HostRuntime) {
     let alloc = rt.alloc();
-    assert!(rt; unread(alloc, ErrorKind::NotFound) == Some(Fault::ConfigUnreadable));
-    assert!(rt; unread(alloc, ErrorKind::OutOfMemory) == Some(Fault::NoMemory));
+    assert!(rt; unread(alloc, ErrorKind::NotFound) == Some(Error::ConfigUnreadable));
+    assert!(rt; unread(alloc, ErrorKind::OutOfMemory) == Some(Error::NoMemory));
     let not_utf8 = read_settings(alloc, b"sectors = \"\xFF\"".as_slice()).err();
-    assert!(rt; not_utf8 == Some(Fault::Settings(ConfigFault::NotToml)));
+    assert!(rt; not_utf8 == Some(Error::Settings(ConfigFault::NotToml)));
     let Ok(bytes) = contents(alloc, SETTINGS.as_bytes()) else {
         panic!(rt; "no contents");
     };
@@ -173,5 +173,5 @@ fn says_how_a_run_ended(rt: HostRuntime) {
         bytes: b"".as_slice(),
         kind: ErrorKind::BrokenPipe,
     };
-    assert!(rt; say(&mut torn, &Fault::NoMemory).is_err());
+    assert!(rt; say(&mut torn, &Error::NoMemory).is_err());
 }

@@ -12,7 +12,7 @@ use sector::Bytes;
 use std::alloc::{AllocError, Global};
 use std::process::Abort;
 use std::test::Fail;
-use volume::{Fault, OpenFault, Volume};
+use volume::{Error, OpenFault, Volume};
 
 /// Sector 0 with one partition, of the sectors 2,048 to 3,071. An entry has its type in byte 4, its first sector in the
 /// bytes from 8 on and their number in those from 12 on, the lowest first.
@@ -94,7 +94,7 @@ enum Given {
     Bytes(u8, usize),
     /// Equal bytes, and then others.
     Two(u8, usize, u8, usize),
-    Fault(Fault),
+    Fault(Error),
 }
 
 /// Whether there are first this many of one byte, and then this many of the other.
@@ -105,7 +105,7 @@ fn are(bytes: &[u8], first: u8, count: usize, second: u8, more: usize) -> bool {
 }
 
 /// Whether a read gave that.
-fn read_gives(read: Result<Bytes, Fault>, given: Given) -> Result<bool, AllocError> {
+fn read_gives(read: Result<Bytes, Error>, given: Given) -> Result<bool, AllocError> {
     match read {
         Ok(bytes) => {
             let bytes = bytes.into_vec();
@@ -117,16 +117,16 @@ fn read_gives(read: Result<Bytes, Fault>, given: Given) -> Result<bool, AllocErr
                 _ => Ok(false),
             }
         }
-        Err(Fault::Refused(Refusal::InsufficientResources)) => Err(AllocError),
+        Err(Error::Refused(Refusal::InsufficientResources)) => Err(AllocError),
         Err(fault) => Ok(given == Given::Fault(fault)),
     }
 }
 
 /// Whether a write or a flush gave that.
-fn gives(done: Result<(), Fault>, given: Given) -> Result<bool, AllocError> {
+fn gives(done: Result<(), Error>, given: Given) -> Result<bool, AllocError> {
     match done {
         Ok(()) => Ok(given == Given::Done),
-        Err(Fault::Refused(Refusal::InsufficientResources)) => Err(AllocError),
+        Err(Error::Refused(Refusal::InsufficientResources)) => Err(AllocError),
         Err(fault) => Ok(given == Given::Fault(fault)),
     }
 }
@@ -185,7 +185,7 @@ fn run<A: Adapter>(
     Ok(())
 }
 
-const OUT_OF_BOUNDS: Given = Given::Fault(Fault::Refused(Refusal::InvalidParameter));
+const OUT_OF_BOUNDS: Given = Given::Fault(Error::Refused(Refusal::InvalidParameter));
 
 const ROWS: [(Call, Given); 17] = [
     (Call::Read(0, 512), Given::Bytes(0, 512)),
@@ -219,7 +219,7 @@ fn reads_writes_and_flushes(rt: HostRuntime) -> Result<(), Fail> {
     Ok(())
 }
 
-const UNREAD: Given = Given::Fault(Fault::Failed(NtStatus::DeviceDataError));
+const UNREAD: Given = Given::Fault(Error::Failed(NtStatus::DeviceDataError));
 
 /// Sector 4 of the partition is bad.
 const BAD: [(Call, Given); 6] = [

@@ -7,7 +7,7 @@
 //! written is a session of the NBD protocol, over the bytes of the partition of the settings' disk, which are zeros at its
 //! start; by [`serving::serve_file`], the same over a file, with just the calls to the file that the pieces of the requests
 //! made; by [`serving::command`], that paths and partition are those that the parser of the command line found under their
-//! names, and that only words which ask for nothing are refused; by [`Fault`]'s text and [`Ending`](startup::Ending), the line
+//! names, and that only words which ask for nothing are refused; by [`Error`]'s text and [`Ending`](startup::Ending), the line
 //! and the exit status of each fault, as [`startup::say`] and [`startup::ended`] give them. The bytes of standard input and
 //! output themselves, and what a file does, are told by no contract: what is promised is promised of readers and writers that
 //! tell theirs. Each client has a disk in memory of its own; a file is locked for one.
@@ -17,7 +17,7 @@ ghost use Rattle.settings.specs.InRange.{AreInRange};
 
 use file_disk::{DiskFile, Storage};
 use serving::{
-    Asked, DiskFault, Fault, command, disk_bytes, open_file, put_table, serve_disk, serve_file,
+    Asked, DiskFault, Error, command, disk_bytes, open_file, put_table, serve_disk, serve_file,
 };
 use settings::Config;
 use startup::{Verdict, ended, fault_of, read_settings};
@@ -48,12 +48,12 @@ struct Place<'a> {
 }
 
 /// Serves as the command line asks for.
-fn run(rt: &HostRuntime) -> Result<Verdict, Fault> {
+fn run(rt: &HostRuntime) -> Result<Verdict, Error> {
     let alloc = rt.alloc();
     keep_freed(alloc);
     let words = match env::args(rt) {
         Ok(words) => words.collect::<Vec<String>>(alloc)?,
-        Err(error) => return Err(fault_of(&error, Fault::Usage)),
+        Err(error) => return Err(fault_of(&error, Error::Usage)),
     };
     let Asked {
         config,
@@ -66,10 +66,10 @@ fn run(rt: &HostRuntime) -> Result<Verdict, Fault> {
         Err(error) => return Err(unopened(&error)),
     };
     let Ok(mut input) = BufReader::with_capacity(alloc, INPUT_BUFFER, rt.stdin()) else {
-        return Err(Fault::NoMemory);
+        return Err(Error::NoMemory);
     };
     let Ok(mut out) = BufWriter::with_capacity(alloc, BUFFER, rt.stdout()) else {
-        return Err(Fault::NoMemory);
+        return Err(Error::NoMemory);
     };
     match disk {
         Some(path) => {
@@ -79,7 +79,7 @@ fn run(rt: &HostRuntime) -> Result<Verdict, Fault> {
             let mut filed = open_file(alloc, settings, partition, storage)?;
             serve_file(alloc, &mut filed, &mut input, &mut out)?;
         }
-        None if create => return Err(Fault::Usage),
+        None if create => return Err(Error::Usage),
         None => serve_disk(alloc, config, partition, &mut input, &mut out)?,
     }
     Ok(Verdict::Passed)
@@ -92,12 +92,12 @@ fn keep_freed(alloc: Global) {
 }
 
 /// The fault of settings that can't be opened.
-fn unopened(error: &io::Error) -> Fault {
-    Fault::Startup(fault_of(error, startup::Fault::ConfigUnreadable))
+fn unopened(error: &io::Error) -> Error {
+    Error::Startup(fault_of(error, startup::Error::ConfigUnreadable))
 }
 
 /// Opens and locks the file of a disk of these settings, which has as many bytes as the disk.
-fn storage_of(rt: &HostRuntime, place: Place<'_>, config: &Config) -> Result<DiskFile, Fault>
+fn storage_of(rt: &HostRuntime, place: Place<'_>, config: &Config) -> Result<DiskFile, Error>
     requires { AreInRange config.now }
 {
     if place.create {
@@ -106,21 +106,21 @@ fn storage_of(rt: &HostRuntime, place: Place<'_>, config: &Config) -> Result<Dis
     let file = locked(opened(rt, place.path, config.write_protected)?)?;
     match file.metadata() {
         Ok(found) if found.len() == disk_bytes(config) => Ok(DiskFile::new(file)),
-        Ok(_) => Err(Fault::Disk(DiskFault::OtherSize)),
-        Err(_) => Err(Fault::Disk(DiskFault::NotOpened)),
+        Ok(_) => Err(Error::Disk(DiskFault::OtherSize)),
+        Err(_) => Err(Error::Disk(DiskFault::NotOpened)),
     }
 }
 
 /// Makes a file with as many bytes as the disk, and the partition table of the settings.
-fn created(rt: &HostRuntime, path: &str, config: &Config) -> Result<DiskFile, Fault>
+fn created(rt: &HostRuntime, path: &str, config: &Config) -> Result<DiskFile, Error>
     requires { AreInRange config.now }
 {
     let file = match File::create_new(rt, path) {
         Ok(file) => locked(file)?,
-        Err(_) => return Err(Fault::Disk(DiskFault::NotCreated)),
+        Err(_) => return Err(Error::Disk(DiskFault::NotCreated)),
     };
     if file.set_len(disk_bytes(config)).is_err() {
-        return Err(Fault::Disk(DiskFault::NotCreated));
+        return Err(Error::Disk(DiskFault::NotCreated));
     }
     let mut storage = DiskFile::new(file);
     put_table(rt.alloc(), &mut storage, config)?;
@@ -128,7 +128,7 @@ fn created(rt: &HostRuntime, path: &str, config: &Config) -> Result<DiskFile, Fa
 }
 
 /// The open file: for reading alone where it can't be written, or isn't to be.
-fn opened(rt: &HostRuntime, path: &str, protected: bool) -> Result<File, Fault> {
+fn opened(rt: &HostRuntime, path: &str, protected: bool) -> Result<File, Error> {
     let both = OpenOptions::new()
         .read(true)
         .write(!protected)
@@ -137,9 +137,9 @@ fn opened(rt: &HostRuntime, path: &str, protected: bool) -> Result<File, Fault> 
         Ok(file) => Ok(file),
         Err(error) if is_refused(&error) => match File::open(rt, path) {
             Ok(file) => Ok(file),
-            Err(_) => Err(Fault::Disk(DiskFault::NotOpened)),
+            Err(_) => Err(Error::Disk(DiskFault::NotOpened)),
         },
-        Err(_) => Err(Fault::Disk(DiskFault::NotOpened)),
+        Err(_) => Err(Error::Disk(DiskFault::NotOpened)),
     }
 }
 
@@ -152,11 +152,11 @@ fn is_refused(error: &io::Error) -> bool {
 }
 
 /// The file, for this process alone.
-fn locked(file: File) -> Result<File, Fault> {
+fn locked(file: File) -> Result<File, Error> {
     match file.try_lock() {
         Ok(()) => Ok(file),
-        Err(TryLockError::WouldBlock) => Err(Fault::Disk(DiskFault::InUse)),
-        Err(TryLockError::Error(_)) => Err(Fault::Disk(DiskFault::NotOpened)),
+        Err(TryLockError::WouldBlock) => Err(Error::Disk(DiskFault::InUse)),
+        Err(TryLockError::Error(_)) => Err(Error::Disk(DiskFault::NotOpened)),
     }
 }
 

@@ -2,22 +2,22 @@
 use Rattle.std.specs.Prelude.{◌≡◌, ◌⊎◌, ℕ, List}
 use Rattle.ntstatus.specs.Codes.{value_of}
 use Rattle.io_manager.specs.declared.Refusal.TheVariants.{InsufficientResources}
-use Rattle.volume.specs.declared.Fault.{Fault}
-use Rattle.volume.specs.declared.Fault.TheVariants.{Refused}
+use Rattle.volume.specs.declared.Error.{Error}
+use Rattle.volume.specs.declared.Error.TheVariants.{Refused}
 use Rattle.volume.specs.Calls.{AreInBounds, IsFault, IsSameDisk, IsWriteFault as IsVolumeWriteFault}
 use Rattle.volume.specs.Shown.{VolumeView}
 use Rattle.saddlemug.specs.Statuses.{fault_status}
 
 -- the number of the status of a fault of this kind
-pub record IsNumberOf (IsWhy : Fault → Type 0) (number : ℕ) : Type 0 where
-  pub fault : Fault
+pub record IsNumberOf (IsWhy : Error → Type 0) (number : ℕ) : Type 0 where
+  pub fault : Error
   pub why : IsWhy fault
   pub is_number : number ≡ value_of (fault_status fault)
 
 -- a read of this many bytes from this one on was refused or failed, or memory for its bytes was refused
-abbrev pub IsReadFault : VolumeView → ℕ → ℕ → Fault → Type 0
+abbrev pub IsReadFault : VolumeView → ℕ → ℕ → Error → Type 0
 IsReadFault v offset count fault = (fault ≡ Refused InsufficientResources) ⊎ IsFault v (AreInBounds v.content offset count) fault
 
 -- so was a write, and it left what a volume's write leaves; for want of that memory it changed nothing
-abbrev pub IsWriteFault : VolumeView → ℕ → List ℕ → Fault → VolumeView → Type 0
+abbrev pub IsWriteFault : VolumeView → ℕ → List ℕ → Error → VolumeView → Type 0
 IsWriteFault old offset bytes fault new = ((fault ≡ Refused InsufficientResources) × IsSameDisk old new) ⊎ IsVolumeWriteFault old offset bytes fault new

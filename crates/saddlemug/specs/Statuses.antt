@@ -7,8 +7,8 @@ use Rattle.io_manager.specs.declared.Refusal.{Refusal}
 use Rattle.io_manager.specs.declared.Refusal.TheVariants.{InvalidHandle, InvalidParameter, DeletePending, DeviceBusy, InsufficientResources, InvalidDeviceRequest, NotFound}
 use Rattle.compose.specs.declared.StartFault.{StartFault}
 use Rattle.compose.specs.declared.StartFault.TheVariants.{Device, Settings, Mbr, NoMemory}
-use Rattle.volume.specs.declared.Fault.{Fault}
-use Rattle.volume.specs.declared.Fault.TheVariants.{Refused, Failed}
+use Rattle.volume.specs.declared.Error.{Error}
+use Rattle.volume.specs.declared.Error.TheVariants.{Refused, Failed}
 use Rattle.volume.specs.declared.OpenFault.{OpenFault}
 use Rattle.volume.specs.declared.OpenFault.TheVariants.{Start, Refused as RefusedOpen}
 
@@ -23,7 +23,7 @@ refusal_status InvalidDeviceRequest = status.InvalidDeviceRequest
 refusal_status NotFound = status.NotFound
 
 -- the status of a request that did not succeed
-abbrev pub fault_status : Fault → NtStatus
+abbrev pub fault_status : Error → NtStatus
 fault_status (Refused reason) = refusal_status reason
 fault_status (Failed s) = s
 

@@ -21,7 +21,7 @@ use disk::SparseDisk;
 use miniport::MemAdapter;
 use ntstatus::NtStatus;
 use std::alloc::Global;
-use volume::{Fault, Sizes, Volume};
+use volume::{Error, Sizes, Volume};
 
 /// What C holds.
 #[derive(Drop)]
@@ -52,7 +52,7 @@ impl Held {
     /// # Errors
     ///
     /// As [`read_into`].
-    pub fn read(&mut self, alloc: Global, offset: u64, buffer: &mut [u8]) -> Result<(), Fault>
+    pub fn read(&mut self, alloc: Global, offset: u64, buffer: &mut [u8]) -> Result<(), Error>
         requires { IsAnyVolume self.old }
         ensures held { IsAnyVolume self.new }
         ensures reads { IsVolume (λ v. MatchResult result (λ _. Reads v.content offset (length buffer.old) buffer.new) (IsReadFault v offset (length buffer.old))) self.old }
@@ -76,7 +76,7 @@ impl Held {
         offset: u64,
         bytes: &[u8],
         through: bool,
-    ) -> Result<(), Fault>
+    ) -> Result<(), Error>
         requires { IsAnyVolume self.old }
         ensures held { IsAnyVolume self.new }
         ensures in_bounds { IsVolume (λ v. IfOk result (λ _. AreInBounds v.content offset (length bytes.now))) self.old }
@@ -93,7 +93,7 @@ impl Held {
     /// # Errors
     ///
     /// As [`Volume::flush`].
-    pub fn flush(&mut self, alloc: Global) -> Result<(), Fault>
+    pub fn flush(&mut self, alloc: Global) -> Result<(), Error>
         requires { IsAnyVolume self.old }
         ensures held { IsAnyVolume self.new }
         ensures flushes { IsVolume (λ v. IfErr result (IsFault v ⊤)) self.old }
@@ -208,13 +208,13 @@ fn read_into<A: Adapter>(
     alloc: Global,
     offset: u64,
     buffer: &mut [u8],
-) -> Result<(), Fault>
+) -> Result<(), Error>
     ensures reads { MatchResult result (λ _. Reads volume.old.content offset (length buffer.old) buffer.new) (IsReadFault volume.old offset (length buffer.old)) }
     ensures as_it_was { IfErr result (λ _. buffer.new ≡ buffer.old) }
     ensures same { IsSameDisk volume.old volume.new }
 {
     let Ok(room) = zeros(alloc, buffer.len() as u64) else {
-        return Err(Fault::Refused(Refusal::InsufficientResources));
+        return Err(Error::Refused(Refusal::InsufficientResources));
     };
     match volume.read(alloc, offset, room) {
         Ok(bytes) => {
@@ -237,12 +237,12 @@ fn write_from<A: Adapter>(
     offset: u64,
     bytes: &[u8],
     through: bool,
-) -> Result<(), Fault>
+) -> Result<(), Error>
     ensures in_bounds { IfOk result (λ _. AreInBounds volume.old.content offset (length bytes.now)) }
     ensures writes { MatchResult result (λ _. Writes volume.old offset bytes.now volume.new) (λ fault. IsWriteFault volume.old offset bytes.now fault volume.new) }
 {
     match copied(alloc, bytes) {
         Ok(copy) => volume.write(alloc, offset, copy, through),
-        Err(_) => Err(Fault::Refused(Refusal::InsufficientResources)),
+        Err(_) => Err(Error::Refused(Refusal::InsufficientResources)),
     }
 }

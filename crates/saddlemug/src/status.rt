@@ -6,15 +6,15 @@ ghost use Rattle.saddlemug.specs.Statuses.{fault_status, refusal_status, start_s
 
 use compose::{Refusal, StartFault};
 use ntstatus::NtStatus;
-use volume::Fault;
+use volume::Error;
 
 /// The status of a request that did not succeed.
-pub fn fault_status(fault: Fault) -> NtStatus
+pub fn fault_status(fault: Error) -> NtStatus
     ensures { result ≡ fault_status fault }
 {
     match fault {
-        Fault::Refused(refusal) => refusal_status(refusal),
-        Fault::Failed(status) => status,
+        Error::Refused(refusal) => refusal_status(refusal),
+        Error::Failed(status) => status,
     }
 }
 
@@ -34,7 +34,7 @@ pub fn refusal_status(refusal: Refusal) -> NtStatus
 }
 
 /// The number of a request's status.
-pub fn number_of(outcome: Result<(), Fault>) -> u32
+pub fn number_of(outcome: Result<(), Error>) -> u32
     ensures { MatchResult outcome (λ _. result ≡ 0) (λ fault. result ≡ value_of (fault_status fault)) }
 {
     match outcome {

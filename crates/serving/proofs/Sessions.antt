@@ -4,16 +4,16 @@ use Rattle.settings.specs.declared.Config.{Config}
 use Rattle.nbd.specs.Content.{Content}
 use Rattle.nbd.specs.Handshake.{IsSession}
 use Rattle.nbd.specs.declared.End.{End}
-use Rattle.serving.specs.declared.faults.Fault.{Fault}
+use Rattle.serving.specs.declared.faults.Error.{Error}
 use Rattle.startup.specs.Reading.{AreRead}
 use Rattle.serving.specs.Serving.{IsServed, IsStartFault, fault_of_end, may_fail, new_array}
 
 module _ (config : Option (List ℕ)) (p : ℕ) (input out : Option (List ℕ)) where
   module _ (settings : Config) (are_read : AreRead config settings) where
-    pub without_disk : (fault : Fault) → IsStartFault settings p fault → IsServed config p input out (Some fault) input out
+    pub without_disk : (fault : Error) → IsStartFault settings p fault → IsServed config p input out (Some fault) input out
     without_disk fault why = inl (record { fault = fault; told_is = refl; early = inr (settings, are_read, why); unread = refl; unwritten = refl })
 
-    pub with_session : (first last : Content) (end : End) (told : Option Fault) (rest after : Option (List ℕ)) → first ≡ new_array settings p
+    pub with_session : (first last : Content) (end : End) (told : Option Error) (rest after : Option (List ℕ)) → first ≡ new_array settings p
         → IsSession may_fail first input out end last after → told ≡ fault_of_end end → IsServed config p input out told rest after
     with_session first last end told rest after is session ends =
         inr (record {

@@ -14,7 +14,7 @@ use Rattle.nbd.specs.declared.End.{End}
 use Rattle.nbd.specs.declared.arrays.Sizes.{Sizes}
 use Rattle.nbd.specs.Over.{IsSessionOver}
 use Rattle.file_disk.specs.Calls.{Call, ReadsAll, Since}
-use Rattle.serving.specs.declared.faults.Fault.{Fault}
+use Rattle.serving.specs.declared.faults.Error.{Error}
 use Rattle.serving.specs.Carried.{IsTold}
 use Rattle.serving.specs.Filed.{CarriesBy, FiledView}
 use Rattle.serving.specs.Serving.{fault_of_end}
@@ -50,7 +50,7 @@ pub record IsOpened (c : Config) (p : ℕ) (calls : List Call) (filed : FiledVie
   pub begins : IsTold arrays trace [] filed.carried.stack
 
 -- a session, and what is told at its end
-pub record IsFileSession (old : FiledView) (input out : Option (List ℕ)) (told : Option Fault) (new : FiledView) (after : Option (List ℕ)) : Type 0 where
+pub record IsFileSession (old : FiledView) (input out : Option (List ℕ)) (told : Option Error) (new : FiledView) (after : Option (List ℕ)) : Type 0 where
   pub end : End
   pub told_is : told ≡ fault_of_end end
   pub session : IsSessionOver CarriesBy old.sizes old input out end new after

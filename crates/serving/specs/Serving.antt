@@ -5,13 +5,13 @@ use Rattle.ntstatus.specs.declared.NtStatus.TheVariants.{InsufficientResources a
 use Rattle.io_manager.specs.declared.Refusal.TheVariants.{InvalidParameter, InsufficientResources}
 use Rattle.settings.specs.declared.Config.{Config}
 use Rattle.settings.specs.Medium.{extents_of, zeros}
-use Rattle.startup.specs.declared.faults.Fault.TheVariants.{Start}
+use Rattle.startup.specs.declared.faults.Error.TheVariants.{Start}
 use Rattle.startup.specs.Reading.{AreRead, HasFault, IsUnread}
 use Rattle.startup.specs.Started.{IsStartFault as IsStackFault}
 use Rattle.volume.specs.declared.OpenFault.{OpenFault}
 use Rattle.volume.specs.declared.OpenFault.TheVariants.{Start as NotStarted, Refused}
-use Rattle.volume.specs.declared.Fault.{Fault as VolumeFault}
-use Rattle.volume.specs.declared.Fault.TheVariants.{Refused as RefusedCall, Failed as FailedCall}
+use Rattle.volume.specs.declared.Error.{Error as VolumeFault}
+use Rattle.volume.specs.declared.Error.TheVariants.{Refused as RefusedCall, Failed as FailedCall}
 use Rattle.volume.specs.Shown.{Content as VolumeContent, extent_at}
 use Rattle.nbd.specs.Content.{Content}
 use Rattle.nbd.specs.Carrying.{Faulting}
@@ -20,8 +20,8 @@ use Rattle.nbd.specs.declared.arrays.ArrayFault.TheVariants.{NoMemory as OutOfMe
 use Rattle.nbd.specs.Handshake.{IsSession}
 use Rattle.nbd.specs.declared.End.{End}
 use Rattle.nbd.specs.declared.End.TheVariants.{Left, Malformed as NoProtocol, Input, Output}
-use Rattle.serving.specs.declared.faults.Fault.{Fault}
-use Rattle.serving.specs.declared.faults.Fault.TheVariants.{Startup, NoPartition, Malformed, InputEnded, OutputFailed, NoMemory}
+use Rattle.serving.specs.declared.faults.Error.{Error}
+use Rattle.serving.specs.declared.faults.Error.TheVariants.{Startup, NoPartition, Malformed, InputEnded, OutputFailed, NoMemory}
 
 -- the bytes of a partition as an array, in blocks of a sector
 abbrev pub array_of : VolumeContent → Content
@@ -46,44 +46,44 @@ abbrev pub new_array : Config → ℕ → Content
 new_array c p = record { block = c.sector_size; bytes = concat (zeros c (extent_at (extents_of c) p).count) }
 
 -- the fault that an end of the session is told as
-abbrev pub fault_of_end : End → Option Fault
+abbrev pub fault_of_end : End → Option Error
 fault_of_end Left = None
 fault_of_end NoProtocol = Some Malformed
 fault_of_end Input = Some InputEnded
 fault_of_end Output = Some OutputFailed
 
 -- the fault that a volume which can't be opened is told as
-abbrev pub fault_of_open : OpenFault → Fault
+abbrev pub fault_of_open : OpenFault → Error
 fault_of_open (NotStarted fault) = Startup (Start fault)
 fault_of_open (Refused InvalidParameter) = NoPartition
 fault_of_open (Refused _) = NoMemory
 
 -- why there is no disk of these settings, or no such partition of it
-abbrev pub IsStartFault : Config → ℕ → Fault → Type 0
+abbrev pub IsStartFault : Config → ℕ → Error → Type 0
 IsStartFault c p (Startup (Start fault)) = IsStackFault c fault
 IsStartFault c p NoPartition = length (extents_of c) ≤ p
 IsStartFault c p NoMemory = Unit {0}
 IsStartFault c p _ = ⊥
 
 -- why an input gives no settings
-abbrev pub IsConfigFault : Option (List ℕ) → Fault → Type 0
+abbrev pub IsConfigFault : Option (List ℕ) → Error → Type 0
 IsConfigFault config (Startup fault) = IsUnread fault × HasFault config fault
 IsConfigFault config _ = ⊥
 
 -- why no session began
-abbrev pub IsEarly : Option (List ℕ) → ℕ → Fault → Type 0
+abbrev pub IsEarly : Option (List ℕ) → ℕ → Error → Type 0
 IsEarly config p fault = IsConfigFault config fault ⊎ ((settings : Config) × AreRead config settings × IsStartFault settings p fault)
 
 -- no session began: nothing was read or written
-pub record HasNone (config : Option (List ℕ)) (p : ℕ) (input out : Option (List ℕ)) (told : Option Fault) (rest after : Option (List ℕ)) : Type 0 where
-  pub fault : Fault
+pub record HasNone (config : Option (List ℕ)) (p : ℕ) (input out : Option (List ℕ)) (told : Option Error) (rest after : Option (List ℕ)) : Type 0 where
+  pub fault : Error
   pub told_is : told ≡ Some fault
   pub early : IsEarly config p fault
   pub unread : rest ≡ input
   pub unwritten : after ≡ out
 
 -- a session, over the partition as the settings make it
-pub record HasSession (config : Option (List ℕ)) (p : ℕ) (input out : Option (List ℕ)) (told : Option Fault) (after : Option (List ℕ)) : Type 0 where
+pub record HasSession (config : Option (List ℕ)) (p : ℕ) (input out : Option (List ℕ)) (told : Option Error) (after : Option (List ℕ)) : Type 0 where
   pub settings : Config
   pub are_read : AreRead config settings
   pub end : End
@@ -92,5 +92,5 @@ pub record HasSession (config : Option (List ℕ)) (p : ℕ) (input out : Option
   pub session : IsSession may_fail (new_array settings p) input out end last after
 
 -- what was read and written, and what is told at the end
-abbrev pub IsServed : Option (List ℕ) → ℕ → Option (List ℕ) → Option (List ℕ) → Option Fault → Option (List ℕ) → Option (List ℕ) → Type 0
+abbrev pub IsServed : Option (List ℕ) → ℕ → Option (List ℕ) → Option (List ℕ) → Option Error → Option (List ℕ) → Option (List ℕ) → Type 0
 IsServed config p input out told rest after = HasNone config p input out told rest after ⊎ HasSession config p input out told after

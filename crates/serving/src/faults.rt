@@ -2,20 +2,19 @@
 
 ghost use Rattle.std.specs.Prelude.{◌≡◌};
 ghost use Rattle.serving.specs.Faults.{disk_text, is_usage};
-ghost use Rattle.serving.specs.declared.faults.Fault.TheVariants.{NoMemory, Startup};
+ghost use Rattle.serving.specs.declared.faults.Error.TheVariants.{NoMemory, Startup};
 
 use startup::Ending;
 use std::alloc::AllocError;
-use std::error::Error;
 use std::fmt;
 
 /// Why the program ends early. Its text is the line that is said of it.
 #[derive(Debug, Clone, Copy, PartialEq, Eq)]
-pub enum Fault {
+pub enum Error {
     /// The words of the command line ask for nothing that there is, or for help.
     Usage,
     /// There is no stack of the settings.
-    Startup(startup::Fault),
+    Startup(startup::Error),
     /// The settings have no such partition.
     NoPartition,
     /// The disk in a file is none that can be served.
@@ -49,16 +48,16 @@ pub enum DiskFault {
     BadSectors,
 }
 
-impl Ending for Fault {
+impl Ending for Error {
     ghost usage = { is_usage };
 
     fn is_usage(&self) -> bool {
-        matches!(self, Fault::Usage)
+        matches!(self, Error::Usage)
     }
 }
 
 /// The line that the program says, without its end.
-impl fmt::Display for Fault {
+impl fmt::Display for Error {
     ghost use Rattle.std.specs.Prelude.{Some};
     ghost use Rattle.serving.specs.Faults.{line_of};
 
@@ -66,16 +65,16 @@ impl fmt::Display for Fault {
 
     fn fmt<W: fmt::Write>(&self, f: &mut fmt::Formatter<W>) -> fmt::Result {
         match self {
-            Fault::Usage => f.write_str(
+            Error::Usage => f.write_str(
                 "usage: nbd_disk CONFIG [PARTITION] [--disk FILE [--create]]",
             ),
-            Fault::Startup(fault) => write!(f, "nbd_disk: {fault}"),
-            Fault::NoPartition => f.write_str("nbd_disk: no such partition"),
-            Fault::Disk(fault) => write!(f, "nbd_disk: {}", words_for(*fault)),
-            Fault::Malformed => f.write_str("nbd_disk: malformed input"),
-            Fault::InputEnded => f.write_str("nbd_disk: input ended"),
-            Fault::OutputFailed => f.write_str("nbd_disk: output failed"),
-            Fault::NoMemory => f.write_str("nbd_disk: no memory"),
+            Error::Startup(fault) => write!(f, "nbd_disk: {fault}"),
+            Error::NoPartition => f.write_str("nbd_disk: no such partition"),
+            Error::Disk(fault) => write!(f, "nbd_disk: {}", words_for(*fault)),
+            Error::Malformed => f.write_str("nbd_disk: malformed input"),
+            Error::InputEnded => f.write_str("nbd_disk: input ended"),
+            Error::OutputFailed => f.write_str("nbd_disk: output failed"),
+            Error::NoMemory => f.write_str("nbd_disk: no memory"),
         }
     }
 }
@@ -95,20 +94,20 @@ fn words_for(fault: DiskFault) -> &'static str
     }
 }
 
-impl Error for Fault {}
+impl std::error::Error for Error {}
 
-impl From<AllocError> for Fault {
+impl From<AllocError> for Error {
     ghost from_gives = { λ _ fault. fault ≡ NoMemory };
 
-    fn from(_error: AllocError) -> Fault {
-        Fault::NoMemory
+    fn from(_error: AllocError) -> Error {
+        Error::NoMemory
     }
 }
 
-impl From<startup::Fault> for Fault {
+impl From<startup::Error> for Error {
     ghost from_gives = { λ why fault. fault ≡ Startup why };
 
-    fn from(fault: startup::Fault) -> Fault {
-        Fault::Startup(fault)
+    fn from(fault: startup::Error) -> Error {
+        Error::Startup(fault)
     }
 }

@@ -9,7 +9,7 @@
 //! the storage got just the calls of the pieces that acted there, each of which did in the run what its calls did; by
 //! [`put_table`], that the table was written and synced. By [`command`] (`asked`, `fault`), it promises that paths and
 //! partition are those that the parser of the command line found under their names, and that only words which ask for nothing
-//! are refused; by [`Fault`]'s text and [`Ending`](startup::Ending), the line of each fault, and which is one of the command
+//! are refused; by [`Error`]'s text and [`Ending`](startup::Ending), the line of each fault, and which is one of the command
 //! line. It does not promise that there is memory, what a storage does when it is called, nor, of a reader or a writer that
 //! doesn't tell its bytes, what was read or written.
 #![tactic(auto)]
@@ -22,7 +22,7 @@ mod served;
 mod serving;
 mod words;
 
-pub use faults::{DiskFault, Fault};
+pub use faults::{DiskFault, Error};
 pub use filed::Filed;
 pub use on_disk::{disk_bytes, open_file, put_table, serve_file};
 pub use serving::serve_disk;

@@ -15,7 +15,7 @@ ghost use Rattle.file_disk.specs.Transfers.{DiskView, SyncsAfter};
 ghost use Rattle.serving.specs.Carried.{StandsIn, TellsOn};
 ghost use Rattle.serving.specs.OnDisk.{IsFileSession, IsOpened, IsStartedOver};
 
-use crate::faults::{DiskFault, Fault};
+use crate::faults::{DiskFault, Error};
 use crate::filed::Filed;
 use crate::moving::{laws_of_entries, take_labels};
 use crate::serving::outcome;
@@ -42,15 +42,15 @@ pub fn disk_bytes(config: &Config) -> u64
 ///
 /// # Errors
 ///
-/// [`DiskFault::NotCreated`] where a call failed; [`Fault::NoMemory`].
-pub fn put_table<S: Storage>(alloc: Global, storage: &mut S, config: &Config) -> Result<(), Fault>
+/// [`DiskFault::NotCreated`] where a call failed; [`Error::NoMemory`].
+pub fn put_table<S: Storage>(alloc: Global, storage: &mut S, config: &Config) -> Result<(), Error>
     requires { AreInRange config.now }
     ensures { IfOk result (λ _. Since (S.calls storage.old) (S.calls storage.new) (SyncsAfter 0 (table_sector config.now) None)) }
 {
     let sector = first_sector(alloc, config)?;
     match put(storage, sector.as_slice()) {
         Ok(()) => Ok(()),
-        Err(_) => Err(Fault::Disk(DiskFault::NotCreated)),
+        Err(_) => Err(Error::Disk(DiskFault::NotCreated)),
     }
 }
 
@@ -133,12 +133,12 @@ fn extent_of(partition: Partition) -> Extent
 /// # Errors
 ///
 /// [`DiskFault::Unreadable`] where a call failed; [`DiskFault::OtherTable`] where it gives other partitions, or none;
-/// [`Fault::NoMemory`].
+/// [`Error::NoMemory`].
 fn checked_table<S: Storage>(
     alloc: Global,
     storage: &mut S,
     config: &Config,
-) -> Result<Vec<u8>, Fault>
+) -> Result<Vec<u8>, Error>
     requires { AreInRange config.now }
     ensures long { IfOk result (λ sector. length sector.items ≡ config.now.sector_size) }
     ensures reads { IfOk result (λ sector. Since (S.calls storage.old) (S.calls storage.new) (ReadsAll 0 sector.items)) }
@@ -146,11 +146,11 @@ fn checked_table<S: Storage>(
 {
     let mut sector = vec![in alloc; 0; config.sector_size as usize]?;
     let Ok(()) = read_all(storage, 0, sector.as_mut_slice()) else {
-        return Err(Fault::Disk(DiskFault::Unreadable));
+        return Err(Error::Disk(DiskFault::Unreadable));
     };
     match parse(sector.as_slice(), config.sectors) {
         Ok(found) if are_those(found.as_slice(), config.partitions.as_slice()) => Ok(sector),
-        _ => Err(Fault::Disk(DiskFault::OtherTable)),
+        _ => Err(Error::Disk(DiskFault::OtherTable)),
     }
 }
 
@@ -183,20 +183,20 @@ fn is_that(extent: Extent, partition: Partition) -> bool
 ///
 /// # Errors
 ///
-/// [`Fault::Disk`] where the partition table of the storage gives other partitions than the settings, or can't be read, and
-/// where the settings have bad sectors, since a storage has its own; [`Fault::Startup`] where no stack could be started;
-/// [`Fault::NoPartition`]; [`Fault::NoMemory`].
+/// [`Error::Disk`] where the partition table of the storage gives other partitions than the settings, or can't be read, and
+/// where the settings have bad sectors, since a storage has its own; [`Error::Startup`] where no stack could be started;
+/// [`Error::NoPartition`]; [`Error::NoMemory`].
 pub fn open_file<S: Storage + Drop>(
     alloc: Global,
     config: Config,
     partition: u8,
     storage: S,
-) -> Result<Filed<S>, Fault>
+) -> Result<Filed<S>, Error>
     requires { AreInRange config }
     ensures { IfOk result (IsOpened config partition (S.calls storage)) }
 {
     if !config.bad_sectors.is_empty() {
-        return Err(Fault::Disk(DiskFault::BadSectors));
+        return Err(Error::Disk(DiskFault::BadSectors));
     }
     let mut storage = storage;
     let sizes = sizes_of(&config, partition)?;
@@ -224,8 +224,8 @@ pub fn open_file<S: Storage + Drop>(
 ///
 /// # Errors
 ///
-/// [`Fault::NoPartition`].
-fn sizes_of(config: &Config, partition: u8) -> Result<Sizes, Fault>
+/// [`Error::NoPartition`].
+fn sizes_of(config: &Config, partition: u8) -> Result<Sizes, Error>
     requires { AreInRange config.now }
     ensures block { IfOk result (λ sizes. sizes.block ≡ config.now.sector_size) }
     ensures bytes { IfOk result (λ sizes. sizes.bytes ≡ (extent_at (extents_of config.now) partition).count * config.now.sector_size) }
@@ -236,7 +236,7 @@ fn sizes_of(config: &Config, partition: u8) -> Result<Sizes, Fault>
             block: config.sector_size,
             bytes: shown.count as u64 * config.sector_size as u64,
         }),
-        None => Err(Fault::NoPartition),
+        None => Err(Error::NoPartition),
     }
 }
 
@@ -245,7 +245,7 @@ fn sizes_of(config: &Config, partition: u8) -> Result<Sizes, Fault>
 /// # Errors
 ///
 /// Why it could not be started.
-fn started(alloc: Global, config: &Config, first: Vec<u8>) -> Result<Stack<BookedAdapter>, Fault>
+fn started(alloc: Global, config: &Config, first: Vec<u8>) -> Result<Stack<BookedAdapter>, Error>
     requires range { AreInRange config.now }
     requires long { length first.items ≡ config.now.sector_size }
     ensures { IfOk result (IsStartedOver config.now first.items) }
@@ -258,7 +258,7 @@ fn started(alloc: Global, config: &Config, first: Vec<u8>) -> Result<Stack<Booke
         config.depth,
     );
     let Ok(adapter) = adapter else {
-        return Err(Fault::NoMemory);
+        return Err(Error::NoMemory);
     };
     let settings = Settings {
         window: config.window,
@@ -266,7 +266,7 @@ fn started(alloc: Global, config: &Config, first: Vec<u8>) -> Result<Stack<Booke
     };
     match Stack::start(alloc, adapter, settings) {
         Ok(stack) => Ok(stack),
-        Err(fault) => Err(Fault::Startup(startup::Fault::Start(fault))),
+        Err(fault) => Err(Error::Startup(startup::Error::Start(fault))),
     }
 }
 
@@ -274,8 +274,8 @@ fn started(alloc: Global, config: &Config, first: Vec<u8>) -> Result<Stack<Booke
 ///
 /// # Errors
 ///
-/// [`Fault::NoPartition`], [`Fault::NoMemory`].
-fn opened(stack: &mut Stack<BookedAdapter>, alloc: Global, partition: u8) -> Result<Handle, Fault>
+/// [`Error::NoPartition`], [`Error::NoMemory`].
+fn opened(stack: &mut Stack<BookedAdapter>, alloc: Global, partition: u8) -> Result<Handle, Error>
     requires taken { stack.old.labels ≡ [] }
     ensures taken { stack.new.labels ≡ [] }
     ensures rules { stack.new.rules ≡ stack.old.rules }
@@ -293,8 +293,8 @@ fn opened(stack: &mut Stack<BookedAdapter>, alloc: Global, partition: u8) -> Res
 ///
 /// # Errors
 ///
-/// [`Fault::NoPartition`], [`Fault::NoMemory`].
-fn handle_in(reply: Reply) -> Result<Handle, Fault>
+/// [`Error::NoPartition`], [`Error::NoMemory`].
+fn handle_in(reply: Reply) -> Result<Handle, Error>
     ensures { IfOk result (λ handle. reply ≡ HandleReply handle) }
 {
     match reply {
@@ -302,9 +302,9 @@ fn handle_in(reply: Reply) -> Result<Handle, Fault>
         Reply::Refused {
             refusal: Refusal::InvalidParameter,
             ..
-        } => Err(Fault::NoPartition),
+        } => Err(Error::NoPartition),
         // A new stack has handles and numbers enough.
-        _ => Err(Fault::NoMemory),
+        _ => Err(Error::NoMemory),
     }
 }
 
@@ -318,7 +318,7 @@ pub fn serve_file<S: Storage + Drop, R: Read, W: Write>(
     filed: &mut Filed<S>,
     input: &mut R,
     out: &mut W,
-) -> Result<(), Fault>
+) -> Result<(), Error>
     ensures { IsFileSession filed.old (R.remaining input.old) (W.contents out.old) (result_err result) filed.new (W.contents out.new) }
 {
     outcome(serve_over(alloc, filed, input, out))

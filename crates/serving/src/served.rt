@@ -10,7 +10,7 @@ use ntstatus::NtStatus;
 use sector::Bytes;
 use std::alloc::Global;
 use std::marker::Model;
-use volume::{Fault, Volume};
+use volume::{Error, Volume};
 
 /// A volume, served.
 #[derive(Drop)]
@@ -81,16 +81,16 @@ impl<A: Adapter> Array for Served<A> {
 }
 
 /// Returns the fault of an array for one of a volume.
-fn array_fault(fault: Fault) -> ArrayFault
+fn array_fault(fault: Error) -> ArrayFault
     ensures { result ≡ told_fault fault }
 {
     match fault {
-        Fault::Refused(Refusal::InsufficientResources) => ArrayFault::NoMemory,
-        Fault::Failed(NtStatus::InsufficientResources) => ArrayFault::NoMemory,
-        Fault::Failed(NtStatus::MediaWriteProtected) => ArrayFault::Protected,
-        Fault::Failed(NtStatus::NoSuchDevice) => ArrayFault::Gone,
-        Fault::Failed(NtStatus::DeletePending) => ArrayFault::Gone,
-        Fault::Refused(_) => ArrayFault::Failed,
-        Fault::Failed(_) => ArrayFault::Failed,
+        Error::Refused(Refusal::InsufficientResources) => ArrayFault::NoMemory,
+        Error::Failed(NtStatus::InsufficientResources) => ArrayFault::NoMemory,
+        Error::Failed(NtStatus::MediaWriteProtected) => ArrayFault::Protected,
+        Error::Failed(NtStatus::NoSuchDevice) => ArrayFault::Gone,
+        Error::Failed(NtStatus::DeletePending) => ArrayFault::Gone,
+        Error::Refused(_) => ArrayFault::Failed,
+        Error::Failed(_) => ArrayFault::Failed,
     }
 }

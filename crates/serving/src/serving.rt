@@ -5,7 +5,7 @@ ghost use Rattle.std.specs.Result.{result_err};
 ghost use Rattle.settings.specs.InRange.{AreInRange};
 ghost use Rattle.serving.specs.Serving.{IsServed, IsStartFault, fault_of_end, fault_of_open, new_array};
 
-use crate::faults::Fault;
+use crate::faults::Error;
 use crate::served::Served;
 use compose::Refusal;
 use disk::SparseDisk;
@@ -30,7 +30,7 @@ pub fn serve_disk<C: Read + Drop, R: Read, W: Write>(
     partition: u8,
     input: &mut R,
     out: &mut W,
-) -> Result<(), Fault>
+) -> Result<(), Error>
     ensures served { IsServed (C.remaining config) partition (R.remaining input.old) (W.contents out.old) (result_err result) (R.remaining input.new) (W.contents out.new) }
 {
     let config = read_settings(alloc, config)?;
@@ -39,14 +39,14 @@ pub fn serve_disk<C: Read + Drop, R: Read, W: Write>(
 }
 
 /// Returns how the program ends for a session that ended so.
-pub(crate) fn outcome(end: End) -> Result<(), Fault>
+pub(crate) fn outcome(end: End) -> Result<(), Error>
     ensures { result_err result ≡ fault_of_end end }
 {
     match end {
         End::Left => Ok(()),
-        End::Malformed => Err(Fault::Malformed),
-        End::Input => Err(Fault::InputEnded),
-        End::Output => Err(Fault::OutputFailed),
+        End::Malformed => Err(Error::Malformed),
+        End::Input => Err(Error::InputEnded),
+        End::Output => Err(Error::OutputFailed),
     }
 }
 
@@ -55,7 +55,7 @@ fn start(
     alloc: Global,
     config: Config,
     partition: u8,
-) -> Result<Served<MemAdapter<SparseDisk>>, Fault>
+) -> Result<Served<MemAdapter<SparseDisk>>, Error>
     requires { AreInRange config }
     ensures content { IfOk result (λ disk. disk ≡ new_array config partition) }
     ensures fault { IfErr result (IsStartFault config partition) }
@@ -67,13 +67,13 @@ fn start(
 }
 
 /// The fault of a volume that can't be opened.
-fn open_fault(fault: OpenFault) -> Fault
+fn open_fault(fault: OpenFault) -> Error
     ensures { result ≡ fault_of_open fault }
 {
     match fault {
-        OpenFault::Start(fault) => Fault::Startup(startup::Fault::Start(fault)),
-        OpenFault::Refused(Refusal::InvalidParameter) => Fault::NoPartition,
+        OpenFault::Start(fault) => Error::Startup(startup::Error::Start(fault)),
+        OpenFault::Refused(Refusal::InvalidParameter) => Error::NoPartition,
         // A new stack has handles and numbers enough.
-        OpenFault::Refused(_) => Fault::NoMemory,
+        OpenFault::Refused(_) => Error::NoMemory,
     }
 }

@@ -7,10 +7,10 @@ ghost use Rattle.clap.specs.Words.{app_of, found_of, rule_of};
 ghost use Rattle.clap.specs.Walk.{rows_of};
 ghost use Rattle.clap.specs.declared.error.ErrorKind.TheVariants.{OutOfMemory};
 ghost use Rattle.serving.specs.declared.words.asked.Asked.{Asked};
-ghost use Rattle.serving.specs.declared.faults.Fault.TheVariants.{NoMemory, Usage};
+ghost use Rattle.serving.specs.declared.faults.Error.TheVariants.{NoMemory, Usage};
 ghost use Rattle.serving.specs.CommandLine.{AsksForNothing, IsAsked, IsFoundIn, SpellsPartition, argument_rule, create_rule, disk_rule, program};
 
-use crate::faults::Fault;
+use crate::faults::Error;
 use crate::words::asked::Asked;
 use clap::error::ErrorKind;
 use clap::{Arg, ArgAction, ArgMatches, Command};
@@ -21,13 +21,13 @@ use std::convert::AsStr;
 ///
 /// # Errors
 ///
-/// [`Fault::NoMemory`] where memory was refused, else [`Fault::Usage`] where the words ask for nothing.
-pub fn command<'a, S: AsStr>(alloc: Global, words: &'a [S]) -> Result<Asked<'a>, Fault>
+/// [`Error::NoMemory`] where memory was refused, else [`Error::Usage`] where the words ask for nothing.
+pub fn command<'a, S: AsStr>(alloc: Global, words: &'a [S]) -> Result<Asked<'a>, Error>
     ensures asked { IfOk result (IsAsked (map S.text words.now)) }
     ensures fault { IfErr result (λ fault. (fault ≡ NoMemory) ⊎ ((fault ≡ Usage) × AsksForNothing (map S.text words.now))) }
 {
     let Ok(grammar) = grammar(alloc) else {
-        return Err(Fault::NoMemory);
+        return Err(Error::NoMemory);
     };
     match grammar.try_get_matches_from(words) {
         Ok(matches) => asked_by(&matches),
@@ -71,13 +71,13 @@ fn argument<'a>(alloc: Global, name: &'a str, required: bool) -> Arg<'a>
         .action(ArgAction::Set)
 }
 
-fn asked_by<'a>(matches: &ArgMatches<'a>) -> Result<Asked<'a>, Fault>
+fn asked_by<'a>(matches: &ArgMatches<'a>) -> Result<Asked<'a>, Error>
     ensures found { IfOk result (IsFoundIn (rows_of (found_of matches.now))) }
     ensures fault { IfErr result (λ fault. fault ≡ Usage) }
     ensures none { IfErr result (λ _. (asked : Asked) → ¬ (IsFoundIn (rows_of (found_of matches.now)) asked)) }
 {
     let Some(config) = matches.get_str("CONFIG") else {
-        return Err(Fault::Usage);
+        return Err(Error::Usage);
     };
     let disk = matches.get_str("disk");
     let create = matches.get_flag("create");
@@ -101,29 +101,29 @@ fn asked_by<'a>(matches: &ArgMatches<'a>) -> Result<Asked<'a>, Fault>
 }
 
 /// A number of decimal digits, below 256.
-fn number(word: &str) -> Result<u8, Fault>
+fn number(word: &str) -> Result<u8, Error>
     ensures spelled { IfOk result (SpellsPartition word.now) }
     ensures fault { IfErr result (λ fault. fault ≡ Usage) }
     ensures none { IfErr result (λ _. (n : ℕ) → ¬ (SpellsPartition word.now n)) }
 {
     // A plus sign would be taken by `parse`.
     if word.starts_with('+') {
-        return Err(Fault::Usage);
+        return Err(Error::Usage);
     }
     match word.parse::<u8>() {
         Ok(number) => Ok(number),
-        Err(_) => Err(Fault::Usage),
+        Err(_) => Err(Error::Usage),
     }
 }
 
 /// Returns what it means that the words were refused.
-fn fault_of(kind: ErrorKind) -> Fault
+fn fault_of(kind: ErrorKind) -> Error
     ensures memory { kind ≡ OutOfMemory → result ≡ NoMemory }
     ensures usage { kind ≢ OutOfMemory → result ≡ Usage }
     ensures either { (result ≡ NoMemory) ⊎ (result ≡ Usage) }
 {
     match kind {
-        ErrorKind::OutOfMemory => Fault::NoMemory,
-        _ => Fault::Usage,
+        ErrorKind::OutOfMemory => Error::NoMemory,
+        _ => Error::Usage,
     }
 }

@@ -2,11 +2,11 @@
 //! or draws a trace.
 //!
 //! What its words ask for, what is printed and which line and exit status a fault has is promised by the crate
-//! `judging` ([`command`], [`check`], [`record_script`], [`Fault`]) and by `startup` ([`ended`]). Here are its
+//! `judging` ([`command`], [`check`], [`record_script`], [`Error`]) and by `startup` ([`ended`]). Here are its
 //! arguments, files and output alone, of which nothing is promised: no contract says what a file holds.
 #![tactic(auto)]
 
-use judging::Fault;
+use judging::Error;
 use judging::checking::{check, check_any_cut};
 use judging::drawing::draw;
 use judging::input::open;
@@ -26,11 +26,11 @@ const BUFFER: usize = 65_536;
 const EVERY: u64 = 100_000;
 
 /// Does what the command line asks for.
-fn run(rt: &HostRuntime) -> Result<Verdict, Fault> {
+fn run(rt: &HostRuntime) -> Result<Verdict, Error> {
     let alloc = rt.alloc();
     let words = match env::args(rt) {
         Ok(words) => words.collect::<Vec<String>>(alloc)?,
-        Err(error) => return Err(fault_of(&error, Fault::Usage)),
+        Err(error) => return Err(fault_of(&error, Error::Usage)),
     };
     match command(alloc, words.as_slice())? {
         Command::Check {
@@ -60,7 +60,7 @@ fn judge<W: Write>(
     config: &str,
     trace: &str,
     progress: &mut Progress<W>,
-) -> Result<Verdict, Fault> {
+) -> Result<Verdict, Error> {
     let alloc = rt.alloc();
     let config = open(rt, config);
     if trace == "-" {
@@ -75,7 +75,7 @@ fn judge_any_cut<W: Write>(
     config: &str,
     trace: &str,
     progress: &mut Progress<W>,
-) -> Result<Verdict, Fault> {
+) -> Result<Verdict, Error> {
     let alloc = rt.alloc();
     let config = open(rt, config);
     if trace == "-" {
@@ -85,11 +85,11 @@ fn judge_any_cut<W: Write>(
 }
 
 /// Writes the trace of the script at a path, or of that of standard input.
-fn write_trace(rt: &HostRuntime, config: &str, script: &str) -> Result<Verdict, Fault> {
+fn write_trace(rt: &HostRuntime, config: &str, script: &str) -> Result<Verdict, Error> {
     let alloc = rt.alloc();
     let config = open(rt, config);
     let Ok(mut out) = BufWriter::with_capacity(alloc, BUFFER, rt.stdout()) else {
-        return Err(Fault::NoMemory);
+        return Err(Error::NoMemory);
     };
     if script == "-" {
         record_script(alloc, config, rt.stdin(), &mut out)?;
@@ -100,10 +100,10 @@ fn write_trace(rt: &HostRuntime, config: &str, script: &str) -> Result<Verdict, 
 }
 
 /// Draws the trace at a path, or that of standard input.
-fn draw_trace(rt: &HostRuntime, trace: &str, events: bool) -> Result<Verdict, Fault> {
+fn draw_trace(rt: &HostRuntime, trace: &str, events: bool) -> Result<Verdict, Error> {
     let alloc = rt.alloc();
     let Ok(mut out) = BufWriter::with_capacity(alloc, BUFFER, rt.stdout()) else {
-        return Err(Fault::NoMemory);
+        return Err(Error::NoMemory);
     };
     if trace == "-" {
         return draw(alloc, rt.stdin(), events, &mut out);

@@ -1,16 +1,16 @@
 //! The program: runs a script of events through a stack over a disk in memory, and prints the trace, or runs clients in
 //! threads of their own over one, and prints their tally.
 //!
-//! What its words ask for, what is printed and which line and exit status a fault has is promised by the crate `commands`
-//! ([`command`], [`trace`], [`clients`], [`Fault`]) and by `startup` ([`ended`]). Here are its arguments, files, threads
-//! and output alone, of which nothing is promised: no contract says what a file holds.
+//! What its words ask for, what is printed and which line and exit status a fault has is promised by the crate
+//! `commands` ([`command`], [`trace`], [`clients`], [`Error`]) and by `startup` ([`ended`]). Here are its arguments,
+//! files, threads and output alone, of which nothing is promised: no contract says what a file holds.
 #![tactic(auto)]
 
 use commands::clients::clients;
 use commands::trace::trace;
 use commands::words::asked::Command;
 use commands::words::command;
-use commands::{Fault, input};
+use commands::{Error, input};
 use startup::{Verdict, ended, fault_of};
 use std::env;
 use std::process::ExitCode;
@@ -18,11 +18,11 @@ use std::sync::Wait;
 use std::thread::Threads;
 
 /// Does what the command line asks for. Clients run in threads of `host`.
-fn run<H: Threads + Wait + Sync>(rt: &HostRuntime, host: &H) -> Result<Verdict, Fault> {
+fn run<H: Threads + Wait + Sync>(rt: &HostRuntime, host: &H) -> Result<Verdict, Error> {
     let alloc = rt.alloc();
     let words = match env::args(rt) {
         Ok(words) => words.collect::<Vec<String>>(alloc)?,
-        Err(error) => return Err(fault_of(&error, Fault::Usage)),
+        Err(error) => return Err(fault_of(&error, Error::Usage)),
     };
     match command(alloc, words.as_slice())? {
         Command::Trace { config, script } => {

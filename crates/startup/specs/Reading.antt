@@ -6,8 +6,8 @@ use Rattle.settings.specs.declared.ConfigFault.{ConfigFault}
 use Rattle.settings.specs.declared.ConfigFault.TheVariants.{NotToml, NoMemory as WantOfMemory}
 use Rattle.settings.specs.Faults.{text_fault}
 use Rattle.settings.specs.Settings.{AreSettingsOf}
-use Rattle.startup.specs.declared.faults.Fault.{Fault}
-use Rattle.startup.specs.declared.faults.Fault.TheVariants.{ConfigUnreadable, Settings, Start, NoMemory}
+use Rattle.startup.specs.declared.faults.Error.{Error}
+use Rattle.startup.specs.declared.faults.Error.TheVariants.{ConfigUnreadable, Settings, Start, NoMemory}
 
 -- a text is all that an input has, where that is known
 abbrev pub IsAllOf : Option (List ℕ) → List ℕ → Type 0
@@ -24,14 +24,14 @@ abbrev pub settings_fault : List ℕ → Option ConfigFault
 settings_fault text = if is_utf8 text then text_fault text else Some NotToml
 
 -- a fault of settings is that of all the text that an input has, or want of memory
-abbrev pub HasFault : Option (List ℕ) → Fault → Type 0
+abbrev pub HasFault : Option (List ℕ) → Error → Type 0
 HasFault input ConfigUnreadable = Unit {0}
 HasFault input (Settings fault) = (text : List ℕ) × IsAllOf input text × ((settings_fault text ≡ Some fault) ⊎ (fault ≡ WantOfMemory))
 HasFault input (Start fault) = Unit {0}
 HasFault input NoMemory = Unit {0}
 
 -- why there are no settings
-abbrev pub IsUnread : Fault → Type 0
+abbrev pub IsUnread : Error → Type 0
 IsUnread ConfigUnreadable = Unit {0}
 IsUnread (Settings fault) = Unit {0}
 IsUnread (Start fault) = ⊥

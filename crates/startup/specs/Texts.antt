@@ -6,8 +6,8 @@ use Rattle.mbr.specs.declared.MbrFault.TheVariants.{ShortSector, NoSignature, Em
 use Rattle.compose.specs.declared.StartFault.{StartFault}
 use Rattle.compose.specs.declared.StartFault.TheVariants.{Settings as WrongSettings, Device as FailedCommand, Mbr as WrongTable, NoMemory as WantOfMemory}
 use Rattle.settings.specs.FaultTexts.{text_of as settings_text}
-use Rattle.startup.specs.declared.faults.Fault.{Fault}
-use Rattle.startup.specs.declared.faults.Fault.TheVariants.{ConfigUnreadable, Settings, Start, NoMemory}
+use Rattle.startup.specs.declared.faults.Error.{Error}
+use Rattle.startup.specs.declared.faults.Error.TheVariants.{ConfigUnreadable, Settings, Start, NoMemory}
 
 -- what is wrong with a partition table
 abbrev pub mbr_text : MbrFault → List ℕ
@@ -26,7 +26,7 @@ start_text (WrongTable fault) = codes "mbr: " ++ mbr_text fault
 start_text WantOfMemory = codes "no memory"
 
 -- the text of a fault
-abbrev pub text_of : Fault → List ℕ
+abbrev pub text_of : Error → List ℕ
 text_of ConfigUnreadable = codes "cannot read CONFIG"
 text_of (Settings fault) = settings_text fault
 text_of (Start fault) = start_text fault

@@ -2,16 +2,15 @@
 
 ghost use Rattle.std.specs.Prelude.{◌≡◌};
 ghost use Rattle.startup.specs.Texts.{mbr_text};
-ghost use Rattle.startup.specs.declared.faults.Fault.TheVariants.{NoMemory, Settings};
+ghost use Rattle.startup.specs.declared.faults.Error.TheVariants.{NoMemory, Settings};
 
 use compose::{MbrFault, StartFault};
 use settings::ConfigFault;
 use std::alloc::AllocError;
-use std::error::Error;
 use std::fmt;
 
 #[derive(Debug, Clone, Copy, PartialEq, Eq)]
-pub enum Fault {
+pub enum Error {
     ConfigUnreadable,
     Settings(ConfigFault),
     /// No stack of the settings could be started.
@@ -20,7 +19,7 @@ pub enum Fault {
 }
 
 /// What is said of the fault, without the program's name.
-impl fmt::Display for Fault {
+impl fmt::Display for Error {
     ghost use Rattle.std.specs.Prelude.{Some};
     ghost use Rattle.startup.specs.Texts.{text_of};
 
@@ -28,13 +27,13 @@ impl fmt::Display for Fault {
 
     fn fmt<W: fmt::Write>(&self, f: &mut fmt::Formatter<W>) -> fmt::Result {
         match self {
-            Fault::ConfigUnreadable => f.write_str("cannot read CONFIG"),
-            Fault::Settings(fault) => write!(f, "{fault}"),
-            Fault::Start(StartFault::Settings) => f.write_str("config: out of range"),
-            Fault::Start(StartFault::Device(status)) => write!(f, "start: {}", status.name()),
-            Fault::Start(StartFault::Mbr(fault)) => write!(f, "mbr: {}", words_for(*fault)),
-            Fault::Start(StartFault::NoMemory) => f.write_str("no memory"),
-            Fault::NoMemory => f.write_str("no memory"),
+            Error::ConfigUnreadable => f.write_str("cannot read CONFIG"),
+            Error::Settings(fault) => write!(f, "{fault}"),
+            Error::Start(StartFault::Settings) => f.write_str("config: out of range"),
+            Error::Start(StartFault::Device(status)) => write!(f, "start: {}", status.name()),
+            Error::Start(StartFault::Mbr(fault)) => write!(f, "mbr: {}", words_for(*fault)),
+            Error::Start(StartFault::NoMemory) => f.write_str("no memory"),
+            Error::NoMemory => f.write_str("no memory"),
         }
     }
 }
@@ -53,20 +52,20 @@ fn words_for(fault: MbrFault) -> &'static str
     }
 }
 
-impl Error for Fault {}
+impl std::error::Error for Error {}
 
-impl From<AllocError> for Fault {
+impl From<AllocError> for Error {
     ghost from_gives = { λ _ fault. fault ≡ NoMemory };
 
-    fn from(_error: AllocError) -> Fault {
-        Fault::NoMemory
+    fn from(_error: AllocError) -> Error {
+        Error::NoMemory
     }
 }
 
-impl From<ConfigFault> for Fault {
+impl From<ConfigFault> for Error {
     ghost from_gives = { λ why fault. fault ≡ Settings why };
 
-    fn from(fault: ConfigFault) -> Fault {
-        Fault::Settings(fault)
+    fn from(fault: ConfigFault) -> Error {
+        Error::Settings(fault)
     }
 }

@@ -3,7 +3,7 @@
 //!
 //! It promises to the crate above, by the contract of [`read_settings`] (`read`, `in_range`), that settings are those of all
 //! that their input has; by [`start`] (`view`, `fault`) and [`open`] (`volume`, `fault`), that the stack and the volume are
-//! those of the settings' disk, zeros but for its partition table, or why there is none; by the text of [`Fault`], the words
+//! those of the settings' disk, zeros but for its partition table, or why there is none; by the text of [`Error`], the words
 //! for each fault; by [`ended`] (`status`, `silent`) and [`say`], the exit status, and that just the line of a fault is
 //! written. It does not promise that there is memory, nor which of several faults is told.
 #![tactic(auto)]
@@ -16,6 +16,6 @@ mod starting;
 
 pub use apart::start_apart;
 pub use ending::{Ending, Verdict, ended, fault_of, say};
-pub use faults::Fault;
+pub use faults::Error;
 pub use reading::{contents, read_settings, settings_of};
 pub use starting::{open, start};

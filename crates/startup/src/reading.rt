@@ -6,7 +6,7 @@ ghost use Rattle.settings.specs.InRange.{AreInRange};
 ghost use Rattle.settings.specs.Settings.{AreSettingsOf};
 ghost use Rattle.startup.specs.Reading.{AreRead, HasFault, IsAllOf, IsUnread, settings_fault};
 
-use crate::Fault;
+use crate::Error;
 use crate::ending::fault_of;
 use settings::{Config, ConfigFault, document};
 use std::alloc::Global;
@@ -17,9 +17,9 @@ use std::io::Read;
 ///
 /// # Errors
 ///
-/// [`Fault::ConfigUnreadable`] where the input can't be read; [`Fault::Settings`] as [`settings_of`] says;
-/// [`Fault::NoMemory`].
-pub fn read_settings<R: Read + Drop>(alloc: Global, input: R) -> Result<Config, Fault>
+/// [`Error::ConfigUnreadable`] where the input can't be read; [`Error::Settings`] as [`settings_of`] says;
+/// [`Error::NoMemory`].
+pub fn read_settings<R: Read + Drop>(alloc: Global, input: R) -> Result<Config, Error>
     ensures in_range { IfOk result AreInRange }
     ensures read { IfOk result (AreRead (R.remaining input)) }
     ensures fault { IfErr result IsUnread }
@@ -27,7 +27,7 @@ pub fn read_settings<R: Read + Drop>(alloc: Global, input: R) -> Result<Config, 
 {
     match contents(alloc, input) {
         Ok(text) => Ok(settings_of(alloc, text.as_slice())?),
-        Err(error) => Err(fault_of(&error, Fault::ConfigUnreadable)),
+        Err(error) => Err(fault_of(&error, Error::ConfigUnreadable)),
     }
 }
 

@@ -1,7 +1,7 @@
 //! Traces that are judged, and one that is recorded and drawn.
 
 use crate::expect::same;
-use judging::Fault;
+use judging::Error;
 use judging::checking::{check, check_any_cut};
 use judging::drawing::draw;
 use judging::progress::Progress;
@@ -128,7 +128,7 @@ fn a_cut_off_the_grid_is_legal_where_any_will_do(rt: HostRuntime) -> Result<(), 
 }
 
 /// The fault of a trace.
-fn fault(alloc: Global, config: &str, trace: &str) -> Option<Fault> {
+fn fault(alloc: Global, config: &str, trace: &str) -> Option<Error> {
     let mut out: Vec<u8> = Vec::new(alloc);
     check(
         alloc,
@@ -142,7 +142,7 @@ fn fault(alloc: Global, config: &str, trace: &str) -> Option<Fault> {
 
 #[test]
 fn a_bad_line_is_named(rt: HostRuntime) -> Result<(), Fail> {
-    let wanted = Fault::BadLine {
+    let wanted = Error::BadLine {
         line: 2,
         column: 17,
     };

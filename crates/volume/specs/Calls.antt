@@ -5,8 +5,8 @@ use Rattle.sector.specs.Splice.{splice}
 use Rattle.io_manager.specs.declared.Refusal.{Refusal}
 use Rattle.io_manager.specs.declared.Refusal.TheVariants.{InvalidParameter, DeviceBusy, InsufficientResources}
 use Rattle.io_manager.specs.Calls.{number_limit}
-use Rattle.volume.specs.declared.Fault.{Fault}
-use Rattle.volume.specs.declared.Fault.TheVariants.{Refused, Failed}
+use Rattle.volume.specs.declared.Error.{Error}
+use Rattle.volume.specs.declared.Error.TheVariants.{Refused, Failed}
 use Rattle.volume.specs.Shown.{Content, VolumeView}
 
 -- sectors of the longest request
@@ -34,7 +34,7 @@ pub record IsSameDisk (old new : VolumeView) : Type 0 where
   pub asked : new.next_request ≤ old.next_request + 1
 
 -- a request that was refused was not sent; one that failed was
-abbrev pub WasSent : VolumeView → VolumeView → Fault → Type 0
+abbrev pub WasSent : VolumeView → VolumeView → Error → Type 0
 WasSent old new (Refused reason) = new.next_command ≡ old.next_command
 WasSent old new (Failed status) = old.next_command < new.next_command
 
@@ -46,7 +46,7 @@ pub record Reads (c : Content) (offset count : ℕ) (bytes : List ℕ) : Type 0 
   pub bytes_are : bytes ≡ slice_range c.bytes offset (offset + count)
 
 -- a request that was refused, or sent and ended with another status than SUCCESS
-abbrev pub IsFault : VolumeView → Type 0 → Fault → Type 0
+abbrev pub IsFault : VolumeView → Type 0 → Error → Type 0
 IsFault v InBounds (Refused reason) = IsRefusal v InBounds reason
 IsFault v InBounds (Failed status) = InBounds × (status ≢ Success)
 
@@ -74,7 +74,7 @@ pub record WritesSome (old : VolumeView) (offset : ℕ) (bytes : List ℕ) (new 
   pub writes : Writes old offset mixed new
 
 -- a refused write changed nothing
-abbrev pub IsWriteFault : VolumeView → ℕ → List ℕ → Fault → VolumeView → Type 0
+abbrev pub IsWriteFault : VolumeView → ℕ → List ℕ → Error → VolumeView → Type 0
 IsWriteFault old offset bytes (Refused reason) new = IsRefusal old (AreInBounds old.content offset (length bytes)) reason × IsSameDisk old new
 IsWriteFault old offset bytes (Failed status) new =
     AreInBounds old.content offset (length bytes) × (status ≢ Success) × WritesSome old offset bytes new

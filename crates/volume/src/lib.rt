@@ -14,7 +14,6 @@
 use compose::StartFault;
 use io_manager::Refusal;
 use ntstatus::NtStatus;
-use thiserror::Error;
 
 mod carrying;
 mod opening;
@@ -32,8 +31,8 @@ pub struct Sizes {
 }
 
 /// Why a request did not succeed.
-#[derive(Debug, Clone, Copy, PartialEq, Eq, Error)]
-pub enum Fault {
+#[derive(Debug, Clone, Copy, PartialEq, Eq, thiserror::Error)]
+pub enum Error {
     /// It was not sent, and nothing changed. [`Refusal::InvalidParameter`] just where its bytes are no whole sectors of
     /// the partition, or more than 65,536 sectors; [`Refusal::InsufficientResources`] where memory was refused;
     /// [`Refusal::DeviceBusy`] once 2^62 - 1 requests were made.
@@ -45,7 +44,7 @@ pub enum Fault {
 }
 
 /// Why no volume could be opened over an adapter; it is spent.
-#[derive(Debug, Clone, Copy, PartialEq, Eq, Error)]
+#[derive(Debug, Clone, Copy, PartialEq, Eq, thiserror::Error)]
 pub enum OpenFault {
     /// No stack could be started.
     #[error("{0}")]

@@ -6,7 +6,7 @@ ghost use Rattle.volume.specs.Ready.{IsReady};
 ghost use Rattle.volume.specs.Calls.{AreInBounds, IsFault, IsSameDisk, IsWriteFault, Reads, WasSent, Writes};
 
 use crate::carrying::{carry_out, take_labels};
-use crate::{Fault, Sizes};
+use crate::{Error, Sizes};
 use adapter::Adapter;
 use compose::{Event, Handle, Stack};
 use ntstatus::NtStatus;
@@ -60,8 +60,8 @@ impl<A: Adapter> Volume<A> {
     ///
     /// # Errors
     ///
-    /// As [`Fault`] says. Nothing has changed.
-    pub fn read(&mut self, alloc: Global, offset: u64, buffer: Bytes) -> Result<Bytes, Fault>
+    /// As [`Error`] says. Nothing has changed.
+    pub fn read(&mut self, alloc: Global, offset: u64, buffer: Bytes) -> Result<Bytes, Error>
         ensures reads { MatchResult result (Reads self.old.content offset (length buffer)) (IsFault self.old (AreInBounds self.old.content offset (length buffer))) }
         ensures sent { IfErr result (WasSent self.old self.new) }
         ensures same { IsSameDisk self.old self.new }
@@ -73,11 +73,11 @@ impl<A: Adapter> Volume<A> {
         };
         let answer = match carry_out(&mut self.stack, alloc, event) {
             Ok(answer) => answer,
-            Err(reason) => return Err(Fault::Refused(reason)),
+            Err(reason) => return Err(Error::Refused(reason)),
         };
         match answer.status {
             NtStatus::Success => Ok(answer.bytes),
-            status => Err(Fault::Failed(status)),
+            status => Err(Error::Failed(status)),
         }
     }
 
@@ -86,15 +86,15 @@ impl<A: Adapter> Volume<A> {
     ///
     /// # Errors
     ///
-    /// As [`Fault`] says. Where it was refused nothing has changed; where it failed, each sector of the write is as it was
-    /// or was written, and nothing else has changed.
+    /// As [`Error`] says. Where it was refused nothing has changed; where it failed, each sector of the write is as it
+    /// was or was written, and nothing else has changed.
     pub fn write(
         &mut self,
         alloc: Global,
         offset: u64,
         bytes: Bytes,
         through: bool,
-    ) -> Result<(), Fault>
+    ) -> Result<(), Error>
         ensures in_bounds { IfOk result (λ _. AreInBounds self.old.content offset (length bytes)) }
         ensures writes { MatchResult result (λ _. Writes self.old offset bytes self.new) (λ fault. IsWriteFault self.old offset bytes fault self.new) }
         ensures sent { IfErr result (WasSent self.old self.new) }
@@ -107,11 +107,11 @@ impl<A: Adapter> Volume<A> {
         };
         let answer = match carry_out(&mut self.stack, alloc, event) {
             Ok(answer) => answer,
-            Err(reason) => return Err(Fault::Refused(reason)),
+            Err(reason) => return Err(Error::Refused(reason)),
         };
         match answer.status {
             NtStatus::Success => Ok(()),
-            status => Err(Fault::Failed(status)),
+            status => Err(Error::Failed(status)),
         }
     }
 
@@ -119,8 +119,8 @@ impl<A: Adapter> Volume<A> {
     ///
     /// # Errors
     ///
-    /// As [`Fault`] says, but never [`Refusal::InvalidParameter`]. Nothing has changed.
-    pub fn flush(&mut self, alloc: Global) -> Result<(), Fault>
+    /// As [`Error`] says, but never [`Refusal::InvalidParameter`]. Nothing has changed.
+    pub fn flush(&mut self, alloc: Global) -> Result<(), Error>
         ensures flushes { IfErr result (IsFault self.old ⊤) }
         ensures sent { MatchResult result (λ _. self.old.next_command < self.new.next_command) (WasSent self.old self.new) }
         ensures same { IsSameDisk self.old self.new }
@@ -130,11 +130,11 @@ impl<A: Adapter> Volume<A> {
         };
         let answer = match carry_out(&mut self.stack, alloc, event) {
             Ok(answer) => answer,
-            Err(reason) => return Err(Fault::Refused(reason)),
+            Err(reason) => return Err(Error::Refused(reason)),
         };
         match answer.status {
             NtStatus::Success => Ok(()),
-            status => Err(Fault::Failed(status)),
+            status => Err(Error::Failed(status)),
         }
     }
 

@@ -15,8 +15,8 @@ use Rattle.judging.specs.Told.{IsFirstBad}
 use Rattle.judging.specs.declared.told.Told.{Told}
 use Rattle.judging.specs.declared.opened.Standard.{Standard}
 use Rattle.judging.specs.declared.checking.Stop.{Stop}
-use Rattle.judging.specs.declared.faults.Fault.{Fault}
-use Rattle.judging.specs.declared.faults.Fault.TheVariants.{TraceUnreadable, BadLine, OutputFailed, NoMemory}
+use Rattle.judging.specs.declared.faults.Error.{Error}
+use Rattle.judging.specs.declared.faults.Error.TheVariants.{TraceUnreadable, BadLine, OutputFailed, NoMemory}
 use Rattle.judging.specs.Checked.{arrays_of, rules_by, opening_of, IsFirstBroken, Says, PrintsVerdict, IsCheckFault}
 
 -- labels are a run, or these are the first that is broken and its rule
@@ -44,25 +44,25 @@ abbrev pub PrintsBy : Standard → Option (List ℕ) → Option (List ℕ) → O
 PrintsBy standard trace old new verdict = (config : Option (List ℕ)) → AreRead config standard.config → PrintsVerdict standard.any_cut config trace old new verdict
 
 -- the line of this number spells no label, or memory was refused
-abbrev pub IsLineFault : List ℕ → ℕ → Fault → Type 0
+abbrev pub IsLineFault : List ℕ → ℕ → Error → Type 0
 IsLineFault text number (BadLine line column) = (line ≡ number) × ((label : Label) → ¬ (Spells text label))
 IsLineFault text number NoMemory = Unit {0}
 IsLineFault text number _ = ⊥
 
 -- the first bad line of a text, or want of memory
-abbrev pub IsTextFault : List (List ℕ) → Fault → Type 0
+abbrev pub IsTextFault : List (List ℕ) → Error → Type 0
 IsTextFault lines (BadLine line column) = IsFirstBad lines line
 IsTextFault lines NoMemory = Unit {0}
 IsTextFault lines _ = ⊥
 
 -- all bytes of a trace could not be had
-abbrev pub IsUnreadTrace : Fault → Type 0
+abbrev pub IsUnreadTrace : Error → Type 0
 IsUnreadTrace fault = (fault ≡ TraceUnreadable) ⊎ (fault ≡ NoMemory)
 
 -- the output failed, or memory was refused
-abbrev pub IsOutputFault : Fault → Type 0
+abbrev pub IsOutputFault : Error → Type 0
 IsOutputFault fault = (fault ≡ OutputFailed) ⊎ (fault ≡ NoMemory)
 
 -- why nothing is said, whatever gave the settings
-abbrev pub IsFaultBy : Standard → Option (List ℕ) → Fault → Type 0
+abbrev pub IsFaultBy : Standard → Option (List ℕ) → Error → Type 0
 IsFaultBy standard trace fault = (config : Option (List ℕ)) → AreRead config standard.config → IsCheckFault config trace fault

@@ -5,11 +5,11 @@ use Rattle.std.specs.declared.io.ErrorKind.{ErrorKind}
 use Rattle.std.specs.declared.io.ErrorKind.TheVariants.{OutOfMemory}
 use Rattle.script.specs.Faults.{text_of as script_text}
 use Rattle.startup.specs.Texts.{text_of as startup_text}
-use Rattle.judging.specs.declared.faults.Fault.{Fault}
-use Rattle.judging.specs.declared.faults.Fault.TheVariants.{Usage, Startup, TraceUnreadable, ScriptUnreadable, BadLine, Script, OutputFailed, NoMemory}
+use Rattle.judging.specs.declared.faults.Error.{Error}
+use Rattle.judging.specs.declared.faults.Error.TheVariants.{Usage, Startup, TraceUnreadable, ScriptUnreadable, BadLine, Script, OutputFailed, NoMemory}
 
 -- the line of a fault, without its end
-abbrev pub line_of : Fault → List ℕ
+abbrev pub line_of : Error → List ℕ
 line_of Usage = codes "usage: stackjudge check [--any-cut] CONFIG TRACE | stackjudge record CONFIG SCRIPT | stackjudge picture [--events] TRACE"
 line_of (Startup fault) = codes "stackjudge: " ++ startup_text fault
 line_of TraceUnreadable = codes "stackjudge: cannot read TRACE"
@@ -20,12 +20,12 @@ line_of OutputFailed = codes "stackjudge: output failed"
 line_of NoMemory = codes "stackjudge: no memory"
 
 -- nothing was done, since the words of the command line ask for nothing that there is
-abbrev pub is_usage : Fault → Bool
+abbrev pub is_usage : Error → Bool
 is_usage Usage = true
 is_usage _ = false
 
 -- the fault of a write that failed with an error of this kind: want of memory, or a failed output
-pub record IsOfWrite (kind : ErrorKind) (fault : Fault) : Type 0 where
+pub record IsOfWrite (kind : ErrorKind) (fault : Error) : Type 0 where
   pub memory : kind ≡ OutOfMemory → fault ≡ NoMemory
   pub output : kind ≢ OutOfMemory → fault ≡ OutputFailed
   pub either : (fault ≡ OutputFailed) ⊎ (fault ≡ NoMemory)

@@ -2,92 +2,92 @@
 
 use crate::expect::{same, same_at};
 use crate::runs::given::{Narrow, Stuck, Torn, run};
-use commands::Fault;
+use commands::Error;
 use commands::input::Input;
 use compose::{MbrFault, StartFault};
 use ntstatus::NtStatus;
 use script::ScriptFault;
 use settings::ConfigFault;
-use startup::Fault::{ConfigUnreadable, Settings, Start};
+use startup::Error::{ConfigUnreadable, Settings, Start};
 use startup::{Verdict, ended, say};
 use std::io;
 use std::io::ErrorKind;
 use std::test::Fail;
 
 /// Faults, their lines, and the exit status.
-static FAULTS: [(Fault, &str, u8); 16] = [
+static FAULTS: [(Error, &str, u8); 16] = [
     (
-        Fault::Usage,
+        Error::Usage,
         "usage: stackrun trace CONFIG SCRIPT | stackrun clients CONFIG THREADS CALLS\n",
         2,
     ),
     (
-        Fault::Startup(ConfigUnreadable),
+        Error::Startup(ConfigUnreadable),
         "stackrun: cannot read CONFIG\n",
         1,
     ),
-    (Fault::ScriptUnreadable, "stackrun: cannot read SCRIPT\n", 1),
+    (Error::ScriptUnreadable, "stackrun: cannot read SCRIPT\n", 1),
     (
-        Fault::Startup(Settings(ConfigFault::NotToml)),
+        Error::Startup(Settings(ConfigFault::NotToml)),
         "stackrun: config: not TOML\n",
         1,
     ),
     (
-        Fault::Startup(Settings(ConfigFault::UnknownKey)),
+        Error::Startup(Settings(ConfigFault::UnknownKey)),
         "stackrun: config: unknown key\n",
         1,
     ),
     (
-        Fault::Startup(Settings(ConfigFault::MissingKey)),
+        Error::Startup(Settings(ConfigFault::MissingKey)),
         "stackrun: config: missing key\n",
         1,
     ),
     (
-        Fault::Startup(Settings(ConfigFault::OutOfRange)),
+        Error::Startup(Settings(ConfigFault::OutOfRange)),
         "stackrun: config: out of range\n",
         1,
     ),
     (
-        Fault::Startup(Settings(ConfigFault::TooManyPartitions)),
+        Error::Startup(Settings(ConfigFault::TooManyPartitions)),
         "stackrun: config: too many partitions\n",
         1,
     ),
     (
-        Fault::Startup(Start(StartFault::Device(NtStatus::DeviceDataError))),
+        Error::Startup(Start(StartFault::Device(NtStatus::DeviceDataError))),
         "stackrun: start: DEVICE_DATA_ERROR\n",
         1,
     ),
     (
-        Fault::Startup(Start(StartFault::Mbr(MbrFault::EmptyEntry))),
+        Error::Startup(Start(StartFault::Mbr(MbrFault::EmptyEntry))),
         "stackrun: mbr: empty entry\n",
         1,
     ),
     (
-        Fault::Startup(Start(StartFault::Mbr(MbrFault::CoversTable))),
+        Error::Startup(Start(StartFault::Mbr(MbrFault::CoversTable))),
         "stackrun: mbr: covers table\n",
         1,
     ),
     (
-        Fault::Startup(Start(StartFault::Mbr(MbrFault::PastEnd))),
+        Error::Startup(Start(StartFault::Mbr(MbrFault::PastEnd))),
         "stackrun: mbr: past end\n",
         1,
     ),
     (
-        Fault::Script(ScriptFault::BadLine { line: 12 }),
+        Error::Script(ScriptFault::BadLine { line: 12 }),
         "stackrun: script line 12: bad line\n",
         1,
     ),
     (
-        Fault::Script(ScriptFault::OutputFailed),
+        Error::Script(ScriptFault::OutputFailed),
         "stackrun: output failed\n",
         1,
     ),
     (
-        Fault::Script(ScriptFault::NoMemory),
+        Error::Script(ScriptFault::NoMemory),
         "stackrun: no memory\n",
         1,
     ),
-    (Fault::NoMemory, "stackrun: no memory\n", 1),
+    (Error::NoMemory, "stackrun: no memory\n", 1),
 ];
 
 #[test]
@@ -96,7 +96,7 @@ fn says_each_fault(rt: HostRuntime) -> Result<(), Fail> {
         let mut faults = Vec::new(rt.alloc());
         say(&mut faults, &fault)?;
         same(&rt, &faults.as_slice(), &line.as_bytes());
-        let outcome: Result<Verdict, Fault> = Err(fault);
+        let outcome: Result<Verdict, Error> = Err(fault);
         same_at(&rt, &ended(outcome, &mut faults), &status, &line);
     }
     Ok(())

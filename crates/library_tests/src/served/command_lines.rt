@@ -1,7 +1,7 @@
 //! Command lines of the program `nbd_disk`.
 
 use crate::expect::same_at;
-use serving::{Asked, Fault, command};
+use serving::{Asked, Error, command};
 use std::alloc::Global;
 
 /// Command lines, the path that each asks for, and the partition.
@@ -21,7 +21,7 @@ static REFUSED: [&[&str]; 6] = [
 ];
 
 /// Whether a command line is answered so.
-fn is_answered(alloc: Global, words: &[&str], wanted: Result<Asked<'_>, Fault>) -> bool {
+fn is_answered(alloc: Global, words: &[&str], wanted: Result<Asked<'_>, Error>) -> bool {
     command(alloc, words) == wanted
 }
 
@@ -42,7 +42,7 @@ fn reads_a_command_line(rt: HostRuntime) {
 #[test]
 fn refuses_other_command_lines(rt: HostRuntime) {
     for words in REFUSED {
-        let is_refused = is_answered(rt.alloc(), words, Err(Fault::Usage));
+        let is_refused = is_answered(rt.alloc(), words, Err(Error::Usage));
         same_at(&rt, &is_refused, &true, &words);
     }
 }

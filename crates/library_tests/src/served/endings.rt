@@ -3,46 +3,46 @@
 use crate::expect::{same, same_at};
 use compose::{MbrFault, StartFault};
 use ntstatus::NtStatus;
-use serving::{Fault, serve_disk};
+use serving::{Error, serve_disk};
 use settings::ConfigFault;
-use startup::Fault::{ConfigUnreadable, Settings, Start};
+use startup::Error::{ConfigUnreadable, Settings, Start};
 use startup::{Verdict, ended, say};
 use std::io;
 use std::io::{ErrorKind, Read, Write};
 use std::test::Fail;
 
 /// Faults, their lines, and the exit status.
-static FAULTS: [(Fault, &str, u8); 10] = [
+static FAULTS: [(Error, &str, u8); 10] = [
     (
-        Fault::Usage,
+        Error::Usage,
         "usage: nbd_disk CONFIG [PARTITION] [--disk FILE [--create]]\n",
         2,
     ),
     (
-        Fault::Startup(ConfigUnreadable),
+        Error::Startup(ConfigUnreadable),
         "nbd_disk: cannot read CONFIG\n",
         1,
     ),
     (
-        Fault::Startup(Settings(ConfigFault::MissingKey)),
+        Error::Startup(Settings(ConfigFault::MissingKey)),
         "nbd_disk: config: missing key\n",
         1,
     ),
     (
-        Fault::Startup(Start(StartFault::Device(NtStatus::DeviceDataError))),
+        Error::Startup(Start(StartFault::Device(NtStatus::DeviceDataError))),
         "nbd_disk: start: DEVICE_DATA_ERROR\n",
         1,
     ),
     (
-        Fault::Startup(Start(StartFault::Mbr(MbrFault::PastEnd))),
+        Error::Startup(Start(StartFault::Mbr(MbrFault::PastEnd))),
         "nbd_disk: mbr: past end\n",
         1,
     ),
-    (Fault::NoPartition, "nbd_disk: no such partition\n", 1),
-    (Fault::Malformed, "nbd_disk: malformed input\n", 1),
-    (Fault::InputEnded, "nbd_disk: input ended\n", 1),
-    (Fault::OutputFailed, "nbd_disk: output failed\n", 1),
-    (Fault::NoMemory, "nbd_disk: no memory\n", 1),
+    (Error::NoPartition, "nbd_disk: no such partition\n", 1),
+    (Error::Malformed, "nbd_disk: malformed input\n", 1),
+    (Error::InputEnded, "nbd_disk: input ended\n", 1),
+    (Error::OutputFailed, "nbd_disk: output failed\n", 1),
+    (Error::NoMemory, "nbd_disk: no memory\n", 1),
 ];
 
 #[test]
@@ -51,7 +51,7 @@ fn says_each_fault(rt: HostRuntime) -> Result<(), Fail> {
         let mut faults = Vec::new(rt.alloc());
         say(&mut faults, &fault)?;
         same(&rt, &faults.as_slice(), &line.as_bytes());
-        let outcome: Result<Verdict, Fault> = Err(fault);
+        let outcome: Result<Verdict, Error> = Err(fault);
         same_at(&rt, &ended(outcome, &mut faults), &status, &line);
     }
     Ok(())
@@ -129,14 +129,14 @@ fn says_what_cannot_be_read_or_written(rt: HostRuntime) -> Result<(), Fail> {
     let mut input = b"".as_slice();
     let mut out = Vec::new(alloc);
     let unread = serve_disk(alloc, Broken { kind: denied }, 0, &mut input, &mut out);
-    assert!(rt; unread == Err(Fault::Startup(ConfigUnreadable)));
+    assert!(rt; unread == Err(Error::Startup(ConfigUnreadable)));
     let refused = serve_disk(alloc, Broken { kind: memory }, 0, &mut input, &mut out);
-    assert!(rt; refused == Err(Fault::Startup(startup::Fault::NoMemory)));
+    assert!(rt; refused == Err(Error::Startup(startup::Error::NoMemory)));
     let mut broken = Broken { kind: denied };
     let unwritten = serve_disk(alloc, config.as_bytes(), 0, &mut input, &mut broken);
-    assert!(rt; unwritten == Err(Fault::OutputFailed));
+    assert!(rt; unwritten == Err(Error::OutputFailed));
     let mut broken_input = Broken { kind: denied };
     let unheard = serve_disk(alloc, config.as_bytes(), 0, &mut broken_input, &mut out);
-    assert!(rt; unheard == Err(Fault::InputEnded));
+    assert!(rt; unheard == Err(Error::InputEnded));
     Ok(())
 }

@@ -1,7 +1,7 @@
 use Rattle.std.proofs.Common.{◌≡◌, Err, false, rules, true}
 use Rattle.disk.specs.SparseDisk.{shown}
-use Rattle.startup.specs.declared.faults.Fault.TheVariants.{Start}
-use Rattle.commands.specs.declared.faults.Fault.TheVariants.{Startup}
+use Rattle.startup.specs.declared.faults.Error.TheVariants.{Start}
+use Rattle.commands.specs.declared.faults.Error.TheVariants.{Startup}
 use Rattle.commands.proofs.Beside.{disk_beside}
 use Rattle.commands.proofs.Blaming.{no_output, no_partition, no_room}
 use Rattle.commands.proofs.clients.clients.Goals as goal

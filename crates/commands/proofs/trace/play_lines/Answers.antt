@@ -1,6 +1,6 @@
 use Rattle.std.proofs.Common.{◌≡◌, Err, refl, rules}
-use Rattle.startup.specs.declared.faults.Fault.TheVariants.{Start}
-use Rattle.commands.specs.declared.faults.Fault.TheVariants.{Startup}
+use Rattle.startup.specs.declared.faults.Error.TheVariants.{Start}
+use Rattle.commands.specs.declared.faults.Error.TheVariants.{Startup}
 use Rattle.commands.proofs.Blaming.{by_play}
 use Rattle.commands.proofs.Emitted.{printed}
 use Rattle.commands.proofs.trace.play_lines.Goals as goal

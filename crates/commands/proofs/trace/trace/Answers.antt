@@ -1,6 +1,6 @@
 use Rattle.std.proofs.Common.{◌≡◌, Err, rules, subst, sym}
 use Rattle.commands.specs.Trace.{AreGiven}
-use Rattle.commands.specs.declared.faults.Fault.TheVariants.{Script}
+use Rattle.commands.specs.declared.faults.Error.TheVariants.{Script}
 use Rattle.commands.proofs.Blaming.{by_bytes, by_lines, by_reading}
 use Rattle.commands.proofs.Emitted.{given}
 use Rattle.commands.proofs.trace.trace.Goals as goal

@@ -1,6 +1,6 @@
 use Rattle.std.proofs.Common.{◌≡◌, Err, refl, rules}
-use Rattle.startup.specs.declared.faults.Fault.TheVariants.{Start}
-use Rattle.judging.specs.declared.faults.Fault.TheVariants.{Startup}
+use Rattle.startup.specs.declared.faults.Error.TheVariants.{Start}
+use Rattle.judging.specs.declared.faults.Error.TheVariants.{Startup}
 use Rattle.judging.proofs.Blaming.{by_play}
 use Rattle.judging.proofs.Emitted.{printed}
 use Rattle.judging.proofs.scripts.play_lines.Goals as goal

@@ -1,6 +1,6 @@
 use Rattle.std.proofs.Common.{◌≡◌, Err, rules, subst, sym}
 use Rattle.judging.specs.Recorded.{AreGiven}
-use Rattle.judging.specs.declared.faults.Fault.TheVariants.{Script}
+use Rattle.judging.specs.declared.faults.Error.TheVariants.{Script}
 use Rattle.judging.proofs.Blaming.{by_bytes, by_lines, by_reading}
 use Rattle.judging.proofs.Emitted.{given}
 use Rattle.judging.proofs.scripts.record_script.Goals as goal

@@ -4,8 +4,8 @@ use Rattle.clap.specs.Takes.{takes}
 use Rattle.clap.specs.declared.parser.matches.ArgMatches.{ArgMatches}
 use Rattle.clap.proofs.OnLiterals.{clap_on_literals}
 use Rattle.judging.specs.declared.words.asked.Command.{Command}
-use Rattle.judging.specs.declared.faults.Fault.{Fault}
-use Rattle.judging.specs.declared.faults.Fault.TheVariants.{NoMemory, Usage}
+use Rattle.judging.specs.declared.faults.Error.{Error}
+use Rattle.judging.specs.declared.faults.Error.TheVariants.{NoMemory, Usage}
 use Rattle.judging.specs.CommandLine.{AsksForNothing, IsAsked, IsFoundIn, program}
 use Rattle.judging.proofs.words.command.Goals as goal
 
@@ -14,7 +14,7 @@ unfolding clap_on_literals
 is_simple_program = refl
 
 -- what the program's parser found is what the words ask for
-asked : (app : App) (words : List Text) (matches : ArgMatches) (result : Result Command Fault) → app ≡ program → HasMatchesOf app words matches
+asked : (app : App) (words : List Text) (matches : ArgMatches) (result : Result Command Error) → app ≡ program → HasMatchesOf app words matches
     → IfOk result (IsFoundIn (subcommand_rows_of matches)) → IfOk result (IsAsked words)
 asked app words matches result same found h =
     subst (λ f. IfOk result (IsFoundIn f)) ((found (ap is_simple same ∙ is_simple_program)).1 ∙ ap (λ (a : App). subcommand_of a words) same) h
@@ -25,7 +25,7 @@ returns-in-Ok-try_get_matches_from-clause-asked g c =
     c.in-Ok.ensures c.in-Ok-try_get_matches_from.ensures.matches c.found_in.ensures.found
 
 -- what the program's parser found asks for nothing, and so do the words
-nothing_found : (app : App) (words : List Text) (matches : ArgMatches) (result : Result Command Fault) → app ≡ program → HasMatchesOf app words matches
+nothing_found : (app : App) (words : List Text) (matches : ArgMatches) (result : Result Command Error) → app ≡ program → HasMatchesOf app words matches
     → IfErr result (λ fault. fault ≡ Usage) → IfErr result (λ _. (command : Command) → ¬ (IsFoundIn (subcommand_rows_of matches) command))
     → IfErr result (λ fault. (fault ≡ NoMemory) ⊎ ((fault ≡ Usage) × AsksForNothing words))
 nothing_found app words matches (Ok command) same found usage none = tt
@@ -34,10 +34,10 @@ nothing_found app words matches (Err fault) same found usage none =
     inr (usage, λ _ command is. none command (subst (λ f. IsFoundIn f command) (sym rows) is))
 
 -- words that the grammar takes are refused for want of memory alone
-not_taken : (fault : Fault) (words : List Text) → (takes program words ≡ true → fault ≡ NoMemory) → (fault ≡ NoMemory) ⊎ (fault ≡ Usage)
+not_taken : (fault : Error) (words : List Text) → (takes program words ≡ true → fault ≡ NoMemory) → (fault ≡ NoMemory) ⊎ (fault ≡ Usage)
     → (fault ≡ NoMemory) ⊎ ((fault ≡ Usage) × AsksForNothing words)
 not_taken fault words memory (inl e) = inl e
-not_taken fault words memory (inr e) = inr (e, λ t command is. let both : ◌≡◌ {A = Fault} NoMemory Usage = sym (memory t) ∙ e in cc)
+not_taken fault words memory (inr e) = inr (e, λ t command is. let both : ◌≡◌ {A = Error} NoMemory Usage = sym (memory t) ∙ e in cc)
 
 pub returns-in-Ok-try_get_matches_from-clause-fault : goal.returns-in-Ok-try_get_matches_from-clause-fault
 returns-in-Ok-try_get_matches_from-clause-fault g c =

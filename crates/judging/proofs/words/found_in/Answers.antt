@@ -2,7 +2,7 @@ use Rattle.std.proofs.Common.{List, Option, Some, None, Result, IfErr, IfOk, Ok,
 use Rattle.std.proofs.lemmas.Result.{IfOk-weaker}
 use Rattle.clap.specs.Words.{Row, Text, found_of, subcommand_rows_of}
 use Rattle.clap.specs.Walk.{rows_of}
-use Rattle.judging.specs.declared.faults.Fault.{Fault}
+use Rattle.judging.specs.declared.faults.Error.{Error}
 use Rattle.judging.specs.declared.words.asked.Command.{Command}
 use Rattle.judging.specs.CommandLine.{HasWords, IsFoundIn, name_of}
 use Rattle.judging.proofs.words.found_in.Goals as goal
@@ -20,7 +20,7 @@ whole (Some b) name_in rows_in name rows named rowed =
     ap₂ (λ n r. Some (n, r)) first second
 
 -- a command of the subcommand that was found
-of_found : (found : Option (Text × List Row)) (name : Text) (rows : List Row) (result : Result Command Fault) → found ≡ Some (name, rows)
+of_found : (found : Option (Text × List Row)) (name : Text) (rows : List Row) (result : Result Command Error) → found ≡ Some (name, rows)
     → IfOk result (λ command. (name_of command ≡ name) × HasWords rows command) → IfOk result (IsFoundIn found)
 of_found found name rows result is h = IfOk-weaker result _ _ (λ command w. (rows, is ∙ ap (λ n. Some (n, rows)) (sym w.0), w.1)) h
 
@@ -42,7 +42,7 @@ returns-in-Some-subcommand_matches-2-clause-found c =
     (whole _ _ _ _ rows (c.in-Some-subcommand_matches-2.ensures.found.0 refl) c.in-Some-subcommand_matches-2.ensures.rows) c.picture_of.ensures.words
 
 -- no command of the subcommand that was found
-not_of_found : (found : Option (Text × List Row)) (name : Text) (rows : List Row) (result : Result Command Fault) → found ≡ Some (name, rows)
+not_of_found : (found : Option (Text × List Row)) (name : Text) (rows : List Row) (result : Result Command Error) → found ≡ Some (name, rows)
     → IfErr result (λ _. (command : Command) → name_of command ≡ name → ¬ (HasWords rows command)) → IfErr result (λ _. (command : Command) → ¬ (IsFoundIn found command))
 not_of_found found name rows (Ok command) is none = tt
 not_of_found found name rows (Err fault) is none = λ command there.

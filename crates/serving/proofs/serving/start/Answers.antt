@@ -1,5 +1,5 @@
 use Rattle.std.proofs.Common.{◌∙◌, subst, sym}
-use Rattle.serving.specs.declared.faults.Fault.{Fault}
+use Rattle.serving.specs.declared.faults.Error.{Error}
 use Rattle.serving.specs.Serving.{IsStartFault}
 use Rattle.serving.proofs.Opening.{array_is, fault_is}
 use Rattle.serving.proofs.serving.start.Goals as goal
@@ -9,5 +9,5 @@ returns-in-Ok-clause-content c = c.new.ensures ∙ array_is c.args.config c.args
 
 pub returns-in-Err-clause-fault : goal.returns-in-Err-clause-fault
 returns-in-Err-clause-fault c =
-    subst (λ (f : Fault). IsStartFault c.args.config c.args.partition f) (sym c.open_fault.ensures)
+    subst (λ (f : Error). IsStartFault c.args.config c.args.partition f) (sym c.open_fault.ensures)
     (fault_is c.args.config c.args.partition c.in-Err.fault c.in-Err.ensures.fault)

@@ -5,8 +5,8 @@ use Rattle.clap.specs.Takes.{takes}
 use Rattle.clap.specs.declared.parser.matches.ArgMatches.{ArgMatches}
 use Rattle.clap.proofs.OnLiterals.{clap_on_literals}
 use Rattle.serving.specs.declared.words.asked.Asked.{Asked}
-use Rattle.serving.specs.declared.faults.Fault.{Fault}
-use Rattle.serving.specs.declared.faults.Fault.TheVariants.{NoMemory, Usage}
+use Rattle.serving.specs.declared.faults.Error.{Error}
+use Rattle.serving.specs.declared.faults.Error.TheVariants.{NoMemory, Usage}
 use Rattle.serving.specs.CommandLine.{AsksForNothing, IsAsked, IsFoundIn, program}
 use Rattle.serving.proofs.words.command.Goals as goal
 
@@ -15,7 +15,7 @@ unfolding clap_on_literals
 is_simple_program = refl
 
 -- what the program's parser found is what the words ask for
-asked : (app : App) (words : List Text) (matches : ArgMatches) (result : Result Asked Fault) → app ≡ program → HasMatchesOf app words matches
+asked : (app : App) (words : List Text) (matches : ArgMatches) (result : Result Asked Error) → app ≡ program → HasMatchesOf app words matches
     → IfOk result (IsFoundIn (rows_of (found_of matches))) → IfOk result (IsAsked words)
 asked app words matches result same found h =
     subst (λ f. IfOk result (IsFoundIn f)) ((found (ap is_simple same ∙ is_simple_program)).0 ∙ ap (λ (a : App). matches_of a words) same) h
@@ -26,7 +26,7 @@ returns-in-Ok-try_get_matches_from-clause-asked g c =
     c.in-Ok.ensures c.in-Ok-try_get_matches_from.ensures.matches c.asked_by.ensures.found
 
 -- what the program's parser found asks for nothing, and so do the words
-nothing_found : (app : App) (words : List Text) (matches : ArgMatches) (result : Result Asked Fault) → app ≡ program → HasMatchesOf app words matches
+nothing_found : (app : App) (words : List Text) (matches : ArgMatches) (result : Result Asked Error) → app ≡ program → HasMatchesOf app words matches
     → IfErr result (λ fault. fault ≡ Usage) → IfErr result (λ _. (asked : Asked) → ¬ (IsFoundIn (rows_of (found_of matches)) asked))
     → IfErr result (λ fault. (fault ≡ NoMemory) ⊎ ((fault ≡ Usage) × AsksForNothing words))
 nothing_found app words matches (Ok a) same found usage none = tt
@@ -35,10 +35,10 @@ nothing_found app words matches (Err fault) same found usage none =
     inr (usage, λ _ a is. none a (subst (λ f. IsFoundIn f a) (sym rows) is))
 
 -- words that the grammar takes are refused for want of memory alone
-not_taken : (fault : Fault) (words : List Text) → (takes program words ≡ true → fault ≡ NoMemory) → (fault ≡ NoMemory) ⊎ (fault ≡ Usage)
+not_taken : (fault : Error) (words : List Text) → (takes program words ≡ true → fault ≡ NoMemory) → (fault ≡ NoMemory) ⊎ (fault ≡ Usage)
     → (fault ≡ NoMemory) ⊎ ((fault ≡ Usage) × AsksForNothing words)
 not_taken fault words memory (inl e) = inl e
-not_taken fault words memory (inr e) = inr (e, λ t a is. let both : ◌≡◌ {A = Fault} NoMemory Usage = sym (memory t) ∙ e in cc)
+not_taken fault words memory (inr e) = inr (e, λ t a is. let both : ◌≡◌ {A = Error} NoMemory Usage = sym (memory t) ∙ e in cc)
 
 pub returns-in-Ok-try_get_matches_from-clause-fault : goal.returns-in-Ok-try_get_matches_from-clause-fault
 returns-in-Ok-try_get_matches_from-clause-fault g c =
