@@ -23,7 +23,7 @@ use Rattle.compose.specs.Journaled.{IsJournaled, IsStartedUse}
 use Rattle.sector_journal.specs.declared.acted.Entered.{Entered}
 use Rattle.sector_journal.specs.declared.slots.Armed.{Armed}
 use Rattle.sector_journal.specs.Journal.{entries_in}
-use Rattle.traced.specs.declared.Entry.{Entry}
+use Rattle.traced.specs.declared.TraceEntry.{TraceEntry}
 use Rattle.traced.specs.Entries.{labels_of}
 use Rattle.traced.specs.Traced.{TracedView, IsTraced}
 use Rattle.book.specs.Arming.{claimed_at}
@@ -68,7 +68,7 @@ module _ (keeps : RunsKeepLengths) (rules : Rules) (start : State) (partitions :
     starts = blank.opens;
     whole = whole;
     journaled = record {
-      of_acts = subst (λ (es : List Entry). AreOfActs (labels_of es) (labels_of es) (entries_in taken)) (sym blank.no_entries) (ap entries_in none);
+      of_acts = subst (λ (es : List TraceEntry). AreOfActs (labels_of es) (labels_of es) (entries_in taken)) (sym blank.no_entries) (ap entries_in none);
       started = subst (λ (us : List TagInUse). All (IsStartedUse (labels_of traced.entries)) us) (sym none_on_tags) (All-nil (IsStartedUse (labels_of traced.entries)));
     };
     apart = blank.apart;
@@ -93,8 +93,8 @@ kept_same rules start old new taken tags entries adapter kept = record {
   starts = kept.starts;
   whole = kept.whole;
   journaled = record {
-    of_acts = subst (λ (es : List Entry). AreOfActs (labels_of es) (labels_of es) (entries_in taken)) (sym entries) kept.journaled.of_acts;
-    started = subst (λ (es : List Entry). All (IsStartedUse (labels_of es)) new.stack.adapter.tags) (sym entries)
+    of_acts = subst (λ (es : List TraceEntry). AreOfActs (labels_of es) (labels_of es) (entries_in taken)) (sym entries) kept.journaled.of_acts;
+    started = subst (λ (es : List TraceEntry). All (IsStartedUse (labels_of es)) new.stack.adapter.tags) (sym entries)
         (subst (λ (v : AdapterView). All (IsStartedUse (labels_of old.entries)) v.tags) (sym adapter) kept.journaled.started);
   };
   apart = subst (λ (v : AdapterView). IsFalse v.faithful) (sym adapter) kept.apart;

@@ -19,7 +19,7 @@ use Rattle.compose.specs.Journaled.{IsNoAct, IsJournaled, StepsKeepEntries, Step
 use Rattle.sector_journal.specs.declared.acted.Entered.{Entered}
 use Rattle.sector_journal.specs.declared.slots.Armed.{Armed}
 use Rattle.sector_journal.specs.Journal.{entries_in}
-use Rattle.traced.specs.declared.Entry.{Entry}
+use Rattle.traced.specs.declared.TraceEntry.{TraceEntry}
 use Rattle.traced.specs.Entries.{labels_of}
 use Rattle.traced.specs.Serving.{is_call_event}
 use Rattle.traced.specs.Traced.{TracedView, AreLooked, CarriesSeen, IsCarried, IsLooked, IsServed}
@@ -122,7 +122,7 @@ module _ (keep : StepsKeepEntries) (apart : StepsStayApart) (stays : ArmedStays)
     pub noted_since : (labels : List Label) → labels_of new.entries ≡ labels_of old.entries ++ labels → HaveNotedAll labels tags tags'
     noted_since labels longer = noted (labels_of old.entries) labels (as_many old.entries ∙ sym from_is) longer
       where
-        as_many : (es : List Entry) → length (labels_of es) ≡ length es
+        as_many : (es : List TraceEntry) → length (labels_of es) ≡ length es
         as_many [] = refl
         as_many (e ∷ es) = ap suc (as_many es)
 
@@ -159,15 +159,15 @@ call_is_no_act Reset is = tt
 -- LABELS ARE NOTED ONE BY ONE
 
 -- the labels from a place on, up to another, were noted
-pub record HaveNotedFrom (entries : List Entry) (from to : ℕ) (old new : Claimed) : Type 0 where
+pub record HaveNotedFrom (entries : List TraceEntry) (from to : ℕ) (old new : Claimed) : Type 0 where
   pub noted : (tag number : ℕ) (armed : Armed) → IsClaimed new tag number armed
-      → IsClaimed old tag number armed × ((k : ℕ) (e : Entry) → from ≤ k → k < to → slice_get entries k ≡ Some e → Leaves armed.piece e.label)
+      → IsClaimed old tag number armed × ((k : ℕ) (e : TraceEntry) → from ≤ k → k < to → slice_get entries k ≡ Some e → Leaves armed.piece e.label)
 
-pub none_noted : (entries : List Entry) (from : ℕ) (tags : Claimed) → HaveNotedFrom entries from from tags tags
+pub none_noted : (entries : List TraceEntry) (from : ℕ) (tags : Claimed) → HaveNotedFrom entries from from tags tags
 none_noted entries from tags = record { noted = λ tag number armed claimed. (claimed, λ k e low high there. absurd (omega (arith, low, high))) }
 
-module _ (entries : List Entry) (from to : ℕ) (old mid new : Claimed) (before : HaveNotedFrom entries from to old mid) (e : Entry) (there : slice_get entries to ≡ Some e) (noted : HaveNoted e.label mid new) where
-  some_same : {x y : Entry} → Some x ≡ Some y → x ≡ y
+module _ (entries : List TraceEntry) (from to : ℕ) (old mid new : Claimed) (before : HaveNotedFrom entries from to old mid) (e : TraceEntry) (there : slice_get entries to ≡ Some e) (noted : HaveNoted e.label mid new) where
+  some_same : {x y : TraceEntry} → Some x ≡ Some y → x ≡ y
   some_same {x} {y} e = cc
 
   pub one_noted : HaveNotedFrom entries from (suc to) old new
@@ -178,7 +178,7 @@ module _ (entries : List Entry) (from to : ℕ) (old mid new : Claimed) (before 
           was.0,
           λ k f low high at. elim (below_more k high) [
             | inl less ↦ was.1 k f low less at
-            | inr is ↦ subst (λ (x : Entry). Leaves armed.piece x.label) (some_same (sym there ∙ ap (λ (n : ℕ). slice_get entries n) (sym is) ∙ at)) now.1
+            | inr is ↦ subst (λ (x : TraceEntry). Leaves armed.piece x.label) (some_same (sym there ∙ ap (λ (n : ℕ). slice_get entries n) (sym is) ∙ at)) now.1
           ],
         );
   }
@@ -187,16 +187,16 @@ module _ (entries : List Entry) (from to : ℕ) (old mid new : Claimed) (before 
       below_more k high = grind arith
 
 module _ (P : Label → Type 0) where
-  all_of : (es : List Entry) → ((k : ℕ) (e : Entry) → slice_get es k ≡ Some e → P e.label) → All P (labels_of es)
+  all_of : (es : List TraceEntry) → ((k : ℕ) (e : TraceEntry) → slice_get es k ≡ Some e → P e.label) → All P (labels_of es)
   all_of [] each = All-nil P
   all_of (e ∷ es) each = All-cons P e.label (labels_of es) (each 0 e refl) (all_of es (λ k f at. each (suc k) f at))
 
-  behind : (es : List Entry) (before labels : List Label) → labels_of es ≡ before ++ labels → ((k : ℕ) (e : Entry) → length before ≤ k → slice_get es k ≡ Some e → P e.label) → All P labels
+  behind : (es : List TraceEntry) (before labels : List Label) → labels_of es ≡ before ++ labels → ((k : ℕ) (e : TraceEntry) → length before ≤ k → slice_get es k ≡ Some e → P e.label) → All P labels
   behind es [] labels is each = subst (All P) is (all_of es (λ k e at. each k e (omega arith) at))
   behind [] (l ∷ before) labels is each = absurd (cc (is))
   behind (e ∷ es) (l ∷ before) labels is each = behind es before labels (ap (λ (ls : List Label). drop 1 ls) is) (λ k f low at. each (suc k) f (omega (arith, low)) at)
 
-pub all_noted : (entries : List Entry) (from to : ℕ) (old new : Claimed) → HaveNotedFrom entries from to old new → length entries ≤ to
+pub all_noted : (entries : List TraceEntry) (from to : ℕ) (old new : Claimed) → HaveNotedFrom entries from to old new → length entries ≤ to
     → (before labels : List Label) → length before ≡ from → labels_of entries ≡ before ++ labels → HaveNotedAll labels old new
 all_noted entries from to old new have most before labels many is tag number armed claimed =
     let was = have.noted tag number armed claimed in

@@ -10,7 +10,7 @@ ghost use Rattle.srb.specs.declared.Class.TheVariants.{Bad};
 ghost use Rattle.srb.specs.Fate.{class_of};
 ghost use Rattle.compose.specs.declared.Event.TheVariants.{Act};
 ghost use Rattle.compose.specs.Journaled.{IsNoAct};
-ghost use Rattle.traced.specs.declared.Entry.{Entry as EntryView};
+ghost use Rattle.traced.specs.declared.TraceEntry.{TraceEntry as EntryView};
 ghost use Rattle.traced.specs.Entries.{IsAnswerAt, IsNoAnswerTo, calls, labels_of, places};
 ghost use Rattle.traced.specs.Serving.{is_call_event, is_handle_event};
 ghost use Rattle.traced.specs.Traced.{AreLooked, AreRowsOf, HasCounted, IsServed, IsTraced, TracedView, may_want};
@@ -35,7 +35,7 @@ use srb::Completion;
 use std::alloc::{AllocError, Global};
 use std::marker::Model;
 use std::sync::{Mutex, Wait, ledger};
-use traced::{Entry, Row, Share, Traced};
+use traced::{Row, Share, TraceEntry, Traced};
 
 /// A stack that many threads share under a lock, with its trace, and what was booked of the journal's entries.
 #[derive(Drop)]
@@ -103,7 +103,7 @@ impl<N: Naming> Book<N> {
     }
 
     /// Returns what stands at a place of the trace.
-    pub fn entry(&self, place: usize) -> &Entry
+    pub fn entry(&self, place: usize) -> &TraceEntry
         requires { place < length self.now.traced.entries }
         ensures { slice_get self.now.traced.entries place ≡ Some result.now }
     {
@@ -126,7 +126,7 @@ impl<N: Naming> Book<N> {
     }
 
     /// A claim on a place of the trace, by the entry there.
-    pub fn claim(&mut self, history: &History<Entry, N>, place: usize) -> Claims<Entry, N>
+    pub fn claim(&mut self, history: &History<TraceEntry, N>, place: usize) -> Claims<TraceEntry, N>
         requires { place < length self.old.traced.entries }
         ensures same { self.new ≡ self.old }
         ensures claim { (e : EntryView) × (slice_get self.old.traced.entries place ≡ Some e) × (result ≡ (place, e) ∷ []) }
@@ -135,7 +135,7 @@ impl<N: Naming> Book<N> {
     }
 
     /// What was claimed stands in the trace.
-    pub fn check(&mut self, history: &History<Entry, N>, claims: &mut Claims<Entry, N>)
+    pub fn check(&mut self, history: &History<TraceEntry, N>, claims: &mut Claims<TraceEntry, N>)
         ensures same { (self.new ≡ self.old) × (claims.new ≡ claims.old) }
         ensures stand { AllStand self.old.traced.entries claims.old }
     {
@@ -173,7 +173,7 @@ impl<N: Naming> Book<N> {
 
 // Steps. Each of these is called with the book's lock held, and those that are handed a journal with its lock too.
 impl<N: Naming> Book<N> {
-    fn look(&mut self, alloc: Global, history: &History<Entry, N>, marks: &Marks)
+    fn look(&mut self, alloc: Global, history: &History<TraceEntry, N>, marks: &Marks)
         requires marks { marks.now ≡ (N.marks, N.slots) }
         ensures looked { AreLooked N.slots self.old.traced self.new.traced }
         ensures taken { self.new.taken ≡ self.old.taken }
@@ -185,7 +185,7 @@ impl<N: Naming> Book<N> {
     fn book_entries<M: Medium>(
         &mut self,
         alloc: Global,
-        history: &History<Entry, N>,
+        history: &History<TraceEntry, N>,
         marks: &Marks,
         journal: &mut Journal<M, N>,
         words: &sector_journal::History<N>,
@@ -236,7 +236,7 @@ impl<N: Naming> Book<N> {
     fn call_alone(
         &mut self,
         alloc: Global,
-        history: &History<Entry, N>,
+        history: &History<TraceEntry, N>,
         marks: &Marks,
         share: &mut Share<N>,
         event: Event,
@@ -262,7 +262,7 @@ impl<N: Naming> Book<N> {
     fn call_reserved<M: Medium>(
         &mut self,
         alloc: Global,
-        history: &History<Entry, N>,
+        history: &History<TraceEntry, N>,
         marks: &Marks,
         journal: &mut Journal<M, N>,
         share: &mut Share<N>,
@@ -286,7 +286,7 @@ impl<N: Naming> Book<N> {
     fn call_in<M: Medium>(
         &mut self,
         alloc: Global,
-        history: &History<Entry, N>,
+        history: &History<TraceEntry, N>,
         marks: &Marks,
         journal: &mut Journal<M, N>,
         words: &sector_journal::History<N>,
@@ -313,7 +313,7 @@ impl<N: Naming> Book<N> {
         &mut self,
         rt: &R,
         alloc: Global,
-        history: &History<Entry, N>,
+        history: &History<TraceEntry, N>,
         marks: &Marks,
         journal: &Mutex<Journal<M, N>>,
         words: &sector_journal::History<N>,
@@ -334,7 +334,7 @@ impl<N: Naming> Book<N> {
     fn serve_alone(
         &mut self,
         alloc: Global,
-        history: &History<Entry, N>,
+        history: &History<TraceEntry, N>,
         marks: &Marks,
         event: Event,
     ) -> Reply
@@ -358,7 +358,7 @@ impl<N: Naming> Book<N> {
     fn fail(
         &mut self,
         alloc: Global,
-        history: &History<Entry, N>,
+        history: &History<TraceEntry, N>,
         marks: &Marks,
         tag: u8,
         completion: Completion,
@@ -383,7 +383,7 @@ impl<N: Naming> Book<N> {
     fn act_in<M: Medium>(
         &mut self,
         alloc: Global,
-        history: &History<Entry, N>,
+        history: &History<TraceEntry, N>,
         marks: &Marks,
         journal: &mut Journal<M, N>,
         words: &sector_journal::History<N>,
@@ -408,7 +408,7 @@ impl<N: Naming> Book<N> {
     fn serve_in<M: Medium>(
         &mut self,
         alloc: Global,
-        history: &History<Entry, N>,
+        history: &History<TraceEntry, N>,
         marks: &Marks,
         journal: &mut Journal<M, N>,
         words: &sector_journal::History<N>,
@@ -431,7 +431,7 @@ impl<N: Naming> Book<N> {
         &mut self,
         rt: &R,
         alloc: Global,
-        history: &History<Entry, N>,
+        history: &History<TraceEntry, N>,
         marks: &Marks,
         journal: &Mutex<Journal<M, N>>,
         words: &sector_journal::History<N>,
@@ -465,7 +465,7 @@ impl<N: Naming> Book<N> {
         &mut self,
         rt: &R,
         alloc: Global,
-        history: &History<Entry, N>,
+        history: &History<TraceEntry, N>,
         marks: &Marks,
         journal: &Mutex<Journal<M, N>>,
         words: &sector_journal::History<N>,
@@ -491,7 +491,7 @@ impl<N: Naming> Book<N> {
         &mut self,
         rt: &R,
         alloc: Global,
-        history: &History<Entry, N>,
+        history: &History<TraceEntry, N>,
         marks: &Marks,
         journal: &Mutex<Journal<M, N>>,
         words: &sector_journal::History<N>,
@@ -519,7 +519,7 @@ impl<N: Naming> Book<N> {
     pub fn book_rest<M: Medium>(
         &mut self,
         alloc: Global,
-        history: &History<Entry, N>,
+        history: &History<TraceEntry, N>,
         marks: &Marks,
         journal: &mut Journal<M, N>,
         words: &sector_journal::History<N>,
@@ -543,7 +543,7 @@ impl<N: Naming> Book<N> {
     }
 
     /// The trace, the rows of all clients, and the receipts of the entries of its acts, numbered from 0.
-    pub fn into_rows(self) -> (Vec<Entry>, Vec<Row>, Claims<Entered, OfEntries<N>>)
+    pub fn into_rows(self) -> (Vec<TraceEntry>, Vec<Row>, Claims<Entered, OfEntries<N>>)
         ensures rows { AreRowsOf (length N.partitions) self.traced result.0.items result.1.items }
         ensures run { Run N.rules N.start (labels_of result.0.items) self.traced.stack.state }
         ensures receipts { result.2 ≡ numbered_from 0 self.taken }

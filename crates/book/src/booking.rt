@@ -17,7 +17,7 @@ use disk::Medium;
 use miniport::BookedAdapter;
 use sector_journal::Journal;
 use std::alloc::Global;
-use traced::{Entry, Traced};
+use traced::{TraceEntry, Traced};
 
 /// The laws that the act of an entry goes by.
 fn laws_of_acts()
@@ -91,7 +91,7 @@ pub(crate) fn book_next<M: Medium, N: Naming>(
     taken: &mut Taken<N>,
     tags: &mut Tags<N>,
     alloc: Global,
-    history: &chronicle::History<Entry, N>,
+    history: &chronicle::History<TraceEntry, N>,
     marks: &Marks,
     journal: &mut Journal<M, N>,
     words: &sector_journal::History<N>,
@@ -123,7 +123,7 @@ pub(crate) fn book_all<M: Medium, N: Naming>(
     taken: &mut Taken<N>,
     tags: &mut Tags<N>,
     alloc: Global,
-    history: &chronicle::History<Entry, N>,
+    history: &chronicle::History<TraceEntry, N>,
     marks: &Marks,
     journal: &mut Journal<M, N>,
     words: &sector_journal::History<N>,

@@ -25,7 +25,7 @@ use ntstatus::Sense;
 use sector_journal::Journal;
 use srb::Completion;
 use std::alloc::Global;
-use traced::{Entry, Traced};
+use traced::{TraceEntry, Traced};
 
 /// SPC, "Sense key and sense code definitions": HARDWARE ERROR. How a piece fails that the journal doesn't let act.
 const HARDWARE_ERROR: Completion = Completion {
@@ -91,7 +91,7 @@ pub(crate) fn fail<N: Naming>(
     traced: &mut Traced<BookedAdapter, N>,
     tags: &mut Tags<N>,
     alloc: Global,
-    history: &History<Entry, N>,
+    history: &History<TraceEntry, N>,
     marks: &Marks,
     tag: u8,
     completion: Completion,

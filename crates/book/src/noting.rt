@@ -17,7 +17,7 @@ use chronicle::History;
 use compose::{Event, Reply};
 use miniport::BookedAdapter;
 use std::alloc::Global;
-use traced::{Entry, Share, Traced};
+use traced::{Share, TraceEntry, Traced};
 
 /// The laws that steps with no entry go by.
 fn laws_of_others()
@@ -48,7 +48,7 @@ pub(crate) fn look<N: Naming>(
     traced: &mut Traced<BookedAdapter, N>,
     tags: &mut Tags<N>,
     alloc: Global,
-    history: &History<Entry, N>,
+    history: &History<TraceEntry, N>,
     marks: &Marks,
 )
     requires marks { marks.now ≡ (N.marks, N.slots) }
@@ -66,7 +66,7 @@ pub(crate) fn serve<N: Naming>(
     traced: &mut Traced<BookedAdapter, N>,
     tags: &mut Tags<N>,
     alloc: Global,
-    history: &History<Entry, N>,
+    history: &History<TraceEntry, N>,
     marks: &Marks,
     event: Event,
 ) -> Reply
@@ -89,7 +89,7 @@ pub(crate) fn call<N: Naming>(
     traced: &mut Traced<BookedAdapter, N>,
     tags: &mut Tags<N>,
     alloc: Global,
-    history: &History<Entry, N>,
+    history: &History<TraceEntry, N>,
     marks: &Marks,
     share: &mut Share<N>,
     event: Event,

@@ -24,7 +24,7 @@ use std::alloc::{AllocError, Global};
 use std::process::Abort;
 use std::sync::ledger::Blank;
 use std::sync::{Mutex, Wait};
-use traced::{Entry, Share, Traced};
+use traced::{Share, TraceEntry, Traced};
 
 /// One row of a test.
 #[derive(Debug, Clone, Copy)]
@@ -92,7 +92,7 @@ fn go<M: Medium, N: Naming, R: Wait + Abort>(
     rt: &R,
     alloc: Global,
     book: &mut Book<N>,
-    history: &History<Entry, N>,
+    history: &History<TraceEntry, N>,
     marks: &Marks,
     journal: &Mutex<Journal<M, N>>,
     words: &sector_journal::History<N>,
@@ -119,7 +119,7 @@ fn fail<M: Medium, N: Naming, R: Wait + Abort>(
     rt: &R,
     alloc: Global,
     book: &mut Book<N>,
-    history: &History<Entry, N>,
+    history: &History<TraceEntry, N>,
     marks: &Marks,
     journal: &Mutex<Journal<M, N>>,
     words: &sector_journal::History<N>,
@@ -141,7 +141,7 @@ pub(crate) fn play<M: Medium, N: Naming, R: Wait + Abort>(
     rt: &R,
     alloc: Global,
     book: &mut Book<N>,
-    history: &History<Entry, N>,
+    history: &History<TraceEntry, N>,
     marks: &Marks,
     journal: &Mutex<Journal<M, N>>,
     words: &sector_journal::History<N>,
@@ -186,7 +186,7 @@ pub(crate) struct Run<'a> {
 }
 
 // The label at a place was claimed, and stands there.
-fn claim_first<N: Naming>(book: &mut Book<N>, history: &History<Entry, N>) {
+fn claim_first<N: Naming>(book: &mut Book<N>, history: &History<TraceEntry, N>) {
     if book.len() == 0 {
         return;
     }
@@ -213,7 +213,7 @@ fn book_rest<M: Medium, N: Naming, R: Wait + Abort>(
     rt: &R,
     alloc: Global,
     book: &mut Book<N>,
-    history: &History<Entry, N>,
+    history: &History<TraceEntry, N>,
     marks: &Marks,
     journal: &Mutex<Journal<M, N>>,
     words: &sector_journal::History<N>,
@@ -233,7 +233,7 @@ pub(crate) fn carry_out<M: Medium, N: Naming, R: Wait + Abort>(
     rt: &R,
     alloc: Global,
     ready: Ready<BookedAdapter>,
-    opened: Opened<Entry>,
+    opened: Opened<TraceEntry>,
     blank: Blank,
     marks: Marks,
     owner: Seat,

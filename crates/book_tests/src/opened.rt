@@ -10,7 +10,7 @@ use adapter::Adapter;
 use compose::{Handle, Settings, Stack, StartFault};
 use std::alloc::{AllocError, Global};
 use std::process::Abort;
-use traced::{OpenFault, Sizes, open_handles};
+use traced::{OpenFault, StackSizes, open_handles};
 
 /// Sector 0 of a disk of sectors of 512 bytes, of which 2,048 to 3,071 are its one partition. An entry of the table has
 /// its type in byte 4, the first sector and the count in the bytes from 8 and 12 on, the lowest first.
@@ -29,7 +29,7 @@ pub(crate) fn sector_0() -> [u8; 512] {
 pub(crate) struct Opened<A: Adapter> {
     pub stack: Stack<A>,
     pub handles: Vec<Handle>,
-    pub sizes: Sizes,
+    pub sizes: StackSizes,
 }
 
 // A stack that was started, and its sizes; two requests at work and sixty-four open.
@@ -37,7 +37,7 @@ fn start<A: Adapter>(
     rt: &impl Abort,
     alloc: Global,
     adapter: A,
-) -> Result<(Stack<A>, Sizes), AllocError>
+) -> Result<(Stack<A>, StackSizes), AllocError>
     requires idle { IsIdle (A.view adapter) }
     requires unasked { (A.view adapter).accepted ≡ 0 }
     ensures new { IfOk result (λ r. IsNew r.0) }
@@ -46,7 +46,7 @@ fn start<A: Adapter>(
     ensures slots { IfOk result (λ r. r.0.rules.open_requests ≡ Some 64) }
     ensures apart { IfOk result (λ r. IsFalse r.0.adapter.faithful) }
 {
-    let sizes = Sizes {
+    let sizes = StackSizes {
         sector_size: adapter.sector_size(),
         sectors: adapter.sectors(),
         longest: 65_536,

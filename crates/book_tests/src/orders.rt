@@ -13,7 +13,7 @@ use sector::Bytes;
 use sector_journal::Journal;
 use std::alloc::{AllocError, Global};
 use std::sync::{Mutex, Wait};
-use traced::{Entry, Share};
+use traced::{Share, TraceEntry};
 
 /// What is asked of a book. Those of a client's are on its handle.
 #[derive(Debug, Clone, Copy)]
@@ -39,7 +39,7 @@ fn call<M: Medium, N: Naming, R: Wait>(
     rt: &R,
     alloc: Global,
     book: &mut Book<N>,
-    history: &History<Entry, N>,
+    history: &History<TraceEntry, N>,
     marks: &Marks,
     journal: &Mutex<Journal<M, N>>,
     words: &sector_journal::History<N>,
@@ -67,7 +67,7 @@ fn other<M: Medium, N: Naming, R: Wait>(
     rt: &R,
     alloc: Global,
     book: &mut Book<N>,
-    history: &History<Entry, N>,
+    history: &History<TraceEntry, N>,
     marks: &Marks,
     journal: &Mutex<Journal<M, N>>,
     words: &sector_journal::History<N>,
@@ -94,7 +94,7 @@ pub(crate) fn step<M: Medium, N: Naming, R: Wait>(
     rt: &R,
     alloc: Global,
     book: &mut Book<N>,
-    history: &History<Entry, N>,
+    history: &History<TraceEntry, N>,
     marks: &Marks,
     journal: &Mutex<Journal<M, N>>,
     words: &sector_journal::History<N>,

@@ -18,7 +18,7 @@ use std::process::Abort;
 use std::sync::Wait;
 use std::sync::ledger::Blank;
 use std::test::Fail;
-use traced::Entry;
+use traced::TraceEntry;
 
 // Sixty-four slots, with the owner's seat.
 fn slots(alloc: Global) -> Result<(Marks, Seat), AllocError>
@@ -42,14 +42,14 @@ fn adapter_apart(alloc: Global) -> Result<BookedAdapter, AllocError>
 }
 
 // A history that nobody wants.
-fn end<N: chronicle::Naming>(opened: Opened<Entry>)
+fn end<N: chronicle::Naming>(opened: Opened<TraceEntry>)
     requires { opened ≡ N.table }
 {
     let (_history, _whole) = opened.named::<N>();
 }
 
 // The histories of a book and of its journal.
-fn histories(alloc: Global) -> Result<(Opened<Entry>, sector_journal::Opened), AllocError> {
+fn histories(alloc: Global) -> Result<(Opened<TraceEntry>, sector_journal::Opened), AllocError> {
     let opened = Opened::new(alloc)?;
     match sector_journal::Opened::new(alloc) {
         Ok(journal) => Ok((opened, journal)),

@@ -7,7 +7,7 @@ use srb::{DeviceLabel, Kind};
 use std::alloc::{AllocError, Global};
 use std::fmt::Debug;
 use std::process::Abort;
-use traced::Entry;
+use traced::TraceEntry;
 
 /// Ends the test, and names both, where what was got is not what was wanted.
 pub(crate) fn same<T: PartialEq + Debug>(rt: &impl Abort, got: &T, wanted: &T) {
@@ -32,7 +32,7 @@ pub(crate) fn reply(alloc: Global, reply: &Reply) -> Result<String, AllocError> 
 
 /// As `call 1 of 0 / start 1 / act 1 a5 / return 1 / answer 1 SUCCESS of 0`: of an act the first byte, of a call and an
 /// answer the row.
-pub(crate) fn trace(alloc: Global, entries: &[Entry]) -> Result<String, AllocError> {
+pub(crate) fn trace(alloc: Global, entries: &[TraceEntry]) -> Result<String, AllocError> {
     let mut text = String::new(alloc);
     for entry in entries {
         if !text.is_empty() {

@@ -20,7 +20,7 @@ use std::io;
 use std::io::{Read, Write};
 use std::sync::Wait;
 use std::thread::Threads;
-use traced::Sizes;
+use traced::StackSizes;
 
 /// Sectors of the longest request of a stack.
 const LONGEST: u32 = 65_536;
@@ -101,12 +101,12 @@ fn has_room(config: &Config, threads: u16) -> bool
 }
 
 /// The sizes of the stack of some settings.
-fn sizes_for(config: &Config) -> Sizes
+fn sizes_for(config: &Config) -> StackSizes
     requires { AreInRange config.now }
     ensures rules { result ≡ sizes_of (rules_over false config.now) }
     ensures sizes { AreSizes result }
 {
-    Sizes {
+    StackSizes {
         sector_size: config.sector_size,
         sectors: config.sectors,
         longest: LONGEST,

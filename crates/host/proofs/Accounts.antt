@@ -5,7 +5,7 @@ use Rattle.machine.specs.declared.ClientRequest.{ClientRequest}
 use Rattle.machine.specs.declared.Label.{Label}
 use Rattle.machine.specs.declared.Label.TheVariants.{Call as CallLabel}
 use Rattle.io_manager.specs.declared.OpenHandle.{OpenHandle}
-use Rattle.traced.specs.declared.Entry.{Entry}
+use Rattle.traced.specs.declared.TraceEntry.{TraceEntry}
 use Rattle.traced.specs.Entries.{entry}
 use Rattle.traced.specs.Opening.{IsOpenOn}
 use Rattle.traced.specs.Shares.{ShareView}
@@ -18,8 +18,8 @@ some_same : {A : Type 0} {x y : A} → Some x ≡ Some y → x ≡ y
 some_same {A} {x} {y} e = cc
 
 -- the receipt of what stands at the place
-pub receipt_is : (es : List Entry) (place : ℕ) (label : Label) (client : ℕ) (e : Entry) (claim : List Receipt) → Stands es place label client → slice_get es place ≡ Some e → claim ≡ (place, e) ∷ [] → claim ≡ receipt place label client
-receipt_is es place label client e claim stands at is = is ∙ ap (λ (x : Entry). (place, x) ∷ []) (some_same (sym at ∙ stands))
+pub receipt_is : (es : List TraceEntry) (place : ℕ) (label : Label) (client : ℕ) (e : TraceEntry) (claim : List Receipt) → Stands es place label client → slice_get es place ≡ Some e → claim ≡ (place, e) ∷ [] → claim ≡ receipt place label client
+receipt_is es place label client e claim stands at is = is ∙ ap (λ (x : TraceEntry). (place, x) ∷ []) (some_same (sym at ∙ stands))
 
 still_open : (handles : List (Option OpenHandle)) (partitions : List ℕ) (old new : ShareView) → new.client ≡ old.client → new.handle ≡ old.handle
     → IsOpenOn handles old.handle (slice_index_or partitions old.client 0) → IsOpenOn handles new.handle (slice_index_or partitions new.client 0)

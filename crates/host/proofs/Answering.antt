@@ -15,7 +15,7 @@ use Rattle.machine.specs.Numbers.{AreDistinct}
 use Rattle.machine_laws.specs.NumberLaws.{IsNoAnswerOf, IsNoCallOf, awaited, call_numbers}
 use Rattle.io_manager.specs.declared.Answer.{Answer}
 use Rattle.io_manager.specs.Right.{as_answer}
-use Rattle.traced.specs.declared.Entry.{Entry}
+use Rattle.traced.specs.declared.TraceEntry.{TraceEntry}
 use Rattle.traced.specs.Entries.{AreRowed, IsAnswerAt, IsAnswerTo, IsNoAnswerTo, entry, labels_of, row_of}
 use Rattle.host.specs.Calls.{AnswerLaws, Stands}
 use Rattle.host.specs.Opening.{IsOpening}
@@ -26,78 +26,78 @@ pub some_same : {A : Type 0} {x y : A} → Some x ≡ Some y → x ≡ y
 some_same {A} {x} {y} e = cc
 
 -- what a search of the whole trace finds
-abbrev Finds : ℕ → List Entry → Option ℕ → Type 0
+abbrev Finds : ℕ → List TraceEntry → Option ℕ → Type 0
 Finds number es found = MatchOption found (All (IsNoAnswerTo number) (labels_of es)) (IsAnswerAt number es)
 
 -- a list around the place k
-record Around (es : List Entry) (k : ℕ) (e : Entry) : Type 0 where
-  front : List Entry
-  back : List Entry
+record Around (es : List TraceEntry) (k : ℕ) (e : TraceEntry) : Type 0 where
+  front : List TraceEntry
+  back : List TraceEntry
   is : es ≡ front ++ e ∷ back
   long : length front ≡ k
 
-around : (es : List Entry) (k : ℕ) (e : Entry) → slice_get es k ≡ Some e → Around es k e
+around : (es : List TraceEntry) (k : ℕ) (e : TraceEntry) → slice_get es k ≡ Some e → Around es k e
 around [] k e at = absurd (cc)
 around (x ∷ es) zero e at = record { front = []; back = es; is = ap (λ y. y ∷ es) (some_same at); long = refl }
 around (x ∷ es) (suc k) e at = let r = around es k e at in record { front = x ∷ r.front; back = r.back; is = ap (λ ys. x ∷ ys) r.is; long = (let l = r.long in omega arith) }
 
-labels_around : (front back : List Entry) (e : Entry) → labels_of (front ++ e ∷ back) ≡ labels_of front ++ e.label ∷ labels_of back
+labels_around : (front back : List TraceEntry) (e : TraceEntry) → labels_of (front ++ e ∷ back) ≡ labels_of front ++ e.label ∷ labels_of back
 labels_around [] back e = refl
 labels_around (x ∷ front) back e = ap (λ ls. x.label ∷ ls) (labels_around front back e)
 
 -- what stands behind the place
-behind : (front back : List Entry) (e f : Entry) (k : ℕ) → slice_get (front ++ e ∷ back) k ≡ Some f → length front < k → (j : ℕ) × (slice_get back j ≡ Some f)
+behind : (front back : List TraceEntry) (e f : TraceEntry) (k : ℕ) → slice_get (front ++ e ∷ back) k ≡ Some f → length front < k → (j : ℕ) × (slice_get back j ≡ Some f)
 behind [] back e f zero at less = absurd (omega arith)
 behind [] back e f (suc k) at less = (k, at)
 behind (x ∷ front) back e f zero at less = absurd (omega arith)
 behind (x ∷ front) back e f (suc k) at less = behind front back e f k at (omega arith)
 
 -- and before it
-before : (front back : List Entry) (e f : Entry) (k : ℕ) → slice_get front k ≡ Some f → slice_get (front ++ e ∷ back) k ≡ Some f
+before : (front back : List TraceEntry) (e f : TraceEntry) (k : ℕ) → slice_get front k ≡ Some f → slice_get (front ++ e ∷ back) k ≡ Some f
 before [] back e f k at = absurd (cc)
 before (x ∷ front) back e f zero at = at
 before (x ∷ front) back e f (suc k) at = before front back e f k at
 
-within : (es : List Entry) (k : ℕ) (e : Entry) → slice_get es k ≡ Some e → k < length es
+within : (es : List TraceEntry) (k : ℕ) (e : TraceEntry) → slice_get es k ≡ Some e → k < length es
 within [] k e at = absurd (cc)
 within (x ∷ es) zero e at = omega arith
 within (x ∷ es) (suc k) e at = let r = within es k e at in omega arith
 
-each_label : (P : Label → Type 0) (es : List Entry) (k : ℕ) (e : Entry) → All P (labels_of es) → slice_get es k ≡ Some e → P e.label
+each_label : (P : Label → Type 0) (es : List TraceEntry) (k : ℕ) (e : TraceEntry) → All P (labels_of es) → slice_get es k ≡ Some e → P e.label
 each_label P es k e all at = subst P (same es k at) (all k e.label (long es k at))
   where
-    same : (es : List Entry) (k : ℕ) → slice_get es k ≡ Some e → slice_index_or (labels_of es) k e.label ≡ e.label
+    same : (es : List TraceEntry) (k : ℕ) → slice_get es k ≡ Some e → slice_index_or (labels_of es) k e.label ≡ e.label
     same [] k at = absurd (cc)
     same (x ∷ es) zero at = ap (λ y. y.label) (some_same at)
     same (x ∷ es) (suc k) at = same es k at
 
-    long : (es : List Entry) (k : ℕ) → slice_get es k ≡ Some e → k < length (labels_of es)
+    long : (es : List TraceEntry) (k : ℕ) → slice_get es k ≡ Some e → k < length (labels_of es)
     long [] k at = absurd (cc)
     long (x ∷ es) zero at = omega arith
     long (x ∷ es) (suc k) at = let r = long es k at in omega arith
 
 -- a label stands somewhere
-stands : (es : List Entry) (l : Label) (k : ℕ) → k < length (labels_of es) → slice_index_or (labels_of es) k l ≡ l → (e : Entry) × (slice_get es k ≡ Some e) × (e.label ≡ l)
+stands : (es : List TraceEntry) (l : Label) (k : ℕ) → k < length (labels_of es) → slice_index_or (labels_of es) k l ≡ l → (e : TraceEntry) × (slice_get es k ≡ Some e) × (e.label ≡ l)
 stands [] l k less at = absurd (omega arith)
 stands (x ∷ es) l zero less at = (x, refl, at)
 stands (x ∷ es) l (suc k) less at = stands es l k (omega arith) at
 
 -- a call of a number stands somewhere
-record Called (es : List Entry) (r : ℕ) : Type 0 where
+record Called (es : List TraceEntry) (r : ℕ) : Type 0 where
   place : ℕ
-  e : Entry
+  e : TraceEntry
   q : ClientRequest
   there : slice_get es place ≡ Some e
   call : e.label ≡ Call r q
 
-later : (x : Entry) (es : List Entry) (r : ℕ) → Called es r → Called (x ∷ es) r
+later : (x : TraceEntry) (es : List TraceEntry) (r : ℕ) → Called es r → Called (x ∷ es) r
 later x es r c = record { place = suc c.place; e = c.e; q = c.q; there = c.there; call = c.call }
 
-first_or : (x : Entry) (es : List Entry) (n r : ℕ) (q : ClientRequest) (ns : List ℕ) → x.label ≡ Call n q → (k : ℕ) → k < length (n ∷ ns) → slice_index_or (n ∷ ns) k r ≡ r → ((j : ℕ) → j < length ns → slice_index_or ns j r ≡ r → Called es r) → Called (x ∷ es) r
+first_or : (x : TraceEntry) (es : List TraceEntry) (n r : ℕ) (q : ClientRequest) (ns : List ℕ) → x.label ≡ Call n q → (k : ℕ) → k < length (n ∷ ns) → slice_index_or (n ∷ ns) k r ≡ r → ((j : ℕ) → j < length ns → slice_index_or ns j r ≡ r → Called es r) → Called (x ∷ es) r
 first_or x es n r q ns is zero less at rest = record { place = 0; e = x; q = q; there = refl; call = is ∙ ap (λ (m : ℕ). Call m q) at }
 first_or x es n r q ns is (suc k) less at rest = later x es r (rest k (omega arith) at)
 
-called_in : (es : List Entry) (r k : ℕ) → k < length (call_numbers (labels_of es)) → slice_index_or (call_numbers (labels_of es)) k r ≡ r → Called es r
+called_in : (es : List TraceEntry) (r k : ℕ) → k < length (call_numbers (labels_of es)) → slice_index_or (call_numbers (labels_of es)) k r ≡ r → Called es r
 called_in [] r k less at = absurd (omega arith)
 called_in (x ∷ es) r k less at = go (called_in es r) x.label refl k less at
   where
@@ -112,7 +112,7 @@ called_in (x ∷ es) r k less at = go (called_in es r) x.label refl k less at
     go rest Surprise is j less at = later x es r (rest j less at)
     go rest Removed is j less at = later x es r (rest j less at)
 
-pub rowed_at : (owners : List ℕ) (es : List Entry) (k : ℕ) (e : Entry) → AreRowed owners es → slice_get es k ≡ Some e → e.row ≡ row_of owners e.label
+pub rowed_at : (owners : List ℕ) (es : List TraceEntry) (k : ℕ) (e : TraceEntry) → AreRowed owners es → slice_get es k ≡ Some e → e.row ≡ row_of owners e.label
 rowed_at owners [] k e all at = absurd (cc)
 rowed_at owners (x ∷ es) zero e all at = subst (λ y. y.row ≡ row_of owners y.label) (some_same at) all.0.1
 rowed_at owners (x ∷ es) (suc k) e all at = rowed_at owners es k e all.1 at
@@ -165,12 +165,12 @@ distinct_at_first s opens = subst AreDistinct (sym opens) (record {
 none_awaited : (s : State) → IsOpening s → awaited s ≡ []
 none_awaited s opens = ap awaited opens
 
-module _ (laws : AnswerLaws) (rules : Rules) (first last : State) (opens : IsOpening first) (owners : List ℕ) (es : List Entry) (rowed : AreRowed owners es) (run : Run rules first (labels_of es) last) where
-  run_around : (k : ℕ) (e : Entry) (a : Around es k e) → Run rules first (labels_of a.front ++ e.label ∷ labels_of a.back) last
+module _ (laws : AnswerLaws) (rules : Rules) (first last : State) (opens : IsOpening first) (owners : List ℕ) (es : List TraceEntry) (rowed : AreRowed owners es) (run : Run rules first (labels_of es) last) where
+  run_around : (k : ℕ) (e : TraceEntry) (a : Around es k e) → Run rules first (labels_of a.front ++ e.label ∷ labels_of a.back) last
   run_around k e a = subst (λ ls. Run rules first ls last) (ap labels_of a.is ∙ labels_around a.front a.back e) run
 
   -- no call of the same number stands behind a call
-  no_later_call : (j k r : ℕ) (e f : Entry) (q p : ClientRequest) → slice_get es j ≡ Some e → e.label ≡ Call r q → slice_get es k ≡ Some f → f.label ≡ Call r p → j < k → ⊥
+  no_later_call : (j k r : ℕ) (e f : TraceEntry) (q p : ClientRequest) → slice_get es j ≡ Some e → e.label ≡ Call r q → slice_get es k ≡ Some f → f.label ≡ Call r p → j < k → ⊥
   no_later_call j k r e f q p at is there same less =
       let a = around es j e at in
       let b = behind a.front a.back e f k (ap (λ xs. slice_get xs k) (sym a.is) ∙ there) (let l = a.long in omega arith) in
@@ -178,7 +178,7 @@ module _ (laws : AnswerLaws) (rules : Rules) (first last : State) (opens : IsOpe
       subst (IsNoCallOf r) same (each_label (IsNoCallOf r) a.back b.0 f once b.1) refl
 
   -- nor an answer behind an answer
-  no_later_answer : (j k r : ℕ) (e f : Entry) (answer : Answer) → slice_get es j ≡ Some e → e.label ≡ as_answer answer → answer.number ≡ r → slice_get es k ≡ Some f → IsAnswerTo r f.label → j < k → ⊥
+  no_later_answer : (j k r : ℕ) (e f : TraceEntry) (answer : Answer) → slice_get es j ≡ Some e → e.label ≡ as_answer answer → answer.number ≡ r → slice_get es k ≡ Some f → IsAnswerTo r f.label → j < k → ⊥
   no_later_answer j k r e f answer at is number there answers less =
       let a = around es j e at in
       let b = behind a.front a.back e f k (ap (λ xs. slice_get xs k) (sym a.is) ∙ there) (let l = a.long in omega arith) in
@@ -187,13 +187,13 @@ module _ (laws : AnswerLaws) (rules : Rules) (first last : State) (opens : IsOpe
       no_answer_of r f.label (subst (λ n. IsNoAnswerOf n f.label) number (each_label (IsNoAnswerOf answer.number) a.back b.0 f once b.1)) answers
 
   -- nor an answer behind any answer of the same number
-  no_answer_behind : (j k r : ℕ) (e f : Entry) → slice_get es j ≡ Some e → IsAnswerTo r e.label → slice_get es k ≡ Some f → IsAnswerTo r f.label → j < k → ⊥
+  no_answer_behind : (j k r : ℕ) (e f : TraceEntry) → slice_get es j ≡ Some e → IsAnswerTo r e.label → slice_get es k ≡ Some f → IsAnswerTo r f.label → j < k → ⊥
   no_answer_behind j k r e f at is there answers less =
       let n = answer_named r e.label is in
       no_later_answer j k r e f n.0 at n.1 n.2 there answers less
 
   -- a call stands before its answer
-  call_before : (call k : ℕ) (e f : Entry) (q : ClientRequest) (answer : Answer) → slice_get es call ≡ Some e → e.label ≡ Call answer.number q → slice_get es k ≡ Some f → f.label ≡ as_answer answer → call < k
+  call_before : (call k : ℕ) (e f : TraceEntry) (q : ClientRequest) (answer : Answer) → slice_get es call ≡ Some e → e.label ≡ Call answer.number q → slice_get es k ≡ Some f → f.label ≡ as_answer answer → call < k
   call_before call k e f q answer at is there same =
       let a = around es k f there in
       let was = laws.called rules first (labels_of a.front) answer.number answer.status answer.information answer.bytes (labels_of a.back) last (none_awaited first opens)
@@ -208,7 +208,7 @@ module _ (laws : AnswerLaws) (rules : Rules) (first last : State) (opens : IsOpe
       (λ less. no_later_call call c.place answer.number e c.e q c.q at is there' c.call less)))
 
   -- the one answer
-  one_answer : (j k r : ℕ) (e f : Entry) → slice_get es j ≡ Some e → IsAnswerTo r e.label → slice_get es k ≡ Some f → IsAnswerTo r f.label → j ≡ k
+  one_answer : (j k r : ℕ) (e f : TraceEntry) → slice_get es j ≡ Some e → IsAnswerTo r e.label → slice_get es k ≡ Some f → IsAnswerTo r f.label → j ≡ k
   one_answer j k r e f at is there answers =
       dite (ℕ_discrete j k)
       (λ (eq : j ≡ k). eq)
@@ -225,7 +225,7 @@ module _ (laws : AnswerLaws) (rules : Rules) (first last : State) (opens : IsOpe
       let there : Stands es told.0 (as_answer answer) client = at.1 ∙ ap Some (λ i. record { label = at.2 i; row = row i }) in
       go found finds told.0 at.0 at.1 is less there
     where
-      go : (found : Option ℕ) → Finds answer.number es found → (k : ℕ) (e : Entry) → slice_get es k ≡ Some e → IsAnswerTo answer.number e.label → call < k → Stands es k (as_answer answer) client
+      go : (found : Option ℕ) → Finds answer.number es found → (k : ℕ) (e : TraceEntry) → slice_get es k ≡ Some e → IsAnswerTo answer.number e.label → call < k → Stands es k (as_answer answer) client
           → (p : ℕ) × (found ≡ Some p) × (call < p) × Stands es p (as_answer answer) client
       go None finds k e at is less there = absurd (each_label (IsNoAnswerTo answer.number) es k e finds at is)
       go (Some p) finds k e at is less there =
@@ -233,12 +233,12 @@ module _ (laws : AnswerLaws) (rules : Rules) (first last : State) (opens : IsOpe
           (p, refl, subst (λ n. call < n) same less, subst (λ n. Stands es n (as_answer answer) client) same there)
 
 -- the answer that was taken, and what a search found
-module _ (laws : AnswerLaws) (rules : Rules) (first last : State) (opens : IsOpening first) (owners : List ℕ) (es found_in : List Entry) (rowed : AreRowed owners es) (run : Run rules first (labels_of es) last)
+module _ (laws : AnswerLaws) (rules : Rules) (first last : State) (opens : IsOpening first) (owners : List ℕ) (es found_in : List TraceEntry) (rowed : AreRowed owners es) (run : Run rules first (labels_of es) last)
     (number call client : ℕ) (q : ClientRequest) (answer : Answer) (is : answer.number ≡ number) (stood : Stands es call (Call number q) client) (told : Contains (labels_of es) (as_answer answer)) (same : found_in ≡ es) where
   found_told : (found : Option ℕ) → Finds number found_in found → (p : ℕ) × (found ≡ Some p) × (call < p) × Stands es p (as_answer answer) client
   found_told found finds =
       answer_found laws rules first last opens owners es rowed run call client q answer (subst (λ n. Stands es call (Call n q) client) (sym is) stood) told found
-      (subst (λ n. Finds n es found) (sym is) (subst (λ (xs : List Entry). Finds number xs found) same finds))
+      (subst (λ n. Finds n es found) (sym is) (subst (λ (xs : List TraceEntry). Finds number xs found) same finds))
 
   pub is_found : (found : Option ℕ) → Finds number found_in found → found ≡ None → ⊥
   is_found found finds none = let f = found_told found finds in no_some f.0 (sym f.1 ∙ none)

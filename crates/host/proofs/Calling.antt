@@ -21,7 +21,7 @@ use Rattle.io_manager.specs.declared.Reply.TheVariants.{Handle as HandleReply, O
 use Rattle.io_manager.specs.Calls.{are_used_up, bytes_called, call_on, partition_at, partition_of, status_of_refusal, without_bytes, IsWant}
 use Rattle.io_manager.specs.Right.{IsRight, CallReplies, IsAdmitted, IsAnsweredAtOnce as AnswersAtOnce, IsSlotOf, IsTurnedAway, Told, TransferReplies, as_answer, end_labels, labels_of}
 use Rattle.io_manager.specs.Shown.{ManagerView}
-use Rattle.traced.specs.declared.Entry.{Entry}
+use Rattle.traced.specs.declared.TraceEntry.{TraceEntry}
 use Rattle.traced.specs.Entries.{entry, is_call, owner_of, row_of}
 use Rattle.traced.specs.Pages.{PagesView, noted, noted_all}
 use Rattle.traced.specs.Told.{AreNoCalls}
@@ -38,7 +38,7 @@ use Rattle.host.proofs.Quiet.{NoCalls, Still, quiet, rest_calls_none}
 some_same : {A : Type 0} {x y : A} → Some x ≡ Some y → x ≡ y
 some_same {A} {x} {y} e = cc
 
-none_at : (es : List Entry) (k : ℕ) (e : Entry) → NoCalls es → slice_get es k ≡ Some e → is_call e.label ≡ false
+none_at : (es : List TraceEntry) (k : ℕ) (e : TraceEntry) → NoCalls es → slice_get es k ≡ Some e → is_call e.label ≡ false
 none_at [] k e none at = absurd (cc)
 none_at (x ∷ es) zero e none at = ap (λ y. is_call y.label) (sym (some_same at)) ∙ none.0
 none_at (x ∷ es) (suc k) e none at = none_at es k e none.1 at
@@ -47,7 +47,7 @@ apart : {A : Type 0} (b : Bool) → b ≡ true → b ≡ false → A
 apart b e f = absurd (cc)
 
 -- the one call behind these entries
-at_call : (xs front back : List Entry) (x : Entry) (k : ℕ) (e : Entry) → NoCalls front → NoCalls back → length xs ≤ k → slice_get (xs ++ (front ++ x ∷ back)) k ≡ Some e → is_call e.label ≡ true
+at_call : (xs front back : List TraceEntry) (x : TraceEntry) (k : ℕ) (e : TraceEntry) → NoCalls front → NoCalls back → length xs ≤ k → slice_get (xs ++ (front ++ x ∷ back)) k ≡ Some e → is_call e.label ≡ true
     → k ≡ length xs + length front
 at_call (y ∷ xs) front back x zero e f b less at is = absurd (omega arith)
 at_call (y ∷ xs) front back x (suc k) e f b less at is = let r = at_call xs front back x k e f b (omega arith) at is in omega arith
@@ -56,12 +56,12 @@ at_call [] (y ∷ front) back x (suc k) e f b less at is = let r = at_call [] fr
 at_call [] [] back x zero e f b less at is = omega arith
 at_call [] [] back x (suc k) e f b less at is = apart (is_call e.label) is (none_at back k e b at)
 
-no_call_behind : (xs more : List Entry) (k : ℕ) (e : Entry) → NoCalls more → length xs ≤ k → slice_get (xs ++ more) k ≡ Some e → is_call e.label ≡ false
+no_call_behind : (xs more : List TraceEntry) (k : ℕ) (e : TraceEntry) → NoCalls more → length xs ≤ k → slice_get (xs ++ more) k ≡ Some e → is_call e.label ≡ false
 no_call_behind [] more k e none less at = none_at more k e none at
 no_call_behind (x ∷ xs) more zero e none less at = absurd (omega arith)
 no_call_behind (x ∷ xs) more (suc k) e none less at = no_call_behind xs more k e none (omega arith) at
 
-pub get_behind : (xs ys : List Entry) (j : ℕ) → slice_get (xs ++ ys) (length xs + j) ≡ slice_get ys j
+pub get_behind : (xs ys : List TraceEntry) (j : ℕ) → slice_get (xs ++ ys) (length xs + j) ≡ slice_get ys j
 get_behind [] ys j = ap (slice_get ys) (let z : 0 + j ≡ j = omega arith in z)
 get_behind (x ∷ xs) ys j = ap (slice_get (x ∷ (xs ++ ys))) (let z : length (x ∷ xs) + j ≡ suc (length xs + j) = omega arith in z) ∙ get_behind xs ys j
 
@@ -76,13 +76,13 @@ owner_new owners number c next = ap (slice_get (owners ++ c ∷ [])) (let e : nu
 -- A CALL AND WHAT STANDS BEHIND IT
 
 -- these labels add a call of the client, and behind it no other
-record AddsCall (client : ℕ) (p : PagesView) (labels : List Label) (label : Label) (back : List Entry) : Type 0 where
+record AddsCall (client : ℕ) (p : PagesView) (labels : List Label) (label : Label) (back : List TraceEntry) : Type 0 where
   entries : (noted_all client p labels).entries ≡ p.entries ++ (entry label (Some client) ∷ back)
   none : NoCalls back
   owners : length (noted_all client p labels).owners ≡ length p.owners + 1
 
 called : (client : ℕ) (p : PagesView) (labels rest : List Label) (n : ℕ) (q : ClientRequest) → labels ≡ CallLabel n q ∷ rest → AreNoCalls rest → n ≡ length p.owners + 1
-    → (back : List Entry) × AddsCall client p labels (CallLabel n q) back
+    → (back : List TraceEntry) × AddsCall client p labels (CallLabel n q) back
 called client p labels rest n q is none next =
     let quiet' = quiet client (noted client p (CallLabel n q)) rest none in
     let row : row_of (p.owners ++ client ∷ []) (CallLabel n q) ≡ Some client = owner_new p.owners n client next in (
@@ -110,13 +110,13 @@ called_twice client p labels n q s i b is next =
 -- THE BOOK BEFORE AND AFTER
 
 -- a call is all that came behind the marks
-record Comes (client : ℕ) (old new : TracedView) (label : Label) (back : List Entry) : Type 0 where
-  front : List Entry
+record Comes (client : ℕ) (old new : TracedView) (label : Label) (back : List TraceEntry) : Type 0 where
+  front : List TraceEntry
   entries : new.entries ≡ old.entries ++ (front ++ entry label (Some client) ∷ back)
   none_front : NoCalls front
   none_back : NoCalls back
 
-comes : (client : ℕ) (old mid new : TracedView) (labels : List Label) (label : Label) (back : List Entry) → Still old mid → new.entries ≡ (noted_all client (pages_of mid) labels).entries
+comes : (client : ℕ) (old mid new : TracedView) (labels : List Label) (label : Label) (back : List TraceEntry) → Still old mid → new.entries ≡ (noted_all client (pages_of mid) labels).entries
     → AddsCall client (pages_of mid) labels label back → Comes client old new label back
 comes client old mid new labels label back still is adds = record {
   front = still.more;
@@ -126,7 +126,7 @@ comes client old mid new labels label back still is adds = record {
 }
 
 -- it is found
-found : (client : ℕ) (old new : TracedView) (label : Label) (back : List Entry) → is_call label ≡ true → Comes client old new label back → (place : Option ℕ) → FindsCall (length old.entries) new.entries place
+found : (client : ℕ) (old new : TracedView) (label : Label) (back : List TraceEntry) → is_call label ≡ true → Comes client old new label back → (place : Option ℕ) → FindsCall (length old.entries) new.entries place
     → (p : ℕ) × (place ≡ Some p) × Stands new.entries p label client × (slice_get new.entries (p + 1) ≡ slice_get back 0)
 found client old new label back is comes None finds =
     let at : slice_get new.entries (length old.entries + length comes.front) ≡ Some (entry label (Some client)) = here in
@@ -220,7 +220,7 @@ module _ (slots : ℕ) (old mid new : TracedView) (before after : ShareView) (q 
       → (p : ℕ) × (place ≡ Some p) × IsAnsweredAtOnce before after q new.entries mid.stack.state.next_request (AnswerLabel mid.stack.state.next_request status 0 []) p
   at_once status stepped' told order a place finds =
       let n : ℕ = mid.stack.state.next_request in
-      let back : List Entry = entry (AnswerLabel n status 0 []) (Some before.client) ∷ [] in
+      let back : List TraceEntry = entry (AnswerLabel n status 0 []) (Some before.client) ∷ [] in
       let adds = called_twice before.client (pages_of mid) stepped.labels n (without_bytes q) status 0 [] (order ∙ at_once_labels mid.stack q status stepped' told a) next in
       let f = found before.client old new (CallLabel n (without_bytes q)) back refl (comes before.client old mid new stepped.labels (CallLabel n (without_bytes q)) back still carried.entries adds) place finds in (
         f.0,

@@ -4,7 +4,7 @@ use Rattle.std.proofs.lemmas.List.{get_or_append_left}
 use Rattle.std.proofs.Math.Seq.{get_or-append_seam}
 use mathlib.Core.Logic.{dite}
 use native.Mathlib.Decide.{ℕ_discrete}
-use Rattle.traced.specs.declared.Entry.{Entry}
+use Rattle.traced.specs.declared.TraceEntry.{TraceEntry}
 use Rattle.host.specs.Clients.{ClientView, fresh, client_at}
 use Rattle.host.specs.Closing.{total, IsBorneOut, AreBorneOut}
 use Rattle.host.proofs.Counting.{total_next, total_same}
@@ -12,7 +12,7 @@ use Rattle.host.proofs.Counting.{total_next, total_same}
 pub longer : (ys : List ClientView) (x : ClientView) → length (ys ++ x ∷ []) ≡ length ys + 1
 longer ys x = length-append ys (x ∷ [])
 
-pub borne_snoc : (es : List Entry) (ys : List ClientView) (x : ClientView) → AreBorneOut es (length ys) ys → IsBorneOut es x → AreBorneOut es (length (ys ++ x ∷ [])) (ys ++ x ∷ [])
+pub borne_snoc : (es : List TraceEntry) (ys : List ClientView) (x : ClientView) → AreBorneOut es (length ys) ys → IsBorneOut es x → AreBorneOut es (length (ys ++ x ∷ [])) (ys ++ x ∷ [])
 borne_snoc es ys x all one c less =
     dite (ℕ_discrete c (length ys))
     (λ (e : c ≡ length ys). subst (IsBorneOut es) (sym (ap (client_at (ys ++ x ∷ [])) e ∙ get_or-append_seam ys x [] (fresh 0))) one)

@@ -8,7 +8,7 @@ use native.Mathlib.Decide.{ℕ_discrete}
 use Rattle.machine.specs.declared.Label.{Label}
 use Rattle.machine.specs.declared.Label.TheVariants.{Call, Device, Answer, Cancel, Pause, Resume, Remove, Surprise, Removed}
 use Rattle.chronicle.specs.Claims.{AllStand}
-use Rattle.traced.specs.declared.Entry.{Entry}
+use Rattle.traced.specs.declared.TraceEntry.{TraceEntry}
 use Rattle.traced.specs.Entries.{AreRowed, HasOwner, calls, is_call, is_row, owner_of, row_of}
 use Rattle.host.specs.Receipts.{Receipt, AreCalls, AreRising, places_of}
 use Rattle.host.specs.Clients.{ClientView, client_at}
@@ -71,7 +71,7 @@ total_once (suc n) d less =
     (λ (ne : n ≢ d). omega (arith, total_once n d (omega arith), ap one (eqb_not n d ne)))
 
 -- each call is in the row of a client
-abbrev pub AreCallsOf : ℕ → List Entry → Type 0
+abbrev pub AreCallsOf : ℕ → List TraceEntry → Type 0
 AreCallsOf n [] = Unit {0}
 AreCallsOf n (e ∷ es) = (is_call e.label ≡ true → (d : ℕ) × (e.row ≡ Some d) × (d < n)) × AreCallsOf n es
 
@@ -91,7 +91,7 @@ own_head n owners row Remove has is owned call = absurd (cc)
 own_head n owners row Surprise has is owned call = absurd (cc)
 own_head n owners row Removed has is owned call = absurd (cc)
 
-pub calls_of : (n : ℕ) (owners : List ℕ) (es : List Entry) → AreRowed owners es → ((number c : ℕ) → owner_of owners number ≡ Some c → c < n) → AreCallsOf n es
+pub calls_of : (n : ℕ) (owners : List ℕ) (es : List TraceEntry) → AreRowed owners es → ((number c : ℕ) → owner_of owners number ≡ Some c → c < n) → AreCallsOf n es
 calls_of n owners [] all owned = tt
 calls_of n owners (e ∷ es) all owned = (own_head n owners e.row e.label all.0.0 all.0.1 owned, calls_of n owners es all.1 owned)
 
@@ -99,7 +99,7 @@ length_if : {A : Type 0} (b : Bool) (x : A) (xs : List A) → length (if b then 
 length_if true x xs = omega arith
 length_if false x xs = omega arith
 
-pub counted : (n from : ℕ) (es : List Entry) → AreCallsOf n es → total n (λ c. length (call_places c from es)) ≡ calls es
+pub counted : (n from : ℕ) (es : List TraceEntry) → AreCallsOf n es → total n (λ c. length (call_places c from es)) ≡ calls es
 counted n from [] all = total_none n
 counted n from (e ∷ es) all =
     let rest = counted n (suc from) es all.1 in
@@ -119,21 +119,21 @@ counted n from (e ∷ es) all =
 -- WHAT IS CLAIMED IN RISING PLACES IS AT MOST THE ROW, AND IF AS MUCH, THEN THE ROW
 
 -- claims stand, where the entries begin at a place
-abbrev StandFrom : ℕ → List Entry → List Receipt → Type 0
+abbrev StandFrom : ℕ → List TraceEntry → List Receipt → Type 0
 StandFrom from es [] = Unit {0}
 StandFrom from es (c ∷ cs) = (slice_get es (c.0 - from) ≡ Some c.1) × StandFrom from es cs
 
-stand_zero : (es : List Entry) (cs : List Receipt) → AllStand es cs → StandFrom 0 es cs
+stand_zero : (es : List TraceEntry) (cs : List Receipt) → AllStand es cs → StandFrom 0 es cs
 stand_zero es [] all = tt
 stand_zero es (c ∷ cs) all = (subst (λ (k : ℕ). slice_get es k ≡ Some c.1) (omega arith) all.0, stand_zero es cs all.1)
 
-stand_later : (from low : ℕ) (e : Entry) (es : List Entry) (cs : List Receipt) → suc from ≤ low → AreRising low cs → StandFrom from (e ∷ es) cs → StandFrom (suc from) es cs
+stand_later : (from low : ℕ) (e : TraceEntry) (es : List TraceEntry) (cs : List Receipt) → suc from ≤ low → AreRising low cs → StandFrom from (e ∷ es) cs → StandFrom (suc from) es cs
 stand_later from low e es [] less rising all = tt
 stand_later from low e es (c ∷ cs) less rising all =
     let at : c.0 - from ≡ suc (c.0 - suc from) = let r = rising.0 in omega arith in
     (subst (λ (k : ℕ). slice_get (e ∷ es) k ≡ Some c.1) at all.0, stand_later from (suc c.0) e es cs (let r = rising.0 in omega arith) rising.1 all.1)
 
-some_same : (x y : Entry) → Some x ≡ Some y → x ≡ y
+some_same : (x y : TraceEntry) → Some x ≡ Some y → x ≡ y
 some_same x y e = cc
 
 empty_is : (xs : List ℕ) → 0 ≡ length xs → [] ≡ xs
@@ -147,10 +147,10 @@ skips : (b : Bool) (from : ℕ) (cs : List Receipt) (places : List ℕ) → Cove
 skips true from cs places all = (let a = all.0 in omega arith, λ same. let a = all.0 in absurd (omega arith))
 skips false from cs places all = all
 
-takes : (from p : ℕ) (e : Entry) (cs : List Receipt) (places : List ℕ) → p ≡ from → Covers cs places → Covers ((p, e) ∷ cs) (from ∷ places)
+takes : (from p : ℕ) (e : TraceEntry) (cs : List Receipt) (places : List ℕ) → p ≡ from → Covers cs places → Covers ((p, e) ∷ cs) (from ∷ places)
 takes from p e cs places here all = (let a = all.0 in omega arith, λ same. (λ i. here i ∷ all.1 (omega arith) i))
 
-pub covers : (c from : ℕ) (es : List Entry) (cs : List Receipt) → AreRising from cs → AreCalls c cs → StandFrom from es cs → Covers cs (call_places c from es)
+pub covers : (c from : ℕ) (es : List TraceEntry) (cs : List Receipt) → AreRising from cs → AreCalls c cs → StandFrom from es cs → Covers cs (call_places c from es)
 covers c from es [] rising own stand = (omega arith, λ same. empty_is (call_places c from es) same)
 covers c from [] (r ∷ rs) rising own stand = absurd (cc)
 covers c from (e ∷ es) (r ∷ rs) rising own stand =
@@ -159,7 +159,7 @@ covers c from (e ∷ es) (r ∷ rs) rising own stand =
     let at : r.0 - from ≡ 0 = omega arith in
     let same : e ≡ r.1 = some_same e r.1 (subst (λ (k : ℕ). slice_get (e ∷ es) k ≡ Some r.1) at stand.0) in
     let mine : (is_call e.label && is_row c e.row) ≡ true =
-    ap (λ (x : Entry). is_call x.label && is_row c x.row) same ∙ (λ i. own.0.call i && is_row c (own.0.row i)) ∙ eqb_is c c refl in
+    ap (λ (x : TraceEntry). is_call x.label && is_row c x.row) same ∙ (λ i. own.0.call i && is_row c (own.0.row i)) ∙ eqb_is c c refl in
     let later = covers c (suc from) es rs (subst (λ (k : ℕ). AreRising (suc k) rs) here rising.1) own.1 (stand_later from (suc from) e es rs (omega arith) (subst (λ (k : ℕ). AreRising (suc k) rs) here rising.1) stand.1) in
     subst (λ (b : Bool). Covers (r ∷ rs) (if b then from ∷ call_places c (suc from) es else call_places c (suc from) es)) (sym mine) (takes from r.0 r.1 rs (call_places c (suc from) es) here later))
     (λ (ne : r.0 ≢ from).
@@ -169,7 +169,7 @@ covers c from (e ∷ es) (r ∷ rs) rising own stand =
 
 -- THE ROWS' CALLS ARE THE CLIENTS'
 
-pub just : (n : ℕ) (owners : List ℕ) (es : List Entry) (clients : List ClientView) → AreRowed owners es → ((number c : ℕ) → owner_of owners number ≡ Some c → c < n)
+pub just : (n : ℕ) (owners : List ℕ) (es : List TraceEntry) (clients : List ClientView) → AreRowed owners es → ((number c : ℕ) → owner_of owners number ≡ Some c → c < n)
     → AreBorneOut es n clients → ((c : ℕ) → c < n → (client_at clients c).client ≡ c) → total n (λ c. length (client_at clients c).called) ≡ calls es
     → (c : ℕ) → c < n → call_places c 0 es ≡ places_of (client_at clients c).called
 just n owners es clients rowed owned borne numbers sum c less =

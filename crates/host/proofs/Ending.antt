@@ -3,7 +3,7 @@ use Rattle.std.proofs.Common.{◌≡◌, ◌<◌, ℕ, List, length, sym, ap, �
 use Rattle.machine.specs.Rules.{Rules}
 use Rattle.machine.specs.State.{State}
 use Rattle.machine.specs.Step.{Run}
-use Rattle.traced.specs.declared.Entry.{Entry}
+use Rattle.traced.specs.declared.TraceEntry.{TraceEntry}
 use Rattle.traced.specs.Traced.{AreRowsOf, TracedView}
 use Rattle.traced.specs.Entries.{calls, labels_of}
 use Rattle.traced.specs.Rows.{RowView}
@@ -11,10 +11,10 @@ use Rattle.host.specs.Clients.{AreNumbered, ClientView, client_at}
 use Rattle.host.specs.Closing.{AreBorneOut, IsClosed, total}
 use Rattle.host.proofs.Counting.{just}
 
-pub closed_is : (rules : Rules) (opening last : State) (n : ℕ) (v : TracedView) (clients : List ClientView) (trace : List Entry) (rows : List RowView)
+pub closed_is : (rules : Rules) (opening last : State) (n : ℕ) (v : TracedView) (clients : List ClientView) (trace : List TraceEntry) (rows : List RowView)
     → AreNumbered n clients → AreRowsOf n v trace rows → Run rules opening (labels_of trace) last → AreBorneOut v.entries (length clients) clients
     → total (length clients) (λ c. length (client_at clients c).called) ≡ calls v.entries → IsClosed rules opening clients trace rows
-closed_is rules opening last n v clients trace rows numbered are run borne sum = subst (λ (t : List Entry). IsClosed rules opening clients t rows) (sym are.stored) at
+closed_is rules opening last n v clients trace rows numbered are run borne sum = subst (λ (t : List TraceEntry). IsClosed rules opening clients t rows) (sym are.stored) at
   where
     sum_n : total n (λ c. length (client_at clients c).called) ≡ calls v.entries
     sum_n = ap (λ (k : ℕ). total k (λ c. length (client_at clients c).called)) (sym numbered.all) ∙ sum
@@ -25,7 +25,7 @@ closed_is rules opening last n v clients trace rows numbered are run borne sum =
     at : IsClosed rules opening clients v.entries rows
     at = record {
       last = last;
-      run = subst (λ (t : List Entry). Run rules opening (labels_of t) last) are.stored run;
+      run = subst (λ (t : List TraceEntry). Run rules opening (labels_of t) last) are.stored run;
       owners = v.owners;
       rowed = are.kept.rowed;
       row = λ c less. (are.kept.each c (subst (λ (k : ℕ). c < k) numbered.all less)).places;

@@ -7,7 +7,7 @@ use Rattle.machine.specs.declared.Label.{Label}
 use Rattle.machine.specs.declared.Label.TheVariants.{Call as CallLabel}
 use Rattle.io_manager.specs.declared.OpenHandle.{OpenHandle}
 use Rattle.chronicle.specs.Claims.{AllStand}
-use Rattle.traced.specs.declared.Entry.{Entry}
+use Rattle.traced.specs.declared.TraceEntry.{TraceEntry}
 use Rattle.traced.specs.Shares.{ShareView}
 use Rattle.host.specs.Receipts.{Receipt, ReceiptsView, AreBelow, Answers, receipt}
 use Rattle.host.specs.Accounts.{AccountKept}
@@ -16,8 +16,8 @@ use Rattle.host.proofs.Keeping.{below_more, below_stand}
 use Rattle.host.proofs.Accounts.{account_answered, account_called, receipt_is}
 
 -- what was noted of a place
-abbrev pub IsNoted : List Entry → ℕ → List Receipt → Type 0
-IsNoted es place claim = (e : Entry) × (slice_get es place ≡ Some e) × (claim ≡ (place, e) ∷ [])
+abbrev pub IsNoted : List TraceEntry → ℕ → List Receipt → Type 0
+IsNoted es place claim = (e : TraceEntry) × (slice_get es place ≡ Some e) × (claim ≡ (place, e) ∷ [])
 
 -- a call's receipt, above all before
 pub record IsReceived (handles : List (Option OpenHandle)) (partitions : List ℕ) (share share' : ShareView) (called called' answered answered' claim : List Receipt) (place number : ℕ) (q : ClientRequest) : Type 0 where
@@ -27,7 +27,7 @@ pub record IsReceived (handles : List (Option OpenHandle)) (partitions : List �
   pub list : called' ≡ called ++ claim
   pub kept : AccountKept handles partitions share' called' answered'
 
-pub received : (handles : List (Option OpenHandle)) (partitions : List ℕ) (share share' : ShareView) (called checked noted answered answered' : ReceiptsView) (claim : List Receipt) (es mid end new : List Entry) (place number : ℕ) (q : ClientRequest)
+pub received : (handles : List (Option OpenHandle)) (partitions : List ℕ) (share share' : ShareView) (called checked noted answered answered' : ReceiptsView) (claim : List Receipt) (es mid end new : List TraceEntry) (place number : ℕ) (q : ClientRequest)
     → AccountKept handles partitions share called.list answered.list → AllStand es called.list → mid ≡ es → checked ≡ called → AllStand mid answered.list → end ≡ mid → answered' ≡ answered → length end ≤ place → Stands new place (CallLabel number q) share.client → HasCounted share 1 share'
     → IsNoted new place claim → noted ≡ record { list = checked.list ++ claim; room = checked.room - 1 } → IsReceived handles partitions share share' called.list noted.list answered.list answered'.list claim place number q
 received handles partitions share share' called checked noted answered answered' claim es mid end new place number q kept stand same_es same stand_answers same_mid same_answers late stands counted entry noted_is = record {
@@ -46,17 +46,17 @@ received handles partitions share share' called checked noted answered answered'
     below = below_stand es called.list stand
 
     late_mid : length mid ≤ place
-    late_mid = subst (λ (xs : List Entry). length xs ≤ place) same_mid late
+    late_mid = subst (λ (xs : List TraceEntry). length xs ≤ place) same_mid late
 
     late' : length es ≤ place
-    late' = subst (λ (xs : List Entry). length xs ≤ place) same_es late_mid
+    late' = subst (λ (xs : List TraceEntry). length xs ≤ place) same_es late_mid
 
     list : noted.list ≡ called.list ++ claim
     list = ap (λ (r : ReceiptsView). r.list) noted_is ∙ ap (λ (r : ReceiptsView). r.list ++ claim) same
 
 -- where something stands, there is an entry
-pub stands_within : (es es' : List Entry) (place : ℕ) (label : Label) (client : ℕ) → es' ≡ es → Stands es place label client → place < length es'
-stands_within es es' place label client same stands = subst (λ (xs : List Entry). place < length xs) (sym same) (slice_get_within es place _ stands)
+pub stands_within : (es es' : List TraceEntry) (place : ℕ) (label : Label) (client : ℕ) → es' ≡ es → Stands es place label client → place < length es'
+stands_within es es' place label client same stands = subst (λ (xs : List TraceEntry). place < length xs) (sym same) (slice_get_within es place _ stands)
 
 -- an answer's receipt
 pub record IsAnswerReceived (handles : List (Option OpenHandle)) (partitions : List ℕ) (client : ℕ) (share' : ShareView) (called answered answered' claim : List Receipt) (place : ℕ) (label : Label) : Type 0 where
@@ -64,7 +64,7 @@ pub record IsAnswerReceived (handles : List (Option OpenHandle)) (partitions : L
   pub list : answered' ≡ answered ++ receipt place label client
   pub kept : AccountKept handles partitions share' called answered'
 
-pub answer_received : (handles : List (Option OpenHandle)) (partitions : List ℕ) (share share' : ShareView) (called : List Receipt) (answered noted : ReceiptsView) (claim : List Receipt) (es es' : List Entry) (place : ℕ) (label : Label)
+pub answer_received : (handles : List (Option OpenHandle)) (partitions : List ℕ) (share share' : ShareView) (called : List Receipt) (answered noted : ReceiptsView) (claim : List Receipt) (es es' : List TraceEntry) (place : ℕ) (label : Label)
     → AccountKept handles partitions share' called answered.list → share'.client ≡ share.client → es' ≡ es → Stands es place label share.client → Answers label → IsNoted es' place claim
     → noted ≡ record { list = answered.list ++ claim; room = answered.room - 1 } → IsAnswerReceived handles partitions share.client share' called answered.list noted.list claim place label
 answer_received handles partitions share share' called answered noted claim es es' place label kept client same stands answers entry noted_is = record {
@@ -75,4 +75,4 @@ answer_received handles partitions share share' called answered noted claim es e
 }
   where
     claim_is : claim ≡ receipt place label share.client
-    claim_is = receipt_is es' place label share.client entry.0 claim (subst (λ (xs : List Entry). Stands xs place label share.client) (sym same) stands) entry.1 entry.2
+    claim_is = receipt_is es' place label share.client entry.0 claim (subst (λ (xs : List TraceEntry). Stands xs place label share.client) (sym same) stands) entry.1 entry.2

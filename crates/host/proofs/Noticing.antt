@@ -9,7 +9,7 @@ use Rattle.io_manager.specs.declared.Reply.{Reply}
 use Rattle.io_manager.specs.declared.Reply.TheVariants.{Ok as OkReply, Refused}
 use Rattle.io_manager.specs.Right.{QueryReplies, as_answer, end_labels}
 use Rattle.compose.specs.declared.Event.TheVariants.{QueryRemove}
-use Rattle.traced.specs.declared.Entry.{Entry}
+use Rattle.traced.specs.declared.TraceEntry.{TraceEntry}
 use Rattle.traced.specs.Entries.{AreRowed, entry, row_of}
 use Rattle.traced.specs.Pages.{noted, noted_all}
 use Rattle.traced.specs.Traced.{TracedView, IsServed, pages_of}
@@ -23,7 +23,7 @@ use Rattle.host.proofs.Keeping.{below_more}
 use Rattle.host.proofs.Quiet.{Still, quiet, rest_calls_none}
 
 -- such a label stands in no row
-in_no_row : (notice : Notice) (owners : List ℕ) (e : Entry) → is_notice notice e.label ≡ true → e.row ≡ row_of owners e.label → e ≡ entry (label_of notice) None
+in_no_row : (notice : Notice) (owners : List ℕ) (e : TraceEntry) → is_notice notice e.label ≡ true → e.row ≡ row_of owners e.label → e ≡ entry (label_of notice) None
 in_no_row notice owners e is rowed = go notice e.label is rowed
   where
     go : (n : Notice) (l : Label) → is_notice n l ≡ true → e.row ≡ row_of owners l → entry l e.row ≡ entry (label_of n) None
@@ -47,15 +47,15 @@ in_no_row notice owners e is rowed = go notice e.label is rowed
     go Removed Surprise is rowed = absurd (cc)
 
 -- a claim on the place where one was found
-pub noticed : (notice : Notice) (owners : List ℕ) (es : List Entry) (from place : ℕ) (claim : List Receipt) → AreRowed owners es
-    → (from ≤ place) × ((e : Entry) × (slice_get es place ≡ Some e) × (is_notice notice e.label ≡ true)) → (e : Entry) × (slice_get es place ≡ Some e) × (claim ≡ (place, e) ∷ [])
+pub noticed : (notice : Notice) (owners : List ℕ) (es : List TraceEntry) (from place : ℕ) (claim : List Receipt) → AreRowed owners es
+    → (from ≤ place) × ((e : TraceEntry) × (slice_get es place ≡ Some e) × (is_notice notice e.label ≡ true)) → (e : TraceEntry) × (slice_get es place ≡ Some e) × (claim ≡ (place, e) ∷ [])
     → IsNoticed from (label_of notice) claim
 noticed notice owners es from place claim rowed found claimed =
-    let x : Entry = found.1.0 in
-    let e : Entry = claimed.0 in
+    let x : TraceEntry = found.1.0 in
+    let e : TraceEntry = claimed.0 in
     let same : e ≡ x = some_same (sym claimed.1 ∙ found.1.1) in
     let is : x ≡ entry (label_of notice) None = in_no_row notice owners x found.1.2 (rowed_at owners es place x rowed found.1.1) in
-    record { place = place; late = found.0; claim_is = claimed.2 ∙ ap (λ (y : Entry). (place, y) ∷ []) (same ∙ is) }
+    record { place = place; late = found.0; claim_is = claimed.2 ∙ ap (λ (y : TraceEntry). (place, y) ∷ []) (same ∙ is) }
 
 -- an accepted query tells of its pause behind all that was told before
 pub pause_stands : (old mid new : TracedView) (reply : Reply) → Still old mid → IsServed 0 mid QueryRemove reply new → reply ≡ OkReply

@@ -8,7 +8,7 @@ use Rattle.io_manager.specs.declared.Handle.{Handle}
 use Rattle.io_manager.specs.Shown.{ManagerView}
 use Rattle.remove_lock.specs.Gate.{Standing, issued, standing, fresh}
 use Rattle.cancel_marks.specs.Marks.{Standing as SeatStanding, standing as seat_of, starting, IsOther}
-use Rattle.traced.specs.declared.sizes.Sizes.{Sizes}
+use Rattle.traced.specs.declared.sizes.StackSizes.{StackSizes}
 use Rattle.traced.specs.Opening.{AreOpened, IsNew}
 use Rattle.traced.specs.Sizes.{AreSizes, sizes_of}
 use Rattle.host.specs.Opening.{IsClientPass, IsOpening, IsReady, client_limit}
@@ -28,7 +28,7 @@ passes_are gate n quotas passes is equal = subst (All (IsClientPass gate)) (sym 
 opens_first : (v : ManagerView) → IsNew v → IsOpening v.state
 opens_first v new = subst IsOpening (sym new.state) refl
 
-pub is_ready : (partitions : List ℕ) (old stack : ManagerView) (handles : List Handle) (sizes : Sizes) (slots parts : ℕ) (marks : TableId × ℕ) (owner : SeatStanding) (seats : List SeatStanding) (gate : TableId) (passes : List Standing)
+pub is_ready : (partitions : List ℕ) (old stack : ManagerView) (handles : List Handle) (sizes : StackSizes) (slots parts : ℕ) (marks : TableId × ℕ) (owner : SeatStanding) (seats : List SeatStanding) (gate : TableId) (passes : List Standing)
     → length partitions ≤ client_limit → IsNew old → AreOpened partitions handles old stack → IsFalse stack.adapter.faithful → sizes ≡ sizes_of old.rules → AreSizes sizes → old.rules.open_requests ≡ Some slots → parts ≡ length partitions + 1
     → marks.1 ≡ slots → owner ≡ seat_of marks.0 0 (starting (max slots 1)) → length seats ≡ length partitions → All (IsOther marks.0) seats → length passes ≡ length partitions + 1 → All (IsClientPass gate) passes
     → IsReady partitions stack handles sizes slots parts marks owner seats gate passes

@@ -18,7 +18,7 @@ use Rattle.compose.specs.declared.Event.TheVariants.{Mark}
 use Rattle.compose.specs.Journaled.{IsNoAct}
 use Rattle.book.specs.Acting.{ActsEntry}
 use Rattle.book.specs.Book.{BookView, AreBooked, HoldsFailure, IsLastAct, ServesAfter, ServesEvent}
-use Rattle.traced.specs.declared.Entry.{Entry}
+use Rattle.traced.specs.declared.TraceEntry.{TraceEntry}
 use Rattle.traced.specs.Entries.{entry, is_call, row_of}
 use Rattle.traced.specs.Pages.{PagesView, noted, noted_all, owners_after}
 use Rattle.traced.specs.Told.{AreNoCalls}
@@ -80,17 +80,17 @@ told_calls_none told own =
 -- ENTRIES
 
 -- none of these entries is a call
-abbrev pub NoCalls : List Entry → Type 0
+abbrev pub NoCalls : List TraceEntry → Type 0
 NoCalls [] = Unit {0}
 NoCalls (e ∷ es) = (is_call e.label ≡ false) × NoCalls es
 
-pub none_both : (xs ys : List Entry) → NoCalls xs → NoCalls ys → NoCalls (xs ++ ys)
+pub none_both : (xs ys : List TraceEntry) → NoCalls xs → NoCalls ys → NoCalls (xs ++ ys)
 none_both [] ys a b = b
 none_both (x ∷ xs) ys a b = (a.0, none_both xs ys a.1 b)
 
 -- what labels without calls add to the pages
 pub record IsQuiet (client : ℕ) (p : PagesView) (labels : List Label) : Type 0 where
-  pub more : List Entry
+  pub more : List TraceEntry
   pub entries : (noted_all client p labels).entries ≡ p.entries ++ more
   pub none : NoCalls more
   pub owners : (noted_all client p labels).owners ≡ p.owners
@@ -120,7 +120,7 @@ quiet client p (Removed ∷ ls) none = quiet_next client p Removed ls refl refl 
 
 -- no call came
 pub record Still (old new : TracedView) : Type 0 where
-  pub more : List Entry
+  pub more : List TraceEntry
   pub entries : new.entries ≡ old.entries ++ more
   pub none : NoCalls more
   pub owners : new.owners ≡ old.owners

@@ -10,13 +10,13 @@ use Rattle.machine.specs.Step.{Run}
 use Rattle.machine_laws.specs.Along.{Always}
 use Rattle.machine_laws.specs.EndLaws.{IsEmpty, RemovedAreEmpty}
 use Rattle.machine_laws.specs.Reached.{RunsSplit}
-use Rattle.traced.specs.declared.Entry.{Entry}
+use Rattle.traced.specs.declared.TraceEntry.{TraceEntry}
 use Rattle.traced.specs.Entries.{labels_of}
 use Rattle.host.specs.Closing.{SettledAtRemoved}
 use Rattle.host.specs.Opening.{IsOpening}
 use Rattle.host.proofs.Answering.{some_same}
 
-label_at : (es : List Entry) (k : ℕ) (e : Entry) (l : Label) → slice_get es k ≡ Some e → e.label ≡ l → slice_get (labels_of es) k ≡ Some l
+label_at : (es : List TraceEntry) (k : ℕ) (e : TraceEntry) (l : Label) → slice_get es k ≡ Some e → e.label ≡ l → slice_get (labels_of es) k ≡ Some l
 label_at [] k e l at is = absurd (cc)
 label_at (x ∷ es) zero e l at is = ap Some (subst (λ y. y.label ≡ l) (sym (some_same at)) is)
 label_at (x ∷ es) (suc k) e l at is = label_at es k e l at is
@@ -32,7 +32,7 @@ at_last : (Holds : State → Type 0) (rules : Rules) (s : State) (labels : List 
 at_last Holds rules s [] s' run h = h.1
 at_last Holds rules s (l ∷ labels) s' run h = at_last Holds rules run.0 labels s' run.2 h.1
 
-module _ (removed : RemovedAreEmpty) (splits : RunsSplit) (rules : Rules) (first last : State) (opens : IsOpening first) (trace : List Entry) (run : Run rules first (labels_of trace) last) where
+module _ (removed : RemovedAreEmpty) (splits : RunsSplit) (rules : Rules) (first last : State) (opens : IsOpening first) (trace : List TraceEntry) (run : Run rules first (labels_of trace) last) where
   part : (count : ℕ) → (mid : State) × Run rules first (take count (labels_of trace)) mid × Run rules mid (drop count (labels_of trace)) last
   part count = splits rules first (take count (labels_of trace)) (drop count (labels_of trace)) last (subst (λ ls. Run rules first ls last) (sym (take-append-drop count (labels_of trace))) run)
 

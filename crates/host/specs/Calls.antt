@@ -13,7 +13,7 @@ use Rattle.io_manager.specs.Calls.{IsWant, bytes_called, status_of_refusal, with
 use Rattle.io_manager.specs.Right.{as_answer}
 use Rattle.compose.specs.declared.Event.{Event}
 use Rattle.compose.specs.declared.Event.TheVariants.{Read as ReadEvent, Write as WriteEvent, Flush as FlushEvent}
-use Rattle.traced.specs.declared.Entry.{Entry}
+use Rattle.traced.specs.declared.TraceEntry.{TraceEntry}
 use Rattle.traced.specs.Entries.{entry, is_call}
 use Rattle.traced.specs.Shares.{ShareView}
 use Rattle.host.specs.declared.call.Call.{Call}
@@ -50,12 +50,12 @@ request_of partition Flush = asked partition FlushKind 0 [] false
 -- WHAT IS TOLD OF A CALL
 
 -- the first call from a place on, or that there is none
-abbrev pub FindsCall : ℕ → List Entry → Option ℕ → Type 0
-FindsCall from entries (Some place) = (from ≤ place) × ((e : Entry) × (slice_get entries place ≡ Some e) × (is_call e.label ≡ true))
-FindsCall from entries None = (place : ℕ) (e : Entry) → from ≤ place → slice_get entries place ≡ Some e → is_call e.label ≡ false
+abbrev pub FindsCall : ℕ → List TraceEntry → Option ℕ → Type 0
+FindsCall from entries (Some place) = (from ≤ place) × ((e : TraceEntry) × (slice_get entries place ≡ Some e) × (is_call e.label ≡ true))
+FindsCall from entries None = (place : ℕ) (e : TraceEntry) → from ≤ place → slice_get entries place ≡ Some e → is_call e.label ≡ false
 
 -- the label stands at the place, in the client's row
-abbrev pub Stands : List Entry → ℕ → Label → ℕ → Type 0
+abbrev pub Stands : List TraceEntry → ℕ → Label → ℕ → Type 0
 Stands entries place label client = slice_get entries place ≡ Some (entry label (Some client))
 
 -- the share has counted so many calls
@@ -65,7 +65,7 @@ pub record HasCounted (old : ShareView) (calls : ℕ) (new : ShareView) : Type 0
   pub more : new.calls ≡ old.calls + calls
 
 -- a request was opened
-pub record IsOpened (slots : ℕ) (old new : ShareView) (q : ClientRequest) (entries : List Entry) (slot number place : ℕ) : Type 0 where
+pub record IsOpened (slots : ℕ) (old new : ShareView) (q : ClientRequest) (entries : List TraceEntry) (slot number place : ℕ) : Type 0 where
   pub counted : HasCounted old 1 new
   pub called : Stands entries place (CallLabel number q) old.client
   pub in_range : slot < slots
@@ -73,13 +73,13 @@ pub record IsOpened (slots : ℕ) (old new : ShareView) (q : ClientRequest) (ent
   pub small : number < 2 ^ 62
 
 -- a call was answered at once, with its answer right behind it
-pub record IsAnsweredAtOnce (old new : ShareView) (q : ClientRequest) (entries : List Entry) (number : ℕ) (answer : Label) (place : ℕ) : Type 0 where
+pub record IsAnsweredAtOnce (old new : ShareView) (q : ClientRequest) (entries : List TraceEntry) (number : ℕ) (answer : Label) (place : ℕ) : Type 0 where
   pub counted : HasCounted old 1 new
   pub called : Stands entries place (CallLabel number (without_bytes q)) old.client
   pub answered : Stands entries (place + 1) answer old.client
 
 -- what the trace tells of a call, by its reply and the place of its label
-abbrev pub IsTold : ℕ → ShareView → ShareView → ClientRequest → List ℕ → List Entry → Reply → Option ℕ → Type 0
+abbrev pub IsTold : ℕ → ShareView → ShareView → ClientRequest → List ℕ → List TraceEntry → Reply → Option ℕ → Type 0
 IsTold slots old new q buffer entries (Requested id) (Some place) = IsOpened slots old new q entries id.slot id.number place
 IsTold slots old new q buffer entries (Answered answer) (Some place) = IsAnsweredAtOnce old new q entries answer.number (as_answer answer) place
 IsTold slots old new q buffer entries (Refused reason bytes) (Some place) =

@@ -13,7 +13,7 @@ use Rattle.book.specs.Taken.{BeginsWith, numbered_from}
 use Rattle.machine.specs.Step.{Run}
 use Rattle.machine_laws.specs.EndLaws.{IsEmpty}
 use Rattle.chronicle.specs.Claims.{AllStand}
-use Rattle.traced.specs.declared.Entry.{Entry}
+use Rattle.traced.specs.declared.TraceEntry.{TraceEntry}
 use Rattle.traced.specs.Entries.{AreRowed, is_call_of, labels_of, places}
 use Rattle.traced.specs.Rows.{RowView, row_at}
 use Rattle.host.specs.Receipts.{Receipt, AreAnswers, AreCalls, AreRising, places_of}
@@ -25,27 +25,27 @@ total zero f = 0
 total (suc n) f = total n f + f n
 
 -- a client's receipts stand in the trace: calls and answers of its own, the calls in rising places
-pub record HasReceiptsIn (es : List Entry) (client : ℕ) (called answered : List Receipt) : Type 0 where
+pub record HasReceiptsIn (es : List TraceEntry) (client : ℕ) (called answered : List Receipt) : Type 0 where
   pub calls_stand : AllStand es called
   pub answers_stand : AllStand es answered
   pub calls : AreCalls client called
   pub rising : AreRising 0 called
   pub answers : AreAnswers client answered
 
-abbrev pub IsBorneOut : List Entry → ClientView → Type 0
+abbrev pub IsBorneOut : List TraceEntry → ClientView → Type 0
 IsBorneOut es v = HasReceiptsIn es v.client v.called v.answered
 
-abbrev pub AreBorneOut : List Entry → ℕ → List ClientView → Type 0
+abbrev pub AreBorneOut : List TraceEntry → ℕ → List ClientView → Type 0
 AreBorneOut es count clients = (c : ℕ) → c < count → IsBorneOut es (client_at clients c)
 
 -- the places of the calls of a row, where the entries begin at this one
-abbrev pub call_places : ℕ → ℕ → List Entry → List ℕ
+abbrev pub call_places : ℕ → ℕ → List TraceEntry → List ℕ
 call_places c from [] = []
 call_places c from (e ∷ es) = if is_call_of c e then from ∷ call_places c (suc from) es else call_places c (suc from) es
 
 -- The trace and the rows of a closed host, with what its clients have receipts of: the trace is a run of the machine from the opening state, and each
 -- call is in the row of the one client that made it, and an answer in its call's
-pub record IsClosed (rules : Rules) (opening : State) (clients : List ClientView) (trace : List Entry) (rows : List RowView) : Type 0 where
+pub record IsClosed (rules : Rules) (opening : State) (clients : List ClientView) (trace : List TraceEntry) (rows : List RowView) : Type 0 where
   pub last : State
   pub run : Run rules opening (labels_of trace) last
   pub owners : List ℕ
@@ -63,9 +63,9 @@ pub record LeaveNothing (rules : Rules) (opening : State) (labels : List Label) 
   pub empty : (s : State) → Run rules opening labels s → IsEmpty s
 
 -- so for the trace up to the end of a removal, and up to each place behind it
-abbrev pub SettledAtRemoved : Rules → State → List Entry → Type 0
+abbrev pub SettledAtRemoved : Rules → State → List TraceEntry → Type 0
 SettledAtRemoved rules opening trace =
-    (place count : ℕ) (e : Entry) → slice_get trace place ≡ Some e → e.label ≡ Removed → place < count → LeaveNothing rules opening (take count (labels_of trace))
+    (place count : ℕ) (e : TraceEntry) → slice_get trace place ≡ Some e → e.label ≡ Removed → place < count → LeaveNothing rules opening (take count (labels_of trace))
 
 -- WHAT ACTS DID
 

@@ -5,7 +5,7 @@ use Rattle.machine.specs.declared.Label.TheVariants.{Pause as PauseLabel, Remove
 use Rattle.remove_lock.specs.declared.rule.View.{View as PassView}
 use Rattle.io_manager.specs.declared.Reply.{Reply}
 use Rattle.io_manager.specs.declared.Reply.TheVariants.{Ok as OkReply}
-use Rattle.traced.specs.declared.Entry.{Entry}
+use Rattle.traced.specs.declared.TraceEntry.{TraceEntry}
 use Rattle.traced.specs.Entries.{entry}
 use Rattle.host.specs.declared.notice.Notice.{Notice}
 use Rattle.host.specs.declared.notice.Notice.TheVariants.{Pause, Removed}
@@ -34,12 +34,12 @@ is_notice Pause label = is_pause label
 is_notice Removed label = is_removed label
 
 -- no such label stands at a place from this one on
-abbrev pub HasNone : Notice → ℕ → List Entry → Type 0
-HasNone notice from entries = (place : ℕ) (e : Entry) → from ≤ place → slice_get entries place ≡ Some e → is_notice notice e.label ≡ false
+abbrev pub HasNone : Notice → ℕ → List TraceEntry → Type 0
+HasNone notice from entries = (place : ℕ) (e : TraceEntry) → from ≤ place → slice_get entries place ≡ Some e → is_notice notice e.label ≡ false
 
 -- the first from a place on, or that there is none
-abbrev pub FindsNotice : Notice → ℕ → List Entry → Option ℕ → Type 0
-FindsNotice notice from entries (Some place) = (from ≤ place) × ((e : Entry) × (slice_get entries place ≡ Some e) × (is_notice notice e.label ≡ true))
+abbrev pub FindsNotice : Notice → ℕ → List TraceEntry → Option ℕ → Type 0
+FindsNotice notice from entries (Some place) = (from ≤ place) × ((e : TraceEntry) × (slice_get entries place ≡ Some e) × (is_notice notice e.label ≡ true))
 FindsNotice notice from entries None = HasNone notice from entries
 
 -- one receipt of this label, which stands in no client's row, at a place from this one on

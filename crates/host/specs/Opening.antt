@@ -12,7 +12,7 @@ use Rattle.io_manager.specs.Shown.{ManagerView}
 use Rattle.remove_lock.specs.Gate.{Standing as PassStanding, standing as pass_of, fresh as fresh_pass}
 use Rattle.cancel_marks.specs.Marks.{Standing as SeatStanding, standing as seat_of, starting, IsOther}
 use Rattle.sector_journal.specs.Journal.{JournalView}
-use Rattle.traced.specs.declared.sizes.Sizes.{Sizes}
+use Rattle.traced.specs.declared.sizes.StackSizes.{StackSizes}
 use Rattle.traced.specs.Sizes.{AreSizes, sizes_of}
 use Rattle.traced.specs.Opening.{AreClientsOf, IsFirst, IsOpenOn, NamesNone}
 use Rattle.host.specs.declared.opened.Gear.{Gear}
@@ -66,7 +66,7 @@ pub record IsGear (partitions : List ℕ) (slots : ℕ) (gear : Gear) : Type 0 w
   pub are_passes : All (IsClientPass gear.gate) gear.passes.items
 
 -- a stack of which nothing was asked but a handle for each client, with a part of the ledger, a seat and a pass for each, and one more of each
-pub record IsReady (partitions : List ℕ) (stack : ManagerView) (handles : List Handle) (sizes : Sizes) (slots parts : ℕ) (marks : TableId × ℕ)
+pub record IsReady (partitions : List ℕ) (stack : ManagerView) (handles : List Handle) (sizes : StackSizes) (slots parts : ℕ) (marks : TableId × ℕ)
     (owner : SeatStanding) (seats : List SeatStanding) (gate : TableId) (passes : List PassStanding) : Type 0 where
   pub few : length partitions ≤ client_limit
   pub first : IsFirst stack

@@ -2,12 +2,12 @@
 use Rattle.std.specs.Prelude.{◌≡◌, ◌<◌, ◌≤◌, ℕ, suc, true, List, [], ◌∷◌, Some, map}
 use Rattle.machine.specs.declared.Label.{Label}
 use Rattle.machine.specs.declared.Label.TheVariants.{Answer}
-use Rattle.traced.specs.declared.Entry.{Entry}
+use Rattle.traced.specs.declared.TraceEntry.{TraceEntry}
 use Rattle.traced.specs.Entries.{entry, is_call}
 
 -- a receipt: a place, and the entry there
 abbrev pub Receipt : Type 0
-Receipt = ℕ × Entry
+Receipt = ℕ × TraceEntry
 
 -- receipts, and for how many more there is room
 pub record ReceiptsView : Type 0 where
@@ -26,7 +26,7 @@ abbrev pub places_of : List Receipt → List ℕ
 places_of receipts = map (λ r. r.0) receipts
 
 -- an entry is a call of this client
-pub record IsCallOf (client : ℕ) (e : Entry) : Type 0 where
+pub record IsCallOf (client : ℕ) (e : TraceEntry) : Type 0 where
   pub call : is_call e.label ≡ true
   pub row : e.row ≡ Some client
 
@@ -40,7 +40,7 @@ Answers (Answer number status informed bytes) = Unit {0}
 Answers _ = ⊥
 
 -- an entry is an answer to a call of this client
-pub record IsAnswerTo (client : ℕ) (e : Entry) : Type 0 where
+pub record IsAnswerTo (client : ℕ) (e : TraceEntry) : Type 0 where
   pub answers : Answers e.label
   pub row : e.row ≡ Some client
 

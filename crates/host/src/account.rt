@@ -25,7 +25,7 @@ use std::marker::Model;
 use std::sync::Wait;
 use std::sync::ledger::Share as Part;
 use std::thread;
-use traced::{Entry, Share};
+use traced::{Share, TraceEntry};
 
 /// A client's share of the book, and its receipts.
 #[derive(Drop)]
@@ -134,8 +134,8 @@ impl<N: Naming> Account<N> {
         client: usize,
         handle: Handle,
         part: Part<N>,
-        called: Claims<Entry, N>,
-        answered: Claims<Entry, N>,
+        called: Claims<TraceEntry, N>,
+        answered: Claims<TraceEntry, N>,
     ) -> Account<N>
         requires client { client < length N.partitions }
         requires handle { IsHandleFor N.partitions N.handles client handle }
@@ -312,7 +312,7 @@ impl<N: Naming> Account<N> {
         book: &mut Book<N>,
         number: u64,
         call: usize,
-        claim: &mut Claims<Entry, N>,
+        claim: &mut Claims<TraceEntry, N>,
     ) -> Option<Answered>
         requires claim { (q : ClientRequest) × (claim.old ≡ receipt call (CallLabel number q) self.old.share.client) }
         requires room { 0 < self.old.answered.room }
@@ -329,11 +329,11 @@ impl<N: Naming> Account<N> {
     // An answer that stands in the trace, with its receipt.
     fn keep_answer(
         &mut self,
-        history: &History<Entry, N>,
+        history: &History<TraceEntry, N>,
         call: usize,
         place: usize,
         answer: Answer,
-        claim: Claims<Entry, N>,
+        claim: Claims<TraceEntry, N>,
     ) -> Answered
         requires claim { claim ≡ receipt place (as_answer answer) self.old.share.client }
         requires room { 0 < self.old.answered.room }

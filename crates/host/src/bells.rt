@@ -8,7 +8,7 @@ use machine::Label;
 use srb::DeviceLabel;
 use std::alloc::{AllocError, Global};
 use std::sync::{Condvar, Mutex, Wait};
-use traced::Entry;
+use traced::TraceEntry;
 
 /// The most tags that an adapter has.
 const TAGS: usize = 32;
@@ -41,7 +41,7 @@ impl Concerned {
         concerned
     }
 
-    fn note(&mut self, entry: &Entry) {
+    fn note(&mut self, entry: &TraceEntry) {
         match &entry.label {
             Label::Device(DeviceLabel::Start { tag, .. }) => self.lanes |= bit(usize::from(*tag)),
             Label::Answer { .. } => self.note_answer(entry.row),

@@ -17,13 +17,13 @@ use chronicle::{Claims, History};
 use disk::Medium;
 use sector_journal::{Entered, OfEntries};
 use std::sync::ledger::Share as Part;
-use traced::{Entry, Row};
+use traced::{Row, TraceEntry};
 
 /// What is left of a host: the trace, for each client the places of its calls and of their answers, what acts did to the
 /// sectors, in their order, and the receipts of the entries of the trace's acts, numbered from 0.
 #[derive(Drop)]
 pub struct Closed<N: Naming> {
-    pub trace: Vec<Entry>,
+    pub trace: Vec<TraceEntry>,
     pub rows: Vec<Row>,
     pub entries: Vec<Entered>,
     pub receipts: Claims<Entered, OfEntries<N>>,
@@ -31,7 +31,7 @@ pub struct Closed<N: Naming> {
 
 // Checks all receipts against the book, and takes the parts of the ledger back.
 fn collect<N: Naming>(
-    history: &History<Entry, N>,
+    history: &History<TraceEntry, N>,
     book: &mut Book<N>,
     all: &mut Part<N>,
     clients: Vec<Client<N>>,
@@ -49,7 +49,7 @@ fn collect<N: Naming>(
 
 // Those of one client.
 fn collect_one<N: Naming>(
-    history: &History<Entry, N>,
+    history: &History<TraceEntry, N>,
     book: &mut Book<N>,
     all: &mut Part<N>,
     account: Account<N>,

@@ -26,7 +26,7 @@ use std::alloc::{AllocError, Global};
 use std::marker::{Model, PhantomData};
 use std::sync::ledger::Share as Part;
 use std::sync::{Mutex, Wait};
-use traced::{Entry, Share, Traced};
+use traced::{Share, TraceEntry, Traced};
 
 /// A book and its journal, each under its lock, and what threads share beside them.
 #[derive(Drop)]
@@ -40,7 +40,7 @@ where
     pub(crate) journal: Mutex<Journal<M, N>>,
     pub(crate) words: sector_journal::History<N>,
     pub(crate) bells: Bells,
-    pub(crate) history: History<Entry, N>,
+    pub(crate) history: History<TraceEntry, N>,
     pub(crate) table: Table<N>,
     pub(crate) door: Door<N>,
     pub(crate) disk: Disk<N>,
@@ -54,7 +54,7 @@ where
 pub struct Keeper<N: Naming> {
     pub(crate) part: Part<N>,
     pub(crate) pass: Pass,
-    pub(crate) told: Claims<Entry, N>,
+    pub(crate) told: Claims<TraceEntry, N>,
 }
 
 impl<N: Naming> Model for Keeper<N> {
@@ -71,8 +71,8 @@ impl<N: Naming> Model for Keeper<N> {
 // A client for each handle, with a part of the ledger, a seat and a pass.
 fn make_clients<N: Naming>(
     alloc: Global,
-    history: &History<Entry, N>,
-    whole: &mut Whole<Entry, N>,
+    history: &History<TraceEntry, N>,
+    whole: &mut Whole<TraceEntry, N>,
     all: &mut Part<N>,
     handles: Vec<Handle>,
     seats: Vec<Seat>,
@@ -115,8 +115,8 @@ fn make_clients<N: Naming>(
 // A client for each handle, and the pass that is left for the keeper.
 fn hand_out<N: Naming>(
     alloc: Global,
-    history: &History<Entry, N>,
-    whole: &mut Whole<Entry, N>,
+    history: &History<TraceEntry, N>,
+    whole: &mut Whole<TraceEntry, N>,
     all: &mut Part<N>,
     handles: Vec<Handle>,
     seats: Vec<Seat>,

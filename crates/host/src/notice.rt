@@ -7,7 +7,7 @@ use crate::name::Naming;
 use book::Book;
 use chronicle::{Claims, History};
 use machine::Label;
-use traced::Entry;
+use traced::TraceEntry;
 
 /// A label of which a keeper has receipts.
 #[derive(Debug, Clone, Copy)]
@@ -42,11 +42,11 @@ fn find_notice<N: Naming>(book: &Book<N>, notice: Notice, from: usize) -> Option
 
 /// A claim on the first such label from a place of the trace on, if there is one.
 pub(crate) fn claim_notice<N: Naming>(
-    history: &History<Entry, N>,
+    history: &History<TraceEntry, N>,
     book: &mut Book<N>,
     notice: Notice,
     from: usize,
-) -> Option<Claims<Entry, N>>
+) -> Option<Claims<TraceEntry, N>>
     ensures same { book.new ≡ book.old }
     ensures noticed { IfSome result (λ claim. IsNoticed from (label_of notice) claim) }
     ensures none { IfNone result (HasNone notice from book.old.traced.entries) }

@@ -13,7 +13,7 @@ use std::alloc::{AllocError, Global};
 use std::marker::{Brand, Model};
 use std::sync::ledger::{Blank, Ledger};
 use thiserror::Error;
-use traced::{Entry, OpenFault, Sizes, open_handles};
+use traced::{OpenFault, StackSizes, TraceEntry, open_handles};
 
 /// At most so many clients.
 const CLIENTS: usize = 64;
@@ -52,9 +52,9 @@ pub struct Opened {
     pub(crate) stack: Stack<BookedAdapter>,
     pub(crate) handles: Vec<Handle>,
     pub(crate) partitions: Vec<u8>,
-    pub(crate) sizes: Sizes,
+    pub(crate) sizes: StackSizes,
     pub(crate) slots: usize,
-    pub(crate) history: chronicle::Opened<Entry>,
+    pub(crate) history: chronicle::Opened<TraceEntry>,
     pub(crate) ledger: Blank,
     pub(crate) marks: Marks,
     pub(crate) owner: Seat,
@@ -178,7 +178,7 @@ impl Opened {
     pub fn new(
         alloc: Global,
         stack: Stack<BookedAdapter>,
-        sizes: Sizes,
+        sizes: StackSizes,
         slots: usize,
         partitions: &[u8],
     ) -> Result<Opened, HostFault>
@@ -231,7 +231,7 @@ impl Opened {
 }
 
 // A history that nobody wants.
-fn end_history<N: chronicle::Naming>(history: chronicle::Opened<Entry>)
+fn end_history<N: chronicle::Naming>(history: chronicle::Opened<TraceEntry>)
     requires { history ≡ N.table }
 {
     let (_history, _whole) = history.named::<N>();

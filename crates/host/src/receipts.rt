@@ -1,6 +1,6 @@
 ghost use Rattle.std.specs.Prelude.{◌≡◌, ◌<◌, ◌≤◌, ◌+◌, ◌-◌, ◌∷◌, ◌++◌, [], Some, OnOk, length, slice_get};
 ghost use Rattle.chronicle.specs.Claims.{AllStand};
-ghost use Rattle.traced.specs.declared.Entry.{Entry as EntryView};
+ghost use Rattle.traced.specs.declared.TraceEntry.{TraceEntry as EntryView};
 ghost use Rattle.host.specs.Receipts.{none_yet, places_of};
 
 use crate::name::Naming;
@@ -8,14 +8,14 @@ use book::Book;
 use chronicle::{Claims, History};
 use std::alloc::{AllocError, Global};
 use std::marker::Model;
-use traced::Entry;
+use traced::TraceEntry;
 
 /// Receipts: places of the trace, with claims on the entries there, and room for more.
 #[derive(Drop)]
 pub(crate) struct Receipts<N: Naming> {
     places: Vec<usize>,
     room: usize,
-    claims: Claims<Entry, N>,
+    claims: Claims<TraceEntry, N>,
 }
 
 impl<N: Naming> Model for Receipts<N> {
@@ -31,7 +31,7 @@ impl<N: Naming> Model for Receipts<N> {
 
 impl<N: Naming> Receipts<N> {
     /// None yet.
-    pub(crate) fn new(alloc: Global, claims: Claims<Entry, N>) -> Receipts<N>
+    pub(crate) fn new(alloc: Global, claims: Claims<TraceEntry, N>) -> Receipts<N>
         requires { claims ≡ [] }
         ensures { result ≡ none_yet }
     {
@@ -66,9 +66,9 @@ impl<N: Naming> Receipts<N> {
     /// Keeps one more receipt.
     pub(crate) fn keep(
         &mut self,
-        history: &History<Entry, N>,
+        history: &History<TraceEntry, N>,
         place: usize,
-        claim: Claims<Entry, N>,
+        claim: Claims<TraceEntry, N>,
     )
         requires one { (e : EntryView) × (claim ≡ (place, e) ∷ []) }
         requires room { 0 < self.old.room }
@@ -82,10 +82,10 @@ impl<N: Naming> Receipts<N> {
     /// Claims a place of the trace, keeps the receipt, and returns a copy of the claim.
     pub(crate) fn note(
         &mut self,
-        history: &History<Entry, N>,
+        history: &History<TraceEntry, N>,
         book: &mut Book<N>,
         place: usize,
-    ) -> Claims<Entry, N>
+    ) -> Claims<TraceEntry, N>
         requires place { place < length book.old.traced.entries }
         requires room { 0 < self.old.room }
         ensures book { book.new ≡ book.old }
@@ -99,7 +99,7 @@ impl<N: Naming> Receipts<N> {
     }
 
     /// All of them stand in the trace.
-    pub(crate) fn check(&mut self, history: &History<Entry, N>, book: &mut Book<N>)
+    pub(crate) fn check(&mut self, history: &History<TraceEntry, N>, book: &mut Book<N>)
         ensures same { (book.new ≡ book.old) × (self.new ≡ self.old) }
         ensures stand { AllStand book.old.traced.entries self.old.list }
     {

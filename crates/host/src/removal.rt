@@ -24,7 +24,7 @@ use disk::Medium;
 use remove_lock::Pass;
 use std::sync::Wait;
 use std::thread;
-use traced::Entry;
+use traced::TraceEntry;
 
 // Closes the gate, and returns once it was seen drained.
 fn close_and_drain<N: Naming, R: Wait>(rt: &R, door: &Door<N>, pass: &mut Pass)
@@ -58,7 +58,7 @@ impl<M: Medium, N: Naming> Host<M, N> {
         &self,
         rt: &R,
         book: &mut Book<N>,
-        told: &mut Claims<Entry, N>,
+        told: &mut Claims<TraceEntry, N>,
         event: Event,
     ) -> (Reply, usize)
         requires { (is_handle_event event ≡ false) × (call_handle event ≡ None) }
@@ -79,7 +79,7 @@ impl<M: Medium, N: Naming> Host<M, N> {
         &self,
         rt: &R,
         book: &mut Book<N>,
-        told: &mut Claims<Entry, N>,
+        told: &mut Claims<TraceEntry, N>,
         event: Event,
     ) -> (Reply, usize, Concerned)
         requires { (is_handle_event event ≡ false) × (call_handle event ≡ None) }
@@ -94,7 +94,12 @@ impl<M: Medium, N: Naming> Host<M, N> {
     }
 
     // The part of a query that has the book.
-    fn query_in<R: Wait>(&self, rt: &R, book: &mut Book<N>, told: &mut Claims<Entry, N>) -> Reply
+    fn query_in<R: Wait>(
+        &self,
+        rt: &R,
+        book: &mut Book<N>,
+        told: &mut Claims<TraceEntry, N>,
+    ) -> Reply
         ensures told { HasNotedIfOk PauseLabel result told.old told.new }
         ensures reply { IsReplyTo QueryRemove result }
     {
@@ -114,7 +119,7 @@ impl<M: Medium, N: Naming> Host<M, N> {
         &self,
         rt: &R,
         book: &mut Book<N>,
-        told: &mut Claims<Entry, N>,
+        told: &mut Claims<TraceEntry, N>,
     ) -> (Reply, Concerned)
         ensures told { HasNotedIfOk PauseLabel result.0 told.old told.new }
         ensures reply { IsReplyTo QueryRemove result.0 }
@@ -125,7 +130,7 @@ impl<M: Medium, N: Naming> Host<M, N> {
     }
 
     // Waits until the removal has ended: its label stands at a place from this one on.
-    fn await_removed<R: Wait>(&self, rt: &R, from: usize) -> Claims<Entry, N>
+    fn await_removed<R: Wait>(&self, rt: &R, from: usize) -> Claims<TraceEntry, N>
         ensures { IsNoticed from RemovedLabel result }
     {
         let mut from = from;

@@ -4,7 +4,7 @@ use crate::name::Naming;
 use chronicle::Claims;
 use compose::Answer;
 use std::marker::Model;
-use traced::Entry;
+use traced::TraceEntry;
 
 /// A call that was issued and is not waited for yet. It can't be copied, and `wait` spends it; it holds the gate until then.
 /// Contracts see it as its client, its request's number, the place of its call, its slot while it is open, and the receipt
@@ -14,11 +14,11 @@ pub struct Ticket<N: Naming> {
     pub(crate) client: usize,
     pub(crate) number: u64,
     pub(crate) place: usize,
-    pub(crate) claim: Claims<Entry, N>,
+    pub(crate) claim: Claims<TraceEntry, N>,
     // of its request, where it opened one
     pub(crate) slot: usize,
     // the answer of a call that opened none, right behind it
-    pub(crate) early: Option<(Answer, Claims<Entry, N>)>,
+    pub(crate) early: Option<(Answer, Claims<TraceEntry, N>)>,
 }
 
 impl<N: Naming> Model for Ticket<N> {

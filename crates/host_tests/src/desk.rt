@@ -20,7 +20,7 @@ use srb::DeviceLabel;
 use std::alloc::{AllocError, Global};
 use std::process::Abort;
 use std::sync::Wait;
-use traced::Entry;
+use traced::TraceEntry;
 
 /// What is asked of a host itself.
 #[derive(Debug, Clone, Copy)]
@@ -231,7 +231,7 @@ fn play_and_close<M: Medium, N: Naming, R: Wait + Abort>(
 }
 
 /// The acts of a trace are of all entries, in order.
-pub(crate) fn compare_acts(rt: &impl Abort, trace: &[Entry], entries: &[Entered]) {
+pub(crate) fn compare_acts(rt: &impl Abort, trace: &[TraceEntry], entries: &[Entered]) {
     let mut entries = entries.iter();
     for entry in trace {
         if let Label::Device(DeviceLabel::Act { piece, bytes }) = &entry.label {

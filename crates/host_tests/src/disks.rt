@@ -13,7 +13,7 @@ use disk::{Medium, NoMemory, VecDisk};
 use miniport::BookedAdapter;
 use std::alloc::{AllocError, Global};
 use std::process::Abort;
-use traced::Sizes;
+use traced::StackSizes;
 
 /// An entry of a table: its type, its first sector and the number of its sectors.
 pub(crate) type Entry = (u8, u32, u32);
@@ -72,7 +72,7 @@ fn start_over<A: Adapter>(
     alloc: Global,
     adapter: A,
     open_requests: u32,
-) -> Result<(Stack<A>, Sizes), AllocError>
+) -> Result<(Stack<A>, StackSizes), AllocError>
     requires idle { IsIdle (A.view adapter) }
     requires unasked { (A.view adapter).accepted ≡ 0 }
     ensures new { IfOk result (λ r. IsNew r.0) }
@@ -81,7 +81,7 @@ fn start_over<A: Adapter>(
     ensures slots { IfOk result (λ r. r.0.rules.open_requests ≡ Some open_requests) }
     ensures map { IfOk result (λ r. IsMap r.0.rules.disk_sectors r.0.rules.partitions) }
 {
-    let sizes = Sizes {
+    let sizes = StackSizes {
         sector_size: adapter.sector_size(),
         sectors: adapter.sectors(),
         longest: 65_536,
@@ -108,7 +108,7 @@ pub(crate) fn start(
     table: &[Entry],
     max_transfer: u32,
     open_requests: u32,
-) -> Result<(Stack<BookedAdapter>, Sizes), AllocError>
+) -> Result<(Stack<BookedAdapter>, StackSizes), AllocError>
     requires some { 1 ≤ max_transfer }
     requires short { max_transfer ≤ 2 ^ 16 }
     ensures new { IfOk result (λ r. IsNew r.0) }
@@ -129,7 +129,7 @@ pub(crate) fn start_for<M: Medium>(
     table: &[Entry],
     max_transfer: u32,
     open_requests: u32,
-) -> Result<(Stack<BookedAdapter>, Sizes), AllocError>
+) -> Result<(Stack<BookedAdapter>, StackSizes), AllocError>
     requires some { 1 ≤ max_transfer }
     requires short { max_transfer ≤ 2 ^ 16 }
     ensures new { IfOk result (λ r. IsNew r.0) }

@@ -173,7 +173,7 @@ fn compare_entries<M: Medium>(
     rt: &impl Abort,
     alloc: Global,
     medium: M,
-    trace: &[traced::Entry],
+    trace: &[traced::TraceEntry],
     entries: &[Entered],
 ) -> Result<(), AllocError> {
     let mut medium = medium;

@@ -31,7 +31,7 @@ use std::marker::Brand;
 use std::sync::Wait;
 use std::thread::Threads;
 use thiserror::Error;
-use traced::Sizes;
+use traced::StackSizes;
 
 /// What the clients do.
 #[derive(Debug, Clone, Copy, PartialEq, Eq, Drop)]
@@ -88,7 +88,7 @@ pub fn run<M: Medium + Send, R: Threads + Wait + Sync>(
     alloc: Global,
     stack: Stack<BookedAdapter>,
     medium: M,
-    sizes: Sizes,
+    sizes: StackSizes,
     slots: usize,
     plan: Plan,
 ) -> Result<Done<M>, RoundsFault>

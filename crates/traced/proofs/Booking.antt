@@ -34,7 +34,7 @@ use Rattle.traced.specs.Sizes.{sizes_of}
 use Rattle.traced.specs.inside.Sizes.{brought_by}
 use Rattle.traced.specs.Serving.{open_at, is_call_event, is_handle_event}
 use Rattle.traced.specs.inside.Serving.{unless_told, admitted_at, HaveOneCall, HaveCallsOf, Serves}
-use Rattle.traced.specs.declared.Entry.{Entry}
+use Rattle.traced.specs.declared.TraceEntry.{TraceEntry}
 use Rattle.traced.specs.Entries.{labels_of, entry, row_of}
 use Rattle.traced.specs.Pages.{owners_after}
 use Rattle.traced.specs.Traced.{TracedView, pages_of, IsCarried, IsServed, may_want}
@@ -252,8 +252,8 @@ sound_first rules opening handles count stack pages slots named first entries ow
   as_many = named.as_many;
   same_handles = named.same_handles;
   taken = first.no_labels;
-  run = subst (λ (es : List Entry). Run rules opening (labels_of es) stack.state) (sym entries) (subst (λ (s : State). Run rules opening [] s) (sym named.same_state) (IsSame-refl opening));
-  told = subst (λ (es : List Entry). AreTold es pages.owners stack.state) (sym entries) (subst (λ (os : List ℕ). AreTold [] os stack.state) (sym owners) (told_first stack.state first.first first.none_wait));
+  run = subst (λ (es : List TraceEntry). Run rules opening (labels_of es) stack.state) (sym entries) (subst (λ (s : State). Run rules opening [] s) (sym named.same_state) (IsSame-refl opening));
+  told = subst (λ (es : List TraceEntry). AreTold es pages.owners stack.state) (sym entries) (subst (λ (os : List ℕ). AreTold [] os stack.state) (sym owners) (told_first stack.state first.first first.none_wait));
   numbers = λ k. ap (λ ns. number_at ns k) numbers ∙ none_at most k ∙ sym (first.none_open k);
   below = λ k.
       let zero_is : (slot_at slots.owner k).last ≡ 0 = ap (λ v. (slot_at v k).last) owner ∙ never_armed (max most 1) k in

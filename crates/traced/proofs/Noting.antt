@@ -8,7 +8,7 @@ use mathlib.Core.Logic.{dite}
 use native.Mathlib.Decide.{ℕ_discrete}
 use Rattle.machine.specs.declared.Label.{Label}
 use Rattle.machine.specs.declared.Label.TheVariants.{Call, Device, Answer, Cancel, Pause, Resume, Remove, Surprise, Removed}
-use Rattle.traced.specs.declared.Entry.{Entry}
+use Rattle.traced.specs.declared.TraceEntry.{TraceEntry}
 use Rattle.traced.specs.Entries.{entry, owner_of, WasCalled, row_of, HasOwner, AreRowed, is_row, is_call, is_answer, places, count_of, is_call_of, is_answer_of}
 use Rattle.traced.specs.Rows.{RowView, blank, row_at, IsRowAt}
 use Rattle.traced.specs.inside.Rows.{called, answered, rows_after, MayStand}
@@ -35,7 +35,7 @@ same_row c d e = grind (arith, nat_tests)
 other_row : (c d : ℕ) → c ≢ d → (c == d) ≡ false
 other_row c d ne = grind (arith, nat_tests)
 
-pub count_snoc : (test : Entry → Bool) (es : List Entry) (e : Entry) → count_of test (es ++ e ∷ []) ≡ count_of test es + (if test e then 1 else 0)
+pub count_snoc : (test : TraceEntry → Bool) (es : List TraceEntry) (e : TraceEntry) → count_of test (es ++ e ∷ []) ≡ count_of test es + (if test e then 1 else 0)
 count_snoc test [] e = one (test e)
   where
     one : (b : Bool) → (if b then 1 else 0) ≡ 0 + (if b then 1 else 0)
@@ -48,7 +48,7 @@ count_snoc test (f ∷ es) e = go (test f) (count_snoc test es e)
     go true more = omega (arith, more)
     go false more = more
 
-places_snoc : (c from : ℕ) (es : List Entry) (e : Entry) → places c from (es ++ e ∷ []) ≡ places c from es ++ (if is_row c e.row then (from + length es) ∷ [] else [])
+places_snoc : (c from : ℕ) (es : List TraceEntry) (e : TraceEntry) → places c from (es ++ e ∷ []) ≡ places c from es ++ (if is_row c e.row then (from + length es) ∷ [] else [])
 places_snoc c from [] e = one (is_row c e.row)
   where
     one : (b : Bool) → (if b then from ∷ [] else []) ≡ (if b then (from + 0) ∷ [] else [])
@@ -63,7 +63,7 @@ places_snoc c from (f ∷ es) e =
     go true more = ap (λ ks. from ∷ ks) more
     go false more = more
 
-places_end : (c : ℕ) (es : List Entry) (e : Entry) → places c 0 (es ++ e ∷ []) ≡ places c 0 es ++ (if is_row c e.row then length es ∷ [] else [])
+places_end : (c : ℕ) (es : List TraceEntry) (e : TraceEntry) → places c 0 (es ++ e ∷ []) ≡ places c 0 es ++ (if is_row c e.row then length es ∷ [] else [])
 places_end c es e = places_snoc c 0 es e ∙ ap (λ (k : ℕ). places c 0 es ++ (if is_row c e.row then k ∷ [] else [])) (omega arith)
 
 -- OWNERS
@@ -86,16 +86,16 @@ row_stays owners c Remove has = (tt, refl)
 row_stays owners c Surprise has = (tt, refl)
 row_stays owners c Removed has = (tt, refl)
 
-rowed_more : (owners : List ℕ) (c : ℕ) (es : List Entry) → AreRowed owners es → AreRowed (owners ++ c ∷ []) es
+rowed_more : (owners : List ℕ) (c : ℕ) (es : List TraceEntry) → AreRowed owners es → AreRowed (owners ++ c ∷ []) es
 rowed_more owners c [] all = tt
 rowed_more owners c (e ∷ es) all =
     let s = row_stays owners c e.label all.0.0 in ((s.0, all.0.1 ∙ sym s.1), rowed_more owners c es all.1)
 
-rowed_snoc : (owners : List ℕ) (es : List Entry) (label : Label) → AreRowed owners es → HasOwner owners label → AreRowed owners (es ++ entry label (row_of owners label) ∷ [])
+rowed_snoc : (owners : List ℕ) (es : List TraceEntry) (label : Label) → AreRowed owners es → HasOwner owners label → AreRowed owners (es ++ entry label (row_of owners label) ∷ [])
 rowed_snoc owners [] label all has = ((has, refl), tt)
 rowed_snoc owners (e ∷ es) label all has = (all.0, rowed_snoc owners es label all.1 has)
 
-rowed_noted : (client : ℕ) (owners : List ℕ) (es : List Entry) (label : Label) → IsNext owners label → AreRowed owners es
+rowed_noted : (client : ℕ) (owners : List ℕ) (es : List TraceEntry) (label : Label) → IsNext owners label → AreRowed owners es
     → AreRowed (owners_after client owners label) (es ++ entry label (row_of (owners_after client owners label) label) ∷ [])
 rowed_noted client owners es (Call n q) next all =
     rowed_snoc (owners ++ client ∷ []) es (Call n q) (rowed_more owners client es all) (omega arith, omega (arith, next, length-append owners (client ∷ [])))
@@ -118,19 +118,19 @@ at_row rows i r P inside here there j =
     (λ (other : j ≢ i). subst (P j) (sym (get_or-set_other rows i j r blank other)) (there j other))
 
 -- what an entry adds to a row
-pub record Adds (e : Entry) (c place : ℕ) (old new : RowView) : Type 0 where
+pub record Adds (e : TraceEntry) (c place : ℕ) (old new : RowView) : Type 0 where
   pub places : new.places ≡ old.places ++ (if is_row c e.row then place ∷ [] else [])
   pub awaited : (if is_answer_of c e then 1 else 0) + new.awaited ≡ old.awaited + (if is_call_of c e then 1 else 0)
   pub room : new.awaited ≤ new.room
 
-row_more : (es : List Entry) (e : Entry) (rows new : List RowView) (c : ℕ) → IsRowAt es rows c → Adds e c (length es) (row_at rows c) (row_at new c) → IsRowAt (es ++ e ∷ []) new c
+row_more : (es : List TraceEntry) (e : TraceEntry) (rows new : List RowView) (c : ℕ) → IsRowAt es rows c → Adds e c (length es) (row_at rows c) (row_at new c) → IsRowAt (es ++ e ∷ []) new c
 row_more es e rows new c was adds = record {
   places = adds.places ∙ ap (λ ps. ps ++ (if is_row c e.row then length es ∷ [] else [])) was.places ∙ sym (places_end c es e);
   awaited = (let a = adds.awaited in let w = was.awaited in omega (arith, count_snoc (is_answer_of c) es e, count_snoc (is_call_of c) es e));
   room = adds.room;
 }
 
-none_adds : (e : Entry) (c place : ℕ) (r : RowView) → is_row c e.row ≡ false → r.awaited ≤ r.room → Adds e c place r r
+none_adds : (e : TraceEntry) (c place : ℕ) (r : RowView) → is_row c e.row ≡ false → r.awaited ≤ r.room → Adds e c place r r
 none_adds e c place r other room = record {
   places = sym (ap (λ (b : Bool). r.places ++ (if b then place ∷ [] else [])) other ∙ append-nil _);
   awaited = ap (λ (b : Bool). (if b then 1 else 0) + r.awaited) (and_no (is_answer e.label)) ∙ (let z : 0 + r.awaited ≡ r.awaited + 0 = omega arith in z) ∙ sym (ap (λ (b : Bool). r.awaited + (if b then 1 else 0)) (and_no (is_call e.label)));
@@ -142,12 +142,12 @@ none_adds e c place r other room = record {
     and_no false = refl
 
 -- a label that stands in no row leaves them
-no_row : (es : List Entry) (e : Entry) (clients : ℕ) (rows : List RowView) → e.row ≡ None → ((c : ℕ) → c < clients → IsRowAt es rows c) → (c : ℕ) → c < clients → IsRowAt (es ++ e ∷ []) rows c
+no_row : (es : List TraceEntry) (e : TraceEntry) (clients : ℕ) (rows : List RowView) → e.row ≡ None → ((c : ℕ) → c < clients → IsRowAt es rows c) → (c : ℕ) → c < clients → IsRowAt (es ++ e ∷ []) rows c
 no_row es e clients rows none all c less =
     row_more es e rows rows c (all c less) (none_adds e c (length es) (row_at rows c) (ap (is_row c) none) (all c less).room)
 
 -- and one that stands in a row changes that
-one_row : (es : List Entry) (e : Entry) (clients d : ℕ) (rows : List RowView) (r : RowView) → e.row ≡ Some d → d < length rows → Adds e d (length es) (row_at rows d) r
+one_row : (es : List TraceEntry) (e : TraceEntry) (clients d : ℕ) (rows : List RowView) (r : RowView) → e.row ≡ Some d → d < length rows → Adds e d (length es) (row_at rows d) r
     → ((c : ℕ) → c < clients → IsRowAt es rows c) → (c : ℕ) → c < clients → IsRowAt (es ++ e ∷ []) (set rows d r) c
 one_row es e clients d rows r is inside adds all c less =
     row_more es e rows (set rows d r) c (all c less)
@@ -306,7 +306,7 @@ module _ (clients client spare : ℕ) (p : PagesView) (rows : List RowView) (lab
   pub stands : MayStand rows label row
   stands = subst (MayStand rows label) (sym row_is_now) (may_stand clients client spare p rows label kept ready may)
 
-  module _ (entries : List Entry) (rows' : List RowView) (entries_is : entries ≡ p.entries ++ entry label row ∷ []) (rows_is : rows' ≡ rows_after rows label row (length p.entries)) where
+  module _ (entries : List TraceEntry) (rows' : List RowView) (entries_is : entries ≡ p.entries ++ entry label row ∷ []) (rows_is : rows' ≡ rows_after rows label row (length p.entries)) where
     rows_now : rows' ≡ rows_after rows label (row_now client p label) (length p.entries)
     rows_now = rows_is ∙ ap (λ r. rows_after rows label r (length p.entries)) row_is_now
 

@@ -11,7 +11,7 @@ use Rattle.machine.specs.Rules.{Rules}
 use Rattle.machine.specs.State.{State, IsSame}
 use Rattle.machine.specs.Step.{Step, Run}
 use Rattle.machine_laws.specs.NumberLaws.{CallsRise, CallsCount, CallsAwait, awaited, call_numbers, answer_numbers}
-use Rattle.traced.specs.declared.Entry.{Entry}
+use Rattle.traced.specs.declared.TraceEntry.{TraceEntry}
 use Rattle.traced.specs.Entries.{entry, owner_of, WasCalled, row_of, is_row, is_call, is_answer, calls, labels_of, count_of, is_call_of, is_answer_of}
 use Rattle.traced.specs.Pages.{PagesView, owners_after, ready_after, noted, noted_all}
 use Rattle.traced.specs.inside.Pages.{MayNote}
@@ -52,13 +52,13 @@ awaited_stays owners d c (n ∷ ns) all =
     ∙ sym (sum_by-cons (one_of owners c) n ns)
 
 -- how much an entry adds to a count of calls and of answers in a row
-calls_more : (c : ℕ) (es : List Entry) (e : Entry) (k : ℕ) → (if is_call_of c e then 1 else 0) ≡ k → count_of (is_call_of c) (es ++ e ∷ []) ≡ count_of (is_call_of c) es + k
+calls_more : (c : ℕ) (es : List TraceEntry) (e : TraceEntry) (k : ℕ) → (if is_call_of c e then 1 else 0) ≡ k → count_of (is_call_of c) (es ++ e ∷ []) ≡ count_of (is_call_of c) es + k
 calls_more c es e k is = count_snoc (is_call_of c) es e ∙ ap (λ n. count_of (is_call_of c) es + n) is
 
-answers_more : (c : ℕ) (es : List Entry) (e : Entry) (k : ℕ) → (if is_answer_of c e then 1 else 0) ≡ k → count_of (is_answer_of c) (es ++ e ∷ []) ≡ count_of (is_answer_of c) es + k
+answers_more : (c : ℕ) (es : List TraceEntry) (e : TraceEntry) (k : ℕ) → (if is_answer_of c e then 1 else 0) ≡ k → count_of (is_answer_of c) (es ++ e ∷ []) ≡ count_of (is_answer_of c) es + k
 answers_more c es e k is = count_snoc (is_answer_of c) es e ∙ ap (λ n. count_of (is_answer_of c) es + n) is
 
-any_more : (es : List Entry) (e : Entry) (k : ℕ) → (if is_call e.label then 1 else 0) ≡ k → calls (es ++ e ∷ []) ≡ calls es + k
+any_more : (es : List TraceEntry) (e : TraceEntry) (k : ℕ) → (if is_call e.label then 1 else 0) ≡ k → calls (es ++ e ∷ []) ≡ calls es + k
 any_more es e k is = count_snoc (λ f. is_call f.label) es e ∙ ap (λ n. calls es + n) is
 
 module _ (laws : Laws) (rules : Rules) (s s' : State) where
@@ -72,7 +72,7 @@ module _ (laws : Laws) (rules : Rules) (s s' : State) where
   next_is label step = laws.count rules s (label ∷ []) s' (alone label step)
 
   -- a label of no request, at plain facts on it
-  plain : (es : List Entry) (owners : List ℕ) (label : Label) → AreTold es owners s → IsPermutation (awaited s ++ []) (awaited s') → s'.next_request ≡ s.next_request + 0
+  plain : (es : List TraceEntry) (owners : List ℕ) (label : Label) → AreTold es owners s → IsPermutation (awaited s ++ []) (awaited s') → s'.next_request ≡ s.next_request + 0
       → is_call label ≡ false → is_answer label ≡ false → AreTold (es ++ entry label (row_of owners label) ∷ []) owners s'
   plain es owners label told same next no_call no_answer =
       let perm : IsPermutation (awaited s) (awaited s') = subst (λ xs. IsPermutation xs (awaited s')) (append-nil (awaited s)) same in
@@ -81,7 +81,7 @@ module _ (laws : Laws) (rules : Rules) (s s' : State) where
         counted = any_more es (entry label (row_of owners label)) 0 (ap (λ b. if b then 1 else 0) no_call) ∙ (let t = told.counted in omega arith);
         called = All-permutation (WasCalled owners) (awaited s) (awaited s') perm told.called;
         balanced = λ c.
-            let e : Entry = entry label (row_of owners label) in
+            let e : TraceEntry = entry label (row_of owners label) in
             let calls = calls_more c es e 0 (ap (λ b. if (b && is_row c e.row) then 1 else 0) no_call) in
             let answers = answers_more c es e 0 (ap (λ b. if (b && is_row c e.row) then 1 else 0) no_answer) in
             let sums : awaited_of owners c (awaited s') ≡ awaited_of owners c (awaited s) = sum_by-IsPermutation (one_of owners c) (awaited s) (awaited s') perm in
@@ -107,7 +107,7 @@ module _ (laws : Laws) (rules : Rules) (s s' : State) where
             called = All-permutation (WasCalled owners) (awaited s ++ n ∷ []) (awaited s') perm
                 (All-append (WasCalled owners) (awaited s) (n ∷ []) all (All-cons (WasCalled owners) n [] this (All-nil _)));
             balanced = λ c.
-                let e : Entry = entry (Call n q) (owner_of owners n) in
+                let e : TraceEntry = entry (Call n q) (owner_of owners n) in
                 let calls = calls_more c p.entries e (one_of owners c n) refl in
                 let answers = answers_more c p.entries e 0 refl in
                 let sums : awaited_of owners c (awaited s') ≡ awaited_of p.owners c (awaited s) + one_of owners c n =
@@ -134,7 +134,7 @@ module _ (laws : Laws) (rules : Rules) (s s' : State) where
             counted = any_more p.entries (entry (Answer n st i b) (owner_of p.owners n)) 0 refl ∙ (let t = told.counted in omega arith);
             called = All-tail (WasCalled p.owners) n (awaited s') all;
             balanced = λ c.
-                let e : Entry = entry (Answer n st i b) (owner_of p.owners n) in
+                let e : TraceEntry = entry (Answer n st i b) (owner_of p.owners n) in
                 let calls = calls_more c p.entries e 0 refl in
                 let answers = answers_more c p.entries e (one_of p.owners c n) refl in
                 let t = sums c in let w = told.balanced c in omega arith;
@@ -178,7 +178,7 @@ may_first clients client ready Remove ls may = (tt, may)
 may_first clients client ready Surprise ls may = (tt, may)
 may_first clients client ready Removed ls may = (tt, may)
 
-same_told : Laws → (rules : Rules) (s s' : State) (es : List Entry) (owners : List ℕ) → IsSame s s' → AreTold es owners s → AreTold es owners s'
+same_told : Laws → (rules : Rules) (s s' : State) (es : List TraceEntry) (owners : List ℕ) → IsSame s s' → AreTold es owners s → AreTold es owners s'
 same_told laws rules s s' es owners same told =
     let next : s'.next_request ≡ s.next_request + 0 = laws.count rules s [] s' same in
     let perm : IsPermutation (awaited s) (awaited s') = subst (λ xs. IsPermutation xs (awaited s')) (append-nil (awaited s)) (laws.await rules s [] s' same) in
@@ -213,7 +213,7 @@ pub room_noted : (client : ℕ) (p : PagesView) (labels : List Label) → (noted
 room_noted client p [] = omega arith
 room_noted client p (label ∷ labels) = room_noted client (noted client p label) labels ∙ omega arith
 
-labels_snoc : (es : List Entry) (label : Label) (row : Option ℕ) → labels_of (es ++ entry label row ∷ []) ≡ labels_of es ++ label ∷ []
+labels_snoc : (es : List TraceEntry) (label : Label) (row : Option ℕ) → labels_of (es ++ entry label row ∷ []) ≡ labels_of es ++ label ∷ []
 labels_snoc [] label row = refl
 labels_snoc (e ∷ es) label row = ap (λ ls. e.label ∷ ls) (labels_snoc es label row)
 

@@ -2,9 +2,9 @@
 use Rattle.std.specs.Prelude.{◌≡◌, ◌<◌, ◌≤◌, ℕ, suc, ◌-◌, ◌==◌, ◌&&◌, Bool, true, false, List, [], ◌∷◌, Option, Some, None, length, map, slice_get, if◌then◌else◌}
 use Rattle.machine.specs.declared.Label.{Label}
 use Rattle.machine.specs.declared.Label.TheVariants.{Call, Answer}
-use Rattle.traced.specs.declared.Entry.{Entry}
+use Rattle.traced.specs.declared.TraceEntry.{TraceEntry}
 
-abbrev pub entry : Label → Option ℕ → Entry
+abbrev pub entry : Label → Option ℕ → TraceEntry
 entry label row = record { label = label; row = row }
 
 -- the client of the request of a number, in a list of the clients of all requests by their numbers, which begin at 1
@@ -28,7 +28,7 @@ HasOwner owners (Answer number status informed bytes) = WasCalled owners number
 HasOwner owners _ = Unit {0}
 
 -- each entry stands in its label's row
-abbrev pub AreRowed : List ℕ → List Entry → Type 0
+abbrev pub AreRowed : List ℕ → List TraceEntry → Type 0
 AreRowed owners [] = Unit {0}
 AreRowed owners (e ∷ es) = (HasOwner owners e.label × (e.row ≡ row_of owners e.label)) × AreRowed owners es
 
@@ -46,26 +46,26 @@ is_answer (Answer number status informed bytes) = true
 is_answer _ = false
 
 -- the places of a row, where the entries begin at this one
-abbrev pub places : ℕ → ℕ → List Entry → List ℕ
+abbrev pub places : ℕ → ℕ → List TraceEntry → List ℕ
 places c from [] = []
 places c from (e ∷ es) = if is_row c e.row then from ∷ places c (suc from) es else places c (suc from) es
 
 -- the number of entries that pass a test
-abbrev pub count_of : (Entry → Bool) → List Entry → ℕ
+abbrev pub count_of : (TraceEntry → Bool) → List TraceEntry → ℕ
 count_of test [] = 0
 count_of test (e ∷ es) = if test e then suc (count_of test es) else count_of test es
 
-abbrev pub is_call_of : ℕ → Entry → Bool
+abbrev pub is_call_of : ℕ → TraceEntry → Bool
 is_call_of c e = is_call e.label && is_row c e.row
 
-abbrev pub is_answer_of : ℕ → Entry → Bool
+abbrev pub is_answer_of : ℕ → TraceEntry → Bool
 is_answer_of c e = is_answer e.label && is_row c e.row
 
 -- the number of calls in the trace
-abbrev pub calls : List Entry → ℕ
+abbrev pub calls : List TraceEntry → ℕ
 calls es = count_of (λ e. is_call e.label) es
 
-abbrev pub labels_of : List Entry → List Label
+abbrev pub labels_of : List TraceEntry → List Label
 labels_of es = map (λ e. e.label) es
 
 -- the label answers the request of this number
@@ -78,7 +78,7 @@ abbrev pub IsNoAnswerTo : ℕ → Label → Type 0
 IsNoAnswerTo number label = IsAnswerTo number label → ⊥
 
 -- at this place stands the answer to the request
-pub record IsAnswerAt (number : ℕ) (entries : List Entry) (place : ℕ) : Type 0 where
-  pub entry : Entry
+pub record IsAnswerAt (number : ℕ) (entries : List TraceEntry) (place : ℕ) : Type 0 where
+  pub entry : TraceEntry
   pub there : slice_get entries place ≡ Some entry
   pub answers : IsAnswerTo number entry.label

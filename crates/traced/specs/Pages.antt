@@ -2,14 +2,14 @@
 use Rattle.std.specs.Prelude.{◌≡◌, ◌<◌, ℕ, ◌+◌, ◌-◌, List, [], ◌∷◌, ◌++◌, Option, Some, None, length}
 use Rattle.machine.specs.declared.Label.{Label}
 use Rattle.machine.specs.declared.Label.TheVariants.{Call}
-use Rattle.traced.specs.declared.Entry.{Entry}
+use Rattle.traced.specs.declared.TraceEntry.{TraceEntry}
 use Rattle.traced.specs.Entries.{entry, owner_of, row_of, AreRowed}
 use Rattle.traced.specs.Rows.{RowView, IsRowAt}
 
 -- what there is of a trace: its entries, the clients of all requests by number, for how many labels more there is room, and the client that
 -- has the places for a call
 pub record PagesView : Type 0 where
-  pub entries : List Entry
+  pub entries : List TraceEntry
   pub owners : List ℕ
   pub room : ℕ
   pub ready : Option ℕ
@@ -38,7 +38,7 @@ noted_all client p [] = p
 noted_all client p (label ∷ labels) = noted_all client (noted client p label) labels
 
 -- the rows are those of the entries, one for each client, and of each request the client is one of these
-pub record AreKept (clients : ℕ) (entries : List Entry) (owners : List ℕ) (rows : List RowView) : Type 0 where
+pub record AreKept (clients : ℕ) (entries : List TraceEntry) (owners : List ℕ) (rows : List RowView) : Type 0 where
   pub rowed : AreRowed owners entries
   pub owned : (number c : ℕ) → owner_of owners number ≡ Some c → c < clients
   pub count : length rows ≡ clients

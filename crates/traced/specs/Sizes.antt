@@ -1,10 +1,10 @@
 -- The most labels that an event may bring, by the sizes of the stack.
 use Rattle.std.specs.Prelude.{◌<◌, ℕ}
 use Rattle.machine.specs.Rules.{Rules}
-use Rattle.traced.specs.declared.sizes.Sizes.{Sizes}
+use Rattle.traced.specs.declared.sizes.StackSizes.{StackSizes}
 
 -- the sizes of a stack of these rules
-abbrev pub sizes_of : Rules → Sizes
+abbrev pub sizes_of : Rules → StackSizes
 sizes_of rules = record {
   sector_size = rules.sector_size;
   sectors = rules.disk_sectors;
@@ -14,6 +14,6 @@ sizes_of rules = record {
 }
 
 -- sizes by which labels can be counted: a sector has bytes, and a piece sectors
-pub record AreSizes (sizes : Sizes) : Type 0 where
+pub record AreSizes (sizes : StackSizes) : Type 0 where
   pub some_bytes : 0 < sizes.sector_size
   pub some_sectors : 0 < sizes.max_transfer

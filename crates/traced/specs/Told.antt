@@ -4,7 +4,7 @@ use Rattle.machine.specs.declared.Label.{Label}
 use Rattle.machine.specs.declared.Label.TheVariants.{Call}
 use Rattle.machine.specs.State.{State}
 use Rattle.machine_laws.specs.NumberLaws.{awaited}
-use Rattle.traced.specs.declared.Entry.{Entry}
+use Rattle.traced.specs.declared.TraceEntry.{TraceEntry}
 use Rattle.traced.specs.Entries.{owner_of, WasCalled, is_row, calls, count_of, is_call_of, is_answer_of}
 use Rattle.traced.specs.Pages.{PagesView, noted}
 use Rattle.traced.specs.inside.Pages.{MayNote}
@@ -18,7 +18,7 @@ abbrev pub awaited_of : List ℕ → ℕ → List ℕ → ℕ
 awaited_of owners c numbers = sum_by (one_of owners c) numbers
 
 -- the calls so far have the numbers from 1 on, an owner each, what waits for its answer was called, and each call of a row is answered or waits for its answer
-pub record AreTold (entries : List Entry) (owners : List ℕ) (s : State) : Type 0 where
+pub record AreTold (entries : List TraceEntry) (owners : List ℕ) (s : State) : Type 0 where
   pub next : s.next_request ≡ length owners + 1
   pub counted : calls entries ≡ length owners
   pub called : All (WasCalled owners) (awaited s)

@@ -7,7 +7,7 @@ use Rattle.machine.specs.Settled.{Settled, IsFinished}
 use Rattle.machine.specs.Step.{Run}
 use Rattle.cancel_marks.specs.declared.rule.View.{View}
 use Rattle.cancel_marks.specs.Marks.{slot_at}
-use Rattle.traced.specs.declared.Entry.{Entry}
+use Rattle.traced.specs.declared.TraceEntry.{TraceEntry}
 use Rattle.io_manager.specs.declared.OpenHandle.{OpenHandle}
 use Rattle.io_manager.specs.declared.Refusal.TheVariants.{InsufficientResources}
 use Rattle.io_manager.specs.declared.Reply.{Reply}
@@ -29,7 +29,7 @@ use Rattle.traced.specs.Told.{AreTold}
 -- its stack between two steps, the entries of the trace, the clients of all requests by number, and what the owner of the marks knows
 pub record TracedView : Type 0 where
   pub stack : ManagerView
-  pub entries : List Entry
+  pub entries : List TraceEntry
   pub owners : List ℕ
   pub marks : View
 
@@ -121,6 +121,6 @@ pub record HasCounted (old : TracedView) (before after : ShareView) (new : Trace
 -- CLOSING
 
 -- the trace of a book, and for each client the places of its calls and of their answers
-pub record AreRowsOf (clients : ℕ) (v : TracedView) (trace : List Entry) (rows : List RowView) : Type 0 where
+pub record AreRowsOf (clients : ℕ) (v : TracedView) (trace : List TraceEntry) (rows : List RowView) : Type 0 where
   pub stored : trace ≡ v.entries
   pub kept : AreKept clients v.entries v.owners rows

@@ -36,12 +36,12 @@ pub use name::Naming;
 pub use opening::{OpenFault, open_handles};
 pub use row::Row;
 pub use share::Share;
-pub use sizes::Sizes;
+pub use sizes::StackSizes;
 pub use traced::Traced;
 
 /// A label of the trace, and the row that it stands in, where it is a call or an answer: its client's number.
 #[derive(Debug, Drop)]
-pub struct Entry {
+pub struct TraceEntry {
     pub label: Label,
     pub row: Option<usize>,
 }

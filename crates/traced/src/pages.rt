@@ -1,13 +1,13 @@
 ghost use Rattle.std.specs.Prelude.{◌≡◌, ◌<◌, ◌≤◌, ◌+◌, ◌-◌, ◌∷◌, [], ℕ, Some, None, true, false, All, MatchBool, MatchOption, IfOk, IfSome, OnOk, length, slice_get, vec_len, vec_capacity};
 ghost use Rattle.chronicle.specs.Claims.{AllStand};
-ghost use Rattle.traced.specs.declared.Entry.{Entry};
+ghost use Rattle.traced.specs.declared.TraceEntry.{TraceEntry};
 ghost use Rattle.traced.specs.Entries.{AreRowed, IsAnswerAt, IsAnswerTo, IsNoAnswerTo, WasCalled, is_call, labels_of, owner_of, places, row_of};
 ghost use Rattle.traced.specs.inside.Entries.{HasNoAnswer};
 ghost use Rattle.traced.specs.Pages.{owners_after, noted, ready_after};
 ghost use Rattle.traced.specs.inside.Pages.{ArePages, IsNext, MayNote};
 ghost use Rattle.traced.specs.inside.Rows.{MayStand, rows_after};
 
-use crate::Entry;
+use crate::TraceEntry;
 use crate::name::Naming;
 use crate::row::{Row, empty_rows};
 use chronicle::{Claims, History, Whole};
@@ -18,7 +18,7 @@ use std::marker::Model;
 /// The trace and the rows of all clients, with room for more.
 #[derive(Drop)]
 pub(crate) struct Pages<N: Naming> {
-    trace: Vec<Entry>,
+    trace: Vec<TraceEntry>,
     // the clients of all requests, by number from 1
     owners: Vec<usize>,
     rows: Vec<Row>,
@@ -26,7 +26,7 @@ pub(crate) struct Pages<N: Naming> {
     room: usize,
     // the client that has the places for a call
     ready: Option<usize>,
-    whole: Whole<Entry, N>,
+    whole: Whole<TraceEntry, N>,
 }
 
 impl<N: Naming> Model for Pages<N> {
@@ -50,7 +50,7 @@ impl<N: Naming> Pages<N> {
     /// An empty trace, with an empty row for each client.
     pub(crate) fn new(
         alloc: Global,
-        whole: Whole<Entry, N>,
+        whole: Whole<TraceEntry, N>,
         clients: usize,
     ) -> Result<Pages<N>, AllocError>
         requires clients { clients ≡ length N.partitions }
@@ -147,7 +147,7 @@ impl<N: Naming> Pages<N> {
     }
 
     /// Returns what stands at a place.
-    pub(crate) fn entry(&self, place: usize) -> &Entry
+    pub(crate) fn entry(&self, place: usize) -> &TraceEntry
         requires { place < length self.now.entries }
         ensures { slice_get self.now.entries place ≡ Some result.now }
     {
@@ -162,7 +162,7 @@ impl<N: Naming> Pages<N> {
     }
 
     /// Adds a label: a call is by this client, an answer goes into the row of its call.
-    pub(crate) fn note(&mut self, history: &History<Entry, N>, label: Label, client: usize)
+    pub(crate) fn note(&mut self, history: &History<TraceEntry, N>, label: Label, client: usize)
         requires may { MayNote (length N.partitions) client self.old label }
         requires room { 0 < self.old.room }
         ensures { self.new ≡ noted client self.old label }
@@ -171,23 +171,31 @@ impl<N: Naming> Pages<N> {
         let row = note_owner(&mut self.owners, &label, client);
         note_place(&mut self.rows, &label, row, place);
         self.ready = still_ready(self.ready, &label);
-        let entry = Entry { label, row };
+        let entry = TraceEntry { label, row };
         self.whole.add(history, &entry);
         self.trace.push_reserved(entry);
         self.room -= 1;
     }
 
     /// A claim on a place, by the entry there.
-    pub(crate) fn claim(&mut self, history: &History<Entry, N>, place: usize) -> Claims<Entry, N>
+    pub(crate) fn claim(
+        &mut self,
+        history: &History<TraceEntry, N>,
+        place: usize,
+    ) -> Claims<TraceEntry, N>
         requires { place < length self.old.entries }
         ensures same { self.new ≡ self.old }
-        ensures claim { (e : Entry) × (slice_get self.old.entries place ≡ Some e) × (result ≡ (place, e) ∷ []) }
+        ensures claim { (e : TraceEntry) × (slice_get self.old.entries place ≡ Some e) × (result ≡ (place, e) ∷ []) }
     {
         self.whole.claim(history, place, &self.trace[place])
     }
 
     /// What was claimed stands in the trace.
-    pub(crate) fn check(&mut self, history: &History<Entry, N>, claims: &mut Claims<Entry, N>)
+    pub(crate) fn check(
+        &mut self,
+        history: &History<TraceEntry, N>,
+        claims: &mut Claims<TraceEntry, N>,
+    )
         ensures same { (self.new ≡ self.old) × (claims.new ≡ claims.old) }
         ensures stand { AllStand self.old.entries claims.old }
     {
@@ -195,7 +203,7 @@ impl<N: Naming> Pages<N> {
     }
 
     /// The trace and its rows.
-    pub(crate) fn into_rows(self) -> (Vec<Entry>, Vec<Row>)
+    pub(crate) fn into_rows(self) -> (Vec<TraceEntry>, Vec<Row>)
         ensures { ArePages (length N.partitions) self result.0.items result.1.items }
     {
         let Pages { trace, rows, .. } = self;
@@ -259,7 +267,7 @@ fn is_answer_to(label: &Label, number: u64) -> bool
 }
 
 // Where the answer to a request stands, among the places of a row.
-fn last_answer(trace: &[Entry], row: &[usize], number: u64) -> Option<usize>
+fn last_answer(trace: &[TraceEntry], row: &[usize], number: u64) -> Option<usize>
     requires { (k place : ℕ) → slice_get row.now k ≡ Some place → place < length trace.now }
     ensures { MatchOption result (HasNoAnswer number trace.now row.now 0) (IsAnswerAt number trace.now) }
 {

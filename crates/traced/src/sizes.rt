@@ -6,7 +6,7 @@ use compose::Event;
 
 /// The sizes of the stack of a book, by which the labels of its events are counted.
 #[derive(Debug, Clone, Copy, PartialEq, Eq)]
-pub struct Sizes {
+pub struct StackSizes {
     /// Bytes of a sector.
     pub sector_size: u32,
     /// Sectors of the disk.
@@ -19,7 +19,7 @@ pub struct Sizes {
     pub busy_limit: u32,
 }
 
-impl Sizes {
+impl StackSizes {
     /// Returns how many labels an event may bring, now and later, that were not counted before it.
     pub(crate) fn labels_for(&self, event: &Event) -> usize
         requires { AreSizes self.now }

@@ -14,7 +14,7 @@ ghost use Rattle.machine_laws.specs.Reached.{IsReached};
 ghost use Rattle.compose.specs.Right.{IsRight, opened_by};
 ghost use Rattle.traced.specs.Opening.{AreClientsOf, IsFirst};
 ghost use Rattle.traced.specs.Traced.{AreLooked, AreRowsOf, IsTraced, IsCarried, IsLooked, IsServed, IsWanting, HasCounted, bytes_of, may_want};
-ghost use Rattle.traced.specs.declared.Entry.{Entry as EntryView};
+ghost use Rattle.traced.specs.declared.TraceEntry.{TraceEntry as EntryView};
 ghost use Rattle.traced.specs.Entries.{IsAnswerAt, IsNoAnswerTo, calls, labels_of, places};
 ghost use Rattle.traced.specs.Pages.{noted_all};
 ghost use Rattle.traced.specs.inside.Pages.{MayNote};
@@ -28,12 +28,12 @@ ghost use Rattle.traced.specs.Told.{AreTold, MayCall, MayNoteAll};
 ghost use Rattle.traced.specs.Sound.{IsNamed};
 ghost use Rattle.traced.specs.inside.Sound.{IsSound, MayArm, IsGivenBelow, shown, unless_label};
 
-use crate::Entry;
+use crate::TraceEntry;
 use crate::name::Naming;
 use crate::pages::Pages;
 use crate::row::Row;
 use crate::share::Share;
-use crate::sizes::Sizes;
+use crate::sizes::StackSizes;
 use crate::slots::Slots;
 use adapter::Adapter;
 use cancel_marks::{Marks, Seat};
@@ -52,7 +52,7 @@ pub struct Traced<A: Adapter, N: Naming> {
     pages: Pages<N>,
     slots: Slots<N>,
     tally: ledger::Book<N>,
-    sizes: Sizes,
+    sizes: StackSizes,
 }
 
 // By hand, so that no crate above proves it again, as it would a derived one.
@@ -94,7 +94,7 @@ const REMOVAL_LABELS: usize = 2;
 // Pages with room for a removal, and slots, all empty.
 fn make_rows<N: Naming>(
     alloc: Global,
-    whole: Whole<Entry, N>,
+    whole: Whole<TraceEntry, N>,
     seat: Seat,
     clients: usize,
     slots: usize,
@@ -168,7 +168,7 @@ fn note_all<A: Adapter, N: Naming>(
     stack: &mut Stack<A>,
     pages: &mut Pages<N>,
     slots: &mut Slots<N>,
-    history: &History<Entry, N>,
+    history: &History<TraceEntry, N>,
     marks: &Marks,
     client: usize,
 )
@@ -193,7 +193,7 @@ fn carry<A: Adapter, N: Naming>(
     pages: &mut Pages<N>,
     slots: &mut Slots<N>,
     alloc: Global,
-    history: &History<Entry, N>,
+    history: &History<TraceEntry, N>,
     marks: &Marks,
     client: usize,
     event: Event,
@@ -222,7 +222,7 @@ fn look_at<A: Adapter, N: Naming>(
     pages: &mut Pages<N>,
     slots: &mut Slots<N>,
     alloc: Global,
-    history: &History<Entry, N>,
+    history: &History<TraceEntry, N>,
     marks: &Marks,
     slot: usize,
 )
@@ -253,7 +253,7 @@ fn look_all<A: Adapter, N: Naming>(
     pages: &mut Pages<N>,
     slots: &mut Slots<N>,
     alloc: Global,
-    history: &History<Entry, N>,
+    history: &History<TraceEntry, N>,
     marks: &Marks,
 )
     requires marks { marks.now ≡ (N.marks, N.slots) }
@@ -269,7 +269,7 @@ fn look_all<A: Adapter, N: Naming>(
 
 // Makes the places for all labels that an event may bring.
 fn make_room<N: Naming>(
-    sizes: &Sizes,
+    sizes: &StackSizes,
     pages: &mut Pages<N>,
     event: &Event,
 ) -> Result<(), AllocError>
@@ -308,12 +308,12 @@ impl<A: Adapter, N: Naming> Traced<A, N> {
     pub fn new(
         alloc: Global,
         stack: Stack<A>,
-        whole: Whole<Entry, N>,
+        whole: Whole<TraceEntry, N>,
         seat: Seat,
         tally: ledger::Book<N>,
         clients: usize,
         slots: usize,
-        sizes: Sizes,
+        sizes: StackSizes,
     ) -> Result<Traced<A, N>, AllocError>
         requires named { IsNamed N.rules N.start N.handles N.slots stack }
         requires first { IsFirst stack }
@@ -343,7 +343,7 @@ impl<A: Adapter, N: Naming> Traced<A, N> {
     }
 
     /// Returns what stands at a place of the trace.
-    pub fn entry(&self, place: usize) -> &Entry
+    pub fn entry(&self, place: usize) -> &TraceEntry
         requires { place < length self.now.entries }
         ensures { slice_get self.now.entries place ≡ Some result.now }
     {
@@ -367,7 +367,7 @@ impl<A: Adapter, N: Naming> Traced<A, N> {
     }
 
     /// A claim on a place of the trace, by the entry there.
-    pub fn claim(&mut self, history: &History<Entry, N>, place: usize) -> Claims<Entry, N>
+    pub fn claim(&mut self, history: &History<TraceEntry, N>, place: usize) -> Claims<TraceEntry, N>
         requires { place < length self.old.entries }
         ensures same { self.new ≡ self.old }
         ensures claim { (e : EntryView) × (slice_get self.old.entries place ≡ Some e) × (result ≡ (place, e) ∷ []) }
@@ -376,7 +376,7 @@ impl<A: Adapter, N: Naming> Traced<A, N> {
     }
 
     /// What was claimed stands in the trace.
-    pub fn check(&mut self, history: &History<Entry, N>, claims: &mut Claims<Entry, N>)
+    pub fn check(&mut self, history: &History<TraceEntry, N>, claims: &mut Claims<TraceEntry, N>)
         ensures same { (self.new ≡ self.old) × (claims.new ≡ claims.old) }
         ensures stand { AllStand self.old.entries claims.old }
     {
@@ -394,7 +394,7 @@ impl<A: Adapter, N: Naming> Traced<A, N> {
     }
 
     /// The trace and the rows of all clients.
-    pub fn into_rows(self) -> (Vec<Entry>, Vec<Row>)
+    pub fn into_rows(self) -> (Vec<TraceEntry>, Vec<Row>)
         ensures rows { AreRowsOf (length N.partitions) self result.0.items result.1.items }
         ensures run { Run N.rules N.start (labels_of result.0.items) self.stack.state }
     {
@@ -409,7 +409,7 @@ impl<A: Adapter, N: Naming> Traced<A, N> {
     }
 
     /// Looks once at each slot that has an open request, and carries out each mark that it sees there.
-    pub fn look(&mut self, alloc: Global, history: &History<Entry, N>, marks: &Marks)
+    pub fn look(&mut self, alloc: Global, history: &History<TraceEntry, N>, marks: &Marks)
         requires marks { marks.now ≡ (N.marks, N.slots) }
         ensures looked { AreLooked N.slots self.old self.new }
         ensures no_call { self.new.owners ≡ self.old.owners }
@@ -447,7 +447,7 @@ impl<A: Adapter, N: Naming> Traced<A, N> {
     }
 
     /// The sizes of the stack.
-    pub fn sizes(&self) -> Sizes
+    pub fn sizes(&self) -> StackSizes
         ensures sizes { result ≡ sizes_of N.rules }
         ensures some { AreSizes result }
     {
@@ -476,7 +476,7 @@ impl<A: Adapter, N: Naming> Traced<A, N> {
     pub fn call(
         &mut self,
         alloc: Global,
-        history: &History<Entry, N>,
+        history: &History<TraceEntry, N>,
         marks: &Marks,
         share: &mut Share<N>,
         event: Event,
@@ -514,7 +514,7 @@ impl<A: Adapter, N: Naming> Traced<A, N> {
     pub fn serve(
         &mut self,
         alloc: Global,
-        history: &History<Entry, N>,
+        history: &History<TraceEntry, N>,
         marks: &Marks,
         event: Event,
     ) -> Reply

@@ -1,9 +1,9 @@
 -- What a row is before its answer.
 use Rattle.std.specs.Prelude.{◌≡◌, ◌≤◌, ℕ, List, Some, slice_get}
-use Rattle.traced.specs.declared.Entry.{Entry}
+use Rattle.traced.specs.declared.TraceEntry.{TraceEntry}
 use Rattle.traced.specs.Entries.{IsNoAnswerTo}
 
 -- at none of a row's places, from the k-th of them on, stands the answer to the request
-abbrev pub HasNoAnswer : ℕ → List Entry → List ℕ → ℕ → Type 0
+abbrev pub HasNoAnswer : ℕ → List TraceEntry → List ℕ → ℕ → Type 0
 HasNoAnswer number entries row from =
-    (k place : ℕ) (e : Entry) → from ≤ k → slice_get row k ≡ Some place → slice_get entries place ≡ Some e → IsNoAnswerTo number e.label
+    (k place : ℕ) (e : TraceEntry) → from ≤ k → slice_get row k ≡ Some place → slice_get entries place ≡ Some e → IsNoAnswerTo number e.label

@@ -2,13 +2,13 @@
 use Rattle.std.specs.Prelude.{◌≡◌, ◌<◌, ◌≤◌, ℕ, ◌+◌, List, Option, Some, None, length}
 use Rattle.machine.specs.declared.Label.{Label}
 use Rattle.machine.specs.declared.Label.TheVariants.{Call, Answer}
-use Rattle.traced.specs.declared.Entry.{Entry}
+use Rattle.traced.specs.declared.TraceEntry.{TraceEntry}
 use Rattle.traced.specs.Entries.{owner_of, WasCalled, count_of, is_call_of, is_answer_of}
 use Rattle.traced.specs.Rows.{RowView, row_at}
 use Rattle.traced.specs.Pages.{PagesView, AreKept}
 
 -- a call of this row is not answered yet
-abbrev pub IsAwaited : List Entry → ℕ → Type 0
+abbrev pub IsAwaited : List TraceEntry → ℕ → Type 0
 IsAwaited entries c = count_of (is_answer_of c) entries < count_of (is_call_of c) entries
 
 -- a label that may come next: a call of the next number, by a client whose places are there; or an answer to a request whose row awaits one
@@ -35,6 +35,6 @@ IsNext owners (Answer number status informed bytes) = WasCalled owners number
 IsNext owners _ = Unit {0}
 
 -- the trace and the rows of these pages
-pub record ArePages (clients : ℕ) (p : PagesView) (trace : List Entry) (rows : List RowView) : Type 0 where
+pub record ArePages (clients : ℕ) (p : PagesView) (trace : List TraceEntry) (rows : List RowView) : Type 0 where
   pub stored : trace ≡ p.entries
   pub kept : AreKept clients p.entries p.owners rows

@@ -1,7 +1,7 @@
 use Rattle.std.proofs.Common.{◌≡◌, ◌<◌, ℕ, false, inl, inr, ◌∙◌, sym, ap, subst, arith, rules}
 use Rattle.std.specs.Prelude.{◌⊎◌}
 use Rattle.machine.specs.State.{State, opening}
-use Rattle.traced.specs.declared.sizes.Sizes.{Sizes}
+use Rattle.traced.specs.declared.sizes.StackSizes.{StackSizes}
 use Rattle.traced.specs.Sizes.{sizes_of}
 use Rattle.book_tests.proofs.opened.start.Goals as goal
 
@@ -9,7 +9,7 @@ some_bytes : (n : ℕ) → (n ≡ 512) ⊎ (n ≡ 4096) → 0 < n
 some_bytes n (inl e) = omega arith
 some_bytes n (inr e) = omega arith
 
-sized : ℕ → ℕ → ℕ → Sizes
+sized : ℕ → ℕ → ℕ → StackSizes
 sized bytes count most = record { sector_size = bytes; sectors = count; longest = 65536; max_transfer = most; busy_limit = 17 }
 
 pub returns-in-Ok-clause-sizes : goal.returns-in-Ok-clause-sizes

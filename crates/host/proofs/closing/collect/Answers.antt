@@ -1,6 +1,6 @@
 use Rattle.std.proofs.Common.{◌≡◌, List, [], ◌∷◌, length, ap, ◌∙◌, subst, arith, append_assoc}
 use Rattle.std.specs.Vec.Iter.{into_iter_items}
-use Rattle.traced.specs.declared.Entry.{Entry}
+use Rattle.traced.specs.declared.TraceEntry.{TraceEntry}
 use Rattle.book.specs.Book.{BookView}
 use Rattle.host.specs.Clients.{ClientView}
 use Rattle.host.specs.Closing.{HasReceiptsIn, IsBorneOut}
@@ -12,7 +12,7 @@ loop-client-preserved g c =
     let at = c.loop-client in
     let x : ClientView = c.in-Some.client in
     let ys : List ClientView = at.yielded in
-    let es : List Entry = c.args.book.now.traced.entries in
+    let es : List TraceEntry = c.args.book.now.traced.entries in
     let steps : into_iter_items at.client-iterator ≡ x ∷ into_iter_items c.next.new.self = c.in-Some.ensures.steps.0 in
     let is = c.client.view_is in
     let borne : IsBorneOut es x = subst (IsBorneOut es) is (subst (λ (b : BookView). HasReceiptsIn b.traced.entries c.client.inside.account.share.client c.client.inside.account.called.list c.client.inside.account.answered.list) at.invariant.2 c.collect_one.ensures.borne) in (

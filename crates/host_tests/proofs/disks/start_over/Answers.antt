@@ -2,7 +2,7 @@ use Rattle.std.proofs.Common.{◌≡◌, ◌<◌, ℕ, false, inl, inr, ◌∙�
 use Rattle.std.specs.Prelude.{◌⊎◌}
 use Rattle.machine.specs.Map.{IsMap}
 use Rattle.machine.specs.Rules.{Rules}
-use Rattle.traced.specs.declared.sizes.Sizes.{Sizes}
+use Rattle.traced.specs.declared.sizes.StackSizes.{StackSizes}
 use Rattle.traced.specs.Sizes.{sizes_of}
 use Rattle.host_tests.proofs.disks.start_over.Goals as goal
 
@@ -10,7 +10,7 @@ some_bytes : (n : ℕ) → (n ≡ 512) ⊎ (n ≡ 4096) → 0 < n
 some_bytes n (inl e) = omega arith
 some_bytes n (inr e) = omega arith
 
-sized : ℕ → ℕ → ℕ → Sizes
+sized : ℕ → ℕ → ℕ → StackSizes
 sized bytes count most = record { sector_size = bytes; sectors = count; longest = 65536; max_transfer = most; busy_limit = 17 }
 
 sized_same : (bytes bytes' count count' most most' : ℕ) → bytes ≡ bytes' → count ≡ count' → most ≡ most' → sized bytes count most ≡ sized bytes' count' most'

@@ -6,7 +6,7 @@ use Rattle.machine.specs.declared.Label.TheVariants.{Answer as AnswerLabel}
 use Rattle.io_manager.specs.declared.Reply.{Reply}
 use Rattle.io_manager.specs.Calls.{status_of_refusal, without_bytes}
 use Rattle.io_manager.specs.Right.{as_answer}
-use Rattle.traced.specs.declared.Entry.{Entry}
+use Rattle.traced.specs.declared.TraceEntry.{TraceEntry}
 use Rattle.book.specs.Book.{BookView}
 use Rattle.traced.specs.Shares.{ShareView}
 use Rattle.host.specs.Receipts.{ReceiptsView, receipt}
@@ -24,7 +24,7 @@ invariant_of-self-in-Request g c =
     let share : ShareView = c.self.inside.share in
     let share' : ShareView = c.carry_call-reply.new.share in
     let q : ClientRequest = request_of (slice_index_or P share.client 0) c.args.call in
-    let es : List Entry = c.carry_call-reply.new.book.traced.entries in
+    let es : List TraceEntry = c.carry_call-reply.new.book.traced.entries in
     let place : ℕ = c.in-Some.place in
     let late = subst (λ (p : Option ℕ). IfSome p (λ at. length c.check-2.new.book.traced.entries ≤ at)) c.in-Some.is c.carry_call-reply.ensures.late in
     let told = subst (λ (r : Reply). IsTold g.N.Naming-3.slots share share' q (buffer_of c.args.call) es r (Some place)) c.in-Request.is
@@ -39,7 +39,7 @@ claim-told-requires g c =
     let share : ShareView = c.self.inside.share in
     let share' : ShareView = c.carry_call-reply.new.share in
     let q : ClientRequest = request_of (slice_index_or P share.client 0) c.args.call in
-    let es : List Entry = c.carry_call-reply.new.book.traced.entries in
+    let es : List TraceEntry = c.carry_call-reply.new.book.traced.entries in
     let place : ℕ = c.in-Some.place in
     let late = subst (λ (p : Option ℕ). IfSome p (λ at. length c.check-2.new.book.traced.entries ≤ at)) c.in-Some.is c.carry_call-reply.ensures.late in
     let told = subst (λ (r : Reply). IsTold g.N.Naming-3.slots share share' q (buffer_of c.args.call) es r (Some place)) c.in-Answered.is
@@ -52,7 +52,7 @@ invariant_of-self-in-Answered g c =
     let share : ShareView = c.self.inside.share in
     let share' : ShareView = c.carry_call-reply.new.share in
     let q : ClientRequest = request_of (slice_index_or P share.client 0) c.args.call in
-    let es : List Entry = c.carry_call-reply.new.book.traced.entries in
+    let es : List TraceEntry = c.carry_call-reply.new.book.traced.entries in
     let place : ℕ = c.in-Some.place in
     let late = subst (λ (p : Option ℕ). IfSome p (λ at. length c.check-2.new.book.traced.entries ≤ at)) c.in-Some.is c.carry_call-reply.ensures.late in
     let told = subst (λ (r : Reply). IsTold g.N.Naming-3.slots share share' q (buffer_of c.args.call) es r (Some place)) c.in-Answered.is
@@ -67,7 +67,7 @@ note-requires-clause-place g c =
     let share : ShareView = c.self.inside.share in
     let share' : ShareView = c.carry_call-reply.new.share in
     let q : ClientRequest = request_of (slice_index_or P share.client 0) c.args.call in
-    let es : List Entry = c.carry_call-reply.new.book.traced.entries in
+    let es : List TraceEntry = c.carry_call-reply.new.book.traced.entries in
     let place : ℕ = c.in-Some.place in
     let late = subst (λ (p : Option ℕ). IfSome p (λ at. length c.check-2.new.book.traced.entries ≤ at)) c.in-Some.is c.carry_call-reply.ensures.late in
     let told = subst (λ (r : Reply). IsTold g.N.Naming-3.slots share share' q (buffer_of c.args.call) es r (Some place)) c.in-Refused-reply.is
@@ -81,7 +81,7 @@ invariant_of-self-in-Refused-reply-2 g c =
     let share : ShareView = c.self.inside.share in
     let share' : ShareView = c.carry_call-reply.new.share in
     let q : ClientRequest = request_of (slice_index_or P share.client 0) c.args.call in
-    let es : List Entry = c.carry_call-reply.new.book.traced.entries in
+    let es : List TraceEntry = c.carry_call-reply.new.book.traced.entries in
     let place : ℕ = c.in-Some.place in
     let late = subst (λ (p : Option ℕ). IfSome p (λ at. length c.check-2.new.book.traced.entries ≤ at)) c.in-Some.is c.carry_call-reply.ensures.late in
     let told = subst (λ (r : Reply). IsTold g.N.Naming-3.slots share share' q (buffer_of c.args.call) es r (Some place)) c.in-Refused-reply.is
@@ -99,7 +99,7 @@ returns-in-Request-clause-issued g c =
     let share : ShareView = c.self.inside.share in
     let share' : ShareView = c.carry_call-reply.new.share in
     let q : ClientRequest = request_of (slice_index_or P share.client 0) c.args.call in
-    let es : List Entry = c.carry_call-reply.new.book.traced.entries in
+    let es : List TraceEntry = c.carry_call-reply.new.book.traced.entries in
     let place : ℕ = c.in-Some.place in
     let late = subst (λ (p : Option ℕ). IfSome p (λ at. length c.check-2.new.book.traced.entries ≤ at)) c.in-Some.is c.carry_call-reply.ensures.late in
     let told = subst (λ (r : Reply). IsTold g.N.Naming-3.slots share share' q (buffer_of c.args.call) es r (Some place)) c.in-Request.is
@@ -117,7 +117,7 @@ returns-in-Answered-clause-issued g c =
     let share : ShareView = c.self.inside.share in
     let share' : ShareView = c.carry_call-reply.new.share in
     let q : ClientRequest = request_of (slice_index_or P share.client 0) c.args.call in
-    let es : List Entry = c.carry_call-reply.new.book.traced.entries in
+    let es : List TraceEntry = c.carry_call-reply.new.book.traced.entries in
     let place : ℕ = c.in-Some.place in
     let late = subst (λ (p : Option ℕ). IfSome p (λ at. length c.check-2.new.book.traced.entries ≤ at)) c.in-Some.is c.carry_call-reply.ensures.late in
     let told = subst (λ (r : Reply). IsTold g.N.Naming-3.slots share share' q (buffer_of c.args.call) es r (Some place)) c.in-Answered.is
@@ -135,7 +135,7 @@ returns-in-Refused-reply-clause-refused g c =
     let share : ShareView = c.self.inside.share in
     let share' : ShareView = c.carry_call-reply.new.share in
     let q : ClientRequest = request_of (slice_index_or P share.client 0) c.args.call in
-    let es : List Entry = c.carry_call-reply.new.book.traced.entries in
+    let es : List TraceEntry = c.carry_call-reply.new.book.traced.entries in
     let place : ℕ = c.in-Some.place in
     let late = subst (λ (p : Option ℕ). IfSome p (λ at. length c.check-2.new.book.traced.entries ≤ at)) c.in-Some.is c.carry_call-reply.ensures.late in
     let told = subst (λ (r : Reply). IsTold g.N.Naming-3.slots share share' q (buffer_of c.args.call) es r (Some place)) c.in-Refused-reply.is

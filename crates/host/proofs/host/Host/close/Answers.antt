@@ -1,6 +1,6 @@
 use Rattle.std.proofs.Common.{◌≡◌, List, length, sym, ap, ◌∙◌, subst, arith}
 use Rattle.chronicle.specs.Claims.{AllStand}
-use Rattle.traced.specs.declared.Entry.{Entry}
+use Rattle.traced.specs.declared.TraceEntry.{TraceEntry}
 use Rattle.traced.specs.Traced.{TracedView}
 use Rattle.traced.specs.Entries.{calls}
 use Rattle.sector_journal.specs.declared.acted.Entered.{Entered}
@@ -31,7 +31,7 @@ returns g c =
     let entered = c.into_parts-medium.ensures.entries ∙ ap (λ (j : JournalView). j.entered) c.book_rest.ensures.same in
     let first = subst (λ (es : List Entered). BeginsWith es b.taken) (sym entered) front in
     record {
-      told = subst (λ (es : List Entry). AllStand es c.args.keeper.told) (sym c.into_rows-trace.ensures.rows.stored) told;
+      told = subst (λ (es : List TraceEntry). AllStand es c.args.keeper.told) (sym c.into_rows-trace.ensures.rows.stored) told;
       closed = closed_is _ _ _ _ v clients _ _ c.requires.all c.into_rows-trace.ensures.rows c.into_rows-trace.ensures.run borne sum;
       settled_at_removed = settled c.laws_of_removals.ensures.empty c.laws_of_removals.ensures.splits _ _ _ c.shows_opening.ensures.opening _ c.into_rows-trace.ensures.run;
       acts = are_first _ _ _ _ b.taken _ first c.into_rows-trace.ensures.receipts c.into_rows-trace.ensures.acts;
