@@ -129,15 +129,8 @@ pub fn rules_of(alloc: Global, layout: &Layout) -> Result<MachineRules, AllocErr
 pub fn zeros(alloc: Global, rules: &MachineRules) -> Result<Vec<Sectors>, AllocError> {
     let mut arrays = Vec::new(alloc);
     for extent in &rules.partitions {
-        arrays.push(Sectors::new(sectors_of_zeros(alloc, extent.count)?))?;
+        let sector = Bytes::new(vec![in alloc; 0; SECTOR as usize]?);
+        arrays.push(Sectors::filled(alloc, extent.count, sector))?;
     }
     Ok(arrays)
-}
-
-fn sectors_of_zeros(alloc: Global, count: u64) -> Result<Vec<Bytes>, AllocError> {
-    let mut sectors = Vec::new(alloc);
-    for _ in 0..count {
-        sectors.push(Bytes::new(vec![in alloc; 0; SECTOR as usize]?))?;
-    }
-    Ok(sectors)
 }

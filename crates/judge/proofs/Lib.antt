@@ -25,3 +25,4 @@ pub mod Followed
 pub mod Differing
 pub mod Leaving
 pub mod Alike
+pub mod Sparse

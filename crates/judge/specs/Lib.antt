@@ -3,6 +3,7 @@ pub mod Deciding
 pub mod Next
 pub mod Judging
 pub mod Views
+pub mod Sparse
 pub mod Taking
 pub mod Verdicts
 pub mod Settling

@@ -9,9 +9,10 @@ ghost use Rattle.judge.specs.Next.{acted_by, acted, arrays_after, faulted_of, fa
 ghost use Rattle.judge.specs.Views.{rules_of, with_arrays, with_busy_returns};
 
 use crate::NoVerdict;
+use crate::arrays::part_of;
 use crate::copies::all_copied;
 use crate::lists::part;
-use crate::machine_state::{Machine, array_of};
+use crate::machine_state::Machine;
 use crate::open::Open;
 use crate::pieces::Started;
 use crate::places::Place;
@@ -48,13 +49,10 @@ impl Machine {
         match q.kind {
             Kind::Read => {
                 let start = rules.first_sector(q) as u128 + first;
-                let there = part(
-                    array_of(self.arrays.as_slice(), partition_of(q)),
-                    start,
-                    start + count,
-                );
+                let arrays = self.arrays.as_slice();
+                let there = part_of(arrays, partition_of(q), start, start + count);
                 bytes.len() as u128 == count * size
-                    && (!rules.faithful || are_same_sectors(sectors, there))
+                    && (!rules.faithful || are_same_sectors(sectors, &there))
             }
             Kind::Write => {
                 let sent = part(q.bytes.as_slice(), first * size, (first + count) * size);
@@ -79,7 +77,7 @@ impl Machine {
             Kind::Write if rules.faithful => {
                 let first = rules.first_sector(q) as u128 + places.first as u128;
                 let copy = all_copied(alloc, sectors)?;
-                self.arrays = with_written(alloc, self.arrays, partition_of(q), first, copy)?;
+                self.arrays = with_written(self.arrays, partition_of(q), first, copy)?;
                 Ok(self)
             }
             Kind::Read | Kind::Write | Kind::Flush => Ok(self),

@@ -10,24 +10,25 @@ ghost use Rattle.judge.specs.PieceRuling.{has_size, are_whole, length_moved, dis
 ghost use Rattle.judge.specs.Views.{rules_of};
 
 use crate::adapter_labels::partition_of;
+use crate::arrays::{Part, part_of};
 use crate::broken_answers::{difference, next_difference};
 use crate::label_rules::Difference;
 use crate::lists::part;
-use crate::machine_state::{Machine, array_of};
+use crate::machine_state::Machine;
 use crate::piece_rules::{ActRule, ReturnRule};
 use crate::pieces::{Started, bad_status};
 use crate::rules::{MachineRules, moves_bytes};
 use machine::{ClientRequest, Kind};
-use sector::{Bytes, Extent};
+use sector::Extent;
 use srb::{Class, Completion};
 
 /// The first byte in which those told differ from those of the sectors, end to end.
-fn sectors_difference(sectors: &[Bytes], told: &[u8]) -> Option<Difference>
+fn sectors_difference(sectors: &Part<'_>, told: &[u8]) -> Option<Difference>
     ensures { result ≡ difference 0 (concat sectors.now) told.now }
 {
     let mut rest = told;
-    for sector in sectors {
-        let (found, behind) = next_difference(told, rest, sector.as_slice());
+    for i in 0..sectors.len() {
+        let (found, behind) = next_difference(told, rest, sectors.at(i));
         if found.is_some() {
             return found;
         }
@@ -36,24 +37,23 @@ fn sectors_difference(sectors: &[Bytes], told: &[u8]) -> Option<Difference>
     difference((told.len() - rest.len()) as u64, &[], rest)
 }
 
-fn has_size(sector: &Bytes, size: u32) -> bool
-    ensures { result ≡ has_size size sector.now }
-{
-    sector.as_slice().len() as u64 == size as u64
-}
-
 /// Whether each of the sectors has this size.
-fn have_size(sectors: &[Bytes], size: u32) -> bool
+fn have_size(sectors: &Part<'_>, size: u32) -> bool
     ensures { result ≡ list_all (has_size size) sectors.now }
 {
-    sectors.iter().all(|sector| has_size(sector, size))
+    for i in 0..sectors.len() {
+        if sectors.at(i).len() as u64 != size as u64 {
+            return false;
+        }
+    }
+    true
 }
 
 /// Whether the sectors are so many, each of this size.
-fn are_whole(sectors: &[Bytes], count: u64, size: u32) -> bool
+fn are_whole(sectors: &Part<'_>, count: u64, size: u32) -> bool
     ensures { result ≡ are_whole count size sectors.now }
 {
-    sectors.len() as u64 == count && have_size(sectors, size)
+    sectors.len() == count && have_size(sectors, size)
 }
 
 /// Returns how many bytes move with an act.
@@ -68,7 +68,13 @@ fn length_moved(kind: Kind, count: u64, size: u32) -> u128
 }
 
 /// Returns what is wrong with the bytes of a read, where these sectors stand on the disk.
-fn broken_read(piece: u128, count: u64, size: u32, there: &[Bytes], bytes: &[u8]) -> Option<ActRule>
+fn broken_read(
+    piece: u128,
+    count: u64,
+    size: u32,
+    there: &Part<'_>,
+    bytes: &[u8],
+) -> Option<ActRule>
     ensures { result ≡ disk_rule piece count size there.now bytes.now }
 {
     if !are_whole(there, count, size) {
@@ -109,12 +115,9 @@ impl Machine {
         match q.kind {
             Kind::Read if rules.faithful => {
                 let start = rules.first_sector(q) as u128 + first;
-                let there = part(
-                    array_of(self.arrays.as_slice(), partition_of(q)),
-                    start,
-                    start + count,
-                );
-                broken_read(piece, places.count, rules.sector_size, there, bytes)
+                let arrays = self.arrays.as_slice();
+                let there = part_of(arrays, partition_of(q), start, start + count);
+                broken_read(piece, places.count, rules.sector_size, &there, bytes)
             }
             Kind::Write => {
                 let sent = part(q.bytes.as_slice(), first * size, (first + count) * size);

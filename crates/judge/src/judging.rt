@@ -7,7 +7,8 @@ ghost use Rattle.judge.specs.Verdicts.{IsVerdict, is_run};
 ghost use Rattle.judge.specs.Views.{rules_of};
 
 use crate::NoVerdict;
-use crate::machine_state::{Machine, Sectors};
+use crate::arrays::Sectors;
+use crate::machine_state::Machine;
 use crate::rules::MachineRules;
 use crate::steps::all_next;
 use machine::Label;

@@ -20,6 +20,7 @@
 #![tactic(auto)]
 
 mod adapter_labels;
+mod arrays;
 mod breaking;
 mod broken_answers;
 mod broken_calls;
@@ -51,10 +52,11 @@ pub mod stepwise;
 mod undone;
 mod undone_rules;
 
+pub use arrays::Sectors;
 pub use breaking::breaking_refutes;
 pub use judging::{Verdict, judge};
 pub use label_rules::{AnswerRule, CallRule, CancelRule, Difference, OwedRule, RemovalRule, Rule};
-pub use machine_state::{Machine, Sectors};
+pub use machine_state::Machine;
 pub use open::Open as OpenRequest;
 pub use piece_rules::{ActRule, ReturnRule};
 pub use pieces::Started;

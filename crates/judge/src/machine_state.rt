@@ -1,64 +1,18 @@
 //! The state of a machine.
 
-ghost use Rattle.std.specs.Prelude.{◌≡◌, ◌<◌, length, slice_index_or, IfOk, OnOk, List};
+ghost use Rattle.std.specs.Prelude.{◌≡◌, ◌<◌, length, option_copied, slice_get, slice_index_or, IfOk, OnOk, List};
 ghost use Rattle.std.specs.List.{remove};
-ghost use Rattle.machine.specs.Sending.{array_at};
 ghost use Rattle.machine.specs.State.{opening};
 ghost use Rattle.judge.specs.Taking.{TakesOpen, TakesStarted, with_open, with_started};
 
+use crate::arrays::{Sectors, array_of};
 use crate::copies::{Copied, all_copied};
 use crate::finding::{take_piece, take_request};
 use crate::open::Open;
 use crate::pieces::Started;
 use ntstatus::NtStatus;
-use sector::Bytes;
 use std::alloc::{AllocError, Global};
 use std::marker::Model;
-
-/// The sectors of a partition, each with its bytes.
-#[derive(Debug, Drop)]
-pub struct Sectors {
-    sectors: Vec<Bytes>,
-}
-
-impl Model for Sectors {
-    ghost use Rattle.std.specs.Prelude.{List, ℕ};
-
-    ghost Value = { List (List ℕ) };
-
-    ghost view = { λ a. a.sectors.items };
-}
-
-impl Sectors {
-    /// These sectors.
-    pub fn new(sectors: Vec<Bytes>) -> Sectors
-        ensures { result ≡ sectors.items }
-    {
-        Sectors { sectors }
-    }
-
-    /// The sectors, to be read.
-    pub fn as_slice(&self) -> &[Bytes]
-        ensures { result.now ≡ self.now }
-    {
-        self.sectors.as_slice()
-    }
-
-    /// The vector again.
-    pub fn into_vec(self) -> Vec<Bytes>
-        ensures { result.items ≡ self }
-    {
-        self.sectors
-    }
-}
-
-impl Copied for Sectors {
-    fn copied(&self, alloc: Global) -> Result<Sectors, AllocError> {
-        Ok(Sectors {
-            sectors: all_copied(alloc, self.sectors.as_slice())?,
-        })
-    }
-}
 
 /// The answer that a refused call is owed.
 #[derive(Debug, Clone, Copy)]
@@ -176,9 +130,9 @@ impl Machine {
         self.requests.remove(at)
     }
 
-    /// The sectors of a partition; none where the machine has no such partition.
-    pub fn sectors(&self, partition: u8) -> &[Bytes]
-        ensures { result.now ≡ array_at self.now.arrays partition }
+    /// The sectors of a partition, where the machine has that partition.
+    pub fn sectors(&self, partition: u8) -> Option<&Sectors>
+        ensures { option_copied result ≡ slice_get self.now.arrays partition }
     {
         array_of(self.arrays.as_slice(), partition as usize)
     }
@@ -197,16 +151,6 @@ impl Machine {
     {
         self.pieces.push(piece)?;
         Ok(())
-    }
-}
-
-/// The sectors of an array.
-pub(crate) fn array_of(arrays: &[Sectors], partition: usize) -> &[Bytes]
-    ensures { result.now ≡ array_at arrays.now partition }
-{
-    match arrays.get(partition) {
-        Some(array) => array.as_slice(),
-        None => &[],
     }
 }
 

@@ -6,7 +6,7 @@ ghost use Rattle.judge.specs.Following.{AreAlike, AddsOnce};
 ghost use Rattle.judge.specs.Views.{owed_of};
 
 use crate::broken_starts::same_kind;
-use crate::machine_state::{Debt, Machine, Sectors};
+use crate::machine_state::{Debt, Machine};
 use crate::places::are_same;
 use machine::ClientRequest;
 use sector::Bytes;
@@ -22,12 +22,6 @@ pub(crate) trait Compared: Sized {
 impl Compared for Bytes {
     fn is_same(&self, other: &Bytes) -> bool {
         self.as_slice() == other.as_slice()
-    }
-}
-
-impl Compared for Sectors {
-    fn is_same(&self, other: &Sectors) -> bool {
-        all_same(self.as_slice(), other.as_slice())
     }
 }
 

@@ -5,13 +5,11 @@ ghost use Rattle.sector.specs.Splice.{splice};
 ghost use Rattle.judge.specs.Deciding.{chunked, sectors_eq, sectors_moved};
 ghost use Rattle.judge.specs.Views.{rules_of};
 
-use crate::lists::spliced;
-use crate::machine_state::Sectors;
+use crate::arrays::{Part, Sectors};
 use crate::rules::MachineRules;
 use machine::Kind;
 use sector::Bytes;
 use std::alloc::{AllocError, Global};
-use std::mem;
 
 /// Bytes cut into so many sectors of a size; the last ones are shorter where there are too few bytes.
 fn chunked(alloc: Global, count: u64, size: u32, bytes: &[u8]) -> Result<Vec<Bytes>, AllocError>
@@ -47,16 +45,16 @@ pub(crate) fn sectors_moved(
     }
 }
 
-/// Whether two lists have the same sectors.
+/// Whether these are the sectors of the part.
 #[tactic(auto, using(crate::proofs::Stepping::other_length))]
-pub(crate) fn are_same_sectors(a: &[Bytes], b: &[Bytes]) -> bool
-    ensures { result ≡ sectors_eq a.now b.now }
+pub(crate) fn are_same_sectors(sectors: &[Bytes], there: &Part<'_>) -> bool
+    ensures { result ≡ sectors_eq sectors.now there.now }
 {
-    if a.len() != b.len() {
+    if sectors.len() as u64 != there.len() {
         return false;
     }
-    for i in 0..a.len() {
-        if a[i].as_slice() != b[i].as_slice() {
+    for i in 0..sectors.len() {
+        if sectors[i].as_slice() != there.at(i as u64) {
             return false;
         }
     }
@@ -65,7 +63,6 @@ pub(crate) fn are_same_sectors(a: &[Bytes], b: &[Bytes]) -> bool
 
 /// The arrays with sectors in place of as many in one of them.
 pub(crate) fn with_written(
-    alloc: Global,
     mut arrays: Vec<Sectors>,
     partition: usize,
     first: u128,
@@ -76,7 +73,6 @@ pub(crate) fn with_written(
     if partition >= arrays.len() {
         return Ok(arrays);
     }
-    let array = mem::replace(&mut arrays[partition], Sectors::new(Vec::new(alloc)));
-    arrays[partition] = Sectors::new(spliced(array.into_vec(), first, sectors)?);
+    arrays[partition].write(first, sectors)?;
     Ok(arrays)
 }

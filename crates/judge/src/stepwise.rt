@@ -14,9 +14,10 @@ ghost use Rattle.judge.specs.Refusals.{IsRefusal, Keeps};
 ghost use Rattle.judge.specs.Views.{rules_of};
 
 use crate::NoVerdict;
+use crate::arrays::Sectors;
 use crate::breaking::read_of;
 use crate::label_rules::Rule;
-use crate::machine_state::{Machine, Sectors};
+use crate::machine_state::Machine;
 use crate::rules::MachineRules;
 use crate::sameness::distinct;
 use crate::start_rules::StartRule;

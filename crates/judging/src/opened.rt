@@ -85,7 +85,7 @@ fn arrays(
     let mut arrays = Vec::new(alloc);
     for partition in partitions {
         let sectors = zeros(alloc, config, partition.count)?;
-        let Ok(()) = arrays.push(Sectors::new(sectors)) else {
+        let Ok(()) = arrays.push(sectors) else {
             return Err(AllocError);
         };
     }
@@ -93,16 +93,11 @@ fn arrays(
 }
 
 /// Makes this many sectors of zeros.
-fn zeros(alloc: Global, config: &Config, count: u32) -> Result<Vec<Bytes>, AllocError>
-    ensures { IfOk result (λ sectors. sectors.items ≡ zeros config.now count) }
+fn zeros(alloc: Global, config: &Config, count: u32) -> Result<Sectors, AllocError>
+    ensures { IfOk result (λ sectors. sectors ≡ zeros config.now count) }
 {
-    let mut sectors = Vec::new(alloc);
-    for _ in 0..count {
-        let Ok(()) = sectors.push(zero_sector(alloc, config.sector_size)?) else {
-            return Err(AllocError);
-        };
-    }
-    Ok(sectors)
+    let sector = zero_sector(alloc, config.sector_size)?;
+    Ok(Sectors::filled(alloc, count as u64, sector))
 }
 
 fn zero_sector(alloc: Global, size: u32) -> Result<Bytes, AllocError>

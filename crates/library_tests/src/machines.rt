@@ -147,7 +147,7 @@ fn zeros(alloc: Global) -> Result<Vec<Sectors>, AllocError> {
         sectors.push(bytes(alloc, 0, 2)?)?;
     }
     let mut arrays = Vec::new(alloc);
-    arrays.push(Sectors::new(sectors))?;
+    arrays.push(Sectors::new(alloc, sectors)?)?;
     Ok(arrays)
 }
 
@@ -293,8 +293,10 @@ fn left_by(alloc: Global, kept: Kept, rows: &[Told], partition: u8) -> Result<Ve
     let mut all = Vec::new(alloc);
     if let Verdict::Run(machines) = verdict(alloc, kept, rows)? {
         for machine in machines.iter() {
-            for sector in machine.sectors(partition) {
-                all.extend_from_slice(sector.as_slice())?;
+            if let Some(sectors) = machine.sectors(partition) {
+                for number in 0..sectors.len() {
+                    all.extend_from_slice(sectors.at(number))?;
+                }
             }
         }
     }

@@ -185,7 +185,7 @@ fn zeros(alloc: Global) -> Result<Vec<Sectors>, AllocError> {
         sectors.push(bytes(alloc, 0, 2)?)?;
     }
     let mut arrays = Vec::new(alloc);
-    arrays.push(Sectors::new(sectors))?;
+    arrays.push(Sectors::new(alloc, sectors)?)?;
     Ok(arrays)
 }
 

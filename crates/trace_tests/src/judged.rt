@@ -33,14 +33,31 @@ static CUT: &str =
     return 1 good\nstart 2 tag 0 2a000000080000000100\nact 2 a5*512\nreturn 2 good\n\
     answer 1 SUCCESS 1024\n";
 
+/// A partition of two terabytes.
+static LARGE: &str =
+    "sector_size = 512\nsectors = 4294967296\nmax_transfer = 64\ndepth = 2\nwindow = 2\n\
+    [[partition]]\nfirst = 2048\ncount = 4294965247\n";
+
+/// One of its last sectors is written, and read back with the one before it, which is blank.
+static FAR: &str =
+    "call 1 write 2199019520000 512 in 0 a5*512\nstart 1 tag 0 2a00ffffeb8000000100\nact 1 a5*512\n\
+    return 1 good\nanswer 1 SUCCESS 512\ncall 2 read 2199019519488 1024 in 0\n\
+    start 2 tag 0 2800ffffeb7f00000200\nact 2 00*512,a5*512\nreturn 2 good\n\
+    answer 2 SUCCESS 1024 00*512,a5*512\n";
+
 static BAD: &str = "call 1 flush in 0\ncall 2 flush in  0\n";
 
 /// The verdict on a trace, and whether this is printed.
 fn judged(alloc: Global, trace: &str, wanted: &str) -> Option<(Verdict, bool)> {
+    judged_over(alloc, CONFIG, trace, wanted)
+}
+
+/// The same by other settings.
+fn judged_over(alloc: Global, config: &str, trace: &str, wanted: &str) -> Option<(Verdict, bool)> {
     let mut out = Vec::new(alloc);
     let verdict = check(
         alloc,
-        CONFIG.as_bytes(),
+        config.as_bytes(),
         trace.as_bytes(),
         &mut out,
         &mut untold(alloc),
@@ -88,6 +105,14 @@ fn it_is_said_how_far_a_check_came(rt: HostRuntime) -> Result<(), Fail> {
 #[test]
 fn a_run_is_legal(rt: HostRuntime) -> Result<(), Fail> {
     let got = judged(rt.alloc(), TRACE, "legal: 5 labels, 1 requests, 1 pieces\n");
+    same(&rt, &got, &Some((Verdict::Passed, true)));
+    Ok(())
+}
+
+#[test]
+fn a_partition_of_terabytes_is_judged(rt: HostRuntime) -> Result<(), Fail> {
+    let legal = "legal: 10 labels, 2 requests, 2 pieces\n";
+    let got = judged_over(rt.alloc(), LARGE, FAR, legal);
     same(&rt, &got, &Some((Verdict::Passed, true)));
     Ok(())
 }
