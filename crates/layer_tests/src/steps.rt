@@ -7,7 +7,7 @@ use sector::Extent;
 use srb::{Class, DeviceLabel};
 
 /// A label that the adapter recorded, by the number of its piece.
-#[derive(Drop)]
+#[derive(Clone, Copy)]
 pub(crate) enum Told<'a> {
     /// A start on this tag.
     Starts(u128, u8),
@@ -22,7 +22,7 @@ pub(crate) enum Told<'a> {
 }
 
 /// What is done, and what must follow. Where labels stand, just these are recorded.
-#[derive(Drop)]
+#[derive(Clone, Copy)]
 pub(crate) enum Step<'a> {
     /// The volumes, the sectors of the first three numbers, the longest request in sectors, and how many requests there may
     /// be.

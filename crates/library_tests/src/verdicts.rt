@@ -11,7 +11,7 @@ use std::alloc::{AllocError, Global};
 use std::test::Fail;
 
 /// A label, as a table writes it. Requests are of partition 0; offsets and lengths are in bytes.
-#[derive(Debug, Clone, Copy)]
+#[derive(Clone, Copy)]
 enum Told {
     Read(u64, u64, u64),
     /// A write of A5h.

@@ -87,7 +87,7 @@ enum Call {
 }
 
 /// What it must give.
-#[derive(Debug, Clone, Copy, PartialEq, Eq)]
+#[derive(Clone, Copy, PartialEq, Eq)]
 enum Given {
     Done,
     /// Equal bytes.

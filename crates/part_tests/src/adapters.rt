@@ -16,44 +16,37 @@ use std::test::Fail;
 
 const READ: [u8; 10] = [0x28, 0, 0, 0, 0, 0, 0, 0, 1, 0];
 
-const WRITE: [u8; 10] = [0x2A, 0, 0, 0, 0, 0, 0, 0, 1, 0];
-
-const SYNC: [u8; 10] = [0x35, 0, 0, 0, 0, 0, 0, 0, 0, 0];
-
 const CAPACITY: [u8; 10] = [0x25, 0, 0, 0, 0, 0, 0, 0, 0, 0];
 
 /// READ CAPACITY(16) with room for 32 bytes.
 const LONG_CAPACITY: [u8; 16] = [0x9E, 0x10, 0, 0, 0, 0, 0, 0, 0, 0, 0, 0, 0, 32, 0, 0];
 
-const GOOD: Completion = Completion {
-    srb_status: 0x01,
-    scsi_status: 0x00,
-    sense: None,
-};
+/// How a piece comes back.
+#[derive(Clone, Copy)]
+enum End {
+    Good,
+    Busy,
+    Invalid,
+    Reset,
+    /// With sense data of this key and code.
+    Checked(u8, u8),
+}
 
-const BUSY: Completion = Completion {
-    srb_status: 0x05,
-    scsi_status: 0x08,
-    sense: None,
-};
+use End::{Busy, Checked, Good, Invalid, Reset};
 
-const INVALID: Completion = Completion {
-    srb_status: 0x06,
-    scsi_status: 0x00,
-    sense: None,
-};
-
-const RESET: Completion = Completion {
-    srb_status: 0x0E,
-    scsi_status: 0x00,
-    sense: None,
-};
-
-const fn checked(key: u8, asc: u8) -> Completion {
+/// The completion of an end.
+fn completion_of(end: End) -> Completion {
+    let (srb_status, scsi_status, sense) = match end {
+        Good => (0x01, 0x00, None),
+        Busy => (0x05, 0x08, None),
+        Invalid => (0x06, 0x00, None),
+        Reset => (0x0E, 0x00, None),
+        Checked(key, asc) => (0x84, 0x02, Some(Sense { key, asc, ascq: 0 })),
+    };
     Completion {
-        srb_status: 0x84,
-        scsi_status: 0x02,
-        sense: Some(Sense { key, asc, ascq: 0 }),
+        srb_status,
+        scsi_status,
+        sense,
     }
 }
 
@@ -155,7 +148,7 @@ fn finish<A: Adapter>(adapter: &mut A, tag: u8) -> Result<(Srb, Completion), Fai
 }
 
 /// The completion of one SRB on a disk of four sectors, the last one bad; the failures that were counted.
-fn completion_of(
+fn carried_out(
     rt: &impl Abort,
     alloc: Global,
     write_protected: bool,
@@ -172,127 +165,216 @@ fn completion_of(
     Ok((completion, adapter.failures()))
 }
 
-/// An SRB as a case hands it in: its function, its flags, its block, the length of its data.
-type Case<'a> = (SrbFunction, u8, &'a [u8], usize);
+/// A case: the flags, the block and the length of the data of an SRB, and how it ends.
+type Case<'a> = (u8, &'a [u8], usize, End);
 
 /// What becomes of each case on a disk of four sectors, the last one bad.
 fn completes(
     rt: &impl Abort,
     alloc: Global,
     protected: bool,
-    cases: &[(Case, Completion)],
+    function: SrbFunction,
+    cases: &[Case],
 ) -> Result<(), Fail> {
-    for ((function, flags, block, count), want) in cases {
+    for (flags, block, count, end) in cases {
         assert!(rt; *count <= 1536);
-        let srb = srb(alloc, *function, *flags, block, *count, 0xA5)?;
-        let (completion, failures) = completion_of(rt, alloc, protected, srb)?;
-        same_at(rt, &completion, want, &block);
-        same_at(rt, &failures, &(if *want == GOOD { 0 } else { 1 }), &block);
+        let srb = srb(alloc, function, *flags, block, *count, 0xA5)?;
+        let told = carried_out(rt, alloc, protected, srb)?;
+        let failures = if let Good = *end { 0 } else { 1 };
+        same_at(rt, &told, &(completion_of(*end), failures), block);
     }
     Ok(())
 }
+
+/// Other functions than that of a command.
+const OTHERS: [Case; 2] = [
+    (0x40, &[0x28, 0, 0, 0, 0, 0, 0, 0, 1, 0], 512, Invalid),
+    (0x40, &[], 0, Invalid),
+];
+
+/// What is wrong with a block.
+const BAD_BLOCKS: [Case; 6] = [
+    (0x40, &[], 512, Checked(5, 0x24)),
+    (0x40, &[0x28, 0, 0, 0, 0, 0, 0, 0, 1], 512, Checked(5, 0x24)),
+    // a protect field that isn't zero
+    (
+        0x40,
+        &[0x28, 0x20, 0, 0, 8, 0, 0, 0, 1, 0],
+        512,
+        Checked(5, 0x24),
+    ),
+    (0x40, &[0x12, 0, 0, 0, 36, 0], 36, Checked(5, 0x20)),
+    (
+        0x40,
+        &[0x9E, 0x10, 0, 0, 0, 0, 0, 0, 0, 0],
+        32,
+        Checked(5, 0x24),
+    ),
+    // another service action
+    (
+        0x40,
+        &[0x9E, 0x12, 0, 0, 0, 0, 0, 0, 0, 0, 0, 0, 0, 32, 0, 0],
+        32,
+        Checked(5, 0x24),
+    ),
+];
+
+/// Sectors past the end: sectors 3 and 4, a flush, two sectors from FFFFFFFFFFFFFFFFh on, and one from 2^32 on.
+const PAST_END: [Case; 4] = [
+    (
+        0x40,
+        &[0x28, 0, 0, 0, 0, 3, 0, 0, 2, 0],
+        512,
+        Checked(5, 0x21),
+    ),
+    (
+        0x00,
+        &[0x35, 0, 0xFF, 0xFF, 0xFF, 0xFF, 0, 0xFF, 0xFF, 0],
+        0,
+        Checked(5, 0x21),
+    ),
+    (
+        0x40,
+        &[
+            0x88, 0, 0xFF, 0xFF, 0xFF, 0xFF, 0xFF, 0xFF, 0xFF, 0xFF, 0, 0, 0, 2, 0, 0,
+        ],
+        1024,
+        Checked(5, 0x21),
+    ),
+    (
+        0x80,
+        &[0x8A, 0, 0, 0, 0, 1, 0, 0, 0, 0, 0, 0, 0, 1, 0, 0],
+        512,
+        Checked(5, 0x21),
+    ),
+];
+
+/// Flags and lengths that aren't those of the command.
+const OTHER_FLAGS: [Case; 6] = [
+    (0x80, &[0x28, 0, 0, 0, 0, 0, 0, 0, 1, 0], 512, Invalid),
+    (0xC0, &[0x2A, 0, 0, 0, 0, 0, 0, 0, 1, 0], 512, Invalid),
+    (0x40, &[0x28, 0, 0, 0, 0, 0, 0, 0, 1, 0], 511, Invalid),
+    (0x40, &[0x35, 0, 0, 0, 0, 0, 0, 0, 0, 0], 0, Invalid),
+    (0x40, &[0x25, 0, 0, 0, 0, 0, 0, 0, 0, 0], 9, Invalid),
+    (
+        0x40,
+        &[0x9E, 0x10, 0, 0, 0, 0, 0, 0, 0, 0, 0, 0, 0, 32, 0, 0],
+        8,
+        Invalid,
+    ),
+];
+
+/// Transfers of the bad sector.
+const BAD_SECTORS: [Case; 4] = [
+    (
+        0x40,
+        &[0x88, 0, 0, 0, 0, 0, 0, 0, 0, 2, 0, 0, 0, 2, 0, 0],
+        1024,
+        Checked(3, 0x11),
+    ),
+    (
+        0x80,
+        &[0x8A, 8, 0, 0, 0, 0, 0, 0, 0, 3, 0, 0, 0, 1, 0, 0],
+        512,
+        Checked(3, 0x0C),
+    ),
+    (
+        0x40,
+        &[0x28, 0, 0, 0, 0, 2, 0, 0, 2, 0],
+        1024,
+        Checked(3, 0x11),
+    ),
+    (
+        0x80,
+        &[0x2A, 0, 0, 0, 0, 3, 0, 0, 1, 0],
+        512,
+        Checked(3, 0x0C),
+    ),
+];
+
+/// Writes to a protected disk.
+const PROTECTED: [Case; 4] = [
+    (
+        0x00,
+        &[0x2A, 0, 0, 0, 0, 5, 0, 0, 0, 0],
+        0,
+        Checked(5, 0x21),
+    ),
+    (0x80, &[0x2A, 0, 0, 0, 0, 0, 0, 0, 1, 0], 1024, Invalid),
+    (
+        0x80,
+        &[0x2A, 0, 0, 0, 0, 0, 0, 0, 1, 0],
+        512,
+        Checked(7, 0x27),
+    ),
+    (
+        0x80,
+        &[0x2A, 0, 0, 0, 0, 3, 0, 0, 1, 0],
+        512,
+        Checked(7, 0x27),
+    ),
+];
+
+/// Writes that pass the cache, of which one has a byte behind its block.
+const WRITES: [Case; 2] = [
+    (0x80, &[0x2A, 8, 0, 0, 0, 0, 0, 0, 3, 0, 7], 1536, Good),
+    (
+        0x80,
+        &[0x8A, 8, 0, 0, 0, 0, 0, 0, 0, 0, 0, 0, 0, 3, 0, 0],
+        1536,
+        Good,
+    ),
+];
+
+/// What a protected disk carries out; no sectors at its end are in it.
+const UNPROTECTED: [Case; 7] = [
+    (0x40, &[0x28, 0, 0, 0, 0, 0, 0, 0, 1, 0], 512, Good),
+    (0x40, &[0x28, 0, 0, 0, 0, 4, 0, 0, 0, 0], 0, Good),
+    (0x00, &[0x35, 0, 0, 0, 0, 0, 0, 0, 0, 0], 0, Good),
+    (0x40, &[0x25, 0, 0, 0, 0, 0, 0, 0, 0, 0], 8, Good),
+    (
+        0x40,
+        &[0x88, 0, 0, 0, 0, 0, 0, 0, 0, 0, 0, 0, 0, 3, 0, 0],
+        1536,
+        Good,
+    ),
+    (
+        0x00,
+        &[0x91, 0, 0, 0, 0, 0, 0, 0, 0, 0, 0, 0, 0, 0, 0, 0],
+        0,
+        Good,
+    ),
+    (
+        0x40,
+        &[0x9E, 0x10, 0, 0, 0, 0, 0, 0, 0, 0, 0, 0, 0, 32, 0, 0],
+        32,
+        Good,
+    ),
+];
 
 const SCSI: SrbFunction = SrbFunction::ExecuteScsi;
 
 // Each row of the table, where later rows fit too.
 #[test]
 fn fails_by_the_first_row_that_fits(rt: HostRuntime) -> Result<(), Fail> {
-    let past_end = [0x28, 0, 0, 0, 0, 3, 0, 0, 2, 0];
-    let bad_sync = [0x35, 0, 0xFF, 0xFF, 0xFF, 0xFF, 0, 0xFF, 0xFF, 0];
-    let protect_field = [0x28, 0x20, 0, 0, 8, 0, 0, 0, 1, 0];
-    let mut other_service = LONG_CAPACITY;
-    other_service[1] = 0x12;
-    // two sectors from FFFFFFFFFFFFFFFFh on, and one from 2^32 on
-    let last_of_all = [
-        0x88, 0, 0xFF, 0xFF, 0xFF, 0xFF, 0xFF, 0xFF, 0xFF, 0xFF, 0, 0, 0, 2, 0, 0,
-    ];
-    let far_write = [0x8A, 0, 0, 0, 0, 1, 0, 0, 0, 0, 0, 0, 0, 1, 0, 0];
-    let bad_read = [0x88, 0, 0, 0, 0, 0, 0, 0, 0, 2, 0, 0, 0, 2, 0, 0];
-    let bad_write = [0x8A, 8, 0, 0, 0, 0, 0, 0, 0, 3, 0, 0, 0, 1, 0, 0];
-    completes(
-        &rt,
-        rt.alloc(),
-        false,
-        &[
-            ((SrbFunction::AbortCommand, 0x40, &READ, 512), INVALID),
-            ((SrbFunction::ResetBus, 0x40, &[], 0), INVALID),
-            ((SCSI, 0x40, &[], 512), checked(5, 0x24)),
-            ((SCSI, 0x40, &READ[..9], 512), checked(5, 0x24)),
-            ((SCSI, 0x40, &protect_field, 512), checked(5, 0x24)),
-            ((SCSI, 0x40, &[0x12, 0, 0, 0, 36, 0], 36), checked(5, 0x20)),
-            ((SCSI, 0x40, &past_end, 512), checked(5, 0x21)),
-            ((SCSI, 0x00, &bad_sync, 0), checked(5, 0x21)),
-            ((SCSI, 0x80, &READ, 512), INVALID),
-            ((SCSI, 0xC0, &WRITE, 512), INVALID),
-            ((SCSI, 0x40, &READ, 511), INVALID),
-            ((SCSI, 0x40, &SYNC, 0), INVALID),
-            ((SCSI, 0x40, &CAPACITY, 9), INVALID),
-            ((SCSI, 0x40, &LONG_CAPACITY, 8), INVALID),
-            ((SCSI, 0x40, &LONG_CAPACITY[..10], 32), checked(5, 0x24)),
-            ((SCSI, 0x40, &other_service, 32), checked(5, 0x24)),
-            ((SCSI, 0x40, &last_of_all, 1024), checked(5, 0x21)),
-            ((SCSI, 0x80, &far_write, 512), checked(5, 0x21)),
-            ((SCSI, 0x40, &bad_read, 1024), checked(3, 0x11)),
-            ((SCSI, 0x80, &bad_write, 512), checked(3, 0x0C)),
-            (
-                (SCSI, 0x40, &[0x28, 0, 0, 0, 0, 2, 0, 0, 2, 0], 1024),
-                checked(3, 0x11),
-            ),
-            (
-                (SCSI, 0x80, &[0x2A, 0, 0, 0, 0, 3, 0, 0, 1, 0], 512),
-                checked(3, 0x0C),
-            ),
-        ],
-    )?;
-    completes(
-        &rt,
-        rt.alloc(),
-        true,
-        &[
-            (
-                (SCSI, 0x00, &[0x2A, 0, 0, 0, 0, 5, 0, 0, 0, 0], 0),
-                checked(5, 0x21),
-            ),
-            ((SCSI, 0x80, &WRITE, 1024), INVALID),
-            ((SCSI, 0x80, &WRITE, 512), checked(7, 0x27)),
-            (
-                (SCSI, 0x80, &[0x2A, 0, 0, 0, 0, 3, 0, 0, 1, 0], 512),
-                checked(7, 0x27),
-            ),
-        ],
-    )
+    let alloc = rt.alloc();
+    completes(&rt, alloc, false, SrbFunction::AbortCommand, &OTHERS)?;
+    completes(&rt, alloc, false, SrbFunction::ResetBus, &OTHERS)?;
+    for cases in [
+        BAD_BLOCKS.as_slice(),
+        PAST_END.as_slice(),
+        OTHER_FLAGS.as_slice(),
+        BAD_SECTORS.as_slice(),
+    ] {
+        completes(&rt, alloc, false, SCSI, cases)?;
+    }
+    completes(&rt, alloc, true, SCSI, &PROTECTED)
 }
 
 #[test]
 fn all_else_is_carried_out(rt: HostRuntime) -> Result<(), Fail> {
-    let none_at_end = [0x28, 0, 0, 0, 0, 4, 0, 0, 0, 0];
-    let through = [0x2A, 8, 0, 0, 0, 0, 0, 0, 3, 0, 7];
-    let long_through = [0x8A, 8, 0, 0, 0, 0, 0, 0, 0, 0, 0, 0, 0, 3, 0, 0];
-    let long_read = [0x88, 0, 0, 0, 0, 0, 0, 0, 0, 0, 0, 0, 0, 3, 0, 0];
-    let long_sync = [0x91, 0, 0, 0, 0, 0, 0, 0, 0, 0, 0, 0, 0, 0, 0, 0];
-    completes(
-        &rt,
-        rt.alloc(),
-        false,
-        &[
-            ((SCSI, 0x80, &through, 1536), GOOD),
-            ((SCSI, 0x80, &long_through, 1536), GOOD),
-        ],
-    )?;
-    completes(
-        &rt,
-        rt.alloc(),
-        true,
-        &[
-            ((SCSI, 0x40, &READ, 512), GOOD),
-            ((SCSI, 0x40, &none_at_end, 0), GOOD),
-            ((SCSI, 0x00, &SYNC, 0), GOOD),
-            ((SCSI, 0x40, &CAPACITY, 8), GOOD),
-            ((SCSI, 0x40, &long_read, 1536), GOOD),
-            ((SCSI, 0x00, &long_sync, 0), GOOD),
-            ((SCSI, 0x40, &LONG_CAPACITY, 32), GOOD),
-        ],
-    )
+    completes(&rt, rt.alloc(), false, SCSI, &WRITES)?;
+    completes(&rt, rt.alloc(), true, SCSI, &UNPROTECTED)
 }
 
 /// The data that a command brings, as this piece, on tag 1.
@@ -312,7 +394,7 @@ fn brought<A: Adapter>(
     put(rt, adapter, 1, piece, srb)?;
     act(rt, adapter, 1);
     let (srb, completion) = finish(adapter, 1)?;
-    same(rt, &completion, &GOOD);
+    same(rt, &completion, &completion_of(Good));
     Ok(srb)
 }
 
@@ -464,6 +546,14 @@ fn told(rt: &impl Abort, label: DeviceLabel) -> (u128, char, u8) {
     }
 }
 
+/// The label is there and says this.
+fn is_told(rt: &impl Abort, label: Option<DeviceLabel>, want: (u128, char, u8)) {
+    match label {
+        Some(label) => same(rt, &told(rt, label), &want),
+        None => panic!(rt; "there is no label"),
+    }
+}
+
 /// Takes as many labels as are wanted, and no more are there.
 fn tells<A: Adapter>(rt: &impl Abort, adapter: &mut A, want: Told)
     ensures labels { length (A.view adapter.new).labels ≡ 0 }
@@ -471,42 +561,29 @@ fn tells<A: Adapter>(rt: &impl Abort, adapter: &mut A, want: Told)
 {
     for w in want {
         let label = adapter.take_label();
-        assert!(rt; label.is_some_and(|label| told(rt, label) == *w), "{w:?}");
+        is_told(rt, label, *w);
     }
     assert!(rt; adapter.take_label().is_none());
 }
 
-/// What is done to an adapter, and what it must answer.
-#[derive(Drop)]
+/// What is done to an adapter, and what it must answer. The first number is a tag, but of a reset.
+#[derive(Clone, Copy)]
 enum Step {
-    /// A write of one sector full of a byte is put on a tag.
-    Write {
-        tag: u8,
-        piece: u128,
-        sector: u8,
-        byte: u8,
-    },
-    /// A read of one sector is put on a tag.
-    Read {
-        tag: u8,
-        piece: u128,
-        sector: u8,
-    },
-    Act {
-        tag: u8,
-        acts: bool,
-    },
+    /// A write of one sector is put on a tag: its piece, its sector, and the byte that it is full of.
+    Write(u8, u128, u8, u8),
+    /// A read of one sector is put on a tag: its piece and its sector.
+    Read(u8, u128, u8),
+    /// Whether the piece of a tag acts.
+    Act(u8, bool),
     /// The tag's piece comes back with its data full of a byte.
-    Finish {
-        tag: u8,
-        completion: Completion,
-        byte: u8,
-    },
+    Back(u8, End, u8),
     /// No piece is on the tag.
     Free(u8),
-    /// After it this many failures are counted.
-    Reset(u128),
+    /// After a reset this many failures are counted.
+    AllReset(u128),
 }
+
+use Step::{Act, AllReset, Back, Free, Read, Write};
 
 /// The SRB of one sector, all of a byte.
 fn one_sector(alloc: Global, flags: u8, code: u8, sector: u8, byte: u8) -> Result<Srb, Fail>
@@ -523,66 +600,88 @@ fn one_sector(alloc: Global, flags: u8, code: u8, sector: u8, byte: u8) -> Resul
 }
 
 /// The data are full of the byte, and the second buffer is whole where nothing was done.
-fn comes_back_with(srb: &Srb, completion: Completion, byte: u8) -> bool {
-    let data = srb.data.as_slice();
-    let left = if completion == BUSY {
-        512
-    } else {
-        srb.for_label.as_slice().len()
-    };
-    data.len() == 512 && data.iter().all(|b| *b == byte) && srb.for_label.as_slice().len() == left
+fn comes_back_with(rt: &impl Abort, srb: &Srb, end: End, byte: u8) {
+    let for_label = srb.for_label.as_slice().len();
+    if let Busy = end {
+        same(rt, &for_label, &512);
+    }
+    same(rt, &srb.data.as_slice(), &[byte; 512].as_slice());
 }
 
-fn take<A: Adapter>(
+/// The piece of a tag comes back so.
+fn is_back<A: Adapter>(
     rt: &impl Abort,
-    alloc: Global,
     adapter: &mut A,
-    step: &Step,
+    tag: u8,
+    back: (End, u8),
 ) -> Result<(), Fail>
+    requires { length (A.view adapter.old).labels < 64 }
+    ensures { (A.view adapter.new).accepted ≡ (A.view adapter.old).accepted }
+{
+    let (end, byte) = back;
+    let (srb, completion) = finish(adapter, tag)?;
+    same_at(rt, &completion, &completion_of(end), &tag);
+    comes_back_with(rt, &srb, end, byte);
+    Ok(())
+}
+
+/// No piece is on a tag.
+fn is_free<A: Adapter>(rt: &impl Abort, adapter: &mut A, tag: u8)
+    requires { length (A.view adapter.old).labels < 64 }
+    ensures { (A.view adapter.new).accepted ≡ (A.view adapter.old).accepted }
+{
+    assert!(rt; adapter.finish(tag).is_none());
+    assert!(rt; !adapter.in_use(tag));
+}
+
+/// All is reset, and this many failures are counted.
+fn is_reset<A: Adapter>(rt: &impl Abort, adapter: &mut A, failures: u128)
+    requires { length (A.view adapter.old).labels ≡ 0 }
+    ensures { (A.view adapter.new).accepted ≡ (A.view adapter.old).accepted }
+{
+    assert!(rt; adapter.depth() <= 32);
+    adapter.reset();
+    same(rt, &adapter.failures(), &failures);
+}
+
+fn take<A: Adapter>(rt: &impl Abort, alloc: Global, adapter: &mut A, step: Step) -> Result<(), Fail>
     requires few { (A.view adapter.old).accepted < 2 ^ 100 }
     requires labels { length (A.view adapter.old).labels ≡ 0 }
     ensures { OnOk result ((A.view adapter.new).accepted ≤ (A.view adapter.old).accepted + 1) }
 {
-    match *step {
-        Step::Write {
-            tag,
-            piece,
-            sector,
-            byte,
-        } => put(
-            rt,
-            adapter,
-            tag,
-            piece,
-            one_sector(alloc, 0x80, 0x2A, sector, byte)?,
-        )?,
-        Step::Read { tag, piece, sector } => put(
-            rt,
-            adapter,
-            tag,
-            piece,
-            one_sector(alloc, 0x40, 0x28, sector, 0)?,
-        )?,
-        Step::Act { tag, acts } => same(rt, &adapter.act(tag), &acts),
-        Step::Finish {
-            tag,
-            completion,
-            byte,
-        } => {
-            let (srb, given) = finish(adapter, tag)?;
-            assert!(rt;
-                given == completion && comes_back_with(&srb, completion, byte),
-                "tag {tag}"
-            );
+    match step {
+        Write(tag, piece, sector, byte) => {
+            put(
+                rt,
+                adapter,
+                tag,
+                piece,
+                one_sector(alloc, 0x80, 0x2A, sector, byte)?,
+            )
         }
-        Step::Free(tag) => assert!(rt; adapter.finish(tag).is_none() && !adapter.in_use(tag)),
-        Step::Reset(failures) => {
-            assert!(rt; adapter.depth() <= 32);
-            adapter.reset();
-            same(rt, &adapter.failures(), &failures);
+        Read(tag, piece, sector) => {
+            put(
+                rt,
+                adapter,
+                tag,
+                piece,
+                one_sector(alloc, 0x40, 0x28, sector, 0)?,
+            )
+        }
+        Act(tag, acts) => {
+            same(rt, &adapter.act(tag), &acts);
+            Ok(())
+        }
+        Back(tag, end, byte) => is_back(rt, adapter, tag, (end, byte)),
+        Free(tag) => {
+            is_free(rt, adapter, tag);
+            Ok(())
+        }
+        AllReset(failures) => {
+            is_reset(rt, adapter, failures);
+            Ok(())
         }
     }
-    Ok(())
 }
 
 /// Takes the steps one after the other; after each just its labels are there.
@@ -590,116 +689,86 @@ fn run<A: Adapter>(
     rt: &impl Abort,
     alloc: Global,
     adapter: &mut A,
-    steps: &[(Step, Told)],
+    steps: &[(Step, Told<'_>)],
 ) -> Result<(), Fail>
     requires few { (A.view adapter.old).accepted ≡ 0 }
     requires labels { length (A.view adapter.old).labels ≡ 0 }
 {
-    for (step, labels) in steps {
-        take(rt, alloc, adapter, step)?;
-        tells(rt, adapter, labels);
+    for step in steps {
+        take(rt, alloc, adapter, step.0)?;
+        tells(rt, adapter, step.1);
     }
     Ok(())
 }
 
-fn write(tag: u8, piece: u128, sector: u8, byte: u8) -> Step {
-    Step::Write {
-        tag,
-        piece,
-        sector,
-        byte,
-    }
-}
+/// The later tag acts and finishes first, and a read between two writes sees the first alone.
+const TWO_TAGS: [(Step, Told<'static>); 15] = [
+    (Write(0, 1, 0, 0xA5), &[(1, 'S', 0)]),
+    (Write(1, 2, 1, 0x5A), &[(2, 'S', 1)]),
+    (Act(1, true), &[(2, 'A', 0x5A)]),
+    (Back(1, Good, 0x5A), &[(2, 'G', 0)]),
+    (Read(1, 3, 0), &[(3, 'S', 1)]),
+    (Act(1, true), &[(3, 'A', 0)]),
+    (Act(0, true), &[(1, 'A', 0xA5)]),
+    (Back(1, Good, 0), &[(3, 'G', 0)]),
+    (Back(0, Good, 0xA5), &[(1, 'G', 0)]),
+    (Read(1, 4, 0), &[(4, 'S', 1)]),
+    (Read(0, 5, 1), &[(5, 'S', 0)]),
+    (Act(0, true), &[(5, 'A', 0x5A)]),
+    (Act(1, true), &[(4, 'A', 0xA5)]),
+    (Back(1, Good, 0xA5), &[(4, 'G', 0)]),
+    (Back(0, Good, 0x5A), &[(5, 'G', 0)]),
+];
 
-fn read(tag: u8, piece: u128, sector: u8) -> Step {
-    Step::Read { tag, piece, sector }
-}
-
-fn acts(tag: u8, acts: bool) -> Step {
-    Step::Act { tag, acts }
-}
-
-fn back(tag: u8, completion: Completion, byte: u8) -> Step {
-    Step::Finish {
-        tag,
-        completion,
-        byte,
-    }
-}
-
-// The later tag acts and finishes first, and a read between two writes sees the first alone.
 #[test]
 fn two_tags_serve_at_once(rt: HostRuntime) -> Result<(), Fail> {
     let mut adapter = four_sectors(rt.alloc(), 2, false)?;
-    run(
-        &rt,
-        rt.alloc(),
-        &mut adapter,
-        &[
-            (write(0, 1, 0, 0xA5), &[(1, 'S', 0)]),
-            (write(1, 2, 1, 0x5A), &[(2, 'S', 1)]),
-            (acts(1, true), &[(2, 'A', 0x5A)]),
-            (back(1, GOOD, 0x5A), &[(2, 'G', 0)]),
-            (read(1, 3, 0), &[(3, 'S', 1)]),
-            (acts(1, true), &[(3, 'A', 0)]),
-            (acts(0, true), &[(1, 'A', 0xA5)]),
-            (back(1, GOOD, 0), &[(3, 'G', 0)]),
-            (back(0, GOOD, 0xA5), &[(1, 'G', 0)]),
-            (read(1, 4, 0), &[(4, 'S', 1)]),
-            (read(0, 5, 1), &[(5, 'S', 0)]),
-            (acts(0, true), &[(5, 'A', 0x5A)]),
-            (acts(1, true), &[(4, 'A', 0xA5)]),
-            (back(1, GOOD, 0xA5), &[(4, 'G', 0)]),
-            (back(0, GOOD, 0x5A), &[(5, 'G', 0)]),
-        ],
-    )
+    run(&rt, rt.alloc(), &mut adapter, &TWO_TAGS)
 }
 
-// A piece that did nothing is busy; a reset faults one that did nothing and marks one that acted, each counted once.
+/// A piece that did nothing is busy; a reset faults one that did nothing and marks one that acted, each counted once.
+const RESETS: [(Step, Told<'static>); 19] = [
+    (Write(2, 1, 1, 0xA5), &[(1, 'S', 2)]),
+    (Back(2, Busy, 0xA5), &[(1, 'B', 0)]),
+    (Free(2), &[]),
+    (Write(2, 2, 1, 0xA5), &[(2, 'S', 2)]),
+    (Read(1, 3, 1), &[(3, 'S', 1)]),
+    (Read(0, 4, 1), &[(4, 'S', 0)]),
+    (Act(2, true), &[(2, 'A', 0xA5)]),
+    (AllReset(3), &[(4, 'F', 0), (3, 'F', 0)]),
+    (AllReset(3), &[]),
+    (Act(0, false), &[]),
+    (Act(2, false), &[]),
+    (Act(99, false), &[]),
+    (Back(0, Reset, 0), &[(4, 'R', 0x0E)]),
+    (Back(1, Reset, 0), &[(3, 'R', 0x0E)]),
+    (Back(2, Reset, 0xA5), &[(2, 'R', 0x0E)]),
+    (Free(99), &[]),
+    (Read(0, 5, 1), &[(5, 'S', 0)]),
+    (Act(0, true), &[(5, 'A', 0xA5)]),
+    (Back(0, Good, 0xA5), &[(5, 'G', 0)]),
+];
+
+/// Two pieces of one write, of which the first acted: two failures.
+const HALF_WRITTEN: [(Step, Told<'static>); 6] = [
+    (Write(0, 1, 0, 0xA5), &[(1, 'S', 0)]),
+    (Write(1, 2, 1, 0xA5), &[(2, 'S', 1)]),
+    (Act(0, true), &[(1, 'A', 0xA5)]),
+    (AllReset(2), &[(2, 'F', 0)]),
+    (Back(0, Reset, 0xA5), &[(1, 'R', 0x0E)]),
+    (Back(1, Reset, 0xA5), &[(2, 'R', 0x0E)]),
+];
+
 #[test]
 fn resets_are_met(rt: HostRuntime) -> Result<(), Fail> {
     let mut adapter = four_sectors(rt.alloc(), 3, false)?;
-    run(
-        &rt,
-        rt.alloc(),
-        &mut adapter,
-        &[
-            (write(2, 1, 1, 0xA5), &[(1, 'S', 2)]),
-            (back(2, BUSY, 0xA5), &[(1, 'B', 0)]),
-            (Step::Free(2), &[]),
-            (write(2, 2, 1, 0xA5), &[(2, 'S', 2)]),
-            (read(1, 3, 1), &[(3, 'S', 1)]),
-            (read(0, 4, 1), &[(4, 'S', 0)]),
-            (acts(2, true), &[(2, 'A', 0xA5)]),
-            (Step::Reset(3), &[(4, 'F', 0), (3, 'F', 0)]),
-            (Step::Reset(3), &[]),
-            (acts(0, false), &[]),
-            (acts(2, false), &[]),
-            (acts(99, false), &[]),
-            (back(0, RESET, 0), &[(4, 'R', 0x0E)]),
-            (back(1, RESET, 0), &[(3, 'R', 0x0E)]),
-            (back(2, RESET, 0xA5), &[(2, 'R', 0x0E)]),
-            (Step::Free(99), &[]),
-            (read(0, 5, 1), &[(5, 'S', 0)]),
-            (acts(0, true), &[(5, 'A', 0xA5)]),
-            (back(0, GOOD, 0xA5), &[(5, 'G', 0)]),
-        ],
-    )?;
-    // Two pieces of one write, of which the first acted: two failures.
+    run(&rt, rt.alloc(), &mut adapter, &RESETS)
+}
+
+#[test]
+fn a_half_written_request_is_reset(rt: HostRuntime) -> Result<(), Fail> {
     let mut adapter = four_sectors(rt.alloc(), 2, false)?;
-    run(
-        &rt,
-        rt.alloc(),
-        &mut adapter,
-        &[
-            (write(0, 1, 0, 0xA5), &[(1, 'S', 0)]),
-            (write(1, 2, 1, 0xA5), &[(2, 'S', 1)]),
-            (acts(0, true), &[(1, 'A', 0xA5)]),
-            (Step::Reset(2), &[(2, 'F', 0)]),
-            (back(0, RESET, 0xA5), &[(1, 'R', 0x0E)]),
-            (back(1, RESET, 0xA5), &[(2, 'R', 0x0E)]),
-        ],
-    )
+    run(&rt, rt.alloc(), &mut adapter, &HALF_WRITTEN)
 }
 
 /// An adapter of two tags over a disk of four sectors, the last one bad, whose act number `before` fails.
@@ -710,67 +779,61 @@ fn fails_once(alloc: Global, before: u64) -> Result<OnceAdapter<VecDisk>, Fail>
     Ok(OnceAdapter::new(four_sectors(alloc, 2, false)?, before))
 }
 
-// Act number 2 fails though nothing is wrong with its command, and moves nothing; acts that were ignored don't count. All
-// else is the adapter's in memory, its own failures too.
+/// Act number 2 fails though nothing is wrong with its command, and moves nothing; acts that were ignored don't count.
+/// All else is the adapter's in memory, its own failures too.
+const SECOND_ACT_FAILS: [(Step, Told<'static>); 22] = [
+    (Write(0, 1, 0, 0xA5), &[(1, 'S', 0)]),
+    (Act(0, true), &[(1, 'A', 0xA5)]),
+    (Act(0, false), &[]),
+    (Act(1, false), &[]),
+    (Back(0, Good, 0xA5), &[(1, 'G', 0)]),
+    (Read(1, 2, 3), &[(2, 'S', 1)]),
+    (Act(1, true), &[(2, 'F', 0)]),
+    (Back(1, Checked(3, 0x11), 0), &[(2, 'R', 0x84)]),
+    (Write(0, 3, 0, 0x5A), &[(3, 'S', 0)]),
+    (Read(1, 4, 0), &[(4, 'S', 1)]),
+    (Act(0, true), &[(3, 'F', 0)]),
+    (Act(0, false), &[]),
+    (Act(1, true), &[(4, 'A', 0xA5)]),
+    (Back(0, Checked(4, 0), 0x5A), &[(3, 'R', 0x84)]),
+    (Back(1, Good, 0xA5), &[(4, 'G', 0)]),
+    (Write(0, 5, 0, 0x5A), &[(5, 'S', 0)]),
+    (AllReset(3), &[(5, 'F', 0)]),
+    (Act(0, false), &[]),
+    (Back(0, Reset, 0x5A), &[(5, 'R', 0x0E)]),
+    (Read(0, 6, 0), &[(6, 'S', 0)]),
+    (Act(0, true), &[(6, 'A', 0xA5)]),
+    (Back(0, Good, 0xA5), &[(6, 'G', 0)]),
+];
+
 #[test]
 fn one_act_fails(rt: HostRuntime) -> Result<(), Fail> {
     let mut adapter = fails_once(rt.alloc(), 2)?;
     same(&rt, &adapter.sector_size(), &512);
     same(&rt, &adapter.max_transfer(), &64);
     assert!(rt; adapter.is_faithful() && adapter.failures() == 0);
-    run(
-        &rt,
-        rt.alloc(),
-        &mut adapter,
-        &[
-            (write(0, 1, 0, 0xA5), &[(1, 'S', 0)]),
-            (acts(0, true), &[(1, 'A', 0xA5)]),
-            (acts(0, false), &[]),
-            (acts(1, false), &[]),
-            (back(0, GOOD, 0xA5), &[(1, 'G', 0)]),
-            (read(1, 2, 3), &[(2, 'S', 1)]),
-            (acts(1, true), &[(2, 'F', 0)]),
-            (back(1, checked(3, 0x11), 0), &[(2, 'R', 0x84)]),
-            (write(0, 3, 0, 0x5A), &[(3, 'S', 0)]),
-            (read(1, 4, 0), &[(4, 'S', 1)]),
-            (acts(0, true), &[(3, 'F', 0)]),
-            (acts(0, false), &[]),
-            (acts(1, true), &[(4, 'A', 0xA5)]),
-            (back(0, checked(4, 0), 0x5A), &[(3, 'R', 0x84)]),
-            (back(1, GOOD, 0xA5), &[(4, 'G', 0)]),
-            (write(0, 5, 0, 0x5A), &[(5, 'S', 0)]),
-            (Step::Reset(3), &[(5, 'F', 0)]),
-            (acts(0, false), &[]),
-            (back(0, RESET, 0x5A), &[(5, 'R', 0x0E)]),
-            (read(0, 6, 0), &[(6, 'S', 0)]),
-            (acts(0, true), &[(6, 'A', 0xA5)]),
-            (back(0, GOOD, 0xA5), &[(6, 'G', 0)]),
-        ],
-    )
+    run(&rt, rt.alloc(), &mut adapter, &SECOND_ACT_FAILS)
 }
 
-// The first act fails. A reset that meets its piece counts one more failure.
+/// The first act fails. A reset that meets its piece counts one more failure.
+const FIRST_ACT_FAILS: [(Step, Told<'static>); 7] = [
+    (Write(1, 1, 2, 0xA5), &[(1, 'S', 1)]),
+    (Act(1, true), &[(1, 'F', 0)]),
+    (AllReset(2), &[]),
+    (Back(1, Reset, 0xA5), &[(1, 'R', 0x0E)]),
+    (Write(1, 2, 2, 0xA5), &[(2, 'S', 1)]),
+    (Act(1, true), &[(2, 'A', 0xA5)]),
+    (Back(1, Good, 0xA5), &[(2, 'G', 0)]),
+];
+
 #[test]
 fn the_first_act_fails(rt: HostRuntime) -> Result<(), Fail> {
     let mut adapter = fails_once(rt.alloc(), 0)?;
-    run(
-        &rt,
-        rt.alloc(),
-        &mut adapter,
-        &[
-            (write(1, 1, 2, 0xA5), &[(1, 'S', 1)]),
-            (acts(1, true), &[(1, 'F', 0)]),
-            (Step::Reset(2), &[]),
-            (back(1, RESET, 0xA5), &[(1, 'R', 0x0E)]),
-            (write(1, 2, 2, 0xA5), &[(2, 'S', 1)]),
-            (acts(1, true), &[(2, 'A', 0xA5)]),
-            (back(1, GOOD, 0xA5), &[(2, 'G', 0)]),
-        ],
-    )
+    run(&rt, rt.alloc(), &mut adapter, &FIRST_ACT_FAILS)
 }
 
 /// An adapter of two tags for a disk of four sectors, the first of them full of 11h.
-fn booked(alloc: Global) -> Result<BookedAdapter, AllocError>
+fn booked_adapter(alloc: Global) -> Result<BookedAdapter, AllocError>
     ensures accepted { IfOk result (λ a. a.shown.accepted ≡ 0) }
     ensures labels { IfOk result (λ a. length a.shown.labels ≡ 0) }
 {
@@ -778,150 +841,182 @@ fn booked(alloc: Global) -> Result<BookedAdapter, AllocError>
     BookedAdapter::new(alloc, first, 4, 64, 2).map_err(|_| AllocError)
 }
 
-/// An entry of one sector, or of a flush.
-fn entry(
-    alloc: Global,
-    kind: Kind,
-    first: u64,
-    count: u64,
-    bytes: usize,
-    byte: u8,
-) -> Result<Entry, Fail>
-    requires { bytes < 2 ^ 40 }
-{
-    Ok(Entry {
-        piece: 1,
-        tag: 0,
-        extent: Extent { first, count },
-        kind,
-        bytes: Bytes::new(vec![in alloc; byte; bytes]?),
-    })
+/// A command: its flags, its block and the length of its data.
+type Asked<'a> = (u8, &'a [u8], usize);
+
+/// What is booked of an act.
+#[derive(Clone, Copy)]
+enum Booked {
+    /// An entry: its kind, its first sector, the number of its sectors, and that of its bytes, all of this value.
+    Done(Kind, u64, u64, usize, u8),
+    /// It fails.
+    Fails(End),
 }
 
-/// Returns what an SRB comes back with after its act, where this was booked of it.
-fn comes_back(
+use Booked::{Done, Fails};
+
+/// The entry of piece 1 on tag 0.
+fn entry(kind: Kind, extent: Extent, bytes: Vec<u8>) -> Entry {
+    Entry {
+        piece: 1,
+        tag: 0,
+        extent,
+        kind,
+        bytes: Bytes::new(bytes),
+    }
+}
+
+/// Returns the first byte that an SRB comes back with where this was booked of its act, how it ends, and whether it
+/// acted.
+fn comes_back_as(
     rt: &impl Abort,
     alloc: Global,
-    asked: (u8, &[u8], usize),
+    asked: Asked,
     what: Result<&Entry, Completion>,
 ) -> Result<(u8, Completion, bool), Fail>
     requires { asked.2 < 2 ^ 40 }
 {
     let (flags, block, count) = asked;
-    let mut adapter = booked(alloc)?;
+    let mut adapter = booked_adapter(alloc)?;
     let srb = srb(alloc, SCSI, flags, block, count, 0xA5)?;
     put(rt, &mut adapter, 0, 1, srb)?;
-    assert!(rt; adapter.armed(1).is_none());
-    assert!(rt; matches!(adapter.armed(0), Some((1, _))));
-    adapter.book(1, 1, what);
-    adapter.book(0, 2, what);
-    adapter.book(0, 1, what);
+    book(rt, &mut adapter, what);
     act(rt, &mut adapter, 0);
     assert!(rt; adapter.armed(0).is_none());
     let acted = matches!(adapter.take_label(), Some(DeviceLabel::Start { .. }))
         && matches!(adapter.take_label(), Some(DeviceLabel::Act { .. }));
     let (srb, completion) = finish(&mut adapter, 0)?;
-    Ok((
-        srb.data.as_slice().first().copied().unwrap_or(0),
-        completion,
-        acted,
-    ))
+    let first = srb.data.as_slice().first().copied().unwrap_or(0);
+    Ok((first, completion, acted))
 }
+
+/// Books this of piece 1 on tag 0, and of others, which are not there.
+fn book(rt: &impl Abort, adapter: &mut BookedAdapter, what: Result<&Entry, Completion>)
+    ensures labels { adapter.new.shown.labels ≡ adapter.old.shown.labels }
+{
+    assert!(rt; adapter.armed(1).is_none());
+    assert!(rt; matches!(adapter.armed(0), Some((1, _))));
+    adapter.book(1, 1, what);
+    adapter.book(0, 2, what);
+    adapter.book(0, 1, what);
+}
+
+/// The same, of what a row books.
+fn comes_back(
+    rt: &impl Abort,
+    alloc: Global,
+    asked: Asked,
+    booked: Booked,
+) -> Result<(u8, Completion, bool), Fail>
+    requires { asked.2 < 2 ^ 40 }
+{
+    match booked {
+        Done(kind, first, count, bytes, byte) => {
+            assert!(rt; bytes <= 512);
+            let bytes = vec![in alloc; byte; bytes]?;
+            let entry = entry(kind, Extent { first, count }, bytes);
+            comes_back_as(rt, alloc, asked, Ok(&entry))
+        }
+        Fails(end) => comes_back_as(rt, alloc, asked, Err(completion_of(end))),
+    }
+}
+
+const A_READ: Asked<'static> = (0x40, &[0x28, 0, 0, 0, 0, 0, 0, 0, 1, 0], 512);
+
+const A_WRITE: Asked<'static> = (0x80, &[0x2A, 0, 0, 0, 0, 0, 0, 0, 1, 0], 512);
+
+const A_FLUSH: Asked<'static> = (0, &[0x35, 0, 0, 0, 0, 0, 0, 0, 0, 0], 0);
+
+/// For a read, a write or a flush, and what is booked of its act, with which first byte it comes back, how it ends, and
+/// whether it acted.
+const BOOKED: [(Asked<'static>, Booked, u8, End, bool); 10] = [
+    (A_READ, Done(Kind::Read, 0, 1, 512, 0x5A), 0x5A, Good, true),
+    (
+        A_WRITE,
+        Done(Kind::Read, 0, 1, 512, 0x5A),
+        0xA5,
+        Checked(4, 0),
+        false,
+    ),
+    (
+        A_READ,
+        Done(Kind::Read, 1, 1, 512, 0x5A),
+        0xA5,
+        Checked(4, 0),
+        false,
+    ),
+    (
+        A_READ,
+        Done(Kind::Read, 0, 1, 511, 0x5A),
+        0xA5,
+        Checked(4, 0),
+        false,
+    ),
+    (
+        A_WRITE,
+        Done(Kind::Write, 0, 1, 512, 0xA5),
+        0xA5,
+        Good,
+        true,
+    ),
+    (
+        A_WRITE,
+        Done(Kind::Write, 0, 1, 512, 0x5A),
+        0xA5,
+        Checked(4, 0),
+        false,
+    ),
+    (A_FLUSH, Done(Kind::Flush, 0, 0, 0, 0), 0, Good, true),
+    (
+        A_READ,
+        Fails(Checked(3, 0x11)),
+        0xA5,
+        Checked(3, 0x11),
+        false,
+    ),
+    (A_READ, Fails(Good), 0xA5, Checked(4, 0), false),
+    (A_READ, Fails(Busy), 0xA5, Checked(4, 0), false),
+];
 
 #[test]
 fn acts_are_as_booked(rt: HostRuntime) -> Result<(), Fail> {
-    let alloc = rt.alloc();
-    let unbooked = checked(4, 0);
-    let read = (0x40, READ.as_slice(), 512);
-    let write = (0x80, WRITE.as_slice(), 512);
-    let sync = (0, SYNC.as_slice(), 0);
-    let its = entry(alloc, Kind::Read, 0, 1, 512, 0x5A)?;
-    same(
-        &rt,
-        &comes_back(&rt, alloc, read, Ok(&its))?,
-        &(0x5A, GOOD, true),
-    );
-    same(
-        &rt,
-        &comes_back(&rt, alloc, write, Ok(&its))?,
-        &(0xA5, unbooked, false),
-    );
-    let other = entry(alloc, Kind::Read, 1, 1, 512, 0x5A)?;
-    same(
-        &rt,
-        &comes_back(&rt, alloc, read, Ok(&other))?,
-        &(0xA5, unbooked, false),
-    );
-    let short = entry(alloc, Kind::Read, 0, 1, 511, 0x5A)?;
-    same(
-        &rt,
-        &comes_back(&rt, alloc, read, Ok(&short))?,
-        &(0xA5, unbooked, false),
-    );
-    let written = entry(alloc, Kind::Write, 0, 1, 512, 0xA5)?;
-    same(
-        &rt,
-        &comes_back(&rt, alloc, write, Ok(&written))?,
-        &(0xA5, GOOD, true),
-    );
-    let changed = entry(alloc, Kind::Write, 0, 1, 512, 0x5A)?;
-    same(
-        &rt,
-        &comes_back(&rt, alloc, write, Ok(&changed))?,
-        &(0xA5, unbooked, false),
-    );
-    let flushed = entry(alloc, Kind::Flush, 0, 0, 0, 0)?;
-    same(
-        &rt,
-        &comes_back(&rt, alloc, sync, Ok(&flushed))?,
-        &(0, GOOD, true),
-    );
-    let bad = checked(3, 0x11);
-    same(
-        &rt,
-        &comes_back(&rt, alloc, read, Err(bad))?,
-        &(0xA5, bad, false),
-    );
-    same(
-        &rt,
-        &comes_back(&rt, alloc, read, Err(GOOD))?,
-        &(0xA5, unbooked, false),
-    );
-    same(
-        &rt,
-        &comes_back(&rt, alloc, read, Err(BUSY))?,
-        &(0xA5, unbooked, false),
-    );
+    for (asked, booked, byte, end, acted) in BOOKED {
+        assert!(rt; asked.2 <= 512);
+        let told = comes_back(&rt, rt.alloc(), asked, booked)?;
+        same(&rt, &told, &(byte, completion_of(end), acted));
+    }
     Ok(())
+}
+
+/// Piece 0 brings these data of a booked adapter's disk, and ends so.
+fn is_looked_at(
+    rt: &impl Abort,
+    alloc: Global,
+    block: &[u8],
+    data: &[u8],
+) -> Result<Completion, Fail> {
+    assert!(rt; data.len() <= 512);
+    let mut adapter = booked_adapter(alloc)?;
+    assert!(rt; !adapter.is_faithful() && adapter.sectors() == 4);
+    let srb = srb(alloc, SCSI, 0x40, block, data.len(), 0)?;
+    put(rt, &mut adapter, 0, 0, srb)?;
+    act(rt, &mut adapter, 0);
+    let (srb, completion) = finish(&mut adapter, 0)?;
+    same(rt, &srb.data.as_slice(), &data);
+    let failures = if srb.sense.is_none() { 0 } else { 1 };
+    same(rt, &adapter.failures(), &failures);
+    Ok(completion)
 }
 
 #[test]
 fn a_booked_adapter_tells_of_its_disk(rt: HostRuntime) -> Result<(), Fail> {
     let alloc = rt.alloc();
-    let mut adapter = booked(alloc)?;
-    assert!(rt; !adapter.is_faithful() && adapter.sectors() == 4);
-    let capacity = srb(alloc, SCSI, 0x40, &CAPACITY, 8, 0)?;
-    put(&rt, &mut adapter, 0, 0, capacity)?;
-    act(&rt, &mut adapter, 0);
-    let (srb_back, completion) = finish(&mut adapter, 0)?;
-    same(&rt, &completion, &GOOD);
-    same(
-        &rt,
-        &srb_back.data.as_slice(),
-        &[0, 0, 0, 3, 0, 0, 2, 0].as_slice(),
-    );
-    let first = srb(alloc, SCSI, 0x40, &READ, 512, 0)?;
-    put(&rt, &mut adapter, 0, 0, first)?;
-    act(&rt, &mut adapter, 0);
-    let (srb_back, completion) = finish(&mut adapter, 0)?;
-    same(&rt, &completion, &GOOD);
-    assert!(rt; srb_back.data.as_slice().iter().all(|b| *b == 0x11));
+    let told = is_looked_at(&rt, alloc, &CAPACITY, &[0, 0, 0, 3, 0, 0, 2, 0])?;
+    same(&rt, &told, &completion_of(Good));
+    let told = is_looked_at(&rt, alloc, &READ, &[0x11; 512])?;
+    same(&rt, &told, &completion_of(Good));
     let second = [0x28, 0, 0, 0, 0, 1, 0, 0, 1, 0];
-    let elsewhere = srb(alloc, SCSI, 0x40, &second, 512, 0)?;
-    put(&rt, &mut adapter, 0, 0, elsewhere)?;
-    act(&rt, &mut adapter, 0);
-    let (_srb, completion) = finish(&mut adapter, 0)?;
-    same(&rt, &completion, &checked(3, 0x11));
-    same(&rt, &adapter.failures(), &1);
+    let told = is_looked_at(&rt, alloc, &second, &[0; 512])?;
+    same(&rt, &told, &completion_of(Checked(3, 0x11)));
     Ok(())
 }

@@ -23,7 +23,7 @@ const UNUSED: Entry = (0, 0, 0);
 const MIDDLE: Entry = (7, 2048, 1024);
 
 /// Sector 0 with these entries in its table.
-#[derive(Debug, Clone, Copy)]
+#[derive(Clone, Copy)]
 struct PartitionTable {
     signature: [u8; 2],
     entries: [Entry; 4],

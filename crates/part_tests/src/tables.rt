@@ -46,7 +46,7 @@ fn one_entry() -> [u8; 512] {
 }
 
 /// What one changed byte does.
-#[derive(Debug, Clone, Copy, PartialEq, Eq)]
+#[derive(Clone, Copy)]
 enum Change {
     /// Nothing.
     Nothing,

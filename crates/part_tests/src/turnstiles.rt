@@ -13,14 +13,14 @@ use std::thread::{Threads, join};
 use std::time::{Clock, Duration};
 
 // Where the piece on a tag is.
-#[derive(Debug, Clone, Copy, PartialEq, Eq, Drop)]
+#[derive(Clone, Copy, PartialEq, Eq, Drop)]
 enum Piece {
     None,
     Started,
     Acted,
 }
 
-#[derive(Debug, Clone, Copy, PartialEq, Eq, Drop)]
+#[derive(Clone, Copy, Drop)]
 struct Tag {
     // Pieces that are still to be started.
     left: u32,

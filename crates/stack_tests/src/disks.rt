@@ -20,7 +20,7 @@ pub(crate) const MIDDLE: Entry = (7, 2048, 1024);
 pub(crate) const SIGNATURE: [u8; 2] = [0x55, 0xAA];
 
 /// Sector 0 with these entries in its table.
-#[derive(Debug, Clone, Copy)]
+#[derive(Clone, Copy)]
 pub(crate) struct PartitionTable {
     pub signature: [u8; 2],
     pub entries: [Entry; 4],

@@ -15,13 +15,19 @@ use std::io::Write;
 /// Writes the rows of the tags, with their pieces.
 pub fn write_tags<W: Write>(out: &mut W, scene: Scene<'_>) -> io::Result<()> {
     write_caption(out, scene.layout.tags_caption, 16, "tags")?;
+    write_tag_rows(out, scene)?;
+    for piece in scene.facts.pieces.iter() {
+        write_tag_piece(out, scene, piece)?;
+    }
+    Ok(())
+}
+
+/// Writes the rows of the tags, without their pieces.
+fn write_tag_rows<W: Write>(out: &mut W, scene: Scene<'_>) -> io::Result<()> {
     for (tag, row) in scene.layout.tags.iter().enumerate() {
         if let Some(y) = row {
             write_tag(out, tag, *y, scene.layout.width)?;
         }
-    }
-    for piece in scene.facts.pieces.iter() {
-        write_tag_piece(out, scene, piece)?;
     }
     Ok(())
 }
@@ -97,15 +103,38 @@ fn write_number<W: Write>(out: &mut W, piece: &Piece, bar: Bar) -> io::Result<()
 /// Writes the rows of the requests.
 pub fn write_requests<W: Write>(out: &mut W, scene: Scene<'_>) -> io::Result<()> {
     write_caption(out, scene.layout.requests_caption, 16, "requests")?;
+    write_lines(out, scene)?;
+    write_bars(out, scene)?;
+    write_pieces(out, scene)?;
+    write_all_ends(out, scene)
+}
+
+/// Writes the lines above the rows of the requests.
+fn write_lines<W: Write>(out: &mut W, scene: Scene<'_>) -> io::Result<()> {
     for row in scene.layout.rows.iter() {
         write_line(out, row.y, scene.layout.width)?;
     }
+    Ok(())
+}
+
+/// Writes the bars of all requests.
+fn write_bars<W: Write>(out: &mut W, scene: Scene<'_>) -> io::Result<()> {
     for (place, request) in scene.facts.requests.iter().enumerate() {
         write_request(out, scene, request, place)?;
     }
+    Ok(())
+}
+
+/// Writes all pieces in the bars of their requests.
+fn write_pieces<W: Write>(out: &mut W, scene: Scene<'_>) -> io::Result<()> {
     for (piece, lane) in scene.facts.pieces.iter().zip(scene.layout.lane_of.iter()) {
         write_piece_in_request(out, scene, piece, *lane)?;
     }
+    Ok(())
+}
+
+/// Writes the cancels and the answers of all requests.
+fn write_all_ends<W: Write>(out: &mut W, scene: Scene<'_>) -> io::Result<()> {
     for (place, request) in scene.facts.requests.iter().enumerate() {
         write_ends(out, scene, request, place)?;
     }

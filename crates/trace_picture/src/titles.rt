@@ -77,11 +77,16 @@ pub fn write_piece_title<W: Write>(out: &mut W, facts: &Facts, piece: &Piece) ->
     write!(out, "<title>piece {} on tag {}", piece.number, piece.tag)?;
     write_owner(out, facts.owner_of(piece))?;
     write!(out, "\n{}", Command(piece.command))?;
+    write_fate(out, facts, piece)?;
+    out.write_all(b"</title>\n")
+}
+
+/// Writes the lines of the labels of a piece.
+fn write_fate<W: Write>(out: &mut W, facts: &Facts, piece: &Piece) -> io::Result<()> {
     write_at(out, facts, "start", Some(piece.start))?;
     write_at(out, facts, "act", piece.act)?;
     write_at(out, facts, "fault", piece.fault)?;
-    write_back(out, facts, piece)?;
-    out.write_all(b"</title>\n")
+    write_back(out, facts, piece)
 }
 
 /// Writes the request of a piece.

@@ -16,7 +16,7 @@ use std::alloc::{AllocError, Global};
 use std::test::Fail;
 
 /// A label. Requests are of partition 0, which begins at block 2; offsets and lengths are in bytes. A sector has two.
-#[derive(Debug, Clone, Copy)]
+#[derive(Clone, Copy)]
 enum Say {
     /// Number, kind, offset, length, bytes that come with it.
     Call(u64, Kind, u64, u64, usize),
