@@ -1,11 +1,12 @@
 -- Slots retired one after another.
-use Rattle.std.proofs.Common.{◌≡◌, ◌≢◌, ℕ, ◌<◌, ◌≤◌, ◌==◌, if◌then◌else◌, true, false, List, length, set, Option, None, sym, ap, ◌∙◌, arith, get_or-set_same, get_or-set_other}
+use Rattle.std.proofs.Common.{◌≡◌, ◌≢◌, ◌⊎◌, ℕ, suc, ◌+◌, ◌<◌, ◌≤◌, ◌==◌, max, if◌then◌else◌, true, false, List, length, set, Option, None, sym, ap, ◌∙◌, arith, get_or-set_same, get_or-set_other, inl, inr}
 use Rattle.std.proofs.lemmas.Bool.Decides.{nat_tests}
 use mathlib.Core.Logic.{dite}
+use Rattle.std.proofs.lemmas.Bool.{cases_lt}
 use native.Mathlib.Decide.{ℕ_discrete}
 use Rattle.cancel_marks.specs.declared.rule.View.{View}
 use Rattle.traced.specs.Slots.{LooksNowhere}
-use Rattle.traced.specs.inside.Slots.{SlotsView, number_at, ArmedBelow, unless_number}
+use Rattle.traced.specs.inside.Slots.{SlotsView, number_at, AreEmptyFrom, ArmedBelow, Leaves, unless_number}
 
 -- the slots below this one were gone through
 pub record HasRetired (number slot : ℕ) (old new : SlotsView) : Type 0 where
@@ -33,3 +34,31 @@ number_set numbers slot n k inside =
     (ℕ_discrete slot k)
     (λ (e : slot ≡ k). ap (number_at (set numbers slot n)) (sym e) ∙ get_or-set_same numbers slot n None inside ∙ sym (ap (λ b. if b then n else number_at numbers k) (same slot k e)))
     (λ (ne : slot ≢ k). get_or-set_other numbers slot k n None (λ e. ne (sym e)) ∙ sym (ap (λ b. if b then n else number_at numbers k) (other slot k ne)))
+
+-- WHERE THE NUMBERS END
+
+pub empty_armed : (numbers : List (Option ℕ)) (slot end : ℕ) (n : Option ℕ) → slot < length numbers → AreEmptyFrom end numbers → AreEmptyFrom (max end (slot + 1)) (set numbers slot n)
+empty_armed numbers slot end n inside empty k above =
+    let apart : slot < k = omega arith in
+    let behind : end ≤ k = omega arith in
+    get_or-set_other numbers slot k n None (λ e. (omega arith)) ∙ empty k behind
+
+pub empty_retired : (numbers : List (Option ℕ)) (slot end : ℕ) → slot < length numbers → AreEmptyFrom end numbers → AreEmptyFrom end (set numbers slot None)
+empty_retired numbers slot end inside empty k above =
+    dite
+    (ℕ_discrete k slot)
+    (λ (e : k ≡ slot). ap (number_at (set numbers slot None)) e ∙ get_or-set_same numbers slot None None inside)
+    (λ (ne : k ≢ slot). get_or-set_other numbers slot k None None ne ∙ empty k above)
+
+pub empty_below : (numbers : List (Option ℕ)) (left : ℕ) → AreEmptyFrom (suc left) numbers → number_at numbers left ≡ None → AreEmptyFrom left numbers
+empty_below numbers left empty none k above =
+    dite
+    (ℕ_discrete k left)
+    (λ (e : k ≡ left). ap (number_at numbers) e ∙ none)
+    (λ (ne : k ≢ left). empty k (omega arith))
+
+pub all_retired : (number end : ℕ) (old new : SlotsView) → AreEmptyFrom end old.numbers → HasRetired number end old new → Leaves number old.numbers new.numbers
+all_retired number end old new empty retired k = by_place (cases_lt k end) where
+  by_place : (k < end) ⊎ (end ≤ k) → number_at new.numbers k ≡ unless_number number (number_at old.numbers k)
+  by_place (inl below) = retired.passed k below
+  by_place (inr above) = retired.ahead k above ∙ empty k above ∙ sym (ap (unless_number number) (empty k above))

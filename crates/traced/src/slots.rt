@@ -1,7 +1,7 @@
-ghost use Rattle.std.specs.Prelude.{◌≡◌, ◌<◌, ◌^◌, ℕ, Some, IfOk, length, replicate, None, max, slice_set, ◌==◌, if◌then◌else◌};
+ghost use Rattle.std.specs.Prelude.{◌≡◌, ◌<◌, ◌≤◌, ◌^◌, ℕ, Some, IfOk, length, replicate, None, max, slice_set, ◌==◌, if◌then◌else◌};
 ghost use Rattle.cancel_marks.specs.Marks.{arming, slot_at, starting, standing};
 ghost use Rattle.traced.specs.Slots.{LooksAt, LooksNowhere};
-ghost use Rattle.traced.specs.inside.Slots.{AreArmed, ArmedBelow, Leaves, number_at, unless_number};
+ghost use Rattle.traced.specs.inside.Slots.{AreArmed, AreEmptyFrom, ArmedBelow, Leaves, number_at, unless_number};
 
 use crate::name::Naming;
 use cancel_marks::{Marks, Seat};
@@ -13,13 +13,15 @@ use std::marker::{Model, PhantomData};
 #[derive(Drop)]
 pub(crate) struct Slots<N: Naming> {
     numbers: Vec<Option<u64>>,
+    /// No slot from this one on has a number.
+    end: usize,
     seat: Seat,
     of: PhantomData<N>,
 }
 
 impl<N: Naming> Model for Slots<N> {
     ghost use Rattle.std.specs.Prelude.{◌≡◌, ◌≤◌, length};
-    ghost use Rattle.traced.specs.inside.Slots.{AreArmed, SlotsView};
+    ghost use Rattle.traced.specs.inside.Slots.{AreArmed, AreEmptyFrom, SlotsView};
 
     ghost Value = { SlotsView };
 
@@ -31,6 +33,8 @@ impl<N: Naming> Model for Slots<N> {
       wide : length s.numbers.items ≡ N.slots;
       owned : N.slots ≤ length s.seat.view.slots;
       armed : AreArmed s.numbers.items s.seat.view;
+      few : s.end ≤ length s.numbers.items;
+      empty : AreEmptyFrom s.end s.numbers.items;
     } };
 }
 
@@ -45,6 +49,7 @@ impl<N: Naming> Slots<N> {
         let numbers = Vec::from_elem(alloc, None, slots)?;
         Ok(Slots {
             numbers,
+            end: 0,
             seat,
             of: PhantomData,
         })
@@ -56,6 +61,14 @@ impl<N: Naming> Slots<N> {
         ensures wide { length self.now.numbers ≡ N.slots }
     {
         self.numbers.len()
+    }
+
+    /// Returns a slot from which on none has an open request.
+    pub(crate) fn end(&self) -> usize
+        ensures few { result ≤ N.slots }
+        ensures empty { AreEmptyFrom result self.now.numbers }
+    {
+        self.end
     }
 
     /// Shows the caller that a slot is armed exactly with the number in it.
@@ -79,6 +92,7 @@ impl<N: Naming> Slots<N> {
     {
         marks.arm(&mut self.seat, slot, number);
         self.numbers[slot] = Some(number);
+        self.end = self.end.max(slot + 1);
     }
 
     /// The request of this number is no longer open.
@@ -88,7 +102,7 @@ impl<N: Naming> Slots<N> {
         ensures looks { LooksNowhere self.old.owner self.new.owner }
         ensures below { (next : ℕ) → ArmedBelow next self.old.owner → ArmedBelow next self.new.owner }
     {
-        for slot in 0..self.len() {
+        for slot in 0..self.end() {
             self.retire_at(marks, slot, number);
         }
     }
@@ -103,6 +117,7 @@ impl<N: Naming> Slots<N> {
         if self.numbers[slot] == Some(number) {
             marks.retire(&mut self.seat, slot);
             self.numbers[slot] = None;
+            self.end = end_below(self.numbers.as_slice(), self.end);
         }
     }
 
@@ -120,4 +135,21 @@ impl<N: Naming> Slots<N> {
             Some((_, false)) | None => None,
         }
     }
+}
+
+// The slot behind the last of the first so many that has a number.
+fn end_below(numbers: &[Option<u64>], end: usize) -> usize
+    requires few { end ≤ length numbers.now }
+    requires empty { AreEmptyFrom end numbers.now }
+    ensures few { result ≤ length numbers.now }
+    ensures empty { AreEmptyFrom result numbers.now }
+{
+    let mut left = end;
+    while left > 0 {
+        if numbers[left - 1].is_some() {
+            return left;
+        }
+        left -= 1;
+    }
+    0
 }

@@ -4,6 +4,8 @@ ghost use Rattle.chronicle.specs.Claims.{AllStand};
 ghost use Rattle.machine.specs.Step.{Run};
 ghost use Rattle.machine_laws.specs.LabelsLeft.{labels_left, RunsUseUp};
 ghost use Rattle.machine_laws.specs.NumberLaws.{CallsAwait, CallsCount, CallsRise};
+ghost use Rattle.compose.specs.declared.Event.TheVariants.{Mark};
+ghost use Rattle.io_manager.specs.declared.Reply.{Reply as ReplyView};
 ghost use Rattle.io_manager.specs.declared.Refusal.TheVariants.{InsufficientResources};
 ghost use Rattle.io_manager.specs.declared.Reply.TheVariants.{Refused as RefusedReply};
 ghost use Rattle.io_manager.specs.Right.{BooksPiece, FitsTogether, TakesAnswerOf, as_answer};
@@ -216,6 +218,34 @@ fn carry<A: Adapter, N: Naming>(
     reply
 }
 
+// Carries out a mark that was seen. Apart from the look, so that a look that sees none makes no event.
+fn carry_mark<A: Adapter, N: Naming>(
+    stack: &mut Stack<A>,
+    pages: &mut Pages<N>,
+    slots: &mut Slots<N>,
+    alloc: Global,
+    history: &History<TraceEntry, N>,
+    marks: &Marks,
+    number: u64,
+)
+    requires marks { marks.now ≡ (N.marks, N.slots) }
+    requires sound { IsSound N.rules N.start N.handles N.slots stack.old pages.old slots.old }
+    ensures sound { IsSound N.rules N.start N.handles N.slots stack.new pages.new slots.new }
+    ensures carried { (reply : ReplyView) × IsCarried 0 (shown stack.old pages.old slots.old) (Mark number) reply (shown stack.new pages.new slots.new) }
+    ensures no_call { pages.new.owners ≡ pages.old.owners }
+{
+    carry(
+        stack,
+        pages,
+        slots,
+        alloc,
+        history,
+        marks,
+        0,
+        Event::Mark { number },
+    );
+}
+
 // Looks at a slot, and carries a mark out that it sees there.
 fn look_at<A: Adapter, N: Naming>(
     stack: &mut Stack<A>,
@@ -234,16 +264,7 @@ fn look_at<A: Adapter, N: Naming>(
     ensures no_call { pages.new.owners ≡ pages.old.owners }
 {
     if let Some(number) = slots.look(marks, slot) {
-        carry(
-            stack,
-            pages,
-            slots,
-            alloc,
-            history,
-            marks,
-            0,
-            Event::Mark { number },
-        );
+        carry_mark(stack, pages, slots, alloc, history, marks, number);
     }
 }
 
@@ -263,6 +284,9 @@ fn look_all<A: Adapter, N: Naming>(
     ensures no_call { pages.new.owners ≡ pages.old.owners }
 {
     for slot in 0..slots.len() {
+        if slot >= slots.end() {
+            return;
+        }
         look_at(stack, pages, slots, alloc, history, marks, slot);
     }
 }

@@ -1,5 +1,5 @@
 -- The slots of open requests in the word of cancellations.
-use Rattle.std.specs.Prelude.{◌≡◌, ◌<◌, ℕ, ◌==◌, List, Option, Some, None, slice_index_or, if◌then◌else◌}
+use Rattle.std.specs.Prelude.{◌≡◌, ◌<◌, ◌≤◌, ℕ, ◌==◌, List, Option, Some, None, slice_index_or, if◌then◌else◌}
 use Rattle.cancel_marks.specs.declared.rule.View.{View}
 use Rattle.cancel_marks.specs.Marks.{slot_at}
 use Rattle.traced.specs.Slots.{IsArmedAs}
@@ -29,3 +29,7 @@ unless_number number (Some other) = if other == number then None else Some other
 -- the request of this number leaves its slot, and those of others stay
 abbrev pub Leaves : ℕ → List (Option ℕ) → List (Option ℕ) → Type 0
 Leaves number old new = (k : ℕ) → number_at new k ≡ unless_number number (number_at old k)
+
+-- no slot from this one on has a number
+abbrev pub AreEmptyFrom : ℕ → List (Option ℕ) → Type 0
+AreEmptyFrom end numbers = (k : ℕ) → end ≤ k → number_at numbers k ≡ None
