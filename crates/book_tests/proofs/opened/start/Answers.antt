@@ -12,6 +12,9 @@ some_bytes n (inr e) = omega arith
 sized : ℕ → ℕ → ℕ → StackSizes
 sized bytes count most = record { sector_size = bytes; sectors = count; longest = 65536; max_transfer = most; busy_limit = 17 }
 
+sized_same : (bytes bytes' count count' most most' : ℕ) → bytes ≡ bytes' → count ≡ count' → most ≡ most' → sized bytes count most ≡ sized bytes' count' most'
+sized_same bytes bytes' count count' most most' b c m = ap (λ (n : ℕ). sized n count most) b ∙ ap (λ (n : ℕ). sized bytes' n most) c ∙ ap (λ (n : ℕ). sized bytes' count' n) m
+
 pub returns-in-Ok-clause-sizes : goal.returns-in-Ok-clause-sizes
 unfolding sized
 returns-in-Ok-clause-sizes g c =
@@ -20,7 +23,7 @@ returns-in-Ok-clause-sizes g c =
     let count = c.sectors.ensures.exact in
     let most = c.max_transfer.ensures.exact in
     let order = c.sector_size.ensures.order in (
-      ap (λ n. sized n c.sectors.result c.max_transfer.result) bytes ∙ ap (λ n. sized _ n c.max_transfer.result) count ∙ ap (sized _ _) most ∙ sym (ap sizes_of first.rules),
+      sized_same _ _ _ _ _ _ bytes count most ∙ sym (ap sizes_of first.rules),
       record {
         some_bytes = subst (λ (n : ℕ). 0 < n) (sym bytes) (some_bytes _ order.sector_size);
         some_sectors = let least = order.max_transfer.0 in omega (arith, most);
