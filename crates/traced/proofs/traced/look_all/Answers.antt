@@ -9,6 +9,6 @@ returns-then-slot-end-clause-looked g c =
     let few : c.loop-slot.slot ≤ g.N.Naming-1.slots = omega arith in
     let reached : c.end.result ≤ c.loop-slot.slot = search rules in
     looked_on _ _ g.N.Naming-1.slots c.loop-slot.slot few (λ k behind.
-        let above : c.end.result ≤ k = omega arith in
-        sym (c.loop-slot.invariant.sound.numbers k) ∙ c.end.ensures.empty k above)
+    let above : c.end.result ≤ k = omega arith in
+    sym (c.loop-slot.invariant.sound.numbers k) ∙ c.end.ensures.empty k above)
     c.loop-slot.invariant.looked
