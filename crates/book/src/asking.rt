@@ -9,7 +9,7 @@ use crate::name::Naming;
 use compose::{Event, Refusal, Reply};
 use disk::Medium;
 use miniport::BookedAdapter;
-use sector::Bytes;
+use sector::{Bytes, Extent};
 use sector_journal::Journal;
 use srb::Kind;
 use std::alloc::{AllocError, Global};
@@ -25,16 +25,14 @@ fn kind_of(event: &Event) -> Option<Kind> {
     }
 }
 
-/// Makes room in the journal for the acts of the request that an event would open now, if it would open one.
+/// Makes room in the journal for the acts of the request that an event would open now, which lies at this extent.
 pub(crate) fn reserve<M: Medium, N: Naming>(
     traced: &Traced<BookedAdapter, N>,
     journal: &mut Journal<M, N>,
     event: &Event,
+    extent: Extent,
 ) -> Result<(), AllocError> {
     let Some(kind) = kind_of(event) else {
-        return Ok(());
-    };
-    let Some((_, extent)) = traced.admits(event) else {
         return Ok(());
     };
     // The disk of the stack is the journal's: no extent lies beyond it.

@@ -18,11 +18,11 @@ ghost use Rattle.book.specs.Book.{AreBooked, CallsAfter, FitsHandle, HasBooked, 
 ghost use Rattle.book.specs.Taken.{BeginsWith, numbered_from};
 
 use crate::asking::{give_back, next_request, refused, reserve};
-use crate::booking::book_all;
+use crate::booking::{book_all, has_acted};
 use crate::failing::{fail, failure, transfer};
 use crate::name::Naming;
 use crate::noting;
-use crate::settling::{arm_all, arm_tag, release_all};
+use crate::settling::{arm_tag, settle_all};
 use crate::tags::Tags;
 use crate::taken::Taken;
 use cancel_marks::Marks;
@@ -30,6 +30,7 @@ use chronicle::{Claims, History};
 use compose::{Answer, Event, Reply};
 use disk::Medium;
 use miniport::BookedAdapter;
+use sector::Extent;
 use sector_journal::{Entered, Journal, OfEntries};
 use srb::Completion;
 use std::alloc::{AllocError, Global};
@@ -43,7 +44,7 @@ pub struct Book<N: Naming> {
     traced: Traced<BookedAdapter, N>,
     taken: Taken<N>,
     tags: Tags<N>,
-    /// So many labels of the trace were looked at for answers.
+    /// So many labels of the trace were looked at for what the journal is told.
     seen: usize,
 }
 
@@ -209,8 +210,7 @@ impl<N: Naming> Book<N> {
     fn settle<M: Medium>(&mut self, journal: &mut Journal<M, N>, words: &sector_journal::History<N>)
         ensures { self.new ≡ self.old }
     {
-        arm_all(&self.traced, &mut self.tags, journal, words);
-        release_all(&self.traced, journal, self.seen);
+        settle_all(&self.traced, &mut self.tags, journal, words, self.seen);
         self.seen = self.traced.len();
     }
 
@@ -228,6 +228,9 @@ impl<N: Naming> Book<N> {
     {
         if let Some(completion) = failed {
             return completion;
+        }
+        if has_acted(journal, self.taken.len(), tag) {
+            return failure(None);
         }
         arm_tag(&self.traced, &mut self.tags, journal, words, tag);
         failure(transfer(&self.traced, journal, words, tag))
@@ -267,6 +270,7 @@ impl<N: Naming> Book<N> {
         journal: &mut Journal<M, N>,
         share: &mut Share<N>,
         event: Event,
+        extent: Extent,
     ) -> Reply
         requires marks { marks.now ≡ (N.marks, N.slots) }
         requires call { is_call_event event ≡ true }
@@ -274,7 +278,7 @@ impl<N: Naming> Book<N> {
         ensures counted { HasCounted self.old.traced share.old share.new self.new.traced }
         ensures taken { self.new.taken ≡ self.old.taken }
     {
-        if reserve(&self.traced, journal, &event).is_err() {
+        if reserve(&self.traced, journal, &event, extent).is_err() {
             return refused(alloc, event);
         }
         let number = next_request(&self.traced);
@@ -292,20 +296,22 @@ impl<N: Naming> Book<N> {
         words: &sector_journal::History<N>,
         share: &mut Share<N>,
         event: Event,
+        extent: Extent,
     ) -> Reply
         requires marks { marks.now ≡ (N.marks, N.slots) }
         requires call { is_call_event event ≡ true }
         ensures { CallsAfter share.old share.new self.old event result self.new }
     {
         self.book_entries(alloc, history, marks, journal, words);
-        let reply = self.call_reserved(alloc, history, marks, journal, share, event);
+        let reply = self.call_reserved(alloc, history, marks, journal, share, event, extent);
         self.settle(journal, words);
         reply
     }
 
-    // Whether an event would open a request now.
-    fn would_open(&self, event: &Event) -> bool {
-        self.traced.admits(event).is_some()
+    // The extent on the disk of the request that an event would open now.
+    fn would_open(&self, event: &Event) -> Option<Extent> {
+        let (_, extent) = self.traced.admits(event)?;
+        Some(extent)
     }
 
     // A read, a write or a flush: it takes the journal's lock where it would open a request.
@@ -324,11 +330,20 @@ impl<N: Naming> Book<N> {
         requires call { is_call_event event ≡ true }
         ensures { CallsAfter share.old share.new self.old event result self.new }
     {
-        if !self.would_open(&event) {
+        let Some(extent) = self.would_open(&event) else {
             return self.call_alone(alloc, history, marks, share, event);
-        }
+        };
         let mut journal = journal.lock(rt);
-        self.call_in(alloc, history, marks, &mut journal, words, share, event)
+        self.call_in(
+            alloc,
+            history,
+            marks,
+            &mut journal,
+            words,
+            share,
+            event,
+            extent,
+        )
     }
 
     fn serve_alone(

@@ -51,6 +51,19 @@ fn tag_of<M: Medium, N: Naming>(journal: &Journal<M, N>, number: u64) -> u8
     journal.entries()[number as usize].entry.tag
 }
 
+/// Whether the last entry of the journal is of this tag, and not among the first so many, which were booked.
+pub(crate) fn has_acted<M: Medium, N: Naming>(
+    journal: &Journal<M, N>,
+    booked: u64,
+    tag: u8,
+) -> bool {
+    let entries = journal.entries();
+    match entries.last() {
+        Some(last) => booked < entries.len() as u64 && last.entry.tag == tag,
+        None => false,
+    }
+}
+
 /// Whether there is an entry of a number, and it is of what was armed on its tag.
 fn may_book<M: Medium, N: Naming>(
     traced: &Traced<BookedAdapter, N>,

@@ -9,6 +9,7 @@ use disk::Medium;
 use machine::Label;
 use miniport::BookedAdapter;
 use sector_journal::Journal;
+use srb::DeviceLabel;
 use traced::Traced;
 
 /// The piece of a tag may act in the journal, where it could in the stack and wasn't armed yet; and no piece of the tag may,
@@ -35,30 +36,57 @@ pub(crate) fn arm_tag<M: Medium, N: Naming>(
     }
 }
 
-/// The same of each tag.
-pub(crate) fn arm_all<M: Medium, N: Naming>(
+/// Whether the piece that may act on a tag is this one.
+fn is_armed_for<M: Medium, N: Naming>(journal: &Journal<M, N>, tag: u8, piece: u128) -> bool {
+    match journal.armed(tag) {
+        Some(armed) => armed.piece == piece,
+        None => false,
+    }
+}
+
+/// A piece that came back may not act any more.
+fn disarm_piece<M: Medium, N: Naming>(journal: &mut Journal<M, N>, piece: u128) {
+    for tag in 0..journal.depth() {
+        if is_armed_for(journal, tag, piece) {
+            journal.disarm(tag);
+        }
+    }
+}
+
+/// The journal follows a label: a piece that was started may act, one that came back may not, and what was reserved for a
+/// request that was answered is given back.
+fn settle_label<M: Medium, N: Naming>(
     traced: &Traced<BookedAdapter, N>,
     tags: &mut Tags<N>,
     journal: &mut Journal<M, N>,
     words: &sector_journal::History<N>,
+    label: &Label,
 )
     requires on_tags { AreOnTags traced.now.stack.adapter tags.old }
     ensures on_tags { AreOnTags traced.now.stack.adapter tags.new }
 {
-    for tag in 0..journal.depth() {
-        arm_tag(traced, tags, journal, words, tag);
+    match label {
+        Label::Device(DeviceLabel::Start { tag, .. }) => {
+            arm_tag(traced, tags, journal, words, *tag)
+        }
+        Label::Device(DeviceLabel::Return { piece, .. }) => disarm_piece(journal, *piece),
+        Label::Answer { number, .. } => journal.release(*number),
+        _ => {}
     }
 }
 
-/// Gives back what was reserved for the requests that were answered from a place of the trace on.
-pub(crate) fn release_all<M: Medium, N: Naming>(
+/// The journal follows the labels of the trace from a place on.
+pub(crate) fn settle_all<M: Medium, N: Naming>(
     traced: &Traced<BookedAdapter, N>,
+    tags: &mut Tags<N>,
     journal: &mut Journal<M, N>,
+    words: &sector_journal::History<N>,
     from: usize,
-) {
+)
+    requires on_tags { AreOnTags traced.now.stack.adapter tags.old }
+    ensures on_tags { AreOnTags traced.now.stack.adapter tags.new }
+{
     for place in from..traced.len() {
-        if let Label::Answer { number, .. } = &traced.entry(place).label {
-            journal.release(*number);
-        }
+        settle_label(traced, tags, journal, words, &traced.entry(place).label);
     }
 }

@@ -1,8 +1,8 @@
 use Rattle.std.proofs.Common.{refl}
 use Rattle.book.proofs.book.Book.call.Goals as goal
 
-pub returns-then-not-would_open : goal.returns-then-not-would_open
-returns-then-not-would_open g c = record {
+pub returns-in_default : goal.returns-in_default
+returns-in_default g c = record {
   count = 0;
   booked = c.args.self.now;
   books = refl;

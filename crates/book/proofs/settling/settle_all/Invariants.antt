@@ -1,0 +1,5 @@
+use Rattle.book.specs.Staying.{AreOnTags}
+use Rattle.book.proofs.settling.settle_all.Given as goal
+
+abbrev pub invariant-loop-place : goal.invariant-loop-place
+invariant-loop-place g l = record { on_tags : AreOnTags l.fn.traced.stack.adapter l.tags }
