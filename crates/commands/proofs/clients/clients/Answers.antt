@@ -27,5 +27,5 @@ returns-in-Err-clause-fault g c =
     no_output _ _ c.in_ok-config.config c.in_ok-config.ensures.read c.has_room-has_room.result c.output_fault.result c.has_room-has_room.ensures has c.output_fault.ensures
 
 pub run-requires-clause-disk : goal.run-requires-clause-disk
-run-requires-clause-disk g c =
+run-requires-clause-disk g c κs within =
     disk_beside c.in_ok-config.config c.in_ok-stack.stack (shown c.in_ok-stack.disk) c.in_ok-config.ensures.in_range c.in_ok-stack.ensures.stack c.in_ok-stack.ensures.disk c.in_ok-stack.ensures.count
