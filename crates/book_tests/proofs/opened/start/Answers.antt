@@ -1,5 +1,6 @@
 use Rattle.std.proofs.Common.{◌≡◌, ◌<◌, ℕ, false, inl, inr, ◌∙◌, sym, ap, subst, arith, rules}
 use Rattle.std.specs.Prelude.{◌⊎◌}
+use Rattle.machine.specs.Rules.{Rules}
 use Rattle.machine.specs.State.{State, opening}
 use Rattle.traced.specs.declared.sizes.StackSizes.{StackSizes}
 use Rattle.traced.specs.Sizes.{sizes_of}
@@ -14,6 +15,20 @@ sized bytes count most = record { sector_size = bytes; sectors = count; longest 
 
 sized_same : (bytes bytes' count count' most most' : ℕ) → bytes ≡ bytes' → count ≡ count' → most ≡ most' → sized bytes count most ≡ sized bytes' count' most'
 sized_same bytes bytes' count count' most most' b c m = ap (λ (n : ℕ). sized n count most) b ∙ ap (λ (n : ℕ). sized bytes' n most) c ∙ ap (λ (n : ℕ). sized bytes' count' n) m
+
+pub returns-in-Ok-clause-new : goal.returns-in-Ok-clause-new
+returns-in-Ok-clause-new g c =
+    let first = c.in-Ok.ensures.view in
+    record {
+      on_grid = ap (λ (r : Rules). r.any_cut) first.rules;
+      arrays = _;
+      state = first.state;
+      no_handles = first.no_handles;
+      first_handle = first.first_handle;
+      no_requests = first.no_requests;
+      no_labels = first.no_labels;
+      no_answers = first.no_answers;
+    }
 
 pub returns-in-Ok-clause-sizes : goal.returns-in-Ok-clause-sizes
 unfolding sized

@@ -2,8 +2,8 @@ use Rattle.std.proofs.Common.{[], ◌∷◌}
 use Rattle.book_tests.proofs.rows.run_on.Given as goal
 
 -- the stack that was just started, its marks, its history and its ledger
-abbrev pub ghosts-carry_out-N-Naming-1 : goal.ghosts-carry_out-N-Naming-1
-ghosts-carry_out-N-Naming-1 g a = record {
+abbrev pub ghosts-carry_out-N-Naming-2 : goal.ghosts-carry_out-N-Naming-2
+ghosts-carry_out-N-Naming-2 g a = record {
   rules = a.ready.stack.rules;
   start = a.ready.stack.state;
   partitions = 0 ∷ 0 ∷ [];
@@ -12,12 +12,12 @@ ghosts-carry_out-N-Naming-1 g a = record {
   slots = a.marks.1;
 }
 
-abbrev pub ghosts-carry_out-N-Naming-2 : goal.ghosts-carry_out-N-Naming-2
-ghosts-carry_out-N-Naming-2 g a = record { table = a.opened }
+abbrev pub ghosts-carry_out-N-Naming-3 : goal.ghosts-carry_out-N-Naming-3
+ghosts-carry_out-N-Naming-3 g a = record { table = a.opened }
 
 -- the journal, and the sectors of its medium
-abbrev pub ghosts-carry_out-N-Naming-3 : goal.ghosts-carry_out-N-Naming-3
-ghosts-carry_out-N-Naming-3 g a = record {
+abbrev pub ghosts-carry_out-N-Naming-4 : goal.ghosts-carry_out-N-Naming-4
+ghosts-carry_out-N-Naming-4 g a = record {
   armings = a.journal.armings;
   entries = a.journal.entries;
   opening = (g.M.Medium.view a.medium).sectors;
