@@ -44,7 +44,7 @@ fn is_armed_for<M: Medium, N: Naming>(journal: &Journal<M, N>, tag: u8, piece: u
     }
 }
 
-/// A piece that came back may not act any more.
+/// A piece that failed or came back may not act any more.
 fn disarm_piece<M: Medium, N: Naming>(journal: &mut Journal<M, N>, piece: u128) {
     for tag in 0..journal.depth() {
         if is_armed_for(journal, tag, piece) {
@@ -53,8 +53,8 @@ fn disarm_piece<M: Medium, N: Naming>(journal: &mut Journal<M, N>, piece: u128) 
     }
 }
 
-/// The journal follows a label: a piece that was started may act, one that came back may not, and what was reserved for a
-/// request that was answered is given back.
+/// The journal follows a label: a piece that was started may act, one that failed or came back may not, and what was reserved
+/// for a request that was answered is given back.
 fn settle_label<M: Medium, N: Naming>(
     traced: &Traced<BookedAdapter, N>,
     tags: &mut Tags<N>,
@@ -70,6 +70,7 @@ fn settle_label<M: Medium, N: Naming>(
             arm_tag(traced, tags, journal, words, *tag)
         }
         Label::Device(DeviceLabel::Return { piece, .. }) => disarm_piece(journal, *piece),
+        Label::Device(DeviceLabel::Fault { piece }) => disarm_piece(journal, *piece),
         Label::Answer { number, .. } => journal.release(*number),
         _ => {}
     }
