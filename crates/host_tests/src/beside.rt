@@ -7,8 +7,9 @@ use crate::holding::Holding;
 use crate::scenes::{Scene, Want, play_scene};
 use crate::told;
 use cancel_marks::Marking;
+use compose::Refusal as Why;
 use disk::{BadSector, Medium, NoMemory};
-use host::{Answered, Call, Client, Host, HostFault, Naming, Opened, Ticket};
+use host::{Answered, Call, Client, Host, HostFault, Naming, Opened, Reason, Ticket};
 use lanes::Turnstile;
 use sector::{Bytes, Extent};
 use std::alloc::{AllocError, Global};
@@ -114,7 +115,10 @@ fn read_past<M: Medium, N: Naming, R: Wait>(
     let offset = 524_288;
     match client.issue(rt, host, Call::Read { offset, buffer }) {
         Ok(_) => Err(AllocError),
-        Err(refusal) => told::refusal(alloc, &refusal),
+        Err(refusal) => match refusal.reason {
+            Reason::Refused(Why::InsufficientResources) => Err(AllocError),
+            _ => told::refusal(alloc, &refusal),
+        },
     }
 }
 

@@ -10,6 +10,8 @@ mod disks;
 #[cfg(test)]
 mod expect;
 #[cfg(test)]
+mod full_queue;
+#[cfg(test)]
 mod holding;
 #[cfg(test)]
 mod opening;

@@ -7,7 +7,8 @@ use srb::DeviceLabel;
 use std::alloc::{AllocError, Global};
 use traced::TraceEntry;
 
-/// As `call 1 of 0 / start 1 through / act 1 / return 1 / answer 1 SUCCESS of 0`: of a call and an answer the row as well, of a start whether its block has FUA.
+/// As `call 1 of 0 / start 1 through / act 1 / return 1 / answer 1 SUCCESS of 0`: of a call and an answer the row as well, of a
+/// start whether its block has FUA.
 pub(crate) fn trace(alloc: Global, entries: &[TraceEntry]) -> Result<String, AllocError> {
     let mut text = String::new(alloc);
     for entry in entries {
