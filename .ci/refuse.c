@@ -1,4 +1,5 @@
-/* Refuses one request for memory: the one whose number, from 1, is in REFUSE_AT. Names the count of all in the file REFUSE_COUNT. */
+/* Refuses one request for memory of all threads: the one whose number, from 1, is in REFUSE_AT. Names the count of all in the file
+   REFUSE_COUNT. */
 #define _GNU_SOURCE
 #include <dlfcn.h>
 #include <errno.h>
@@ -32,7 +33,7 @@ void _exit(int status) {
 }
 
 static int is_refused(void) {
-    if (++asked != refuse_at) return 0;
+    if (__atomic_add_fetch(&asked, 1, __ATOMIC_SEQ_CST) != refuse_at) return 0;
     errno = ENOMEM;
     return 1;
 }

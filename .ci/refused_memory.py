@@ -1,10 +1,13 @@
-"""Refuses each request for memory in turn: of the program on three scripts, and of the built tests of stack_tests.
+"""Refuses each request for memory in turn: of the program on three scripts, and of built tests.
+
+usage: refused_memory.py PROGRAM TESTS..
 
 The program either says that there is no memory, behind a beginning of what it would have printed; or a read, a write or a
 flush is refused, and all else is as if the script had not had that line; or it does as well without. So no number and no
 label went with a refusal. Each script asks for its first transfer twice, so the same call is served when it is asked again.
 
-A test ends well, or for want of memory. What it compares before that is as ever.
+A test ends well, or for want of memory. What it compares before that is as ever. Where a test has threads, which of its
+requests is refused may differ from run to run, and how many there are.
 """
 import os
 import subprocess
@@ -120,7 +123,7 @@ def sweep_tests(program, shim, folder):
 
 
 def main():
-    program, tests = map(os.path.abspath, sys.argv[1:3])
+    program, *tests = map(os.path.abspath, sys.argv[1:])
     here = os.path.dirname(os.path.abspath(__file__))
     with tempfile.TemporaryDirectory() as folder:
         shim = os.path.join(folder, 'refuse.so')
@@ -128,11 +131,11 @@ def main():
         try:
             traces = Traces(program, shim, folder)
             of_traces = sum(traces.sweep(name, script.split(',')) for name, script in SCRIPTS.items())
-            of_tests = sweep_tests(tests, shim, folder)
+            of_tests = sum(sweep_tests(it, shim, folder) for it in tests)
         except (Wrong, subprocess.TimeoutExpired) as wrong:
             print('FAILED: memory refused: %s' % wrong, file=sys.stderr)
             return 1
-    print('each of %d requests for memory of the program and %d of the tests of stack_tests was refused in turn' % (of_traces, of_tests))
+    print('each of %d requests for memory of the program and %d of the tests was refused in turn' % (of_traces, of_tests))
     return 0
 
 
