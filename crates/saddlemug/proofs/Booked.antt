@@ -13,7 +13,7 @@ use Rattle.io_manager.specs.Right.{BooksPiece, FitsTogether}
 use Rattle.saddlemug.specs.declared.asked.Asked.{Asked}
 use Rattle.saddlemug.specs.declared.booking.DiskOf.{DiskOf}
 use Rattle.saddlemug.specs.declared.booking.StackBooking.{StackBooking}
-use Rattle.saddlemug.specs.declared.places.Place.{Place}
+use Rattle.saddlemug.specs.declared.places.PieceBytes.{PieceBytes}
 use Rattle.saddlemug.specs.Over.{BooksTold, HasNoneToBook, IsBookStatus, IsBookingOf, IsNotTold, IsSuited, IsTold, OverKept, OverView, completion_of, over, piece_of}
 use Rattle.saddlemug.specs.Places.{place_of}
 use Rattle.saddlemug.specs.Suiting.{SuitsAs, SuitsNone}
@@ -31,18 +31,18 @@ bookable view tag piece srb what apart armed not_first suits = record {
   suits = subst (λ (s : Srb). Suits view.sector_size (length view.sectors) s what) (sym armed.is_srb) suits;
 }
 
-same_place : {x y : Place} → Some x ≡ Some y → x ≡ y
+same_place : {x y : PieceBytes} → Some x ≡ Some y → x ≡ y
 same_place {x} {y} e = cc
 
 -- BOOKED
 
 module _ (old new : OverView) (b : StackBooking) (apart : IsFalse old.stack.adapter.faithful) (given_up : new.places ≡ slice_set old.places b.tag None) where
-  pub moved : (a : Asked) (entry : Entry) (own : Place) → b.failed ≡ false → IsSuited old b a → place_of old.places b.tag ≡ Some own
+  pub moved : (a : Asked) (entry : Entry) (own : PieceBytes) → b.failed ≡ false → IsSuited old b a → place_of old.places b.tag ≡ Some own
       → entry.piece ≡ piece_of b → entry.tag ≡ b.tag → entry.kind ≡ a.kind → entry.extent ≡ a.extent → entry.bytes ≡ own.bytes.items
       → BooksPiece old.stack b.tag (piece_of b) (Ok entry) new.stack → BooksTold old b new
   moved a entry own moves suited there is_piece is_tag kind extent bytes books =
       let same : own ≡ suited.own = same_place (sym there ∙ suited.told.there) in
-      let stood : entry.bytes ≡ suited.own.bytes.items = bytes ∙ ap (λ (p : Place). p.bytes.items) same in
+      let stood : entry.bytes ≡ suited.own.bytes.items = bytes ∙ ap (λ (p : PieceBytes). p.bytes.items) same in
       record {
         srb = suited.srb;
         own = suited.own;
@@ -54,7 +54,7 @@ module _ (old new : OverView) (b : StackBooking) (apart : IsFalse old.stack.adap
         given_up = given_up;
       }
 
-  pub failed : (srb : Srb) (own : Place) (completion : Completion) → b.failed ≡ true → IsTold old b.tag (piece_of b) srb own → completion ≡ completion_of b.completion
+  pub failed : (srb : Srb) (own : PieceBytes) (completion : Completion) → b.failed ≡ true → IsTold old b.tag (piece_of b) srb own → completion ≡ completion_of b.completion
       → class_of completion ≡ Bad completion → BooksPiece old.stack b.tag (piece_of b) (Err completion) new.stack → BooksTold old b new
   failed srb own completion fails told is bad books = record {
     srb = srb;
@@ -69,7 +69,7 @@ module _ (old new : OverView) (b : StackBooking) (apart : IsFalse old.stack.adap
 
 -- SUITED
 
-module _ (v : OverView) (b : StackBooking) (srb : Srb) (own : Place) (told : IsTold v b.tag (piece_of b) srb own) where
+module _ (v : OverView) (b : StackBooking) (srb : Srb) (own : PieceBytes) (told : IsTold v b.tag (piece_of b) srb own) where
   pub none_fails : b.failed ≡ true → ¬ (class_of (completion_of b.completion) ≡ Bad (completion_of b.completion)) → HasNoneToBook v b
   none_fails fails good = record { srb = srb; own = own; told = told; none = by_what }
     where
@@ -116,11 +116,11 @@ pub some_of : {X : Type 0} (P : Type 0) (Q : X → Type 0) (r : Option X) → is
 some_of P Q None e m = absurd (cc (e))
 some_of P Q (Some x) e m = (x, m)
 
-module _ (stack : ManagerView) (places : List (Option Place)) (v : OverView) (is : over stack places ≡ v) (b : StackBooking) (piece : ℕ) (piece_is : piece ≡ piece_of b) where
+module _ (stack : ManagerView) (places : List (Option PieceBytes)) (v : OverView) (is : over stack places ≡ v) (b : StackBooking) (piece : ℕ) (piece_is : piece ≡ piece_of b) where
   pub not_told : IsNotTold v b.tag piece → IsBookStatus v b NotFound
   not_told none = inl (refl, subst (λ (n : ℕ). IsNotTold v b.tag n) piece_is none)
 
-  module _ (srb : Srb) (own : Place) (was_told : IsTold v b.tag piece srb own) where
+  module _ (srb : Srb) (own : PieceBytes) (was_told : IsTold v b.tag piece srb own) where
     at_piece : IsTold v b.tag (piece_of b) srb own
     at_piece = subst (λ (n : ℕ). IsTold v b.tag n srb own) piece_is was_told
 
@@ -146,9 +146,9 @@ module _ (stack : ManagerView) (places : List (Option Place)) (v : OverView) (is
       pub unsuited_at : b.failed ≡ false → SuitsNone disk srb b.length own → IsBookStatus v b InvalidParameter
       unsuited_at moves none = inr (refl, none_moved v b srb own at_piece disk kept_at fits_at moves none)
 
-  pub moved_at : (disk : DiskOf) (kept : OverKept stack places disk) (a : Asked) (entry : Entry) (own : Place) (place : Option Place) (after : ManagerView) → b.failed ≡ false → IsSuited v b a
+  pub moved_at : (disk : DiskOf) (kept : OverKept stack places disk) (a : Asked) (entry : Entry) (own : PieceBytes) (place : Option PieceBytes) (after : ManagerView) → b.failed ≡ false → IsSuited v b a
       → place_of places b.tag ≡ Some own → entry.piece ≡ piece → entry.tag ≡ b.tag → entry.kind ≡ a.kind → entry.extent ≡ a.extent → entry.bytes ≡ own.bytes.items → place ≡ None
       → BooksPiece stack b.tag piece (Ok entry) after → BooksTold v b (over after (slice_set places b.tag place))
   moved_at disk kept a entry own place after moves suits there is_piece is_tag kind extent bytes gone books = subst (λ (u : OverView). BooksTold u b (over after (slice_set places b.tag place))) is
-      (moved (over stack places) (over after (slice_set places b.tag place)) b kept.apart (ap (λ (p : Option Place). slice_set places b.tag p) gone) a entry own moves
+      (moved (over stack places) (over after (slice_set places b.tag place)) b kept.apart (ap (λ (p : Option PieceBytes). slice_set places b.tag p) gone) a entry own moves
       (subst (λ (u : OverView). IsSuited u b a) (sym is) suits) there (is_piece ∙ piece_is) is_tag kind extent bytes (subst (λ (n : ℕ). BooksPiece stack b.tag n (Ok entry) after) piece_is books))

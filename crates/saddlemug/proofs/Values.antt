@@ -24,9 +24,9 @@ use Rattle.std.proofs.cell.Inside.{Good}
 use Rattle.std.specs.Box.Ownership.{box_owns}
 use Rattle.std.proofs.ResultValues.{and_tt}
 use Rattle.saddlemug.specs.contracts.raw_box.RawBox as loose
-use Rattle.saddlemug.specs.contracts.held.Held as held
-use Rattle.saddlemug.specs.contracts.slot.Slot as slot
-use Rattle.saddlemug.specs.Slot.{slot_owns}
+use Rattle.saddlemug.specs.contracts.instance.Instance as held
+use Rattle.saddlemug.specs.contracts.cell.Cell as cell
+use Rattle.saddlemug.specs.Cell.{cell_owns}
 use Rattle.std.specs.Prelude.{Option, Some, None, IsSome}
 use Rattle.std.specs.contracts.alloc.Global as heap
 use Rattle.std.proofs.alloc.Global.TheLaws as heap_laws
@@ -61,7 +61,7 @@ module _ (R Z : RattleType) (L : Laws Z) (g : Ghosts Z.Denot) where
         nothing t $ move t (2 ∷ 0 ∷ []) $ fjoin t $ feq_i t (List Val) (vptr b o ∷ []) (vptr b o ∷ []) refl $ fjoin t $ feq_i t (List Val) (v ∷ []) (v ∷ []) refl $ fjoin t $
         fpack t (Valss (RawPtr ∷ Z ∷ [])) (within (shape (loose.the_type R Z g)) (block_ptr b o, (a, tt)) (v ∷ [])) (vptr b o ∷ [], (h ∷ [], tt)) $ fjoin t $ s)
 
--- the heap's handle is a field of a slot
+-- the heap's handle is a field of a cell
 abbrev Heap : RattleType
 Heap = heap.the_row
 
@@ -73,24 +73,24 @@ some_of (Some x) s = (x, refl)
 some_of None s = absurd (subst T (sym s) tt)
 
 module _ {M : Type 1} {𝓤 : Ura M} {𝓛 : Logic 𝓤} {K : Type 0} {Γ : List (Item 𝓤)} {G : Goal 𝓤 𝓛.H} where
-  pub slot_out : K → (d : (slot.the_row).Denot) (x : Things.Denot) → d.held ≡ Some x → (vs : List Val)
+  pub cell_out : K → (d : (cell.the_row).Denot) (x : Things.Denot) → d.held ≡ Some x → (vs : List Val)
       → ((b o : ℕ) (h : Val) → d.at ≡ block_ptr b o → vs ≡ both (vptr b o) h ∷ [] → Good (layout Heap) h → Seq K 𝓛 (‵ (box_owns (ghosts.dealloc_token d.alloc) Things (block_ptr b o) x) ∷ ‵ (Heap.own_val d.alloc (h ∷ [])) ∷ Γ) G)
-      → Seq K 𝓛 (‵ ((slot.the_row).own_val d vs) ∷ Γ) G
-  slot_out t d x is vs k =
+      → Seq K 𝓛 (‵ ((cell.the_row).own_val d vs) ∷ Γ) G
+  cell_out t d x is vs k =
       fsplit t $ fpick t (λ vss. fsplit t $ feq_l t (λ ev. fsplit t $ feq_l t (λ ep. fsplit t $ handle_tells (al Things Heap heap_laws.the_row_laws ghosts) t d.alloc vss.1.0 (λ h ea fits. move t (1 ∷ []) $ drop t $ move t (1 ∷ []) $
-      rewrite t 0 (λ (y : Option Things.Denot). ‵ (slot_owns Things d.alloc d.at y)) is refl $
+      rewrite t 0 (λ (y : Option Things.Denot). ‵ (cell_owns Things d.alloc d.at y)) is refl $
       in_a_block t d.at (λ p. box_owns (ghosts.dealloc_token d.alloc) Things p x) (fst∗ 𝓤 (never 𝓤) (sem 𝓛 (ghosts.dealloc_token d.alloc (bare (lone Things.mir)) null_ptr))) (λ b o e. k b o h e
       (subst (λ (p : Ptr). vs ≡ vstruct (of_list (ptr_val p ∷ h ∷ [])) ∷ []) e
       (subst (λ (ws : List Val). vs ≡ vstruct (of_list (ptr_val d.at ∷ (ws ++ []))) ∷ []) ea (subst (λ (ps : List Val). vs ≡ vstruct (of_list (ps ++ (vss.1.0 ++ []))) ∷ []) ep ev))) fits)))))
 
-  pub slot_in : K → (b o : ℕ) (h : Val) (a : Heap.Denot) (x : Things.Denot)
-      → Step K 𝓛 (‵ ((slot.the_row).own_val (record { at = block_ptr b o; alloc = a; held = Some x }) (both (vptr b o) h ∷ [])) ∷ Γ) G (‵ (box_owns (ghosts.dealloc_token a) Things (block_ptr b o) x) ∷ ‵ (Heap.own_val a (h ∷ [])) ∷ Γ) G
-  slot_in t b o h a x = step (λ s. let v : Val = both (vptr b o) h in
+  pub cell_in : K → (b o : ℕ) (h : Val) (a : Heap.Denot) (x : Things.Denot)
+      → Step K 𝓛 (‵ ((cell.the_row).own_val (record { at = block_ptr b o; alloc = a; held = Some x }) (both (vptr b o) h ∷ [])) ∷ Γ) G (‵ (box_owns (ghosts.dealloc_token a) Things (block_ptr b o) x) ∷ ‵ (Heap.own_val a (h ∷ [])) ∷ Γ) G
+  cell_in t b o h a x = step (λ s. let v : Val = both (vptr b o) h in
       nothing t $ move t (2 ∷ 0 ∷ []) $ fjoin t $ feq_i t (List Val) (vptr b o ∷ []) (vptr b o ∷ []) refl $ fjoin t $ feq_i t (List Val) (v ∷ []) (v ∷ []) refl $ fjoin t $
-      fpack t (Valss (fields slot.the_type)) (within (shape slot.the_type) (to slot.the_type (record { at = block_ptr b o; alloc = a; held = Some x })) (v ∷ [])) (vptr b o ∷ [], (h ∷ [], tt)) $ fjoin t $ s)
+      fpack t (Valss (fields cell.the_type)) (within (shape cell.the_type) (to cell.the_type (record { at = block_ptr b o; alloc = a; held = Some x })) (v ∷ [])) (vptr b o ∷ [], (h ∷ [], tt)) $ fjoin t $ s)
 
   pub empty_in : K → (h : Val) (a : Heap.Denot)
-      → Step K 𝓛 (‵ ((slot.the_row).own_val (record { at = null_ptr; alloc = a; held = None }) (both (ptr_val null_ptr) h ∷ [])) ∷ Γ) G (‵ (Heap.own_val a (h ∷ [])) ∷ Γ) G
+      → Step K 𝓛 (‵ ((cell.the_row).own_val (record { at = null_ptr; alloc = a; held = None }) (both (ptr_val null_ptr) h ∷ [])) ∷ Γ) G (‵ (Heap.own_val a (h ∷ [])) ∷ Γ) G
   empty_in t h a = step (λ s. let v : Val = both (ptr_val null_ptr) h in
       nothing t $ move t (1 ∷ 0 ∷ []) $ fjoin t $ feq_i t (List Val) (ptr_val null_ptr ∷ []) (ptr_val null_ptr ∷ []) refl $ fjoin t $ feq_i t (List Val) (v ∷ []) (v ∷ []) refl $ fjoin t $
-      fpack t (Valss (fields slot.the_type)) (within (shape slot.the_type) (to slot.the_type (record { at = null_ptr; alloc = a; held = None })) (v ∷ [])) (ptr_val null_ptr ∷ [], (h ∷ [], tt)) $ nothing t $ move t (1 ∷ 0 ∷ []) $ fjoin t $ s)
+      fpack t (Valss (fields cell.the_type)) (within (shape cell.the_type) (to cell.the_type (record { at = null_ptr; alloc = a; held = None })) (v ∷ [])) (ptr_val null_ptr ∷ [], (h ∷ [], tt)) $ nothing t $ move t (1 ∷ 0 ∷ []) $ fjoin t $ s)

@@ -1,10 +1,10 @@
 pub mod Asking
 pub mod Calls
+pub mod Cell
 pub mod Holding
 pub mod Opened
 pub mod Over
 pub mod Places
-pub mod Slot
 pub mod Stacks
 pub mod Statuses
 pub mod Stepping

@@ -21,7 +21,7 @@ use Rattle.saddlemug.specs.declared.booking.StackCompletion.{StackCompletion}
 use Rattle.saddlemug.specs.declared.asked.Asked.{Asked}
 use Rattle.saddlemug.specs.declared.asked.StackArmed.{StackArmed}
 use Rattle.saddlemug.specs.declared.opening_over.StackDisk.{StackDisk}
-use Rattle.saddlemug.specs.declared.places.Place.{Place}
+use Rattle.saddlemug.specs.declared.places.PieceBytes.{PieceBytes}
 use Rattle.saddlemug.specs.Asking.{IsToldOf}
 use Rattle.saddlemug.specs.Places.{HasPiece, StandsAt, place_of}
 use Rattle.saddlemug.specs.Statuses.{start_status}
@@ -29,13 +29,13 @@ use Rattle.saddlemug.specs.Statuses.{start_status}
 pub record OverView : Type 0 where
   pub stack : ManagerView
   -- by tag, the bytes of the pieces that C was told of
-  pub places : List (Option Place)
+  pub places : List (Option PieceBytes)
 
-abbrev pub over : ManagerView → List (Option Place) → OverView
+abbrev pub over : ManagerView → List (Option PieceBytes) → OverView
 over stack places = record { stack = stack; places = places }
 
 -- what holds between two calls: the stack's adapter moves no sectors, and the disk has these sizes
-pub record OverKept (stack : ManagerView) (places : List (Option Place)) (disk : DiskOf) : Type 0 where
+pub record OverKept (stack : ManagerView) (places : List (Option PieceBytes)) (disk : DiskOf) : Type 0 where
   pub apart : IsFalse stack.adapter.faithful
   pub sector_size : stack.rules.sector_size ≡ disk.sector_size
   pub sectors : stack.rules.disk_sectors ≡ disk.sectors
@@ -84,7 +84,7 @@ pub record TellsArmed (old : OverView) (tag : ℕ) (told : StackArmed) (new : Ov
   pub srb : Srb
   pub armed : IsArmed old.stack.adapter tag piece srb
   pub is_told : IsToldOf piece srb told
-  pub place : Option Place
+  pub place : Option PieceBytes
   pub stands : StandsAt (place_of old.places tag) piece srb.data told.bytes place
   pub after : new ≡ record old { places = slice_set old.places tag place }
 
@@ -105,19 +105,19 @@ completion_of c = record {
 }
 
 -- an entry of a piece and of all bytes that stand in a place, which are this many
-pub record IsEntryOf (tag piece count : ℕ) (own : Place) (entry : Entry) : Type 0 where
+pub record IsEntryOf (tag piece count : ℕ) (own : PieceBytes) (entry : Entry) : Type 0 where
   pub is_piece : entry.piece ≡ piece
   pub is_tag : entry.tag ≡ tag
   pub bytes : entry.bytes ≡ own.bytes.items
   pub many : count ≡ length own.bytes.items
 
 -- what C tells of a piece whose bytes stand in this place: that they were moved, or how it failed
-abbrev pub IsBookingOf : StackBooking → Place → Result Entry Completion → Type 0
+abbrev pub IsBookingOf : StackBooking → PieceBytes → Result Entry Completion → Type 0
 IsBookingOf b own (Ok entry) = (b.failed ≡ false) × IsEntryOf b.tag (piece_of b) b.length own entry
 IsBookingOf b own (Err completion) = (b.failed ≡ true) × (completion ≡ completion_of b.completion)
 
 -- a piece that could act, and of which C was told
-pub record IsTold (v : OverView) (tag piece : ℕ) (srb : Srb) (own : Place) : Type 0 where
+pub record IsTold (v : OverView) (tag piece : ℕ) (srb : Srb) (own : PieceBytes) : Type 0 where
   pub armed : IsArmed v.stack.adapter tag piece srb
   pub there : place_of v.places tag ≡ Some own
   pub is_piece : own.piece ≡ piece
@@ -135,7 +135,7 @@ IsNotTold v tag piece = IsNotArmed v tag piece ⊎ (¬ HasPiece (place_of v.plac
 -- what a piece asks for that was told, and of which all bytes in its place were moved
 pub record IsSuited (v : OverView) (b : StackBooking) (a : Asked) : Type 0 where
   pub srb : Srb
-  pub own : Place
+  pub own : PieceBytes
   pub told : IsTold v b.tag (piece_of b) srb own
   pub many : b.length ≡ length own.bytes.items
   pub suits : (entry : Entry) → entry.kind ≡ a.kind → entry.extent ≡ a.extent → entry.bytes ≡ own.bytes.items
@@ -144,7 +144,7 @@ pub record IsSuited (v : OverView) (b : StackBooking) (a : Asked) : Type 0 where
 -- just what C tells was booked of the piece, which may be, and its place was given up
 pub record BooksTold (old : OverView) (b : StackBooking) (new : OverView) : Type 0 where
   pub srb : Srb
-  pub own : Place
+  pub own : PieceBytes
   pub told : IsTold old b.tag (piece_of b) srb own
   pub what : Result Entry Completion
   pub is_what : IsBookingOf b own what
@@ -155,7 +155,7 @@ pub record BooksTold (old : OverView) (b : StackBooking) (new : OverView) : Type
 -- nothing that C tells of the piece suits it
 pub record HasNoneToBook (old : OverView) (b : StackBooking) : Type 0 where
   pub srb : Srb
-  pub own : Place
+  pub own : PieceBytes
   pub told : IsTold old b.tag (piece_of b) srb own
   pub none : (what : Result Entry Completion) → IsBookingOf b own what → ¬ Suits old.stack.adapter.sector_size (length old.stack.adapter.sectors) srb what
 

@@ -2,19 +2,19 @@
 use Rattle.std.specs.Prelude.{◌≡◌, ◌≢◌, ℕ, List, Option, Some, None, slice_index_or}
 use Rattle.std.specs.Vec.{vec_ptr}
 use denote.RawPtr.{Ptr}
-use Rattle.saddlemug.specs.declared.places.Place.{Place}
+use Rattle.saddlemug.specs.declared.places.PieceBytes.{PieceBytes}
 
 -- the place of a tag
-abbrev pub place_of : List (Option Place) → ℕ → Option Place
+abbrev pub place_of : List (Option PieceBytes) → ℕ → Option PieceBytes
 place_of places tag = slice_index_or places tag None
 
 -- this piece stands in the place
-abbrev pub HasPiece : Option Place → ℕ → Type 0
-HasPiece place piece = (own : Place) × (place ≡ Some own) × (own.piece ≡ piece)
+abbrev pub HasPiece : Option PieceBytes → ℕ → Type 0
+HasPiece place piece = (own : PieceBytes) × (place ≡ Some own) × (own.piece ≡ piece)
 
 -- a piece with these bytes was put into a place, unless it stood there: then the place is left as it was
-pub record StandsAt (old : Option Place) (piece : ℕ) (srb_data : List ℕ) (at : Ptr) (new : Option Place) : Type 0 where
-  pub own : Place
+pub record StandsAt (old : Option PieceBytes) (piece : ℕ) (srb_data : List ℕ) (at : Ptr) (new : Option PieceBytes) : Type 0 where
+  pub own : PieceBytes
   pub there : new ≡ Some own
   pub is_piece : own.piece ≡ piece
   pub address : vec_ptr own.bytes ≡ at

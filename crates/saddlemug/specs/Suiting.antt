@@ -8,7 +8,7 @@ use Rattle.srb.specs.declared.Srb.{Srb}
 use Rattle.adapter.specs.Booking.{IsOfSrb}
 use Rattle.saddlemug.specs.declared.asked.Asked.{Asked}
 use Rattle.saddlemug.specs.declared.booking.DiskOf.{DiskOf}
-use Rattle.saddlemug.specs.declared.places.Place.{Place}
+use Rattle.saddlemug.specs.declared.places.PieceBytes.{PieceBytes}
 
 -- the sectors lie in the disk, and have just these bytes
 abbrev pub lies_within : ℕ → ℕ → List ℕ → Asked → Bool
@@ -23,10 +23,10 @@ abbrev pub is_asked : ℕ → ℕ → List ℕ → List ℕ → Asked → Bool
 is_asked size sectors srb_data bytes a = is_of_kind a.kind size sectors srb_data bytes a
 
 -- an entry of this kind and these sectors, with all bytes of the place, is of an act that the SRB asks for; the bytes are this many
-pub record SuitsAs (disk : DiskOf) (srb : Srb) (count : ℕ) (own : Place) (a : Asked) : Type 0 where
+pub record SuitsAs (disk : DiskOf) (srb : Srb) (count : ℕ) (own : PieceBytes) (a : Asked) : Type 0 where
   pub many : count ≡ length own.bytes.items
   pub suits : (entry : Entry) → entry.kind ≡ a.kind → entry.extent ≡ a.extent → entry.bytes ≡ own.bytes.items → IsOfSrb disk.sector_size disk.sectors srb entry
 
 -- no entry with this many bytes, all those of the place, is
-abbrev pub SuitsNone : DiskOf → Srb → ℕ → Place → Type 0
+abbrev pub SuitsNone : DiskOf → Srb → ℕ → PieceBytes → Type 0
 SuitsNone disk srb count own = (entry : Entry) → count ≡ length own.bytes.items → entry.bytes ≡ own.bytes.items → ¬ IsOfSrb disk.sector_size disk.sectors srb entry

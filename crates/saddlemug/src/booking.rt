@@ -7,7 +7,7 @@ ghost use Rattle.saddlemug.specs.Over.{completion_of, piece_of};
 ghost use Rattle.saddlemug.specs.Suiting.{SuitsAs, SuitsNone, is_asked, lies_within};
 
 use crate::asked::{Asked, asked_in};
-use crate::places::Place;
+use crate::places::PieceBytes;
 use ntstatus::Sense;
 use srb::{Class, Completion, Kind, Srb};
 
@@ -87,7 +87,7 @@ impl StackCompletion {
 }
 
 /// Returns what an SRB asks for, where an entry of all bytes in this place may be of its act, and they are this many.
-pub(crate) fn asked_of(disk: &DiskOf, srb: &Srb, place: &Place, count: u64) -> Option<Asked>
+pub(crate) fn asked_of(disk: &DiskOf, srb: &Srb, place: &PieceBytes, count: u64) -> Option<Asked>
     ensures { MatchOption result (SuitsNone disk.now srb.now count place.now) (SuitsAs disk.now srb.now count place.now) }
 {
     let bytes = place.bytes.as_slice();

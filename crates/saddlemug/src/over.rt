@@ -11,7 +11,7 @@ use crate::asked::{Asked, StackArmed, told_armed};
 use crate::booking::{DiskOf, StackBooking, asked_of};
 use crate::events::{StackEvent, StackReply};
 use crate::labels::{StackAnswer, StackLabel};
-use crate::places::{Place, no_places, stand};
+use crate::places::{PieceBytes, no_places, stand};
 use crate::stepping::{step_as_told, tell_answer, tell_label};
 use compose::Stack;
 use miniport::BookedAdapter;
@@ -26,7 +26,7 @@ use std::marker::Model;
 pub struct Over {
     stack: Stack<BookedAdapter>,
     /// By tag.
-    places: Vec<Option<Place>>,
+    places: Vec<Option<PieceBytes>>,
     disk: DiskOf,
 }
 
@@ -148,7 +148,7 @@ impl Over {
     }
 
     /// The place of a piece, where it stands in that of the tag.
-    fn place_of(&self, tag: u8, piece: u128) -> Option<&Place>
+    fn place_of(&self, tag: u8, piece: u128) -> Option<&PieceBytes>
         ensures { MatchOption result (¬ HasPiece (place_of self.now.places tag) piece) (λ own. (place_of self.now.places tag ≡ Some own.now) × (own.now.piece ≡ piece)) }
     {
         match &self.places[tag as usize] {
@@ -158,7 +158,7 @@ impl Over {
     }
 
     /// The SRB of a piece that was told, and its place.
-    fn told(&self, tag: u8, piece: u128) -> Option<(&Srb, &Place)>
+    fn told(&self, tag: u8, piece: u128) -> Option<(&Srb, &PieceBytes)>
         ensures { MatchOption result (IsNotTold self.now tag piece) (λ found. IsTold self.now tag piece found.0.now found.1.now) }
     {
         let srb = self.armed_as(tag, piece)?;
@@ -201,7 +201,7 @@ impl Over {
         let Asked { kind, extent, .. } = self.suited(booking)?;
         let tag = booking.tag;
         let piece = booking.piece();
-        let Some(Place { bytes, .. }) = self.places[tag as usize].take() else {
+        let Some(PieceBytes { bytes, .. }) = self.places[tag as usize].take() else {
             unreachable!()
         };
         let entry = Entry {

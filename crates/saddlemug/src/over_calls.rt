@@ -9,27 +9,27 @@ ghost use Rattle.saddlemug.specs.Statuses.{IsNumberOfStatus};
 
 use crate::asked::StackArmed;
 use crate::booking::StackBooking;
-use crate::held::Held;
+use crate::cell::Cell;
+use crate::instance::Instance;
 use crate::opening_over::{StackDisk, new_over};
-use crate::slot::Slot;
 use ntstatus::NtStatus;
 use std::alloc::Global;
 
-/// Starts a stack into an empty slot, over a disk that C keeps and that begins with this sector. Answers 0, or the status
-/// that says why there is none; the slot is then still empty.
+/// Starts a stack into an empty cell, over a disk that C keeps and that begins with this sector. Answers 0, or the status
+/// that says why there is none; the cell is then still empty.
 #[unsafe(no_mangle)]
 pub extern "C" fn saddlemug_over_open(
     alloc: Global,
-    slot: &mut Slot,
+    cell: &mut Cell,
     disk: &StackDisk,
     first: &[u8],
 ) -> u32
-    requires { slot.old.held ≡ None }
-    ensures held { MatchBool (nat_eq result 0) (HoldsOver (IsNewOver disk.now first.now) slot.new.held) (slot.new.held ≡ None) }
+    requires { cell.old.held ≡ None }
+    ensures held { MatchBool (nat_eq result 0) (HoldsOver (IsNewOver disk.now first.now) cell.new.held) (cell.new.held ≡ None) }
     ensures status { (result ≡ 0) ⊎ IsNumberOfStatus (IsOverStatus disk.now first.now) result }
 {
     match new_over(alloc, disk, first) {
-        Ok(over) => slot.fill(alloc, Held::Over(over)),
+        Ok(over) => cell.fill(alloc, Instance::Over(over)),
         Err(status) => status.value(),
     }
 }
@@ -39,19 +39,19 @@ pub extern "C" fn saddlemug_over_open(
 #[unsafe(no_mangle)]
 pub extern "C" fn saddlemug_over_armed(
     alloc: Global,
-    slot: &mut Slot,
+    cell: &mut Cell,
     tag: u8,
     armed: &mut StackArmed,
 ) -> u32
-    requires { HoldsAnyStack slot.old.held }
-    ensures held { HoldsAnyStack slot.new.held }
-    ensures tells { IfHoldsOver (λ old. HoldsOver (λ new. MatchBool (nat_eq result 0) (TellsArmed old tag armed.new new) ((new ≡ old) × IsNumberOfStatus (IsArmedStatus old tag) result)) slot.new.held) slot.old.held }
-    ensures refused { IfHoldsInMemory ((result ≡ value_of InvalidDeviceRequest) × (slot.new.held ≡ slot.old.held)) slot.old.held }
+    requires { HoldsAnyStack cell.old.held }
+    ensures held { HoldsAnyStack cell.new.held }
+    ensures tells { IfHoldsOver (λ old. HoldsOver (λ new. MatchBool (nat_eq result 0) (TellsArmed old tag armed.new new) ((new ≡ old) × IsNumberOfStatus (IsArmedStatus old tag) result)) cell.new.held) cell.old.held }
+    ensures refused { IfHoldsInMemory ((result ≡ value_of InvalidDeviceRequest) × (cell.new.held ≡ cell.old.held)) cell.old.held }
     ensures as_it_was { (result ≡ 0) ⊎ (armed.new ≡ armed.old) }
 {
-    let mut held = slot.take(alloc);
+    let mut held = cell.take(alloc);
     let outcome = held.armed(alloc, tag);
-    slot.put(held);
+    cell.put(held);
     match outcome {
         Ok(told) => {
             *armed = told;
@@ -64,15 +64,15 @@ pub extern "C" fn saddlemug_over_armed(
 /// Books what became of a piece that was told: the bytes in its place were moved, or it failed. Answers 0, or the status
 /// that says why nothing was booked.
 #[unsafe(no_mangle)]
-pub extern "C" fn saddlemug_over_book(alloc: Global, slot: &mut Slot, booking: &StackBooking) -> u32
-    requires { HoldsAnyStack slot.old.held }
-    ensures held { HoldsAnyStack slot.new.held }
-    ensures books { IfHoldsOver (λ old. HoldsOver (λ new. MatchBool (nat_eq result 0) (BooksTold old booking.now new) ((new ≡ old) × IsNumberOfStatus (IsBookStatus old booking.now) result)) slot.new.held) slot.old.held }
-    ensures refused { IfHoldsInMemory ((result ≡ value_of InvalidDeviceRequest) × (slot.new.held ≡ slot.old.held)) slot.old.held }
+pub extern "C" fn saddlemug_over_book(alloc: Global, cell: &mut Cell, booking: &StackBooking) -> u32
+    requires { HoldsAnyStack cell.old.held }
+    ensures held { HoldsAnyStack cell.new.held }
+    ensures books { IfHoldsOver (λ old. HoldsOver (λ new. MatchBool (nat_eq result 0) (BooksTold old booking.now new) ((new ≡ old) × IsNumberOfStatus (IsBookStatus old booking.now) result)) cell.new.held) cell.old.held }
+    ensures refused { IfHoldsInMemory ((result ≡ value_of InvalidDeviceRequest) × (cell.new.held ≡ cell.old.held)) cell.old.held }
 {
-    let mut held = slot.take(alloc);
+    let mut held = cell.take(alloc);
     let outcome = held.book(booking);
-    slot.put(held);
+    cell.put(held);
     match outcome {
         Ok(()) => NtStatus::Success.value(),
         Err(status) => status.value(),

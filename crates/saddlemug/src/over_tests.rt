@@ -5,11 +5,11 @@ ghost use Rattle.saddlemug.specs.Holding.{HoldsAnyStack};
 
 use crate::asked::{StackArmed, StackAsked};
 use crate::booking::{StackBooking, StackCompletion};
+use crate::cell::Cell;
 use crate::events::{StackEvent, StackId, StackReply};
 use crate::labels::StackAnswer;
 use crate::opening_over::StackDisk;
 use crate::over_calls::{saddlemug_over_armed, saddlemug_over_book, saddlemug_over_open};
-use crate::slot::Slot;
 use crate::stack_calls::{
     saddlemug_stack_close, saddlemug_stack_open, saddlemug_stack_step, saddlemug_stack_take_answer,
 };
@@ -102,66 +102,66 @@ fn moved(armed: &StackArmed) -> StackBooking {
 }
 
 /// A step, and its reply.
-fn step(alloc: Global, slot: &mut Slot, told: &StackEvent, bytes: &[u8]) -> StackReply
-    requires { HoldsAnyStack slot.old.held }
-    ensures { HoldsAnyStack slot.new.held }
+fn step(alloc: Global, cell: &mut Cell, told: &StackEvent, bytes: &[u8]) -> StackReply
+    requires { HoldsAnyStack cell.old.held }
+    ensures { HoldsAnyStack cell.new.held }
 {
     let mut reply = StackReply {
         kind: 99,
         status: 0,
         id: NOBODY,
     };
-    saddlemug_stack_step(alloc, slot, told, bytes, &mut reply);
+    saddlemug_stack_step(alloc, cell, told, bytes, &mut reply);
     reply
 }
 
 /// A new stack over the disk, on which a request of this kind was made, of the third sector of the partition.
-fn requested(rt: &impl Abort, alloc: Global, slot: &mut Slot, kind: u32)
-    requires { slot.old.held ≡ None }
-    ensures { HoldsAnyStack slot.new.held }
+fn requested(rt: &impl Abort, alloc: Global, cell: &mut Cell, kind: u32)
+    requires { cell.old.held ≡ None }
+    ensures { HoldsAnyStack cell.new.held }
 {
-    if saddlemug_over_open(alloc, slot, &DISK, &table()) != 0 {
+    if saddlemug_over_open(alloc, cell, &DISK, &table()) != 0 {
         panic!(rt; "no stack");
     }
-    let handle = step(alloc, slot, &event(0, NOBODY), &[]);
-    step(alloc, slot, &event(kind, handle.id), &[0xA5; 512]);
+    let handle = step(alloc, cell, &event(0, NOBODY), &[]);
+    step(alloc, cell, &event(kind, handle.id), &[0xA5; 512]);
 }
 
 /// The piece on tag 0.
-fn armed(rt: &impl Abort, alloc: Global, slot: &mut Slot) -> StackArmed
-    requires { HoldsAnyStack slot.old.held }
-    ensures { HoldsAnyStack slot.new.held }
+fn armed(rt: &impl Abort, alloc: Global, cell: &mut Cell) -> StackArmed
+    requires { HoldsAnyStack cell.old.held }
+    ensures { HoldsAnyStack cell.new.held }
 {
     let mut armed = no_piece();
-    let status = saddlemug_over_armed(alloc, slot, 0, &mut armed);
+    let status = saddlemug_over_armed(alloc, cell, 0, &mut armed);
     same(rt, &status, &0);
     armed
 }
 
 /// The piece on tag 0 acts and comes back: the status of its request, and how many bytes it moved.
-fn answered(alloc: Global, slot: &mut Slot) -> (u32, u64)
-    requires { HoldsAnyStack slot.old.held }
-    ensures { HoldsAnyStack slot.new.held }
+fn answered(alloc: Global, cell: &mut Cell) -> (u32, u64)
+    requires { HoldsAnyStack cell.old.held }
+    ensures { HoldsAnyStack cell.new.held }
 {
-    step(alloc, slot, &event(11, NOBODY), &[]);
-    step(alloc, slot, &event(12, NOBODY), &[]);
+    step(alloc, cell, &event(11, NOBODY), &[]);
+    step(alloc, cell, &event(12, NOBODY), &[]);
     let mut answer = StackAnswer::default();
-    saddlemug_stack_take_answer(alloc, slot, &mut answer, &mut []);
+    saddlemug_stack_take_answer(alloc, cell, &mut answer, &mut []);
     (answer.status, answer.information)
 }
 
 #[test]
 fn books_what_c_moved(rt: HostRuntime) {
     let alloc = rt.alloc();
-    let mut slot = Slot::empty(alloc);
-    requested(&rt, alloc, &mut slot, 3);
-    let piece = armed(&rt, alloc, &mut slot);
-    let again = armed(&rt, alloc, &mut slot);
-    let booked = saddlemug_over_book(alloc, &mut slot, &moved(&piece));
-    let twice = saddlemug_over_book(alloc, &mut slot, &moved(&piece));
-    let answer = answered(alloc, &mut slot);
-    let late = saddlemug_over_book(alloc, &mut slot, &moved(&piece));
-    saddlemug_stack_close(alloc, &mut slot);
+    let mut cell = Cell::empty(alloc);
+    requested(&rt, alloc, &mut cell, 3);
+    let piece = armed(&rt, alloc, &mut cell);
+    let again = armed(&rt, alloc, &mut cell);
+    let booked = saddlemug_over_book(alloc, &mut cell, &moved(&piece));
+    let twice = saddlemug_over_book(alloc, &mut cell, &moved(&piece));
+    let answer = answered(alloc, &mut cell);
+    let late = saddlemug_over_book(alloc, &mut cell, &moved(&piece));
+    saddlemug_stack_close(alloc, &mut cell);
     // WRITE(10), of ten bytes, of sector 3 of the disk.
     same(&rt, &piece.block[0], &0x2A);
     same(&rt, &piece.block_length, &10);
@@ -179,9 +179,9 @@ fn books_what_c_moved(rt: HostRuntime) {
 #[test]
 fn refuses_what_is_not_of_the_piece(rt: HostRuntime) {
     let alloc = rt.alloc();
-    let mut slot = Slot::empty(alloc);
-    requested(&rt, alloc, &mut slot, 3);
-    let piece = armed(&rt, alloc, &mut slot);
+    let mut cell = Cell::empty(alloc);
+    requested(&rt, alloc, &mut cell, 3);
+    let piece = armed(&rt, alloc, &mut cell);
     let booking = moved(&piece);
     let short = StackBooking {
         length: 511,
@@ -196,13 +196,13 @@ fn refuses_what_is_not_of_the_piece(rt: HostRuntime) {
         failed: true,
         ..booking
     };
-    let short = saddlemug_over_book(alloc, &mut slot, &short);
-    let other_tag = saddlemug_over_book(alloc, &mut slot, &other_tag);
-    let other_piece = saddlemug_over_book(alloc, &mut slot, &other_piece);
-    let no_failure = saddlemug_over_book(alloc, &mut slot, &no_failure);
+    let short = saddlemug_over_book(alloc, &mut cell, &short);
+    let other_tag = saddlemug_over_book(alloc, &mut cell, &other_tag);
+    let other_piece = saddlemug_over_book(alloc, &mut cell, &other_piece);
+    let no_failure = saddlemug_over_book(alloc, &mut cell, &no_failure);
     let mut none = no_piece();
-    let free = saddlemug_over_armed(alloc, &mut slot, 1, &mut none);
-    saddlemug_stack_close(alloc, &mut slot);
+    let free = saddlemug_over_armed(alloc, &mut cell, 1, &mut none);
+    saddlemug_stack_close(alloc, &mut cell);
     same(
         &rt,
         &[short, no_failure],
@@ -217,20 +217,20 @@ fn refuses_what_is_not_of_the_piece(rt: HostRuntime) {
 
 /// The status of a read that failed so, or of which nothing was booked.
 fn read_failed(rt: &impl Abort, alloc: Global, failure: Option<StackCompletion>) -> u32 {
-    let mut slot = Slot::empty(alloc);
-    requested(rt, alloc, &mut slot, 2);
-    let piece = armed(rt, alloc, &mut slot);
+    let mut cell = Cell::empty(alloc);
+    requested(rt, alloc, &mut cell, 2);
+    let piece = armed(rt, alloc, &mut cell);
     if let Some(completion) = failure {
         let booking = StackBooking {
             failed: true,
             completion,
             ..moved(&piece)
         };
-        let booked = saddlemug_over_book(alloc, &mut slot, &booking);
+        let booked = saddlemug_over_book(alloc, &mut cell, &booking);
         same(rt, &booked, &0);
     }
-    let (status, _) = answered(alloc, &mut slot);
-    saddlemug_stack_close(alloc, &mut slot);
+    let (status, _) = answered(alloc, &mut cell);
+    saddlemug_stack_close(alloc, &mut cell);
     status
 }
 
@@ -250,8 +250,8 @@ fn failures_come_up(rt: HostRuntime) {
 
 /// Returns what is answered where these are a disk's sizes and its first sector.
 fn refused(alloc: Global, disk: &StackDisk, first: &[u8]) -> u32 {
-    let mut slot = Slot::empty(alloc);
-    saddlemug_over_open(alloc, &mut slot, disk, first)
+    let mut cell = Cell::empty(alloc);
+    saddlemug_over_open(alloc, &mut cell, disk, first)
 }
 
 #[test]
@@ -274,14 +274,14 @@ fn refuses_what_is_no_disk(rt: HostRuntime) {
 #[test]
 fn a_disk_in_memory_moves_by_itself(rt: HostRuntime) {
     let alloc = rt.alloc();
-    let mut slot = Slot::empty(alloc);
-    if saddlemug_stack_open(alloc, &mut slot, SETTINGS) != 0 {
+    let mut cell = Cell::empty(alloc);
+    if saddlemug_stack_open(alloc, &mut cell, SETTINGS) != 0 {
         panic!(rt; "no stack");
     }
     let mut armed = no_piece();
-    let told = saddlemug_over_armed(alloc, &mut slot, 0, &mut armed);
-    let booked = saddlemug_over_book(alloc, &mut slot, &moved(&armed));
-    saddlemug_stack_close(alloc, &mut slot);
+    let told = saddlemug_over_armed(alloc, &mut cell, 0, &mut armed);
+    let booked = saddlemug_over_book(alloc, &mut cell, &moved(&armed));
+    saddlemug_stack_close(alloc, &mut cell);
     same(
         &rt,
         &[told, booked],

@@ -7,13 +7,13 @@ use std::alloc::{AllocError, Global};
 
 /// The bytes of a piece that C was told of. C reads and writes them between two calls.
 #[derive(Drop)]
-pub struct Place {
+pub struct PieceBytes {
     pub(crate) piece: u128,
     pub(crate) bytes: Vec<u8>,
 }
 
 /// A place for each tag, and no piece in any.
-pub(crate) fn no_places(alloc: Global) -> Result<Vec<Option<Place>>, AllocError>
+pub(crate) fn no_places(alloc: Global) -> Result<Vec<Option<PieceBytes>>, AllocError>
     ensures { IfOk result (λ places. places.items ≡ replicate 256 None) }
 {
     let mut places = Vec::with_capacity(alloc, 256)?;
@@ -26,7 +26,7 @@ pub(crate) fn no_places(alloc: Global) -> Result<Vec<Option<Place>>, AllocError>
 /// Puts a piece with its bytes into a place, unless it stands there already, and gives their address.
 pub(crate) fn stand(
     alloc: Global,
-    place: &mut Option<Place>,
+    place: &mut Option<PieceBytes>,
     piece: u128,
     srb_data: &[u8],
 ) -> Result<*mut u8, AllocError>
@@ -38,7 +38,7 @@ pub(crate) fn stand(
         _ => {
             let mut bytes = Vec::from_slice(alloc, srb_data)?;
             let at = bytes.as_mut_ptr();
-            *place = Some(Place { piece, bytes });
+            *place = Some(PieceBytes { piece, bytes });
             Ok(at)
         }
     }

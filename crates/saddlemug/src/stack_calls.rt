@@ -6,24 +6,24 @@ ghost use Rattle.saddlemug.specs.Opened.{IsNewStack, IsStackStatus};
 ghost use Rattle.saddlemug.specs.Statuses.{IsNumberOfStatus};
 ghost use Rattle.saddlemug.specs.Stepping.{IsNotStepped, IsStepStatus, Steps, TellsAnswer, TellsLabel, told_if};
 
+use crate::cell::Cell;
 use crate::events::{StackEvent, StackReply};
-use crate::held::Held;
+use crate::instance::Instance;
 use crate::labels::{StackAnswer, StackLabel};
 use crate::opening::new_stack;
-use crate::slot::Slot;
 use ntstatus::NtStatus;
 use std::alloc::Global;
 
-/// Starts a stack into an empty slot, over a disk of zeros with the partition table of a text's settings. Answers 0, or the
-/// status that says why there is none; the slot is then still empty.
+/// Starts a stack into an empty cell, over a disk of zeros with the partition table of a text's settings. Answers 0, or the
+/// status that says why there is none; the cell is then still empty.
 #[unsafe(no_mangle)]
-pub extern "C" fn saddlemug_stack_open(alloc: Global, slot: &mut Slot, settings: &[u8]) -> u32
-    requires { slot.old.held ≡ None }
-    ensures held { MatchBool (nat_eq result 0) (HoldsStack (IsNewStack settings.now) slot.new.held) (slot.new.held ≡ None) }
+pub extern "C" fn saddlemug_stack_open(alloc: Global, cell: &mut Cell, settings: &[u8]) -> u32
+    requires { cell.old.held ≡ None }
+    ensures held { MatchBool (nat_eq result 0) (HoldsStack (IsNewStack settings.now) cell.new.held) (cell.new.held ≡ None) }
     ensures status { (result ≡ 0) ⊎ IsNumberOfStatus (IsStackStatus settings.now) result }
 {
     match new_stack(alloc, settings) {
-        Ok(stack) => slot.fill(alloc, Held::Stack(stack)),
+        Ok(stack) => cell.fill(alloc, Instance::Stack(stack)),
         Err(status) => status.value(),
     }
 }
@@ -33,20 +33,20 @@ pub extern "C" fn saddlemug_stack_open(alloc: Global, slot: &mut Slot, settings:
 #[unsafe(no_mangle)]
 pub extern "C" fn saddlemug_stack_step(
     alloc: Global,
-    slot: &mut Slot,
+    cell: &mut Cell,
     event: &StackEvent,
     bytes: &[u8],
     reply: &mut StackReply,
 ) -> u32
-    requires { HoldsAnyStack slot.old.held }
-    ensures held { HoldsAnyStack slot.new.held }
-    ensures steps { HoldsStack (λ old. HoldsStack (λ new. MatchBool (nat_eq result 0) (Steps old event.now bytes.now reply.new new) (IsNotStepped old new)) slot.new.held) slot.old.held }
+    requires { HoldsAnyStack cell.old.held }
+    ensures held { HoldsAnyStack cell.new.held }
+    ensures steps { HoldsStack (λ old. HoldsStack (λ new. MatchBool (nat_eq result 0) (Steps old event.now bytes.now reply.new new) (IsNotStepped old new)) cell.new.held) cell.old.held }
     ensures status { (result ≡ 0) ⊎ IsNumberOfStatus (IsStepStatus event.now bytes.now) result }
-    ensures places { places_held slot.new.held ≡ places_held slot.old.held }
+    ensures places { places_held cell.new.held ≡ places_held cell.old.held }
 {
-    let mut held = slot.take(alloc);
+    let mut held = cell.take(alloc);
     let outcome = held.step(alloc, event, bytes);
-    slot.put(held);
+    cell.put(held);
     match outcome {
         Ok(told) => {
             *reply = told;
@@ -61,18 +61,18 @@ pub extern "C" fn saddlemug_stack_step(
 #[unsafe(no_mangle)]
 pub extern "C" fn saddlemug_stack_take_label(
     alloc: Global,
-    slot: &mut Slot,
+    cell: &mut Cell,
     label: &mut StackLabel,
     buffer: &mut [u8],
 ) -> bool
-    requires { HoldsAnyStack slot.old.held }
-    ensures held { HoldsAnyStack slot.new.held }
-    ensures told { HoldsStack (λ old. HoldsStack (TellsLabel old buffer.old (told_if result label.new) buffer.new) slot.new.held) slot.old.held }
-    ensures places { places_held slot.new.held ≡ places_held slot.old.held }
+    requires { HoldsAnyStack cell.old.held }
+    ensures held { HoldsAnyStack cell.new.held }
+    ensures told { HoldsStack (λ old. HoldsStack (TellsLabel old buffer.old (told_if result label.new) buffer.new) cell.new.held) cell.old.held }
+    ensures places { places_held cell.new.held ≡ places_held cell.old.held }
 {
-    let mut held = slot.take(alloc);
+    let mut held = cell.take(alloc);
     let found = held.next_label(buffer);
-    slot.put(held);
+    cell.put(held);
     match found {
         Some(told) => {
             *label = told;
@@ -86,18 +86,18 @@ pub extern "C" fn saddlemug_stack_take_label(
 #[unsafe(no_mangle)]
 pub extern "C" fn saddlemug_stack_take_answer(
     alloc: Global,
-    slot: &mut Slot,
+    cell: &mut Cell,
     answer: &mut StackAnswer,
     buffer: &mut [u8],
 ) -> bool
-    requires { HoldsAnyStack slot.old.held }
-    ensures held { HoldsAnyStack slot.new.held }
-    ensures told { HoldsStack (λ old. HoldsStack (TellsAnswer old buffer.old (told_if result answer.new) buffer.new) slot.new.held) slot.old.held }
-    ensures places { places_held slot.new.held ≡ places_held slot.old.held }
+    requires { HoldsAnyStack cell.old.held }
+    ensures held { HoldsAnyStack cell.new.held }
+    ensures told { HoldsStack (λ old. HoldsStack (TellsAnswer old buffer.old (told_if result answer.new) buffer.new) cell.new.held) cell.old.held }
+    ensures places { places_held cell.new.held ≡ places_held cell.old.held }
 {
-    let mut held = slot.take(alloc);
+    let mut held = cell.take(alloc);
     let found = held.next_answer(buffer);
-    slot.put(held);
+    cell.put(held);
     match found {
         Some(told) => {
             *answer = told;
@@ -107,11 +107,11 @@ pub extern "C" fn saddlemug_stack_take_answer(
     }
 }
 
-/// Ends the stack, and its disk with it. Its slot is empty then.
+/// Ends the stack, and its disk with it. Its cell is empty then.
 #[unsafe(no_mangle)]
-pub extern "C" fn saddlemug_stack_close(alloc: Global, slot: &mut Slot)
-    requires { HoldsAnyStack slot.old.held }
-    ensures { slot.new.held ≡ None }
+pub extern "C" fn saddlemug_stack_close(alloc: Global, cell: &mut Cell)
+    requires { HoldsAnyStack cell.old.held }
+    ensures { cell.new.held ≡ None }
 {
-    drop(slot.take(alloc));
+    drop(cell.take(alloc));
 }

@@ -1,8 +1,8 @@
 //! The calls that C makes, in order.
 
+use crate::cell::Cell;
 use crate::events::{StackEvent, StackId, StackReply};
 use crate::labels::{StackAnswer, StackLabel};
-use crate::slot::Slot;
 use crate::stack_calls::{
     saddlemug_stack_close, saddlemug_stack_open, saddlemug_stack_step, saddlemug_stack_take_answer,
     saddlemug_stack_take_label,
@@ -26,22 +26,22 @@ pub(crate) fn same<T: PartialEq + Debug>(rt: &impl Abort, got: &T, wanted: &T) {
 #[test]
 fn writes_and_reads(rt: HostRuntime) {
     let alloc = rt.alloc();
-    let mut slot = Slot::empty(alloc);
-    if saddlemug_open(alloc, &mut slot, SETTINGS, 0) != 0 {
+    let mut cell = Cell::empty(alloc);
+    if saddlemug_open(alloc, &mut cell, SETTINGS, 0) != 0 {
         panic!(rt; "no volume");
     }
-    let sizes = saddlemug_sizes(alloc, &mut slot);
+    let sizes = saddlemug_sizes(alloc, &mut cell);
     let mut buffer = [0; 2048];
-    let wrote = saddlemug_write(alloc, &mut slot, 512, &[0xA5; 1024], true);
-    let flushed = saddlemug_flush(alloc, &mut slot);
-    let was_read = saddlemug_read(alloc, &mut slot, 0, &mut buffer);
+    let wrote = saddlemug_write(alloc, &mut cell, 512, &[0xA5; 1024], true);
+    let flushed = saddlemug_flush(alloc, &mut cell);
+    let was_read = saddlemug_read(alloc, &mut cell, 0, &mut buffer);
     let first = [buffer[511], buffer[512], buffer[1535], buffer[1536]];
     // Past the end, and no whole sectors: STATUS_INVALID_PARAMETER.
-    let past = saddlemug_write(alloc, &mut slot, 3584, &[0x5A; 1024], false);
-    let odd = saddlemug_read(alloc, &mut slot, 100, &mut buffer);
+    let past = saddlemug_write(alloc, &mut cell, 3584, &[0x5A; 1024], false);
+    let odd = saddlemug_read(alloc, &mut cell, 100, &mut buffer);
     // A bad sector: STATUS_DEVICE_DATA_ERROR.
-    let bad = saddlemug_read(alloc, &mut slot, 2048, &mut buffer);
-    saddlemug_close(alloc, &mut slot);
+    let bad = saddlemug_read(alloc, &mut cell, 2048, &mut buffer);
+    saddlemug_close(alloc, &mut cell);
     assert!(rt; sizes.sector_size == 512 && sizes.sectors == 8);
     same(&rt, &[wrote, flushed, was_read], &[0, 0, 0]);
     same(&rt, &first, &[0, 0xA5, 0xA5, 0]);
@@ -58,8 +58,8 @@ fn refuses_what_it_cannot_open(rt: HostRuntime) {
     let alloc = rt.alloc();
     let rows: [(&[u8], u8); 4] = [(b"\xFF", 0), (b"sectors = 9", 0), (b"[", 0), (SETTINGS, 1)];
     for (text, partition) in rows {
-        let mut slot = Slot::empty(alloc);
-        let status = saddlemug_open(alloc, &mut slot, text, partition);
+        let mut cell = Cell::empty(alloc);
+        let status = saddlemug_open(alloc, &mut cell, text, partition);
         same(&rt, &status, &0xC000_000D);
     }
 }
@@ -82,8 +82,8 @@ pub(crate) fn event(kind: u32, handle: StackId) -> StackEvent {
 #[test]
 fn steps_a_stack(rt: HostRuntime) {
     let alloc = rt.alloc();
-    let mut slot = Slot::empty(alloc);
-    if saddlemug_stack_open(alloc, &mut slot, SETTINGS) != 0 {
+    let mut cell = Cell::empty(alloc);
+    if saddlemug_stack_open(alloc, &mut cell, SETTINGS) != 0 {
         panic!(rt; "no stack");
     }
     let id = StackId { number: 0, slot: 0 };
@@ -95,21 +95,21 @@ fn steps_a_stack(rt: HostRuntime) {
     let mut label = StackLabel::default();
     let mut answer = StackAnswer::default();
     let mut bytes = [0; 512];
-    let opened = saddlemug_stack_step(alloc, &mut slot, &event(0, id), &[], &mut reply);
+    let opened = saddlemug_stack_step(alloc, &mut cell, &event(0, id), &[], &mut reply);
     let handle = reply;
     let write = event(3, handle.id);
-    let wrote = saddlemug_stack_step(alloc, &mut slot, &write, &[0xA5; 512], &mut reply);
+    let wrote = saddlemug_stack_step(alloc, &mut cell, &write, &[0xA5; 512], &mut reply);
     let request = reply;
-    let called = saddlemug_stack_take_label(alloc, &mut slot, &mut label, &mut bytes);
+    let called = saddlemug_stack_take_label(alloc, &mut cell, &mut label, &mut bytes);
     let call = label;
-    let started = saddlemug_stack_take_label(alloc, &mut slot, &mut label, &mut bytes);
+    let started = saddlemug_stack_take_label(alloc, &mut cell, &mut label, &mut bytes);
     let start = label;
     let code = bytes[0];
-    let acted = saddlemug_stack_step(alloc, &mut slot, &event(11, id), &[], &mut reply);
-    let finished = saddlemug_stack_step(alloc, &mut slot, &event(12, id), &[], &mut reply);
-    let answered = saddlemug_stack_take_answer(alloc, &mut slot, &mut answer, &mut bytes);
-    let unknown = saddlemug_stack_step(alloc, &mut slot, &event(14, id), &[], &mut reply);
-    saddlemug_stack_close(alloc, &mut slot);
+    let acted = saddlemug_stack_step(alloc, &mut cell, &event(11, id), &[], &mut reply);
+    let finished = saddlemug_stack_step(alloc, &mut cell, &event(12, id), &[], &mut reply);
+    let answered = saddlemug_stack_take_answer(alloc, &mut cell, &mut answer, &mut bytes);
+    let unknown = saddlemug_stack_step(alloc, &mut cell, &event(14, id), &[], &mut reply);
+    saddlemug_stack_close(alloc, &mut cell);
     same(
         &rt,
         &[opened, wrote, acted, finished, unknown],

@@ -1,5 +1,5 @@
 use Rattle.std.proofs.Common.{◌≡◌, ◌<◌, Some, refl, sym, ◌∙◌, rules}
-use Rattle.saddlemug.specs.declared.places.Place.{Place}
+use Rattle.saddlemug.specs.declared.places.PieceBytes.{PieceBytes}
 use Rattle.saddlemug.specs.Places.{place_of}
 use Rattle.saddlemug.proofs.Booked.{moved_at}
 use Rattle.saddlemug.proofs.Standing.{there_at}

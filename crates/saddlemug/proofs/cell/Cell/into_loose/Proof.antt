@@ -20,23 +20,23 @@ use denote.Triple.Walked.{Stays, stay_dropped, walk_of, Goes-dropped}
 use Rattle.std.specs.contracts.alloc.Global as heap
 use Rattle.std.proofs.alloc.Global.TheLaws as heap_laws
 use Rattle.std.specs.contracts.impls.GlobalAllocator.TheImpl.{ghosts}
-use Rattle.saddlemug.specs.contracts.held.Held as held
-use Rattle.saddlemug.specs.contracts.slot.Slot as slot
+use Rattle.saddlemug.specs.contracts.instance.Instance as held
+use Rattle.saddlemug.specs.contracts.cell.Cell as cell
 use Rattle.std.proofs.raw_atomic.Walks.{proved_at, leaves}
-use Rattle.saddlemug.proofs.Values.{both, loose_good, loose_in, slot_out, some_of}
-use Rattle.saddlemug.specs.contracts.slot.Slot.into_loose.{ended, clauses}
-use Rattle.saddlemug.specs.contracts.slot.Slot.into_loose.Key.{name as #self}
-use Rattle.saddlemug.proofs.slot.Slot.into_loose.Statement.{statement}
-use Rattle.saddlemug.proofs.slot.Slot.into_loose.Code as code
+use Rattle.saddlemug.proofs.Values.{both, loose_good, loose_in, cell_out, some_of}
+use Rattle.saddlemug.specs.contracts.cell.Cell.into_loose.{ended, clauses}
+use Rattle.saddlemug.specs.contracts.cell.Cell.into_loose.Key.{name as #self}
+use Rattle.saddlemug.proofs.cell.Cell.into_loose.Statement.{statement}
+use Rattle.saddlemug.proofs.cell.Cell.into_loose.Code as code
 
 pub into_loose_spec : {M : Type 1} → statement M
 into_loose_spec 𝓤 𝓛 𝓜 𝓡 wired =
     let H = 𝓛.H in let 𝓣 = tables 𝓤 H 𝓜 𝓡 𝓡.env in let R : RattleType = held.the_row in let Z : RattleType = heap.the_row in let LZ = heap_laws.the_row_laws in let En = ended in let c = clauses 𝓛 𝓜.mem 𝓡.returns in let fn = code.function in
-    let hs : Stays En.signature.params En.kept = (stay_dropped (plain (λ _. slot.the_row)) yes, tt) in
-    proved_at 𝓛 En hs c 𝓜 𝓡 (Goes-dropped 𝓛 0 (plain (λ _. slot.the_row)) yes (λ κs x f. refl), tt) #self fn (code.unfolded 𝓤 H 𝓜 𝓡 wired) (λ z are.
+    let hs : Stays En.signature.params En.kept = (stay_dropped (plain (λ _. cell.the_row)) yes, tt) in
+    proved_at 𝓛 En hs c 𝓜 𝓡 (Goes-dropped 𝓛 0 (plain (λ _. cell.the_row)) yes (λ κs x f. refl), tt) #self fn (code.unfolded 𝓤 H 𝓜 𝓡 wired) (λ z are.
     let κs = z.0.0 in let v = z.0.3.0 in let Post : Val → SProp 𝓤 = (walk_of 𝓛 En hs c).post z in let Run : List Val → SProp 𝓤 = λ ws. WpFn 𝓤 H 𝓣.C 𝓣.Λ fn ws Post in
     qed 𝓛 ((‵ ftrue ⊛ ‵ (owns (types_at En.signature.params κs) z.0.3 z.0.4)) ∷ raw (fact 𝓤 (IsSome v.held)) ∷ []) ∵ move ! (1 ∷ []) $ heard ! (IsSome v.held) (λ some. let x = (some_of v.held some).0 in let is : v.held ≡ Some x = (some_of v.held some).1 in
-    split ! $ move ! (1 ∷ []) $ fsplit ! $ slot_out ! v x is z.0.4.0 (λ b o h e ws fits.
+    split ! $ move ! (1 ∷ []) $ fsplit ! $ cell_out ! v x is z.0.4.0 (λ b o h e ws fits.
     let w : Val = both (vptr b o) h in let typed = loose_good R Z LZ ghosts b o h fits in
     suffices ! (Run (w ∷ [])) (subst (λ (us : List Val). ent 𝓤 (Run (w ∷ [])) (Run us)) (sym (λ i. ws i ++ [])) (id⊢ 𝓤 (Run (w ∷ [])))) $
     enter ! 𝓣.C 𝓣.Λ fn (w ∷ []) Post $ alloc_all ! (λ l. pass_all ! refl (typed, tt) $

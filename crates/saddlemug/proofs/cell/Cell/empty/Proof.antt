@@ -22,13 +22,13 @@ use denote.Triple.Walked.{Stays, stay_dropped, walk_of, Goes-dropped}
 use Rattle.std.proofs.cell.Inside.{one}
 use Rattle.std.specs.contracts.alloc.Global as heap
 use Rattle.std.proofs.alloc.Global.TheLaws as heap_laws
-use Rattle.saddlemug.specs.contracts.held.Held as held
+use Rattle.saddlemug.specs.contracts.instance.Instance as held
 use Rattle.std.proofs.raw_atomic.Walks.{proved_at, leaves}
 use Rattle.saddlemug.proofs.Values.{both, empty_in}
-use Rattle.saddlemug.specs.contracts.slot.Slot.empty.{ended, clauses}
-use Rattle.saddlemug.specs.contracts.slot.Slot.empty.Key.{name as #self}
-use Rattle.saddlemug.proofs.slot.Slot.empty.Statement.{statement}
-use Rattle.saddlemug.proofs.slot.Slot.empty.Code as code
+use Rattle.saddlemug.specs.contracts.cell.Cell.empty.{ended, clauses}
+use Rattle.saddlemug.specs.contracts.cell.Cell.empty.Key.{name as #self}
+use Rattle.saddlemug.proofs.cell.Cell.empty.Statement.{statement}
+use Rattle.saddlemug.proofs.cell.Cell.empty.Code as code
 
 pub empty_spec : {M : Type 1} → statement M
 empty_spec 𝓤 𝓛 𝓜 𝓡 wired =

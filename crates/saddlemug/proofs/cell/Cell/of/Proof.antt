@@ -20,13 +20,13 @@ use denote.Triple.Walked.{Stays, stay_dropped, walk_of, Goes-dropped}
 use Rattle.std.specs.contracts.alloc.Global as heap
 use Rattle.std.proofs.alloc.Global.TheLaws as heap_laws
 use Rattle.std.specs.contracts.impls.GlobalAllocator.TheImpl.{ghosts}
-use Rattle.saddlemug.specs.contracts.held.Held as held
+use Rattle.saddlemug.specs.contracts.instance.Instance as held
 use Rattle.std.proofs.raw_atomic.Walks.{proved_at, leaves}
-use Rattle.saddlemug.proofs.Values.{both, RawBox, loose_good, loose_out, slot_in}
-use Rattle.saddlemug.specs.contracts.slot.Slot.of.{ended, clauses}
-use Rattle.saddlemug.specs.contracts.slot.Slot.of.Key.{name as #self}
-use Rattle.saddlemug.proofs.slot.Slot.of.Statement.{statement}
-use Rattle.saddlemug.proofs.slot.Slot.of.Code as code
+use Rattle.saddlemug.proofs.Values.{both, RawBox, loose_good, loose_out, cell_in}
+use Rattle.saddlemug.specs.contracts.cell.Cell.of.{ended, clauses}
+use Rattle.saddlemug.specs.contracts.cell.Cell.of.Key.{name as #self}
+use Rattle.saddlemug.proofs.cell.Cell.of.Statement.{statement}
+use Rattle.saddlemug.proofs.cell.Cell.of.Code as code
 
 pub of_spec : {M : Type 1} → statement M
 of_spec 𝓤 𝓛 𝓜 𝓡 wired =
@@ -40,5 +40,5 @@ of_spec 𝓤 𝓛 𝓜 𝓡 wired =
     enter ! 𝓣.C 𝓣.Λ fn (w ∷ []) Post $ alloc_all ! (λ l. pass_all ! refl (typed, tt) $
     sets ! (of_opd ! (get_in ! (fld ! refl (stop !)) (sub ! 0 refl (whole !)))) refl (tt, tt) $ sets ! (of_opd ! (get_in ! (fld ! refl (stop !)) (sub ! 1 refl (whole !)))) refl fits $
     sets ! (of_opd ! (get ! refl)) refl (tt, tt) $ sets ! (agg ! (and_then ! (get ! refl) (and_then ! (get ! refl) (no_more !)))) refl typed $
-    slot_in ! b o h v.alloc v.value $ use0 𝓛 (raw (fact 𝓤 (Some v.value ≡ Some v.value))) (fact_i 𝓤 (Some v.value ≡ Some v.value) (emp 𝓤) refl) $ nothing ! $ nothing ! $ fjoin ! $ nothing ! $
+    cell_in ! b o h v.alloc v.value $ use0 𝓛 (raw (fact 𝓤 (Some v.value ≡ Some v.value))) (fact_i 𝓤 (Some v.value ≡ Some v.value) (emp 𝓤) refl) $ nothing ! $ nothing ! $ fjoin ! $ nothing ! $
     returns ! (look_at ! 0 refl) $ free_all ! refl $ keep ! (0 ∷ 1 ∷ 3 ∷ 2 ∷ []) $ by ! (leaves 𝓛 En hs c z w (record { at = block_ptr b o; alloc = v.alloc; held = Some v.value }) (tt, tt) (tt, tt)))))

@@ -25,7 +25,7 @@ use volume::{Error, Sizes, Volume};
 
 /// What C holds.
 #[derive(Drop)]
-pub enum Held {
+pub enum Instance {
     /// One partition as an array of bytes, over a stack of its own.
     Volume(Volume<MemAdapter<SparseDisk>>),
     /// A whole stack, event by event.
@@ -34,7 +34,7 @@ pub enum Held {
     Over(Over),
 }
 
-impl Held {
+impl Instance {
     /// The sizes of the volume.
     pub fn sizes(&self) -> Sizes
         requires { IsAnyVolume self.now }
@@ -42,8 +42,8 @@ impl Held {
         ensures sectors { IsVolume (λ v. result.sectors * result.sector_size ≡ length v.content.bytes) self.now }
     {
         match self {
-            Held::Volume(volume) => volume.sizes(),
-            Held::Stack(_) | Held::Over(_) => unreachable!(),
+            Instance::Volume(volume) => volume.sizes(),
+            Instance::Stack(_) | Instance::Over(_) => unreachable!(),
         }
     }
 
@@ -60,8 +60,8 @@ impl Held {
         ensures same { IsVolume (λ old. IsVolume (IsSameDisk old) self.new) self.old }
     {
         match self {
-            Held::Volume(volume) => read_into(volume, alloc, offset, buffer),
-            Held::Stack(_) | Held::Over(_) => unreachable!(),
+            Instance::Volume(volume) => read_into(volume, alloc, offset, buffer),
+            Instance::Stack(_) | Instance::Over(_) => unreachable!(),
         }
     }
 
@@ -83,8 +83,8 @@ impl Held {
         ensures writes { IsVolume (λ old. IsVolume (λ new. MatchResult result (λ _. Writes old offset bytes.now new) (λ fault. IsWriteFault old offset bytes.now fault new)) self.new) self.old }
     {
         match self {
-            Held::Volume(volume) => write_from(volume, alloc, offset, bytes, through),
-            Held::Stack(_) | Held::Over(_) => unreachable!(),
+            Instance::Volume(volume) => write_from(volume, alloc, offset, bytes, through),
+            Instance::Stack(_) | Instance::Over(_) => unreachable!(),
         }
     }
 
@@ -100,8 +100,8 @@ impl Held {
         ensures same { IsVolume (λ old. IsVolume (IsSameDisk old) self.new) self.old }
     {
         match self {
-            Held::Volume(volume) => volume.flush(alloc),
-            Held::Stack(_) | Held::Over(_) => unreachable!(),
+            Instance::Volume(volume) => volume.flush(alloc),
+            Instance::Stack(_) | Instance::Over(_) => unreachable!(),
         }
     }
 
@@ -124,9 +124,9 @@ impl Held {
         ensures why { IfErr result (IsStepStatus event.now bytes.now) }
     {
         match self {
-            Held::Stack(stack) => step_as_told(stack, alloc, event, bytes),
-            Held::Over(over) => over.step(alloc, event, bytes),
-            Held::Volume(_) => unreachable!(),
+            Instance::Stack(stack) => step_as_told(stack, alloc, event, bytes),
+            Instance::Over(over) => over.step(alloc, event, bytes),
+            Instance::Volume(_) => unreachable!(),
         }
     }
 
@@ -138,9 +138,9 @@ impl Held {
         ensures places { places_in self.new ≡ places_in self.old }
     {
         match self {
-            Held::Stack(stack) => tell_label(stack, buffer),
-            Held::Over(over) => over.next_label(buffer),
-            Held::Volume(_) => unreachable!(),
+            Instance::Stack(stack) => tell_label(stack, buffer),
+            Instance::Over(over) => over.next_label(buffer),
+            Instance::Volume(_) => unreachable!(),
         }
     }
 
@@ -152,9 +152,9 @@ impl Held {
         ensures places { places_in self.new ≡ places_in self.old }
     {
         match self {
-            Held::Stack(stack) => tell_answer(stack, buffer),
-            Held::Over(over) => over.next_answer(buffer),
-            Held::Volume(_) => unreachable!(),
+            Instance::Stack(stack) => tell_answer(stack, buffer),
+            Instance::Over(over) => over.next_answer(buffer),
+            Instance::Volume(_) => unreachable!(),
         }
     }
 
@@ -171,9 +171,9 @@ impl Held {
         ensures fault { IfErr result (λ status. status ≢ Success) }
     {
         match self {
-            Held::Over(over) => over.armed(alloc, tag),
-            Held::Stack(_) => Err(NtStatus::InvalidDeviceRequest),
-            Held::Volume(_) => unreachable!(),
+            Instance::Over(over) => over.armed(alloc, tag),
+            Instance::Stack(_) => Err(NtStatus::InvalidDeviceRequest),
+            Instance::Volume(_) => unreachable!(),
         }
     }
 
@@ -190,9 +190,9 @@ impl Held {
         ensures fault { IfErr result (λ status. status ≢ Success) }
     {
         match self {
-            Held::Over(over) => over.book(booking),
-            Held::Stack(_) => Err(NtStatus::InvalidDeviceRequest),
-            Held::Volume(_) => unreachable!(),
+            Instance::Over(over) => over.book(booking),
+            Instance::Stack(_) => Err(NtStatus::InvalidDeviceRequest),
+            Instance::Volume(_) => unreachable!(),
         }
     }
 }
