@@ -1,7 +1,7 @@
 //! What the port calls.
 
 use sector::Extent;
-use srb::{Completion, DeviceLabel, Entry, Srb};
+use srb::{Booked, Completion, DeviceLabel, Srb};
 use std::alloc::AllocError;
 
 /// A disk behind tags. Each call but `reserve` takes no memory.
@@ -70,7 +70,7 @@ pub trait Adapter: Drop {
         requires below { tag < (view self.old).depth }
         requires free { IsFree (view self.old) tag }
         requires writable { IsWritable (view self.old) srb }
-        requires buffers { length srb.for_label ≡ length srb.data }
+        requires buffers { length srb.data ≤ srb.for_label }
         requires few { (view self.old).accepted < 2 ^ 100 }
         requires place { length (view self.old).labels < 64 }
         ensures accepts { Accepts (view self.old) tag piece srb (view self.new) }
@@ -90,7 +90,7 @@ pub trait Adapter: Drop {
 
     /// Books what the act of the tag's piece did, or how it failed, where the sectors stand elsewhere; its next act is that.
     /// Nothing changes where the tag has no such piece that has neither acted nor failed, or what is to be booked isn't its.
-    fn book(&mut self, tag: u8, piece: u128, what: Result<&Entry, Completion>)
+    fn book(&mut self, tag: u8, piece: u128, what: Booked<'_>)
         ensures books { Books (view self.old) tag piece (handed what.entry) (view self.new) }
         ensures order { IsInOrder (view self.new) };
 

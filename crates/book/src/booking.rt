@@ -94,7 +94,7 @@ fn book_entry<M: Medium, N: Naming>(
 {
     let entry = &journal.entries()[number as usize].entry;
     let tag = entry.tag;
-    traced.book(tag, entry.piece, Ok(entry));
+    traced.book(tag, entry.piece, srb::Booked::Copied(entry));
     tag
 }
 

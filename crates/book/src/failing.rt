@@ -82,7 +82,7 @@ fn book_failure<N: Naming>(traced: &mut Traced<BookedAdapter, N>, tag: u8, compl
     ensures { BooksFailure traced.old tag completion traced.new }
 {
     if let Some(piece) = armed_piece(traced, tag) {
-        traced.book(tag, piece, Err(completion));
+        traced.book(tag, piece, srb::Booked::Failed(completion));
     }
 }
 

@@ -11,7 +11,7 @@ use crate::Sizes;
 use cdb::Cdb;
 use device::{Kind, Request};
 use irp::{Control, Driver, Irp, LocationFlags, MajorFunction, Payload, StackLocation};
-use sector::{Bytes, Extent};
+use sector::{Bytes, Extent, LabelRoom};
 use split::plan;
 use srb::{CommandBlock, Srb, SrbFlags, SrbFunction};
 
@@ -135,7 +135,7 @@ fn direction(kind: Kind) -> SrbFlags
 }
 
 /// The SRB of a request of a disk of this many sectors, with its two buffers, each of the request's length.
-pub fn srb_for(disk_sectors: u64, request: &Request, data: Bytes, for_label: Bytes) -> Srb
+pub fn srb_for(disk_sectors: u64, request: &Request, data: Bytes, for_label: LabelRoom) -> Srb
     requires fits { FitsBlock request.now }
     requires volume { request.now.volume ≡ 0 }
     ensures data { result.data ≡ «data» }

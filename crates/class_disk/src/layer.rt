@@ -8,7 +8,7 @@ use crate::table::Table;
 use crate::{Disk, Extension, Sizes};
 use device::{Climb, Device, Request, Room, Shown};
 use irp::Irp;
-use srb::{Completion, DeviceLabel, Entry, Srb};
+use srb::{Booked, DeviceLabel, Srb};
 use std::alloc::{AllocError, Global};
 
 /// Sectors of the longest request.
@@ -116,7 +116,7 @@ impl<D: Device> Device for Disk<D> {
         self.extension.device.armed(tag)
     }
 
-    fn book(&mut self, tag: u8, piece: u128, what: Result<&Entry, Completion>) {
+    fn book(&mut self, tag: u8, piece: u128, what: Booked<'_>) {
         self.extension.device.book(tag, piece, what);
         self.extension.device.shows_order();
     }

@@ -9,7 +9,7 @@ ghost use Rattle.class_disk.specs.inside.Parts.{status_by, below_by, failure_by,
 use device::{Request, Room};
 use irp::{Irp, Payload};
 use ntstatus::NtStatus;
-use sector::Bytes;
+use sector::LabelRoom;
 use std::mem;
 
 /// How a part ended.
@@ -46,7 +46,7 @@ pub struct Place {
     pub packet: TransferPacket,
     /// For a read as long as its data; for a write empty, with room for them.
     pub data: Vec<u8>,
-    pub for_label: Bytes,
+    pub for_label: LabelRoom,
 }
 
 /// A part that ended, with the packet that came back.

@@ -35,7 +35,7 @@ use crate::buffers::data_buffer;
 use crate::parts::{Ended, Outcome, Part, PartId, Place, Progress, TransferPacket};
 use device::{Climb, Device, Request};
 use irp::{Irp, Payload};
-use sector::Bytes;
+use sector::LabelRoom;
 use std::alloc::AllocError;
 
 /// A packet of the class driver's own has no routine above: it is finished.
@@ -107,7 +107,7 @@ impl<D: Device> Extension<D> {
     {
         let length = byte_count(&self.table.sizes, request);
         let data = data_buffer(self.alloc, request.kind, length)?;
-        let for_label = Bytes::new(vec![in self.alloc; 0u8; length]?);
+        let for_label = LabelRoom::new(self.alloc, length)?;
         let packet = self.reserve_packet(request, id)?;
         let place = Place {
             packet,

@@ -19,7 +19,7 @@ use crate::{Answer, Event, Reply, RunStopped, Settings, Shown, StartFault, event
 use adapter::Adapter;
 use device::Label;
 use sector::Extent;
-use srb::{Completion, Entry, Srb};
+use srb::{Booked, Srb};
 use std::alloc::Global;
 use std::marker::Model;
 
@@ -115,7 +115,7 @@ impl<A: Adapter> Stack<A> {
     /// Books what the act of a tag's piece did, or how it failed, with an adapter whose sectors stand elsewhere: the
     /// next `Act` of the tag is that. It takes no memory, changes nothing of the machine, and does nothing where the
     /// tag has no such piece that could act, or what is to be booked isn't its.
-    pub fn book(&mut self, tag: u8, piece: u128, what: Result<&Entry, Completion>)
+    pub fn book(&mut self, tag: u8, piece: u128, what: Booked<'_>)
         ensures { BooksPiece self.old tag piece (handed what.entry) self.new }
     {
         self.manager.book(tag, piece, what);

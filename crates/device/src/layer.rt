@@ -16,7 +16,7 @@ ghost use Rattle.device.specs.Served.{HandsUp, HandsUpNone, TakesLabel};
 
 use crate::{Climb, Request};
 use irp::Irp;
-use srb::{Completion, DeviceLabel, Entry, Srb};
+use srb::{Booked, DeviceLabel, Srb};
 use std::alloc::AllocError;
 
 /// A spot reserved in a layer, for one request. Whoever has it may submit a packet there, once.
@@ -131,7 +131,7 @@ pub trait Device: Shown {
     /// Books what the act of a tag's piece did, or how it failed, with an adapter whose sectors stand elsewhere; its
     /// next act is that. Nothing changes where the tag has no such piece that has neither acted nor failed, or what
     /// is to be booked isn't its.
-    fn book(&mut self, tag: u8, piece: u128, what: Result<&Entry, Completion>)
+    fn book(&mut self, tag: u8, piece: u128, what: Booked<'_>)
         ensures books { BooksPiece (Self.view self.old) tag piece (handed what.entry) (Self.view self.new) };
 
     /// Takes the piece of a tag back; true where the tag was in use. Else nothing changes.

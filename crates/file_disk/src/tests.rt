@@ -63,7 +63,7 @@ fn srb(alloc: Global, block: &[u8; 10], flags: u8, count: usize) -> Result<Srb, 
         flags: SrbFlags(flags),
         block: CommandBlock::new(bytes),
         data: Bytes::new(vec![in alloc; 9; count]?),
-        for_label: Bytes::new(vec![in alloc; 0; count]?),
+        for_label: sector::LabelRoom::new(alloc, count)?,
         sense: None,
     })
 }

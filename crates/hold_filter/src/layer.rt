@@ -7,7 +7,7 @@ use crate::filter::Filter;
 use crate::packets::hand_up;
 use device::{Climb, Device, Hold, Request, Room, Shown};
 use irp::Irp;
-use srb::{Completion, DeviceLabel, Entry, Srb};
+use srb::{Booked, DeviceLabel, Srb};
 use std::alloc::AllocError;
 
 impl<D: Shown> Shown for Filter<D> {
@@ -89,7 +89,7 @@ impl<D: Device> Device for Filter<D> {
         self.parts.device.armed(tag)
     }
 
-    fn book(&mut self, tag: u8, piece: u128, what: Result<&Entry, Completion>) {
+    fn book(&mut self, tag: u8, piece: u128, what: Booked<'_>) {
         self.parts.device.book(tag, piece, what);
         self.parts.device.shows_order();
     }

@@ -20,7 +20,7 @@ use crate::tables::{NUMBER_LIMIT, refused, refused_alone};
 use crate::{Answer, Handle, Id, Refusal, Reply};
 use device::{ClientRequest, Device, Kind, Label, Shown};
 use sector::{Bytes, Extent};
-use srb::{Completion, Entry, Srb};
+use srb::{Booked, Srb};
 use std::alloc::Global;
 use std::marker::Model;
 
@@ -242,7 +242,7 @@ impl<D: Device> IoManager<D> {
 
     /// Books what the act of a tag's piece did, or how it failed, with an adapter whose sectors stand elsewhere. It
     /// takes no memory, and changes nothing of the machine.
-    pub fn book(&mut self, tag: u8, piece: u128, what: Result<&Entry, Completion>)
+    pub fn book(&mut self, tag: u8, piece: u128, what: Booked<'_>)
         ensures { BooksPiece self.old tag piece (handed what.entry) self.new }
     {
         self.parts.device.book(tag, piece, what);

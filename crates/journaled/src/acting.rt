@@ -82,8 +82,11 @@ fn book<M: Medium, N: Naming>(
         × BooksPiece stack.old tag piece what stack.new }
 {
     match done {
-        Ok(number) => stack.book(tag, piece, Ok(&journal.entries()[number as usize].entry)),
-        Err(completion) => stack.book(tag, piece, Err(completion)),
+        Ok(number) => {
+            let entry = &journal.entries()[number as usize].entry;
+            stack.book(tag, piece, srb::Booked::Copied(entry));
+        }
+        Err(completion) => stack.book(tag, piece, srb::Booked::Failed(completion)),
     }
 }
 

@@ -8,7 +8,7 @@ use cdb::{Cdb, encode};
 use device::{Climb, Device, Kind, Request, major_for};
 use irp::{Control, Driver, Irp, LocationFlags, Payload, StackLocation};
 use ntstatus::NtStatus;
-use sector::{Bytes, Extent};
+use sector::{Bytes, Extent, LabelRoom};
 use srb::{CommandBlock, Srb, SrbFlags, SrbFunction};
 use std::alloc::{AllocError, Global};
 
@@ -135,7 +135,7 @@ fn srb_for(alloc: Global, request: &Request, bytes: Vec<u8>) -> Result<Srb, Allo
     requires length { length bytes.items ≡ 512 }
     ensures { IfOk result (AsksFor port_rules request.now) }
 {
-    let for_label = vec![in alloc; 0; SECTOR_SIZE]?;
+    let for_label = LabelRoom::new(alloc, SECTOR_SIZE)?;
     Ok(Srb {
         function: SrbFunction::ExecuteScsi,
         flags: SrbFlags(match request.kind {
@@ -145,7 +145,7 @@ fn srb_for(alloc: Global, request: &Request, bytes: Vec<u8>) -> Result<Srb, Allo
         }),
         block: CommandBlock::new(encode(&command(request))),
         data: Bytes::new(bytes),
-        for_label: Bytes::new(for_label),
+        for_label,
         sense: None,
     })
 }

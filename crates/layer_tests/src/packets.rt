@@ -8,7 +8,7 @@ ghost use Rattle.layer_tests.specs.Known.{Brings, IsAskable, rules_on};
 use cdb::{Cdb, encode};
 use device::{Kind, Request, major_for};
 use irp::{Control, Driver, Irp, LocationFlags, Payload, StackLocation};
-use sector::{Bytes, Extent};
+use sector::{Bytes, Extent, LabelRoom};
 use srb::{CommandBlock, Srb, SrbFlags, SrbFunction};
 use std::alloc::{AllocError, Global};
 use std::process::Abort;
@@ -71,7 +71,7 @@ fn srb_for(
     requires data { length bytes.items ≡ transfer_length (rules_on partitions.now longest) request.now }
     ensures { IfOk result (AsksFor (rules_on partitions.now longest) request.now) }
 {
-    let for_label = buffer_for(alloc, request, 0)?;
+    let for_label = LabelRoom::new(alloc, bytes.len())?;
     Ok(Srb {
         function: SrbFunction::ExecuteScsi,
         flags: SrbFlags(match request.kind {
@@ -81,7 +81,7 @@ fn srb_for(
         }),
         block: CommandBlock::new(encode(&command(partitions, longest, request))),
         data: Bytes::new(bytes),
-        for_label: Bytes::new(for_label),
+        for_label,
         sense: None,
     })
 }

@@ -9,7 +9,7 @@ use crate::memory::MemAdapter;
 use adapter::Adapter;
 use disk::NoMemory;
 use sector::Extent;
-use srb::{Completion, DeviceLabel, Entry, Srb};
+use srb::{Booked, Completion, DeviceLabel, Srb};
 use std::alloc::{AllocError, Global};
 use std::marker::Model;
 
@@ -110,7 +110,7 @@ impl Adapter for BookedAdapter {
         self.inner.armed(tag)
     }
 
-    fn book(&mut self, tag: u8, piece: u128, what: Result<&Entry, Completion>) {
+    fn book(&mut self, tag: u8, piece: u128, what: Booked<'_>) {
         self.inner.book_apart(tag, piece, what);
     }
 

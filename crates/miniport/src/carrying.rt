@@ -21,39 +21,22 @@ use srb::{Completion, Srb};
 /// What became of a command.
 #[derive(Debug, Drop)]
 pub enum Outcome {
-    /// It was carried out; these bytes were read or written.
-    Moved { srb: Srb, bytes: Bytes },
+    /// It was carried out; its data were read or written.
+    Moved { srb: Srb },
     Failed { srb: Srb, completion: Completion },
 }
 
-/// A copy of the bytes in a place of the same length, and what is left of the place: none.
-fn copied(bytes: &Bytes, place: Bytes) -> (Bytes, Bytes)
-    requires { length place ≡ length bytes.now }
-    ensures copy { result.0 ≡ bytes.now }
-    ensures left { result.1 ≡ [] }
-{
-    let mut copy = place.into_vec();
-    copy.as_mut_slice().copy_from_slice(bytes.as_slice());
-    let left = Vec::new(*copy.allocator());
-    (Bytes::new(copy), Bytes::new(left))
-}
-
-/// The SRB whose data were moved; they go out with its label in the second buffer.
+/// The SRB whose data were moved.
 fn moved(srb: Srb) -> Outcome
-    requires { length srb.for_label ≡ length srb.data }
-    ensures { result ≡ Outcome.Moved (emptied srb.data srb) srb.data }
+    ensures { result ≡ Outcome.Moved srb }
 {
-    let place = srb.for_label;
-    let (bytes, for_label) = copied(&srb.data, place);
-    let srb = Srb { for_label, ..srb };
-    Outcome::Moved { srb, bytes }
+    Outcome::Moved { srb }
 }
 
 /// Reads sectors into the SRB's data.
 fn read<M: Medium>(medium: &mut M, lba: u64, count: u32, srb: Srb) -> Outcome
     requires within { lba + count ≤ length (M.view medium.old).sectors }
     requires long { length srb.data ≡ count * (M.view medium.old).sector_size }
-    requires buffers { length srb.for_label ≡ length srb.data }
     requires countable { (M.view medium.old).failures < 2 ^ 120 }
     ensures { Reads (M.view medium.old) (record { first = lba; count = count }) srb result (M.view medium.new) }
 {
@@ -77,7 +60,6 @@ fn write<M: Medium>(medium: &mut M, lba: u64, count: u32, srb: Srb) -> Outcome
     requires within { lba + count ≤ length (M.view medium.old).sectors }
     requires reserved { IsReserved (M.view medium.old) (record { first = lba; count = count }) }
     requires long { length srb.data ≡ count * (M.view medium.old).sector_size }
-    requires buffers { length srb.for_label ≡ length srb.data }
     requires countable { (M.view medium.old).failures < 2 ^ 120 }
     ensures { Writes (M.view medium.old) (record { first = lba; count = count }) srb result (M.view medium.new) }
 {
@@ -101,7 +83,6 @@ pub(crate) fn last_told(sectors: u64) -> u32
 /// Tells the number of the last sector and the bytes of a sector in the SRB's data.
 pub(crate) fn tell_capacity(last: u32, sector_size: u32, srb: Srb) -> Outcome
     requires long { length srb.data ≡ 8 }
-    requires buffers { length srb.for_label ≡ length srb.data }
     ensures { let bytes = big_bytes 4 last ++ big_bytes 4 sector_size in result ≡ Outcome.Moved (emptied bytes srb) bytes }
 {
     let mut bytes = srb.data.into_vec();
@@ -143,7 +124,6 @@ fn put_over(told: &[u8], place: Bytes) -> Bytes
 
 /// Tells the same in the form of READ CAPACITY(16), as far as the SRB's data have room.
 fn tell_long_capacity(last: u64, sector_size: u32, srb: Srb) -> Outcome
-    requires { length srb.for_label ≡ length srb.data }
     ensures { let bytes = take (length srb.data) (big_bytes 8 last ++ big_bytes 4 sector_size ++ replicate (length srb.data) 0) in result ≡ Outcome.Moved (emptied bytes srb) bytes }
 {
     let told = long_capacity(last, sector_size);
@@ -176,7 +156,6 @@ pub fn check_on<M: Medium>(medium: &M, write_protected: bool, srb: &Srb) -> Resu
 fn perform<M: Medium>(medium: &mut M, command: Cdb, srb: Srb) -> Outcome
     requires passes { (write_protected : Bool) × Passes (sizes_of (M.view medium.old) write_protected) srb command }
     requires ready { IsReady (M.view medium.old) srb }
-    requires buffers { length srb.for_label ≡ length srb.data }
     requires countable { (M.view medium.old).failures < 2 ^ 120 }
     requires some { 1 ≤ length (M.view medium.old).sectors }
     ensures { (write_protected : Bool) → Passes (sizes_of (M.view medium.old) write_protected) srb command → Ends (M.view medium.old) write_protected srb result (M.view medium.new) }
@@ -202,7 +181,6 @@ fn perform<M: Medium>(medium: &mut M, command: Cdb, srb: Srb) -> Outcome
 /// Carries the command of an SRB out on a medium, or fails it by the first row of the table that fits.
 pub fn carry_out<M: Medium>(medium: &mut M, write_protected: bool, srb: Srb) -> Outcome
     requires ready { IsReady (M.view medium.old) srb }
-    requires buffers { length srb.for_label ≡ length srb.data }
     requires countable { (M.view medium.old).failures < 2 ^ 120 }
     requires some { 1 ≤ length (M.view medium.old).sectors }
     ensures { Ends (M.view medium.old) write_protected srb result (M.view medium.new) }

@@ -21,8 +21,8 @@ use crate::suiting::suits;
 use crate::table::TagTable;
 use adapter::Adapter;
 use disk::{Medium, NoMemory};
-use sector::{Bytes, Extent};
-use srb::{Completion, DeviceLabel, Entry, Srb};
+use sector::Extent;
+use srb::{Booked, Completion, DeviceLabel, Srb};
 use std::alloc::{AllocError, Global};
 use std::marker::Model;
 
@@ -110,7 +110,7 @@ impl<M: Medium> MemAdapter<M> {
     ghost use Rattle.miniport.specs.Apart.{apart};
 
     /// Books of the tag's piece, as an adapter whose sectors are elsewhere.
-    pub(crate) fn book_apart(&mut self, tag: u8, piece: u128, what: Result<&Entry, Completion>)
+    pub(crate) fn book_apart(&mut self, tag: u8, piece: u128, what: Booked<'_>)
         ensures books { Books (apart self.old.shown) tag piece (handed what.entry) (apart self.new.shown) }
         ensures order { IsInOrder self.new.shown }
         ensures protected { self.new.write_protected ≡ self.old.write_protected }
@@ -191,7 +191,7 @@ impl<M: Medium> Adapter for MemAdapter<M> {
         requires below { tag < self.old.shown.depth }
         requires free { IsFree self.old.shown tag }
         requires writable { IsWritable self.old.shown srb }
-        requires buffers { length srb.for_label ≡ length srb.data }
+        requires buffers { length srb.data ≤ srb.for_label }
         requires few { self.old.shown.accepted < 2 ^ 100 }
         requires place { length self.old.shown.labels < 64 }
         ensures accepts { Accepts self.old.shown tag piece srb self.new.shown }
@@ -218,7 +218,7 @@ impl<M: Medium> Adapter for MemAdapter<M> {
     }
 
     /// Nothing is booked, since its acts move its sectors.
-    fn book(&mut self, tag: u8, piece: u128, what: Result<&Entry, Completion>)
+    fn book(&mut self, tag: u8, piece: u128, what: Booked<'_>)
         ensures books { Books self.old.shown tag piece (handed what.entry) self.new.shown }
         ensures order { IsInOrder self.new.shown }
         ensures same { self.new ≡ self.old }
@@ -263,7 +263,6 @@ fn carry_on<M: Medium>(
     on_tag: OnTag,
 )
     requires ready { IsReady (M.view medium.old) on_tag.srb }
-    requires buffers { length on_tag.srb.for_label ≡ length on_tag.srb.data }
     requires countable { (M.view medium.old).failures < 2 ^ 120 }
     requires some { 1 ≤ length (M.view medium.old).sectors }
     requires below { tag < length table.old.slots }
@@ -272,13 +271,13 @@ fn carry_on<M: Medium>(
     ensures { (outcome : Outcome) × PutsBack (M.view medium.old) write_protected table.old tag on_tag outcome (M.view medium.new) table.new }
 {
     match carry_out(medium, write_protected, on_tag.srb) {
-        Outcome::Moved { srb, bytes } => {
+        Outcome::Moved { srb } => {
             let on_tag = OnTag {
                 srb,
                 progress: Progress::Moved,
                 ..on_tag
             };
-            table.put_moved(tag, on_tag, bytes);
+            table.put_moved(tag, on_tag);
         }
         Outcome::Failed { srb, completion } => {
             let on_tag = OnTag {
@@ -306,7 +305,7 @@ fn is_bookable_piece(
     sizes: &Sizes,
     on_tag: &OnTag,
     piece: u128,
-    what: Result<&Entry, Completion>,
+    what: &Booked<'_>,
 ) -> bool
     ensures { Decides result (SuitsPiece sizes.now.sector_size sizes.now.sectors on_tag.now piece (handed what.entry)) }
 {
@@ -319,7 +318,7 @@ fn is_bookable(
     table: &TagTable,
     tag: u8,
     piece: u128,
-    what: Result<&Entry, Completion>,
+    what: &Booked<'_>,
 ) -> bool
     ensures { MatchBool result (CanBook sizes.now table.now tag piece (handed what.entry)) (CannotBook sizes.now table.now tag piece (handed what.entry)) }
 {
@@ -335,51 +334,28 @@ fn book_on(
     table: &mut TagTable,
     tag: u8,
     piece: u128,
-    what: Result<&Entry, Completion>,
+    what: Booked<'_>,
 ) -> bool
     requires { (on : OnTag) → piece_at table.old.slots tag ≡ Some on → on.progress ≡ Untouched → length on.srb.for_label ≡ length on.srb.data }
     ensures { MatchBool result (BooksIn sizes.now table.old tag piece (handed what.entry) table.new) (CannotBook sizes.now table.old tag piece (handed what.entry) × (table.new ≡ table.old)) }
 {
-    if !is_bookable(sizes, table, tag, piece, what) {
+    if !is_bookable(sizes, table, tag, piece, &what) {
         return false;
     }
     table.book(tag, what);
     true
 }
 
-/// The SRB with the bytes of its second buffer as its data, and these bytes, which go out with its label.
-fn moved_as_booked(srb: Srb) -> (Srb, Bytes)
-    requires { length srb.data ≡ length srb.for_label }
-    ensures srb { result.0 ≡ emptied srb.for_label srb }
-    ensures bytes { result.1 ≡ srb.for_label }
-{
-    let bytes = srb.for_label;
-    let mut data = srb.data.into_vec();
-    data.as_mut_slice().copy_from_slice(bytes.as_slice());
-    let left = Vec::new(*data.allocator());
-    let srb = Srb {
-        data: Bytes::new(data),
-        for_label: Bytes::new(left),
-        ..srb
-    };
-    (srb, bytes)
-}
-
 /// The piece acts by what was booked of it, and is put back on its tag.
 fn move_on(table: &mut TagTable, tag: u8, on_tag: OnTag)
-    requires buffers { length on_tag.srb.data ≡ length on_tag.srb.for_label }
     requires below { tag < length table.old.slots }
     requires place { length table.old.labels < 64 }
-    ensures { table.new ≡ with_moved tag (as_moved on_tag) on_tag.srb.for_label table.old }
 {
-    let OnTag { srb, .. } = on_tag;
-    let (srb, bytes) = moved_as_booked(srb);
     let on_tag = OnTag {
-        srb,
         progress: Progress::Moved,
         ..on_tag
     };
-    table.put_moved(tag, on_tag, bytes);
+    table.put_moved(tag, on_tag);
 }
 
 /// The piece fails, and is put back on its tag.
@@ -399,7 +375,6 @@ fn fail_on(table: &mut TagTable, tag: u8, on_tag: OnTag, completion: Completion)
 /// A piece of which nothing was booked: piece 0 is carried out, any other fails.
 fn end_unbooked<M: Medium>(medium: &mut M, table: &mut TagTable, tag: u8, on_tag: OnTag)
     requires ready { IsReady (M.view medium.old) on_tag.srb }
-    requires buffers { length on_tag.srb.for_label ≡ length on_tag.srb.data }
     requires countable { (M.view medium.old).failures < 2 ^ 120 }
     requires some { 1 ≤ length (M.view medium.old).sectors }
     requires below { tag < length table.old.slots }
@@ -417,7 +392,6 @@ fn end_unbooked<M: Medium>(medium: &mut M, table: &mut TagTable, tag: u8, on_tag
 /// A piece ends as it was booked.
 fn end_as_booked<M: Medium>(medium: &mut M, table: &mut TagTable, tag: u8, on_tag: OnTag)
     requires ready { IsReady (M.view medium.old) on_tag.srb }
-    requires buffers { length on_tag.srb.for_label ≡ length on_tag.srb.data }
     requires countable { (M.view medium.old).failures < 2 ^ 120 }
     requires some { 1 ≤ length (M.view medium.old).sectors }
     requires below { tag < length table.old.slots }

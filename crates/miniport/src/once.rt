@@ -8,7 +8,7 @@ use crate::memory::MemAdapter;
 use adapter::Adapter;
 use disk::Medium;
 use sector::Extent;
-use srb::{Completion, DeviceLabel, Entry, Srb};
+use srb::{Booked, Completion, DeviceLabel, Srb};
 use std::alloc::AllocError;
 use std::marker::Model;
 
@@ -108,7 +108,7 @@ impl<M: Medium> Adapter for OnceAdapter<M> {
         requires below { tag < self.old.inner.shown.depth }
         requires free { IsFree self.old.inner.shown tag }
         requires writable { IsWritable self.old.inner.shown srb }
-        requires buffers { length srb.for_label ≡ length srb.data }
+        requires buffers { length srb.data ≤ srb.for_label }
         requires few { self.old.inner.shown.accepted < 2 ^ 100 }
         requires place { length self.old.inner.shown.labels < 64 }
         ensures accepts { Accepts self.old.inner.shown tag piece srb self.new.inner.shown }
@@ -140,7 +140,7 @@ impl<M: Medium> Adapter for OnceAdapter<M> {
     }
 
     /// Nothing is booked, since its acts move its sectors.
-    fn book(&mut self, tag: u8, piece: u128, what: Result<&Entry, Completion>)
+    fn book(&mut self, tag: u8, piece: u128, what: Booked<'_>)
         ensures books { Books self.old.inner.shown tag piece (handed what.entry) self.new.inner.shown }
         ensures order { IsInOrder self.new.inner.shown }
         ensures same { self.new ≡ self.old }

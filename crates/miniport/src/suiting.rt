@@ -9,7 +9,7 @@ ghost use Rattle.miniport.specs.inside.Suiting.{agree, is_at, is_as_long, is_tra
 
 use crate::check::Sizes;
 use cdb::{Cdb, decode};
-use srb::{Class, Completion, Entry, Kind, Srb};
+use srb::{Booked, Class, Completion, Entry, Kind, Srb};
 
 fn has_kind(entry: &Entry, kind: Kind) -> bool
     ensures { result ≡ agree entry.now.kind kind }
@@ -88,6 +88,23 @@ fn suits_entry(sizes: &Sizes, srb: &Srb, entry: &Entry) -> bool
     }
 }
 
+/// Whether sectors lie in the disk, and the SRB has just their bytes.
+fn is_whole(sizes: &Sizes, bytes: &[u8], lba: u64, count: u32) -> bool {
+    let length = count as u64 * sizes.sector_size as u64;
+    lba as u128 + count as u128 <= sizes.sectors as u128 && bytes.len() as u64 == length
+}
+
+/// Whether the SRB asks for a write of all that it sends, or for a flush.
+fn sends(sizes: &Sizes, srb: &Srb) -> bool {
+    let bytes = srb.data.as_slice();
+    match decode(srb.block.as_slice()) {
+        Ok(Cdb::Write10 { lba, count, .. }) => is_whole(sizes, bytes, lba as u64, count as u32),
+        Ok(Cdb::Write16 { lba, count, .. }) => is_whole(sizes, bytes, lba, count),
+        Ok(Cdb::Sync10 { .. } | Cdb::Sync16 { .. }) => bytes.is_empty(),
+        _ => false,
+    }
+}
+
 fn is_bad(completion: &Completion) -> bool
     ensures { Decides result (class_of completion.now ≡ Bad completion.now) }
 {
@@ -98,11 +115,13 @@ fn is_bad(completion: &Completion) -> bool
 }
 
 /// Whether this may be booked of the SRB.
-pub(crate) fn suits(sizes: &Sizes, srb: &Srb, what: Result<&Entry, Completion>) -> bool
+pub(crate) fn suits(sizes: &Sizes, srb: &Srb, what: &Booked<'_>) -> bool
     ensures { Decides result (Suits sizes.now.sector_size sizes.now.sectors srb.now (handed what.entry)) }
 {
     match what {
-        Ok(entry) => suits_entry(sizes, srb, entry),
-        Err(completion) => is_bad(&completion),
+        Booked::Copied(entry) => suits_entry(sizes, srb, entry),
+        Booked::Taken(entry) => suits_entry(sizes, srb, entry),
+        Booked::Sent => sends(sizes, srb),
+        Booked::Failed(completion) => is_bad(completion),
     }
 }

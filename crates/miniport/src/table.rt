@@ -11,11 +11,11 @@ ghost use Rattle.miniport.specs.inside.Slots.{HasRoomFor, booked_piece};
 
 use crate::completion::met_reset;
 use crate::on_tag::{Booking, OnTag, Progress};
-use sector::Bytes;
-use srb::{Completion, DeviceLabel, Entry, Srb};
+use srb::{Booked, Completion, DeviceLabel, Kind, Srb};
 use std::alloc::{AllocError, Global};
 use std::collections::VecDeque;
 use std::marker::Model;
+use std::mem;
 
 /// The labels that may wait to be taken.
 const LABELS: usize = 64;
@@ -23,41 +23,49 @@ const LABELS: usize = 64;
 /// The most tags.
 const TAGS: usize = 32;
 
-/// The bytes in a place of the same length.
-fn put_in(place: Bytes, bytes: &Bytes) -> Bytes
-    requires { length place ≡ length bytes.now }
-    ensures { result ≡ bytes.now }
-{
-    let mut copy = place.into_vec();
-    copy.as_mut_slice().copy_from_slice(bytes.as_slice());
-    Bytes::new(copy)
+/// A label as it is kept until it is taken.
+#[derive(Drop)]
+enum Recorded {
+    Told(DeviceLabel),
+    /// The act of the tag's piece, whose bytes are the data of its SRB.
+    Acted { piece: u128, tag: u8 },
 }
 
-/// The piece with its act's bytes booked.
-fn with_bytes(on_tag: OnTag, entry: &Entry) -> OnTag
-    requires { length on_tag.srb.for_label ≡ length entry.now.bytes }
-    ensures { result ≡ booked_piece (Ok entry.now) on_tag }
-{
-    let OnTag { srb, .. } = on_tag;
-    let for_label = put_in(srb.for_label, &entry.bytes);
-    OnTag {
-        srb: Srb { for_label, ..srb },
-        booking: Booking::Bytes,
-        ..on_tag
+/// The label of an act, whose bytes are the data of the SRB, in the room that the SRB has for it.
+fn label_of(piece: u128, srb: &mut Srb) -> DeviceLabel {
+    let room = srb.for_label.take();
+    DeviceLabel::Act {
+        piece,
+        bytes: room.filled(srb.data.as_slice()),
+    }
+}
+
+/// The SRB with the data of a read that was booked. Those of a write are booked as they stand.
+fn with_data(srb: Srb, what: Booked<'_>) -> Srb {
+    match what {
+        Booked::Copied(entry) if entry.kind == Kind::Read => {
+            let data = srb.data.overwritten(entry.bytes.as_slice());
+            Srb { data, ..srb }
+        }
+        Booked::Taken(entry) if entry.kind == Kind::Read => {
+            let data = mem::replace(&mut entry.bytes, srb.data);
+            Srb { data, ..srb }
+        }
+        _ => srb,
     }
 }
 
 /// The piece with what is booked of it.
-fn with_booking(on_tag: OnTag, what: Result<&Entry, Completion>) -> OnTag
-    requires { HasRoomFor (handed what) on_tag.srb }
-    ensures { result ≡ booked_piece (handed what.entry) on_tag }
-{
-    match what {
-        Ok(entry) => with_bytes(on_tag, entry),
-        Err(completion) => OnTag {
-            booking: Booking::Failure(completion),
-            ..on_tag
-        },
+fn with_booking(on_tag: OnTag, what: Booked<'_>) -> OnTag {
+    let booking = match &what {
+        Booked::Failed(completion) => Booking::Failure(*completion),
+        _ => Booking::Bytes,
+    };
+    let OnTag { srb, .. } = on_tag;
+    OnTag {
+        srb: with_data(srb, what),
+        booking,
+        ..on_tag
     }
 }
 
@@ -67,7 +75,7 @@ pub(crate) struct TagTable {
     slots: Vec<Option<OnTag>>,
     accepted: u128,
     failures: u128,
-    labels: VecDeque<DeviceLabel>,
+    labels: VecDeque<Recorded>,
 }
 
 impl Model for TagTable {
@@ -127,7 +135,7 @@ impl TagTable {
         });
         self.accepted += 1;
         self.labels
-            .push_back_reserved(DeviceLabel::Start { piece, tag, block });
+            .push_back_reserved(Recorded::Told(DeviceLabel::Start { piece, tag, block }));
     }
 
     /// Takes the piece off a tag.
@@ -161,7 +169,7 @@ impl TagTable {
     }
 
     /// Books of the piece on a tag.
-    pub fn book(&mut self, tag: u8, what: Result<&Entry, Completion>)
+    pub fn book(&mut self, tag: u8, what: Booked<'_>)
         requires below { tag < length self.old.slots }
         requires room { (on : OnTag) → piece_at self.old.slots tag ≡ Some on → HasRoomFor (handed what) on.srb }
         ensures { (on : OnTag) → piece_at self.old.slots tag ≡ Some on → self.new ≡ with_slot tag (Some (booked_piece (handed what.entry) on)) (with_slot tag None self.old) }
@@ -182,8 +190,8 @@ impl TagTable {
         }
     }
 
-    /// Puts a piece back on its tag, which was carried out: these bytes were read or written.
-    pub fn put_moved(&mut self, tag: u8, on_tag: OnTag, bytes: Bytes)
+    /// Puts a piece back on its tag, which was carried out.
+    pub fn put_moved(&mut self, tag: u8, on_tag: OnTag)
         requires below { tag < length self.old.slots }
         requires place { length self.old.labels < 64 }
         ensures { self.new ≡ with_moved tag on_tag bytes self.old }
@@ -191,7 +199,7 @@ impl TagTable {
         let piece = on_tag.piece;
         self.place(tag, on_tag);
         self.labels
-            .push_back_reserved(DeviceLabel::Act { piece, bytes });
+            .push_back_reserved(Recorded::Acted { piece, tag });
     }
 
     /// Puts a piece back on its tag, which failed.
@@ -204,7 +212,8 @@ impl TagTable {
         let piece = on_tag.piece;
         self.place(tag, on_tag);
         self.failures += 1;
-        self.labels.push_back_reserved(DeviceLabel::Fault { piece });
+        self.labels
+            .push_back_reserved(Recorded::Told(DeviceLabel::Fault { piece }));
     }
 
     /// Fails a tag's piece, if it has done nothing yet.
@@ -236,13 +245,15 @@ impl TagTable {
         requires { length self.old.labels < 64 }
         ensures { MatchOption result ((piece_at self.old.slots tag ≡ None) × (self.new ≡ self.old)) (λ back. ComesBack self.old tag back.0 back.1 self.new) }
     {
+        self.tell_act(tag);
         let on_tag = self.take(tag)?;
         let completion = on_tag.completion();
         let OnTag { piece, srb, .. } = on_tag;
-        self.labels.push_back_reserved(DeviceLabel::Return {
-            piece,
-            class: completion.class(),
-        });
+        self.labels
+            .push_back_reserved(Recorded::Told(DeviceLabel::Return {
+                piece,
+                class: completion.class(),
+            }));
         let sense = completion.sense;
         Some((Srb { sense, ..srb }, completion))
     }
@@ -305,14 +316,53 @@ impl TagTable {
         if progress != Progress::Untouched {
             return progress;
         }
-        self.labels.push_back_reserved(DeviceLabel::Fault { piece });
+        self.labels
+            .push_back_reserved(Recorded::Told(DeviceLabel::Fault { piece }));
         Progress::Failed(met_reset())
+    }
+
+    /// Where the label of the act on a tag stands that was not taken.
+    fn place_of_act(&self, tag: u8) -> Option<usize> {
+        self.labels.iter().position(|label| is_act_on(label, tag))
+    }
+
+    /// The label of the act on a tag, if it was not taken yet, gets its bytes.
+    fn tell_act(&mut self, tag: u8) {
+        if let Some(place) = self.place_of_act(tag) {
+            let label = self.labels.remove(place);
+            if let Some(label) = label {
+                let told = self.told(label);
+                let _ = self.labels.insert(place, Recorded::Told(told));
+            }
+        }
+    }
+
+    /// A label with its bytes.
+    fn told(&mut self, label: Recorded) -> DeviceLabel {
+        match label {
+            Recorded::Told(label) => label,
+            Recorded::Acted { piece, tag } => {
+                let Some(Some(on_tag)) = self.slots.get_mut(tag as usize) else {
+                    unreachable!()
+                };
+                label_of(piece, &mut on_tag.srb)
+            }
+        }
     }
 
     /// The earliest label leaves.
     pub fn take_label(&mut self) -> Option<DeviceLabel>
         ensures { MatchOption result ((self.old.labels ≡ []) × (self.new ≡ self.old)) (λ label. (rest : List DeviceLabel) × (self.old.labels ≡ label ∷ rest) × (self.new ≡ record self.old { labels = rest })) }
     {
-        self.labels.pop_front()
+        let label = self.labels.pop_front()?;
+        Some(self.told(label))
+    }
+}
+
+/// Whether this is the act on a tag.
+fn is_act_on(label: &Recorded, tag: u8) -> bool {
+    match label {
+        Recorded::Told(_) => false,
+        Recorded::Acted { tag: acted, .. } => *acted == tag,
     }
 }

@@ -8,7 +8,7 @@ use arrayvec::ArrayVec;
 use disk::{Medium, NoMemory, SparseDisk, VecDisk};
 use miniport::{Adapter, BookedAdapter, MemAdapter, OnceAdapter};
 use ntstatus::Sense;
-use sector::{Bytes, Extent};
+use sector::{Bytes, Extent, LabelRoom};
 use srb::{CommandBlock, Completion, DeviceLabel, Entry, Kind, Srb, SrbFlags, SrbFunction};
 use std::alloc::{AllocError, Global};
 use std::process::Abort;
@@ -60,7 +60,7 @@ fn srb(
     byte: u8,
 ) -> Result<Srb, Fail>
     requires { count < 2 ^ 40 }
-    ensures { IfOk result (λ s. length s.for_label ≡ length s.data) }
+    ensures { IfOk result (λ s. length s.data ≤ s.for_label) }
 {
     let mut bytes = ArrayVec::new();
     bytes
@@ -68,13 +68,13 @@ fn srb(
         .ok()
         .ok_or("a long block")?;
     let data = vec![in alloc; byte; count]?;
-    let for_label = vec![in alloc; 0; count]?;
+    let for_label = LabelRoom::new(alloc, count)?;
     Ok(Srb {
         function,
         flags: SrbFlags(flags),
         block: CommandBlock::new(bytes),
         data: Bytes::new(data),
-        for_label: Bytes::new(for_label),
+        for_label,
         sense: None,
     })
 }
@@ -115,7 +115,7 @@ fn put<A: Adapter>(
 ) -> Result<(), Fail>
     requires few { (A.view adapter.old).accepted < 2 ^ 100 }
     requires place { length (A.view adapter.old).labels < 64 }
-    requires buffers { length srb.for_label ≡ length srb.data }
+    requires buffers { length srb.data ≤ srb.for_label }
     ensures accepted { OnOk result ((A.view adapter.new).accepted ≡ (A.view adapter.old).accepted + 1) }
     ensures labels { OnOk result (length (A.view adapter.new).labels ≡ length (A.view adapter.old).labels + 1) }
 {
@@ -154,7 +154,7 @@ fn carried_out(
     write_protected: bool,
     srb: Srb,
 ) -> Result<(Completion, u128), Fail>
-    requires { length srb.for_label ≡ length srb.data }
+    requires { length srb.data ≤ srb.for_label }
 {
     let mut adapter = four_sectors(alloc, 1, write_protected)?;
     put(rt, &mut adapter, 0, 1, srb)?;
@@ -587,7 +587,7 @@ use Step::{Act, AllReset, Back, Free, Read, Write};
 
 /// The SRB of one sector, all of a byte.
 fn one_sector(alloc: Global, flags: u8, code: u8, sector: u8, byte: u8) -> Result<Srb, Fail>
-    ensures { IfOk result (λ s. length s.for_label ≡ length s.data) }
+    ensures { IfOk result (λ s. length s.data ≤ s.for_label) }
 {
     srb(
         alloc,
@@ -601,7 +601,7 @@ fn one_sector(alloc: Global, flags: u8, code: u8, sector: u8, byte: u8) -> Resul
 
 /// The data are full of the byte, and the second buffer is whole where nothing was done.
 fn comes_back_with(rt: &impl Abort, srb: &Srb, end: End, byte: u8) {
-    let for_label = srb.for_label.as_slice().len();
+    let for_label = srb.for_label.capacity();
     if let Busy = end {
         same(rt, &for_label, &512);
     }
@@ -896,9 +896,16 @@ fn book(rt: &impl Abort, adapter: &mut BookedAdapter, what: Result<&Entry, Compl
 {
     assert!(rt; adapter.armed(1).is_none());
     assert!(rt; matches!(adapter.armed(0), Some((1, _))));
-    adapter.book(1, 1, what);
-    adapter.book(0, 2, what);
-    adapter.book(0, 1, what);
+    adapter.book(1, 1, handed(what));
+    adapter.book(0, 2, handed(what));
+    adapter.book(0, 1, handed(what));
+}
+
+fn handed<'a>(what: Result<&'a Entry, Completion>) -> srb::Booked<'a> {
+    match what {
+        Ok(entry) => srb::Booked::Copied(entry),
+        Err(completion) => srb::Booked::Failed(completion),
+    }
 }
 
 /// The same, of what a row books.

@@ -14,7 +14,7 @@ use crate::{Partitions, Parts};
 use device::{Climb, Device, Hold, Request, Room, Shown, resume};
 use irp::Irp;
 use sector::Extent;
-use srb::{Completion, DeviceLabel, Entry, Srb};
+use srb::{Booked, DeviceLabel, Srb};
 use std::alloc::AllocError;
 
 impl<D: Shown> Parts<D> {
@@ -126,7 +126,7 @@ impl<D: Device> Device for Partitions<D> {
         self.parts.device.armed(tag)
     }
 
-    fn book(&mut self, tag: u8, piece: u128, what: Result<&Entry, Completion>) {
+    fn book(&mut self, tag: u8, piece: u128, what: Booked<'_>) {
         self.parts.device.book(tag, piece, what);
         self.parts.device.shows_order();
     }

@@ -16,7 +16,7 @@ use crate::{Parts, Port};
 use adapter::Adapter;
 use device::{Climb, Device, Kind, Request, Room, Shown, complete, information};
 use irp::Irp;
-use srb::{Completion, DeviceLabel, Entry, Srb};
+use srb::{Booked, Completion, DeviceLabel, Srb};
 use std::alloc::AllocError;
 
 /// Requests that may be submitted in all.
@@ -189,7 +189,7 @@ impl<A: Adapter> Device for Port<A> {
         self.parts.adapter.armed(tag)
     }
 
-    fn book(&mut self, tag: u8, piece: u128, what: Result<&Entry, Completion>) {
+    fn book(&mut self, tag: u8, piece: u128, what: Booked<'_>) {
         self.parts.adapter.book(tag, piece, what);
     }
 

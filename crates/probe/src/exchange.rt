@@ -12,7 +12,7 @@ ghost use Rattle.probe.specs.inside.Exchange.{IsAskFault};
 use crate::ProbeFault;
 use adapter::Adapter;
 use cdb::{Cdb, encode};
-use sector::Bytes;
+use sector::{Bytes, LabelRoom};
 use srb::{Class, CommandBlock, Completion, Srb, SrbFlags, SrbFunction};
 use std::alloc::{AllocError, Global};
 
@@ -25,7 +25,7 @@ impl From<AllocError> for ProbeFault {
 }
 
 /// An SRB that asks an adapter for a command, with these places for the bytes that it brings.
-fn reading(command: &Cdb, bytes: Bytes, for_label: Bytes) -> Srb
+fn reading(command: &Cdb, bytes: Bytes, for_label: LabelRoom) -> Srb
     ensures reads { IsReading command.now result }
     ensures bytes { result.data ≡ bytes }
     ensures for_label { result.for_label ≡ for_label }
@@ -45,13 +45,13 @@ fn exchange<A: Adapter>(
     adapter: &mut A,
     command: &Cdb,
     bytes: Bytes,
-    for_label: Bytes,
+    for_label: LabelRoom,
 ) -> (Srb, Completion)
     requires idle { IsIdle (A.view adapter.old) }
     requires order { IsInOrder (A.view adapter.old) }
     requires few { (A.view adapter.old).accepted < 2 ^ 100 }
     requires looks { Looks command.now }
-    requires buffers { length for_label ≡ length bytes }
+    requires buffers { length bytes ≤ for_label }
     requires whole { length bytes ≡ brought_length (A.view adapter.old) command.now }
     ensures asks { AsksOnce (A.view adapter.old) command.now result.0 result.1 (A.view adapter.new) }
 {
@@ -78,12 +78,12 @@ fn forget_labels<A: Adapter>(adapter: &mut A)
 /// # Errors
 ///
 /// [`AllocError`] where memory for one was refused.
-fn buffers(alloc: Global, count: usize) -> Result<(Bytes, Bytes), AllocError>
+fn buffers(alloc: Global, count: usize) -> Result<(Bytes, LabelRoom), AllocError>
     ensures bytes { IfOk result (λ made. length made.0 ≡ count) }
-    ensures for_label { IfOk result (λ made. length made.1 ≡ count) }
+    ensures for_label { IfOk result (λ made. count ≤ made.1) }
 {
     let bytes = Bytes::new(vec![in alloc; 0u8; count]?);
-    let for_label = Bytes::new(vec![in alloc; 0u8; count]?);
+    let for_label = LabelRoom::new(alloc, count)?;
     Ok((bytes, for_label))
 }
 

@@ -204,14 +204,14 @@ impl Over {
         let Some(PieceBytes { bytes, .. }) = self.places[tag as usize].take() else {
             unreachable!()
         };
-        let entry = Entry {
+        let mut entry = Entry {
             piece,
             tag,
             extent,
             kind,
             bytes: Bytes::new(bytes),
         };
-        self.stack.book(tag, piece, Ok(&entry));
+        self.stack.book(tag, piece, srb::Booked::Taken(&mut entry));
         Ok(())
     }
 
@@ -234,7 +234,7 @@ impl Over {
         let Some(failure) = booking.completion.failure() else {
             return Err(NtStatus::InvalidParameter);
         };
-        self.stack.book(tag, piece, Err(failure));
+        self.stack.book(tag, piece, srb::Booked::Failed(failure));
         self.places[tag as usize] = None;
         Ok(())
     }

@@ -28,7 +28,7 @@ use crate::slots::{Armed, Slots};
 use crate::stock::Stock;
 use chronicle::{Claims, Whole};
 use disk::Medium;
-use sector::{Bytes, Extent};
+use sector::{Bytes, Extent, LabelRoom};
 use srb::{Completion, Kind, Srb};
 use std::alloc::{AllocError, Global};
 use std::marker::Model;
@@ -101,7 +101,7 @@ fn own_srb(alloc: Global, srb: &Srb, kind: Kind, place: Bytes) -> Srb
         flags: srb.flags,
         block: srb.block.copied(),
         data: own_data(srb, kind, place),
-        for_label: Bytes::new(Vec::new(alloc)),
+        for_label: LabelRoom::none(alloc),
         sense: None,
     }
 }

@@ -13,7 +13,7 @@ use compose::{Answer, Event, Refusal, Reply, Stack};
 use file_disk::{FileDisk, Storage};
 use machine::Label;
 use miniport::BookedAdapter;
-use srb::DeviceLabel;
+use srb::{Booked, DeviceLabel};
 use std::alloc::Global;
 
 /// Which steps add an entry to a trace, for who calls this.
@@ -165,11 +165,11 @@ fn book_armed<S: Storage + Drop>(stack: &mut Stack<BookedAdapter>, disk: &mut Fi
         return;
     };
     match disk.transfer(tag, piece, srb) {
-        Ok(entry) => {
-            stack.book(tag, piece, Ok(&entry));
+        Ok(mut entry) => {
+            stack.book(tag, piece, Booked::Taken(&mut entry));
             disk.take_back(entry);
         }
-        Err(completion) => stack.book(tag, piece, Err(completion)),
+        Err(completion) => stack.book(tag, piece, Booked::Failed(completion)),
     }
 }
 

@@ -463,7 +463,7 @@ impl<A: Adapter, N: Naming> Traced<A, N> {
     }
 
     /// Books what the act of a tag's piece did, or how it failed, as [`Stack::book`].
-    pub fn book(&mut self, tag: u8, piece: u128, what: Result<&srb::Entry, Completion>)
+    pub fn book(&mut self, tag: u8, piece: u128, what: srb::Booked<'_>)
         ensures books { BooksPiece self.old.stack tag piece (handed what.entry) self.new.stack }
         ensures same { self.new ≡ record self.old { stack = self.new.stack } }
     {

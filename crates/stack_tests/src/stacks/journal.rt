@@ -404,7 +404,7 @@ fn fail_by<A: Adapter>(
         scsi_status: 0x02,
         sense: Some(sense),
     };
-    stack.book(0, piece, Err(completion));
+    stack.book(0, piece, srb::Booked::Failed(completion));
     show_step(alloc, stack, Step::Act(0))?;
     show_step(alloc, stack, Step::Finish(0))?;
     match stack.take_answer() {
