@@ -11,6 +11,7 @@ use device::Kind;
 use irp::Payload;
 use sector::Bytes;
 use std::alloc::{AllocError, Global};
+use std::mem;
 
 /// A buffer for the data of a part: a write's is filled when the part is sent.
 pub fn data_buffer(alloc: Global, kind: Kind, length: usize) -> Result<Vec<u8>, AllocError>
@@ -32,6 +33,14 @@ pub fn data_of(mut data: Vec<u8>, bytes: &[u8], at: usize, length: usize) -> Byt
 {
     let _ = data.extend_from_slice(&bytes[at..at + length]);
     Bytes::new(data)
+}
+
+/// The buffer of a request of one part goes below with that part.
+pub fn lent(payload: &mut Payload) -> Bytes {
+    match mem::replace(payload, Payload::Sent) {
+        Payload::Buffer(bytes) => bytes,
+        Payload::Srb(_) | Payload::Sent => unreachable!(),
+    }
 }
 
 /// The buffer of a read, with the bytes of all its parts by their places.

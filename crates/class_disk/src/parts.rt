@@ -167,6 +167,17 @@ impl Part {
         self.progress = Progress::Ended(ended);
     }
 
+    /// The buffer that went below with an ended part, the only one of its request, as its request's packet carries it.
+    pub fn give_back(&mut self) -> Payload {
+        let Progress::Ended(ended) = &mut self.progress else {
+            unreachable!()
+        };
+        match mem::replace(&mut ended.packet.irp.payload, Payload::Sent) {
+            Payload::Srb(srb) => Payload::Buffer(srb.data),
+            Payload::Buffer(_) | Payload::Sent => unreachable!(),
+        }
+    }
+
     /// The bytes that an ended part brought.
     pub fn bytes(&self) -> &[u8]
         ensures { result.now ≡ bytes_by self.now.progress }

@@ -14,7 +14,7 @@ ghost use Rattle.class_disk.specs.inside.TableCalls.{new_opened, IsReadyAt, Send
 
 use crate::Sizes;
 use crate::blocks::{byte_count, ready_packet, srb_for};
-use crate::buffers::{carried_up, data_of};
+use crate::buffers::{carried_up, data_of, lent};
 use crate::parts::{Ended, Outcome, Part, Place, TransferPacket};
 use device::{Climb, Kind, Request, complete, information};
 use irp::{Irp, Payload};
@@ -84,18 +84,27 @@ impl Transfer {
             data,
             for_label,
         } = self.parts[k].send(number);
-        let data = match (&self.irp.payload, request.kind) {
-            (Payload::Buffer(bytes), Kind::Write) => {
-                let whole = bytes.as_slice();
-                let passed = request.extent.first - self.request.extent.first;
-                let at = passed as usize * sizes.sector_size as usize;
-                data_of(data, whole, at, byte_count(sizes, &request))
-            }
-            _ => Bytes::new(data),
+        let data = if self.parts.len() == 1 {
+            lent(&mut self.irp.payload)
+        } else {
+            self.own_data(sizes, &request, data)
         };
         let payload = Payload::Srb(srb_for(sizes.disk_sectors, &request, data, for_label));
         ready_packet(&mut packet.irp, number, &request, payload);
         packet
+    }
+
+    /// The data of a part that has a buffer of its own: those of a write, copied from its request's.
+    fn own_data(&self, sizes: &Sizes, request: &Request, data: Vec<u8>) -> Bytes {
+        match (&self.irp.payload, request.kind) {
+            (Payload::Buffer(bytes), Kind::Write) => {
+                let whole = bytes.as_slice();
+                let passed = request.extent.first - self.request.extent.first;
+                let at = passed as usize * sizes.sector_size as usize;
+                data_of(data, whole, at, byte_count(sizes, request))
+            }
+            _ => Bytes::new(data),
+        }
     }
 
     /// Part k goes below again in a packet of this number, with the packet and the SRB that came back busy.
@@ -187,12 +196,16 @@ impl Transfer {
         let Transfer {
             mut irp,
             request,
-            parts,
+            mut parts,
             ..
         } = self;
         let joins = request.kind == Kind::Read && status == NtStatus::Success;
         let payload = mem::replace(&mut irp.payload, Payload::Sent);
-        irp.payload = carried_up(payload, joins, parts.as_slice());
+        irp.payload = if parts.len() == 1 {
+            parts[0].give_back()
+        } else {
+            carried_up(payload, joins, parts.as_slice())
+        };
         (
             complete(irp, status, information),
             Places { request, parts },

@@ -91,7 +91,12 @@ impl<D: Device> Extension<D> {
     }
 
     /// Places for one part.
-    fn reserve_part(&mut self, request: &Request, id: PartId) -> Result<Part, AllocError>
+    fn reserve_part(
+        &mut self,
+        request: &Request,
+        id: PartId,
+        is_only: bool,
+    ) -> Result<Part, AllocError>
         requires bounded { IsBounded (D.view self.old.device).rules request.now }
         requires small { request.now.extent.count * self.old.table.sizes.sector_size < 2 ^ 64 }
         ensures table { self.new.table ≡ record self.old.table { owners = self.new.table.owners } }
@@ -106,7 +111,9 @@ impl<D: Device> Extension<D> {
             → (D.view self.new.device).adapter ≡ (D.view self.old.device).adapter }
     {
         let length = byte_count(&self.table.sizes, request);
-        let data = data_buffer(self.alloc, request.kind, length)?;
+        // The only part of a request takes the request's own buffer along.
+        let own = if is_only { 0 } else { length };
+        let data = data_buffer(self.alloc, request.kind, own)?;
         let for_label = LabelRoom::new(self.alloc, length)?;
         let packet = self.reserve_packet(request, id)?;
         let place = Place {
@@ -156,7 +163,8 @@ impl<D: Device> Extension<D> {
         ensures unless_write { request.now.kind ≢ Write
             → (D.view self.new.device).adapter ≡ (D.view self.old.device).adapter }
     {
-        for k in 0..part_count(&self.table.sizes, request) {
+        let count = part_count(&self.table.sizes, request);
+        for k in 0..count {
             let below = part_request(&self.table.sizes, request, k);
             let part = self.reserve_part(
                 &below,
@@ -164,6 +172,7 @@ impl<D: Device> Extension<D> {
                     slot,
                     part: k as usize,
                 },
+                count == 1,
             )?;
             parts.push_reserved(part);
         }
