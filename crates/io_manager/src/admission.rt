@@ -15,7 +15,7 @@ use crate::{Limits, Refusal};
 use device::{ClientRequest, Kind, Request, major_for};
 use irp::{Control, Driver, Irp, LocationFlags, Payload, StackLocation};
 use ntstatus::NtStatus;
-use sector::{Bytes, Extent};
+use sector::{Bytes, Extent, LabelRoom};
 use std::alloc::{AllocError, Global};
 
 /// What a call asks of a partition, but for its bytes.
@@ -206,11 +206,11 @@ pub(crate) fn request_below(sector_size: u64, request: &ClientRequest) -> Reques
 pub(crate) struct LabelBytes {
     /// The bytes of a write, for the label of its call.
     pub(crate) call_bytes: Bytes,
-    /// For the label of a read's answer.
-    pub(crate) label_bytes: Bytes,
+    /// Room for the bytes of the label of a read's answer.
+    pub(crate) label_bytes: LabelRoom,
 }
 
-/// A copy of a write's buffer, and one as long as a read's.
+/// A copy of a write's buffer, and room for as many bytes as a read's has.
 ///
 /// # Errors
 ///
@@ -222,16 +222,16 @@ pub(crate) fn label_bytes_for(
 ) -> Result<LabelBytes, AllocError>
     ensures { IfOk result (λ copies. HasLabelBytes kind buffer.now copies) }
 {
-    let none = Vec::new(alloc);
+    let none = LabelRoom::none(alloc);
     let (call_bytes, label_bytes) = match kind {
         Kind::Write => (Vec::from_slice(alloc, buffer.as_slice())?, none),
         // No label tells what the buffer of a read holds at its call.
-        Kind::Read => (none, vec![in alloc; 0u8; buffer.len()]?),
-        Kind::Flush => (none, Vec::new(alloc)),
+        Kind::Read => (Vec::new(alloc), LabelRoom::new(alloc, buffer.len())?),
+        Kind::Flush => (Vec::new(alloc), none),
     };
     Ok(LabelBytes {
         call_bytes: Bytes::new(call_bytes),
-        label_bytes: Bytes::new(label_bytes),
+        label_bytes,
     })
 }
 

@@ -19,7 +19,7 @@ ghost use Rattle.io_manager.specs.inside.Sound.{IsSound, IsSoundWith, TakesLabel
 
 use crate::answer_queue::insert_rising;
 use crate::parts::Parts;
-use crate::tables::{OpenRequest, Tables, remainder_of};
+use crate::tables::{Tables, remainder_of};
 use crate::{Answer, Handle};
 use device::{Climb, Device, Kind, Label};
 use irp::{Done, Irp, Payload};
@@ -52,20 +52,13 @@ fn done_of(irp: Box<Irp>) -> Done
     }
 }
 
-impl OpenRequest {
-    /// The bytes of its answer, for the answer and for the answer's label: a read's where it succeeded, else none.
-    fn answer_bytes(self, status: NtStatus, bytes: Bytes) -> (Bytes, Bytes)
-        requires { self.kind ≡ Read → status ≡ Success → length self.label_bytes ≡ length bytes }
-        ensures answer { result.0 ≡ brought self.kind status bytes }
-        ensures label { result.1 ≡ brought self.kind status bytes }
-    {
-        match (self.kind, status) {
-            (Kind::Read, NtStatus::Success) => {
-                let for_label = self.label_bytes.overwritten(bytes.as_slice());
-                (bytes, for_label)
-            }
-            _ => (bytes.emptied(), self.label_bytes.emptied()),
-        }
+/// The bytes of an answer: a read's where it succeeded, else none.
+fn brought(kind: Kind, status: NtStatus, bytes: Bytes) -> Bytes
+    ensures { result ≡ brought kind status bytes }
+{
+    match (kind, status) {
+        (Kind::Read, NtStatus::Success) => bytes,
+        _ => bytes.emptied(),
     }
 }
 
@@ -136,8 +129,9 @@ impl Tables {
             slot: open.handle_slot,
             number: open.handle,
         });
-        let brought = bytes_of(*self.untaken.allocator(), payload);
-        let (bytes, label_bytes) = open.answer_bytes(status, brought);
+        let bytes = bytes_of(*self.untaken.allocator(), payload);
+        let bytes = brought(open.kind, status, bytes);
+        let label_bytes = open.label_bytes.filled(bytes.as_slice());
         insert_rising(
             &mut self.answered,
             Answer {

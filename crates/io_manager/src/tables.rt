@@ -16,7 +16,7 @@ use crate::{Answer, Handle, Id, OpenHandle, Refusal, Reply};
 use device::{ClientRequest, Kind, Label};
 use ntstatus::NtStatus;
 use pnp::State;
-use sector::Bytes;
+use sector::{Bytes, LabelRoom};
 use slab::Slab;
 use std::alloc::{AllocError, Global};
 use std::collections::VecDeque;
@@ -43,7 +43,7 @@ pub(crate) struct OpenRequest {
     pub(crate) spot: usize,
     pub(crate) cancelled: bool,
     /// Room for a read's bytes in its answer's label; empty for other kinds.
-    pub(crate) label_bytes: Bytes,
+    pub(crate) label_bytes: LabelRoom,
 }
 
 /// All that the manager keeps itself. The places for what a step may add are there before it.
