@@ -155,48 +155,13 @@ fn write<S: Storage>(
     }
 }
 
-/// Carries a task out on as many bytes from byte `offset` on; the bytes that it moved. A flush has none.
-///
-/// # Errors
-///
-/// As the calls failed.
-fn perform<S: Storage>(
-    storage: &mut S,
-    offset: u64,
-    task: Task,
-    bytes: Vec<u8>,
-) -> Result<Vec<u8>, Completion>
-    requires fits { offset + length bytes.items < 2 ^ 64 }
-    ensures { Since (S.calls storage.old) (S.calls storage.new) (Does offset bytes.items task (result_map_both (λ v. v.items) (λ e. e) result)) }
-{
-    let mut bytes = bytes;
-    match task {
-        Task::Read => match read_all(storage, offset, bytes.as_mut_slice()) {
-            Ok(()) => Ok(bytes),
-            Err(_) => Err(read_fault()),
-        },
-        Task::Write { through } => {
-            write(storage, offset, bytes.as_slice(), through)?;
-            Ok(bytes)
-        }
-        Task::Flush => {
-            flush(storage)?;
-            Ok(bytes)
-        }
-    }
-}
-
-/// Room with the bytes that a task sends in it.
-fn filled(task: Task, room: Vec<u8>, sent: &[u8]) -> Vec<u8>
-    requires { length room.items ≡ length sent.now }
-    ensures long { length result.items ≡ length sent.now }
-    ensures sent { IsTrue (sends task) → result.items ≡ sent.now }
-{
-    let mut room = room;
-    if matches!(task, Task::Write { .. }) {
-        room.as_mut_slice().copy_from_slice(sent);
-    }
-    room
+/// What the act of a piece came to.
+#[derive(Debug, Drop)]
+pub enum Moved {
+    /// It read these bytes.
+    Read(Entry),
+    /// It wrote what its SRB sends, or flushed.
+    Sent,
 }
 
 /// A disk whose sectors stand in a storage, one after the other.
@@ -253,22 +218,20 @@ impl<S: Storage + Drop> FileDisk<S> {
         }
     }
 
-    /// Carries out a task of these sectors, sent with these bytes.
+    /// Reads as many bytes from byte `offset` on.
     ///
     /// # Errors
     ///
     /// As the calls failed; a hardware error where memory was refused.
-    fn carry_out(&mut self, task: Task, extent: Extent, sent: &[u8]) -> Result<Bytes, Completion>
-        requires inside { extent.first + extent.count ≤ self.old.sectors }
-        requires long { length sent.now ≤ extent.count * self.old.sector_size }
-        ensures does { Carries self.old task extent sent.now result self.new }
-        ensures after { self.new ≡ record self.old { calls = self.new.calls } }
-    {
-        let room = self.take_room(sent.len())?;
-        let bytes = filled(task, room, sent);
-        let offset = extent.first * self.shape.sector_size() as u64;
-        let moved = perform(&mut self.storage, offset, task, bytes)?;
-        Ok(Bytes::new(moved))
+    fn read(&mut self, offset: u64, count: usize) -> Result<Bytes, Completion> {
+        let mut room = self.take_room(count)?;
+        match read_all(&mut self.storage, offset, room.as_mut_slice()) {
+            Ok(()) => Ok(Bytes::new(room)),
+            Err(_) => {
+                self.room = room;
+                Err(read_fault())
+            }
+        }
     }
 
     /// Carries out what the SRB of a piece asks for: its entry, or how it failed.
@@ -277,7 +240,7 @@ impl<S: Storage + Drop> FileDisk<S> {
     ///
     /// By the table of the adapter in memory: ILLEGAL REQUEST and the like where the SRB is none that a disk carries out,
     /// WRITE PROTECTED; MEDIUM ERROR where a read or a write failed, HARDWARE ERROR where a sync did or memory was refused.
-    pub fn transfer(&mut self, tag: u8, piece: u128, srb: &Srb) -> Result<Entry, Completion>
+    pub fn transfer(&mut self, tag: u8, piece: u128, srb: &Srb) -> Result<Moved, Completion>
         ensures transfers { Transfers self.old tag piece srb.now result self.new }
         ensures suits { Suits self.old.sector_size self.old.sectors srb.now result }
         ensures of_piece { IsOfPiece tag piece result }
@@ -286,14 +249,25 @@ impl<S: Storage + Drop> FileDisk<S> {
         let Some((task, extent)) = task_in(command) else {
             return Err(invalid_request());
         };
-        let bytes = self.carry_out(task, extent, srb.data.as_slice())?;
-        Ok(Entry {
-            piece,
-            tag,
-            extent,
-            kind: task.kind(),
-            bytes,
-        })
+        let offset = extent.first * self.shape.sector_size() as u64;
+        let sent = srb.data.as_slice();
+        match task {
+            Task::Read => Ok(Moved::Read(Entry {
+                piece,
+                tag,
+                extent,
+                kind: task.kind(),
+                bytes: self.read(offset, sent.len())?,
+            })),
+            Task::Write { through } => {
+                write(&mut self.storage, offset, sent, through)?;
+                Ok(Moved::Sent)
+            }
+            Task::Flush => {
+                flush(&mut self.storage)?;
+                Ok(Moved::Sent)
+            }
+        }
     }
 
     /// Takes the memory of an entry back, for the next.

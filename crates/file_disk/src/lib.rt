@@ -20,7 +20,7 @@ mod storage;
 mod tests;
 
 pub use disk_file::DiskFile;
-pub use file_disk::{FileDisk, Sizes};
+pub use file_disk::{FileDisk, Moved, Sizes};
 pub use memory::MemoryFile;
 pub use moving::{read_all, write_all};
 pub use record::Record;

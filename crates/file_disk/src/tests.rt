@@ -6,7 +6,7 @@ use crate::{DiskFile, FileDisk, MemoryFile, Sizes, Storage, read_all, write_all}
 use arrayvec::ArrayVec;
 use ntstatus::Sense;
 use sector::Bytes;
-use srb::{CommandBlock, Completion, Entry, Kind, Srb, SrbFlags, SrbFunction};
+use srb::{CommandBlock, Completion, Kind, Srb, SrbFlags, SrbFunction};
 use std::alloc::Global;
 use std::fmt::Debug;
 use std::fs;
@@ -74,14 +74,15 @@ fn sevens(alloc: Global) -> Result<MemoryFile, Fail> {
 }
 
 /// Returns what a piece comes to: the first of its bytes, and how many, or how it failed.
-fn told(outcome: &Result<Entry, Completion>) -> Result<(Kind, u64, usize, Option<u8>), Completion> {
+fn told(outcome: &Result<Moved, Completion>) -> Result<(Kind, u64, usize, Option<u8>), Completion> {
     match outcome {
-        Ok(entry) => Ok((
+        Ok(Moved::Read(entry)) => Ok((
             entry.kind,
             entry.extent.first,
             entry.bytes.len(),
             entry.bytes.as_slice().first().copied(),
         )),
+        Ok(Moved::Sent) => Ok((Kind::Write, 0, 0, None)),
         Err(completion) => Err(*completion),
     }
 }
@@ -93,16 +94,16 @@ fn each_command_is_carried_out(rt: HostRuntime) -> Result<(), Fail> {
     let read = disk.transfer(0, 1, &srb(alloc, &READ, 64, 512)?);
     same(&rt, &told(&read), &Ok((Kind::Read, 1, 512, Some(7))));
     let written = disk.transfer(0, 2, &srb(alloc, &WRITE, 128, 512)?);
-    same(&rt, &told(&written), &Ok((Kind::Write, 1, 512, Some(9))));
-    if let Ok(entry) = written {
+    same(&rt, &told(&written), &Ok((Kind::Write, 0, 0, None)));
+    if let Ok(Moved::Read(entry)) = read {
         disk.take_back(entry);
     }
     let read = disk.transfer(0, 3, &srb(alloc, &READ, 64, 512)?);
     same(&rt, &told(&read), &Ok((Kind::Read, 1, 512, Some(9))));
     let through = disk.transfer(0, 4, &srb(alloc, &WRITE_THROUGH, 128, 512)?);
-    same(&rt, &told(&through), &Ok((Kind::Write, 1, 512, Some(9))));
+    same(&rt, &told(&through), &Ok((Kind::Write, 0, 0, None)));
     let synced = disk.transfer(0, 5, &srb(alloc, &SYNC, 0, 0)?);
-    same(&rt, &told(&synced), &Ok((Kind::Flush, 1, 0, None)));
+    same(&rt, &told(&synced), &Ok((Kind::Write, 0, 0, None)));
     let capacity = disk.transfer(0, 6, &srb(alloc, &CAPACITY, 64, 8)?);
     same(&rt, &told(&capacity), &Err(INVALID));
     let long = disk.transfer(0, 7, &srb(alloc, &READ, 64, 1024)?);

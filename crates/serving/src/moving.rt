@@ -10,7 +10,7 @@ ghost use Rattle.file_disk.specs.Transfers.{DiskView};
 ghost use Rattle.serving.specs.Carried.{BooksArmed, Goes, Requests, StandsIn, over};
 
 use compose::{Answer, Event, Refusal, Reply, Stack};
-use file_disk::{FileDisk, Storage};
+use file_disk::{FileDisk, Moved, Storage};
 use machine::Label;
 use miniport::BookedAdapter;
 use srb::{Booked, DeviceLabel};
@@ -165,10 +165,11 @@ fn book_armed<S: Storage + Drop>(stack: &mut Stack<BookedAdapter>, disk: &mut Fi
         return;
     };
     match disk.transfer(tag, piece, srb) {
-        Ok(mut entry) => {
+        Ok(Moved::Read(mut entry)) => {
             stack.book(tag, piece, Booked::Taken(&mut entry));
             disk.take_back(entry);
         }
+        Ok(Moved::Sent) => stack.book(tag, piece, Booked::Sent),
         Err(completion) => stack.book(tag, piece, Booked::Failed(completion)),
     }
 }
