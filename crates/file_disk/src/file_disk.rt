@@ -274,6 +274,6 @@ impl<S: Storage + Drop> FileDisk<S> {
     pub fn take_back(&mut self, entry: Entry)
         ensures { self.new ≡ self.old }
     {
-        self.room = entry.bytes.into_vec();
+        self.room = entry.bytes.into_spare();
     }
 }

@@ -31,4 +31,10 @@ pub trait Backing {
         requires long { length payload.items ≡ payload_of command }
         ensures carried { Carries command payload.items self.old (outcome_of result) self.new }
         ensures same { shape self.new ≡ shape self.old };
+
+    /// Memory that was kept, with whatever bytes it has.
+    fn lend(&mut self, alloc: Global) -> Vec<u8>;
+
+    /// Keeps memory for the next command.
+    fn take_back(&mut self, bytes: Vec<u8>);
 }

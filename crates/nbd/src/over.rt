@@ -11,7 +11,7 @@ use crate::handshake::{answer_options, greet};
 use crate::replies::Answer;
 use crate::requests::{ReplyError, Request, command_of, payload_count};
 use crate::session::{next_request, tell};
-use crate::streams::{skip, take_all};
+use crate::streams::{skip, take_all_in};
 use std::alloc::Global;
 use std::io::{Read, Write};
 
@@ -68,7 +68,10 @@ fn exchange<R: Read, W: Write, B: Backing>(
 {
     let request = next_request(input)?;
     let answer = serve_request(alloc, backing, input, request)?;
-    tell(out, request.cookie, answer)?;
+    tell(out, request.cookie, &answer)?;
+    if let Answer::Data(bytes) = answer {
+        backing.take_back(bytes);
+    }
     Ok(())
 }
 
@@ -93,7 +96,13 @@ fn serve_request<R: Read, B: Backing>(
             Ok(Answer::Refused(error))
         }
         Ok(command) => {
-            let Some(payload) = take_all(alloc, input, payload_count(request))? else {
+            let count = payload_count(request);
+            let room = if count == 0 {
+                Vec::new(alloc)
+            } else {
+                backing.lend(alloc)
+            };
+            let Some(payload) = take_all_in(room, input, count)? else {
                 return Ok(Answer::Refused(ReplyError::Enomem));
             };
             Ok(backing.carry_out(alloc, command, payload))

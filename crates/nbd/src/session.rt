@@ -69,7 +69,7 @@ fn exchange<R: Read, W: Write, A: Array>(
 {
     let request = next_request(input)?;
     let answer = serve_request(alloc, array, input, request)?;
-    tell(out, request.cookie, answer)?;
+    tell(out, request.cookie, &answer)?;
     Ok(())
 }
 
@@ -96,11 +96,11 @@ pub(crate) fn next_request<R: Read>(input: &mut R) -> Result<Request, End>
 /// # Errors
 ///
 /// [`End::Output`].
-pub(crate) fn tell<W: Write>(out: &mut W, cookie: u64, answer: Answer) -> Result<(), End>
-    ensures told { OnOk result (Appends (W.contents out.old) (W.contents out.new) (reply_bytes cookie (outcome_of answer))) }
+pub(crate) fn tell<W: Write>(out: &mut W, cookie: u64, answer: &Answer) -> Result<(), End>
+    ensures told { OnOk result (Appends (W.contents out.old) (W.contents out.new) (reply_bytes cookie (outcome_of answer.now))) }
     ensures ended { IfErr result (λ end. end ≡ End.Output) }
 {
-    let written = write_reply(out, cookie, &answer);
+    let written = write_reply(out, cookie, answer);
     if written.is_err() || out.flush().is_err() {
         return Err(End::Output);
     }

@@ -82,3 +82,22 @@ pub fn take_all<R: Read>(alloc: Global, input: &mut R, count: u32) -> Result<Opt
     take(input, bytes.as_mut_slice())?;
     Ok(Some(bytes))
 }
+
+/// Reads this many bytes into memory that was kept. Where more is refused they are passed over, and it returns nothing.
+///
+/// # Errors
+///
+/// [`End::Input`].
+pub fn take_all_in<R: Read>(
+    room: Vec<u8>,
+    input: &mut R,
+    count: u32,
+) -> Result<Option<Vec<u8>>, End> {
+    let mut bytes = room;
+    if bytes.resize(count as usize, 0).is_err() {
+        skip(input, count)?;
+        return Ok(None);
+    }
+    take(input, bytes.as_mut_slice())?;
+    Ok(Some(bytes))
+}

@@ -16,6 +16,7 @@ use ntstatus::NtStatus;
 use sector::Bytes;
 use std::alloc::Global;
 use std::marker::Model;
+use std::mem;
 
 /// How many zeros are written at once: whole sectors of either size.
 const PIECE: u32 = 1_048_576;
@@ -27,6 +28,8 @@ pub struct Filed<S: Storage + Drop> {
     pub(crate) disk: FileDisk<S>,
     pub(crate) handle: Handle,
     pub(crate) sizes: Sizes,
+    /// Memory for the bytes of the next request.
+    pub(crate) kept: Vec<u8>,
 }
 
 impl<S: Storage + Drop> Model for Filed<S> {
@@ -78,7 +81,10 @@ impl<S: Storage + Drop> Filed<S> {
         ensures same { self.new.sizes ≡ self.old.sizes }
     {
         match self.ask(alloc, event) {
-            Ok(_) => Ok(()),
+            Ok(bytes) => {
+                self.kept = bytes.into_spare();
+                Ok(())
+            }
             Err(error) => Err(error),
         }
     }
@@ -92,9 +98,10 @@ impl<S: Storage + Drop> Filed<S> {
         ensures reads { Reads self.old offset count result self.new }
         ensures same { self.new.sizes ≡ self.old.sizes }
     {
-        let Some(buffer) = zeros(alloc, count) else {
+        let mut buffer = mem::replace(&mut self.kept, Vec::new(alloc));
+        if buffer.resize(count as usize, 0).is_err() {
             return Err(ReplyError::Enomem);
-        };
+        }
         let event = Event::Read {
             handle: self.handle,
             offset,
@@ -252,5 +259,13 @@ impl<S: Storage + Drop> Backing for Filed<S> {
                 plain_answer(self.clear(alloc, offset, count, through))
             }
         }
+    }
+
+    fn lend(&mut self, alloc: Global) -> Vec<u8> {
+        mem::replace(&mut self.kept, Vec::new(alloc))
+    }
+
+    fn take_back(&mut self, bytes: Vec<u8>) {
+        self.kept = bytes;
     }
 }

@@ -217,6 +217,7 @@ pub fn open_file<S: Storage + Drop>(
         disk,
         handle,
         sizes,
+        kept: Vec::new(alloc),
     })
 }
 
