@@ -110,4 +110,9 @@ pub trait Adapter: Drop {
     fn take_label(&mut self) -> Option<DeviceLabel>
         ensures takes { MatchOption result (HasNoLabel (view self.old) (view self.new)) (λ label. LeavesFirst (view self.old) label (view self.new)) }
         ensures order { IsInOrder (view self.new) };
+
+    /// Forgets all labels that were not taken.
+    fn forget_labels(&mut self)
+        ensures forgets { view self.new ≡ record (view self.old) { labels = [] } }
+        ensures order { IsInOrder (view self.new) };
 }

@@ -169,6 +169,11 @@ impl<D: Device> Device for Disk<D> {
         label
     }
 
+    fn forget_labels(&mut self) {
+        self.extension.device.forget_labels();
+        self.extension.device.shows_order();
+    }
+
     ghost srb_is = { refl };
 
     ghost size_is = { refl };

@@ -170,6 +170,9 @@ pub trait Device: Shown {
     fn take_label(&mut self) -> Option<DeviceLabel>
         ensures takes { TakesLabel (Self.view self.old) result (Self.view self.new) };
 
+    /// Forgets all labels that the adapter recorded and that nobody took.
+    fn forget_labels(&mut self);
+
     /// The constants are what is shown of them.
     ghost srb_is: { TAKES_SRB ≡ Self.takes_srb };
 

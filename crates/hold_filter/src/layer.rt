@@ -145,6 +145,11 @@ impl<D: Device> Device for Filter<D> {
         label
     }
 
+    fn forget_labels(&mut self) {
+        self.parts.device.forget_labels();
+        self.parts.device.shows_order();
+    }
+
     ghost srb_is = { refl };
 
     ghost size_is = { ap stack_over D.size_is };

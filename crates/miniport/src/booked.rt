@@ -125,4 +125,8 @@ impl Adapter for BookedAdapter {
     fn take_label(&mut self) -> Option<DeviceLabel> {
         self.inner.take_label()
     }
+
+    fn forget_labels(&mut self) {
+        self.inner.forget_labels();
+    }
 }

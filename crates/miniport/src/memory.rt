@@ -252,6 +252,10 @@ impl<M: Medium> Adapter for MemAdapter<M> {
     {
         self.table.take_label()
     }
+
+    fn forget_labels(&mut self) {
+        self.table.forget_labels();
+    }
 }
 
 /// Carries the command of a piece out, and puts it back on its tag.

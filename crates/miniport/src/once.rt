@@ -177,4 +177,8 @@ impl<M: Medium> Adapter for OnceAdapter<M> {
     {
         self.inner.take_label()
     }
+
+    fn forget_labels(&mut self) {
+        self.inner.forget_labels();
+    }
 }

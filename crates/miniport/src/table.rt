@@ -357,6 +357,13 @@ impl TagTable {
         let label = self.labels.pop_front()?;
         Some(self.told(label))
     }
+
+    /// All labels leave, and nobody reads them.
+    pub fn forget_labels(&mut self) {
+        while let Some(label) = self.labels.pop_front() {
+            drop(label);
+        }
+    }
 }
 
 /// Whether this is the act on a tag.

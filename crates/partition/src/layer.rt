@@ -173,6 +173,11 @@ impl<D: Device> Device for Partitions<D> {
         label
     }
 
+    fn forget_labels(&mut self) {
+        self.parts.device.forget_labels();
+        self.parts.device.shows_order();
+    }
+
     ghost srb_is = { D.srb_is };
 
     ghost size_is = { ap (λ (n : ℕ). min (n + 1) (2 ^ 64 - 1)) D.size_is };

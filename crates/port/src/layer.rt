@@ -251,6 +251,10 @@ impl<A: Adapter> Device for Port<A> {
         self.parts.adapter.take_label()
     }
 
+    fn forget_labels(&mut self) {
+        self.parts.adapter.forget_labels();
+    }
+
     ghost srb_is = { refl };
 
     ghost size_is = { refl };
