@@ -305,25 +305,14 @@ fn sizes_on<M: Medium>(medium: &M, write_protected: bool) -> Sizes
 }
 
 /// Whether this may be booked of a piece.
-fn is_bookable_piece(
-    sizes: &Sizes,
-    on_tag: &OnTag,
-    piece: u128,
-    what: &Booked<'_>,
-) -> bool
+fn is_bookable_piece(sizes: &Sizes, on_tag: &OnTag, piece: u128, what: &Booked<'_>) -> bool
     ensures { Decides result (SuitsPiece sizes.now.sector_size sizes.now.sectors on_tag.now piece (handed what.entry)) }
 {
     piece != 0 && on_tag.piece == piece && suits(sizes, &on_tag.srb, what)
 }
 
 /// Whether this may be booked of the tag's piece.
-fn is_bookable(
-    sizes: &Sizes,
-    table: &TagTable,
-    tag: u8,
-    piece: u128,
-    what: &Booked<'_>,
-) -> bool
+fn is_bookable(sizes: &Sizes, table: &TagTable, tag: u8, piece: u128, what: &Booked<'_>) -> bool
     ensures { MatchBool result (CanBook sizes.now table.now tag piece (handed what.entry)) (CannotBook sizes.now table.now tag piece (handed what.entry)) }
 {
     match table.untouched(tag) {
@@ -333,13 +322,7 @@ fn is_bookable(
 }
 
 /// Books of the tag's piece, where this may be; whether it was.
-fn book_on(
-    sizes: &Sizes,
-    table: &mut TagTable,
-    tag: u8,
-    piece: u128,
-    what: Booked<'_>,
-) -> bool
+fn book_on(sizes: &Sizes, table: &mut TagTable, tag: u8, piece: u128, what: Booked<'_>) -> bool
     requires { (on : OnTag) → piece_at table.old.slots tag ≡ Some on → on.progress ≡ Untouched → length on.srb.for_label ≡ length on.srb.data }
     ensures { MatchBool result (BooksIn sizes.now table.old tag piece (handed what.entry) table.new) (CannotBook sizes.now table.old tag piece (handed what.entry) × (table.new ≡ table.old)) }
 {

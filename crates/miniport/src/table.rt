@@ -249,11 +249,10 @@ impl TagTable {
         let on_tag = self.take(tag)?;
         let completion = on_tag.completion();
         let OnTag { piece, srb, .. } = on_tag;
-        self.labels
-            .push_back_reserved(Recorded::Told(DeviceLabel::Return {
-                piece,
-                class: completion.class(),
-            }));
+        self.labels.push_back_reserved(Recorded::Told(DeviceLabel::Return {
+            piece,
+            class: completion.class(),
+        }));
         let sense = completion.sense;
         Some((Srb { sense, ..srb }, completion))
     }
