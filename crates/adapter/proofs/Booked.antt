@@ -8,11 +8,13 @@ use Rattle.std.proofs.lemmas.Bool.Decides.{eqb_tells}
 use Rattle.std.proofs.lemmas.Bool.{cases_lt}
 use Rattle.cdb.specs.declared.Cdb.{Cdb}
 use Rattle.cdb.specs.declared.Cdb.TheVariants.{Read10, Write10, Sync10, ReadCapacity10, Read16, Write16, Sync16, ReadCapacity16}
+use Rattle.cdb.specs.Meaning.{AsksToWrite}
+use Rattle.cdb.proofs.Once.{means_once}
 use Rattle.srb.specs.declared.Srb.{Srb}
 use Rattle.srb.specs.declared.Entry.{Entry}
 use Rattle.srb.specs.declared.Completion.{Completion}
-use Rattle.adapter.specs.View.{TagInUse, AdapterView, IsInOrder, IsOn, HaveOtherTags}
-use Rattle.adapter.specs.Booking.{MayBeOf, Suits, IsBookable, Books, with_booked, booked_on, with_booking}
+use Rattle.adapter.specs.View.{TagInUse, AdapterView, IsInOrder, IsOn, HaveOtherTags, IsSpoiled}
+use Rattle.adapter.specs.Booking.{MayBeOf, IsOfSrb, Suits, IsBookable, Books, with_booked, booked_on, with_booking}
 
 -- ONE PIECE ON A TAG
 
@@ -70,6 +72,29 @@ suits_as_long size sectors srb (Err completion) h = tt
 pub all_as_long : (v : AdapterView) (tag piece : ℕ) (what : Result Entry Completion) → IsInOrder v → IsBookable v tag piece what → All (λ w. w.tag ≡ tag → IsAsLong what w.srb) v.tags
 all_as_long v tag piece what order h =
     all_on_tag (λ w. IsAsLong what w.srb) v tag h.use' h.others order.tags_differ h.is_on (suits_as_long v.sector_size (length v.sectors) h.use'.srb what h.suits)
+
+-- A WRITE'S DATA STAY
+
+write_stays : (size sectors lba count : ℕ) (fua : Bool) (srb : Srb) (entry : Entry) → IsOfSrb size sectors srb entry → AsksToWrite srb.block lba count fua → entry.bytes ≡ srb.data
+write_stays size sectors lba count fua srb entry h (inl asks) =
+    (subst (λ c. MayBeOf size sectors srb.data entry c) (means_once srb.block h.command (Write10 lba count fua) h.means asks) h.may).1
+write_stays size sectors lba count fua srb entry h (inr asks) =
+    (subst (λ c. MayBeOf size sectors srb.data entry c) (means_once srb.block h.command (Write16 lba count fua) h.means asks) h.may).1
+
+-- the SRB of what was booked is as one that failed may be: as many data, and a write's are those that they were
+pub suits_spoils : (size sectors : ℕ) (u : TagInUse) (what : Result Entry Completion) → Suits size sectors u.srb what → IsSpoiled u.srb (with_booked what u).srb
+suits_spoils size sectors u (Ok entry) h = record {
+  same = refl;
+  as_many = suits_long size sectors u.srb entry h;
+  of_write = λ lba count fua asks. write_stays size sectors lba count fua u.srb entry h asks;
+}
+suits_spoils size sectors u (Err completion) h = record { same = refl; as_many = refl; of_write = λ lba count fua asks. refl }
+
+pub all_spoiled : (v : AdapterView) (tag piece : ℕ) (what : Result Entry Completion) → IsInOrder v → IsBookable v tag piece what
+    → All (λ w. w.tag ≡ tag → IsSpoiled w.srb (with_booked what w).srb) v.tags
+all_spoiled v tag piece what order h =
+    all_on_tag (λ w. IsSpoiled w.srb (with_booked what w).srb) v tag h.use' h.others order.tags_differ h.is_on
+    (suits_spoils v.sector_size (length v.sectors) h.use' what h.suits)
 
 -- WHAT A BOOKING LEAVES
 

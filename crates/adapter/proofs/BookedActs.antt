@@ -44,4 +44,4 @@ booked_acts v tag piece entry v' h can order acting bytes w act =
     let same : act.use' ≡ mine = on_tag_once v'.tags order.tags_differ act.use' mine (is_there v' tag act.use' act.others act.is_on) there (act.is_on.has_tag ∙ sym can.is_on.has_tag) in
     let number : acting ≡ piece = sym act.is_piece ∙ ap (λ (u : TagInUse). u.piece) same ∙ can.is_piece in
     let faith : IsFalse v'.faithful = subst (λ (x : AdapterView). IsFalse x.faithful) (sym is) can.apart in
-    (number, (act.as_booked faith (λ z. can.not_first (sym number ∙ z))).1 ∙ ap (λ (u : TagInUse). u.srb.for_label) same)
+    (number, (act.as_booked faith (λ z. can.not_first (sym number ∙ z))).1 ∙ ap (λ (u : TagInUse). u.srb.data) same)

@@ -2,4 +2,5 @@ pub mod Joining
 pub mod Performing
 pub mod Booked
 pub mod BookedActs
+pub mod Handed
 pub mod Tagged

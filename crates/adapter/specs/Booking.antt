@@ -1,7 +1,7 @@
 -- What is booked of a piece, by an adapter whose sectors stand elsewhere: what its act did there, or how it failed.
-use Rattle.std.specs.Prelude.{◌≡◌, ◌≢◌, ◌≤◌, ℕ, ◌+◌, ◌*◌, ◌==◌, Bool, true, false, List, map, length, Result, Ok, Err, IsFalse, if◌then◌else◌}
+use Rattle.std.specs.Prelude.{◌≡◌, ◌≢◌, ◌≤◌, ◌↔◌, ℕ, ◌+◌, ◌*◌, ◌==◌, ◌||◌, nat_lt, Bool, true, false, List, [], ◌∷◌, map, length, slice_index, Option, Some, None, Result, Ok, Err, IsFalse, if◌then◌else◌}
 use Rattle.std.specs.Bool.{Decides}
-use denote.Ref.{Bor}
+use Rattle.byteorder.specs.Endian.{big_from}
 use Rattle.sector.specs.declared.Extent.{Extent}
 use Rattle.cdb.specs.declared.Cdb.{Cdb}
 use Rattle.cdb.specs.declared.Cdb.TheVariants.{Read10, Write10, Sync10, ReadCapacity10, Read16, Write16, Sync16, ReadCapacity16}
@@ -10,6 +10,8 @@ use Rattle.srb.specs.declared.Srb.{Srb}
 use Rattle.srb.specs.declared.Kind.{Kind}
 use Rattle.srb.specs.declared.Kind.TheVariants.{Read, Write, Flush}
 use Rattle.srb.specs.declared.Entry.{Entry}
+use Rattle.srb.specs.declared.Booked.{Booked}
+use Rattle.srb.specs.declared.Booked.TheVariants.{Copied, Taken, Sent, Failed}
 use Rattle.srb.specs.declared.Completion.{Completion}
 use Rattle.srb.specs.declared.Class.TheVariants.{Bad}
 use Rattle.srb.specs.Fate.{Fresh, class_of}
@@ -77,16 +79,79 @@ pub record IsBookable (view : AdapterView) (tag piece : ℕ) (what : Result Entr
   pub not_first : piece ≢ 0
   pub suits : Suits view.sector_size (length view.sectors) use'.srb what
 
+-- WHAT IS HANDED OVER
+
+-- the sectors that the SRB's block asks for, in the form of ten bytes or of sixteen
+abbrev pub asked_extent : List ℕ → Extent
+asked_extent block =
+    if nat_lt (slice_index block 0) 128
+    then record { first = big_from 2 4 block; count = big_from 7 2 block }
+    else record { first = big_from 2 8 block; count = big_from 10 4 block }
+
+-- the operation code of WRITE(10) or WRITE(16)
+abbrev pub is_write_code : ℕ → Bool
+is_write_code code = (code == 0x2A) || (code == 0x8A)
+
+-- the entry of an act that wrote what the SRB sends, or flushed
+abbrev pub entry_sent : ℕ → ℕ → Srb → Entry
+entry_sent tag piece srb = record {
+  piece = piece;
+  tag = tag;
+  extent = asked_extent srb.block;
+  kind = if is_write_code (slice_index srb.block 0) then Write else Flush;
+  bytes = srb.data;
+}
+
+-- these bytes are all sectors of a write, which lie in the disk, or the none of a flush
+abbrev pub SendsFor : ℕ → ℕ → List ℕ → Cdb → Type 0
+SendsFor size sectors bytes (Read10 lba count fua) = ⊥
+SendsFor size sectors bytes (Write10 lba count fua) = (lba + count ≤ sectors) × (length bytes ≡ count * size)
+SendsFor size sectors bytes (Sync10 lba count) = length bytes ≡ 0
+SendsFor size sectors bytes ReadCapacity10 = ⊥
+SendsFor size sectors bytes (Read16 lba count fua) = ⊥
+SendsFor size sectors bytes (Write16 lba count fua) = (lba + count ≤ sectors) × (length bytes ≡ count * size)
+SendsFor size sectors bytes (Sync16 lba count) = length bytes ≡ 0
+SendsFor size sectors bytes (ReadCapacity16 allocation) = ⊥
+
+-- the SRB asks for a write of all that it sends, or for a flush
+pub record SendsAll (size sectors : ℕ) (srb : Srb) : Type 0 where
+  pub command : Cdb
+  pub means : Means srb.block command
+  pub sends : SendsFor size sectors srb.data command
+
+-- the law: of such an SRB, and of no other, the entry of what it sends may be booked
+abbrev pub SentSuits : Type 0
+SentSuits = (size sectors tag piece : ℕ) (srb : Srb) → SendsAll size sectors srb ↔ Suits size sectors srb (Ok (entry_sent tag piece srb))
+
+-- what a call hands over, of the piece with this SRB
+abbrev pub handed_of : ℕ → ℕ → Srb → Booked → Result Entry Completion
+handed_of tag piece srb (Copied entry) = Ok entry.now
+handed_of tag piece srb (Taken entry) = Ok entry.now
+handed_of tag piece srb Sent = Ok (entry_sent tag piece srb)
+handed_of tag piece srb (Failed completion) = Err completion
+
+-- the SRB of the tag's piece
+abbrev pub srb_on : ℕ → List TagInUse → Option Srb
+srb_on tag [] = None
+srb_on tag (use' ∷ others) = if use'.tag == tag then Some use'.srb else srb_on tag others
+
+-- of a free tag nothing is sent: a completion that may not be booked stands for it
+abbrev pub sent_of : ℕ → ℕ → Option Srb → Result Entry Completion
+sent_of tag piece (Some srb) = Ok (entry_sent tag piece srb)
+sent_of tag piece None = Err (record { srb_status = 1; scsi_status = 0; sense = None })
+
+-- what a call hands over, where what is sent is that of the SRB on the tag
+abbrev pub handed : AdapterView → ℕ → ℕ → Booked → Result Entry Completion
+handed view tag piece (Copied entry) = Ok entry.now
+handed view tag piece (Taken entry) = Ok entry.now
+handed view tag piece Sent = sent_of tag piece (srb_on tag view.tags)
+handed view tag piece (Failed completion) = Err completion
+
 -- BOOKING
 
--- what a call is handed to book
-abbrev pub handed : Result (Bor Entry) Completion → Result Entry Completion
-handed (Ok entry) = Ok entry.now
-handed (Err completion) = Err completion
-
--- the bytes stand in the second buffer; of a failure nothing is shown
+-- the bytes stand in the SRB's data, where those of a write stand already; of a failure nothing is shown
 abbrev pub with_booked : Result Entry Completion → TagInUse → TagInUse
-with_booked (Ok entry) use' = record use' { booked = true; srb = record use'.srb { for_label = entry.bytes } }
+with_booked (Ok entry) use' = record use' { booked = true; srb = record use'.srb { «data» = entry.bytes } }
 with_booked (Err completion) use' = record use' { booked = false }
 
 abbrev pub booked_on : ℕ → Result Entry Completion → TagInUse → TagInUse

@@ -25,7 +25,7 @@ pub record TagInUse : Type 0 where
   pub failures_before : ℕ
   -- met by a reset
   pub was_reset : Bool
-  -- the bytes of its act were booked: they stand in the second buffer of its SRB
+  -- the bytes of its act were booked: they stand in the data of its SRB
   pub booked : Bool
 
 -- what an adapter shows
@@ -91,7 +91,7 @@ pub record IsOn (view : AdapterView) (tag : ℕ) (use' : TagInUse) (others : Lis
   pub in_use : IsPermutation view.tags (use' ∷ others)
   pub has_tag : use'.tag ≡ tag
 
--- an SRB after its command failed: the bytes of its buffers may be others, but for a write's data, and it has as many data
+-- an SRB after its command failed: its data may be other bytes, as many, but for a write's, and its room for the label may be less
 pub record IsSpoiled (before after : Srb) : Type 0 where
   pub same : after ≡ record before { «data» = after.data; for_label = after.for_label }
   pub as_many : length after.data ≡ length before.data
@@ -101,8 +101,8 @@ pub record IsSpoiled (before after : Srb) : Type 0 where
 abbrev pub faulted : Srb → TagInUse → TagInUse
 faulted srb use' = record use' { fate = Faulted; srb = srb }
 
--- its piece acted: the SRB's data are what it moved; of the second buffer, in which they go out, this is left
-abbrev pub acted : List (List ℕ) → List ℕ → TagInUse → TagInUse
+-- its piece acted: the SRB's data are what it moved; of the room for the label, in which they go out, this is left
+abbrev pub acted : List (List ℕ) → ℕ → TagInUse → TagInUse
 acted moved left use' = record use' {
   fate = Acted moved;
   srb = record use'.srb { «data» = concat moved; for_label = left };
@@ -158,7 +158,7 @@ pub record StartsOn (old : AdapterView) (tag piece : ℕ) (block : List ℕ) (ne
 
 -- where the sectors stand elsewhere, the bytes were booked; not for piece 0
 abbrev pub IsAsBooked : Bool → ℕ → TagInUse → List ℕ → Type 0
-IsAsBooked faithful piece use' bytes = IsFalse faithful → piece ≢ 0 → IsTrue use'.booked × (bytes ≡ use'.srb.for_label)
+IsAsBooked faithful piece use' bytes = IsFalse faithful → piece ≢ 0 → IsTrue use'.booked × (bytes ≡ use'.srb.data)
 
 -- the tag's piece, which had done nothing yet, is carried out in one step; piece 0, by which a disk is looked at before its first
 -- request, reads what every adapter shows
@@ -168,7 +168,7 @@ pub record ActsOn (old : AdapterView) (tag piece : ℕ) (bytes : List ℕ) (new 
   pub command : Cdb
   pub moved : List (List ℕ)
   pub sectors : List (List ℕ)
-  pub left : List ℕ
+  pub left : ℕ
   pub tags : List TagInUse
   pub is_on : IsOn old tag use' others
   pub is_piece : use'.piece ≡ piece

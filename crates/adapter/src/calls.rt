@@ -90,8 +90,9 @@ pub trait Adapter: Drop {
 
     /// Books what the act of the tag's piece did, or how it failed, where the sectors stand elsewhere; its next act is that.
     /// Nothing changes where the tag has no such piece that has neither acted nor failed, or what is to be booked isn't its.
+    /// No memory is taken: the bytes of a read come into the place of the SRB's data, those of a write stand there.
     fn book(&mut self, tag: u8, piece: u128, what: Booked<'_>)
-        ensures books { Books (view self.old) tag piece (handed what.entry) (view self.new) }
+        ensures books { Books (view self.old) tag piece (handed (view self.old) tag piece what.entry) (view self.new) }
         ensures order { IsInOrder (view self.new) };
 
     /// Hands the tag's piece back and frees the tag. None where the tag is free.

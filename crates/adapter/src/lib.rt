@@ -10,5 +10,7 @@
 #![tactic(auto)]
 
 mod calls;
+mod laws;
 
 pub use calls::Adapter;
+pub use laws::sent_suits;

@@ -301,3 +301,7 @@ TakesLabel old None new = (old.adapter.labels ≡ []) × (new ≡ old)
 TakesLabel old (Some label) new =
     (rest : List DeviceLabel) × (old.adapter.labels ≡ label ∷ rest)
     × (new ≡ record old { adapter = record old.adapter { labels = rest } })
+
+-- none of the adapter's labels is left, and nothing else changes
+abbrev pub ForgetsLabels : DeviceView → DeviceView → Type 0
+ForgetsLabels old new = new ≡ record old { adapter = record old.adapter { labels = [] } }

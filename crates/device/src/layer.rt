@@ -12,7 +12,7 @@ ghost use Rattle.device.specs.Served.{ReservesSpot, ReservesNone, ReservesNear, 
 ghost use Rattle.device.specs.Served.{BooksPiece};
 ghost use Rattle.device.specs.Served.{Finishes, FinishesNot, Resets, CancelsIfOpen, CancelsAt, DrainsAll};
 ghost use Rattle.device.specs.Served.{PausesAll, ResumesAll};
-ghost use Rattle.device.specs.Served.{HandsUp, HandsUpNone, TakesLabel};
+ghost use Rattle.device.specs.Served.{HandsUp, HandsUpNone, TakesLabel, ForgetsLabels};
 
 use crate::{Climb, Request};
 use irp::Irp;
@@ -132,7 +132,7 @@ pub trait Device: Shown {
     /// next act is that. Nothing changes where the tag has no such piece that has neither acted nor failed, or what
     /// is to be booked isn't its.
     fn book(&mut self, tag: u8, piece: u128, what: Booked<'_>)
-        ensures books { BooksPiece (Self.view self.old) tag piece (handed what.entry) (Self.view self.new) };
+        ensures books { BooksPiece (Self.view self.old) tag piece (handed (Self.view self.old).adapter tag piece what.entry) (Self.view self.new) };
 
     /// Takes the piece of a tag back; true where the tag was in use. Else nothing changes.
     fn finish(&mut self, tag: u8) -> bool
@@ -171,7 +171,8 @@ pub trait Device: Shown {
         ensures takes { TakesLabel (Self.view self.old) result (Self.view self.new) };
 
     /// Forgets all labels that the adapter recorded and that nobody took.
-    fn forget_labels(&mut self);
+    fn forget_labels(&mut self)
+        ensures forgets { ForgetsLabels (Self.view self.old) (Self.view self.new) };
 
     /// The constants are what is shown of them.
     ghost srb_is: { TAKES_SRB ≡ Self.takes_srb };
