@@ -7,7 +7,6 @@ use Rattle.nbd.specs.declared.arrays.Sizes.{Sizes}
 use Rattle.nbd.specs.declared.requests.Request.{Request}
 use Rattle.nbd.specs.declared.requests.Command.{Command}
 use Rattle.nbd.specs.declared.requests.ReplyError.{ReplyError}
-use Rattle.nbd.specs.declared.requests.ReplyError.TheVariants.{Enomem}
 use Rattle.nbd.specs.declared.options.Next.TheVariants.{Requests}
 use Rattle.nbd.specs.Requests.{command_in, payload_count}
 use Rattle.nbd.specs.Replies.{Outcome, failure, reply_bytes}
@@ -89,6 +88,12 @@ module _ {S : Type 0} (Carries : Command → List ℕ → S → Outcome → S �
   exchanged old new input mid rest out after r o t s told =
       let x = exchange_of old new input mid rest r o t s in
       record { exchange = x.0; is = x.1; taken = x.2; told = subst (Appends out after) (sym x.3) told }
+
+  -- then the storage kept the memory of the answer
+  pub exchanged_and_kept : (old new kept : S) (input mid rest out after : Option (List ℕ)) (r : Request) (o : Outcome) → kept ≡ new → TakesRequest input mid r → IsServedOver Carries sizes r old mid rest o new
+      → Appends out after (reply_bytes r.cookie o) → IsExchangedOver Carries sizes old input out kept rest after
+  exchanged_and_kept old new kept input mid rest out after r o same t s told =
+      subst (λ (x : S). IsExchangedOver Carries sizes old input out x rest after) (sym same) (exchanged old new input mid rest out after r o t s told)
 
   -- served, but its reply could not be written
   pub ends_untold : (old new : S) (input mid rest out after : Option (List ℕ)) (r : Request) (o : Outcome) (end : End) → end ≡ Output → TakesRequest input mid r

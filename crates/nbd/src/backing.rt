@@ -33,8 +33,10 @@ pub trait Backing {
         ensures same { shape self.new ≡ shape self.old };
 
     /// Memory that was kept, with whatever bytes it has.
-    fn lend(&mut self, alloc: Global) -> Vec<u8>;
+    fn lend(&mut self, alloc: Global) -> Vec<u8>
+        ensures same { self.new ≡ self.old };
 
     /// Keeps memory for the next command.
-    fn take_back(&mut self, bytes: Vec<u8>);
+    fn take_back(&mut self, bytes: Vec<u8>)
+        ensures same { self.new ≡ self.old };
 }

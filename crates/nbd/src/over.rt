@@ -69,10 +69,17 @@ fn exchange<R: Read, W: Write, B: Backing>(
     let request = next_request(input)?;
     let answer = serve_request(alloc, backing, input, request)?;
     tell(out, request.cookie, &answer)?;
+    keep(backing, answer);
+    Ok(())
+}
+
+/// Hands the memory of an answer back, for the next command.
+fn keep<B: Backing>(backing: &mut B, answer: Answer)
+    ensures { backing.new ≡ backing.old }
+{
     if let Answer::Data(bytes) = answer {
         backing.take_back(bytes);
     }
-    Ok(())
 }
 
 /// Does what a request asks for, if it may be done. The bytes behind it are taken in each case.
@@ -97,15 +104,22 @@ fn serve_request<R: Read, B: Backing>(
         }
         Ok(command) => {
             let count = payload_count(request);
-            let room = if count == 0 {
-                Vec::new(alloc)
-            } else {
-                backing.lend(alloc)
-            };
-            let Some(payload) = take_all_in(room, input, count)? else {
+            let kept = kept_for(alloc, backing, count);
+            let Some(payload) = take_all_in(kept, input, count)? else {
                 return Ok(Answer::Refused(ReplyError::Enomem));
             };
             Ok(backing.carry_out(alloc, command, payload))
         }
+    }
+}
+
+/// Returns memory for the bytes behind a request. Where none come, the storage keeps what it has.
+fn kept_for<B: Backing>(alloc: Global, backing: &mut B, count: u32) -> Vec<u8>
+    ensures { backing.new ≡ backing.old }
+{
+    if count == 0 {
+        Vec::new(alloc)
+    } else {
+        backing.lend(alloc)
     }
 }

@@ -1,6 +1,6 @@
 //! Bytes from a reader.
 
-ghost use Rattle.std.specs.Prelude.{◌≡◌, ◌≤◌, IfErr, IfOk, IfSome, MatchOption, OnOk, replicate};
+ghost use Rattle.std.specs.Prelude.{◌≡◌, ◌≤◌, IfErr, IfOk, IfSome, MatchOption, OnOk, length, replicate};
 ghost use Rattle.std.specs.Io.KnownBytes.{Consumes};
 ghost use Rattle.nbd.specs.inside.Streams.{Skips, Takes};
 
@@ -83,21 +83,34 @@ pub fn take_all<R: Read>(alloc: Global, input: &mut R, count: u32) -> Result<Opt
     Ok(Some(bytes))
 }
 
+/// Returns memory that was kept with room for this many bytes, or nothing where more is refused.
+fn sized(kept: Vec<u8>, count: u32) -> Option<Vec<u8>>
+    ensures { IfSome result (λ room. length room.items ≡ count) }
+{
+    let mut room = kept;
+    match room.resize(count as usize, 0) {
+        Ok(()) => Some(room),
+        Err(_) => None,
+    }
+}
+
 /// Reads this many bytes into memory that was kept. Where more is refused they are passed over, and it returns nothing.
 ///
 /// # Errors
 ///
 /// [`End::Input`].
 pub fn take_all_in<R: Read>(
-    room: Vec<u8>,
+    kept: Vec<u8>,
     input: &mut R,
     count: u32,
-) -> Result<Option<Vec<u8>>, End> {
-    let mut bytes = room;
-    if bytes.resize(count as usize, 0).is_err() {
+) -> Result<Option<Vec<u8>>, End>
+    ensures taken { IfOk result (λ found. MatchOption found (Skips count (R.remaining input.old) (R.remaining input.new)) (λ bytes. Takes count (R.remaining input.old) (R.remaining input.new) bytes.items)) }
+    ensures ended { IfErr result (λ end. end ≡ End.Input) }
+{
+    let Some(mut room) = sized(kept, count) else {
         skip(input, count)?;
         return Ok(None);
-    }
-    take(input, bytes.as_mut_slice())?;
-    Ok(Some(bytes))
+    };
+    take(input, room.as_mut_slice())?;
+    Ok(Some(room))
 }

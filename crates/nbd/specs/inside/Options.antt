@@ -1,5 +1,5 @@
 -- What one option takes of the stream.
-use Rattle.std.specs.Prelude.{◌≡◌, ℕ, ◌+◌, List, ◌++◌, length, Option}
+use Rattle.std.specs.Prelude.{◌≡◌, ℕ, List, ◌++◌, length, Option}
 use Rattle.std.specs.Io.KnownBytes.{Consumes}
 use Rattle.nbd.specs.declared.options.Wish.{Wish}
 use Rattle.nbd.specs.Options.{wish_in, IsOptionHeader}

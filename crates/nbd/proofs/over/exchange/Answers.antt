@@ -1,5 +1,5 @@
 use Rattle.std.proofs.Common.{◌≡◌, Err, rules}
-use Rattle.nbd.proofs.Overs.{ends_at_once, ends_unserved, ends_untold, exchanged}
+use Rattle.nbd.proofs.Overs.{ends_at_once, ends_unserved, ends_untold, exchanged_and_kept}
 use Rattle.nbd.proofs.over.exchange.Goals as goal
 
 pub returns-in_err-request-clause-ended : goal.returns-in_err-request-clause-ended
@@ -19,4 +19,4 @@ returns-in_err-tell-clause-ended g c =
 
 pub returns-clause-exchanged : goal.returns-clause-exchanged
 returns-clause-exchanged g c =
-    exchanged g.B.Backing.Carries _ _ _ _ _ _ _ _ _ _ c.in_ok-request.ensures.taken c.in_ok-answer.ensures.served c.in_ok-tell.ensures.told
+    exchanged_and_kept g.B.Backing.Carries _ _ _ _ _ _ _ _ _ _ _ c.keep.ensures c.in_ok-request.ensures.taken c.in_ok-answer.ensures.served c.in_ok-tell.ensures.told
