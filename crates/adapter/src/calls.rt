@@ -9,7 +9,7 @@ use std::alloc::AllocError;
 /// A label that isn't taken yet has a place in the record of labels, which has 64; callers keep the places that a call
 /// asks for.
 pub trait Adapter: Drop {
-    ghost use Rattle.std.specs.Prelude.{◌≡◌, ◌⊎◌, ◌<◌, ◌≤◌, ◌^◌, ◌+◌, ℕ, length, Any, IsOk, OnOk, MatchBool, MatchOption};
+    ghost use Rattle.std.specs.Prelude.{◌≡◌, ◌⊎◌, ◌<◌, ◌≤◌, ◌^◌, ◌+◌, ℕ, [], length, Any, IsOk, OnOk, MatchBool, MatchOption};
     ghost use Rattle.adapter.specs.View.{AdapterView, HasTag, IsFree, IsInOrder, IsReserved, IsWritable, ReservesMore, ReservesNear, Accepts};
     ghost use Rattle.adapter.specs.Calls.{ActsOrFaults, ActsNot, Finishes, FinishesNot, Resets, LeavesFirst, HasNoLabel, HasNoneFresh};
     ghost use Rattle.adapter.specs.Booking.{IsArmed, Books, handed};
