@@ -5,7 +5,10 @@ use Rattle.cdb.specs.declared.Cdb.{Cdb}
 use Rattle.cdb.specs.declared.Cdb.TheVariants.{Read10, Write10, Sync10, ReadCapacity10, Read16, Write16, Sync16, ReadCapacity16}
 use Rattle.cdb.specs.declared.CdbFault.{CdbFault}
 use Rattle.cdb.specs.declared.CdbFault.TheVariants.{ShortCdb, UnknownOpcode, InvalidField}
+use Rattle.cdb.specs.declared.Direction.{Direction}
+use Rattle.cdb.specs.declared.Direction.TheVariants.{DataIn, DataOut, NoData}
 use Rattle.cdb.specs.Meaning.{Means}
+pub use Rattle.cdb.specs.Facts.{lba_of, blocks_of, bytes_of, direction_of, is_out}
 use Rattle.cdb.specs.Faults.{HasFault}
 use Rattle.ntstatus.specs.First.{when, first_some}
 use Rattle.srb.specs.declared.Srb.{Srb}
@@ -56,48 +59,14 @@ is_execute ExecuteScsi = true
 is_execute AbortCommand = false
 is_execute ResetBus = false
 
--- the first sector that a command names, and how many
-abbrev pub lba_of : Cdb → ℕ
-lba_of (Read10 lba count fua) = lba
-lba_of (Write10 lba count fua) = lba
-lba_of (Sync10 lba blocks) = lba
-lba_of ReadCapacity10 = 0
-lba_of (Read16 lba count fua) = lba
-lba_of (Write16 lba count fua) = lba
-lba_of (Sync16 lba blocks) = lba
-lba_of (ReadCapacity16 allocation) = 0
+-- the SRB's flags for a direction: DATA_IN, DATA_OUT or none
+abbrev pub flags_for : Direction → ℕ
+flags_for DataIn = 0x40
+flags_for DataOut = 0x80
+flags_for NoData = 0
 
-abbrev pub blocks_of : Cdb → ℕ
-blocks_of (Read10 lba count fua) = count
-blocks_of (Write10 lba count fua) = count
-blocks_of (Sync10 lba blocks) = blocks
-blocks_of ReadCapacity10 = 0
-blocks_of (Read16 lba count fua) = count
-blocks_of (Write16 lba count fua) = count
-blocks_of (Sync16 lba blocks) = blocks
-blocks_of (ReadCapacity16 allocation) = 0
-
--- DATA_IN, DATA_OUT or none
 abbrev pub flags_of : Cdb → ℕ
-flags_of (Read10 lba count fua) = 0x40
-flags_of (Write10 lba count fua) = 0x80
-flags_of (Sync10 lba blocks) = 0
-flags_of ReadCapacity10 = 0x40
-flags_of (Read16 lba count fua) = 0x40
-flags_of (Write16 lba count fua) = 0x80
-flags_of (Sync16 lba blocks) = 0
-flags_of (ReadCapacity16 allocation) = 0x40
-
--- how many bytes go with a command
-abbrev pub bytes_of : ℕ → Cdb → ℕ
-bytes_of size (Read10 lba count fua) = count * size
-bytes_of size (Write10 lba count fua) = count * size
-bytes_of size (Sync10 lba blocks) = 0
-bytes_of size ReadCapacity10 = 8
-bytes_of size (Read16 lba count fua) = count * size
-bytes_of size (Write16 lba count fua) = count * size
-bytes_of size (Sync16 lba blocks) = 0
-bytes_of size (ReadCapacity16 allocation) = allocation
+flags_of command = flags_for (direction_of command)
 
 abbrev pub is_read : Cdb → Bool
 is_read (Read10 lba count fua) = true
@@ -110,14 +79,7 @@ is_read (Sync16 lba blocks) = false
 is_read (ReadCapacity16 allocation) = false
 
 abbrev pub is_write : Cdb → Bool
-is_write (Read10 lba count fua) = false
-is_write (Write10 lba count fua) = true
-is_write (Sync10 lba blocks) = false
-is_write ReadCapacity10 = false
-is_write (Read16 lba count fua) = false
-is_write (Write16 lba count fua) = true
-is_write (Sync16 lba blocks) = false
-is_write (ReadCapacity16 allocation) = false
+is_write command = is_out (direction_of command)
 
 abbrev pub is_past_end : Disk → Cdb → Bool
 is_past_end disk command = nat_lt disk.sectors (lba_of command + blocks_of command)

@@ -2,10 +2,10 @@
 
 ghost use Rattle.std.specs.Prelude.{◌≡◌, ◌&&◌, ℕ, List, MatchResult};
 ghost use Rattle.miniport.specs.Checking.{disk_with, Fits, IsMisfit, Passes, IsRefused};
-ghost use Rattle.miniport.specs.Faults.{lba_of, blocks_of, flags_of, bytes_of, is_execute, is_write, fits as is_fit};
+ghost use Rattle.miniport.specs.Faults.{flags_for, is_execute, is_write, fits as is_fit};
 
 use crate::completion::{DATA_PROTECT, ILLEGAL_REQUEST, failed_with, not_decoded, was_invalid};
-use cdb::{Cdb, decode};
+use cdb::{Cdb, Direction, decode};
 use sector::Extent;
 use srb::{Completion, Srb, SrbFlags, SrbFunction};
 
@@ -18,53 +18,14 @@ pub(crate) struct Sizes {
     pub write_protected: bool,
 }
 
-/// The first sector that a command names.
-fn first_sector(command: Cdb) -> u64
-    ensures { result ≡ lba_of command }
+/// The flags of an SRB whose data has this direction.
+fn flags(direction: Direction) -> SrbFlags
+    ensures { result.0 ≡ flags_for direction }
 {
-    match command {
-        Cdb::Read10 { lba, .. } | Cdb::Write10 { lba, .. } | Cdb::Sync10 { lba, .. } => lba as u64,
-        Cdb::Read16 { lba, .. } | Cdb::Write16 { lba, .. } | Cdb::Sync16 { lba, .. } => lba,
-        Cdb::ReadCapacity10 | Cdb::ReadCapacity16 { .. } => 0,
-    }
-}
-
-/// Returns how many sectors a command names.
-fn sector_count(command: Cdb) -> u32
-    ensures { result ≡ blocks_of command }
-{
-    match command {
-        Cdb::Read10 { count, .. } | Cdb::Write10 { count, .. } => count as u32,
-        Cdb::Read16 { count, .. } | Cdb::Write16 { count, .. } => count,
-        Cdb::Sync10 { blocks, .. } => blocks as u32,
-        Cdb::Sync16 { blocks, .. } => blocks,
-        Cdb::ReadCapacity10 | Cdb::ReadCapacity16 { .. } => 0,
-    }
-}
-
-/// The direction of a command's data.
-fn direction(command: Cdb) -> SrbFlags
-    ensures { result.0 ≡ flags_of command }
-{
-    match command {
-        Cdb::Read10 { .. } | Cdb::Read16 { .. } => SrbFlags::DATA_IN,
-        Cdb::ReadCapacity10 | Cdb::ReadCapacity16 { .. } => SrbFlags::DATA_IN,
-        Cdb::Write10 { .. } | Cdb::Write16 { .. } => SrbFlags::DATA_OUT,
-        Cdb::Sync10 { .. } | Cdb::Sync16 { .. } => SrbFlags(0),
-    }
-}
-
-/// Returns how many bytes go with a command.
-fn data_length(sector_size: u32, command: Cdb) -> u64
-    ensures { result ≡ bytes_of sector_size command }
-{
-    let size = sector_size as u64;
-    match command {
-        Cdb::Read10 { count, .. } | Cdb::Write10 { count, .. } => count as u64 * size,
-        Cdb::Read16 { count, .. } | Cdb::Write16 { count, .. } => count as u64 * size,
-        Cdb::Sync10 { .. } | Cdb::Sync16 { .. } => 0,
-        Cdb::ReadCapacity10 => 8,
-        Cdb::ReadCapacity16 { allocation } => allocation as u64,
+    match direction {
+        Direction::DataIn => SrbFlags::DATA_IN,
+        Direction::DataOut => SrbFlags::DATA_OUT,
+        Direction::NoData => SrbFlags(0),
     }
 }
 
@@ -72,10 +33,9 @@ fn data_length(sector_size: u32, command: Cdb) -> u64
 fn is_protected(sizes: &Sizes, command: Cdb) -> bool
     ensures { result ≡ (is_write command && sizes.now.write_protected) }
 {
-    match command {
-        Cdb::Write10 { .. } | Cdb::Write16 { .. } => sizes.write_protected,
-        Cdb::Read10 { .. } | Cdb::Sync10 { .. } | Cdb::ReadCapacity10 => false,
-        Cdb::Read16 { .. } | Cdb::Sync16 { .. } | Cdb::ReadCapacity16 { .. } => false,
+    match command.direction() {
+        Direction::DataOut => sizes.write_protected,
+        Direction::DataIn | Direction::NoData => false,
     }
 }
 
@@ -83,8 +43,8 @@ fn is_protected(sizes: &Sizes, command: Cdb) -> bool
 fn is_fitting(sizes: &Sizes, srb: &Srb, command: Cdb) -> bool
     ensures { (bad : List ℕ) → result ≡ is_fit (disk_with sizes.now bad) srb.now command }
 {
-    srb.flags.0 == direction(command).0
-        && srb.data.as_slice().len() as u64 == data_length(sizes.sector_size, command)
+    srb.flags.0 == flags(command.direction()).0
+        && srb.data.as_slice().len() as u64 == command.data_length(sizes.sector_size)
 }
 
 /// The checks of a command that the SRB's block asks for.
@@ -92,8 +52,8 @@ fn check_command(sizes: &Sizes, srb: &Srb, command: Cdb) -> Result<(), Completio
     ensures { MatchResult result (λ done. Fits sizes.now srb.now command) (IsMisfit sizes.now srb.now command) }
 {
     let named = Extent {
-        first: first_sector(command),
-        count: sector_count(command) as u64,
+        first: command.lba(),
+        count: command.blocks() as u64,
     };
     if !named.is_within(sizes.sectors) {
         return Err(failed_with(ILLEGAL_REQUEST, 0x21));
