@@ -137,14 +137,14 @@ direction Read = 0x40
 direction Write = 0x80
 direction Flush = 0
 
--- an SRB that asks for all of a request, in the one block that is spelled so, with buffers of its length and no sense
+-- an SRB that asks for all of a request, in the one block that is spelled so, with data of its length, room for a label and no sense
 pub record AsksFor (rules : Rules) (r : Request) (srb : Srb) : Type 0 where
   pub function : srb.function ≡ ExecuteScsi
   pub flags : srb.flags.0 ≡ direction r.kind
   pub asks : Means srb.block (whole_command rules r)
   pub plain : IsPlain srb.block (whole_command rules r)
   pub data_length : length srb.data ≡ transfer_length rules r
-  pub label_length : length srb.for_label ≡ transfer_length rules r
+  pub label_length : transfer_length rules r ≤ srb.for_label
   pub sense : srb.sense ≡ None
 
 -- what a packet carries for its request: an SRB where the layer takes one, else a buffer of its length

@@ -45,11 +45,11 @@ pub record IsReading (command : Cdb) (srb : Srb) : Type 0 where
   pub plain : IsPlain srb.block command
   pub sense : srb.sense ≡ None
 
--- such an SRB with two buffers of the length that the command brings
+-- such an SRB with data of the length that the command brings, and room for a label of them
 pub record LooksBy (disk : AdapterView) (command : Cdb) (srb : Srb) : Type 0 where
   pub reading : IsReading command srb
   pub data_length : length srb.data ≡ brought_length disk command
-  pub label_length : length srb.for_label ≡ brought_length disk command
+  pub label_length : brought_length disk command ≤ srb.for_label
 
 -- the label of an act or a fault of the piece of this number
 abbrev pub IsActOrFault : ℕ → DeviceLabel → Type 0

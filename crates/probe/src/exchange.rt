@@ -65,15 +65,7 @@ fn exchange<A: Adapter>(
     (srb, completion)
 }
 
-/// Takes all labels that the adapter recorded.
-fn forget_labels<A: Adapter>(adapter: &mut A)
-    ensures takes { A.view adapter.new ≡ record (A.view adapter.old) { labels = [] } }
-    ensures order { IsInOrder (A.view adapter.new) }
-{
-    while adapter.take_label().is_some() {}
-}
-
-/// Two buffers of this many bytes.
+/// A buffer of this many bytes, and room for a label of them.
 ///
 /// # Errors
 ///
@@ -112,7 +104,7 @@ pub(crate) fn ask<A: Adapter>(
 {
     let (bytes, for_label) = buffers(alloc, count)?;
     let (srb, completion) = exchange(adapter, command, bytes, for_label);
-    forget_labels(adapter);
+    adapter.forget_labels();
     match completion.class() {
         Class::Good => Ok(srb.data),
         Class::Busy | Class::Bad(_) => Err(ProbeFault::Device(completion.status())),

@@ -1,4 +1,4 @@
-use Rattle.std.proofs.Common.{◌≡◌, ℕ, List, ◌∙◌, ap, length}
+use Rattle.std.proofs.Common.{◌≡◌, ℕ, List, ◌∙◌, ap, arith, length}
 use Rattle.probe.proofs.Exchanging.{asks_once, acts_after, finishes_after}
 use Rattle.probe.proofs.exchange.exchange.Goals as goal
 
@@ -12,13 +12,12 @@ unreachable-requires-in_default g c = finishes_after _ _ _ c.if-not-act.ensures.
 pub returns : goal.returns
 returns g c =
     let bytes : length c.reading.result.data ≡ length c.args.bytes = ap (λ (xs : List ℕ). length xs) c.reading.ensures.bytes in
-    let for_label : length c.reading.result.for_label ≡ length c.args.for_label = ap (λ (xs : List ℕ). length xs) c.reading.ensures.for_label in
     record {
       asks = asks_once _ _ _ _ _ c.reading.result _ _ c.requires.idle
           (record {
             reading = c.reading.ensures.reads;
             data_length = bytes ∙ c.requires.whole;
-            label_length = for_label ∙ c.requires.buffers ∙ c.requires.whole;
+            label_length = omega (arith, c.reading.ensures.for_label, c.requires.buffers, c.requires.whole);
           })
           c.requires.looks c.accept.ensures.accepts c.if-not-act.ensures.acts c.in-Some.ensures.finishes;
     }
