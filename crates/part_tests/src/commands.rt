@@ -1,7 +1,7 @@
 //! Blocks and sense data written out by hand from the tables of SBC and SPC.
 
 use crate::expect::same;
-use cdb::{Cdb, CdbFault, decode, decode_sense, encode, encode_sense};
+use cdb::{Cdb, CdbFault, Direction, decode, decode_sense, encode, encode_sense};
 use ntstatus::Sense;
 
 #[test]
@@ -71,6 +71,34 @@ fn commands_have_their_long_blocks(rt: HostRuntime) {
             decode(&block[..15]) == Err(CdbFault::ShortCdb),
             "{command:?}"
         );
+    }
+}
+
+#[test]
+fn commands_tell_their_blocks_and_data(rt: HostRuntime) {
+    let read = Cdb::Read10 {
+        lba: 7,
+        count: 3,
+        fua: true,
+    };
+    let write = Cdb::Write16 {
+        lba: 1 << 32,
+        count: 65_536,
+        fua: false,
+    };
+    let flush = Cdb::Sync16 { lba: 9, blocks: 2 };
+    let capacity = Cdb::ReadCapacity16 { allocation: 32 };
+    for (command, lba, blocks, direction, length) in [
+        (read, 7, 3, Direction::DataIn, 1536),
+        (write, 1 << 32, 65_536, Direction::DataOut, 1 << 25),
+        (flush, 9, 2, Direction::NoData, 0),
+        (Cdb::ReadCapacity10, 0, 0, Direction::DataIn, 8),
+        (capacity, 0, 0, Direction::DataIn, 32),
+    ] {
+        assert!(rt; command.lba() == lba, "{command:?}");
+        assert!(rt; command.blocks() == blocks, "{command:?}");
+        assert!(rt; command.direction() == direction, "{command:?}");
+        assert!(rt; command.data_length(512) == length, "{command:?}");
     }
 }
 
