@@ -11,7 +11,7 @@ use Rattle.machine.specs.Holding.{Cancels}
 use Rattle.machine.specs.Frame.{framed, with_window}
 use Rattle.device.specs.View.{DeviceView, IsOrderly}
 use Rattle.device.specs.Served.{BooksPiece, Moves, ActsOrFaults, ActsNot, Finishes, FinishesNot, Resets}
-use Rattle.device.specs.Served.{TakesLabel}
+use Rattle.device.specs.Served.{TakesLabel, ForgetsLabels}
 use Rattle.device.specs.Served.{IsBeside, CancelsIfOpen}
 use Rattle.machine.proofs.Permuting.{All-changed}
 use Rattle.machine.proofs.Numbers.{AreDistinct-Step}
@@ -105,6 +105,10 @@ module _ (stack_size : ℕ) (v : DeviceView) (b : TableView) (v' : DeviceView) (
   takes None h = (same_hand h.1, (h.0, ap Shown h.1))
   takes (Some label) h =
       (same (h.2 ∙ ap (λ (x : DeviceView). record v { adapter = x.adapter }) (sym h.2)), (h.0, h.1, ap Shown h.2))
+
+  -- no label is left
+  pub forgets : ForgetsLabels v v' → IsInHand stack_size v' b × ForgetsLabels (Shown v) (Shown v')
+  forgets h = (same (h ∙ ap (λ (x : DeviceView). record v { adapter = x.adapter }) (sym h)), ap Shown h)
 
   -- what an act did is booked
   pub books : (tag piece : ℕ) (what : Result Entry Completion) → BooksPiece v tag piece what v'

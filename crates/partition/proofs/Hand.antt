@@ -1,5 +1,5 @@
 -- What holds between the calls, after a call of the layer below.
-use Rattle.std.proofs.Common.{◌≡◌, ◌≢◌, ◌⊎◌, inl, inr, ℕ, Bool, true, false, List, Option, Some, None, Result, refl, sym, ◌∙◌, ap, subst, get_or}
+use Rattle.std.proofs.Common.{◌≡◌, ◌≢◌, ◌⊎◌, inl, inr, ℕ, Bool, true, false, List, [], Option, Some, None, Result, refl, sym, ◌∙◌, ap, subst, get_or}
 use Rattle.std.specs.Prelude.{All, IsPermutation, MatchBool}
 use Rattle.std.proofs.lemmas.Bool.{cases_eq}
 use Rattle.std.proofs.lemmas.List.Sorted.{IsPermutation-refl, IsPermutation-sym, All-permutation}
@@ -14,7 +14,7 @@ use Rattle.machine.specs.Rules.{Rules, home}
 use Rattle.machine.specs.Sending.{array_at}
 use Rattle.machine.specs.Holding.{Cancels}
 use Rattle.device.specs.View.{DeviceView, Packet, Reserved, IsOrderly, IsOffRooms, IsBounded, IsReady, KeepsOutside, request_of, room_at, sectors_asked, whole_for}
-use Rattle.device.specs.Served.{SameRooms, SetsRoom, IsBeside, Reserves, ReservesSpot, ReservesNone, ReservesNear, Frees, BooksPiece, ActsOrFaults, ActsNot, Finishes, FinishesNot, Resets, CancelsIfOpen, CancelsAt, NoneToCancel, DrainsAll, PausesAll, ResumesAll, HandsUpNone, TakesLabel}
+use Rattle.device.specs.Served.{SameRooms, SetsRoom, IsBeside, Reserves, ReservesSpot, ReservesNone, ReservesNear, Frees, BooksPiece, ActsOrFaults, ActsNot, Finishes, FinishesNot, Resets, CancelsIfOpen, CancelsAt, NoneToCancel, DrainsAll, PausesAll, ResumesAll, HandsUpNone, TakesLabel, ForgetsLabels}
 use Rattle.device.proofs.Reserving.{home_of_whole}
 use Rattle.partition.specs.OnDisk.{rules_over, on_disk}
 use Rattle.partition.specs.Opening.{IsWholeDisk}
@@ -24,7 +24,7 @@ use Rattle.partition.specs.Shown.{view_of, shown_of}
 use Rattle.partition.proofs.Steps.{Keeps}
 use Rattle.partition.proofs.Settled.{IsOrderly-over, disk_is}
 use Rattle.partition.proofs.Moving.{GoesOn, ActsOver, acts_over, finishes_over, resets_over, cancels_over, cancels_at_over, drains_over, pauses_over, resumes_over, hands_up_none, goes_same}
-use Rattle.partition.proofs.Rooms.{at_room, rooms_same, rooms_set, rooms_noted, rooms_alike, acts_up, books_up, finishes_up, resets_up, cancels_up, cancels_at_up, drains_up, pauses_up, resumes_up, none_up, label_up, orderly_up}
+use Rattle.partition.proofs.Rooms.{at_room, rooms_same, rooms_set, rooms_noted, rooms_alike, acts_up, books_up, finishes_up, resets_up, cancels_up, cancels_at_up, drains_up, pauses_up, resumes_up, none_up, label_up, forgets_up, orderly_up}
 
 -- what a call that takes no packet in and hands none up leaves beside the machine
 pub record StaysBeside (old new : DeviceView) : Type 0 where
@@ -38,8 +38,8 @@ pub beside_acts : (old new : DeviceView) (tag : ℕ) (done : Bool) → MatchBool
 beside_acts old new tag true h = record { same_rooms = h.moves.same_rooms; same_packets = h.moves.same_packets }
 beside_acts old new tag false h = beside_same old new h.same
 
-pub beside_books : (old new : DeviceView) (tag piece : ℕ) (what : Result Entry Completion) → BooksPiece old tag piece what new → StaysBeside old new
-beside_books old new tag piece what h = subst (StaysBeside old) (sym h.same) (record { same_rooms = λ k. refl; same_packets = IsPermutation-refl _ })
+pub beside_adapter : (old new : DeviceView) (adapter : AdapterView) → new ≡ record old { adapter = adapter } → StaysBeside old new
+beside_adapter old new adapter e = subst (StaysBeside old) (sym e) (record { same_rooms = λ k. refl; same_packets = IsPermutation-refl _ })
 
 pub beside_finishes : (old new : DeviceView) (tag : ℕ) (done : Bool) → MatchBool done (Finishes old tag new) (FinishesNot old tag new) → StaysBeside old new
 beside_finishes old new tag true h = record { same_rooms = h.moves.same_rooms; same_packets = h.moves.same_packets }
@@ -112,6 +112,15 @@ module _ (locations_below : ℕ) (table : List Extent) (wanted : List (Option Re
   after : GoesOn table v v' → StaysBeside v v' → IsKeptAfter
   after goes beside = kept_after locations_below table wanted v v' h goes orderly beside
 
+  -- where nothing but the adapter changes
+  goes_beside : (adapter : AdapterView) → v' ≡ record v { adapter = adapter } → GoesOn table v v'
+  goes_beside adapter same =
+      let on : IsOnDisk table v = h.on_disk in
+      subst (GoesOn table v) (sym same) (record {
+        on_disk = record { whole = on.whole; partitions = on.partitions; packets = on.packets; requests = on.requests; placed = on.placed };
+        same_rules = refl;
+      })
+
   pub acts_shown : (tag : ℕ) (done : Bool) → MatchBool done (ActsOrFaults v tag v') (ActsNot v tag v')
       → (MatchBool done (ActsOrFaults shown tag shown') (ActsNot shown tag shown') × KeepsOutside table v.adapter v'.adapter) × IsKeptAfter
   acts_shown tag done acts =
@@ -123,14 +132,9 @@ module _ (locations_below : ℕ) (table : List Extent) (wanted : List (Option Re
   pub books_shown : (tag piece : ℕ) (what : Result Entry Completion) → BooksPiece v tag piece what v'
       → BooksPiece shown tag piece what shown' × IsKeptAfter
   books_shown tag piece what books =
-      let k : IsOnDisk table v = h.on_disk in
       let same : BooksPiece (view_of table v) tag piece what (view_of table v') =
       record { adapter = books.adapter; same = ap (λ (x : DeviceView). view_of table x) books.same } in
-      let goes : GoesOn table v v' = subst (GoesOn table v) (sym books.same) (record {
-        on_disk = record { whole = k.whole; partitions = k.partitions; packets = k.packets; requests = k.requests; placed = k.placed };
-        same_rules = refl;
-      }) in
-      (books_up wanted (view_of table v) (view_of table v') tag piece what same, after goes (beside_books v v' tag piece what books))
+      (books_up wanted (view_of table v) (view_of table v') tag piece what same, after (goes_beside v'.adapter books.same) (beside_adapter v v' v'.adapter books.same))
 
   pub finishes_shown : (tag : ℕ) (done : Bool) → MatchBool done (Finishes v tag v') (FinishesNot v tag v')
       → MatchBool done (Finishes shown tag shown') (FinishesNot shown tag shown') × IsKeptAfter
@@ -181,15 +185,16 @@ module _ (locations_below : ℕ) (table : List Extent) (wanted : List (Option Re
       over None takes = (takes.0, ap (λ (x : DeviceView). view_of table x) takes.1)
       over (Some label) takes = (takes.0, takes.1, ap (λ (x : DeviceView). view_of table x) takes.2)
 
-      on : IsOnDisk table v
-      on = h.on_disk
-
       goes : (label : Option DeviceLabel) → TakesLabel v label v' → GoesOn table v v'
       goes None takes = goes_same table v v' h.on_disk h.below takes.1
-      goes (Some label) takes = subst (GoesOn table v) (sym takes.2) (record {
-        on_disk = record { whole = on.whole; partitions = on.partitions; packets = on.packets; requests = on.requests; placed = on.placed };
-        same_rules = refl;
-      })
+      goes (Some label) takes = goes_beside (record v.adapter { labels = takes.0 }) takes.2
+
+  pub forgets_shown : ForgetsLabels v v' → ForgetsLabels shown shown' × IsKeptAfter
+  forgets_shown forgets =
+      let adapter : AdapterView = record v.adapter { labels = [] } in (
+        forgets_up wanted (view_of table v) (view_of table v') (ap (λ (x : DeviceView). view_of table x) forgets),
+        after (goes_beside adapter forgets) (beside_adapter v v' adapter forgets),
+      )
 
 -- ROOMS
 

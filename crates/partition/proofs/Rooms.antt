@@ -8,7 +8,7 @@ use Rattle.srb.specs.declared.Entry.{Entry}
 use Rattle.machine.specs.declared.Request.{Request}
 use Rattle.machine.specs.Holding.{Cancels}
 use Rattle.device.specs.View.{DeviceView, Packet, Reserved, IsOrderly, IsOffRooms, room_at}
-use Rattle.device.specs.Served.{SameRooms, SetsRoom, Moves, IsBeside, BooksPiece, ActsOrFaults, ActsNot, Finishes, FinishesNot, Resets, CancelsIfOpen, CancelsAt, NoneToCancel, DrainsAll, PausesAll, ResumesAll, HandsUpNone, TakesLabel}
+use Rattle.device.specs.Served.{SameRooms, SetsRoom, Moves, IsBeside, BooksPiece, ActsOrFaults, ActsNot, Finishes, FinishesNot, Resets, CancelsIfOpen, CancelsAt, NoneToCancel, DrainsAll, PausesAll, ResumesAll, HandsUpNone, TakesLabel, ForgetsLabels}
 use Rattle.partition.specs.inside.Rooms.{for_wanted, first_of, others_of, rooms_with, with_rooms, wanted_at, Notes}
 
 -- BY SPOTS
@@ -182,6 +182,9 @@ pub label_up : (wanted : List (Option Request)) (old new : DeviceView) (label : 
     → TakesLabel (with_rooms wanted old) label (with_rooms wanted new)
 label_up wanted old new None h = (h.0, ap (λ (v : DeviceView). with_rooms wanted v) h.1)
 label_up wanted old new (Some label) h = (h.0, h.1, ap (λ (v : DeviceView). with_rooms wanted v) h.2)
+
+pub forgets_up : (wanted : List (Option Request)) (old new : DeviceView) → ForgetsLabels old new → ForgetsLabels (with_rooms wanted old) (with_rooms wanted new)
+forgets_up wanted old new h = ap (λ (v : DeviceView). with_rooms wanted v) h
 
 -- the spots of the packets are as vacant as below
 off_up : (wanted : List (Option Request)) (rooms : List (Option Reserved)) (packet : Packet) → IsOffRooms rooms packet → IsOffRooms (rooms_with wanted rooms) packet

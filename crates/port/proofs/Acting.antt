@@ -132,7 +132,7 @@ flushed_out false told size sectors bytes first count moved after p = p
 abbrev pub the_arrays : Rules → List (List ℕ) → List (List (List ℕ))
 the_arrays rules sectors = map (sectors_in sectors) rules.partitions
 
-abbrev pub with_moved : Srb → List (List ℕ) → List ℕ → Srb
+abbrev pub with_moved : Srb → List (List ℕ) → ℕ → Srb
 with_moved srb moved left = record srb { «data» = concat moved; for_label = left }
 
 -- sectors of one size after each other
@@ -144,7 +144,7 @@ concat_sized size (x ∷ xs) sized =
     length-append x (concat xs) ∙ omega (arith, one, rest)
 
 -- a piece of all places of a request, carried out
-pub record IsCarried (rules : Rules) (s : State) (r : Request) (kind : Kind) (srb : Srb) (sectors moved after : List (List ℕ)) (left : List ℕ) : Type 0 where
+pub record IsCarried (rules : Rules) (s : State) (r : Request) (kind : Kind) (srb : Srb) (sectors moved after : List (List ℕ)) (left : ℕ) : Type 0 where
   pub moves : Transfers rules s (as_client rules r (sent_bytes kind (Packed srb))) (record { first = 0; count = places_of rules r }) kind moved (the_arrays rules after)
   pub covers : length moved ≡ places_of rules r
   pub parts : cut (places_of rules r) rules.sector_size (concat moved) ≡ moved
@@ -153,7 +153,7 @@ pub record IsCarried (rules : Rules) (s : State) (r : Request) (kind : Kind) (sr
   pub filled : r.kind ≡ Read → length (concat moved) ≡ transfer_length rules r
   pub empty : IsEmptyIfFlush r (concat moved)
 
-module _ (sizes : Sizes) (faithful told : Bool) (same_faith : sizes.faithful ≡ faithful) (s : State) (r : Request) (srb : Srb) (sectors moved after : List (List ℕ)) (left : List ℕ) (command : Cdb)
+module _ (sizes : Sizes) (faithful told : Bool) (same_faith : sizes.faithful ≡ faithful) (s : State) (r : Request) (srb : Srb) (sectors moved after : List (List ℕ)) (left : ℕ) (command : Cdb)
     (some : 0 < sizes.sector_size) (bounded : IsBounded (rules_of sizes) r) (count_is : sizes.sectors ≡ length sectors) (sized : All (IsSector sizes.sector_size) sectors)
     (arrays_are : s.arrays ≡ the_arrays (rules_of sizes) sectors) where
   array_is : get_or s.arrays r.volume [] ≡ sectors

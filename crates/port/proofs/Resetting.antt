@@ -289,15 +289,15 @@ reset_all b v v' rooms k space h order =
 
 -- LABELS
 
-pub hand_labels : (b : TableView) (v v' : AdapterView) (rooms : List Request) (result : Option DeviceLabel) → MatchOption result (HasNoLabel v v') (λ label. LeavesFirst v label v') → IsInOrder v' → IsInHand b v rooms → IsInHand b v' rooms
-hand_labels b v v' rooms None h order i = subst (λ x. IsInHand b x rooms) (sym h.same) i
-hand_labels b v v' rooms (Some label) h order i =
+-- with fewer labels
+hand_fewer : (b : TableView) (v : AdapterView) (rooms : List Request) (labels : List DeviceLabel) → length labels ≤ length v.labels → IsInOrder (record v { labels = labels }) → IsInHand b v rooms
+    → IsInHand b (record v { labels = labels }) rooms
+hand_fewer b v rooms labels fewer order i =
     let k = i.kept in
     let rules : Rules = rules_of b.sizes in
-    let x : AdapterView = record v { labels = h.rest } in
-    let l = ap (λ (ls : List DeviceLabel). length ls) h.first in
-    subst (λ y. IsInHand b y rooms) (sym h.after) (in_hand b x rooms (record {
-      adapter = subst IsInOrder h.after order;
+    let x : AdapterView = record v { labels = labels } in
+    in_hand b x rooms (record {
+      adapter = order;
       sizes = record { sector_size = k.sizes.sector_size; sectors = k.sizes.sectors; max_transfer = k.sizes.max_transfer; depth = k.sizes.depth; faithful = k.sizes.faithful };
       started = k.started;
       waiting = All-weaker (IsWaiting rules v) (IsWaiting rules x) (waiting_moves rules v x (λ extent r. r)) b.waiting k.waiting;
@@ -315,4 +315,15 @@ hand_labels b v v' rooms (Some label) h order i =
       accepted = k.accepted;
       numbered = k.numbered;
       labels = let c = k.labels in omega arith;
-    }) i.busy)
+    }) i.busy
+
+-- the earliest label leaves
+pub hand_labels : (b : TableView) (v v' : AdapterView) (rooms : List Request) (result : Option DeviceLabel) → MatchOption result (HasNoLabel v v') (λ label. LeavesFirst v label v') → IsInOrder v' → IsInHand b v rooms → IsInHand b v' rooms
+hand_labels b v v' rooms None h order i = subst (λ x. IsInHand b x rooms) (sym h.same) i
+hand_labels b v v' rooms (Some label) h order i =
+    let l = ap (λ (ls : List DeviceLabel). length ls) h.first in
+    subst (λ x. IsInHand b x rooms) (sym h.after) (hand_fewer b v rooms h.rest (omega arith) (subst IsInOrder h.after order) i)
+
+-- all are forgotten
+pub hand_forgotten : (b : TableView) (v v' : AdapterView) (rooms : List Request) → v' ≡ record v { labels = [] } → IsInOrder v' → IsInHand b v rooms → IsInHand b v' rooms
+hand_forgotten b v v' rooms after order i = subst (λ x. IsInHand b x rooms) (sym after) (hand_fewer b v rooms [] (omega arith) (subst IsInOrder after order) i)

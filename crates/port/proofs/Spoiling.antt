@@ -1,4 +1,4 @@
--- What a failed piece's SRB still says of its request.
+-- What a piece's SRB still says of its request, once it failed or its act was booked.
 use Rattle.std.proofs.Common.{◌≡◌, inl, inr, ℕ, ◌+◌, Bool, true, false, List, [], refl, subst, ap, ◌∙◌, length}
 use Rattle.std.specs.Prelude.{if◌then◌else◌}
 use Rattle.std.proofs.lemmas.List.{nil_from_length}

@@ -402,7 +402,7 @@ releases_same b b' v h = subst (λ x. Releases b v x v) (sym h.same) (releases_n
 pub label_room : (b : TableView) (v : AdapterView) (rooms : List Request) (tag : ℕ) → PortKept b v rooms → IsFree v tag → tag < v.depth → length v.labels < 64
 label_room b v rooms tag k free low = let few = free_leaves v tag k.adapter free low in let l = k.labels in omega arith
 
-pub accepts_front : (b : TableView) (v : AdapterView) (rooms : List Request) (tag piece : ℕ) (srb : Srb) (b' : TableView) → PortKept b v rooms → Calls.Starts b tag piece srb b' → IsWritable v srb × (length srb.for_label ≡ length srb.data)
+pub accepts_front : (b : TableView) (v : AdapterView) (rooms : List Request) (tag piece : ℕ) (srb : Srb) (b' : TableView) → PortKept b v rooms → Calls.Starts b tag piece srb b' → IsWritable v srb × (length srb.data ≤ srb.for_label)
 accepts_front b v rooms tag piece srb b' k s =
     let h = front_waits b v rooms s.front s.rest srb k s.is_front s.is_srb in
-    (is_writable b.sizes v s.front.request srb (kept_sector_some b v rooms k) h.0 h.1, h.1.label_length ∙ sym h.1.data_length)
+    (is_writable b.sizes v s.front.request srb (kept_sector_some b v rooms k) h.0 h.1, subst (λ n. n ≤ srb.for_label) (sym h.1.data_length) h.1.label_length)
