@@ -2,13 +2,17 @@
 use Rattle.std.proofs.Common.{◌≡◌, ◌≤◌, ◌⊎◌, inl, inr, ℕ, ◌+◌, ◌*◌, true, false, List, [], length, Option, Some, None, Result, Ok, Err, refl, sym, ap, subst, ◌∙◌, arith}
 use Rattle.std.specs.Prelude.{MatchOption, ⊤}
 use Rattle.sector.specs.declared.Extent.{Extent}
+use Rattle.cdb.specs.Meaning.{Means}
 use Rattle.cdb.specs.declared.Cdb.{Cdb}
 use Rattle.cdb.specs.declared.Cdb.TheVariants.{Read10, Write10, Sync10, ReadCapacity10, Read16, Write16, Sync16, ReadCapacity16}
 use Rattle.srb.specs.declared.Srb.{Srb}
+use Rattle.srb.specs.declared.Entry.{Entry}
+use Rattle.srb.specs.declared.Kind.{Kind}
+use Rattle.srb.specs.declared.Kind.TheVariants.{Write, Flush}
 use Rattle.srb.specs.declared.Completion.{Completion}
 use Rattle.srb.specs.declared.Class.TheVariants.{Bad}
 use Rattle.srb.specs.Fate.{class_of}
-use Rattle.adapter.specs.Booking.{MayBeOf, Suits}
+use Rattle.adapter.specs.Booking.{MayBeOf, Suits, asked_extent, entry_sent}
 use Rattle.miniport.specs.Checking.{disk_with}
 use Rattle.miniport.specs.Faults.{invalid_request}
 use Rattle.miniport.proofs.Bad.{fault_is_bad}
@@ -17,7 +21,7 @@ use Rattle.file_disk.specs.declared.storage.Failure.TheVariants.{Protected, Fail
 use Rattle.file_disk.specs.declared.file_disk.Task.{Task}
 use Rattle.file_disk.specs.declared.file_disk.Task.TheVariants.{Read as ReadTask, Write as WriteTask, Flush as FlushTask}
 use Rattle.file_disk.specs.Calls.{Call}
-use Rattle.file_disk.specs.Transfers.{Carries, DiskView, Does, FailsByRow, Fits, LacksMemory, Transfers, entry_of, hardware_fault, kind_of, read_fault, task_in, write_fault}
+use Rattle.file_disk.specs.Transfers.{Carries, DiskView, Does, FailsByRow, Fits, IsSentOr, LacksMemory, Transfers, entry_of, hardware_fault, kind_of, read_fault, task_in, write_fault}
 
 -- WHAT A COMMAND NAMES
 
@@ -57,6 +61,34 @@ module _ (disk : DiskView) (srb : Srb) where
       (record { kind_is = refl; first_is = refl; count_is = refl; inside = h.fits.within; whole = h.fits.as_long; as_many = ap (λ (b : List ℕ). length b) moved }, moved)
   named_may tag piece bytes (Sync16 lba count) h = λ moved. record { kind_is = refl; first_is = refl; count_is = refl; none = h.fits.as_long; none_booked = moved ∙ h.fits.as_long }
   named_may tag piece bytes (ReadCapacity16 allocation) h = tt
+
+-- WHAT AN SRB SENDS
+
+abbrev entry_with : ℕ → ℕ → Srb → ℕ → ℕ → Kind → Entry
+entry_with tag piece srb first count kind = record { piece = piece; tag = tag; extent = record { first = first; count = count }; kind = kind; bytes = srb.data }
+
+same_entry : (tag piece : ℕ) (srb : Srb) (first count : ℕ) (kind : Kind) → (asked_extent srb.block).first ≡ first → (asked_extent srb.block).count ≡ count → (entry_sent tag piece srb).kind ≡ kind
+    → entry_sent tag piece srb ≡ entry_with tag piece srb first count kind
+same_entry tag piece srb first count kind f c k =
+    ap (λ (n : ℕ). entry_with tag piece srb n (asked_extent srb.block).count (entry_sent tag piece srb).kind) f
+    ∙ ap (λ (n : ℕ). entry_with tag piece srb first n (entry_sent tag piece srb).kind) c
+    ∙ ap (λ (what : Kind). entry_with tag piece srb first count what) k
+
+-- the entry of what it sends is that of the task and the sectors that its command names
+sent_named : (tag piece : ℕ) (srb : Srb) (command : Cdb) → Means srb.block command
+    → MatchOption (task_in command) ⊤ (λ named. IsSentOr named.0 None → entry_sent tag piece srb ≡ record { piece = piece; tag = tag; extent = named.1; kind = kind_of named.0; bytes = srb.data })
+sent_named tag piece srb (Read10 lba count fua) m = λ sends. absurd sends
+sent_named tag piece srb (Write10 lba count fua) m = λ sends.
+    same_entry tag piece srb lba count Write (rw (m.0.operation) m.1.address) (rw (m.0.operation) m.1.blocks) (rw (m.0.operation) refl)
+sent_named tag piece srb (Sync10 lba count) m = λ sends.
+    same_entry tag piece srb lba count Flush (rw (m.0.operation) m.1.address) (rw (m.0.operation) m.1.blocks) (rw (m.0.operation) refl)
+sent_named tag piece srb ReadCapacity10 m = tt
+sent_named tag piece srb (Read16 lba count fua) m = λ sends. absurd sends
+sent_named tag piece srb (Write16 lba count fua) m = λ sends.
+    same_entry tag piece srb lba count Write (rw (m.0.operation) m.1.address) (rw (m.0.operation) m.1.blocks) (rw (m.0.operation) refl)
+sent_named tag piece srb (Sync16 lba count) m = λ sends.
+    same_entry tag piece srb lba count Flush (rw (m.0.operation) m.1.address) (rw (m.0.operation) m.1.blocks) (rw (m.0.operation) refl)
+sent_named tag piece srb (ReadCapacity16 allocation) m = tt
 
 -- WHAT A TASK CAME TO
 
@@ -112,6 +144,17 @@ module _ (old : DiskView) (tag piece : ℕ) (srb : Srb) where
           subst (λ (n : Option (Task × Extent)). MatchOption n ⊤ (λ named. HasMoved srb.data named.0 bytes → MayBeOf old.sector_size old.sectors srb.data (record { piece = piece; tag = tag; extent = named.1; kind = kind_of named.0; bytes = bytes }) command))
           (sym e ∙ is) (named_may old srb tag piece bytes command fits) (moved_by _ srb.data bytes task carries.calls carries.made);
     }
+
+    sent_is : IsSentOr task None → entry_sent tag piece srb ≡ record { piece = piece; tag = tag; extent = extent; kind = kind_of task; bytes = srb.data }
+    sent_is =
+        subst (λ (n : Option (Task × Extent)). MatchOption n ⊤ (λ named. IsSentOr named.0 None → entry_sent tag piece srb ≡ record { piece = piece; tag = tag; extent = named.1; kind = kind_of named.0; bytes = srb.data }))
+        (sym e ∙ is) (sent_named tag piece srb command fits.means)
+
+    pub sent_out : IsSentOr task None → Carries old task extent srb.data (Ok srb.data) new → new ≡ record old { calls = new.calls } → Transfers old tag piece srb (Ok (entry_sent tag piece srb)) new
+    sent_out sends carries after = subst (λ (x : Entry). Transfers old tag piece srb (Ok x) new) (sym (sent_is sends)) (carried_out (Ok srb.data) carries after)
+
+    pub sent_suits : IsSentOr task None → Carries old task extent srb.data (Ok srb.data) new → Suits old.sector_size old.sectors srb (Ok (entry_sent tag piece srb))
+    sent_suits sends carries = subst (λ (x : Entry). Suits old.sector_size old.sectors srb (Ok x)) (sym (sent_is sends)) (entry_suits srb.data carries)
 
     pub failure_suits : (completion : Completion) → Carries old task extent srb.data (Err completion) new → class_of completion ≡ Bad completion
     failure_suits completion carries = failed_bad _ srb.data task completion carries.calls carries.made

@@ -13,8 +13,11 @@ use Rattle.miniport.specs.Faults.{error, invalid_request}
 use Rattle.miniport.specs.Checking.{IsRefused, Passes}
 use Rattle.file_disk.specs.declared.storage.Failure.{Failure}
 use Rattle.file_disk.specs.declared.storage.Failure.TheVariants.{Protected, Failed}
+use Rattle.adapter.specs.Booking.{entry_sent}
 use Rattle.file_disk.specs.declared.file_disk.Task.{Task}
 use Rattle.file_disk.specs.declared.file_disk.Task.TheVariants.{Read as ReadTask, Write as WriteTask, Flush as FlushTask}
+use Rattle.file_disk.specs.declared.file_disk.Moved.{Moved}
+use Rattle.file_disk.specs.declared.file_disk.Moved.TheVariants.{Read as ReadMoved, Sent}
 use Rattle.file_disk.specs.Calls.{Call, Sync, Since, ReadsAll, StopsReading, WritesAll, StopsWriting}
 
 -- what a disk over a storage shows
@@ -97,11 +100,18 @@ Does offset bytes ReadTask moved calls = ReadsBytes offset (length bytes) moved 
 Does offset bytes (WriteTask through) moved calls = IfOk moved (λ m. m ≡ bytes) × WritesBytes through offset bytes moved calls
 Does offset bytes FlushTask moved calls = IfOk moved (λ m. length m ≡ length bytes) × Syncs moved calls
 
--- it sends its bytes
-abbrev pub sends : Task → Bool
-sends ReadTask = false
-sends (WriteTask through) = true
-sends FlushTask = false
+-- what it moved, sent with these bytes: those that it read, or those
+abbrev pub moved_by : List ℕ → Result (Option (List ℕ)) Completion → Result (List ℕ) Completion
+moved_by sent (Ok (Some bytes)) = Ok bytes
+moved_by sent (Ok None) = Ok sent
+moved_by sent (Err completion) = Err completion
+
+-- only a read brings bytes of its own, and each does
+abbrev pub IsSentOr : Task → Option (List ℕ) → Type 0
+IsSentOr ReadTask (Some bytes) = Unit {0}
+IsSentOr (WriteTask through) None = Unit {0}
+IsSentOr FlushTask None = Unit {0}
+IsSentOr _ _ = ⊥
 
 -- there was no memory for the bytes: nothing was called
 abbrev pub LacksMemory : Result (List ℕ) Completion → List Call → Type 0
@@ -129,6 +139,12 @@ kind_of FlushTask = Flush
 abbrev pub entry_of : ℕ → ℕ → Task → Extent → Result (List ℕ) Completion → Result Entry Completion
 entry_of tag piece task extent (Ok bytes) = Ok (record { piece = piece; tag = tag; extent = extent; kind = kind_of task; bytes = bytes })
 entry_of tag piece task extent (Err completion) = Err completion
+
+-- what is booked of a piece: the entry that it read, or that of what its SRB sends, or how it failed
+abbrev pub entry_moved : ℕ → ℕ → Srb → Result Moved Completion → Result Entry Completion
+entry_moved tag piece srb (Ok (ReadMoved entry)) = Ok entry
+entry_moved tag piece srb (Ok Sent) = Ok (entry_sent tag piece srb)
+entry_moved tag piece srb (Err completion) = Err completion
 
 -- the command that the SRB asks for fits no row of the adapter's table
 abbrev pub Fits : DiskView → Srb → Cdb → Type 0

@@ -1,11 +1,10 @@
 //! The pieces of a stack, moved by the calls of a storage.
 
-ghost use Rattle.std.specs.Prelude.{◌≡◌, ◌⊎◌, ◌≤◌, ◌<◌, ◌*◌, ◌+◌, ◌^◌, length, IsTrue, MatchResult};
-ghost use Rattle.std.specs.Result.{result_map_both};
+ghost use Rattle.std.specs.Prelude.{◌≡◌, ◌⊎◌, ◌≤◌, ◌<◌, ◌*◌, ◌+◌, ◌^◌, length, IfOk, MatchResult};
 ghost use Rattle.adapter.specs.Booking.{Suits};
 ghost use Rattle.miniport.specs.Faults.{invalid_request};
 ghost use Rattle.file_disk.specs.Calls.{Since};
-ghost use Rattle.file_disk.specs.Transfers.{Carries, Does, IsOfPiece, Syncs, Transfers, WritesBytes, hardware_fault, kind_of, read_fault, sends, task_in, write_fault};
+ghost use Rattle.file_disk.specs.Transfers.{Carries, IsOfPiece, IsSentOr, LacksMemory, ReadsBytes, Syncs, Transfers, WritesBytes, entry_moved, hardware_fault, kind_of, moved_by, read_fault, task_in, write_fault};
 
 use crate::moving::{read_all, write_all};
 use crate::storage::{Failure, Storage};
@@ -223,7 +222,11 @@ impl<S: Storage + Drop> FileDisk<S> {
     /// # Errors
     ///
     /// As the calls failed; a hardware error where memory was refused.
-    fn read(&mut self, offset: u64, count: usize) -> Result<Bytes, Completion> {
+    fn read(&mut self, offset: u64, count: usize) -> Result<Bytes, Completion>
+        requires fits { offset + count < 2 ^ 64 }
+        ensures reads { Since self.old.calls self.new.calls (λ calls. ReadsBytes offset count result calls ⊎ LacksMemory result calls) }
+        ensures after { self.new ≡ record self.old { calls = self.new.calls } }
+    {
         let mut room = self.take_room(count)?;
         match read_all(&mut self.storage, offset, room.as_mut_slice()) {
             Ok(()) => Ok(Bytes::new(room)),
@@ -234,39 +237,61 @@ impl<S: Storage + Drop> FileDisk<S> {
         }
     }
 
-    /// Carries out what the SRB of a piece asks for: its entry, or how it failed.
+    /// Carries out a task of these sectors, sent with these bytes. Of a read it gives the bytes.
+    ///
+    /// # Errors
+    ///
+    /// As the calls failed; a hardware error where memory was refused.
+    fn carry_out(
+        &mut self,
+        task: Task,
+        extent: Extent,
+        sent: &[u8],
+    ) -> Result<Option<Bytes>, Completion>
+        requires inside { extent.first + extent.count ≤ self.old.sectors }
+        requires long { length sent.now ≤ extent.count * self.old.sector_size }
+        ensures does { Carries self.old task extent sent.now (moved_by sent.now result) self.new }
+        ensures sent { IfOk result (λ bytes. IsSentOr task bytes) }
+        ensures after { self.new ≡ record self.old { calls = self.new.calls } }
+    {
+        let offset = extent.first * self.shape.sector_size() as u64;
+        match task {
+            Task::Read => Ok(Some(self.read(offset, sent.len())?)),
+            Task::Write { through } => {
+                write(&mut self.storage, offset, sent, through)?;
+                Ok(None)
+            }
+            Task::Flush => {
+                flush(&mut self.storage)?;
+                Ok(None)
+            }
+        }
+    }
+
+    /// Carries out what the SRB of a piece asks for: what that came to, or how it failed.
     ///
     /// # Errors
     ///
     /// By the table of the adapter in memory: ILLEGAL REQUEST and the like where the SRB is none that a disk carries out,
     /// WRITE PROTECTED; MEDIUM ERROR where a read or a write failed, HARDWARE ERROR where a sync did or memory was refused.
     pub fn transfer(&mut self, tag: u8, piece: u128, srb: &Srb) -> Result<Moved, Completion>
-        ensures transfers { Transfers self.old tag piece srb.now result self.new }
-        ensures suits { Suits self.old.sector_size self.old.sectors srb.now result }
-        ensures of_piece { IsOfPiece tag piece result }
+        ensures transfers { Transfers self.old tag piece srb.now (entry_moved tag piece srb.now result) self.new }
+        ensures suits { Suits self.old.sector_size self.old.sectors srb.now (entry_moved tag piece srb.now result) }
+        ensures of_piece { IsOfPiece tag piece (entry_moved tag piece srb.now result) }
     {
         let command = check_on(&self.shape, self.write_protected, srb)?;
         let Some((task, extent)) = task_in(command) else {
             return Err(invalid_request());
         };
-        let offset = extent.first * self.shape.sector_size() as u64;
-        let sent = srb.data.as_slice();
-        match task {
-            Task::Read => Ok(Moved::Read(Entry {
+        match self.carry_out(task, extent, srb.data.as_slice())? {
+            Some(bytes) => Ok(Moved::Read(Entry {
                 piece,
                 tag,
                 extent,
                 kind: task.kind(),
-                bytes: self.read(offset, sent.len())?,
+                bytes,
             })),
-            Task::Write { through } => {
-                write(&mut self.storage, offset, sent, through)?;
-                Ok(Moved::Sent)
-            }
-            Task::Flush => {
-                flush(&mut self.storage)?;
-                Ok(Moved::Sent)
-            }
+            None => Ok(Moved::Sent),
         }
     }
 
