@@ -9,7 +9,7 @@ use disk::{Medium, NoMemory, SparseDisk, VecDisk};
 use miniport::{Adapter, BookedAdapter, MemAdapter, OnceAdapter};
 use ntstatus::Sense;
 use sector::{Bytes, Extent, LabelRoom};
-use srb::{CommandBlock, Completion, DeviceLabel, Entry, Kind, Srb, SrbFlags, SrbFunction};
+use srb::{Booked, CommandBlock, Completion, DeviceLabel, Entry, Kind, Srb, SrbFlags, SrbFunction};
 use std::alloc::{AllocError, Global};
 use std::process::Abort;
 use std::test::Fail;
@@ -50,7 +50,7 @@ fn completion_of(end: End) -> Completion {
     }
 }
 
-/// An SRB with as many bytes of a value as are given, and as many in the second buffer.
+/// An SRB with as many bytes of a value as are given, and room for as many in its label.
 fn srb(
     alloc: Global,
     function: SrbFunction,
@@ -599,7 +599,7 @@ fn one_sector(alloc: Global, flags: u8, code: u8, sector: u8, byte: u8) -> Resul
     )
 }
 
-/// The data are full of the byte, and the second buffer is whole where nothing was done.
+/// The data are full of the byte, and the label's room is whole where nothing was done.
 fn comes_back_with(rt: &impl Abort, srb: &Srb, end: End, byte: u8) {
     let for_label = srb.for_label.capacity();
     if let Busy = end {
@@ -636,7 +636,7 @@ fn is_free<A: Adapter>(rt: &impl Abort, adapter: &mut A, tag: u8)
 
 /// All is reset, and this many failures are counted.
 fn is_reset<A: Adapter>(rt: &impl Abort, adapter: &mut A, failures: u128)
-    requires { length (A.view adapter.old).labels ≡ 0 }
+    requires { length (A.view adapter.old).labels ≤ 32 }
     ensures { (A.view adapter.new).accepted ≡ (A.view adapter.old).accepted }
 {
     assert!(rt; adapter.depth() <= 32);
@@ -844,154 +844,277 @@ fn booked_adapter(alloc: Global) -> Result<BookedAdapter, AllocError>
 /// A command: its flags, its block and the length of its data.
 type Asked<'a> = (u8, &'a [u8], usize);
 
-/// What is booked of an act.
+/// An entry: its kind, its first sector, the number of its sectors, and that of its bytes, all of this value.
+type Done = (Kind, u64, u64, usize, u8);
+
+/// How an act is handed over.
 #[derive(Clone, Copy)]
-enum Booked {
-    /// An entry: its kind, its first sector, the number of its sectors, and that of its bytes, all of this value.
-    Done(Kind, u64, u64, usize, u8),
+enum How {
+    /// As its entry, to be copied.
+    Copied,
+    /// As its entry, whose bytes may be taken.
+    Taken,
+    /// As what the SRB sends.
+    Sent,
     /// It fails.
     Fails(End),
 }
 
-use Booked::{Done, Fails};
+use How::{Copied, Fails, Sent, Taken};
 
 /// The entry of piece 1 on tag 0.
-fn entry(kind: Kind, extent: Extent, bytes: Vec<u8>) -> Entry {
-    Entry {
+fn entry(alloc: Global, done: Done) -> Result<Entry, AllocError>
+    requires { done.3 < 2 ^ 40 }
+{
+    let (kind, first, count, length, byte) = done;
+    let bytes = vec![in alloc; byte; length]?;
+    Ok(Entry {
         piece: 1,
         tag: 0,
-        extent,
+        extent: Extent { first, count },
         kind,
         bytes: Bytes::new(bytes),
+    })
+}
+
+/// Books on a tag that a piece did this.
+fn book_as(adapter: &mut BookedAdapter, tag: u8, piece: u128, entry: &mut Entry, how: How)
+    ensures labels { adapter.new.shown.labels ≡ adapter.old.shown.labels }
+{
+    match how {
+        Copied => adapter.book(tag, piece, Booked::Copied(entry)),
+        Taken => adapter.book(tag, piece, Booked::Taken(entry)),
+        Sent => adapter.book(tag, piece, Booked::Sent),
+        Fails(end) => adapter.book(tag, piece, Booked::Failed(completion_of(end))),
     }
 }
 
+/// Books this of piece 1 on tag 0, and of others, which are not there.
+fn book(rt: &impl Abort, adapter: &mut BookedAdapter, entry: &mut Entry, how: How)
+    ensures labels { adapter.new.shown.labels ≡ adapter.old.shown.labels }
+{
+    assert!(rt; adapter.armed(1).is_none());
+    assert!(rt; matches!(adapter.armed(0), Some((1, _))));
+    book_as(adapter, 1, 1, entry, how);
+    book_as(adapter, 0, 2, entry, how);
+    book_as(adapter, 0, 1, entry, how);
+}
+
+/// The byte that bytes begin with, 0 where there are none.
+fn first_of(bytes: &Bytes) -> u8 {
+    bytes.as_slice().first().copied().unwrap_or(0)
+}
+
 /// Returns the first byte that an SRB comes back with where this was booked of its act, how it ends, and whether it
-/// acted.
-fn comes_back_as(
+/// acted; and the first byte that the entry is left with.
+fn comes_back(
     rt: &impl Abort,
     alloc: Global,
     asked: Asked,
-    what: Result<&Entry, Completion>,
-) -> Result<(u8, Completion, bool), Fail>
-    requires { asked.2 < 2 ^ 40 }
+    done: Done,
+    how: How,
+) -> Result<((u8, Completion, bool), u8), Fail>
+    requires asked { asked.2 < 2 ^ 40 }
+    requires done { done.3 < 2 ^ 40 }
 {
     let (flags, block, count) = asked;
+    let mut entry = entry(alloc, done)?;
     let mut adapter = booked_adapter(alloc)?;
     let srb = srb(alloc, SCSI, flags, block, count, 0xA5)?;
     put(rt, &mut adapter, 0, 1, srb)?;
-    book(rt, &mut adapter, what);
+    book(rt, &mut adapter, &mut entry, how);
     act(rt, &mut adapter, 0);
     assert!(rt; adapter.armed(0).is_none());
     let acted = matches!(adapter.take_label(), Some(DeviceLabel::Start { .. }))
         && matches!(adapter.take_label(), Some(DeviceLabel::Act { .. }));
     let (srb, completion) = finish(&mut adapter, 0)?;
-    let first = srb.data.as_slice().first().copied().unwrap_or(0);
-    Ok((first, completion, acted))
-}
-
-/// Books this of piece 1 on tag 0, and of others, which are not there.
-fn book(rt: &impl Abort, adapter: &mut BookedAdapter, what: Result<&Entry, Completion>)
-    ensures labels { adapter.new.shown.labels ≡ adapter.old.shown.labels }
-{
-    assert!(rt; adapter.armed(1).is_none());
-    assert!(rt; matches!(adapter.armed(0), Some((1, _))));
-    adapter.book(1, 1, handed(what));
-    adapter.book(0, 2, handed(what));
-    adapter.book(0, 1, handed(what));
-}
-
-fn handed<'a>(what: Result<&'a Entry, Completion>) -> srb::Booked<'a> {
-    match what {
-        Ok(entry) => srb::Booked::Copied(entry),
-        Err(completion) => srb::Booked::Failed(completion),
-    }
-}
-
-/// The same, of what a row books.
-fn comes_back(
-    rt: &impl Abort,
-    alloc: Global,
-    asked: Asked,
-    booked: Booked,
-) -> Result<(u8, Completion, bool), Fail>
-    requires { asked.2 < 2 ^ 40 }
-{
-    match booked {
-        Done(kind, first, count, bytes, byte) => {
-            assert!(rt; bytes <= 512);
-            let bytes = vec![in alloc; byte; bytes]?;
-            let entry = entry(kind, Extent { first, count }, bytes);
-            comes_back_as(rt, alloc, asked, Ok(&entry))
-        }
-        Fails(end) => comes_back_as(rt, alloc, asked, Err(completion_of(end))),
-    }
+    Ok((
+        (first_of(&srb.data), completion, acted),
+        first_of(&entry.bytes),
+    ))
 }
 
 const A_READ: Asked<'static> = (0x40, &[0x28, 0, 0, 0, 0, 0, 0, 0, 1, 0], 512);
 
 const A_WRITE: Asked<'static> = (0x80, &[0x2A, 0, 0, 0, 0, 0, 0, 0, 1, 0], 512);
 
+/// Fewer bytes than it asks for.
+const A_SHORT_WRITE: Asked<'static> = (0x80, &[0x2A, 0, 0, 0, 0, 0, 0, 0, 1, 0], 511);
+
+/// Of the sector behind the last.
+const A_WRITE_BEHIND: Asked<'static> = (0x80, &[0x2A, 0, 0, 0, 0, 4, 0, 0, 1, 0], 512);
+
+const A_LONG_WRITE: Asked<'static> = (
+    0x80,
+    &[0x8A, 0, 0, 0, 0, 0, 0, 0, 0, 0, 0, 0, 0, 1, 0, 0],
+    512,
+);
+
 const A_FLUSH: Asked<'static> = (0, &[0x35, 0, 0, 0, 0, 0, 0, 0, 0, 0], 0);
 
-/// For a read, a write or a flush, and what is booked of its act, with which first byte it comes back, how it ends, and
-/// whether it acted.
-const BOOKED: [(Asked<'static>, Booked, u8, End, bool); 10] = [
-    (A_READ, Done(Kind::Read, 0, 1, 512, 0x5A), 0x5A, Good, true),
+const CAPACITY_ASKED: Asked<'static> = (0x40, &CAPACITY, 8);
+
+const ONE_READ: Done = (Kind::Read, 0, 1, 512, 0x5A);
+
+const ONE_FLUSH: Done = (Kind::Flush, 0, 0, 0, 0);
+
+/// What an SRB asks for, what is booked of its act and how it is handed over; with which first byte it comes back, how
+/// it ends, and whether it acted; and the first byte that the entry is left with.
+type Row = (Asked<'static>, Done, How, (u8, End, bool), u8);
+
+/// Of a piece of which nothing could be booked.
+const UNBOOKED: (u8, End, bool) = (0xA5, Checked(4, 0), false);
+
+const BOOKED: [Row; 21] = [
+    (A_READ, ONE_READ, Copied, (0x5A, Good, true), 0x5A),
+    (A_READ, ONE_READ, Taken, (0x5A, Good, true), 0xA5),
+    (A_READ, ONE_READ, Sent, UNBOOKED, 0x5A),
+    (A_WRITE, ONE_READ, Copied, UNBOOKED, 0x5A),
+    (A_WRITE, ONE_READ, Taken, UNBOOKED, 0x5A),
+    (A_WRITE, ONE_READ, Sent, (0xA5, Good, true), 0x5A),
+    (A_LONG_WRITE, ONE_READ, Sent, (0xA5, Good, true), 0x5A),
+    (A_SHORT_WRITE, ONE_READ, Sent, UNBOOKED, 0x5A),
+    (A_WRITE_BEHIND, ONE_READ, Sent, UNBOOKED, 0x5A),
     (
-        A_WRITE,
-        Done(Kind::Read, 0, 1, 512, 0x5A),
-        0xA5,
-        Checked(4, 0),
-        false,
+        A_READ,
+        (Kind::Read, 1, 1, 512, 0x5A),
+        Copied,
+        UNBOOKED,
+        0x5A,
     ),
     (
         A_READ,
-        Done(Kind::Read, 1, 1, 512, 0x5A),
-        0xA5,
-        Checked(4, 0),
-        false,
+        (Kind::Read, 0, 1, 511, 0x5A),
+        Copied,
+        UNBOOKED,
+        0x5A,
     ),
+    (A_READ, (Kind::Read, 0, 1, 511, 0x5A), Taken, UNBOOKED, 0x5A),
     (
-        A_READ,
-        Done(Kind::Read, 0, 1, 511, 0x5A),
+        A_WRITE,
+        (Kind::Write, 0, 1, 512, 0xA5),
+        Copied,
+        (0xA5, Good, true),
         0xA5,
-        Checked(4, 0),
-        false,
     ),
     (
         A_WRITE,
-        Done(Kind::Write, 0, 1, 512, 0xA5),
+        (Kind::Write, 0, 1, 512, 0xA5),
+        Taken,
+        (0xA5, Good, true),
         0xA5,
-        Good,
-        true,
     ),
     (
         A_WRITE,
-        Done(Kind::Write, 0, 1, 512, 0x5A),
-        0xA5,
-        Checked(4, 0),
-        false,
+        (Kind::Write, 0, 1, 512, 0x5A),
+        Copied,
+        UNBOOKED,
+        0x5A,
     ),
-    (A_FLUSH, Done(Kind::Flush, 0, 0, 0, 0), 0, Good, true),
+    (A_FLUSH, ONE_FLUSH, Copied, (0, Good, true), 0),
+    (A_FLUSH, ONE_FLUSH, Sent, (0, Good, true), 0),
+    (CAPACITY_ASKED, ONE_FLUSH, Sent, UNBOOKED, 0),
     (
         A_READ,
+        ONE_READ,
         Fails(Checked(3, 0x11)),
-        0xA5,
-        Checked(3, 0x11),
-        false,
+        (0xA5, Checked(3, 0x11), false),
+        0x5A,
     ),
-    (A_READ, Fails(Good), 0xA5, Checked(4, 0), false),
-    (A_READ, Fails(Busy), 0xA5, Checked(4, 0), false),
+    (A_READ, ONE_READ, Fails(Good), UNBOOKED, 0x5A),
+    (A_READ, ONE_READ, Fails(Busy), UNBOOKED, 0x5A),
 ];
 
 #[test]
 fn acts_are_as_booked(rt: HostRuntime) -> Result<(), Fail> {
-    for (asked, booked, byte, end, acted) in BOOKED {
-        assert!(rt; asked.2 <= 512);
-        let told = comes_back(&rt, rt.alloc(), asked, booked)?;
-        same(&rt, &told, &(byte, completion_of(end), acted));
+    for (asked, done, how, (byte, end, acted), left) in BOOKED {
+        assert!(rt; asked.2 <= 512 && done.3 <= 512);
+        let told = comes_back(&rt, rt.alloc(), asked, done, how)?;
+        same(&rt, &told, &((byte, completion_of(end), acted), left));
     }
+    Ok(())
+}
+
+/// A write of sector 0 is put on tag 0 and acts.
+fn write_acts<A: Adapter>(
+    rt: &impl Abort,
+    alloc: Global,
+    adapter: &mut A,
+    piece: u128,
+    byte: u8,
+) -> Result<(), Fail>
+    requires few { (A.view adapter.old).accepted < 2 ^ 100 }
+    requires place { length (A.view adapter.old).labels < 32 }
+    ensures labels { OnOk result (length (A.view adapter.new).labels ≤ length (A.view adapter.old).labels + 2) }
+    ensures accepted { OnOk result ((A.view adapter.new).accepted ≡ (A.view adapter.old).accepted + 1) }
+{
+    let srb = one_sector(alloc, 0x80, 0x2A, 0, byte)?;
+    put(rt, adapter, 0, piece, srb)?;
+    act(rt, adapter, 0);
+    Ok(())
+}
+
+/// The write on tag 0 comes back with its data. The room that it had for its label is used.
+fn write_is_back<A: Adapter>(
+    rt: &impl Abort,
+    adapter: &mut A,
+    end: End,
+    byte: u8,
+) -> Result<(), Fail>
+    requires { length (A.view adapter.old).labels < 64 }
+    ensures labels { length (A.view adapter.new).labels ≤ length (A.view adapter.old).labels + 1 }
+    ensures accepted { (A.view adapter.new).accepted ≡ (A.view adapter.old).accepted }
+{
+    let (srb, completion) = finish(adapter, 0)?;
+    same(rt, &completion, &completion_of(end));
+    same(rt, &srb.for_label.capacity(), &0);
+    same(rt, &srb.data.as_slice(), &[byte; 512].as_slice());
+    Ok(())
+}
+
+/// Labels wait beside those of the next piece on the tag, and each has the bytes of its own act.
+#[test]
+fn labels_wait(rt: HostRuntime) -> Result<(), Fail> {
+    let mut adapter = four_sectors(rt.alloc(), 2, false)?;
+    write_acts(&rt, rt.alloc(), &mut adapter, 1, 0x5A)?;
+    write_is_back(&rt, &mut adapter, Good, 0x5A)?;
+    write_acts(&rt, rt.alloc(), &mut adapter, 2, 0xA5)?;
+    tells(
+        &rt,
+        &mut adapter,
+        &[
+            (1, 'S', 0),
+            (1, 'A', 0x5A),
+            (1, 'G', 0),
+            (2, 'S', 0),
+            (2, 'A', 0xA5),
+        ],
+    );
+    write_is_back(&rt, &mut adapter, Good, 0xA5)?;
+    tells(&rt, &mut adapter, &[(2, 'G', 0)]);
+    write_acts(&rt, rt.alloc(), &mut adapter, 3, 0xC3)?;
+    is_reset(&rt, &mut adapter, 1);
+    tells(&rt, &mut adapter, &[(3, 'S', 0), (3, 'A', 0xC3)]);
+    write_is_back(&rt, &mut adapter, Reset, 0xC3)?;
+    tells(&rt, &mut adapter, &[(3, 'R', 0x0E)]);
+    Ok(())
+}
+
+/// Labels that are forgotten are not told, those of what comes later are.
+#[test]
+fn labels_are_forgotten(rt: HostRuntime) -> Result<(), Fail> {
+    let mut adapter = four_sectors(rt.alloc(), 2, false)?;
+    adapter.forget_labels();
+    write_acts(&rt, rt.alloc(), &mut adapter, 1, 0x5A)?;
+    adapter.forget_labels();
+    tells(&rt, &mut adapter, &[]);
+    write_is_back(&rt, &mut adapter, Good, 0x5A)?;
+    tells(&rt, &mut adapter, &[(1, 'G', 0)]);
+    write_acts(&rt, rt.alloc(), &mut adapter, 2, 0xA5)?;
+    write_is_back(&rt, &mut adapter, Good, 0xA5)?;
+    adapter.forget_labels();
+    write_acts(&rt, rt.alloc(), &mut adapter, 3, 0xC3)?;
+    tells(&rt, &mut adapter, &[(3, 'S', 0), (3, 'A', 0xC3)]);
     Ok(())
 }
 
