@@ -124,7 +124,7 @@ told_so size sectors told hid srb entry (Sync16 lba count) means h = record {
 told_so size sectors told hid srb entry ReadCapacity10 means h = absurd h
 told_so size sectors told hid srb entry (ReadCapacity16 allocation) means h = absurd h
 
-told_booked : (size : ℕ) (sectors : List (List ℕ)) (told : Bool) → told ≡ false → (srb : Srb) → HasBooked size (length sectors) srb → IsTold size sectors told srb srb.for_label
+told_booked : (size : ℕ) (sectors : List (List ℕ)) (told : Bool) → told ≡ false → (srb : Srb) → HasBooked size (length sectors) srb → IsTold size sectors told srb srb.data
 told_booked size sectors told hid srb (entry, is, same) = subst (IsTold size sectors told srb) (sym same) (told_so size sectors told hid srb entry is.command is.means is.may)
 
 -- PIECE 0, WHICH READS WHAT IS SHOWN
@@ -166,14 +166,14 @@ shown_to size sectors bytes (ReadCapacity16 allocation) moved after whole reads 
 
 acts_apart : (m : MediumView) (longest : ℕ) (t : Table) (tag : ℕ) (on : OnTag) (bytes : List ℕ) → tag < length t.slots → piece_at t.slots tag ≡ Some on → on.progress ≡ Untouched
     → IsTold m.sector_size m.sectors (on.piece == 0) on.srb bytes → IsAsBooked false on.piece (in_use_of m.sector_size tag on) bytes
-    → ActsOn (apart (shown_of m longest t)) tag on.piece bytes (apart (shown_of m longest (with_moved tag (moved_piece on bytes) bytes t)))
+    → ActsOn (apart (shown_of m longest t)) tag on.piece bytes (apart (shown_of m longest (with_moved tag (moved_piece on bytes) t)))
 acts_apart m longest t tag on bytes below there untouched told as_booked = record {
   use' = in_use_of m.sector_size tag on;
   others = tags_of m.sector_size 0 (slice_set t.slots tag None);
   command = told.command;
   moved = told.moved;
   sectors = m.sectors;
-  left = [];
+  left = 0;
   tags = tags_of m.sector_size 0 (slice_set t.slots tag (Some (moved_piece on bytes)));
   is_on = record { in_use = taken_first m.sector_size t.slots tag on there; has_tag = refl };
   is_piece = refl;
@@ -184,7 +184,7 @@ acts_apart m longest t tag on bytes below there untouched told as_booked = recor
   as_booked = as_booked;
   in_use = subst (λ (u : TagInUse). IsPermutation (tags_of m.sector_size 0 (slice_set t.slots tag (Some (moved_piece on bytes)))) (u ∷ tags_of m.sector_size 0 (slice_set t.slots tag None)))
       (shows_acted m.sector_size tag on bytes told.moved told.bytes_are told.moved_is) (filled m.sector_size t.slots tag (moved_piece on bytes) below);
-  after = ap (λ (d : ℕ). record (apart (shown_of m longest (with_moved tag (moved_piece on bytes) bytes t))) { depth = d }) (length-set t.slots tag (Some (moved_piece on bytes)));
+  after = ap (λ (d : ℕ). record (apart (shown_of m longest (with_moved tag (moved_piece on bytes) t))) { depth = d }) (length-set t.slots tag (Some (moved_piece on bytes)));
 }
 
 pub faults_apart : (old new : AdapterView) (tag piece : ℕ) → FaultsOn old tag piece new → FaultsOn (apart old) tag piece (apart new)
@@ -232,7 +232,7 @@ module _ (m : MediumView) (longest : ℕ) (t : Table) (tag : ℕ) (on : OnTag) (
   below = is_below t.slots tag on there
 
   moved_left : (bytes : List ℕ) → IsTold m.sector_size m.sectors (on.piece == 0) on.srb bytes → IsAsBooked false on.piece (in_use_of m.sector_size tag on) bytes
-      → Left m longest t tag m (with_moved tag (moved_piece on bytes) bytes t)
+      → Left m longest t tag m (with_moved tag (moved_piece on bytes) t)
   moved_left bytes told as_booked = record {
     kept = move_kept m longest t tag on bytes m.sectors kept below there untouched refl (whole_bytes m.sector_size on.srb.block bytes told.moved told.bytes_are told.moved_is) place;
     acts = record { piece = on.piece; one_of = inl (bytes, acts_apart m longest t tag on bytes below there untouched told as_booked) };
@@ -256,7 +256,8 @@ module _ (m : MediumView) (longest : ℕ) (t : Table) (tag : ℕ) (on : OnTag) (
       along m longest t tag m m' (with_failed tag (failed_piece on completion) t) t' same (table_failed t t' tag on on.srb completion refl e) (failed_left completion m.failures bad (omega arith) none)
 
   ends_zero : on.piece ≡ 0 → has_bytes on.booking ≡ false → (outcome : Outcome) → PutsBack m true (with_slot tag None t) tag on outcome m' t' → Left m longest t tag m' t'
-  ends_zero zero none (Moved srb bytes) (carries, e) =
+  ends_zero zero none (Moved srb) (carries, e) =
+      let bytes : List ℕ = carries.bytes in
       let reads : is_write carries.command ≡ false = not_a_write (disk_of m true) on.srb carries.command refl carries.no_fault in
       let shown = shown_to m.sector_size m.sectors on.srb.data carries.command carries.moved carries.sectors whole reads carries.performs in
       let first : true ≡ (on.piece == 0) = sym ((Decides-eqb on.piece 0).1 zero) in
@@ -268,7 +269,7 @@ module _ (m : MediumView) (longest : ℕ) (t : Table) (tag : ℕ) (on : OnTag) (
         bytes_are = carries.bytes_are;
         moved_is = carries.moved_is;
       } in
-      along m longest t tag m m' (with_moved tag (moved_piece on bytes) bytes t) t' (carries.after ∙ ap (λ (s : List (List ℕ)). record m { sectors = s }) shown.1) (table_moved t t' tag on srb bytes carries.comes_back e)
+      along m longest t tag m m' (with_moved tag (moved_piece on bytes) t) t' (carries.after ∙ ap (λ (s : List (List ℕ)). record m { sectors = s }) shown.1) (table_moved t t' tag on srb bytes carries.comes_back e)
       (moved_left bytes told (λ _ other. absurd (other zero)))
   ends_zero zero none (Failed srb completion) (fails, e) =
       along m longest t tag (record m { failures = fails.failures }) m' (with_failed tag (failed_piece on completion) t) t' fails.after (table_failed t t' tag on srb completion fails.same e)
@@ -278,13 +279,13 @@ module _ (m : MediumView) (longest : ℕ) (t : Table) (tag : ℕ) (on : OnTag) (
   ends_unbooked none true is (outcome, h) = ends_zero ((Decides-eqb on.piece 0).0 is) none outcome h
   ends_unbooked none false is h = ends_failed hardware_error refl none h
 
-  ends_booked : on.booking ≡ Bytes → (m' ≡ m) × (t' ≡ with_moved tag (moved_as_booked on) on.srb.for_label (with_slot tag None t)) → Left m longest t tag m' t'
+  ends_booked : on.booking ≡ Bytes → (m' ≡ m) × (t' ≡ with_moved tag (moved_as_booked on) (with_slot tag None t)) → Left m longest t tag m' t'
   ends_booked is (same, e) =
       let right = (kept.pieces tag on there).booked untouched is in
       let other : (on.piece == 0) ≡ false = by_number (on.piece == 0) refl right.0 in
-      along m longest t tag m m' (with_moved tag (moved_piece on on.srb.for_label) on.srb.for_label t) t' same
-      (table_moved t t' tag on (moved_as_booked on).srb on.srb.for_label refl e)
-      (moved_left on.srb.for_label (told_booked m.sector_size m.sectors (on.piece == 0) other on.srb right.1) (λ _ _. (ap has_bytes is, refl)))
+      along m longest t tag m m' (with_moved tag (moved_piece on on.srb.data) t) t' same
+      (table_moved t t' tag on on.srb on.srb.data refl e)
+      (moved_left on.srb.data (told_booked m.sector_size m.sectors (on.piece == 0) other on.srb right.1) (λ _ _. (ap has_bytes is, refl)))
     where
       by_number : (b : Bool) → (on.piece == 0) ≡ b → on.piece ≢ 0 → b ≡ false
       by_number true z other = absurd (other ((Decides-eqb on.piece 0).0 z))

@@ -17,7 +17,7 @@ use Rattle.miniport.specs.declared.on_tag.Progress.TheVariants.{Untouched, Moved
 use Rattle.miniport.specs.declared.carrying.Outcome.{Outcome}
 use Rattle.miniport.specs.declared.carrying.Outcome.TheVariants.{Moved, Failed}
 use Rattle.adapter.specs.Calls.{ActsOrFaults, ActsNot}
-use Rattle.miniport.specs.Carrying.{disk_of, emptied}
+use Rattle.miniport.specs.Carrying.{disk_of, with_data}
 use Rattle.miniport.specs.Moving.{moved_by}
 use Rattle.miniport.specs.inside.Slots.{Table, HasNoneUntouched, piece_at, in_use_of, fate_of, tags_of, with_slot, with_moved, with_failed}
 use Rattle.miniport.specs.Memory.{shown_of, view_of, ActsByTable}
@@ -36,11 +36,11 @@ is_below slots tag on there =
     ]
 
 -- the table after an act, in one set of the slot
-pub table_moved : (t t' : Table) (tag : ℕ) (on : OnTag) (srb : Srb) (bytes : List ℕ) → srb ≡ emptied bytes on.srb
-    → t' ≡ with_moved tag (record on { srb = srb; progress = Done }) bytes (with_slot tag None t) → t' ≡ with_moved tag (moved_piece on bytes) bytes t
+pub table_moved : (t t' : Table) (tag : ℕ) (on : OnTag) (srb : Srb) (bytes : List ℕ) → srb ≡ with_data bytes on.srb
+    → t' ≡ with_moved tag (record on { srb = srb; progress = Done }) (with_slot tag None t) → t' ≡ with_moved tag (moved_piece on bytes) t
 table_moved t t' tag on srb bytes back e =
-    e ∙ ap (λ (s : Srb). with_moved tag (record on { srb = s; progress = Done }) bytes (with_slot tag None t)) back
-    ∙ ap (λ (l : List (Option OnTag)). record (with_moved tag (moved_piece on bytes) bytes t) { slots = l }) (set-set t.slots tag None (Some (moved_piece on bytes)))
+    e ∙ ap (λ (s : Srb). with_moved tag (record on { srb = s; progress = Done }) (with_slot tag None t)) back
+    ∙ ap (λ (l : List (Option OnTag)). record (with_moved tag (moved_piece on bytes) t) { slots = l }) (set-set t.slots tag None (Some (moved_piece on bytes)))
 
 pub table_failed : (t t' : Table) (tag : ℕ) (on : OnTag) (srb : Srb) (completion : Completion) → srb ≡ on.srb
     → t' ≡ with_failed tag (record on { srb = srb; progress = Refused completion }) (with_slot tag None t) → t' ≡ with_failed tag (failed_piece on completion) t
@@ -66,11 +66,12 @@ leaves_along m longest p t tag m' m'' t' t'' e f left =
 put_back : (m : MediumView) (longest : ℕ) (p : Bool) (t : Table) (tag : ℕ) (on : OnTag) (outcome : Outcome) (m' : MediumView) (t' : Table)
     → AdapterKept m longest t → length t.labels < 64 → piece_at t.slots tag ≡ Some on → on.progress ≡ Untouched
     → PutsBack m p (with_slot tag None t) tag on outcome m' t' → LeftByAct m longest p t tag m' t'
-put_back m longest p t tag on (Moved srb bytes) m' t' kept place there untouched (carries, e) =
+put_back m longest p t tag on (Moved srb) m' t' kept place there untouched (carries, e) =
+    let bytes : List ℕ = carries.bytes in
     let below : tag < length t.slots = is_below t.slots tag on there in
     let long : length carries.sectors ≡ length m.sectors = Performs-length m.sector_size m.sectors on.srb.data carries.command carries.moved carries.sectors carries.performs in
     let act = acts m longest t tag on carries.command bytes carries.moved carries.sectors below there untouched carries.means carries.performs carries.bytes_are carries.moved_is in
-    leaves_along m longest p t tag (record m { sectors = carries.sectors }) m' (with_moved tag (moved_piece on bytes) bytes t) t' carries.after
+    leaves_along m longest p t tag (record m { sectors = carries.sectors }) m' (with_moved tag (moved_piece on bytes) t) t' carries.after
     (table_moved t t' tag on srb bytes carries.comes_back e)
     (record {
       kept = move_kept m longest t tag on bytes carries.sectors kept below there untouched long

@@ -1,13 +1,21 @@
 -- What is booked of a piece, as an adapter whose sectors stand elsewhere shows it.
 use Rattle.std.proofs.Common.{◌≡◌, ◌≢◌, ◌<◌, ◌≤◌, inl, inr, ℕ, zero, suc, ◌+◌, ◌==◌, Bool, true, false, List, [], ◌∷◌, length, map, slice_set, sum_by, Option, Some, None, Result, Ok, Err, MatchBool, refl, sym, ap, subst, ◌∙◌, arith, length-set, set-set, zero-add, if◌then◌else◌}
 use Rattle.std.proofs.lemmas.Bool.Decides.{Decides-eqb, eqb_tells}
+use Rattle.std.proofs.lemmas.List.{nil_from_length}
+use Rattle.cdb.specs.declared.Cdb.{Cdb}
+use Rattle.cdb.specs.declared.Cdb.TheVariants.{Read10, Write10, Sync10, ReadCapacity10, Read16, Write16, Sync16, ReadCapacity16}
 use Rattle.srb.specs.declared.Srb.{Srb}
 use Rattle.srb.specs.declared.Entry.{Entry}
+use Rattle.srb.specs.declared.Kind.{Kind}
+use Rattle.srb.specs.declared.Kind.TheVariants.{Read, Write, Flush}
+use Rattle.srb.specs.declared.Booked.{Booked}
+use Rattle.srb.specs.declared.Booked.TheVariants.{Copied, Taken, Sent, Failed}
 use Rattle.srb.specs.declared.Completion.{Completion}
 use Rattle.srb.specs.declared.Class.TheVariants.{Bad}
 use Rattle.srb.specs.Fate.{Fate, Fresh, class_of}
 use Rattle.adapter.specs.View.{TagInUse, AdapterView, IsInOrder}
-use Rattle.adapter.specs.Booking.{Books, IsBookable, Suits, IsOfSrb, with_booked, booked_on}
+use Rattle.adapter.specs.Booking.{Books, IsBookable, IsFlushOf, IsTransferOf, MayBeOf, Suits, IsOfSrb, handed, handed_of, with_booked, booked_on}
+use Rattle.adapter.proofs.Handed.{handed_on}
 use Rattle.adapter.proofs.Booked.{on_tag_once, is_there, suits_long}
 use Rattle.disk.specs.Medium.{MediumView, HasWholeSectors}
 use Rattle.miniport.specs.declared.check.Sizes.{Sizes}
@@ -17,7 +25,8 @@ use Rattle.miniport.specs.declared.on_tag.Progress.TheVariants.{Untouched}
 use Rattle.miniport.specs.declared.on_tag.Booking.TheVariants.{Bytes, Failure}
 use Rattle.miniport.specs.Apart.{apart}
 use Rattle.miniport.specs.inside.Apart.{SuitsPiece, CanBook, CannotBook, BooksIn}
-use Rattle.miniport.specs.inside.Slots.{Table, piece_at, in_use_of, tags_of, fate_of, booked_piece, with_slot}
+use Rattle.miniport.specs.Carrying.{with_data}
+use Rattle.miniport.specs.inside.Slots.{Table, Fits, MayBecome, piece_at, in_use_of, tags_of, fate_of, booked_piece, booked_with, with_slot}
 use Rattle.miniport.specs.Memory.{MemView, shown_of, view_of}
 use Rattle.miniport.specs.inside.Memory.{AdapterKept, IsPieceRight, HasBooked, failures_left, left_by}
 use Rattle.miniport.proofs.TagsInUse.{taken_first, tags_differ}
@@ -40,8 +49,8 @@ beyond size k n what (Some on ∷ slots) below = rw (left_alone n what (in_use_o
 
 use_booked : (size n : ℕ) (what : Result Entry Completion) (on : OnTag) → on.progress ≡ Untouched → in_use_of size n (booked_piece what on) ≡ with_booked what (in_use_of size n on)
 use_booked size n (Ok entry) on untouched =
-    let same : fate_of size (record on.srb { for_label = entry.bytes }) on.progress ≡ fate_of size on.srb on.progress =
-    ap (λ (p : Progress). fate_of size (record on.srb { for_label = entry.bytes }) p) untouched ∙ sym (ap (λ (p : Progress). fate_of size on.srb p) untouched) in
+    let same : fate_of size (with_data entry.bytes on.srb) on.progress ≡ fate_of size on.srb on.progress =
+    ap (λ (p : Progress). fate_of size (with_data entry.bytes on.srb) p) untouched ∙ sym (ap (λ (p : Progress). fate_of size on.srb p) untouched) in
     ap (λ (f : Fate). record (with_booked (Ok entry) (in_use_of size n on)) { fate = f }) same
 use_booked size n (Err completion) on untouched = refl
 
@@ -72,15 +81,35 @@ tags_booked size k (suc i) what (Some p ∷ slots) on there untouched =
 
 -- WHAT IS KEPT
 
+transfer_again : (size sectors : ℕ) (bytes : List ℕ) (kind : Kind) (lba count : ℕ) (entry : Entry) → IsTransferOf size sectors bytes kind lba count entry
+    → IsTransferOf size sectors entry.bytes kind lba count entry
+transfer_again size sectors bytes kind lba count entry h =
+    record { kind_is = h.kind_is; first_is = h.first_is; count_is = h.count_is; inside = h.inside; whole = h.as_many ∙ h.whole; as_many = refl }
+
+flush_again : (bytes : List ℕ) (lba count : ℕ) (entry : Entry) → IsFlushOf bytes lba count entry → IsFlushOf entry.bytes lba count entry
+flush_again bytes lba count entry h =
+    record { kind_is = h.kind_is; first_is = h.first_is; count_is = h.count_is; none = h.none_booked; none_booked = h.none_booked }
+
+-- what may be booked may be booked again, where its bytes are the data
+may_again : (size sectors : ℕ) (bytes : List ℕ) (entry : Entry) (command : Cdb) → MayBeOf size sectors bytes entry command → MayBeOf size sectors entry.bytes entry command
+may_again size sectors bytes entry (Read10 lba count fua) h = transfer_again size sectors bytes Read lba count entry h
+may_again size sectors bytes entry (Write10 lba count fua) h = (transfer_again size sectors bytes Write lba count entry h.0, refl)
+may_again size sectors bytes entry (Sync10 lba count) h = flush_again bytes lba count entry h
+may_again size sectors bytes entry ReadCapacity10 h = absurd h
+may_again size sectors bytes entry (Read16 lba count fua) h = transfer_again size sectors bytes Read lba count entry h
+may_again size sectors bytes entry (Write16 lba count fua) h = (transfer_again size sectors bytes Write lba count entry h.0, refl)
+may_again size sectors bytes entry (Sync16 lba count) h = flush_again bytes lba count entry h
+may_again size sectors bytes entry (ReadCapacity16 allocation) h = absurd h
+
 booked_right : (m : MediumView) (f piece : ℕ) (on : OnTag) (what : Result Entry Completion) → SuitsPiece m.sector_size (length m.sectors) on piece what → on.progress ≡ Untouched → IsPieceRight m f on → IsPieceRight m f (booked_piece what on)
 booked_right m f piece on (Ok entry) s untouched right = record {
   ready = right.ready;
-  buffers = λ e. suits_long m.sector_size (length m.sectors) on.srb entry s.suits;
-  moved = λ e. right.moved e;
+  buffers = λ e. subst (λ (n : ℕ). n ≤ on.srb.for_label) (sym (suits_long m.sector_size (length m.sectors) on.srb entry s.suits)) (right.buffers untouched);
+  moved = λ e. absurd (cc (untouched, e));
   counted = right.counted;
   failed = right.failed;
   met = right.met;
-  booked = λ e b. (λ z. s.not_first (sym s.is_piece ∙ z), (entry, record { command = s.suits.command; means = s.suits.means; may = s.suits.may }, refl));
+  booked = λ e b. (λ z. s.not_first (sym s.is_piece ∙ z), (entry, record { command = s.suits.command; means = s.suits.means; may = may_again m.sector_size (length m.sectors) on.srb.data entry s.suits.command s.suits.may }, refl));
   failing = λ c e. absurd (cc (e));
 }
 booked_right m f piece on (Err completion) s untouched right = record {
@@ -142,6 +171,47 @@ shown_booked m longest t tag what on there untouched =
     ap (λ (n : ℕ). record (apart (shown_of m longest (with_slot tag after t))) { depth = n }) (length-set t.slots tag after)
     ∙ ap (λ (us : List TagInUse). record (apart (shown_of m longest t)) { tags = us }) tags
 
+-- WHAT IS HANDED OVER
+
+becomes : (size sectors : ℕ) (bytes : List ℕ) (entry : Entry) (command : Cdb) → MayBeOf size sectors bytes entry command → MayBecome entry bytes
+becomes size sectors bytes entry (Read10 lba count fua) h = record { as_many = h.as_many; same = λ other. absurd (other h.kind_is) }
+becomes size sectors bytes entry (Write10 lba count fua) h = record { as_many = h.0.as_many; same = λ other. h.1 }
+becomes size sectors bytes entry (Sync10 lba count) h =
+    record { as_many = h.none_booked ∙ sym h.none; same = λ other. nil_from_length entry.bytes h.none_booked ∙ sym (nil_from_length bytes h.none) }
+becomes size sectors bytes entry ReadCapacity10 h = absurd h
+becomes size sectors bytes entry (Read16 lba count fua) h = record { as_many = h.as_many; same = λ other. absurd (other h.kind_is) }
+becomes size sectors bytes entry (Write16 lba count fua) h = record { as_many = h.0.as_many; same = λ other. h.1 }
+becomes size sectors bytes entry (Sync16 lba count) h =
+    record { as_many = h.none_booked ∙ sym h.none; same = λ other. nil_from_length entry.bytes h.none_booked ∙ sym (nil_from_length bytes h.none) }
+becomes size sectors bytes entry (ReadCapacity16 allocation) h = absurd h
+
+suited_fits : (size sectors tag piece : ℕ) (srb : Srb) (what : Booked) → Suits size sectors srb (handed_of tag piece srb what) → Fits what srb.data
+suited_fits size sectors tag piece srb (Copied entry) s = becomes size sectors srb.data entry.now s.command s.may
+suited_fits size sectors tag piece srb (Taken entry) s = becomes size sectors srb.data entry.now s.command s.may
+suited_fits size sectors tag piece srb Sent s = tt
+suited_fits size sectors tag piece srb (Failed completion) s = tt
+
+same_piece : (a b : OnTag) (slots : List (Option OnTag)) (tag : ℕ) → piece_at slots tag ≡ Some a → piece_at slots tag ≡ Some b → a ≡ b
+same_piece a b slots tag e f = cc (e, f)
+
+pub can_fit : (sizes : Sizes) (t : Table) (tag piece : ℕ) (what : Booked) → CanBook sizes t tag piece what → (on : OnTag) → piece_at t.slots tag ≡ Some on → Fits what on.srb.data
+can_fit sizes t tag piece what can on there =
+    subst (λ (x : OnTag). Fits what x.srb.data) (same_piece can.on on t.slots tag can.there there)
+    (suited_fits sizes.sector_size sizes.sectors tag piece can.on.srb what can.suits.suits)
+
+-- the piece is booked by what was handed over
+as_handed : (tag piece : ℕ) (what : Booked) (on : OnTag) → booked_with what on ≡ booked_piece (handed_of tag piece on.srb what) on
+as_handed tag piece (Copied entry) on = refl
+as_handed tag piece (Taken entry) on = refl
+as_handed tag piece Sent on = refl
+as_handed tag piece (Failed completion) on = refl
+
+handed_there : (m : MediumView) (longest : ℕ) (t : Table) (tag piece : ℕ) (what : Booked) (on : OnTag) → piece_at t.slots tag ≡ Some on
+    → handed (apart (shown_of m longest t)) tag piece what ≡ handed_of tag piece on.srb what
+handed_there m longest t tag piece what on there =
+    handed_on (apart (shown_of m longest t)) tag piece what (in_use_of m.sector_size tag on) (tags_of m.sector_size 0 (slice_set t.slots tag None)) (tags_differ m.sector_size t.slots)
+    (record { in_use = taken_first m.sector_size t.slots tag on there; has_tag = refl })
+
 -- ALL OF IT
 
 pub record AfterBook (v : MemView) (tag piece : ℕ) (what : Result Entry Completion) (m : MediumView) (longest : ℕ) (t : Table) : Type 0 where
@@ -168,38 +238,45 @@ none_bookable : (m : MediumView) (longest : ℕ) (t : Table) (tag piece : ℕ) (
 none_bookable m longest t tag piece what none h =
     none_fresh m longest t tag (λ on there untouched. none on there untouched (the_piece m longest t tag piece what h on there)) h.use' h.others (record { in_use = h.is_on.in_use; has_tag = h.is_on.has_tag }) h.is_fresh
 
-booked_so : (m : MediumView) (longest : ℕ) (p : Bool) (t t' : Table) (sizes : Sizes) (tag piece : ℕ) (what : Result Entry Completion) (b : Bool) → HasWholeSectors m → AdapterKept m longest t
-    → sizes.sector_size ≡ m.sector_size → sizes.sectors ≡ length m.sectors → MatchBool b (BooksIn sizes t tag piece what t') (CannotBook sizes t tag piece what × (t' ≡ t)) → AfterBook (view_of m longest p t) tag piece what m longest t'
+booked_so : (m : MediumView) (longest : ℕ) (p : Bool) (t t' : Table) (sizes : Sizes) (tag piece : ℕ) (what : Booked) (b : Bool) → HasWholeSectors m → AdapterKept m longest t
+    → sizes.sector_size ≡ m.sector_size → sizes.sectors ≡ length m.sectors → MatchBool b (BooksIn sizes t tag piece what t') (CannotBook sizes t tag piece what × (t' ≡ t))
+    → AfterBook (view_of m longest p t) tag piece (handed (apart (shown_of m longest t)) tag piece what) m longest t'
 booked_so m longest p t t' sizes tag piece what true whole kept size count h =
     let on : OnTag = h.can.on in
-    let suits : SuitsPiece m.sector_size (length m.sectors) on piece what =
-    subst (λ (n : ℕ). SuitsPiece n (length m.sectors) on piece what) size (subst (λ (n : ℕ). SuitsPiece sizes.sector_size n on piece what) count h.can.suits) in
-    let after : t' ≡ with_slot tag (Some (booked_piece what on)) t =
-    h.after ∙ ap (λ (l : List (Option OnTag)). record t { slots = l }) (set-set t.slots tag None (Some (booked_piece what on))) in
-    let keeps : AdapterKept m longest (with_slot tag (Some (booked_piece what on)) t) = kept_booked m longest t tag piece on what kept h.can.there h.can.untouched suits in
-    subst (λ (s : Table). AfterBook (view_of m longest p t) tag piece what m longest s) (sym after) (record {
+    let told : Result Entry Completion = handed_of tag piece on.srb what in
+    let suits : SuitsPiece m.sector_size (length m.sectors) on piece told =
+    subst (λ (n : ℕ). SuitsPiece n (length m.sectors) on piece told) size (subst (λ (n : ℕ). SuitsPiece sizes.sector_size n on piece told) count h.can.suits) in
+    let after : t' ≡ with_slot tag (Some (booked_piece told on)) t =
+    h.after ∙ ap (λ (x : OnTag). with_slot tag (Some x) (with_slot tag None t)) (as_handed tag piece what on)
+    ∙ ap (λ (l : List (Option OnTag)). record t { slots = l }) (set-set t.slots tag None (Some (booked_piece told on))) in
+    let keeps : AdapterKept m longest (with_slot tag (Some (booked_piece told on)) t) = kept_booked m longest t tag piece on told kept h.can.there h.can.untouched suits in
+    subst (λ (r : Result Entry Completion). AfterBook (view_of m longest p t) tag piece r m longest t') (sym (handed_there m longest t tag piece what on h.can.there))
+    (subst (λ (s : Table). AfterBook (view_of m longest p t) tag piece told m longest s) (sym after) (record {
       kept = keeps;
-      order = in_order m longest (with_slot tag (Some (booked_piece what on)) t) whole keeps;
+      order = in_order m longest (with_slot tag (Some (booked_piece told on)) t) whole keeps;
       books = record {
         booked = true;
-        decides = (λ e. bookable m longest t tag piece what on h.can.there h.can.untouched suits, λ h. refl);
-        after = shown_booked m longest t tag what on h.can.there h.can.untouched;
+        decides = (λ e. bookable m longest t tag piece told on h.can.there h.can.untouched suits, λ h. refl);
+        after = shown_booked m longest t tag told on h.can.there h.can.untouched;
       };
-    })
+    }))
 booked_so m longest p t t' sizes tag piece what false whole kept size count (none, same) =
-    let none' : (on : OnTag) → piece_at t.slots tag ≡ Some on → on.progress ≡ Untouched → ¬ SuitsPiece m.sector_size (length m.sectors) on piece what =
-    λ on there untouched suits. none on there untouched (subst (λ (n : ℕ). SuitsPiece n sizes.sectors on piece what) (sym size) (subst (λ (n : ℕ). SuitsPiece m.sector_size n on piece what) (sym count) suits)) in
-    subst (λ (s : Table). AfterBook (view_of m longest p t) tag piece what m longest s) (sym same) (record {
+    let told : Result Entry Completion = handed (apart (shown_of m longest t)) tag piece what in
+    let none' : (on : OnTag) → piece_at t.slots tag ≡ Some on → on.progress ≡ Untouched → ¬ SuitsPiece m.sector_size (length m.sectors) on piece told =
+    λ on there untouched suits. none on there untouched (subst (λ (r : Result Entry Completion). SuitsPiece sizes.sector_size sizes.sectors on piece r) (handed_there m longest t tag piece what on there)
+    (subst (λ (n : ℕ). SuitsPiece n sizes.sectors on piece told) (sym size) (subst (λ (n : ℕ). SuitsPiece m.sector_size n on piece told) (sym count) suits))) in
+    subst (λ (s : Table). AfterBook (view_of m longest p t) tag piece told m longest s) (sym same) (record {
       kept = kept;
       order = in_order m longest t whole kept;
       books = record {
         booked = false;
-        decides = (λ e. absurd (cc (e)), λ h. absurd (none_bookable m longest t tag piece what none' h));
+        decides = (λ e. absurd (cc (e)), λ h. absurd (none_bookable m longest t tag piece told none' h));
         after = refl;
       };
     })
 
-pub after_book : (m : MediumView) (longest : ℕ) (p : Bool) (t t' : Table) (sizes : Sizes) (v : MemView) (tag piece : ℕ) (what : Result Entry Completion) (b : Bool) → view_of m longest p t ≡ v → HasWholeSectors m → AdapterKept m longest t
-    → sizes.sector_size ≡ m.sector_size → sizes.sectors ≡ length m.sectors → MatchBool b (BooksIn sizes t tag piece what t') (CannotBook sizes t tag piece what × (t' ≡ t)) → AfterBook v tag piece what m longest t'
+pub after_book : (m : MediumView) (longest : ℕ) (p : Bool) (t t' : Table) (sizes : Sizes) (v : MemView) (tag piece : ℕ) (what : Booked) (b : Bool) → view_of m longest p t ≡ v → HasWholeSectors m → AdapterKept m longest t
+    → sizes.sector_size ≡ m.sector_size → sizes.sectors ≡ length m.sectors → MatchBool b (BooksIn sizes t tag piece what t') (CannotBook sizes t tag piece what × (t' ≡ t))
+    → AfterBook v tag piece (handed (apart v.shown) tag piece what) m longest t'
 after_book m longest p t t' sizes v tag piece what b e whole kept size count h =
-    subst (λ (u : MemView). AfterBook u tag piece what m longest t') e (booked_so m longest p t t' sizes tag piece what b whole kept size count h)
+    subst (λ (u : MemView). AfterBook u tag piece (handed (apart u.shown) tag piece what) m longest t') e (booked_so m longest p t t' sizes tag piece what b whole kept size count h)

@@ -12,9 +12,9 @@ use Rattle.disk.specs.Medium.{MediumView, HasWholeSectors}
 use Rattle.miniport.specs.declared.on_tag.OnTag.{OnTag}
 use Rattle.miniport.specs.declared.on_tag.Progress.{Progress}
 use Rattle.miniport.specs.declared.on_tag.Progress.TheVariants.{Untouched, Moved, Failed}
-use Rattle.miniport.specs.Carrying.{IsReady, emptied}
+use Rattle.miniport.specs.Carrying.{IsReady}
 use Rattle.miniport.specs.Moving.{moved_by}
-use Rattle.miniport.specs.inside.Slots.{Table, piece_at, new_piece, with_new, with_moved, with_failed, with_returned, with_reset, slot_after_reset, labels_of_reset}
+use Rattle.miniport.specs.inside.Slots.{Table, piece_at, emptied, new_piece, with_new, with_moved, with_failed, with_returned, with_reset, slot_after_reset, labels_of_reset}
 use Rattle.miniport.specs.Memory.{shown_of}
 use Rattle.miniport.specs.inside.Memory.{AdapterKept, IsPieceRight, ArePiecesRight, failures_left, left_by}
 use Rattle.miniport.proofs.TagsInUse.{tags_below, tags_differ, is_used}
@@ -50,7 +50,7 @@ empty_slot m longest t tag free = none_at m.sector_size t.slots tag (piece_at t.
 
 -- ACCEPT
 
-new_right : (m : MediumView) (f piece : ℕ) (srb : Srb) → IsReady m srb → length srb.for_label ≡ length srb.data → IsPieceRight m f (new_piece f piece srb)
+new_right : (m : MediumView) (f piece : ℕ) (srb : Srb) → IsReady m srb → length srb.data ≤ srb.for_label → IsPieceRight m f (new_piece f piece srb)
 new_right m f piece srb ready buffers = record {
   ready = ready;
   buffers = λ e. buffers;
@@ -63,7 +63,7 @@ new_right m f piece srb ready buffers = record {
 }
 
 pub accept_kept : (m : MediumView) (longest : ℕ) (t : Table) (tag piece : ℕ) (srb : Srb) → AdapterKept m longest t → tag < length t.slots
-    → piece_at t.slots tag ≡ None → IsReady m srb → length srb.for_label ≡ length srb.data → t.accepted < 2 ^ 100 → length t.labels < 64
+    → piece_at t.slots tag ≡ None → IsReady m srb → length srb.data ≤ srb.for_label → t.accepted < 2 ^ 100 → length t.labels < 64
     → AdapterKept m longest (with_new tag piece srb t)
 accept_kept m longest t tag piece srb kept below none ready buffers few place =
     let left : sum_by failures_left (slice_set t.slots tag (Some (new_piece t.failures piece srb))) + failures_left (piece_at t.slots tag) ≡ sum_by failures_left t.slots + 2 =
@@ -131,7 +131,7 @@ put_back m t tag on after pieces below there untouched touched same =
 pub move_kept : (m : MediumView) (longest : ℕ) (t : Table) (tag : ℕ) (on : OnTag) (bytes : List ℕ) (sectors : List (List ℕ)) → AdapterKept m longest t
     → tag < length t.slots → piece_at t.slots tag ≡ Some on → on.progress ≡ Untouched → length sectors ≡ length m.sectors
     → concat (moved_by m.sector_size on.srb.block bytes) ≡ bytes → length t.labels < 64
-    → AdapterKept (record m { sectors = sectors }) longest (with_moved tag (moved_piece on bytes) bytes t)
+    → AdapterKept (record m { sectors = sectors }) longest (with_moved tag (moved_piece on bytes) t)
 move_kept m longest t tag on bytes sectors kept below there untouched long whole place =
     let m' = record m { sectors = sectors } in
     let left : sum_by failures_left (slice_set t.slots tag (Some (moved_piece on bytes))) + 1 ≤ sum_by failures_left t.slots =

@@ -45,6 +45,12 @@ pieces_emptied m f slots i all j p e =
       | inr differ ↦ all j p (sym (get_or-set_other slots i j None None differ.1) ∙ e)
     ]
 
+pub emptied_at : (slots : List (Option OnTag)) (i : ℕ) → piece_at (slice_set slots i None) i ≡ None
+emptied_at slots i = elim (cases_lt i (length slots)) [
+  | inl below ↦ get_or-set_same slots i None None below
+  | inr past ↦ ap (λ (l : List (Option OnTag)). piece_at l i) (set_past slots i None past) ∙ get_or_past slots i None past
+]
+
 -- of another medium, or with more failures
 pub pieces_along : (m m' : MediumView) (f f' : ℕ) (slots : List (Option OnTag)) → ((on : OnTag) → IsPieceRight m f on → IsPieceRight m' f' on)
     → ArePiecesRight m f slots → ArePiecesRight m' f' slots

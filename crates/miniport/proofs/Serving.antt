@@ -47,11 +47,14 @@ in_use_seen m longest p t v tag b e f =
 
 -- ACCEPT
 
+pub free_slot : (m : MediumView) (longest : ℕ) (p : Bool) (t : Table) (v : MemView) (tag : ℕ) → view_of m longest p t ≡ v → IsFree v.shown tag → piece_at t.slots tag ≡ None
+free_slot m longest p t v tag e free = empty_slot m longest t tag (subst (λ (u : MemView). IsFree u.shown tag) (sym e) free)
+
 pub record AsksAccept (v : MemView) (tag : ℕ) (srb : Srb) : Type 0 where
   pub below : tag < v.shown.depth
   pub free : IsFree v.shown tag
   pub writable : IsWritable v.shown srb
-  pub buffers : length srb.for_label ≡ length srb.data
+  pub buffers : length srb.data ≤ srb.for_label
   pub few : v.shown.accepted < 2 ^ 100
   pub place : length v.shown.labels < 64
 
@@ -250,3 +253,7 @@ pub label_taken : (m : MediumView) (longest : ℕ) (t t' : Table) (r : Option De
 label_taken m longest t t' None (none, same) kept = subst (λ (s : Table). AdapterKept m longest s) (sym same) kept
 label_taken m longest t t' (Some label) (rest, first, after) kept =
     subst (λ (s : Table). AdapterKept m longest s) (sym after) (is_short m longest t rest (omega (arith, ap length first)) kept)
+
+-- all labels leave
+pub labels_forgotten : (m : MediumView) (longest : ℕ) (t t' : Table) → t' ≡ record t { labels = [] } → AdapterKept m longest t → AdapterKept m longest t'
+labels_forgotten m longest t t' after kept = subst (λ (s : Table). AdapterKept m longest s) (sym after) (is_short m longest t [] (omega arith) kept)

@@ -18,10 +18,10 @@ use Rattle.miniport.specs.declared.on_tag.OnTag.{OnTag}
 use Rattle.miniport.specs.declared.on_tag.Progress.{Progress}
 use Rattle.miniport.specs.declared.on_tag.Progress.TheVariants.{Untouched, Moved, Failed}
 use Rattle.adapter.specs.Calls.{Finishes, IsBooked}
-use Rattle.miniport.specs.Carrying.{emptied, disk_of}
+use Rattle.miniport.specs.Carrying.{disk_of}
 use Rattle.miniport.specs.Faults.{fault_of, Decodes, success, busy, bus_reset}
 use Rattle.miniport.specs.Moving.{moved_by}
-use Rattle.miniport.specs.inside.Slots.{Table, piece_at, in_use_of, fate_of, tags_of, new_piece, with_new, with_moved, with_failed, with_returned, completion_of, completion_by, slot_completion}
+use Rattle.miniport.specs.inside.Slots.{Table, emptied, piece_at, in_use_of, fate_of, tags_of, new_piece, with_new, with_moved, with_failed, with_returned, completion_of, completion_by, slot_completion}
 use Rattle.miniport.specs.Memory.{shown_of, view_of, new_view, Dues, ActsByTable, EndsBy}
 use Rattle.miniport.specs.inside.Memory.{IsPieceRight}
 use Rattle.miniport.proofs.TagsInUse.{taken_first, filled}
@@ -74,7 +74,7 @@ not_met m f on false right untouched e = refl
 not_met m f on true right untouched e = absurd ((right.met e).1 untouched)
 
 pub shows_acted : (size tag : ℕ) (on : OnTag) (bytes : List ℕ) (moved : List (List ℕ)) → bytes ≡ concat moved → moved ≡ moved_by size on.srb.block bytes
-    → in_use_of size tag (moved_piece on bytes) ≡ acted moved [] (in_use_of size tag on)
+    → in_use_of size tag (moved_piece on bytes) ≡ acted moved 0 (in_use_of size tag on)
 shows_acted size tag on bytes moved e f =
     ap (λ (s : List (List ℕ)). record (in_use_of size tag (moved_piece on bytes)) { fate = Acted s }) (sym f)
     ∙ ap (λ (b : List ℕ). record (in_use_of size tag on) { fate = Acted moved; srb = emptied b on.srb }) e
@@ -82,7 +82,7 @@ shows_acted size tag on bytes moved e f =
 pub acts : (m : MediumView) (longest : ℕ) (t : Table) (tag : ℕ) (on : OnTag) (command : Cdb) (bytes : List ℕ) (moved sectors : List (List ℕ))
     → tag < length t.slots → piece_at t.slots tag ≡ Some on → on.progress ≡ Untouched → Means on.srb.block command
     → Performs m.sector_size m.sectors on.srb.data command moved sectors → bytes ≡ concat moved → moved ≡ moved_by m.sector_size on.srb.block bytes
-    → ActsOn (shown_of m longest t) tag on.piece bytes (shown_of (record m { sectors = sectors }) longest (with_moved tag (moved_piece on bytes) bytes t))
+    → ActsOn (shown_of m longest t) tag on.piece bytes (shown_of (record m { sectors = sectors }) longest (with_moved tag (moved_piece on bytes) t))
 acts m longest t tag on command bytes moved sectors below there untouched means performs bytes_are moved_is =
     let put : IsPermutation (tags_of m.sector_size 0 (slice_set t.slots tag (Some (moved_piece on bytes)))) (in_use_of m.sector_size tag (moved_piece on bytes) ∷ tags_of m.sector_size 0 (slice_set t.slots tag None)) =
     filled m.sector_size t.slots tag (moved_piece on bytes) below in
@@ -92,7 +92,7 @@ acts m longest t tag on command bytes moved sectors below there untouched means 
       command = command;
       moved = moved;
       sectors = sectors;
-      left = [];
+      left = 0;
       tags = tags_of m.sector_size 0 (slice_set t.slots tag (Some (moved_piece on bytes)));
       is_on = record { in_use = taken_first m.sector_size t.slots tag on there; has_tag = refl };
       is_piece = refl;
@@ -103,7 +103,7 @@ acts m longest t tag on command bytes moved sectors below there untouched means 
       as_booked = λ apart. absurd (cc (apart));
       in_use = subst (λ (u : TagInUse). IsPermutation (tags_of m.sector_size 0 (slice_set t.slots tag (Some (moved_piece on bytes)))) (u ∷ tags_of m.sector_size 0 (slice_set t.slots tag None)))
           (shows_acted m.sector_size tag on bytes moved bytes_are moved_is) put;
-      after = depth_stays (record m { sectors = sectors }) longest (with_moved tag (moved_piece on bytes) bytes t) (length t.slots) (length-set t.slots tag (Some (moved_piece on bytes)));
+      after = depth_stays (record m { sectors = sectors }) longest (with_moved tag (moved_piece on bytes) t) (length t.slots) (length-set t.slots tag (Some (moved_piece on bytes)));
     }
 
 -- an adapter that has its sectors books nothing
@@ -134,8 +134,8 @@ completion_unmet on e = ap (λ (b : Bool). Some (if b then bus_reset else comple
 pub acts_by_table : (m : MediumView) (longest : ℕ) (p : Bool) (t : Table) (tag : ℕ) (on : OnTag) (command : Cdb) (bytes : List ℕ) (sectors : List (List ℕ))
     → IsPieceRight m t.failures on → piece_at t.slots tag ≡ Some on → on.progress ≡ Untouched → Means on.srb.block command
     → fault_of (disk_of m p) on.srb (Ok command) ≡ None
-    → ActsOn (shown_of m longest t) tag on.piece bytes (shown_of (record m { sectors = sectors }) longest (with_moved tag (moved_piece on bytes) bytes t))
-    → ActsByTable (view_of m longest p t) tag (view_of (record m { sectors = sectors }) longest p (with_moved tag (moved_piece on bytes) bytes t))
+    → ActsOn (shown_of m longest t) tag on.piece bytes (shown_of (record m { sectors = sectors }) longest (with_moved tag (moved_piece on bytes) t))
+    → ActsByTable (view_of m longest p t) tag (view_of (record m { sectors = sectors }) longest p (with_moved tag (moved_piece on bytes) t))
 acts_by_table m longest p t tag on command bytes sectors right there untouched means none act =
     let unmet : on.was_reset ≡ false = not_met m t.failures on on.was_reset right untouched refl in
     record {
@@ -146,7 +146,7 @@ acts_by_table m longest p t tag on command bytes sectors right there untouched m
       decodes = means;
       ends = rw none (
         (bytes, act),
-        due_set (record m { sectors = sectors }) longest p (with_moved tag (moved_piece on bytes) bytes t) t.slots tag
+        due_set (record m { sectors = sectors }) longest p (with_moved tag (moved_piece on bytes) t) t.slots tag
             (Some (moved_piece on bytes)) (Some success) refl (completion_unmet (moved_piece on bytes) unmet),
       );
     }

@@ -1,5 +1,5 @@
 -- What becomes of a command on a medium.
-use Rattle.std.specs.Prelude.{◌≡◌, ◌≤◌, ℕ, ◌+◌, Bool, List, [], length, Some, None, Result, Ok}
+use Rattle.std.specs.Prelude.{◌≡◌, ◌≤◌, ℕ, ◌+◌, Bool, List, length, Some, None, Result, Ok}
 use Rattle.std.specs.List.{concat}
 use Rattle.sector.specs.declared.Extent.{Extent}
 use Rattle.cdb.specs.declared.Cdb.{Cdb}
@@ -38,27 +38,28 @@ IsReady medium srb =
     (lba count : ℕ) (fua : Bool) → AsksToWrite srb.block lba count fua → lba + count ≤ length medium.sectors
     → IsReserved medium (record { first = lba; count = count })
 
--- an SRB with other data, and of the second buffer nothing left
-abbrev pub emptied : List ℕ → Srb → Srb
-emptied bytes srb = record srb { «data» = bytes; for_label = [] }
+-- an SRB with other data
+abbrev pub with_data : List ℕ → Srb → Srb
+with_data bytes srb = record srb { «data» = bytes }
 
 -- the sectors of an extent are read into the SRB's data, unless one is bad
 abbrev pub Reads : MediumView → Extent → Srb → Outcome → MediumView → Type 0
-Reads medium extent srb (Moved srb' bytes) medium' =
-    (¬ HasBad medium extent) × (bytes ≡ bytes_at medium extent) × (srb' ≡ emptied bytes srb) × (medium' ≡ medium)
+Reads medium extent srb (Moved srb') medium' =
+    (¬ HasBad medium extent) × (srb' ≡ with_data (bytes_at medium extent) srb) × (medium' ≡ medium)
 Reads medium extent srb (Failed srb' completion) medium' =
     HasBad medium extent × (completion ≡ error 3 0x11 0x00) × (srb' ≡ srb) × (medium' ≡ failed medium)
 
 -- the SRB's data are written over an extent, unless a sector of it is bad
 abbrev pub Writes : MediumView → Extent → Srb → Outcome → MediumView → Type 0
-Writes medium extent srb (Moved srb' bytes) medium' =
-    (¬ HasBad medium extent) × Rewrites medium extent bytes medium' × (bytes ≡ srb.data) × (srb' ≡ emptied bytes srb)
+Writes medium extent srb (Moved srb') medium' =
+    (¬ HasBad medium extent) × Rewrites medium extent srb.data medium' × (srb' ≡ srb)
 Writes medium extent srb (Failed srb' completion) medium' =
     HasBad medium extent × (completion ≡ error 3 0x0C 0x00) × (srb' ≡ srb) × (medium' ≡ failed medium)
 
--- the command is carried out: its bytes stand in the data and in what was the second buffer
-pub record CarriesOut (medium : MediumView) (write_protected : Bool) (srb srb' : Srb) (bytes : List ℕ) (medium' : MediumView) : Type 0 where
+-- the command is carried out: its bytes, as many as there were, stand in the data
+pub record CarriesOut (medium : MediumView) (write_protected : Bool) (srb srb' : Srb) (medium' : MediumView) : Type 0 where
   pub command : Cdb
+  pub bytes : List ℕ
   pub moved : List (List ℕ)
   pub sectors : List (List ℕ)
   pub means : Means srb.block command
@@ -66,7 +67,8 @@ pub record CarriesOut (medium : MediumView) (write_protected : Bool) (srb srb' :
   pub performs : Performs medium.sector_size medium.sectors srb.data command moved sectors
   pub bytes_are : bytes ≡ concat moved
   pub moved_is : moved ≡ moved_by medium.sector_size srb.block bytes
-  pub comes_back : srb' ≡ emptied bytes srb
+  pub as_many : length bytes ≡ length srb.data
+  pub comes_back : srb' ≡ with_data bytes srb
   pub after : medium' ≡ record medium { sectors = sectors }
 
 -- the command fails, and no sector changes
@@ -80,5 +82,5 @@ pub record FailsBy (medium : MediumView) (write_protected : Bool) (srb srb' : Sr
   pub after : medium' ≡ record medium { failures = failures }
 
 abbrev pub Ends : MediumView → Bool → Srb → Outcome → MediumView → Type 0
-Ends medium write_protected srb (Moved srb' bytes) medium' = CarriesOut medium write_protected srb srb' bytes medium'
+Ends medium write_protected srb (Moved srb') medium' = CarriesOut medium write_protected srb srb' medium'
 Ends medium write_protected srb (Failed srb' completion) medium' = FailsBy medium write_protected srb srb' completion medium'

@@ -8,7 +8,7 @@ ghost use Rattle.cdb.specs.Meaning.{Means};
 ghost use Rattle.adapter.specs.Performing.{capacity_data};
 ghost use Rattle.disk.specs.Medium.{IsWithin, IsReserved, HasBad, bytes_at, failed};
 ghost use Rattle.miniport.specs.Checking.{Passes, IsRefused};
-ghost use Rattle.miniport.specs.Carrying.{emptied, disk_of, sizes_of, IsReady, Ends, Reads, Writes};
+ghost use Rattle.miniport.specs.Carrying.{with_data, disk_of, sizes_of, IsReady, Ends, Reads, Writes};
 
 use crate::check::{Sizes, check};
 use crate::completion::{MEDIUM_ERROR, failed_with};
@@ -83,7 +83,7 @@ pub(crate) fn last_told(sectors: u64) -> u32
 /// Tells the number of the last sector and the bytes of a sector in the SRB's data.
 pub(crate) fn tell_capacity(last: u32, sector_size: u32, srb: Srb) -> Outcome
     requires long { length srb.data ≡ 8 }
-    ensures { let bytes = big_bytes 4 last ++ big_bytes 4 sector_size in result ≡ Outcome.Moved (emptied bytes srb) bytes }
+    ensures { let bytes = big_bytes 4 last ++ big_bytes 4 sector_size in result ≡ Outcome.Moved (with_data bytes srb) }
 {
     let mut bytes = srb.data.into_vec();
     BigEndian::write_u32(bytes.as_mut_slice(), last);
@@ -124,7 +124,7 @@ fn put_over(told: &[u8], place: Bytes) -> Bytes
 
 /// Tells the same in the form of READ CAPACITY(16), as far as the SRB's data have room.
 fn tell_long_capacity(last: u64, sector_size: u32, srb: Srb) -> Outcome
-    ensures { let bytes = take (length srb.data) (big_bytes 8 last ++ big_bytes 4 sector_size ++ replicate (length srb.data) 0) in result ≡ Outcome.Moved (emptied bytes srb) bytes }
+    ensures { let bytes = take (length srb.data) (big_bytes 8 last ++ big_bytes 4 sector_size ++ replicate (length srb.data) 0) in result ≡ Outcome.Moved (with_data bytes srb) }
 {
     let told = long_capacity(last, sector_size);
     let data = put_over(&told, srb.data);

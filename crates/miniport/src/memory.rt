@@ -3,13 +3,13 @@
 ghost use Rattle.std.specs.Prelude.{◌≡◌, ◌⊎◌, ◌≤◌, ◌<◌, ◌^◌, ℕ, IfOk, length, MatchBool};
 ghost use Rattle.miniport.specs.declared.carrying.Outcome.{Outcome};
 ghost use Rattle.miniport.specs.declared.on_tag.Progress.TheVariants.{Untouched};
-ghost use Rattle.std.specs.Prelude.{◌==◌, true, Some};
+ghost use Rattle.std.specs.Prelude.{◌==◌, true, Some, None};
 ghost use Rattle.std.specs.Bool.{Decides};
-ghost use Rattle.adapter.specs.Booking.{handed};
+ghost use Rattle.adapter.specs.Booking.{handed_of};
 ghost use Rattle.miniport.specs.inside.Apart.{CanBook, CannotBook, BooksIn, ActsApartIn, EndsAsBooked, EndsUnbooked, SuitsPiece, failed_as, moved_as_booked as as_moved};
 ghost use Rattle.miniport.specs.inside.Slots.{with_moved, with_failed, piece_at};
 ghost use Rattle.miniport.specs.declared.on_tag.OnTag.{OnTag};
-ghost use Rattle.miniport.specs.Carrying.{IsReady, emptied, sizes_of};
+ghost use Rattle.miniport.specs.Carrying.{IsReady, sizes_of};
 ghost use Rattle.miniport.specs.Memory.{MemView, view_of, new_view};
 ghost use Rattle.miniport.specs.inside.Memory.{AdapterKept, PutsBack, ActsIn, ActsNotIn};
 
@@ -111,7 +111,7 @@ impl<M: Medium> MemAdapter<M> {
 
     /// Books of the tag's piece, as an adapter whose sectors are elsewhere.
     pub(crate) fn book_apart(&mut self, tag: u8, piece: u128, what: Booked<'_>)
-        ensures books { Books (apart self.old.shown) tag piece (handed what.entry) (apart self.new.shown) }
+        ensures books { Books (apart self.old.shown) tag piece (handed (apart self.old.shown) tag piece what.entry) (apart self.new.shown) }
         ensures order { IsInOrder self.new.shown }
         ensures protected { self.new.write_protected ≡ self.old.write_protected }
     {
@@ -132,7 +132,7 @@ impl<M: Medium> MemAdapter<M> {
 }
 
 impl<M: Medium> Adapter for MemAdapter<M> {
-    ghost use Rattle.std.specs.Prelude.{◌+◌, ◌*◌, None, IfSome, get_or, Any, IsOk, OnOk, MatchOption};
+    ghost use Rattle.std.specs.Prelude.{◌+◌, ◌*◌, [], IfSome, get_or, Any, IsOk, OnOk, MatchOption};
     ghost use Rattle.adapter.specs.View.{HasTag, IsFree, IsInOrder, IsReserved, IsWritable, ReservesMore, ReservesNear, Accepts};
     ghost use Rattle.adapter.specs.Calls.{ActsOrFaults, ActsNot, Finishes, FinishesNot, Resets, LeavesFirst, HasNoLabel};
     ghost use Rattle.adapter.specs.Booking.{Books, handed};
@@ -219,7 +219,7 @@ impl<M: Medium> Adapter for MemAdapter<M> {
 
     /// Nothing is booked, since its acts move its sectors.
     fn book(&mut self, tag: u8, piece: u128, what: Booked<'_>)
-        ensures books { Books self.old.shown tag piece (handed what.entry) self.new.shown }
+        ensures books { Books self.old.shown tag piece (handed self.old.shown tag piece what.entry) self.new.shown }
         ensures order { IsInOrder self.new.shown }
         ensures same { self.new ≡ self.old }
     {
@@ -253,7 +253,11 @@ impl<M: Medium> Adapter for MemAdapter<M> {
         self.table.take_label()
     }
 
-    fn forget_labels(&mut self) {
+    fn forget_labels(&mut self)
+        ensures forgets { self.new.shown ≡ record self.old.shown { labels = [] } }
+        ensures order { IsInOrder self.new.shown }
+        ensures due { SameDues self.old self.new }
+    {
         self.table.forget_labels();
     }
 }
@@ -267,9 +271,11 @@ fn carry_on<M: Medium>(
     on_tag: OnTag,
 )
     requires ready { IsReady (M.view medium.old) on_tag.srb }
+    requires room { length on_tag.srb.data ≤ on_tag.srb.for_label }
     requires countable { (M.view medium.old).failures < 2 ^ 120 }
     requires some { 1 ≤ length (M.view medium.old).sectors }
     requires below { tag < length table.old.slots }
+    requires free { piece_at table.old.slots tag ≡ None }
     requires place { length table.old.labels < 64 }
     requires counted { table.old.failures < 2 ^ 127 }
     ensures { (outcome : Outcome) × PutsBack (M.view medium.old) write_protected table.old tag on_tag outcome (M.view medium.new) table.new }
@@ -306,14 +312,14 @@ fn sizes_on<M: Medium>(medium: &M, write_protected: bool) -> Sizes
 
 /// Whether this may be booked of a piece.
 fn is_bookable_piece(sizes: &Sizes, on_tag: &OnTag, piece: u128, what: &Booked<'_>) -> bool
-    ensures { Decides result (SuitsPiece sizes.now.sector_size sizes.now.sectors on_tag.now piece (handed what.entry)) }
+    ensures { (tag : ℕ) → Decides result (SuitsPiece sizes.now.sector_size sizes.now.sectors on_tag.now piece (handed_of tag piece on_tag.now.srb what.now)) }
 {
     piece != 0 && on_tag.piece == piece && suits(sizes, &on_tag.srb, what)
 }
 
 /// Whether this may be booked of the tag's piece.
 fn is_bookable(sizes: &Sizes, table: &TagTable, tag: u8, piece: u128, what: &Booked<'_>) -> bool
-    ensures { MatchBool result (CanBook sizes.now table.now tag piece (handed what.entry)) (CannotBook sizes.now table.now tag piece (handed what.entry)) }
+    ensures { MatchBool result (CanBook sizes.now table.now tag piece what.now) (CannotBook sizes.now table.now tag piece what.now) }
 {
     match table.untouched(tag) {
         None => false,
@@ -323,8 +329,7 @@ fn is_bookable(sizes: &Sizes, table: &TagTable, tag: u8, piece: u128, what: &Boo
 
 /// Books of the tag's piece, where this may be; whether it was.
 fn book_on(sizes: &Sizes, table: &mut TagTable, tag: u8, piece: u128, what: Booked<'_>) -> bool
-    requires { (on : OnTag) → piece_at table.old.slots tag ≡ Some on → on.progress ≡ Untouched → length on.srb.for_label ≡ length on.srb.data }
-    ensures { MatchBool result (BooksIn sizes.now table.old tag piece (handed what.entry) table.new) (CannotBook sizes.now table.old tag piece (handed what.entry) × (table.new ≡ table.old)) }
+    ensures { MatchBool result (BooksIn sizes.now table.old tag piece what.entry table.new) (CannotBook sizes.now table.old tag piece what.entry × (table.new ≡ table.old)) }
 {
     if !is_bookable(sizes, table, tag, piece, &what) {
         return false;
@@ -336,7 +341,10 @@ fn book_on(sizes: &Sizes, table: &mut TagTable, tag: u8, piece: u128, what: Book
 /// The piece acts by what was booked of it, and is put back on its tag.
 fn move_on(table: &mut TagTable, tag: u8, on_tag: OnTag)
     requires below { tag < length table.old.slots }
+    requires free { piece_at table.old.slots tag ≡ None }
     requires place { length table.old.labels < 64 }
+    requires room { length on_tag.srb.data ≤ on_tag.srb.for_label }
+    ensures { table.new ≡ with_moved tag (as_moved on_tag) table.old }
 {
     let on_tag = OnTag {
         progress: Progress::Moved,
@@ -348,6 +356,7 @@ fn move_on(table: &mut TagTable, tag: u8, on_tag: OnTag)
 /// The piece fails, and is put back on its tag.
 fn fail_on(table: &mut TagTable, tag: u8, on_tag: OnTag, completion: Completion)
     requires below { tag < length table.old.slots }
+    requires free { piece_at table.old.slots tag ≡ None }
     requires place { length table.old.labels < 64 }
     requires counted { table.old.failures < 2 ^ 127 }
     ensures { table.new ≡ with_failed tag (failed_as completion on_tag) table.old }
@@ -362,9 +371,11 @@ fn fail_on(table: &mut TagTable, tag: u8, on_tag: OnTag, completion: Completion)
 /// A piece of which nothing was booked: piece 0 is carried out, any other fails.
 fn end_unbooked<M: Medium>(medium: &mut M, table: &mut TagTable, tag: u8, on_tag: OnTag)
     requires ready { IsReady (M.view medium.old) on_tag.srb }
+    requires room { length on_tag.srb.data ≤ on_tag.srb.for_label }
     requires countable { (M.view medium.old).failures < 2 ^ 120 }
     requires some { 1 ≤ length (M.view medium.old).sectors }
     requires below { tag < length table.old.slots }
+    requires free { piece_at table.old.slots tag ≡ None }
     requires place { length table.old.labels < 64 }
     requires counted { table.old.failures < 2 ^ 127 }
     ensures { EndsUnbooked (on_tag.piece == 0) (M.view medium.old) table.old tag on_tag (M.view medium.new) table.new }
@@ -379,9 +390,11 @@ fn end_unbooked<M: Medium>(medium: &mut M, table: &mut TagTable, tag: u8, on_tag
 /// A piece ends as it was booked.
 fn end_as_booked<M: Medium>(medium: &mut M, table: &mut TagTable, tag: u8, on_tag: OnTag)
     requires ready { IsReady (M.view medium.old) on_tag.srb }
+    requires room { length on_tag.srb.data ≤ on_tag.srb.for_label }
     requires countable { (M.view medium.old).failures < 2 ^ 120 }
     requires some { 1 ≤ length (M.view medium.old).sectors }
     requires below { tag < length table.old.slots }
+    requires free { piece_at table.old.slots tag ≡ None }
     requires place { length table.old.labels < 64 }
     requires counted { table.old.failures < 2 ^ 127 }
     ensures { EndsAsBooked on_tag.booking (M.view medium.old) table.old tag on_tag (M.view medium.new) table.new }

@@ -19,7 +19,7 @@ pub(crate) enum Progress {
 #[derive(Clone, Copy, PartialEq, Eq)]
 pub(crate) enum Booking {
     Nothing,
-    /// The bytes of its act, which stand in the second buffer of its SRB.
+    /// The bytes of its act, which stand in the data of its SRB.
     Bytes,
     /// How it failed.
     Failure(Completion),

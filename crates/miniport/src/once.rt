@@ -1,6 +1,6 @@
 //! An adapter in memory that fails one act, whatever it asks for.
 
-ghost use Rattle.std.specs.Prelude.{◌≡◌, ◌≤◌, ◌<◌, ◌^◌, ◌+◌, ◌*◌, length, Some, None, Any, IsOk, OnOk, IfSome, MatchBool, MatchOption, get_or};
+ghost use Rattle.std.specs.Prelude.{◌≡◌, ◌≤◌, ◌<◌, ◌^◌, ◌+◌, ◌*◌, [], length, Some, None, Any, IsOk, OnOk, IfSome, MatchBool, MatchOption, get_or};
 ghost use Rattle.miniport.specs.Once.{OnceView};
 
 use crate::completion::{HARDWARE_ERROR, failed_with};
@@ -141,7 +141,7 @@ impl<M: Medium> Adapter for OnceAdapter<M> {
 
     /// Nothing is booked, since its acts move its sectors.
     fn book(&mut self, tag: u8, piece: u128, what: Booked<'_>)
-        ensures books { Books self.old.inner.shown tag piece (handed what.entry) self.new.inner.shown }
+        ensures books { Books self.old.inner.shown tag piece (handed self.old.inner.shown tag piece what.entry) self.new.inner.shown }
         ensures order { IsInOrder self.new.inner.shown }
         ensures same { self.new ≡ self.old }
     {
@@ -178,7 +178,12 @@ impl<M: Medium> Adapter for OnceAdapter<M> {
         self.inner.take_label()
     }
 
-    fn forget_labels(&mut self) {
+    fn forget_labels(&mut self)
+        ensures forgets { self.new.inner.shown ≡ record self.old.inner.shown { labels = [] } }
+        ensures order { IsInOrder self.new.inner.shown }
+        ensures due { SameDues self.old.inner self.new.inner }
+        ensures before { self.new.before ≡ self.old.before }
+    {
         self.inner.forget_labels();
     }
 }

@@ -1,11 +1,11 @@
 //! Whether something may be booked of an SRB.
 
-ghost use Rattle.std.specs.Prelude.{◌≡◌, ℕ, List};
+ghost use Rattle.std.specs.Prelude.{◌≡◌, ◌≤◌, ◌+◌, ◌*◌, ℕ, List, length};
 ghost use Rattle.std.specs.Bool.{Decides};
 ghost use Rattle.srb.specs.declared.Class.TheVariants.{Bad};
 ghost use Rattle.srb.specs.Fate.{class_of};
-ghost use Rattle.adapter.specs.Booking.{IsOfSrb, Suits, handed};
-ghost use Rattle.miniport.specs.inside.Suiting.{agree, is_at, is_as_long, is_transfer_of, is_flush_of, may_be_of};
+ghost use Rattle.adapter.specs.Booking.{IsOfSrb, SendsAll, SendsFor, Suits, handed_of};
+ghost use Rattle.miniport.specs.inside.Suiting.{agree, is_at, is_as_long, is_transfer_of, is_flush_of, is_sent_by, is_whole_of, may_be_of};
 
 use crate::check::Sizes;
 use cdb::{Cdb, decode};
@@ -89,19 +89,36 @@ fn suits_entry(sizes: &Sizes, srb: &Srb, entry: &Entry) -> bool
 }
 
 /// Whether sectors lie in the disk, and the SRB has just their bytes.
-fn is_whole(sizes: &Sizes, bytes: &[u8], lba: u64, count: u32) -> bool {
+fn is_whole(sizes: &Sizes, bytes: &[u8], lba: u64, count: u32) -> bool
+    ensures { result ≡ is_whole_of sizes.now.sector_size sizes.now.sectors bytes.now lba count }
+{
     let length = count as u64 * sizes.sector_size as u64;
     lba as u128 + count as u128 <= sizes.sectors as u128 && bytes.len() as u64 == length
 }
 
+/// Whether a command writes all these bytes, or flushes and there are none.
+fn is_sent(sizes: &Sizes, bytes: &[u8], command: Cdb) -> bool
+    ensures { result ≡ is_sent_by sizes.now.sector_size sizes.now.sectors bytes.now command }
+{
+    match command {
+        Cdb::Write10 { lba, count, .. } => is_whole(sizes, bytes, lba as u64, count as u32),
+        Cdb::Write16 { lba, count, .. } => is_whole(sizes, bytes, lba, count),
+        Cdb::Sync10 { .. } => bytes.len() == 0,
+        Cdb::Sync16 { .. } => bytes.len() == 0,
+        Cdb::Read10 { .. } => false,
+        Cdb::Read16 { .. } => false,
+        Cdb::ReadCapacity10 => false,
+        Cdb::ReadCapacity16 { .. } => false,
+    }
+}
+
 /// Whether the SRB asks for a write of all that it sends, or for a flush.
-fn sends(sizes: &Sizes, srb: &Srb) -> bool {
-    let bytes = srb.data.as_slice();
+fn sends(sizes: &Sizes, srb: &Srb) -> bool
+    ensures { Decides result (SendsAll sizes.now.sector_size sizes.now.sectors srb.now) }
+{
     match decode(srb.block.as_slice()) {
-        Ok(Cdb::Write10 { lba, count, .. }) => is_whole(sizes, bytes, lba as u64, count as u32),
-        Ok(Cdb::Write16 { lba, count, .. }) => is_whole(sizes, bytes, lba, count),
-        Ok(Cdb::Sync10 { .. } | Cdb::Sync16 { .. }) => bytes.is_empty(),
-        _ => false,
+        Ok(command) => is_sent(sizes, srb.data.as_slice(), command),
+        Err(_) => false,
     }
 }
 
@@ -116,7 +133,7 @@ fn is_bad(completion: &Completion) -> bool
 
 /// Whether this may be booked of the SRB.
 pub(crate) fn suits(sizes: &Sizes, srb: &Srb, what: &Booked<'_>) -> bool
-    ensures { Decides result (Suits sizes.now.sector_size sizes.now.sectors srb.now (handed what.entry)) }
+    ensures { (tag : ℕ) (piece : ℕ) → Decides result (Suits sizes.now.sector_size sizes.now.sectors srb.now (handed_of tag piece srb.now what.now)) }
 {
     match what {
         Booked::Copied(entry) => suits_entry(sizes, srb, entry),

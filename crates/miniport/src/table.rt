@@ -1,17 +1,17 @@
 //! The tags of the adapter in memory, its counts and its record of labels.
 
-ghost use Rattle.std.specs.Prelude.{◌≡◌, ◌≤◌, ◌<◌, ◌^◌, ◌+◌, ◌++◌, ◌∷◌, [], List, ℕ, Some, None, is_some, IsTrue, IfOk, length, replicate, get_or, vec_len, Ok, MatchBool, MatchOption, if◌then◌else◌};
+ghost use Rattle.std.specs.Prelude.{◌≡◌, ◌≤◌, ◌<◌, ◌^◌, ◌+◌, ◌++◌, ◌∷◌, [], List, ℕ, Some, None, is_some, IsTrue, IfOk, IfSome, length, replicate, get_or, vec_len, Ok, MatchBool, MatchOption, if◌then◌else◌};
 ghost use Rattle.std.specs.VecDeque.{deque_len, deque_capacity};
 ghost use Rattle.srb.specs.declared.DeviceLabel.{DeviceLabel};
 ghost use Rattle.miniport.specs.inside.Slots.{Table, ComesBack, Fails, HasNoneUntouched, piece_at, progress_after_reset, labels_by, slot_after_reset, with_reset_counted, with_slot, with_new, with_moved, with_failed, with_returned, with_reset, with_reset_at};
 ghost use Rattle.miniport.specs.declared.on_tag.OnTag.{OnTag};
 ghost use Rattle.miniport.specs.declared.on_tag.Progress.TheVariants.{Untouched};
-ghost use Rattle.adapter.specs.Booking.{handed};
-ghost use Rattle.miniport.specs.inside.Slots.{HasRoomFor, booked_piece};
+ghost use Rattle.miniport.specs.Carrying.{with_data};
+ghost use Rattle.miniport.specs.inside.Slots.{Fits, MayBecome, booked_with, emptied};
 
 use crate::completion::met_reset;
 use crate::on_tag::{Booking, OnTag, Progress};
-use srb::{Booked, Completion, DeviceLabel, Kind, Srb};
+use srb::{Booked, Completion, DeviceLabel, Entry, Kind, Srb};
 use std::alloc::{AllocError, Global};
 use std::collections::VecDeque;
 use std::marker::Model;
@@ -23,49 +23,77 @@ const LABELS: usize = 64;
 /// The most tags.
 const TAGS: usize = 32;
 
-/// A label as it is kept until it is taken.
-#[derive(Drop)]
-enum Recorded {
-    Told(DeviceLabel),
-    /// The act of the tag's piece, whose bytes are the data of its SRB.
-    Acted { piece: u128, tag: u8 },
-}
-
-/// The label of an act, whose bytes are the data of the SRB, in the room that the SRB has for it.
-fn label_of(piece: u128, srb: &mut Srb) -> DeviceLabel {
-    let room = srb.for_label.take();
-    DeviceLabel::Act {
-        piece,
-        bytes: room.filled(srb.data.as_slice()),
-    }
-}
-
-/// The SRB with the data of a read that was booked. Those of a write are booked as they stand.
-fn with_data(srb: Srb, what: Booked<'_>) -> Srb {
-    match what {
-        Booked::Copied(entry) if entry.kind == Kind::Read => {
+/// The SRB with a copy of the bytes of an entry. Those of a write or a flush stand there.
+fn with_copy(srb: Srb, entry: &Entry) -> Srb
+    requires { MayBecome entry.now srb.data }
+    ensures { result ≡ with_data entry.now.bytes srb }
+{
+    match entry.kind {
+        Kind::Read => {
             let data = srb.data.overwritten(entry.bytes.as_slice());
             Srb { data, ..srb }
         }
-        Booked::Taken(entry) if entry.kind == Kind::Read => {
+        Kind::Write => srb,
+        Kind::Flush => srb,
+    }
+}
+
+/// The SRB with the bytes of an entry of a read, which is left the place of the SRB's data. Those of a write or a flush
+/// stand there.
+fn with_taken(srb: Srb, entry: &mut Entry) -> Srb
+    requires { MayBecome entry.old srb.data }
+    ensures { result ≡ with_data entry.old.bytes srb }
+{
+    match entry.kind {
+        Kind::Read => {
             let data = mem::replace(&mut entry.bytes, srb.data);
             Srb { data, ..srb }
         }
-        _ => srb,
+        Kind::Write => srb,
+        Kind::Flush => srb,
     }
 }
 
 /// The piece with what is booked of it.
-fn with_booking(on_tag: OnTag, what: Booked<'_>) -> OnTag {
-    let booking = match &what {
-        Booked::Failed(completion) => Booking::Failure(*completion),
-        _ => Booking::Bytes,
-    };
+fn with_booking(on_tag: OnTag, what: Booked<'_>) -> OnTag
+    requires { Fits what on_tag.srb.data }
+    ensures { result ≡ booked_with what.entry on_tag }
+{
     let OnTag { srb, .. } = on_tag;
-    OnTag {
-        srb: with_data(srb, what),
-        booking,
-        ..on_tag
+    match what {
+        Booked::Copied(entry) => OnTag {
+            srb: with_copy(srb, entry),
+            booking: Booking::Bytes,
+            ..on_tag
+        },
+        Booked::Taken(entry) => OnTag {
+            srb: with_taken(srb, entry),
+            booking: Booking::Bytes,
+            ..on_tag
+        },
+        Booked::Sent => OnTag {
+            srb,
+            booking: Booking::Bytes,
+            ..on_tag
+        },
+        Booked::Failed(completion) => OnTag {
+            srb,
+            booking: Booking::Failure(completion),
+            ..on_tag
+        },
+    }
+}
+
+/// The label of an act, whose bytes are the data of the SRB. It takes the room that the SRB has for them.
+fn label_of(piece: u128, srb: &mut Srb) -> DeviceLabel
+    requires { length srb.old.data ≤ srb.old.for_label }
+    ensures told { result ≡ DeviceLabel.Act piece srb.old.data }
+    ensures after { srb.new ≡ emptied srb.old.data srb.old }
+{
+    let room = srb.for_label.take();
+    DeviceLabel::Act {
+        piece,
+        bytes: room.filled(srb.data.as_slice()),
     }
 }
 
@@ -75,7 +103,7 @@ pub(crate) struct TagTable {
     slots: Vec<Option<OnTag>>,
     accepted: u128,
     failures: u128,
-    labels: VecDeque<Recorded>,
+    labels: VecDeque<DeviceLabel>,
 }
 
 impl Model for TagTable {
@@ -120,6 +148,7 @@ impl TagTable {
     /// Puts a piece on a tag.
     pub fn accept(&mut self, tag: u8, piece: u128, srb: Srb)
         requires below { tag < length self.old.slots }
+        requires free { piece_at self.old.slots tag ≡ None }
         requires few { self.old.accepted < 2 ^ 100 }
         requires place { length self.old.labels < 64 }
         ensures { self.new ≡ with_new tag piece srb self.old }
@@ -135,7 +164,7 @@ impl TagTable {
         });
         self.accepted += 1;
         self.labels
-            .push_back_reserved(Recorded::Told(DeviceLabel::Start { piece, tag, block }));
+            .push_back_reserved(DeviceLabel::Start { piece, tag, block });
     }
 
     /// Takes the piece off a tag.
@@ -168,13 +197,13 @@ impl TagTable {
         }
     }
 
-    /// Books of the piece on a tag.
+    /// Books of the piece on a tag, if it has done nothing yet.
     pub fn book(&mut self, tag: u8, what: Booked<'_>)
         requires below { tag < length self.old.slots }
-        requires room { (on : OnTag) → piece_at self.old.slots tag ≡ Some on → HasRoomFor (handed what) on.srb }
-        ensures { (on : OnTag) → piece_at self.old.slots tag ≡ Some on → self.new ≡ with_slot tag (Some (booked_piece (handed what.entry) on)) (with_slot tag None self.old) }
+        requires fits { (on : OnTag) → piece_at self.old.slots tag ≡ Some on → Fits what on.srb.data }
+        ensures { (on : OnTag) → piece_at self.old.slots tag ≡ Some on → on.progress ≡ Untouched → self.new ≡ with_slot tag (Some (booked_with what.entry on)) (with_slot tag None self.old) }
     {
-        if let Some(on_tag) = self.take(tag) {
+        if let Some(on_tag) = self.take_untouched(tag) {
             self.place(tag, with_booking(on_tag, what));
         }
     }
@@ -183,6 +212,7 @@ impl TagTable {
     pub fn take_untouched(&mut self, tag: u8) -> Option<OnTag>
         ensures untouched { MatchOption result (HasNoneUntouched self.old.slots tag) (λ on. (piece_at self.old.slots tag ≡ Some on) × (on.progress ≡ Untouched)) }
         ensures after { MatchOption result (self.new ≡ self.old) (λ on. self.new ≡ with_slot tag None self.old) }
+        ensures free { IfSome result (λ on. piece_at self.new.slots tag ≡ None) }
     {
         match self.slots.get(tag as usize) {
             Some(Some(on_tag)) if on_tag.progress == Progress::Untouched => self.take(tag),
@@ -193,18 +223,21 @@ impl TagTable {
     /// Puts a piece back on its tag, which was carried out.
     pub fn put_moved(&mut self, tag: u8, on_tag: OnTag)
         requires below { tag < length self.old.slots }
+        requires free { piece_at self.old.slots tag ≡ None }
         requires place { length self.old.labels < 64 }
-        ensures { self.new ≡ with_moved tag on_tag bytes self.old }
+        requires room { length on_tag.srb.data ≤ on_tag.srb.for_label }
+        ensures { self.new ≡ with_moved tag on_tag self.old }
     {
-        let piece = on_tag.piece;
-        self.place(tag, on_tag);
-        self.labels
-            .push_back_reserved(Recorded::Acted { piece, tag });
+        let OnTag { mut srb, .. } = on_tag;
+        let label = label_of(on_tag.piece, &mut srb);
+        self.place(tag, OnTag { srb, ..on_tag });
+        self.labels.push_back_reserved(label);
     }
 
     /// Puts a piece back on its tag, which failed.
     pub fn put_failed(&mut self, tag: u8, on_tag: OnTag)
         requires below { tag < length self.old.slots }
+        requires free { piece_at self.old.slots tag ≡ None }
         requires place { length self.old.labels < 64 }
         requires countable { self.old.failures < 2 ^ 127 }
         ensures { self.new ≡ with_failed tag on_tag self.old }
@@ -212,8 +245,7 @@ impl TagTable {
         let piece = on_tag.piece;
         self.place(tag, on_tag);
         self.failures += 1;
-        self.labels
-            .push_back_reserved(Recorded::Told(DeviceLabel::Fault { piece }));
+        self.labels.push_back_reserved(DeviceLabel::Fault { piece });
     }
 
     /// Fails a tag's piece, if it has done nothing yet.
@@ -245,14 +277,13 @@ impl TagTable {
         requires { length self.old.labels < 64 }
         ensures { MatchOption result ((piece_at self.old.slots tag ≡ None) × (self.new ≡ self.old)) (λ back. ComesBack self.old tag back.0 back.1 self.new) }
     {
-        self.tell_act(tag);
         let on_tag = self.take(tag)?;
         let completion = on_tag.completion();
         let OnTag { piece, srb, .. } = on_tag;
-        self.labels.push_back_reserved(Recorded::Told(DeviceLabel::Return {
+        self.labels.push_back_reserved(DeviceLabel::Return {
             piece,
             class: completion.class(),
-        }));
+        });
         let sense = completion.sense;
         Some((Srb { sense, ..srb }, completion))
     }
@@ -315,60 +346,21 @@ impl TagTable {
         if progress != Progress::Untouched {
             return progress;
         }
-        self.labels
-            .push_back_reserved(Recorded::Told(DeviceLabel::Fault { piece }));
+        self.labels.push_back_reserved(DeviceLabel::Fault { piece });
         Progress::Failed(met_reset())
-    }
-
-    /// Where the label of the act on a tag stands that was not taken.
-    fn place_of_act(&self, tag: u8) -> Option<usize> {
-        self.labels.iter().position(|label| is_act_on(label, tag))
-    }
-
-    /// The label of the act on a tag, if it was not taken yet, gets its bytes.
-    fn tell_act(&mut self, tag: u8) {
-        if let Some(place) = self.place_of_act(tag) {
-            let label = self.labels.remove(place);
-            if let Some(label) = label {
-                let told = self.told(label);
-                let _ = self.labels.insert(place, Recorded::Told(told));
-            }
-        }
-    }
-
-    /// A label with its bytes.
-    fn told(&mut self, label: Recorded) -> DeviceLabel {
-        match label {
-            Recorded::Told(label) => label,
-            Recorded::Acted { piece, tag } => {
-                let Some(Some(on_tag)) = self.slots.get_mut(tag as usize) else {
-                    unreachable!()
-                };
-                label_of(piece, &mut on_tag.srb)
-            }
-        }
     }
 
     /// The earliest label leaves.
     pub fn take_label(&mut self) -> Option<DeviceLabel>
         ensures { MatchOption result ((self.old.labels ≡ []) × (self.new ≡ self.old)) (λ label. (rest : List DeviceLabel) × (self.old.labels ≡ label ∷ rest) × (self.new ≡ record self.old { labels = rest })) }
     {
-        let label = self.labels.pop_front()?;
-        Some(self.told(label))
+        self.labels.pop_front()
     }
 
     /// All labels leave, and nobody reads them.
-    pub fn forget_labels(&mut self) {
-        while let Some(label) = self.labels.pop_front() {
-            drop(label);
-        }
-    }
-}
-
-/// Whether this is the act on a tag.
-fn is_act_on(label: &Recorded, tag: u8) -> bool {
-    match label {
-        Recorded::Told(_) => false,
-        Recorded::Acted { tag: acted, .. } => *acted == tag,
+    pub fn forget_labels(&mut self)
+        ensures { self.new ≡ record self.old { labels = [] } }
+    {
+        self.labels.clear();
     }
 }

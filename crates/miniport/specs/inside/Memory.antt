@@ -22,9 +22,9 @@ use Rattle.miniport.specs.inside.Slots.{Table, HasNoneUntouched, piece_at, with_
 
 -- a piece was taken off its tag, and is put back as its command ended
 abbrev pub PutsBack : MediumView → Bool → Table → ℕ → OnTag → Outcome → MediumView → Table → Type 0
-PutsBack medium write_protected table tag on (Moved srb bytes) medium' table' =
-    CarriesOut medium write_protected on.srb srb bytes medium'
-    × (table' ≡ with_moved tag (record on { srb = srb; progress = Done }) bytes table)
+PutsBack medium write_protected table tag on (Moved srb) medium' table' =
+    CarriesOut medium write_protected on.srb srb medium'
+    × (table' ≡ with_moved tag (record on { srb = srb; progress = Done }) table)
 PutsBack medium write_protected table tag on (Failed srb completion) medium' table' =
     FailsBy medium write_protected on.srb srb completion medium'
     × (table' ≡ with_failed tag (record on { srb = srb; progress = Refused completion }) table)
@@ -54,13 +54,13 @@ abbrev pub failures_left : Option OnTag → ℕ
 failures_left None = 0
 failures_left (Some on) = if on.was_reset then 0 else left_by on.progress
 
--- the second buffer has the bytes of an act that the SRB asks for
+-- the data are the bytes of an act that the SRB asks for
 abbrev pub HasBooked : ℕ → ℕ → Srb → Type 0
-HasBooked size sectors srb = (entry : Entry) × IsOfSrb size sectors srb entry × (srb.for_label ≡ entry.bytes)
+HasBooked size sectors srb = (entry : Entry) × IsOfSrb size sectors srb entry × (srb.data ≡ entry.bytes)
 
 pub record IsPieceRight (medium : MediumView) (failures : ℕ) (on : OnTag) : Type 0 where
   pub ready : IsReady medium on.srb
-  pub buffers : on.progress ≡ Untouched → length on.srb.for_label ≡ length on.srb.data
+  pub buffers : on.progress ≡ Untouched → length on.srb.data ≤ on.srb.for_label
   pub moved : on.progress ≡ Done → concat (moved_by medium.sector_size on.srb.block on.srb.data) ≡ on.srb.data
   pub counted : on.failures_before ≤ failures
   pub failed : (completion : Completion) → on.progress ≡ Refused completion → (class_of completion ≡ Bad completion) × (on.failures_before < failures)

@@ -3,6 +3,9 @@ use Rattle.std.specs.Prelude.{◌≡◌, ◌≢◌, ℕ, suc, ◌+◌, Bool, tru
 use Rattle.std.specs.List.{flat_map}
 use Rattle.srb.specs.declared.Srb.{Srb}
 use Rattle.srb.specs.declared.Entry.{Entry}
+use Rattle.srb.specs.declared.Kind.TheVariants.{Read}
+use Rattle.srb.specs.declared.Booked.{Booked}
+use Rattle.srb.specs.declared.Booked.TheVariants.{Copied, Taken, Sent, Failed as FailedSo}
 use Rattle.srb.specs.declared.Completion.{Completion}
 use Rattle.srb.specs.declared.DeviceLabel.{DeviceLabel}
 use Rattle.srb.specs.declared.DeviceLabel.TheVariants.{Start, Act, Fault, Return}
@@ -14,6 +17,7 @@ use Rattle.miniport.specs.declared.on_tag.Progress.TheVariants.{Untouched, Moved
 use Rattle.miniport.specs.Faults.{success, busy, bus_reset}
 use Rattle.miniport.specs.declared.on_tag.Booking.{Booking}
 use Rattle.miniport.specs.declared.on_tag.Booking.TheVariants.{Nothing, Bytes, Failure}
+use Rattle.miniport.specs.Carrying.{with_data}
 use Rattle.miniport.specs.Moving.{moved_by}
 
 pub record Table : Type 0 where
@@ -90,11 +94,15 @@ with_new tag piece srb table = record table {
   labels = table.labels ++ Start piece tag srb.block ∷ [];
 }
 
--- the piece acted, and is this now
-abbrev pub with_moved : ℕ → OnTag → List ℕ → Table → Table
-with_moved tag on bytes table = record table {
-  slots = slice_set table.slots tag (Some on);
-  labels = table.labels ++ Act on.piece bytes ∷ [];
+-- an SRB with other data, whose room for the label's bytes is gone
+abbrev pub emptied : List ℕ → Srb → Srb
+emptied bytes srb = record srb { «data» = bytes; for_label = 0 }
+
+-- the piece acted, and is this now; its bytes stand in its data, and in the label in the room that was for them
+abbrev pub with_moved : ℕ → OnTag → Table → Table
+with_moved tag on table = record table {
+  slots = slice_set table.slots tag (Some (record on { srb = emptied on.srb.data on.srb }));
+  labels = table.labels ++ Act on.piece on.srb.data ∷ [];
 }
 
 -- the piece failed, and is this now
@@ -105,15 +113,28 @@ with_failed tag on table = record table {
   labels = table.labels ++ Fault on.piece ∷ [];
 }
 
+-- the bytes of the entry may become these data: as many, and but for a read the same
+pub record MayBecome (entry : Entry) (place : List ℕ) : Type 0 where
+  pub as_many : length entry.bytes ≡ length place
+  pub same : entry.kind ≢ Read → entry.bytes ≡ place
+
+abbrev pub Fits : Booked → List ℕ → Type 0
+Fits (Copied entry) place = MayBecome entry.now place
+Fits (Taken entry) place = MayBecome entry.now place
+Fits Sent place = Unit {0}
+Fits (FailedSo completion) place = Unit {0}
+
+-- the piece with what was handed over to be booked
+abbrev pub booked_with : Booked → OnTag → OnTag
+booked_with (Copied entry) on = record on { srb = with_data entry.now.bytes on.srb; booking = Bytes }
+booked_with (Taken entry) on = record on { srb = with_data entry.now.bytes on.srb; booking = Bytes }
+booked_with Sent on = record on { booking = Bytes }
+booked_with (FailedSo completion) on = record on { booking = Failure completion }
+
 -- what is booked of a piece
 abbrev pub booked_piece : Result Entry Completion → OnTag → OnTag
-booked_piece (Ok entry) on = record on { srb = record on.srb { for_label = entry.bytes }; booking = Bytes }
+booked_piece (Ok entry) on = record on { srb = with_data entry.bytes on.srb; booking = Bytes }
 booked_piece (Err completion) on = record on { booking = Failure completion }
-
--- the second buffer has room for what is to be booked
-abbrev pub HasRoomFor : Result Entry Completion → Srb → Type 0
-HasRoomFor (Ok entry) srb = length srb.for_label ≡ length entry.bytes
-HasRoomFor (Err completion) srb = Unit {0}
 
 -- the piece left
 abbrev pub with_returned : ℕ → OnTag → Table → Table

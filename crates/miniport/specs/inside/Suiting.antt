@@ -39,3 +39,18 @@ may_be_of size sectors bytes entry (Read16 lba count fua) = is_transfer_of size 
 may_be_of size sectors bytes entry (Write16 lba count fua) = is_transfer_of size sectors bytes Write lba count entry && bytes_eq entry.bytes bytes
 may_be_of size sectors bytes entry (Sync16 lba count) = is_flush_of bytes lba count entry
 may_be_of size sectors bytes entry (ReadCapacity16 allocation) = false
+
+-- the sectors lie in the disk, and these are all their bytes
+abbrev pub is_whole_of : ℕ → ℕ → List ℕ → ℕ → ℕ → Bool
+is_whole_of size sectors bytes lba count = nat_le (lba + count) sectors && (length bytes == count * size)
+
+-- a command writes all these bytes, or flushes and there are none
+abbrev pub is_sent_by : ℕ → ℕ → List ℕ → Cdb → Bool
+is_sent_by size sectors bytes (Read10 lba count fua) = false
+is_sent_by size sectors bytes (Write10 lba count fua) = is_whole_of size sectors bytes lba count
+is_sent_by size sectors bytes (Sync10 lba count) = length bytes == 0
+is_sent_by size sectors bytes ReadCapacity10 = false
+is_sent_by size sectors bytes (Read16 lba count fua) = false
+is_sent_by size sectors bytes (Write16 lba count fua) = is_whole_of size sectors bytes lba count
+is_sent_by size sectors bytes (Sync16 lba count) = length bytes == 0
+is_sent_by size sectors bytes (ReadCapacity16 allocation) = false

@@ -1,5 +1,9 @@
-use Rattle.miniport.proofs.Serving.{after_accept}
+use Rattle.miniport.proofs.Serving.{after_accept, free_slot}
 use Rattle.miniport.proofs.memory.MemAdapterAdapter.accept.Goals as goal
+
+pub accept-requires-clause-free : goal.accept-requires-clause-free
+accept-requires-clause-free g c =
+    free_slot (g.M.Medium.view c.self.inside.medium) c.self.inside.max_transfer c.self.inside.write_protected c.self.inside.table _ c.args.tag c.self.view_is c.requires.free
 
 pub invariant_of-self : goal.invariant_of-self
 invariant_of-self g c = (after_accept (g.M.Medium.view c.self.inside.medium) c.self.inside.max_transfer c.self.inside.write_protected c.self.inside.table _ _ c.args.tag c.args.piece c.args.srb c.self.view_is c.accept.ensures
