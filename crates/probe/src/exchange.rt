@@ -1,6 +1,6 @@
 //! One command to an adapter that has no other, and what it brings.
 
-ghost use Rattle.std.specs.Prelude.{◌≡◌, ◌<◌, ◌^◌, [], IfOk, IfErr, OnOk, length};
+ghost use Rattle.std.specs.Prelude.{◌≡◌, ◌≤◌, ◌<◌, ◌^◌, [], IfOk, IfErr, OnOk, length};
 ghost use Rattle.srb.specs.declared.Class.TheVariants.{Good};
 ghost use Rattle.adapter.specs.View.{IsInOrder};
 ghost use Rattle.probe.specs.declared.ProbeFault.TheVariants.{NoMemory};
@@ -72,7 +72,7 @@ fn exchange<A: Adapter>(
 /// [`AllocError`] where memory for one was refused.
 fn buffers(alloc: Global, count: usize) -> Result<(Bytes, LabelRoom), AllocError>
     ensures bytes { IfOk result (λ made. length made.0 ≡ count) }
-    ensures for_label { IfOk result (λ made. count ≤ made.1) }
+    ensures for_label { IfOk result (λ made. made.1 ≡ count) }
 {
     let bytes = Bytes::new(vec![in alloc; 0u8; count]?);
     let for_label = LabelRoom::new(alloc, count)?;
