@@ -35,7 +35,7 @@ holds_failure old held tag completion (inr (none, same)) = inl same
 
 module _ (armed : ArmedMayBeBooked) (adds : BookedActsAddEntries) (idle : IdleActsKeepEntries) (apart : StepsStayApart) (stays : ArmedStays)
     (rules : Rules) (start : State) (partitions : List ℕ) (handles : List (Option OpenHandle)) (old held new : TracedView) (tags tags' : Claimed) (tag : ℕ) (completion : Completion) (reply : Reply)
-    (is : IsTraced rules start partitions handles old) (bad : class_of completion ≡ Bad completion)
+    (is : IsTraced rules start partitions handles old) (ordered : IsInOrder old.stack.adapter) (bad : class_of completion ≡ Bad completion)
     (order : IsInOrder held.stack.adapter) (fits : FitsTogether held.stack) (reached : IsReached held.stack.rules held.stack.state)
     (served : IsServed 0 held (Act tag) reply new) (noted : (labels : List Label) → labels_of new.entries ≡ labels_of held.entries ++ labels → HaveNotedAll labels tags tags') where
   abbrev carried : IsCarried 0 held (Act tag) reply new
@@ -73,7 +73,7 @@ module _ (armed : ArmedMayBeBooked) (adds : BookedActsAddEntries) (idle : IdleAc
         let same : labels_of held.entries ≡ trace = ap (λ (v : TracedView). labels_of v.entries) holds.same in
         kept_new taken kept (subst (λ (ls : List Label). IsJournaled (ls ++ stepped.labels) (entries_in taken) stepped) (sym same) next)
         (apart_still old.stack.adapter held.stack.adapter tag piece (Err completion) holds.books.adapter kept.apart)
-        (tags_booked old.stack.adapter tag piece (Err completion) held.stack.adapter tags holds.books.adapter kept.on_tags)
+        (tags_booked old.stack.adapter tag piece (Err completion) held.stack.adapter tags ordered holds.books.adapter kept.on_tags)
 
   module _ (none : HasNoneFresh old.stack.adapter tag) (same : held ≡ old) where
     idle_kept : (taken : List Entered) → IsKept rules start old taken tags → IsKept rules start new taken tags'

@@ -2,13 +2,17 @@
 use Rattle.std.proofs.Common.{◌≡◌, ◌≢◌, inl, inr, ℕ, zero, suc, ◌+◌, ◌<◌, ◌≤◌, Bool, true, false, List, [], ◌∷◌, ◌++◌, drop, length, map, Option, Some, None, Ok, Err, Result, IsFalse, refl, sym, ap, subst, ◌∙◌, if◌then◌else◌, ◌==◌, arith}
 use Rattle.std.specs.Prelude.{◌⊎◌, All, Contains, slice_get, get_or}
 use Rattle.std.proofs.lemmas.List.{append-nil}
-use Rattle.std.proofs.lemmas.List.Elements.{All-append, All-cons, All-nil}
+use Rattle.std.proofs.lemmas.List.Elements.{All-append, All-cons, All-contains, All-nil}
+use Rattle.std.proofs.lemmas.Bool.Decides.{Decides-eqb}
+use Rattle.cdb.specs.Meaning.{AsksToWrite}
 use Rattle.srb.specs.declared.Srb.{Srb}
 use Rattle.srb.specs.declared.Entry.{Entry as Booked}
 use Rattle.srb.specs.declared.Completion.{Completion}
 use Rattle.srb.specs.Fate.{Fresh}
-use Rattle.adapter.specs.View.{TagInUse, AdapterView}
+use Rattle.adapter.specs.View.{TagInUse, AdapterView, IsInOrder, IsSpoiled}
 use Rattle.adapter.specs.Booking.{IsArmed, Books, booked_on, with_booked, with_booking}
+use Rattle.adapter.proofs.Booked.{all_spoiled}
+use Rattle.adapter.proofs.Joining.{unspoiled}
 use Rattle.machine.specs.declared.Label.{Label}
 use Rattle.io_manager.specs.declared.Reply.{Reply}
 use Rattle.io_manager.specs.Shown.{ManagerView}
@@ -45,26 +49,31 @@ record IsButBooked (u v : TagInUse) : Type 0 where
   tag : v.tag ≡ u.tag
   piece : v.piece ≡ u.piece
   fate : v.fate ≡ u.fate
-  block : v.srb.block ≡ u.srb.block
-  sent : v.srb.data ≡ u.srb.data
+  spoiled : IsSpoiled u.srb v.srb
 
-but_booked : (b : Bool) (what : Result Booked Completion) (u : TagInUse) → IsButBooked u (if b then with_booked what u else u)
-but_booked true (Ok entry) u = record { tag = refl; piece = refl; fate = refl; block = refl; sent = refl }
-but_booked true (Err completion) u = record { tag = refl; piece = refl; fate = refl; block = refl; sent = refl }
-but_booked false what u = record { tag = refl; piece = refl; fate = refl; block = refl; sent = refl }
+but_booked : (b : Bool) (what : Result Booked Completion) (u : TagInUse) → (b ≡ true → IsSpoiled u.srb (with_booked what u).srb) → IsButBooked u (if b then with_booked what u else u)
+but_booked true (Ok entry) u h = record { tag = refl; piece = refl; fate = refl; spoiled = h refl }
+but_booked true (Err completion) u h = record { tag = refl; piece = refl; fate = refl; spoiled = h refl }
+but_booked false what u h = record { tag = refl; piece = refl; fate = refl; spoiled = unspoiled u.srb }
 
-asks_still : (armed : Armed) (srb other : Srb) → other.block ≡ srb.block → other.data ≡ srb.data → AskTheSame armed.srb srb → AskTheSame armed.srb other
-asks_still armed srb other block bytes same = record {
-  same_block = same.same_block ∙ sym block;
-  as_long = same.as_long ∙ ap (λ (xs : List ℕ). length xs) (sym bytes);
-  same_bytes = λ lba count fua asks. same.same_bytes lba count fua asks ∙ sym bytes;
+asks_still : (armed : Armed) (srb other : Srb) → IsSpoiled srb other → AskTheSame armed.srb srb → AskTheSame armed.srb other
+asks_still armed srb other spoiled same = record {
+  same_block = same.same_block ∙ sym (ap (λ (s : Srb). s.block) spoiled.same);
+  as_long = same.as_long ∙ sym spoiled.as_many;
+  same_bytes = λ lba count fua asks.
+      same.same_bytes lba count fua asks ∙ sym (spoiled.of_write lba count fua (subst (λ (b : List ℕ). AsksToWrite b lba count fua) same.same_block asks));
 }
 
-on_tag_booked : (old : AdapterView) (tag : ℕ) (what : Result Booked Completion) (t : ℕ) (armed : Armed) → IsOnTag old t armed → IsOnTag (with_booking tag what old) t armed
-on_tag_booked old tag what t armed on =
+-- what is booked of a tag's piece spoils its SRB at most
+abbrev AreSpoiled : AdapterView → ℕ → Result Booked Completion → Type 0
+AreSpoiled old tag what = All (λ u. u.tag ≡ tag → IsSpoiled u.srb (with_booked what u).srb) old.tags
+
+on_tag_booked : (old : AdapterView) (tag : ℕ) (what : Result Booked Completion) (t : ℕ) (armed : Armed) → AreSpoiled old tag what → IsOnTag old t armed → IsOnTag (with_booking tag what old) t armed
+on_tag_booked old tag what t armed spoiled on =
     let h : IsIn old t armed.piece on.srb = is_in old t armed.piece on.srb on.is_armed in
     let u : TagInUse = h.use' in
-    let but : IsButBooked u (booked_on tag what u) = but_booked (u.tag == tag) what u in
+    let mine : u.tag ≡ tag → IsSpoiled u.srb (with_booked what u).srb = All-contains (λ w. w.tag ≡ tag → IsSpoiled w.srb (with_booked what w).srb) old.tags u spoiled h.there in
+    let but : IsButBooked u (booked_on tag what u) = but_booked (u.tag == tag) what u (λ is. mine ((Decides-eqb u.tag tag).0 is)) in
     record {
       srb = (booked_on tag what u).srb;
       is_armed = is_armed (with_booking tag what old) t armed.piece (booked_on tag what u).srb (record {
@@ -75,16 +84,16 @@ on_tag_booked old tag what t armed on =
         is_fresh = but.fate ∙ h.is_fresh;
         is_srb = refl;
       });
-      same = asks_still armed on.srb (booked_on tag what u).srb (but.block ∙ ap (λ (s : Srb). s.block) h.is_srb) (but.sent ∙ ap (λ (s : Srb). s.data) h.is_srb) on.same;
+      same = asks_still armed u.srb (booked_on tag what u).srb but.spoiled (subst (AskTheSame armed.srb) (sym h.is_srb) on.same);
     }
 
 -- booking leaves what is claimed on its tag
-pub tags_booked : (old : AdapterView) (tag piece : ℕ) (what : Result Booked Completion) (new : AdapterView) (tags : Claimed) → Books old tag piece what new → AreOnTags old tags → AreOnTags new tags
-tags_booked old tag piece what new tags books on = subst (λ (v : AdapterView). AreOnTags v tags) (sym books.after) (by_choice books.booked)
+pub tags_booked : (old : AdapterView) (tag piece : ℕ) (what : Result Booked Completion) (new : AdapterView) (tags : Claimed) → IsInOrder old → Books old tag piece what new → AreOnTags old tags → AreOnTags new tags
+tags_booked old tag piece what new tags order books on = subst (λ (v : AdapterView). AreOnTags v tags) (sym books.after) (by_choice books.booked refl)
   where
-    by_choice : (b : Bool) → AreOnTags (if b then with_booking tag what old else old) tags
-    by_choice true t number armed claimed = on_tag_booked old tag what t armed (on t number armed claimed)
-    by_choice false t number armed claimed = on t number armed claimed
+    by_choice : (b : Bool) → books.booked ≡ b → AreOnTags (if b then with_booking tag what old else old) tags
+    by_choice true is t number armed claimed = on_tag_booked old tag what t armed (all_spoiled old tag piece what order (books.decides.0 is)) (on t number armed claimed)
+    by_choice false is t number armed claimed = on t number armed claimed
 
 -- and so does a right step, of what is still claimed
 pub tags_kept : ArmedStays → (old : ManagerView) (event : Event) (reply : Reply) (new : ManagerView) (tags tags' : Claimed) → IsRight old event reply new

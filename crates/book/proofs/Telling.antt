@@ -73,7 +73,7 @@ armed_there journal view tags None number entered there on at of = absurd of
 
 module _ (armed : ArmedMayBeBooked) (adds : BookedActsAddEntries) (apart : StepsStayApart) (stays : ArmedStays) (rules : Rules) (start : State) (partitions : List ℕ) (handles : List (Option OpenHandle))
     (old held new : TracedView) (taken taken' : List Entered) (tags tags' : Claimed) (journal : JournalView) (entered : Entered) (reply : Reply)
-    (kept : IsKept rules start old taken tags) (is : IsTraced rules start partitions handles old) (fits : FitsTogether old.stack) (may : MayBook rules journal tags (length taken))
+    (kept : IsKept rules start old taken tags) (is : IsTraced rules start partitions handles old) (fits : FitsTogether old.stack) (ordered : IsInOrder old.stack.adapter) (may : MayBook rules journal tags (length taken))
     (there : slice_get journal.entered (length taken) ≡ Some entered) (holds : HoldsBooked old entered.entry.tag entered.entry.piece (Ok entered.entry) held)
     (order : IsInOrder held.stack.adapter) (fits' : FitsTogether held.stack) (reached : IsReached held.stack.rules held.stack.state)
     (served : IsServed 0 held (Act entered.entry.tag) reply new)
@@ -138,7 +138,7 @@ module _ (armed : ArmedMayBeBooked) (adds : BookedActsAddEntries) (apart : Steps
   on_tags : AreOnTags stepped.adapter tags'
   on_tags =
       tags_kept stays held.stack (Act entered.entry.tag) reply stepped tags tags' carried.right (noted stepped.labels (labels_carried 0 held (Act entered.entry.tag) reply new carried))
-      (tags_booked old.stack.adapter entered.entry.tag entered.entry.piece (Ok entered.entry) held.stack.adapter tags holds.books.adapter kept.on_tags)
+      (tags_booked old.stack.adapter entered.entry.tag entered.entry.piece (Ok entered.entry) held.stack.adapter tags ordered holds.books.adapter kept.on_tags)
 
   still_apart : IsFalse stepped.adapter.faithful
   still_apart =

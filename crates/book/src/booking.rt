@@ -16,6 +16,7 @@ use compose::Event;
 use disk::Medium;
 use miniport::BookedAdapter;
 use sector_journal::Journal;
+use srb::Booked;
 use std::alloc::Global;
 use traced::{TraceEntry, Traced};
 
@@ -94,7 +95,7 @@ fn book_entry<M: Medium, N: Naming>(
 {
     let entry = &journal.entries()[number as usize].entry;
     let tag = entry.tag;
-    traced.book(tag, entry.piece, srb::Booked::Copied(entry));
+    traced.book(tag, entry.piece, Booked::Copied(entry));
     tag
 }
 

@@ -23,7 +23,7 @@ use disk::Medium;
 use miniport::BookedAdapter;
 use ntstatus::Sense;
 use sector_journal::Journal;
-use srb::Completion;
+use srb::{Booked, Completion};
 use std::alloc::Global;
 use traced::{TraceEntry, Traced};
 
@@ -82,7 +82,7 @@ fn book_failure<N: Naming>(traced: &mut Traced<BookedAdapter, N>, tag: u8, compl
     ensures { BooksFailure traced.old tag completion traced.new }
 {
     if let Some(piece) = armed_piece(traced, tag) {
-        traced.book(tag, piece, srb::Booked::Failed(completion));
+        traced.book(tag, piece, Booked::Failed(completion));
     }
 }
 

@@ -77,9 +77,9 @@ pub record Stands (mid : AdapterView) (tag piece : ℕ) (Holds : TagInUse → Ty
   pub is_fresh : use'.fate ≡ Fresh
   pub holds : Holds use'
 
--- the bytes of its act stand in its second buffer, or none do
+-- the bytes of its act stand in its SRB's data, or none were booked
 abbrev HasBytes : Entry → TagInUse → Type 0
-HasBytes entry use' = use'.srb.for_label ≡ entry.bytes
+HasBytes entry use' = use'.srb.data ≡ entry.bytes
 
 abbrev HasNoBytes : TagInUse → Type 0
 HasNoBytes use' = IsFalse use'.booked
@@ -133,7 +133,7 @@ bytes_are mid tag piece entry bytes moved distinct here other (before, after, re
     let on : IsPermutation mid.tags (act.use' ∷ act.others) = subst (λ (x : AdapterView). IsPermutation x.tags (act.use' ∷ act.others)) reserves.after act.is_on.in_use in
     let same : here.use' ≡ act.use' = (first_unique use_piece mid.tags here.use' act.use' here.others act.others distinct here.is_on.in_use on (act.is_piece ∙ sym here.is_piece)).0 in
     let faith : IsFalse before.faithful = subst (λ (x : AdapterView). IsFalse x.faithful) (sym reserves.after) here.apart in
-    (act.as_booked faith other).1 ∙ sym (ap (λ (u : TagInUse). u.srb.for_label) same) ∙ here.holds
+    (act.as_booked faith other).1 ∙ sym (ap (λ (u : TagInUse). u.srb.data) same) ∙ here.holds
 
 -- what the step of a booked entry is
 pub record ActsAsBooked (trace : List Label) (piece : ℕ) (entry : Entry) (reply : Reply) (new : ManagerView) : Type 0 where

@@ -116,7 +116,7 @@ impl<A: Adapter> Stack<A> {
     /// next `Act` of the tag is that. It takes no memory, changes nothing of the machine, and does nothing where the
     /// tag has no such piece that could act, or what is to be booked isn't its.
     pub fn book(&mut self, tag: u8, piece: u128, what: Booked<'_>)
-        ensures { BooksPiece self.old tag piece (handed what.entry) self.new }
+        ensures { BooksPiece self.old tag piece (handed self.old.adapter tag piece what.entry) self.new }
     {
         self.manager.book(tag, piece, what);
     }

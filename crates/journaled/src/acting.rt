@@ -20,7 +20,7 @@ use disk::Medium;
 use miniport::BookedAdapter;
 use ntstatus::Sense;
 use sector_journal::{History, Journal, Naming};
-use srb::{Completion, Srb};
+use srb::{Booked, Completion, Srb};
 use std::alloc::Global;
 
 /// SPC, "Sense key and sense code definitions": HARDWARE ERROR. How a piece fails that the journal doesn't let act.
@@ -84,9 +84,9 @@ fn book<M: Medium, N: Naming>(
     match done {
         Ok(number) => {
             let entry = &journal.entries()[number as usize].entry;
-            stack.book(tag, piece, srb::Booked::Copied(entry));
+            stack.book(tag, piece, Booked::Copied(entry));
         }
-        Err(completion) => stack.book(tag, piece, srb::Booked::Failed(completion)),
+        Err(completion) => stack.book(tag, piece, Booked::Failed(completion)),
     }
 }
 

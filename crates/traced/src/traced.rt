@@ -43,7 +43,7 @@ use chronicle::{Claims, History, Whole};
 use compose::{Answer, Event, Refusal, Reply, Stack};
 use machine::Label;
 use sector::{Bytes, Extent};
-use srb::{Completion, Srb};
+use srb::{Booked, Srb};
 use std::alloc::{AllocError, Global};
 use std::marker::Model;
 use std::sync::ledger;
@@ -463,8 +463,8 @@ impl<A: Adapter, N: Naming> Traced<A, N> {
     }
 
     /// Books what the act of a tag's piece did, or how it failed, as [`Stack::book`].
-    pub fn book(&mut self, tag: u8, piece: u128, what: srb::Booked<'_>)
-        ensures books { BooksPiece self.old.stack tag piece (handed what.entry) self.new.stack }
+    pub fn book(&mut self, tag: u8, piece: u128, what: Booked<'_>)
+        ensures books { BooksPiece self.old.stack tag piece (handed self.old.stack.adapter tag piece what.entry) self.new.stack }
         ensures same { self.new ≡ record self.old { stack = self.new.stack } }
     {
         self.stack.book(tag, piece, what);

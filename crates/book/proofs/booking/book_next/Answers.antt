@@ -24,7 +24,7 @@ returns-clause-kept g c =
     let served = subst (λ (t : ℕ). IsServed 0 c.book_entry-tag.new.traced (Act t) c.serve.result c.serve.new.traced) booked.2 c.serve.ensures.served in
     let noted = subst (λ (ts : Claimed). (labels : List Label) → labels_of c.serve.new.traced.entries ≡ labels_of c.book_entry-tag.new.traced.entries ++ labels → HaveNotedAll labels ts c.serve.new.tags) c.may_book.ensures.same.0 c.serve.ensures.noted in
     kept_on l.armed l.booked l.apart l.stays _ _ _ _ c.args.traced.now c.book_entry-tag.new.traced c.serve.new.traced c.args.taken.now c.add.new.self c.args.tags.now c.serve.new.tags c.args.journal.now booked.0 c.serve.result
-    c.requires.kept c.shows_whole.ensures c.shows_stack.ensures.whole may there booked.3 s.in_order s.whole s.reached served noted takes
+    c.requires.kept c.shows_whole.ensures c.shows_stack.ensures.whole c.shows_stack.ensures.in_order may there booked.3 s.in_order s.whole s.reached served noted takes
 
 pub returns-clause-books : goal.returns-clause-books
 returns-clause-books g c =
@@ -39,4 +39,4 @@ returns-clause-books g c =
     let served = subst (λ (t : ℕ). IsServed 0 c.book_entry-tag.new.traced (Act t) c.serve.result c.serve.new.traced) booked.2 c.serve.ensures.served in
     let noted = subst (λ (ts : Claimed). (labels : List Label) → labels_of c.serve.new.traced.entries ≡ labels_of c.book_entry-tag.new.traced.entries ++ labels → HaveNotedAll labels ts c.serve.new.tags) c.may_book.ensures.same.0 c.serve.ensures.noted in
     books_one l.armed l.booked l.apart l.stays _ _ _ _ c.args.traced.now c.book_entry-tag.new.traced c.serve.new.traced c.args.taken.now c.add.new.self c.args.tags.now c.serve.new.tags c.args.journal.now booked.0 c.serve.result
-    c.requires.kept c.shows_whole.ensures c.shows_stack.ensures.whole may there booked.3 s.in_order s.whole s.reached served noted takes c.book_entry-tag.result booked.2
+    c.requires.kept c.shows_whole.ensures c.shows_stack.ensures.whole c.shows_stack.ensures.in_order may there booked.3 s.in_order s.whole s.reached served noted takes c.book_entry-tag.result booked.2
